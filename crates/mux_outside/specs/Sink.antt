@@ -1,0 +1,29 @@
+-- What a sink has taken of the bytes that it was given.
+use Rattle.std.specs.Prelude.{◌≡◌, ℕ, List, ◌++◌, Result, Ok, Err, Option, Some, None}
+use Rattle.mux_outside.specs.declared.file_error.FileError.{FileError}
+use Rattle.mux_outside.specs.declared.file_error.FileError.TheVariants.{Failed, OutOfMemory}
+
+-- some prefix of the bytes was taken
+pub record TookPrefix (before now bytes : List ℕ) : Type 0 where
+  pub prefix : List ℕ
+  pub rest : List ℕ
+  pub whole : bytes ≡ prefix ++ rest
+  pub taken : now ≡ before ++ prefix
+
+-- what was taken after a call: all bytes, where it failed a prefix of them, and nothing for want of memory
+abbrev pub Takes : Result (Unit {0}) FileError → List ℕ → List ℕ → List ℕ → Type 0
+Takes (Ok x) before now bytes = now ≡ before ++ bytes
+Takes (Err Failed) before now bytes = TookPrefix before now bytes
+Takes (Err OutOfMemory) before now bytes = now ≡ before
+
+-- the same, where it is told
+abbrev pub TakesTold : Result (Unit {0}) FileError → Option (List ℕ) → Option (List ℕ) → List ℕ → Type 0
+TakesTold answer None None bytes = Unit {0}
+TakesTold answer None (Some now) bytes = ⊥
+TakesTold answer (Some before) None bytes = ⊥
+TakesTold answer (Some before) (Some now) bytes = Takes answer before now bytes
+
+-- a sink in memory takes all bytes or none
+abbrev pub TakesOrNothing : Result (Unit {0}) FileError → List ℕ → List ℕ → List ℕ → Type 0
+TakesOrNothing (Ok x) before now bytes = now ≡ before ++ bytes
+TakesOrNothing (Err e) before now bytes = now ≡ before

@@ -1,0 +1,68 @@
+ghost use Rattle.std.specs.Prelude.{◌≡◌, [], Some};
+ghost use Rattle.mux_outside.specs.Calls.{FailsByNumber, calls_after};
+ghost use Rattle.mux_outside.specs.Counts.{HasCause};
+ghost use Rattle.mux_outside.specs.Sink.{TakesTold, TakesOrNothing};
+
+use crate::calls::{Calls, next_call, raised};
+use crate::file_error::FileError;
+use crate::sink::Sink;
+use ssh_fields::Text;
+use std::alloc::Global;
+
+/// A sink that keeps what it takes.
+#[derive(Debug, Drop)]
+pub struct ListSink {
+    taken: Text,
+    fails: Calls,
+    calls: u64,
+    faults: u64,
+}
+
+impl ListSink {
+    /// A sink that has taken nothing, and takes nothing at the calls that fail.
+    pub fn new(alloc: Global, fails: Calls) -> ListSink
+        ensures taken { result.taken ≡ [] }
+        ensures fails { result.fails ≡ fails }
+        ensures calls { result.calls ≡ 0 }
+        ensures faults { result.faults ≡ 0 }
+    {
+        ListSink {
+            taken: Text::new(alloc),
+            fails,
+            calls: 0,
+            faults: 0,
+        }
+    }
+
+    /// The bytes taken so far.
+    pub fn taken(&self) -> &[u8]
+        ensures { result.now ≡ self.now.taken }
+    {
+        self.taken.as_bytes()
+    }
+}
+
+impl Sink for ListSink {
+    ghost told = { λ s. Some s.taken };
+
+    ghost faults = { λ s. s.faults };
+
+    fn put(&mut self, bytes: &[u8]) -> Result<(), FileError>
+        ensures taken { TakesTold result (Some self.old.taken) (Some self.new.taken) bytes.now }
+        ensures cause { HasCause result self.old.faults self.new.faults }
+        ensures all_or_nothing { TakesOrNothing result self.old.taken self.new.taken bytes.now }
+        ensures exact { FailsByNumber result self.old.calls self.old.fails }
+        ensures calls { self.new.calls ≡ calls_after result self.old.calls }
+        ensures fails { self.new.fails ≡ self.old.fails }
+    {
+        let call = next_call(self.calls);
+        if self.fails.contains(call) {
+            self.calls = call;
+            self.faults = raised(self.faults);
+            return Err(FileError::Failed);
+        }
+        self.taken.add(bytes)?;
+        self.calls = call;
+        Ok(())
+    }
+}

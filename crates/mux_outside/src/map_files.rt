@@ -1,0 +1,117 @@
+ghost use Rattle.std.specs.Prelude.{◌≡◌, ◌≤◌, length, Some, IfOk, IfSome};
+ghost use Rattle.mux_outside.specs.Calls.{FailsByNumber, calls_after};
+ghost use Rattle.mux_outside.specs.Counts.{HasCause};
+ghost use Rattle.mux_outside.specs.Files.{Reads, Lists, ListsNames, content_at};
+ghost use Rattle.std.specs.Prelude.{take};
+ghost use Rattle.std.specs.Option.{option_map};
+
+use crate::calls::{Calls, next_call, raised};
+use crate::directories::{is_directory, names_in, value_at};
+use crate::file_error::FileError;
+use crate::files::Files;
+use crate::pairs::{Pair, Pairs};
+use ssh_fields::{OutOfMemory, Text, Texts};
+use std::alloc::Global;
+
+/// Files in memory: paths and contents, of equal paths the first. The directories are `/` and each
+/// prefix of a path that isn't empty and is followed by a slash.
+#[derive(Debug, Drop)]
+pub struct MapFiles {
+    alloc: Global,
+    files: Pairs,
+    fails: Calls,
+    calls: u64,
+    faults: u64,
+}
+
+impl MapFiles {
+    /// These files. The calls that fail are counted over reads and listings.
+    pub fn new(alloc: Global, files: Pairs, fails: Calls) -> MapFiles
+        ensures files { result.files ≡ files }
+        ensures fails { result.fails ≡ fails }
+        ensures calls { result.calls ≡ 0 }
+        ensures faults { result.faults ≡ 0 }
+    {
+        MapFiles {
+            alloc,
+            files,
+            fails,
+            calls: 0,
+            faults: 0,
+        }
+    }
+}
+
+// The first bytes of a file.
+fn read_first(
+    alloc: Global,
+    files: &[Pair],
+    path: &[u8],
+    most: usize,
+) -> Result<Option<Text>, OutOfMemory>
+    ensures { IfOk result (λ found. found ≡ option_map (take most) (content_at files.now path.now)) }
+{
+    if is_directory(files, path) {
+        return Ok(None);
+    }
+    let Some(content) = value_at(files, path) else {
+        return Ok(None);
+    };
+    let count = content.len().min(most);
+    Ok(Some(Text::copy(alloc, &content[..count])?))
+}
+
+// The names in a directory.
+fn list_names(alloc: Global, files: &[Pair], dir: &[u8]) -> Result<Option<Texts>, OutOfMemory>
+    ensures { IfOk result (ListsNames files.now dir.now) }
+{
+    if !is_directory(files, dir) {
+        return Ok(None);
+    }
+    Ok(Some(names_in(alloc, files, dir)?))
+}
+
+impl Files for MapFiles {
+    ghost told = { λ f. Some f.files };
+
+    ghost faults = { λ f. f.faults };
+
+    fn read(&mut self, path: &[u8], most: usize) -> Result<Option<Text>, FileError>
+        ensures reads { Reads (Some self.old.files) path.now most result }
+        ensures at_most { IfOk result (λ found. IfSome found (λ text. length text ≤ most)) }
+        ensures cause { HasCause result self.old.faults self.new.faults }
+        ensures told { Some self.new.files ≡ Some self.old.files }
+        ensures exact { FailsByNumber result self.old.calls self.old.fails }
+        ensures calls { self.new.calls ≡ calls_after result self.old.calls }
+        ensures fails { self.new.fails ≡ self.old.fails }
+    {
+        let call = next_call(self.calls);
+        if self.fails.contains(call) {
+            self.calls = call;
+            self.faults = raised(self.faults);
+            return Err(FileError::Failed);
+        }
+        let found = read_first(self.alloc, self.files.as_slice(), path, most)?;
+        self.calls = call;
+        Ok(found)
+    }
+
+    fn list(&mut self, dir: &[u8]) -> Result<Option<Texts>, FileError>
+        ensures lists { Lists (Some self.old.files) dir.now result }
+        ensures cause { HasCause result self.old.faults self.new.faults }
+        ensures told { Some self.new.files ≡ Some self.old.files }
+        ensures exact { FailsByNumber result self.old.calls self.old.fails }
+        ensures calls { self.new.calls ≡ calls_after result self.old.calls }
+        ensures fails { self.new.fails ≡ self.old.fails }
+    {
+        let call = next_call(self.calls);
+        if self.fails.contains(call) {
+            self.calls = call;
+            self.faults = raised(self.faults);
+            return Err(FileError::Failed);
+        }
+        let found = list_names(self.alloc, self.files.as_slice(), dir)?;
+        self.calls = call;
+        Ok(found)
+    }
+}

@@ -1,0 +1,20 @@
+ghost use Rattle.std.specs.Prelude.{◌≡◌, ℕ, List, Option};
+ghost use Rattle.mux_outside.specs.Counts.{HasCause};
+ghost use Rattle.mux_outside.specs.Sink.{TakesTold};
+
+use crate::file_error::FileError;
+
+/// What takes the bytes that are written.
+pub trait Sink {
+    /// The bytes taken, in order, where they are told.
+    ghost told: { Self → Option (List ℕ) };
+
+    /// How many calls failed.
+    ghost faults: { Self → ℕ };
+
+    /// Hands bytes over. `Ok`: all were taken; `Failed`: a prefix was taken; `OutOfMemory`: nothing was
+    /// taken.
+    fn put(&mut self, bytes: &[u8]) -> Result<(), FileError>
+        ensures taken { TakesTold result (told self.old) (told self.new) bytes.now }
+        ensures cause { HasCause result (faults self.old) (faults self.new) };
+}
