@@ -1,6 +1,10 @@
 pub mod Calls
 pub mod Counts
 pub mod Files
+pub mod Marks
+pub mod Piece
 pub mod Runner
 pub mod Sink
 pub mod Streams
+pub mod Tally
+pub mod Wire

@@ -1,0 +1,20 @@
+-- What the marks of a wire say of its streams.
+use Rattle.std.specs.Prelude.{ℕ, ◌==◌, if◌then◌else◌, List, [], flat_map}
+use Rattle.mux_outside.specs.declared.mark.Mark.{Mark}
+use Rattle.mux_outside.specs.declared.mark.Mark.TheVariants.{Waits, Accepts, Gets, Ends, Frees, Fails, Takes, Holds, WriteFails}
+
+-- the bytes that a stream took at one mark
+abbrev pub taken_at : ℕ → Mark → List ℕ
+taken_at stream (Takes t bytes) = if t == stream then bytes else []
+taken_at stream (Waits waiting want streams listens) = []
+taken_at stream (Accepts k) = []
+taken_at stream (Gets t bytes) = []
+taken_at stream (Ends t) = []
+taken_at stream (Frees t) = []
+taken_at stream (Fails t) = []
+taken_at stream (Holds t) = []
+taken_at stream (WriteFails t) = []
+
+-- all bytes that a stream took
+abbrev pub bytes_taken : ℕ → List Mark → List ℕ
+bytes_taken stream marks = flat_map (taken_at stream) marks

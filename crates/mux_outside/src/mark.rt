@@ -1,0 +1,54 @@
+ghost use Rattle.std.specs.Prelude.{◌≡◌, ◌++◌, IfOk};
+ghost use Rattle.mux_outside.specs.Marks.{bytes_taken as all_taken};
+
+use crate::streams::Streams;
+use crate::turn::Want;
+use ssh_fields::{OutOfMemory, Text};
+use std::alloc::Global;
+
+/// The arguments of a call of `open`.
+#[derive(Debug, Drop)]
+pub struct Opening {
+    pub control: Text,
+    pub transport: Text,
+}
+
+/// What a wire that tells has recorded: each call of `wait` and the turn that it gave, and each answer
+/// to a write.
+#[derive(Debug, Drop)]
+pub enum Mark {
+    /// A call of `wait`: the waiting streams, what was wanted, the streams open then, and whether
+    /// clients were accepted then.
+    Waits(Streams, Want, Streams, bool),
+    /// A client came.
+    Accepts(u64),
+    /// A stream gave bytes.
+    Gets(u64, Text),
+    /// A stream ended.
+    Ends(u64),
+    /// A blocked stream takes bytes again.
+    Frees(u64),
+    /// A stream failed at a wait.
+    Fails(u64),
+    /// A stream took bytes.
+    Takes(u64, Text),
+    /// A stream took nothing at a write, and is blocked.
+    Holds(u64),
+    /// A stream failed at a write.
+    WriteFails(u64),
+}
+
+/// All bytes that a stream took, in order.
+pub fn bytes_taken(alloc: Global, marks: &[Mark], stream: u64) -> Result<Text, OutOfMemory>
+    ensures { IfOk result (λ bytes. bytes ≡ all_taken stream marks.now) }
+{
+    let mut all = Text::new(alloc);
+    for mark in marks {
+        if let Mark::Takes(taker, bytes) = mark {
+            if *taker == stream {
+                all.add(bytes.as_bytes())?;
+            }
+        }
+    }
+    Ok(all)
+}

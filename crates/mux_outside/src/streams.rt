@@ -1,0 +1,90 @@
+ghost use Rattle.std.specs.Prelude.{◌≡◌, [], ◌∷◌, ◌++◌, length, IfOk, OnOk, OnErr, slice_get, option_to_list};
+ghost use Rattle.mux_outside.specs.Streams.{among, without};
+
+use ssh_fields::OutOfMemory;
+use std::alloc::Global;
+use std::marker::Model;
+
+/// Numbers of streams, in order. Stream 0 is the server's, the others are those of the clients.
+#[derive(Debug, Drop)]
+pub struct Streams {
+    numbers: Vec<u64>,
+}
+
+impl Model for Streams {
+    ghost use Rattle.std.specs.Prelude.{List, ℕ};
+
+    ghost Value = { List ℕ };
+
+    ghost view = { λ s. s.numbers.items };
+}
+
+impl Streams {
+    /// No stream.
+    pub fn new(alloc: Global) -> Streams
+        ensures { result ≡ [] }
+    {
+        Streams {
+            numbers: Vec::new(alloc),
+        }
+    }
+
+    /// These streams.
+    pub fn copy(alloc: Global, numbers: &[u64]) -> Result<Streams, OutOfMemory>
+        ensures { IfOk result (λ streams. streams ≡ numbers.now) }
+    {
+        let numbers = Vec::from_slice(alloc, numbers)?;
+        Ok(Streams { numbers })
+    }
+
+    /// Adds a stream at the end. An `Err` changes nothing.
+    pub fn push(&mut self, stream: u64) -> Result<(), OutOfMemory>
+        ensures ok { OnOk result (self.new ≡ self.old ++ stream ∷ []) }
+        ensures err { OnErr result (self.new ≡ self.old) }
+    {
+        self.numbers.push(stream)?;
+        Ok(())
+    }
+
+    /// Takes the last stream away. It takes no memory, so a `push` can come before what may fail and
+    /// be taken back.
+    pub fn pop(&mut self) -> Option<u64>
+        ensures { self.old ≡ self.new ++ option_to_list result }
+    {
+        self.numbers.pop()
+    }
+
+    /// Takes a stream away. It takes no memory.
+    pub fn remove(&mut self, stream: u64)
+        ensures { self.new ≡ without stream self.old }
+    {
+        self.numbers.retain(|s| *s != stream);
+    }
+
+    pub fn len(&self) -> usize
+        ensures { result ≡ length self.now }
+    {
+        self.numbers.len()
+    }
+
+    /// The stream at a place.
+    pub fn get(&self, i: usize) -> Option<u64>
+        ensures { result ≡ slice_get self.now i }
+    {
+        self.numbers.get(i).copied()
+    }
+
+    /// Whether the stream is one of them.
+    pub fn contains(&self, stream: u64) -> bool
+        ensures { result ≡ among stream self.now }
+    {
+        self.numbers.iter().any(|s| *s == stream)
+    }
+
+    /// All of them.
+    pub fn as_slice(&self) -> &[u64]
+        ensures { result.now ≡ self.now }
+    {
+        self.numbers.as_slice()
+    }
+}
