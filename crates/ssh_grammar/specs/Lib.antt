@@ -1,0 +1,9 @@
+pub mod Tables
+pub mod Messages
+pub mod ReadMessage
+pub mod SpellMessage
+pub mod Control
+pub mod ReadControl
+pub mod SpellControl
+pub mod Frames
+pub mod Said
