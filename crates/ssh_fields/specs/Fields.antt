@@ -1,6 +1,11 @@
 -- The data types of RFC 4251, section 5: how each is spelled as bytes, and what bytes spell.
 -- A reader gives the value and the bytes after it, and nothing where too few bytes remain.
-use Rattle.std.specs.Prelude.{ℕ, ◌+◌, ◌*◌, ◌/◌, ◌%◌, List, [], ◌∷◌, ◌++◌, length, take, drop, Option, Some, None, Bool, true, false, nat_eq, nat_le, not}
+use Rattle.std.specs.Prelude.{ℕ, ◌+◌, ◌*◌, ◌/◌, ◌%◌, ◌<◌, List, [], ◌∷◌, ◌++◌, length, take, drop, Option, Some, None, Bool, true, false, nat_eq, nat_le, not}
+use Rattle.std.specs.List.{AllByRecursion}
+
+-- each of them is a byte
+abbrev pub AreBytes : List ℕ → Type 0
+AreBytes = AllByRecursion (λ b. b < 256)
 
 -- ---- how a value is spelled
 

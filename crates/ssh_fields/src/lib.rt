@@ -1,8 +1,14 @@
-//! The data types of RFC 4251, section 5: texts, and fields read and written.
+//! The data types of RFC 4251, section 5: texts of bytes, and fields read and written.
 #![tactic(auto)]
 
 mod cursor;
+mod out_of_memory;
+mod put;
+mod small;
 mod text;
 
-pub use cursor::put_u32;
-pub use text::{OutOfMemory, Text, Texts};
+pub use cursor::Cursor;
+pub use out_of_memory::OutOfMemory;
+pub use put::{patch_u32, put_string, put_u32};
+pub use small::Small;
+pub use text::{Text, Texts};
