@@ -150,3 +150,11 @@ u32_at-with_u32 bytes at n fits small = ap (λ b. elim (take_u32 b) as (λ _. �
 
 pub AreBytes-with_u32 : (bytes : List ℕ) (at n : ℕ) → AreBytes bytes → AreBytes (with_u32 bytes at n)
 AreBytes-with_u32 bytes at n h = AreBytes-append (take at bytes) (u32 n ++ drop (at + 4) bytes) (AreBytes-take at bytes h) (AreBytes-append (u32 n) (drop (at + 4) bytes) (AreBytes-u32 n) (AreBytes-drop (at + 4) bytes h))
+
+pub take-with_u32 : (bytes : List ℕ) (at n : ℕ) → at + 4 ≤ length bytes → take at (with_u32 bytes at n) ≡ take at bytes
+take-with_u32 bytes at n fits = take_at (take at bytes) (u32 n ++ drop (at + 4) bytes) at (omega (arith, length-take at bytes))
+
+pub drop-behind-with_u32 : (bytes : List ℕ) (at n : ℕ) → at + 4 ≤ length bytes → drop (at + 4) (with_u32 bytes at n) ≡ drop (at + 4) bytes
+drop-behind-with_u32 bytes at n fits =
+    ap (drop (at + 4)) (sym (append_assoc (take at bytes) (u32 n) (drop (at + 4) bytes)))
+    ∙ drop_at (take at bytes ++ u32 n) (drop (at + 4) bytes) (at + 4) (omega (arith, length-append (take at bytes) (u32 n), length-take at bytes))

@@ -2,6 +2,7 @@
 #![tactic(auto)]
 
 mod cursor;
+pub mod laws;
 mod out_of_memory;
 mod put;
 mod small;
