@@ -13,3 +13,6 @@ pub use out_of_memory::OutOfMemory;
 pub use put::{patch_u32, put_string, put_u32};
 pub use small::Small;
 pub use text::{Text, Texts};
+
+#[cfg(test)]
+mod tests;
