@@ -1,0 +1,85 @@
+-- The files that an Include line names.
+use Rattle.std.specs.Prelude.{false, not, if◌then◌else◌, List, [], ◌∷◌, ◌++◌, map, filter, flat_map, Some, None, Result, Ok, Err, codes}
+use Rattle.conf_rules.specs.declared.causes.LexError.{LexError}
+use Rattle.conf_rules.specs.declared.causes.TokenError.{TokenError}
+use Rattle.conf_rules.specs.declared.token_set.TokenSet.TheVariants.{Included}
+use Rattle.conf_rules.specs.Results.{◌>>=◌}
+use Rattle.conf_rules.specs.Texts.{Bytes, is_empty, same_word, split_at_each}
+use Rattle.conf_rules.specs.Order.{sorted}
+use Rattle.conf_rules.specs.Heads.{Heading, Says, head_of}
+use Rattle.conf_rules.specs.Words.{words_of}
+use Rattle.conf_rules.specs.Globs.{is_glob, component_takes}
+use Rattle.conf_rules.specs.Told.{Facts, Pair, Told, value_at, names_in}
+use Rattle.conf_rules.specs.Tokens.{View, fact_of, expand_path, starts_with_slash}
+
+-- where a line stands: on the command line, in a user's file, or in a system file
+pub data Source : Type 0 where
+  CommandLine : Source
+  UserFile : Source
+  SystemFile : Source
+
+-- facts alone, since the list of files depends on no configured value
+abbrev pub facts_view : Told → View
+facts_view told = record { original = told.asked.original; host = []; jump = []; tag = []; port = 22; user = None; «alias» = None; facts = told.facts }
+
+-- a path that isn't absolute is taken from the folder of its source
+abbrev pub absolute : Source → Facts → Bytes → Result Bytes TokenError
+absolute SystemFile facts path = if starts_with_slash path then Ok path else Ok (codes "/etc/ssh/" ++ path)
+absolute source facts path =
+    if starts_with_slash path then Ok path
+    else (fact_of 100 facts.home >>= λ home. Ok (home ++ (codes "/.ssh/" ++ path)))
+
+-- the path of a word
+abbrev pub path_of : Source → Told → Bytes → Result Bytes TokenError
+path_of source told word = expand_path false Included (facts_view told) word >>= absolute source told.facts
+
+-- the paths of words, or the first refusal
+abbrev pub paths_of : Source → Told → List Bytes → Result (List Bytes) TokenError
+paths_of source told [] = Ok []
+paths_of source told (word ∷ words) = path_of source told word >>= λ path. paths_of source told words >>= λ paths. Ok (path ∷ paths)
+
+-- a directory's path; that of the root is a slash
+abbrev pub or_root : Bytes → Bytes
+or_root [] = 47 ∷ []
+or_root (b ∷ bs) = b ∷ bs
+
+-- a path with one more component; of a component with globs all names that it takes
+abbrev pub below : List Pair → Bytes → Bytes → List Bytes
+below files component base =
+    if is_glob component then map (λ name. base ++ (47 ∷ name)) (filter (component_takes component) (names_in files (or_root base)))
+    else (base ++ (47 ∷ component)) ∷ []
+
+-- paths along components
+abbrev pub along : List Pair → List Bytes → List Bytes → List Bytes
+along files [] bases = bases
+along files (component ∷ components) bases = along files components (flat_map (below files component) bases)
+
+-- the components of a path; empty ones are dropped
+abbrev pub components_of : Bytes → List Bytes
+components_of path = filter (λ component. not (is_empty component)) (split_at_each 47 path)
+
+-- the paths that an absolute path stands for; of one with globs those in the order of their bytes
+unfoldable pub globbed : List Pair → Bytes → List Bytes
+globbed files path = if is_glob path then sorted (along files (components_of path) ([] ∷ [])) else path ∷ []
+
+-- the file at a path, if it is there
+abbrev pub file_at : List Pair → Bytes → List Pair
+file_at files path = elim (value_at files path) [ Some text ↦ record { name = path; value = text } ∷ [] | None ↦ [] ]
+
+-- the files that are there, in reading order
+abbrev pub files_of : List Pair → List Bytes → List Pair
+files_of files paths = flat_map (λ path. flat_map (file_at files) (globbed files path)) paths
+
+-- the files that words name; words without a reading name none, since their line is refused
+abbrev pub words_named : Source → Told → Result (List Bytes) LexError → Result (List Pair) TokenError
+words_named source told (Err e) = Ok []
+words_named source told (Ok words) = paths_of source told words >>= λ paths. Ok (files_of told.files paths)
+
+-- the files that a heading names
+abbrev pub named_in : Source → Told → Result Heading LexError → Result (List Pair) TokenError
+named_in source told (Ok (Says keyword rest)) = if same_word keyword (codes "include") then words_named source told (words_of rest) else Ok []
+named_in source told heading = Ok []
+
+-- the files that a line includes, or the refusal of its tokens
+unfoldable pub included_files : Source → Told → Bytes → Result (List Pair) TokenError
+included_files source told bytes = named_in source told (head_of bytes)
