@@ -2,6 +2,7 @@ pub mod Tables
 pub mod Messages
 pub mod ReadMessage
 pub mod SpellMessage
+pub mod IsMessage
 pub mod Control
 pub mod ReadControl
 pub mod SpellControl
