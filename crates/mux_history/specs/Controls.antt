@@ -1,0 +1,103 @@
+-- What becomes of a client's control messages (PROTOCOL.mux). `own` are the client's rows so far.
+use Rattle.std.specs.Prelude.{ℕ, ◌==◌, List, [], ◌∷◌, Option, Some, None, Result, Ok, Err, Bool, true, false}
+use Rattle.mux_outside.specs.declared.house.HouseReply.{HouseReply}
+use Rattle.mux_outside.specs.declared.house.HouseReply.TheVariants as reply
+use Rattle.ssh_grammar.specs.declared.fault.BadControl.{BadControl}
+use Rattle.ssh_grammar.specs.declared.fault.BadControl.TheVariants as bad
+use Rattle.ssh_grammar.specs.declared.numbers.TheConstants as number
+use Rattle.ssh_grammar.specs.Control.{Control, Hello, NewSession, AliveCheck, Terminate, OpenForward, CloseForward, StdioForward, StopListening, Proxy, Answer, Okay, Failed, Alive, RemotePort, Proxies, no_descriptors, no_forwardings, unsupported}
+use Rattle.ssh_grammar.specs.ReadControl.{read_control}
+use Rattle.ssh_grammar.specs.Frames.{frame_answer}
+use Rattle.mux_history.specs.declared.why.Why.TheVariants as why
+use Rattle.mux_history.specs.declared.ended.Ended.TheVariants as ended
+use Rattle.mux_history.specs.Rows.{Row, any_of, Item, Says, End}
+use Rattle.mux_history.specs.Said.{Outcome, silent, tells, drops}
+
+abbrev pub answers_with : Answer → Outcome
+answers_with answer = tells (frame_answer answer)
+
+-- ---- while the hello is awaited
+
+abbrev pub is_says : Item → Bool
+is_says (Says k saying given) = true
+is_says _ = false
+
+-- the client has greeted: another first message would have dropped it
+abbrev pub greeted : List Row → Bool
+greeted own = any_of (λ row. is_says row.item) own
+
+abbrev pub type_of : Control → ℕ
+type_of (Hello version extensions) = number.HELLO
+type_of (NewSession id rest) = number.NEW_SESSION
+type_of (AliveCheck id) = number.ALIVE_CHECK
+type_of (Terminate id) = number.TERMINATE
+type_of (OpenForward id what) = number.OPEN_FWD
+type_of (CloseForward id what) = number.CLOSE_FWD
+type_of (StdioForward id rest) = number.NEW_STDIO_FWD
+type_of (StopListening id) = number.STOP_LISTENING
+type_of (Proxy id) = number.PROXY
+
+abbrev pub first_control : Control → Outcome
+first_control (Hello version extensions) = elim (version == number.VERSION) [ true ↦ silent | false ↦ drops (why.Version version) ]
+first_control c = drops (why.NoHello (type_of c))
+
+abbrev pub first_unread : BadControl → Outcome
+first_unread (bad.Unknown kind id) = drops (why.NoHello kind)
+first_unread fault = drops (why.BadControl fault)
+
+abbrev pub said_first : Result Control BadControl → Outcome
+said_first (Ok c) = first_control c
+said_first (Err fault) = first_unread fault
+
+-- ---- after it
+
+-- what the house said of an ask; a port is no answer to a close
+abbrev pub house_answer : Bool → ℕ → HouseReply → Answer
+house_answer opening id reply.Done = Okay id
+house_answer true id (reply.Port port) = RemotePort id port
+house_answer false id (reply.Port port) = Failed id no_forwardings
+house_answer opening id reply.Refused = Failed id no_forwardings
+
+abbrev pub answers_ask : Bool → ℕ → Option HouseReply → Outcome
+answers_ask opening id None = silent
+answers_ask opening id (Some given) = answers_with (house_answer opening id given)
+
+abbrev pub later_control : ℕ → ℕ → Option HouseReply → Control → Outcome
+later_control pid k given (Hello version extensions) = drops why.SecondHello
+later_control pid k given (NewSession id rest) = answers_with (Failed id no_descriptors)
+later_control pid k given (AliveCheck id) = answers_with (Alive id pid)
+later_control pid k given (Terminate id) = record { sent = []; told = frame_answer (Okay id) ∷ []; ends = End (ended.Terminated k id) }
+later_control pid k given (OpenForward id what) = answers_ask true id given
+later_control pid k given (CloseForward id what) = answers_ask false id given
+later_control pid k given (StdioForward id rest) = answers_with (Failed id no_descriptors)
+later_control pid k given (StopListening id) = answers_with (Okay id)
+later_control pid k given (Proxy id) = answers_with (Proxies id)
+
+abbrev pub later_unread : BadControl → Outcome
+later_unread (bad.Unknown kind (Some id)) = answers_with (Failed id unsupported)
+later_unread fault = drops (why.BadControl fault)
+
+abbrev pub said_later : ℕ → ℕ → Option HouseReply → Result Control BadControl → Outcome
+said_later pid k given (Ok c) = later_control pid k given c
+said_later pid k given (Err fault) = later_unread fault
+
+-- ---- a body
+
+abbrev pub said_body : ℕ → ℕ → Option HouseReply → Bool → List ℕ → Outcome
+said_body pid k given has_greeted body = elim has_greeted [ true ↦ said_later pid k given (read_control body) | false ↦ said_first (read_control body) ]
+
+-- whether a body asks the house
+abbrev pub asks_house : Control → Bool
+asks_house (OpenForward id what) = true
+asks_house (CloseForward id what) = true
+asks_house _ = false
+
+abbrev pub body_asks : List ℕ → Bool
+body_asks body = elim (read_control body) [ Err fault ↦ false | Ok c ↦ asks_house c ]
+
+abbrev pub is_stop : Control → Bool
+is_stop (StopListening id) = true
+is_stop _ = false
+
+abbrev pub body_stops : List ℕ → Bool
+body_stops body = elim (read_control body) [ Err fault ↦ false | Ok c ↦ is_stop c ]

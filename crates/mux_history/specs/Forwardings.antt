@@ -1,0 +1,89 @@
+-- Remote forwardings (RFC 4254, section 7.1), looked up in the rows. A request is known by its place among its client's
+-- sent wanted requests.
+use Rattle.std.specs.Prelude.{ℕ, ◌==◌, List, [], ◌∷◌, ◌++◌, Option, Some, None, Bool, true, false, not, ◌&&◌, length, map, filter, find, bytes_eq, is_none}
+use Rattle.ssh_fields.specs.Fields.{u32_at}
+use Rattle.ssh_grammar.specs.Messages.{Forward, Cancel}
+use Rattle.ssh_grammar.specs.Said.{Payload}
+use Rattle.mux_history.specs.Gist.{Gist, Requests, Succeeds, Refuses, reading}
+use Rattle.mux_history.specs.Rows.{Row, rows_of, loses, Says, Heard}
+use Rattle.mux_history.specs.Channels.{is_number}
+use Rattle.mux_history.specs.Requests.{asks, replies, is_sent}
+
+-- a forwarding: its client, the address and port that were asked, the place of its request, its port once the server's
+-- success came, and the place of the unanswered cancel that means it
+pub record Forwarding : Type 0 where
+  pub client : ℕ
+  pub address : List ℕ
+  pub port : ℕ
+  pub request : ℕ
+  pub live : Option ℕ
+  pub cancel : Option ℕ
+  pub over : Bool
+
+-- the port that is listened on: the one asked, or the one in the success where 0 was asked
+abbrev pub bound : ℕ → List ℕ → ℕ
+bound port rest = elim (port == 0) [ true ↦ u32_at 0 rest | false ↦ port ]
+
+abbrev pub is_request : Forwarding → ℕ → Bool
+is_request f place = (f.request == place) && is_none f.live
+
+-- the reply to the request at a place: a success makes live what was asked there and ends what was to be cancelled
+-- there; a refusal ends what was asked there and leaves what was to be cancelled there
+abbrev pub replied : ℕ → Gist → Forwarding → Forwarding
+replied place (Succeeds rest) f = elim (is_request f place) [
+  | true ↦ record f { live = Some (bound f.port rest) }
+  | false ↦ elim (is_number f.cancel place) [ true ↦ record f { over = true } | false ↦ f ]
+]
+replied place Refuses f = elim (is_request f place) [
+  | true ↦ record f { over = true }
+  | false ↦ elim (is_number f.cancel place) [ true ↦ record f { cancel = None } | false ↦ f ]
+]
+replied place _ f = f
+
+-- live with this address and port, and no unanswered cancel means it
+abbrev pub is_free_at : ℕ → List ℕ → ℕ → Forwarding → Bool
+is_free_at k address port f = (f.client == k) && (not f.over && (is_none f.cancel && (is_number f.live port && bytes_eq f.address address)))
+
+-- what a cancel leaves of the forwarding that it means: one that wants no reply ends it at once
+abbrev pub stopped : Bool → ℕ → Forwarding → Forwarding
+stopped true place f = record f { cancel = Some place }
+stopped false place f = record f { over = true }
+
+-- the earliest forwarding that passes, changed
+abbrev pub change_first : (Forwarding → Bool) → (Forwarding → Forwarding) → List Forwarding → List Forwarding
+change_first test change [] = []
+change_first test change (f ∷ fs) = elim (test f) [ true ↦ change f ∷ fs | false ↦ f ∷ change_first test change fs ]
+
+-- what a client's request that is sent makes of the forwardings
+abbrev pub requested : ℕ → ℕ → Gist → List Forwarding → List Forwarding
+requested k place (Requests (Forward address port) wants) fs = fs ++ record { client = k; address = address; port = port; request = place; live = None; cancel = None; over = false } ∷ []
+requested k place (Requests (Cancel address port) wants) fs = change_first (is_free_at k address port) (stopped wants place) fs
+requested k place _ fs = fs
+
+abbrev pub of_client : ℕ → (Forwarding → Forwarding) → Forwarding → Forwarding
+of_client k change f = elim (f.client == k) [ true ↦ change f | false ↦ f ]
+
+-- the forwardings after what one more row says; `own` are the rows of its client before it
+abbrev pub forwarded : Row → List Row → List Forwarding → List Forwarding
+forwarded row own fs = elim row.item [
+  | Says k saying reply ↦ elim saying [ Payload p ↦ elim (is_sent row) [ true ↦ reading p (λ m. requested row.client (length (asks own)) m fs) fs | false ↦ fs ] | _ ↦ fs ]
+  | Heard p ↦ reading p (λ m. map (of_client row.client (replied (length (replies own)) m)) fs) fs
+  | _ ↦ fs
+]
+
+-- all of a client end with its loss
+abbrev pub dropped : Row → List Forwarding → List Forwarding
+dropped row fs = elim (loses row) [ true ↦ map (of_client row.client (λ f. record f { over = true })) fs | false ↦ fs ]
+
+-- all forwardings of all clients, those that are over too, in order of asking
+abbrev pub forwardings_of : List Row → List Forwarding
+forwardings_of [] = []
+forwardings_of (row ∷ before) = dropped row (forwarded row (rows_of row.client before) (forwardings_of before))
+
+-- those that are asked or live
+abbrev pub current : List Row → List Forwarding
+current rows = filter (λ f. not f.over) (forwardings_of rows)
+
+-- the earliest forwarding that is live with this address and port
+abbrev pub live_at : List Row → List ℕ → ℕ → Option Forwarding
+live_at rows address port = find (λ f. is_number f.live port && bytes_eq f.address address) (current rows)

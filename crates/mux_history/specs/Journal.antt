@@ -1,0 +1,108 @@
+-- What a wire was seen to do, the newest mark first, and the items that it gives.
+use Rattle.std.specs.Prelude.{ℕ, ◌==◌, ◌+◌, ◌≡◌, ◌<◌, ◌≤◌, List, [], ◌∷◌, ◌++◌, None, Bool, true, false, length, drop, map, reverse, All, IsTrue}
+use Rattle.mux_outside.specs.declared.mark.Mark.{Mark}
+use Rattle.mux_outside.specs.declared.mark.Mark.TheVariants.{Waits, Accepts, Gets, Ends, Frees, Fails, Takes, Holds, WriteFails}
+use Rattle.ssh_grammar.specs.Said.{Saying, Body, Payload, BadFraming, said, InProxy, parse}
+use Rattle.mux_history.specs.Rows.{Item, Admit, Says, Gone, Heard, BadServer, ServerEnd, ServerCut, ServerFailed, Took, Row}
+use Rattle.mux_history.specs.Log.{Setting, more_all}
+
+-- ---- what streams gave and took
+
+abbrev pub bytes_in : ℕ → Mark → List ℕ
+bytes_in t (Gets stream bytes) = elim (stream == t) [ true ↦ bytes | false ↦ [] ]
+bytes_in t _ = []
+
+-- all bytes that a stream gave, in order
+abbrev pub bytes_of : ℕ → List Mark → List ℕ
+bytes_of t [] = []
+bytes_of t (mark ∷ before) = bytes_of t before ++ bytes_in t mark
+
+abbrev pub taken_in : ℕ → Mark → List ℕ
+taken_in t (Takes stream bytes) = elim (stream == t) [ true ↦ bytes | false ↦ [] ]
+taken_in t _ = []
+
+-- all bytes that a stream took, in order
+abbrev pub taken_by : ℕ → List Mark → List ℕ
+taken_by t [] = []
+taken_by t (mark ∷ before) = taken_by t before ++ taken_in t mark
+
+-- the stream takes no bytes for now: it held back, and was not freed since
+abbrev pub is_blocked : ℕ → List Mark → Bool
+is_blocked t [] = false
+is_blocked t (Holds stream ∷ before) = elim (stream == t) [ true ↦ true | false ↦ is_blocked t before ]
+is_blocked t (Frees stream ∷ before) = elim (stream == t) [ true ↦ false | false ↦ is_blocked t before ]
+is_blocked t (mark ∷ before) = is_blocked t before
+
+-- ---- items
+
+abbrev pub said_item : ℕ → Saying → Item
+said_item k saying = Says k saying None
+
+-- what a client says by its new bytes: by position, so that what is said twice counts twice
+abbrev pub new_sayings : ℕ → List ℕ → List ℕ → List Item
+new_sayings k before after = map (said_item k) (drop (length (said before)) (said after))
+
+abbrev pub heard_item : Saying → Item
+heard_item (Body body) = Heard body
+heard_item (Payload p) = Heard p
+heard_item (BadFraming fault) = BadServer fault
+
+-- the same of the server: a frame that is none is told once, since nothing is read after it
+abbrev pub new_heard : List ℕ → List ℕ → List Item
+new_heard before after = map heard_item (drop (length (parse InProxy before).says) (parse InProxy after).says)
+
+abbrev pub server_end : List ℕ → Item
+server_end [] = ServerEnd
+server_end (b ∷ rest) = ServerCut (length (b ∷ rest))
+
+-- the items of one mark after those before it, in order
+abbrev pub items_in : List Mark → Mark → List Item
+items_in before (Accepts k) = Admit k ∷ []
+items_in before (Gets stream bytes) = elim (stream == 0) [
+  | true ↦ new_heard (bytes_of 0 before) (bytes_of 0 before ++ bytes)
+  | false ↦ new_sayings stream (bytes_of stream before) (bytes_of stream before ++ bytes)
+]
+items_in before (Ends stream) = elim (stream == 0) [ true ↦ server_end (parse InProxy (bytes_of 0 before)).rest ∷ [] | false ↦ Gone stream ∷ [] ]
+items_in before (Fails stream) = elim (stream == 0) [ true ↦ ServerFailed ∷ [] | false ↦ Gone stream ∷ [] ]
+items_in before (WriteFails stream) = elim (stream == 0) [ true ↦ ServerFailed ∷ [] | false ↦ Gone stream ∷ [] ]
+items_in before (Takes stream bytes) = Took stream (length bytes) ∷ []
+items_in before _ = []
+
+-- all items, the newest first
+abbrev pub items : List Mark → List Item
+items [] = []
+items (mark ∷ before) = reverse (items_in before mark) ++ items before
+
+-- the rows of what was seen: each mark adds those of its items
+abbrev pub log_of_journal : Setting → List Mark → List Row
+log_of_journal setting [] = []
+log_of_journal setting (mark ∷ before) = more_all setting (log_of_journal setting before) (items_in before mark)
+
+-- ---- lawful journals: what any wire can give
+
+-- each is a byte
+abbrev pub AreBytes : List ℕ → Type 0
+AreBytes [] = Unit {0}
+AreBytes (b ∷ bytes) = (b < 256) × AreBytes bytes
+
+-- the last client that was accepted, 0 before the first
+abbrev pub last_client : List Mark → ℕ
+last_client [] = 0
+last_client (Accepts k ∷ before) = k
+last_client (mark ∷ before) = last_client before
+
+-- clients are numbered from 1 in the order in which they are accepted, and streams are the server's and theirs
+abbrev pub LawfulMark : List Mark → Mark → Type 0
+LawfulMark before (Accepts k) = k ≡ last_client before + 1
+LawfulMark before (Gets stream bytes) = (stream ≤ last_client before) × (0 < length bytes) × (length bytes ≤ 65536) × AreBytes bytes
+LawfulMark before (Ends stream) = stream ≤ last_client before
+LawfulMark before (Fails stream) = stream ≤ last_client before
+LawfulMark before (Frees stream) = IsTrue (is_blocked stream before)
+LawfulMark before (Takes stream bytes) = (stream ≤ last_client before) × (0 < length bytes) × AreBytes bytes
+LawfulMark before (Holds stream) = stream ≤ last_client before
+LawfulMark before (WriteFails stream) = stream ≤ last_client before
+LawfulMark before (Waits waiting want streams listens) = All (λ t. IsTrue (is_blocked t before)) waiting
+
+abbrev pub IsLawful : List Mark → Type 0
+IsLawful [] = Unit {0}
+IsLawful (mark ∷ before) = LawfulMark before mark × IsLawful before

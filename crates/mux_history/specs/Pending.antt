@@ -1,0 +1,48 @@
+-- What waits of what each stream is to be given.
+use Rattle.std.specs.Prelude.{ℕ, ◌==◌, List, [], ◌∷◌, ◌++◌, length, true, false, drop, map}
+use Rattle.ssh_grammar.specs.Frames.{frame_payload}
+use Rattle.mux_history.specs.Rows.{Row, rows_of, sent_by, Item, Took}
+
+abbrev pub joined : List (List ℕ) → List ℕ
+joined [] = []
+joined (x ∷ xs) = x ++ joined xs
+
+-- ---- for one client, over its own rows
+
+abbrev pub took_by : Item → ℕ
+took_by (Took stream size) = size
+took_by _ = 0
+
+-- the bytes that wait for the client: each row takes from the front and adds behind
+abbrev pub pending_down : List Row → List ℕ
+pending_down [] = []
+pending_down (row ∷ before) = drop (took_by row.item) (pending_down before ++ joined row.down)
+
+abbrev pub waiting_down : List Row → ℕ
+waiting_down own = length (pending_down own)
+
+-- ---- for the server, which is stream 0
+
+abbrev pub took_up : Item → ℕ
+took_up (Took stream size) = elim (stream == 0) [ true ↦ size | false ↦ 0 ]
+took_up _ = 0
+
+abbrev pub pending_up : List Row → List ℕ
+pending_up [] = []
+pending_up (row ∷ before) = drop (took_up row.item) (pending_up before ++ joined (map frame_payload (sent_by row)))
+
+-- ---- for each stream
+
+abbrev pub pending : ℕ → List Row → List ℕ
+pending stream rows = elim (stream == 0) [ true ↦ pending_up rows | false ↦ pending_down (rows_of stream rows) ]
+
+abbrev pub given_by : ℕ → Row → List ℕ
+given_by stream row = elim (stream == 0) [
+  | true ↦ joined (map frame_payload (sent_by row))
+  | false ↦ elim (row.client == stream) [ true ↦ joined row.down | false ↦ [] ]
+]
+
+-- all bytes that the stream is to be given, in order
+abbrev pub given_to : ℕ → List Row → List ℕ
+given_to stream [] = []
+given_to stream (row ∷ before) = given_to stream before ++ given_by stream row

@@ -1,0 +1,29 @@
+-- Right logs.
+use Rattle.std.specs.Prelude.{ℕ, ◌≡◌, ◌<◌, List, [], ◌∷◌, None, IsTrue, MatchBool, drop}
+use Rattle.mux_outside.specs.declared.mark.Mark.{Mark}
+use Rattle.mux_history.specs.Gist.{reading, sender_of}
+use Rattle.mux_history.specs.Rows.{Row, rows_of, any_of, is_admit}
+use Rattle.mux_history.specs.Channels.{holder}
+use Rattle.mux_history.specs.Choices.{takes_number, said_number}
+use Rattle.mux_history.specs.Journal.{items}
+use Rattle.mux_history.specs.Log.{Setting, log_of}
+
+-- the number that a row's OPEN or CONFIRMATION carried up
+abbrev pub carried_number : List (List ℕ) → ℕ
+carried_number [] = 0
+carried_number (p ∷ ps) = said_number (reading p sender_of None)
+
+-- each number taken was below the bound, and no channel held it
+abbrev pub AreFresh : List Row → Type 0
+AreFresh [] = Unit {0}
+AreFresh (row ∷ before) = MatchBool (takes_number row) ((carried_number row.up < 16384) × (holder before (carried_number row.up) ≡ None)) (Unit {0}) × AreFresh before
+
+-- a right log for these marks, without the newest items that are left out: none, or after want of memory some of the
+-- last event
+pub record IsRight (setting : Setting) (marks : List Mark) (left : ℕ) (rows : List Row) : Type 0 where
+  pub determined : rows ≡ log_of setting (drop left (items marks))
+  pub fresh : AreFresh rows
+
+-- a client is admitted in a log
+abbrev pub IsAdmitted : ℕ → List Row → Type 0
+IsAdmitted k rows = IsTrue (any_of is_admit (rows_of k rows))

@@ -1,0 +1,78 @@
+-- The log: what happened, in rows. Lists of rows have the newest row first.
+use Rattle.std.specs.Prelude.{ℕ, ◌==◌, ◌++◌, ◌||◌, List, [], ◌∷◌, Option, Bool, true, false, filter}
+use Rattle.mux_outside.specs.declared.house.HouseReply.{HouseReply}
+use Rattle.ssh_grammar.specs.declared.fault.BadFrame.{BadFrame}
+use Rattle.ssh_grammar.specs.Said.{Saying}
+use Rattle.mux_history.specs.declared.why.Why.{Why}
+use Rattle.mux_history.specs.declared.ended.Ended.{Ended}
+
+-- what happened at once: a client came in; said something, with the reply of the house where it asks the house;
+-- or its stream is gone; the server said a payload, or a frame that is none; its stream ended, ended so many bytes
+-- into a frame, or failed; a stream took bytes. RunEnd shows a client alone how the run ended.
+pub data Item : Type 0 where
+  Admit : (client : ℕ) → Item
+  Says : (client : ℕ) (saying : Saying) (reply : Option HouseReply) → Item
+  Gone : (client : ℕ) → Item
+  Heard : (payload : List ℕ) → Item
+  BadServer : (fault : BadFrame) → Item
+  ServerEnd : Item
+  ServerCut : (left : ℕ) → Item
+  ServerFailed : Item
+  Took : (stream size : ℕ) → Item
+  RunEnd : (cause : Ended) → Item
+
+-- what becomes of the run and of the row's client
+pub data Fate : Type 0 where
+  Goes : Fate
+  Refused : Fate
+  Drop : (why : Why) → Fate
+  End : (cause : Ended) → Fate
+
+-- one row: its item, the client that it concerns (0 where it concerns none), the payloads that the item sends to
+-- the server, those that are sent after them because the row loses its client, the frames for that client, and the fate
+pub record Row : Type 0 where
+  pub item : Item
+  pub client : ℕ
+  pub up : List (List ℕ)
+  pub farewell : List (List ℕ)
+  pub down : List (List ℕ)
+  pub fate : Fate
+
+abbrev pub any_of : {X : Type 0} → (X → Bool) → List X → Bool
+any_of test [] = false
+any_of test (x ∷ xs) = test x || any_of test xs
+
+-- the rows that concern a client
+abbrev pub rows_of : ℕ → List Row → List Row
+rows_of k rows = filter (λ row. row.client == k) rows
+
+-- all payloads that a row sends to the server
+abbrev pub sent_by : Row → List (List ℕ)
+sent_by row = row.up ++ row.farewell
+
+-- a row that loses its client: its stream is gone, or it is dropped
+abbrev pub loses : Row → Bool
+loses row = elim row.fate [ Drop why ↦ true | Goes ↦ elim row.item [ Gone k ↦ true | _ ↦ false ] | _ ↦ false ]
+
+abbrev pub is_lost : List Row → Bool
+is_lost own = any_of loses own
+
+-- a row that lets its client in
+abbrev pub is_admit : Row → Bool
+is_admit row = elim row.fate [ Refused ↦ false | _ ↦ elim row.item [ Admit k ↦ true | _ ↦ false ] ]
+
+abbrev pub is_refusal : Fate → Bool
+is_refusal Refused = true
+is_refusal _ = false
+
+-- the client is out: lost, or refused
+abbrev pub is_out : List Row → Bool
+is_out own = any_of (λ row. loses row || is_refusal row.fate) own
+
+abbrev pub is_end : Fate → Bool
+is_end (End cause) = true
+is_end _ = false
+
+-- the run is over
+abbrev pub is_ended : List Row → Bool
+is_ended rows = any_of (λ row. is_end row.fate) rows

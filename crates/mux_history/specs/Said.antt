@@ -1,0 +1,122 @@
+-- What becomes of what a client says in proxy mode. `own` are the client's rows so far: nothing else is looked at.
+use Rattle.std.specs.Prelude.{ℕ, ◌==◌, List, [], ◌∷◌, Option, Some, None, Ok, Err, Bool, true, false, not, ◌&&◌, length, find, nat_lt, nat_le}
+use Rattle.ssh_grammar.specs.declared.side.Side.TheVariants.{Up}
+use Rattle.ssh_grammar.specs.declared.fault.Breach.{Breach}
+use Rattle.ssh_grammar.specs.declared.numbers.TheConstants.{DISCONNECT, REQUEST_SUCCESS, REQUEST_FAILURE, ADMINISTRATIVELY_PROHIBITED, UNKNOWN_CHANNEL_TYPE, RESOURCE_SHORTAGE}
+use Rattle.ssh_grammar.specs.Messages.{Opens, Session, Direct, Global, Forward, Cancel, KeepAlive, OtherName}
+use Rattle.ssh_grammar.specs.SpellMessage.{with_sender, open_failure, not_permitted, unknown_type, too_many_channels}
+use Rattle.ssh_grammar.specs.Frames.{frame_payload}
+use Rattle.mux_history.specs.declared.why.Why.{Why}
+use Rattle.mux_history.specs.declared.why.Why.TheVariants as why
+use Rattle.mux_history.specs.Gist.{Gist, Transport, Requests, Succeeds, Refuses, Open, Confirmation, Within, Act, Fails, read_gist}
+use Rattle.mux_history.specs.Rows.{Row, any_of, Fate, Goes, Drop}
+use Rattle.mux_history.specs.Channels.{Channel, held_of, is_confirmed, is_up, is_number, with_own}
+use Rattle.mux_history.specs.Ledger.{breach}
+use Rattle.mux_history.specs.Requests.{unanswered_asks}
+use Rattle.mux_history.specs.Policy.{Policy, permits}
+use Rattle.mux_history.specs.Forwardings.{current, is_free_at}
+
+-- what an item does before answers, the queue's bound and the farewell: payloads up, frames down, and a fate
+pub record Outcome : Type 0 where
+  pub sent : List (List ℕ)
+  pub told : List (List ℕ)
+  pub ends : Fate
+
+abbrev pub silent : Outcome
+silent = record { sent = []; told = []; ends = Goes }
+
+abbrev pub sends : List ℕ → Outcome
+sends p = record { sent = p ∷ []; told = []; ends = Goes }
+
+abbrev pub tells : List ℕ → Outcome
+tells frame = record { sent = []; told = frame ∷ []; ends = Goes }
+
+abbrev pub drops : Why → Outcome
+drops cause = record { sent = []; told = []; ends = Drop cause }
+
+-- ---- channels
+
+-- a channel of this client that the server opened and that waits for the client's answer
+abbrev pub waiting_at : List Row → ℕ → Option Channel
+waiting_at own s = find (λ x. is_number x.remote s && (not (is_up x.by) && not (is_confirmed x))) (held_of own)
+
+-- a confirmed channel of this client
+abbrev pub confirmed_at : List Row → ℕ → Option Channel
+confirmed_at own s = find (λ x. is_number x.remote s && is_confirmed x) (held_of own)
+
+abbrev pub fails_open : ℕ → ℕ → List ℕ → Outcome
+fails_open sender reason text = tells (frame_payload (open_failure sender reason text))
+
+-- sent with a fresh number at the sender's place
+abbrev pub sends_as : ℕ → List ℕ → Outcome
+sends_as pick p = sends (with_sender p pick)
+
+abbrev pub sends_open : List Row → ℕ → List ℕ → ℕ → Outcome
+sends_open own pick p sender = elim (nat_lt (length (held_of own)) 256) [
+  | true ↦ sends_as pick p
+  | false ↦ fails_open sender RESOURCE_SHORTAGE too_many_channels
+]
+
+-- sessions and permitted direct channels alone
+abbrev pub said_open : Policy → List Row → ℕ → List ℕ → ℕ → Opens → Outcome
+said_open policy own pick p sender Session = sends_open own pick p sender
+said_open policy own pick p sender (Direct host port) = elim (permits policy.opens host port) [
+  | true ↦ sends_open own pick p sender
+  | false ↦ fails_open sender ADMINISTRATIVELY_PROHIBITED not_permitted
+]
+said_open policy own pick p sender _ = fails_open sender UNKNOWN_CHANNEL_TYPE unknown_type
+
+abbrev pub on_waiting : ℕ → Outcome → Option Channel → Outcome
+on_waiting s o None = drops (why.NotYours s)
+on_waiting s o (Some x) = o
+
+abbrev pub on_breach : List ℕ → ℕ → Option Breach → Outcome
+on_breach p s None = sends p
+on_breach p s (Some b) = drops (why.Channel s b)
+
+abbrev pub on_confirmed : List ℕ → ℕ → Act → Option Channel → Outcome
+on_confirmed p s act None = drops (why.NotYours s)
+on_confirmed p s act (Some x) = on_breach p s (breach Up act x)
+
+abbrev pub is_failing : Act → Bool
+is_failing Fails = true
+is_failing _ = false
+
+-- a failed open answers one that waits; all else is said in a confirmed channel
+abbrev pub said_within : List Row → List ℕ → ℕ → Act → Outcome
+said_within own p s act = elim (is_failing act) [ true ↦ on_waiting s (sends p) (waiting_at own s) | false ↦ on_confirmed p s act (confirmed_at own s) ]
+
+-- the client's own number may not be in use
+abbrev pub on_unused : ℕ → Outcome → Option Channel → Outcome
+on_unused c o None = o
+on_unused c o (Some x) = drops (why.OwnInUse c)
+
+-- ---- global requests
+
+-- what isn't sent is refused, which the row's answers tell
+abbrev pub sends_if : Bool → List ℕ → Outcome
+sends_if true p = sends p
+sends_if false p = silent
+
+abbrev pub said_request : Policy → ℕ → List Row → List ℕ → Global → Bool → Outcome
+said_request policy k own p KeepAlive wants = sends p
+said_request policy k own p OtherName wants = silent
+said_request policy k own p (Forward address port) wants = sends_if (wants && (nat_le (length address) 255 && (permits policy.listens address port && nat_lt (length (current own)) 64))) p
+said_request policy k own p (Cancel address port) wants = sends_if (any_of (is_free_at k address port) (current own)) p
+
+abbrev pub is_full_of_asks : Bool → List Row → Bool
+is_full_of_asks wants own = wants && nat_le 1024 (unanswered_asks own)
+
+-- ---- all messages
+
+abbrev pub said_gist : Policy → ℕ → List Row → ℕ → List ℕ → Gist → Outcome
+said_gist policy k own pick p (Transport number) = elim (number == DISCONNECT) [ true ↦ drops why.Disconnected | false ↦ silent ]
+said_gist policy k own pick p (Requests what wants) = elim (is_full_of_asks wants own) [ true ↦ drops (why.TooManyAsks 1024) | false ↦ said_request policy k own p what wants ]
+said_gist policy k own pick p (Succeeds rest) = drops (why.Unasked REQUEST_SUCCESS)
+said_gist policy k own pick p Refuses = drops (why.Unasked REQUEST_FAILURE)
+said_gist policy k own pick p (Open what sender window maximum) = on_unused sender (said_open policy own pick p sender what) (with_own own sender)
+said_gist policy k own pick p (Confirmation s sender window maximum) = on_waiting s (on_unused sender (sends_as pick p) (with_own own sender)) (waiting_at own s)
+said_gist policy k own pick p (Within s act) = said_within own p s act
+
+abbrev pub said_payload : Policy → ℕ → List Row → ℕ → List ℕ → Outcome
+said_payload policy k own pick p = elim (read_gist p) [ Err bad ↦ drops (why.BadMessage bad) | Ok m ↦ said_gist policy k own pick p m ]

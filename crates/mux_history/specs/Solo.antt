@@ -1,0 +1,75 @@
+-- A client alone: the items that concern it, and the log that they give where nobody else is.
+use Rattle.std.specs.Prelude.{ℕ, ◌≡◌, List, [], ◌∷◌, ◌++◌, Option, Some, None, Bool, true, false, map, bytes_eq}
+use Rattle.ssh_grammar.specs.SpellMessage.{with_sender}
+use Rattle.mux_history.specs.declared.ended.Ended.{Ended}
+use Rattle.mux_history.specs.Gist.{reading, recipient_of}
+use Rattle.mux_history.specs.Rows.{Row, rows_of, Item, Heard, RunEnd, Fate, End}
+use Rattle.mux_history.specs.Channels.{own_of}
+use Rattle.mux_history.specs.Heard.{renamed}
+use Rattle.mux_history.specs.Choices.{TheirOwn}
+use Rattle.mux_history.specs.Log.{Setting, log_of}
+
+-- an item as the client sees it: with its own number at the recipient's place
+abbrev pub item_for : List Row → Item → Item
+item_for own (Heard p) = Heard (reading p (λ m. renamed own p (recipient_of m)) p)
+item_for own item = item
+
+abbrev pub items_for : List Row → List Item
+items_for [] = []
+items_for (row ∷ before) = item_for before row.item ∷ items_for before
+
+-- what ended the run
+abbrev pub end_of : List Row → Option Ended
+end_of [] = None
+end_of (row ∷ before) = elim row.fate [ End cause ↦ Some cause | _ ↦ end_of before ]
+
+abbrev pub run_end : List Row → List Item
+run_end rows = elim (end_of rows) [ None ↦ [] | Some cause ↦ RunEnd cause ∷ [] ]
+
+-- the items of a log that concern a client, the newest first
+abbrev pub for_client : ℕ → List Row → List Item
+for_client k rows = run_end rows ++ items_for (rows_of k rows)
+
+-- the unshared connection: the log of these items, where each number is the one that the client says itself
+abbrev pub solo : Setting → ℕ → List Row → List Row
+solo setting k rows = log_of (record setting { choices = TheirOwn }) (for_client k rows)
+
+-- ---- agreement up to channel numbers
+
+-- what a row gives, seen by its client
+pub record Seen : Type 0 where
+  pub sent : List (List ℕ)
+  pub told : List (List ℕ)
+  pub ends : Fate
+
+-- each number that the client's OPEN or CONFIRMATION carried up replaced by its own
+abbrev pub own_ups : Option ℕ → List (List ℕ) → List (List ℕ)
+own_ups None ups = ups
+own_ups (Some c) ups = map (λ p. with_sender p c) ups
+
+abbrev pub seen : Row → Seen
+seen row = record { sent = own_ups (own_of row.item) row.up ++ row.farewell; told = row.down; ends = row.fate }
+
+abbrev pub seen_alone : Row → Seen
+seen_alone row = record { sent = row.up ++ row.farewell; told = row.down; ends = row.fate }
+
+-- the client's rows and those of the unshared connection agree one by one
+abbrev pub IsUnshared : Setting → ℕ → List Row → Type 0
+IsUnshared setting k rows = map seen (rows_of k rows) ≡ map seen_alone (solo setting k rows)
+
+-- the same as a test of what is sent and told
+
+abbrev pub all_same : List (List ℕ) → List (List ℕ) → Bool
+all_same [] [] = true
+all_same [] (y ∷ ys) = false
+all_same (x ∷ xs) [] = false
+all_same (x ∷ xs) (y ∷ ys) = elim (bytes_eq x y) [ true ↦ all_same xs ys | false ↦ false ]
+
+abbrev pub agree : List Row → List Row → Bool
+agree [] [] = true
+agree [] (s ∷ ss) = false
+agree (r ∷ rs) [] = false
+agree (r ∷ rs) (s ∷ ss) = elim (all_same (seen r).sent (seen_alone s).sent) [ false ↦ false | true ↦ elim (all_same r.down s.down) [ true ↦ agree rs ss | false ↦ false ] ]
+
+abbrev pub looks_unshared : Setting → ℕ → List Row → Bool
+looks_unshared setting k rows = agree (rows_of k rows) (solo setting k rows)

@@ -1,0 +1,12 @@
+//! The history of a master: what happened at its streams, in rows, and what each row sends and tells.
+//! The definitions in `specs/` look everything up in the whole list of rows; the crates above keep tables,
+//! counters and queues, and prove that these stand for such a list.
+#![tactic(auto)]
+
+mod broke;
+mod ended;
+mod why;
+
+pub use broke::Break;
+pub use ended::Ended;
+pub use why::Why;
