@@ -1,7 +1,7 @@
--- One field of a reader: what holds of all that is read behind it.
-use Rattle.std.proofs.Common.{◌≡◌, ℕ, ◌<◌, ◌^◌, List, [], ◌∷◌, ◌++◌, length, Bool, Option, Some, None, Result, Err, IfOk, refl, subst}
+-- One field of a reader: what holds of all that is read behind it, and what is read where the field is spelled.
+use Rattle.std.proofs.Common.{◌≡◌, ℕ, ◌<◌, ◌^◌, List, [], ◌∷◌, ◌++◌, length, Bool, Option, Some, None, Result, Err, IfOk, refl, subst, ap, sym, ◌∙◌}
 use Rattle.ssh_fields.specs.Fields.{AreBytes, u32, str, is_true, take_bool, take_u32, take_str}
-use Rattle.ssh_fields.proofs.Fields.{take_u32-is, take_str-is, AreBytes-behind}
+use Rattle.ssh_fields.proofs.Fields.{take_u32-is, take_str-is, take_u32-u32, take_str-str, AreBytes-behind}
 
 pub u32_step : {B E : Type 0} (Q : B → Type 0) (e : E) (next : ℕ × List ℕ → Result B E) (bytes : List ℕ) → AreBytes bytes
   → ((n : ℕ) (rest : List ℕ) → n < 2 ^ 32 → bytes ≡ u32 n ++ rest → AreBytes rest → IfOk (next (n, rest)) Q)
@@ -30,3 +30,21 @@ pub bool_step : {B E : Type 0} (Q : B → Type 0) (e : E) (next : Bool × List �
   → IfOk (elim (take_bool bytes) as (λ _. Result B E) [ None ↦ Err e | Some p ↦ next p ]) Q
 bool_step Q e next [] h go = tt
 bool_step Q e next (flag ∷ rest) h go = go flag rest refl h.1
+
+pub u32_read : {B E : Type 0} (e : E) (next : ℕ × List ℕ → Result B E) (x : Result B E) (bytes : List ℕ) (n : ℕ) (tail : List ℕ) → n < 2 ^ 32 → bytes ≡ u32 n ++ tail
+  → ((rest : List ℕ) → rest ≡ tail → next (n, rest) ≡ x)
+  → (elim (take_u32 bytes) as (λ _. Result B E) [ None ↦ Err e | Some p ↦ next p ]) ≡ x
+u32_read {B} {E} e next x bytes n tail fits is go =
+    ap (λ o. elim o as (λ _. Result B E) [ None ↦ Err e | Some p ↦ next p ]) (ap take_u32 is ∙ take_u32-u32 n tail fits) ∙ go tail refl
+
+pub str_read : {B E : Type 0} (e : E) (next : List ℕ × List ℕ → Result B E) (x : Result B E) (bytes s tail : List ℕ) → length s < 2 ^ 32 → bytes ≡ str s ++ tail
+  → ((rest : List ℕ) → rest ≡ tail → next (s, rest) ≡ x)
+  → (elim (take_str bytes) as (λ _. Result B E) [ None ↦ Err e | Some p ↦ next p ]) ≡ x
+str_read {B} {E} e next x bytes s tail fits is go =
+    ap (λ o. elim o as (λ _. Result B E) [ None ↦ Err e | Some p ↦ next p ]) (ap take_str is ∙ take_str-str s tail fits) ∙ go tail refl
+
+pub bool_read : {B E : Type 0} (e : E) (next : Bool × List ℕ → Result B E) (x : Result B E) (bytes : List ℕ) (flag : ℕ) (b : Bool) (tail : List ℕ) → is_true flag ≡ b → bytes ≡ flag ∷ tail
+  → ((rest : List ℕ) → rest ≡ tail → next (b, rest) ≡ x)
+  → (elim (take_bool bytes) as (λ _. Result B E) [ None ↦ Err e | Some p ↦ next p ]) ≡ x
+bool_read {B} {E} e next x bytes flag b tail same is go =
+    ap (λ o. elim o as (λ _. Result B E) [ None ↦ Err e | Some p ↦ next p ]) (ap take_bool is ∙ ap (λ (b : Bool). Some (b, tail)) same) ∙ go tail refl
