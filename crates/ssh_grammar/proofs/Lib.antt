@@ -2,3 +2,5 @@ pub mod Steps
 pub mod Tables
 pub mod MessageReads
 pub mod MessageSpelled
+pub mod ControlReads
+pub mod ControlSpelled

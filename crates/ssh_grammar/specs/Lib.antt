@@ -6,5 +6,6 @@ pub mod IsMessage
 pub mod Control
 pub mod ReadControl
 pub mod SpellControl
+pub mod IsControl
 pub mod Frames
 pub mod Said
