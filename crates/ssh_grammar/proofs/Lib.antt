@@ -4,3 +4,5 @@ pub mod MessageReads
 pub mod MessageSpelled
 pub mod ControlReads
 pub mod ControlSpelled
+pub mod Cuts
+pub mod Parses

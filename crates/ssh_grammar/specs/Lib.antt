@@ -8,4 +8,5 @@ pub mod ReadControl
 pub mod SpellControl
 pub mod IsControl
 pub mod Frames
+pub mod IsFrame
 pub mod Said
