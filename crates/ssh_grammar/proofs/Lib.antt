@@ -5,4 +5,5 @@ pub mod MessageSpelled
 pub mod ControlReads
 pub mod ControlSpelled
 pub mod Cuts
+pub mod Frames
 pub mod Parses
