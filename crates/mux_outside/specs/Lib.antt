@@ -4,6 +4,8 @@ pub mod Files
 pub mod Marks
 pub mod Piece
 pub mod Runner
+pub mod Script
+pub mod ScriptWire
 pub mod Sink
 pub mod Streams
 pub mod Tally

@@ -55,7 +55,16 @@ TurnFits (Writable t) want listens last streams blocked bytes = IsTrue (among t 
 TurnFits (Failed t) want listens last streams blocked bytes = IsTrue (among t streams)
 TurnFits NoMemory want listens last streams blocked bytes = Unit {0}
 
--- the marks that a call of wait adds: the call and the turn, for want of memory none
+-- the mark of a turn, for want of memory none
+abbrev pub turn_marks : Turn → List ℕ → List Mark
+turn_marks (Accepted k) bytes = Accepts k ∷ []
+turn_marks (Got t) bytes = Gets t bytes ∷ []
+turn_marks (End t) bytes = Ends t ∷ []
+turn_marks (Writable t) bytes = Frees t ∷ []
+turn_marks (Failed t) bytes = Fails t ∷ []
+turn_marks NoMemory bytes = []
+
+-- the marks that a call of wait adds: the call and its turn, for want of memory none
 abbrev pub wait_marks : Turn → List ℕ → Want → List ℕ → Bool → List ℕ → List Mark
 wait_marks (Accepted k) waiting want streams listens bytes = Waits waiting want streams listens ∷ Accepts k ∷ []
 wait_marks (Got t) waiting want streams listens bytes = Waits waiting want streams listens ∷ Gets t bytes ∷ []

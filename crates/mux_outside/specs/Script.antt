@@ -1,0 +1,88 @@
+-- What a script gives: the turns of its steps, and the answers to writes by its entries.
+use Rattle.std.specs.Prelude.{◌<◌, ℕ, ◌+◌, ◌-◌, ◌^◌, Bool, not, ◌&&◌, if◌then◌else◌, ◌==◌, nat_lt, List, [], ◌∷◌, length, take, drop, min, max, unwrap_or, slice_get}
+use Rattle.mux_outside.specs.Streams.{among}
+use Rattle.mux_outside.specs.declared.script.Step.{Step}
+use Rattle.mux_outside.specs.declared.script.Step.TheVariants.{Accept, Bytes, End, Fail, Writable}
+use Rattle.mux_outside.specs.declared.script.WriteEntry.{WriteEntry}
+use Rattle.mux_outside.specs.declared.script.WriteEntry.TheVariants.{All, Some as SomeBytes, Later, Fail as FailWrite}
+use Rattle.mux_outside.specs.declared.turn.Turn.{Turn}
+use Rattle.mux_outside.specs.declared.turn.Turn.TheVariants.{Accepted, Got, End as Ended, Writable as IsWritable, Failed}
+use Rattle.mux_outside.specs.declared.turn.Wrote.{Wrote}
+use Rattle.mux_outside.specs.declared.turn.Wrote.TheVariants.{Took, Later as IsLater, Failed as FailedWrite}
+
+-- ---- steps
+
+-- whether a step isn't skipped, by whether the wire listens, its last client, and its open and blocked streams
+abbrev pub is_given : Bool → ℕ → List ℕ → List ℕ → Step → Bool
+is_given listens last streams blocked Accept = listens && nat_lt last (2 ^ 64 - 1)
+is_given listens last streams blocked (Bytes t text) = among t streams && not (length text == 0)
+is_given listens last streams blocked (End t) = among t streams
+is_given listens last streams blocked (Fail t) = among t streams
+is_given listens last streams blocked (Writable t) = among t streams && among t blocked
+
+-- a client can come only while there is a number above that of the last one
+abbrev pub FirstGives : ℕ → List Step → Type 0
+FirstGives last [] = Unit {0}
+FirstGives last (Accept ∷ steps) = last < 2 ^ 64 - 1
+FirstGives last (Bytes t text ∷ steps) = Unit {0}
+FirstGives last (End t ∷ steps) = Unit {0}
+FirstGives last (Fail t ∷ steps) = Unit {0}
+FirstGives last (Writable t ∷ steps) = Unit {0}
+
+-- the steps from the first one that isn't skipped
+abbrev pub from_first : (Step → Bool) → List Step → List Step
+from_first test [] = []
+from_first test (step ∷ steps) = let later = from_first test steps in if test step then step ∷ steps else later
+
+-- the turn of the first step, and behind the last step the server's end
+abbrev pub turn_of : ℕ → List Step → Turn
+turn_of last [] = Ended 0
+turn_of last (Accept ∷ steps) = Accepted (last + 1)
+turn_of last (Bytes t text ∷ steps) = Got t
+turn_of last (End t ∷ steps) = Ended t
+turn_of last (Fail t ∷ steps) = Failed t
+turn_of last (Writable t ∷ steps) = IsWritable t
+
+-- the buffer after that turn: bytes come in pieces of at most 65,536
+abbrev pub piece_of : List Step → List ℕ → List ℕ
+piece_of [] piece = piece
+piece_of (Accept ∷ steps) piece = piece
+piece_of (Bytes t text ∷ steps) piece = take 65536 text
+piece_of (End t ∷ steps) piece = piece
+piece_of (Fail t ∷ steps) piece = piece
+piece_of (Writable t ∷ steps) piece = piece
+
+-- the steps after that turn: a step of bytes stays with those that it hasn't given
+abbrev pub steps_after : List Step → List Step
+steps_after [] = []
+steps_after (Accept ∷ steps) = steps
+steps_after (Bytes t text ∷ steps) = Bytes t (drop 65536 text) ∷ steps
+steps_after (End t ∷ steps) = steps
+steps_after (Fail t ∷ steps) = steps
+steps_after (Writable t ∷ steps) = steps
+
+-- a step that has given so many bytes
+abbrev pub cut_step : ℕ → Step → Step
+cut_step n Accept = Accept
+cut_step n (Bytes t text) = Bytes t (drop n text)
+cut_step n (End t) = End t
+cut_step n (Fail t) = Fail t
+cut_step n (Writable t) = Writable t
+
+-- steps of which the first has given so many bytes
+abbrev pub cut_first : ℕ → List Step → List Step
+cut_first n [] = []
+cut_first n (step ∷ steps) = cut_step n step ∷ steps
+
+-- ---- writes
+
+-- the entry of a write after so many others: behind the last entry all is taken
+abbrev pub entry_at : List WriteEntry → ℕ → WriteEntry
+entry_at entries i = unwrap_or (slice_get entries i) All
+
+-- the answer to a write of so many bytes: one is taken at least
+abbrev pub answer_of : WriteEntry → ℕ → Wrote
+answer_of All len = Took len
+answer_of (SomeBytes n) len = Took (min (max n 1) len)
+answer_of Later len = IsLater
+answer_of FailWrite len = FailedWrite

@@ -1,0 +1,140 @@
+// What a script gives next.
+ghost use Rattle.std.specs.Prelude.{◌≡◌, ◌≤◌, ◌++◌, drop, take, length};
+ghost use Rattle.mux_outside.specs.declared.turn.Want.TheVariants.{Read};
+ghost use Rattle.mux_outside.specs.Streams.{among};
+ghost use Rattle.mux_outside.specs.Script.{is_given as is_given_step, cut_step, cut_first, from_first, FirstGives, turn_of, piece_of, steps_after, entry_at, answer_of};
+ghost use Rattle.mux_outside.specs.Wire.{TurnFits};
+
+use crate::piece::Piece;
+use crate::script::{Step, WriteEntry};
+use crate::streams::Streams;
+use crate::turn::{Turn, Wrote};
+
+// The most bytes that a turn gives.
+const PIECE: usize = 65536;
+
+/// A place in a script: a step, and how many of its bytes were given.
+#[derive(Clone, Copy, Debug, PartialEq, Eq)]
+pub struct Place {
+    pub step: usize,
+    pub offset: usize,
+}
+
+/// A turn, and the place after it.
+#[derive(Clone, Copy, Debug)]
+pub struct Given {
+    pub turn: Turn,
+    pub place: Place,
+}
+
+/// What steps are skipped by.
+#[derive(Clone, Copy)]
+pub struct State<'a> {
+    pub listening: bool,
+    pub last: u64,
+    pub streams: &'a Streams,
+    pub blocked: &'a Streams,
+}
+
+// Whether a step that has given so many bytes isn't skipped.
+fn is_given(step: &Step, offset: usize, state: State<'_>) -> bool
+    ensures { result ≡ is_given_step state.entry.listening state.entry.last state.entry.streams.now state.entry.blocked.now (cut_step offset step.now) }
+{
+    match step {
+        Step::Accept => state.listening && state.last < u64::MAX,
+        Step::Bytes(stream, text) => {
+            state.streams.contains(*stream) && offset < text.as_bytes().len()
+        }
+        Step::End(stream) => state.streams.contains(*stream),
+        Step::Fail(stream) => state.streams.contains(*stream),
+        Step::Writable(stream) => {
+            state.streams.contains(*stream) && state.blocked.contains(*stream)
+        }
+    }
+}
+
+/// The first place from this one on whose step isn't skipped.
+pub fn find(steps: &[Step], place: Place, state: State<'_>) -> Place
+    ensures first { cut_first result.offset (drop result.step steps.now) ≡ from_first (is_given_step state.entry.listening state.entry.last state.entry.streams.now state.entry.blocked.now) (cut_first place.offset (drop place.step steps.now)) }
+{
+    let mut offset = place.offset;
+    for step in place.step..steps.len() {
+        if is_given(&steps[step], offset, state) {
+            return Place { step, offset };
+        }
+        offset = 0;
+    }
+    Place {
+        step: steps.len(),
+        offset: 0,
+    }
+}
+
+/// The turn at a place, and the place after it.
+pub fn give(steps: &[Step], place: Place, last: u64, into: &mut Piece) -> Given
+    requires { FirstGives last (cut_first place.offset (drop place.step steps.now)) }
+    ensures turn { result.turn ≡ turn_of last (cut_first place.offset (drop place.step steps.now)) }
+    ensures piece { into.new ≡ piece_of (cut_first place.offset (drop place.step steps.now)) into.old }
+    ensures place { cut_first result.place.offset (drop result.place.step steps.now) ≡ steps_after (cut_first place.offset (drop place.step steps.now)) }
+{
+    let Some(step) = steps.get(place.step) else {
+        return Given {
+            turn: Turn::End(0),
+            place,
+        };
+    };
+    let behind = Place {
+        step: place.step + 1,
+        offset: 0,
+    };
+    match step {
+        Step::Accept => Given {
+            turn: Turn::Accepted(last + 1),
+            place: behind,
+        },
+        Step::Bytes(stream, text) => Given {
+            turn: Turn::Got(*stream),
+            place: Place {
+                step: place.step,
+                offset: give_bytes(text.as_bytes(), place.offset, into),
+            },
+        },
+        Step::End(stream) => Given {
+            turn: Turn::End(*stream),
+            place: behind,
+        },
+        Step::Fail(stream) => Given {
+            turn: Turn::Failed(*stream),
+            place: behind,
+        },
+        Step::Writable(stream) => Given {
+            turn: Turn::Writable(*stream),
+            place: behind,
+        },
+    }
+}
+
+// Gives at most 65,536 bytes behind those that were given, and says how many were given then.
+fn give_bytes(text: &[u8], offset: usize, into: &mut Piece) -> usize
+    ensures piece { into.new ≡ take 65536 (drop offset text.now) }
+    ensures rest { drop result text.now ≡ drop 65536 (drop offset text.now) }
+{
+    let start = offset.min(text.len());
+    let rest = &text[start..];
+    let count = PIECE.min(rest.len());
+    into.set(&rest[..count]);
+    start + count
+}
+
+/// The answer to a write of so many bytes after so many others.
+pub fn answer_at(entries: &[WriteEntry], written: usize, len: usize) -> Wrote
+    ensures { result ≡ answer_of (entry_at entries.now written) len }
+{
+    match entries.get(written) {
+        None => Wrote::Took(len),
+        Some(WriteEntry::All) => Wrote::Took(len),
+        Some(WriteEntry::Some(count)) => Wrote::Took((*count).max(1).min(len)),
+        Some(WriteEntry::Later) => Wrote::Later,
+        Some(WriteEntry::Fail) => Wrote::Failed,
+    }
+}

@@ -1,0 +1,115 @@
+// What a wire in memory records of its calls: all of it, or nothing for want of memory.
+ghost use Rattle.std.specs.Prelude.{◌≡◌, ◌≢◌, ◌++◌, OnOk, OnErr, IfOk, ◌∷◌, [], length};
+ghost use Rattle.mux_outside.specs.Wire.{turn_marks, wait_marks, open_after, WroteFits, write_marks, blocked_after_write};
+ghost use Rattle.mux_outside.specs.declared.turn.Turn.TheVariants.{NoMemory};
+ghost use Rattle.mux_outside.specs.declared.turn.Wrote.TheVariants.{NoMemory as NoMemoryToWrite};
+
+use crate::mark::Mark;
+use crate::streams::Streams;
+use crate::turn::{Turn, Want, Wrote};
+use ssh_fields::{OutOfMemory, Text};
+use std::alloc::Global;
+
+/// Records a call of `wait` and its turn, and opens the stream of a client that comes.
+pub fn record_wait(
+    alloc: Global,
+    marks: &mut Vec<Mark>,
+    streams: &mut Streams,
+    turn: Turn,
+    waiting: &Streams,
+    want: Want,
+    listening: bool,
+    bytes: &[u8],
+) -> Result<(), OutOfMemory>
+    ensures ok { OnOk result (marks.new.items ≡ marks.old.items ++ wait_marks turn waiting.now want streams.old listening bytes.now) }
+    ensures opens { OnOk result (streams.new ≡ open_after turn streams.old) }
+    ensures err { OnErr result (marks.new.items ≡ marks.old.items) }
+    ensures err_streams { OnErr result (streams.new ≡ streams.old) }
+    ensures memory { OnOk result (turn ≢ NoMemory) }
+{
+    let gives = mark_of_turn(alloc, turn, bytes)?;
+    let waiting = Streams::copy(alloc, waiting.as_slice())?;
+    let before = Streams::copy(alloc, streams.as_slice())?;
+    marks.reserve(2)?;
+    open_stream(turn, streams)?;
+    marks.push_reserved(Mark::Waits(waiting, want, before, listening));
+    marks.push_reserved(gives);
+    Ok(())
+}
+
+// The mark of a turn.
+fn mark_of_turn(alloc: Global, turn: Turn, bytes: &[u8]) -> Result<Mark, OutOfMemory>
+    ensures { IfOk result (λ mark. turn_marks turn bytes.now ≡ mark ∷ []) }
+{
+    match turn {
+        Turn::Accepted(client) => Ok(Mark::Accepts(client)),
+        Turn::Got(stream) => Ok(Mark::Gets(stream, Text::copy(alloc, bytes)?)),
+        Turn::End(stream) => Ok(Mark::Ends(stream)),
+        Turn::Writable(stream) => Ok(Mark::Frees(stream)),
+        Turn::Failed(stream) => Ok(Mark::Fails(stream)),
+        Turn::NoMemory => Err(OutOfMemory),
+    }
+}
+
+// Opens the stream of a client that comes.
+fn open_stream(turn: Turn, streams: &mut Streams) -> Result<(), OutOfMemory>
+    ensures ok { OnOk result (streams.new ≡ open_after turn streams.old) }
+    ensures err { OnErr result (streams.new ≡ streams.old) }
+{
+    match turn {
+        Turn::Accepted(client) => streams.push(client),
+        _ => Ok(()),
+    }
+}
+
+/// Records the answer to a write, and blocks a stream that takes nothing for now.
+pub fn record_write(
+    alloc: Global,
+    marks: &mut Vec<Mark>,
+    blocked: &mut Streams,
+    wrote: Wrote,
+    stream: u64,
+    bytes: &[u8],
+) -> Result<(), OutOfMemory>
+    requires { WroteFits wrote (length bytes.now) }
+    ensures ok { OnOk result (marks.new.items ≡ marks.old.items ++ write_marks wrote stream bytes.now) }
+    ensures blocks { OnOk result (blocked.new ≡ blocked_after_write wrote stream blocked.old) }
+    ensures err { OnErr result (marks.new.items ≡ marks.old.items) }
+    ensures err_blocked { OnErr result (blocked.new ≡ blocked.old) }
+    ensures memory { OnOk result (wrote ≢ NoMemoryToWrite) }
+{
+    let mark = mark_of_write(alloc, wrote, stream, bytes)?;
+    marks.reserve(1)?;
+    block_stream(wrote, stream, blocked)?;
+    marks.push_reserved(mark);
+    Ok(())
+}
+
+// The mark of an answer to a write.
+fn mark_of_write(
+    alloc: Global,
+    wrote: Wrote,
+    stream: u64,
+    bytes: &[u8],
+) -> Result<Mark, OutOfMemory>
+    requires { WroteFits wrote (length bytes.now) }
+    ensures { IfOk result (λ mark. write_marks wrote stream bytes.now ≡ mark ∷ []) }
+{
+    match wrote {
+        Wrote::Took(count) => Ok(Mark::Takes(stream, Text::copy(alloc, &bytes[..count])?)),
+        Wrote::Later => Ok(Mark::Holds(stream)),
+        Wrote::Failed => Ok(Mark::WriteFails(stream)),
+        Wrote::NoMemory => Err(OutOfMemory),
+    }
+}
+
+// Blocks a stream that takes nothing for now.
+fn block_stream(wrote: Wrote, stream: u64, blocked: &mut Streams) -> Result<(), OutOfMemory>
+    ensures ok { OnOk result (blocked.new ≡ blocked_after_write wrote stream blocked.old) }
+    ensures err { OnErr result (blocked.new ≡ blocked.old) }
+{
+    match wrote {
+        Wrote::Later => blocked.push(stream),
+        _ => Ok(()),
+    }
+}

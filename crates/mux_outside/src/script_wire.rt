@@ -1,0 +1,270 @@
+ghost use Rattle.std.specs.Prelude.{◌≡◌, ◌≢◌, ◌<◌, ◌++◌, ◌∷◌, [], true, false, is_ok, Some, IsTrue, All, OnOk, IfOk, length, if◌then◌else◌};
+ghost use Rattle.std.specs.Option.{option_map};
+ghost use Rattle.mux_outside.specs.Calls.{FailsByNumber, calls_after};
+ghost use Rattle.mux_outside.specs.Counts.{Rose};
+ghost use Rattle.mux_outside.specs.Streams.{among, without};
+ghost use Rattle.mux_outside.specs.Tally.{no_tally};
+ghost use Rattle.mux_outside.specs.declared.turn.Want.TheVariants.{WriteOnly};
+ghost use Rattle.mux_outside.specs.declared.turn.Turn.TheVariants.{NoMemory};
+ghost use Rattle.mux_outside.specs.declared.turn.Wrote.TheVariants.{NoMemory as NoMemoryToWrite};
+ghost use Rattle.mux_outside.specs.Marks.{bytes_taken as all_taken};
+ghost use Rattle.mux_outside.specs.Wire.{openings_of, OpenFaults, TurnFits, TurnFaults, wait_marks, open_after, blocked_after, last_after, WroteFits, WroteFaults, write_marks, blocked_after_write};
+ghost use Rattle.mux_outside.specs.ScriptWire.{steps_left, GivesNext, GivesAt, FollowsEntry, OpensByNumber, Starts};
+
+use crate::calls::{Calls, count_fault, next_call, raised};
+use crate::file_error::FileError;
+use crate::mark::{Mark, Opening, bytes_taken};
+use crate::piece::Piece;
+use crate::plan::{Given, Place, State, answer_at, find, give};
+use crate::record::{record_wait, record_write};
+use crate::script::{Steps, Writes};
+use crate::streams::Streams;
+use crate::turn::{Tally, Turn, Want, Wrote};
+use crate::wire::Wire;
+use ssh_fields::{OutOfMemory, Text};
+use std::alloc::{AllocError, Global};
+
+/// A wire in memory, which gives the turns of its steps, answers writes by its entries, and tells
+/// everything. After the last step the server ends; after the last entry all bytes are taken.
+#[derive(Debug, Drop)]
+pub struct ScriptWire {
+    alloc: Global,
+    steps: Steps,
+    // the next step
+    place: Place,
+    writes: Writes,
+    // how many writes were answered
+    written: usize,
+    fails: Calls,
+    // how many calls of `open` were counted
+    opens: u64,
+    streams: Streams,
+    blocked: Streams,
+    last: u64,
+    listening: bool,
+    server_faults: u64,
+    client_faults: u64,
+    openings: Vec<Opening>,
+    marks: Vec<Mark>,
+}
+
+impl ScriptWire {
+    /// A wire that isn't open. The calls of `open` with the given numbers fail.
+    pub fn new(alloc: Global, steps: Steps, writes: Writes, fails: Calls) -> ScriptWire
+        ensures starts { Starts result steps writes fails }
+        ensures listens { result.listening ≡ false }
+    {
+        ScriptWire {
+            alloc,
+            steps,
+            place: Place { step: 0, offset: 0 },
+            writes,
+            written: 0,
+            fails,
+            opens: 0,
+            streams: Streams::new(alloc),
+            blocked: Streams::new(alloc),
+            last: 0,
+            listening: false,
+            server_faults: 0,
+            client_faults: 0,
+            openings: Vec::new(alloc),
+            marks: Vec::new(alloc),
+        }
+    }
+
+    /// The marks so far.
+    pub fn marks(&self) -> &[Mark]
+        ensures { result.now ≡ self.now.marks.items }
+    {
+        self.marks.as_slice()
+    }
+
+    /// The arguments of the calls of `open` so far.
+    pub fn openings(&self) -> &[Opening]
+        ensures { result.now ≡ self.now.openings.items }
+    {
+        self.openings.as_slice()
+    }
+
+    /// All bytes that a stream took.
+    pub fn taken(&self, stream: u64) -> Result<Text, OutOfMemory>
+        ensures { IfOk result (λ bytes. bytes ≡ all_taken stream self.now.marks.items) }
+    {
+        bytes_taken(self.alloc, &self.marks, stream)
+    }
+}
+
+impl ScriptWire {
+    // The turn of a wait, and the place in the script after it.
+    fn given(&self, waiting: &Streams, want: Want, into: &mut Piece) -> Given
+        requires waiting_blocked { All (λ t. IsTrue (among t self.now.blocked)) waiting.now }
+        requires waiting_open { All (λ t. IsTrue (among t self.now.streams)) waiting.now }
+        requires server { IsTrue (among 0 self.now.streams) }
+        requires some { want ≡ WriteOnly → 0 < length waiting.now }
+        ensures turn { TurnFits result.turn want self.now.listening self.now.last self.now.streams self.now.blocked into.new }
+        ensures script { GivesAt want waiting.now self.now result.place result.turn into.old into.new }
+    {
+        match want {
+            Want::Read => {
+                let state = State {
+                    listening: self.listening,
+                    last: self.last,
+                    streams: &self.streams,
+                    blocked: &self.blocked,
+                };
+                let steps = self.steps.as_slice();
+                let place = find(steps, self.place, state);
+                give(steps, place, self.last, into)
+            }
+            Want::WriteOnly => Given {
+                turn: Turn::Writable(waiting.as_slice()[0]),
+                place: self.place,
+            },
+        }
+    }
+}
+
+impl Wire for ScriptWire {
+    ghost openings = { λ w. Some w.openings.items };
+
+    ghost told = { λ w. Some w.marks.items };
+
+    ghost streams = { λ w. w.streams };
+
+    ghost blocked = { λ w. w.blocked };
+
+    ghost listens = { λ w. w.listening };
+
+    ghost last = { λ w. w.last };
+
+    ghost server_faults = { λ w. w.server_faults };
+
+    ghost client_faults = { λ w. w.client_faults };
+
+    ghost tally = { λ _. no_tally };
+
+    fn open(&mut self, control: &[u8], transport: &[u8]) -> Result<(), FileError>
+        ensures openings { Some self.new.openings.items ≡ option_map (λ os. os ++ openings_of result control.now transport.now) (Some self.old.openings.items) }
+        ensures told { Some self.new.marks.items ≡ Some self.old.marks.items }
+        ensures streams { self.new.streams ≡ (if is_ok result then 0 ∷ [] else self.old.streams) }
+        ensures blocked { self.new.blocked ≡ (if is_ok result then [] else self.old.blocked) }
+        ensures listens { self.new.listening ≡ (if is_ok result then true else self.old.listening) }
+        ensures last { self.new.last ≡ self.old.last }
+        ensures cause { OpenFaults result self.old.server_faults self.new.server_faults self.old.client_faults self.new.client_faults }
+        ensures exact { OpensByNumber result self.old self.new }
+        ensures script { steps_left self.new ≡ steps_left self.old }
+    {
+        let opening = Opening {
+            control: Text::copy(self.alloc, control)?,
+            transport: Text::copy(self.alloc, transport)?,
+        };
+        let mut streams = Streams::new(self.alloc);
+        streams.push(0)?;
+        if self.openings.push(opening).is_err() {
+            return Err(FileError::OutOfMemory);
+        }
+        self.opens = next_call(self.opens);
+        if self.fails.contains(self.opens) {
+            self.server_faults = raised(self.server_faults);
+            return Err(FileError::Failed);
+        }
+        self.streams = streams;
+        self.blocked = Streams::new(self.alloc);
+        self.listening = true;
+        Ok(())
+    }
+
+    fn wait(&mut self, waiting: &Streams, want: Want, into: &mut Piece) -> Turn
+        requires waiting_blocked { All (λ t. IsTrue (among t self.old.blocked)) waiting.now }
+        requires waiting_open { All (λ t. IsTrue (among t self.old.streams)) waiting.now }
+        requires server { IsTrue (among 0 self.old.streams) }
+        requires some { want ≡ WriteOnly → 0 < length waiting.now }
+        ensures turn { TurnFits result want self.old.listening self.old.last self.old.streams self.old.blocked into.new }
+        ensures openings { Some self.new.openings.items ≡ Some self.old.openings.items }
+        ensures told { Some self.new.marks.items ≡ option_map (λ m. m ++ wait_marks result waiting.now want self.old.streams self.old.listening into.new) (Some self.old.marks.items) }
+        ensures streams { self.new.streams ≡ open_after result self.old.streams }
+        ensures blocked { self.new.blocked ≡ blocked_after result self.old.blocked }
+        ensures listens { self.new.listening ≡ self.old.listening }
+        ensures last { self.new.last ≡ last_after result self.old.last }
+        ensures cause { TurnFaults result self.old.server_faults self.new.server_faults self.old.client_faults self.new.client_faults }
+        ensures script { result ≢ NoMemory → GivesNext want waiting.now self.old self.new result into.old into.new }
+        ensures kept { result ≡ NoMemory → steps_left self.new ≡ steps_left self.old }
+    {
+        let given = self.given(waiting, want, into);
+        if record_wait(
+            self.alloc,
+            &mut self.marks,
+            &mut self.streams,
+            given.turn,
+            waiting,
+            want,
+            self.listening,
+            into.as_bytes(),
+        )
+        .is_err()
+        {
+            return Turn::NoMemory;
+        }
+        self.place = given.place;
+        match given.turn {
+            Turn::Accepted(client) => self.last = client,
+            Turn::Writable(stream) => self.blocked.remove(stream),
+            Turn::Failed(stream) => count_fault(
+                stream,
+                &mut self.server_faults,
+                &mut self.client_faults,
+            ),
+            _ => {}
+        }
+        given.turn
+    }
+
+    fn write(&mut self, stream: u64, bytes: &[u8]) -> Wrote
+        requires stream_open { IsTrue (among stream self.old.streams) }
+        requires not_blocked { among stream self.old.blocked ≡ false }
+        requires some { 0 < length bytes.now }
+        ensures wrote { WroteFits result (length bytes.now) }
+        ensures openings { Some self.new.openings.items ≡ Some self.old.openings.items }
+        ensures told { Some self.new.marks.items ≡ option_map (λ m. m ++ write_marks result stream bytes.now) (Some self.old.marks.items) }
+        ensures streams { self.new.streams ≡ self.old.streams }
+        ensures blocked { self.new.blocked ≡ blocked_after_write result stream self.old.blocked }
+        ensures listens { self.new.listening ≡ self.old.listening }
+        ensures last { self.new.last ≡ self.old.last }
+        ensures cause { WroteFaults result stream self.old.server_faults self.new.server_faults self.old.client_faults self.new.client_faults }
+        ensures script { result ≢ NoMemoryToWrite → FollowsEntry (length bytes.now) self.old self.new result }
+        ensures kept { result ≡ NoMemoryToWrite → self.new.written ≡ self.old.written }
+    {
+        let wrote = answer_at(self.writes.as_slice(), self.written, bytes.len());
+        if record_write(
+            self.alloc,
+            &mut self.marks,
+            &mut self.blocked,
+            wrote,
+            stream,
+            bytes,
+        )
+        .is_err()
+        {
+            return Wrote::NoMemory;
+        }
+        self.written = self.written.saturating_add(1);
+        if wrote == Wrote::Failed {
+            count_fault(stream, &mut self.server_faults, &mut self.client_faults);
+        }
+        wrote
+    }
+
+    fn stop_listening(&mut self) {
+        self.listening = false;
+    }
+
+    fn close(&mut self, stream: u64) {
+        self.streams.remove(stream);
+        self.blocked.remove(stream);
+    }
+
+    fn tally(&self) -> Tally {
+        Tally::zero()
+    }
+}
