@@ -22,6 +22,8 @@ mod script_wire;
 mod sink;
 mod statuses;
 mod streams;
+#[cfg(test)]
+mod tests;
 mod turn;
 mod wire;
 

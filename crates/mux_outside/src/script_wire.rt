@@ -73,6 +73,20 @@ impl ScriptWire {
         }
     }
 
+    /// The open streams, in the order in which they were opened.
+    pub fn streams(&self) -> &Streams
+        ensures { result.now ≡ self.now.streams }
+    {
+        &self.streams
+    }
+
+    /// The streams that take no bytes for now.
+    pub fn blocked(&self) -> &Streams
+        ensures { result.now ≡ self.now.blocked }
+    {
+        &self.blocked
+    }
+
     /// The marks so far.
     pub fn marks(&self) -> &[Mark]
         ensures { result.now ≡ self.now.marks.items }

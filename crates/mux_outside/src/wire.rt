@@ -4,6 +4,8 @@ ghost use Rattle.mux_outside.specs.declared.mark.Mark.{Mark as TheMark};
 ghost use Rattle.mux_outside.specs.declared.mark.Opening.{Opening as TheOpening};
 ghost use Rattle.mux_outside.specs.declared.turn.Tally.{Tally as TheTally};
 ghost use Rattle.mux_outside.specs.declared.turn.Want.TheVariants.{WriteOnly};
+ghost use Rattle.mux_outside.specs.declared.turn.Turn.TheVariants.{NoMemory};
+ghost use Rattle.mux_outside.specs.declared.turn.Wrote.TheVariants.{NoMemory as NoMemoryToWrite};
 ghost use Rattle.mux_outside.specs.Streams.{among, without};
 ghost use Rattle.mux_outside.specs.Wire.{openings_of, OpenFaults, TurnFits, TurnFaults, wait_marks, open_after, blocked_after, last_after, WroteFits, WroteFaults, write_marks, blocked_after_write};
 
@@ -66,7 +68,8 @@ pub trait Wire {
         ensures blocked { blocked self.new ≡ blocked_after result (blocked self.old) }
         ensures listens { listens self.new ≡ listens self.old }
         ensures last { last self.new ≡ last_after result (last self.old) }
-        ensures cause { TurnFaults result (server_faults self.old) (server_faults self.new) (client_faults self.old) (client_faults self.new) };
+        ensures cause { TurnFaults result (server_faults self.old) (server_faults self.new) (client_faults self.old) (client_faults self.new) }
+        ensures memory { result ≡ NoMemory → tally self.new ≡ tally self.old };
 
     /// Hands bytes to a stream, which takes one of them at least, or none for now.
     fn write(&mut self, stream: u64, bytes: &[u8]) -> Wrote
@@ -80,7 +83,8 @@ pub trait Wire {
         ensures blocked { blocked self.new ≡ blocked_after_write result stream (blocked self.old) }
         ensures listens { listens self.new ≡ listens self.old }
         ensures last { last self.new ≡ last self.old }
-        ensures cause { WroteFaults result stream (server_faults self.old) (server_faults self.new) (client_faults self.old) (client_faults self.new) };
+        ensures cause { WroteFaults result stream (server_faults self.old) (server_faults self.new) (client_faults self.old) (client_faults self.new) }
+        ensures memory { result ≡ NoMemoryToWrite → tally self.new ≡ tally self.old };
 
     /// Accepts no more clients.
     fn stop_listening(&mut self)
