@@ -1,5 +1,5 @@
 -- The files that an Include line names.
-use Rattle.std.specs.Prelude.{false, not, if◌then◌else◌, List, [], ◌∷◌, ◌++◌, map, filter, flat_map, Some, None, Result, Ok, Err, codes}
+use Rattle.std.specs.Prelude.{Option, Some, None, false, not, if◌then◌else◌, List, [], ◌∷◌, ◌++◌, map, filter, flat_map, Result, Ok, Err, codes}
 use Rattle.conf_rules.specs.declared.causes.LexError.{LexError}
 use Rattle.conf_rules.specs.declared.causes.TokenError.{TokenError}
 use Rattle.conf_rules.specs.declared.token_set.TokenSet.TheVariants.{Included}
@@ -9,7 +9,7 @@ use Rattle.conf_rules.specs.Order.{sorted}
 use Rattle.conf_rules.specs.Heads.{Heading, Says, head_of}
 use Rattle.conf_rules.specs.Words.{words_of}
 use Rattle.conf_rules.specs.Globs.{is_glob, component_takes}
-use Rattle.conf_rules.specs.Told.{Facts, Pair, Told, value_at, names_in}
+use Rattle.conf_rules.specs.Told.{Facts, Told}
 use Rattle.conf_rules.specs.Tokens.{View, fact_of, expand_path, starts_with_slash}
 
 -- where a line stands: on the command line, in a user's file, or in a system file
@@ -44,42 +44,52 @@ or_root [] = 47 ∷ []
 or_root (b ∷ bs) = b ∷ bs
 
 -- a path with one more component; of a component with globs all names that it takes
-abbrev pub below : List Pair → Bytes → Bytes → List Bytes
-below files component base =
-    if is_glob component then map (λ name. base ++ (47 ∷ name)) (filter (component_takes component) (names_in files (or_root base)))
+abbrev pub below : Told → Bytes → Bytes → List Bytes
+below told component base =
+    if is_glob component then map (λ name. base ++ (47 ∷ name)) (filter (component_takes component) (told.names (or_root base)))
     else (base ++ (47 ∷ component)) ∷ []
 
 -- paths along components
-abbrev pub along : List Pair → List Bytes → List Bytes → List Bytes
-along files [] bases = bases
-along files (component ∷ components) bases = along files components (flat_map (below files component) bases)
+abbrev pub along : Told → List Bytes → List Bytes → List Bytes
+along told [] bases = bases
+along told (component ∷ components) bases = along told components (flat_map (below told component) bases)
 
 -- the components of a path; empty ones are dropped
 abbrev pub components_of : Bytes → List Bytes
 components_of path = filter (λ component. not (is_empty component)) (split_at_each 47 path)
 
 -- the paths that an absolute path stands for; of one with globs those in the order of their bytes
-unfoldable pub globbed : List Pair → Bytes → List Bytes
-globbed files path = if is_glob path then sorted (along files (components_of path) ([] ∷ [])) else path ∷ []
+unfoldable pub globbed : Told → Bytes → List Bytes
+globbed told path = if is_glob path then sorted (along told (components_of path) ([] ∷ [])) else path ∷ []
+
+-- a file: its path and what it holds
+pub record ConfFile : Type 0 where
+  pub path : Bytes
+  pub text : Bytes
+
+-- the file of a content, if there is one
+abbrev pub file_of : Bytes → Option Bytes → List ConfFile
+file_of path None = []
+file_of path (Some text) = record { path = path; text = text } ∷ []
 
 -- the file at a path, if it is there
-abbrev pub file_at : List Pair → Bytes → List Pair
-file_at files path = elim (value_at files path) [ Some text ↦ record { name = path; value = text } ∷ [] | None ↦ [] ]
+abbrev pub file_at : Told → Bytes → List ConfFile
+file_at told path = file_of path (told.content path)
 
 -- the files that are there, in reading order
-abbrev pub files_of : List Pair → List Bytes → List Pair
-files_of files paths = flat_map (λ path. flat_map (file_at files) (globbed files path)) paths
+abbrev pub files_of : Told → List Bytes → List ConfFile
+files_of told paths = flat_map (λ path. flat_map (file_at told) (globbed told path)) paths
 
 -- the files that words name; words without a reading name none, since their line is refused
-abbrev pub words_named : Source → Told → Result (List Bytes) LexError → Result (List Pair) TokenError
+abbrev pub words_named : Source → Told → Result (List Bytes) LexError → Result (List ConfFile) TokenError
 words_named source told (Err e) = Ok []
-words_named source told (Ok words) = paths_of source told words >>= λ paths. Ok (files_of told.files paths)
+words_named source told (Ok words) = paths_of source told words >>= λ paths. Ok (files_of told paths)
 
 -- the files that a heading names
-abbrev pub named_in : Source → Told → Result Heading LexError → Result (List Pair) TokenError
+abbrev pub named_in : Source → Told → Result Heading LexError → Result (List ConfFile) TokenError
 named_in source told (Ok (Says keyword rest)) = if same_word keyword (codes "include") then words_named source told (words_of rest) else Ok []
 named_in source told heading = Ok []
 
 -- the files that a line includes, or the refusal of its tokens
-unfoldable pub included_files : Source → Told → Bytes → Result (List Pair) TokenError
+unfoldable pub included_files : Source → Told → Bytes → Result (List ConfFile) TokenError
 included_files source told bytes = named_in source told (head_of bytes)

@@ -28,4 +28,5 @@ pub mod CommandLine
 pub mod Reading
 pub mod Diagnostics
 pub mod Outcome
+pub mod Memory
 pub mod Samples

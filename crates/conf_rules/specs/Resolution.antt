@@ -76,7 +76,7 @@ tested v entry = elim v.holds [ Ok b ↦ record { entry = Ok entry; applies = b;
 -- Host applies where its words answer yes for the name; the criteria of Match are evaluated only where the blocks of the including files apply
 abbrev pub effect_of : Told → Pass → List Row → Bool → Result Entry Cause → Effect
 effect_of told pass rows active (Ok (Block patterns)) = record { entry = Ok (Block patterns); applies = is_yes (answer_of patterns (name_in_pass told pass)); ran = [] }
-effect_of told pass rows true (Ok (Tests criteria)) = tested (verdict told.statuses (view_at told rows) criteria) (Tests criteria)
+effect_of told pass rows true (Ok (Tests criteria)) = tested (verdict told.status (view_at told rows) criteria) (Tests criteria)
 effect_of told pass rows active entry = no_block entry
 
 -- whether a line is one of the command line

@@ -1,5 +1,5 @@
 -- Tokens and their expansion (ssh_config(5), TOKENS and ENVIRONMENT VARIABLES).
-use Rattle.std.specs.Prelude.{ℕ, zero, suc, ◌+◌, Bool, true, false, ◌&&◌, ◌==◌, if◌then◌else◌, List, [], ◌∷◌, ◌++◌, length, Option, Some, None, Result, Ok, Err, codes, take_while, not}
+use Rattle.std.specs.Prelude.{ℕ, zero, suc, ◌+◌, Bool, true, false, ◌&&◌, ◌==◌, if◌then◌else◌, [], ◌∷◌, ◌++◌, length, Option, Some, None, Result, Ok, Err, codes, take_while, not}
 use Rattle.sha1.specs.Sha1.{sha1}
 use Rattle.hex.specs.Hex.{encode_lower}
 use Rattle.conf_rules.specs.declared.token_set.TokenSet.{TokenSet}
@@ -9,7 +9,7 @@ use Rattle.conf_rules.specs.declared.causes.TokenError.TheVariants.{Unknown, Lon
 use Rattle.conf_rules.specs.Results.{◌>>=◌, or_refused}
 use Rattle.conf_rules.specs.Texts.{Bytes, is_empty, has, or_text, behind, split_at_first}
 use Rattle.conf_rules.specs.Numbers.{digits_of}
-use Rattle.conf_rules.specs.Told.{Facts, Pair, value_at}
+use Rattle.conf_rules.specs.Told.{Facts}
 
 -- what tokens and criteria see: the name of the command line, the host name, the values set so far, and facts
 pub record View : Type 0 where
@@ -94,9 +94,9 @@ abbrev pub valued : Bytes → Option Bytes → Result Part TokenError
 valued name value = or_refused (NoVariable name) value >>= λ text. Ok (record { text = text; more = length name + 2 })
 
 -- what a variable gives whose dollar sign stands at a place: its name runs to the closing brace
-abbrev pub variable_of : List Pair → ℕ → Option (Bytes × Bytes) → Result Part TokenError
-variable_of vars at None = Err (OpenBrace at)
-variable_of vars at (Some p) = valued p.0 (value_at vars p.0)
+abbrev pub variable_of : (Bytes → Option Bytes) → ℕ → Option (Bytes × Bytes) → Result Part TokenError
+variable_of variable at None = Err (OpenBrace at)
+variable_of variable at (Some p) = valued p.0 (variable p.0)
 
 -- a byte that stands for itself
 abbrev pub itself : ℕ → Result Part TokenError
@@ -104,7 +104,7 @@ itself b = Ok (record { text = b ∷ []; more = 0 })
 
 -- what a dollar sign at a place gives: behind no brace it is itself
 abbrev pub dollar_of : View → ℕ → Bytes → Result Part TokenError
-dollar_of view at bs = elim (behind (123 ∷ []) bs) [ None ↦ itself 36 | Some inner ↦ variable_of view.facts.vars at (split_at_first 125 inner) ]
+dollar_of view at bs = elim (behind (123 ∷ []) bs) [ None ↦ itself 36 | Some inner ↦ variable_of view.facts.variable at (split_at_first 125 inner) ]
 
 -- what the byte at a place and the bytes behind it give
 abbrev pub part_at : TokenSet → View → ℕ → ℕ → Bytes → Result Part TokenError

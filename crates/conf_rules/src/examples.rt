@@ -3,7 +3,7 @@
 
 ghost use Rattle.std.specs.Prelude.{◌≡◌, List, [], ◌∷◌, codes, length};
 ghost use Rattle.conf_rules.specs.Heads.{lines_of};
-ghost use Rattle.conf_rules.specs.Told.{Pair};
+ghost use Rattle.conf_rules.specs.Memory.{Pair};
 ghost use Rattle.conf_rules.specs.Outcome.{outcome, ran_for, Opens, Drills};
 ghost use Rattle.conf_rules.specs.Samples.{lines, file, ann, at_home, machine, bare, with_f, with_root_f, list_file, written, listed_values, says, full_machine, full_listing, exec_machine};
 
