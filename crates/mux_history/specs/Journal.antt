@@ -1,9 +1,10 @@
 -- What a wire was seen to do, the newest mark first, and the items that it gives.
-use Rattle.std.specs.Prelude.{ℕ, ◌==◌, ◌+◌, ◌≡◌, ◌<◌, ◌≤◌, List, [], ◌∷◌, ◌++◌, None, Bool, true, false, length, drop, map, reverse, All, IsTrue}
+use Rattle.std.specs.Prelude.{ℕ, ◌==◌, ◌+◌, ◌≡◌, ◌<◌, ◌≤◌, List, [], ◌∷◌, ◌++◌, None, Option, Bool, true, ◌&&◌, option_map, false, length, drop, map, reverse, All, IsTrue}
 use Rattle.mux_outside.specs.declared.mark.Mark.{Mark}
 use Rattle.mux_outside.specs.declared.mark.Mark.TheVariants.{Waits, Accepts, Gets, Ends, Frees, Fails, Takes, Holds, WriteFails}
 use Rattle.ssh_grammar.specs.Said.{Saying, Body, Payload, BadFraming, said, InProxy, parse}
-use Rattle.mux_history.specs.Rows.{Item, Admit, Says, Gone, Heard, BadServer, ServerEnd, ServerCut, ServerFailed, Took, Row}
+use Rattle.mux_history.specs.Rows.{Item, Admit, Says, Gone, Heard, BadServer, ServerEnd, ServerCut, ServerFailed, Took, Unserved, Row}
+use Rattle.mux_history.specs.NotBuilt.{Form, skips_server}
 use Rattle.mux_history.specs.Log.{Setting, more_all}
 
 -- ---- what streams gave and took
@@ -73,10 +74,22 @@ abbrev pub items : List Mark → List Item
 items [] = []
 items (mark ∷ before) = reverse (items_in before mark) ++ items before
 
+abbrev pub server_gives : Mark → Bool
+server_gives (Gets stream bytes) = stream == 0
+server_gives _ = false
+
+-- the items as far as they are read
+abbrev pub built_items : List Form → List Mark → Mark → List Item
+built_items missing before mark = elim (skips_server missing && server_gives mark) [ true ↦ Unserved ∷ [] | false ↦ items_in before mark ]
+
 -- the rows of what was seen: each mark adds those of its items
 abbrev pub log_of_journal : Setting → List Mark → List Row
 log_of_journal setting [] = []
-log_of_journal setting (mark ∷ before) = more_all setting (log_of_journal setting before) (items_in before mark)
+log_of_journal setting (mark ∷ before) = more_all setting (log_of_journal setting before) (built_items setting.missing before mark)
+
+-- what a wire told at first, and what it tells after these marks: a wire's list has the oldest mark first
+abbrev pub Tells : Option (List Mark) → Option (List Mark) → List Mark → Type 0
+Tells start now marks = now ≡ option_map (λ told. told ++ reverse marks) start
 
 -- ---- lawful journals: what any wire can give
 

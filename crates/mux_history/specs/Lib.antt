@@ -16,3 +16,5 @@ pub mod Log
 pub mod Journal
 pub mod Solo
 pub mod Right
+pub mod Promises
+pub mod Kept

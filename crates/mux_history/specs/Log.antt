@@ -1,5 +1,5 @@
 -- The log: each row is what its item does after the rows before it.
-use Rattle.std.specs.Prelude.{ℕ, ◌+◌, List, [], ◌∷◌, ◌++◌, Option, Some, None, Bool, true, false, not, ◌&&◌, length, drop, map, nat_lt, nat_le}
+use Rattle.std.specs.Prelude.{ℕ, ◌+◌, List, [], ◌∷◌, ◌++◌, Option, Some, None, Bool, true, false, not, ◌&&◌, length, drop, filter, map, nat_lt, nat_le}
 use Rattle.mux_outside.specs.declared.house.HouseReply.{HouseReply}
 use Rattle.ssh_grammar.specs.declared.numbers.TheConstants.{VERSION}
 use Rattle.ssh_grammar.specs.Control.{Greets}
@@ -9,7 +9,7 @@ use Rattle.mux_history.specs.declared.why.Why.{Why}
 use Rattle.mux_history.specs.declared.why.Why.TheVariants as why
 use Rattle.mux_history.specs.declared.broke.Break.TheVariants as broke
 use Rattle.mux_history.specs.declared.ended.Ended.TheVariants as ended
-use Rattle.mux_history.specs.Rows.{Row, rows_of, loses, is_lost, is_admit, is_out, is_ended, Item, Admit, Says, Gone, Heard, BadServer, ServerEnd, ServerCut, ServerFailed, Took, RunEnd, Fate, Goes, Refused, Drop, End}
+use Rattle.mux_history.specs.Rows.{Row, rows_of, loses, is_lost, is_admit, is_out, is_ended, Item, Admit, Says, Gone, Heard, BadServer, ServerEnd, ServerCut, ServerFailed, Took, RunEnd, Unserved, Fate, Goes, Refused, Drop, End}
 use Rattle.mux_history.specs.Pending.{waiting_down}
 use Rattle.mux_history.specs.Requests.{answers}
 use Rattle.mux_history.specs.Policy.{Policy}
@@ -84,6 +84,10 @@ matters_of rows (k ∷ ks) = elim (has_open_matters (rows_of k rows)) [ true ↦
 abbrev pub open_matters : List Row → ℕ
 open_matters rows = matters_of rows (entered rows)
 
+-- those of them that are not lost
+abbrev pub served : List Row → List ℕ
+served rows = filter (λ k. not (is_out (rows_of k rows))) (entered rows)
+
 -- the hello, where fewer than 64 clients have open matters
 abbrev pub admits : List Row → Outcome
 admits rows = elim (nat_lt (open_matters rows) 64) [ true ↦ tells (frame_answer (Greets VERSION)) | false ↦ record { sent = []; told = []; ends = Refused } ]
@@ -106,6 +110,7 @@ treat policy pid pick rows (ServerCut left) = bare (ServerCut left) 0 (broken ro
 treat policy pid pick rows ServerFailed = bare ServerFailed 0 (finishes ended.ServerFailed)
 treat policy pid pick rows (Took stream size) = bare (Took stream size) stream silent
 treat policy pid pick rows (RunEnd cause) = bare (RunEnd cause) 0 silent
+treat policy pid pick rows Unserved = bare Unserved 0 silent
 
 -- ---- which items make rows
 

@@ -1,5 +1,5 @@
 -- The log: what happened, in rows. Lists of rows have the newest row first.
-use Rattle.std.specs.Prelude.{ℕ, ◌==◌, ◌++◌, ◌||◌, List, [], ◌∷◌, Option, Bool, true, false, filter}
+use Rattle.std.specs.Prelude.{ℕ, ◌==◌, ◌++◌, ◌||◌, List, [], ◌∷◌, Option, Some, None, Bool, true, false, filter}
 use Rattle.mux_outside.specs.declared.house.HouseReply.{HouseReply}
 use Rattle.ssh_grammar.specs.declared.fault.BadFrame.{BadFrame}
 use Rattle.ssh_grammar.specs.Said.{Saying}
@@ -20,6 +20,8 @@ pub data Item : Type 0 where
   ServerFailed : Item
   Took : (stream size : ℕ) → Item
   RunEnd : (cause : Ended) → Item
+  -- bytes of the server where they are not read yet
+  Unserved : Item
 
 -- what becomes of the run and of the row's client
 pub data Fate : Type 0 where
@@ -76,3 +78,16 @@ is_end _ = false
 -- the run is over
 abbrev pub is_ended : List Row → Bool
 is_ended rows = any_of (λ row. is_end row.fate) rows
+
+abbrev pub loss_by : Row → List (ℕ × Option Why)
+loss_by row = elim row.fate [
+  | Drop cause ↦ (row.client, Some cause) ∷ []
+  | Refused ↦ (row.client, None) ∷ []
+  | Goes ↦ elim row.item [ Gone k ↦ (row.client, None) ∷ [] | _ ↦ [] ]
+  | End cause ↦ []
+]
+
+-- the clients that were lost or refused, in that order, each with why it was dropped, if it was
+abbrev pub losses : List Row → List (ℕ × Option Why)
+losses [] = []
+losses (row ∷ before) = losses before ++ loss_by row
