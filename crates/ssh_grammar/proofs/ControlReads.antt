@@ -1,5 +1,5 @@
 -- What reads as a control message is spelled so.
-use Rattle.std.proofs.Common.{◌≡◌, ℕ, zero, suc, ◌+◌, List, [], ◌∷◌, ◌++◌, length, Option, Some, None, Result, Ok, Err, IfOk, refl, sym, ◌∙◌, ap, subst}
+use Rattle.std.proofs.Common.{◌≡◌, ℕ, zero, suc, List, [], ◌∷◌, ◌++◌, length, Option, Some, None, Result, Ok, Err, IfOk, refl, sym, ◌∙◌, ap, subst}
 use Rattle.std.specs.List.{AllByRecursion}
 use Rattle.ssh_fields.specs.Fields.{AreBytes, u32, str, take_u32}
 use Rattle.ssh_grammar.specs.declared.fault.BadControl.{BadControl}
@@ -38,9 +38,9 @@ pairs_step Q (suc n) (b ∷ rest) at next h go = str_step Q _ _ (b ∷ rest) h (
 
 hello_is : (rest : List ℕ) → AreBytes rest → IfOk (read_hello rest) (IsBehind number.HELLO rest)
 hello_is rest h = u32_step (IsBehind number.HELLO rest) _ _ rest h (λ version r fits e h0. pairs_step (IsBehind number.HELLO rest) (length r) r _ (Hello version) h0 (λ pairs fit e0. record {
-    is_control = (fits, fit);
-    spelled = ap (λ x. u32 number.HELLO ++ x) (e ∙ ap (λ x. u32 version ++ x) e0);
-  }))
+  is_control = (fits, fit);
+  spelled = ap (λ x. u32 number.HELLO ++ x) (e ∙ ap (λ x. u32 version ++ x) e0);
+}))
 
 abbrev ask : ℕ → List ℕ → ℕ → List ℕ → ℕ → ForwardAsk
 ask kind listen_host listen_port connect_host connect_port = record { kind = kind; listen_host = listen_host; listen_port = listen_port; connect_host = connect_host; connect_port = connect_port }
@@ -51,8 +51,8 @@ forward_is kind message rest h is = u32_step (IsBehind kind rest) _ _ rest h (λ
     str_step (IsBehind kind rest) _ _ r3 h3 (λ connect_host r4 f4 e4 h4. u32_step (IsBehind kind rest) _ _ r4 h4 (λ connect_port r5 f5 e5 _.
     end_step (IsBehind kind rest) r5 _ (message id (ask k listen_host listen_port connect_host connect_port)) (λ n.
     subst (λ x. IsBehind kind x (message id (ask k listen_host listen_port connect_host connect_port)))
-      (sym (e0 ∙ ap (λ x. u32 id ++ x) (e1 ∙ ap (λ x. u32 k ++ x) (e2 ∙ ap (λ x. str listen_host ++ x) (e3 ∙ ap (λ x. u32 listen_port ++ x) (e4 ∙ ap (λ x. str connect_host ++ x) (e5 ∙ ap (λ x. u32 connect_port ++ x) n)))))))
-      (is id (ask k listen_host listen_port connect_host connect_port) f0 (record { kind = f1; listen_host = f2; listen_port = f3; connect_host = f4; connect_port = f5 })))))))))
+    (sym (e0 ∙ ap (λ x. u32 id ++ x) (e1 ∙ ap (λ x. u32 k ++ x) (e2 ∙ ap (λ x. str listen_host ++ x) (e3 ∙ ap (λ x. u32 listen_port ++ x) (e4 ∙ ap (λ x. str connect_host ++ x) (e5 ∙ ap (λ x. u32 connect_port ++ x) n)))))))
+    (is id (ask k listen_host listen_port connect_host connect_port) f0 (record { kind = f1; listen_host = f2; listen_port = f3; connect_host = f4; connect_port = f5 })))))))))
 
 unknown_is : (kind : ℕ) (rest : List ℕ) (Q : Control → Type 0) → IfOk (read_unknown kind rest) Q
 unknown_is kind rest Q = u32_less (take_u32 rest)
@@ -68,17 +68,34 @@ kind_is kind rest h = by_number-holds (λ read. IfOk (read rest) (IsBehind kind 
     at k read is same = subst (λ k. IfOk (read rest) (IsBehind k rest)) (sym same) is
 
     rows : AllByRecursion (λ row. kind ≡ row.0 → IfOk (row.1 rest) (IsBehind kind rest)) forms
-    rows =
-        (at number.HELLO read_hello (hello_is rest h),
-        (at number.NEW_SESSION (read_unread NewSession) (unread_is number.NEW_SESSION NewSession rest h (λ id unread fits. record { is_control = fits; spelled = refl })),
-        (at number.ALIVE_CHECK (read_id AliveCheck) (id_is number.ALIVE_CHECK AliveCheck rest h (λ id fits. record { is_control = fits; spelled = refl })),
-        (at number.TERMINATE (read_id Terminate) (id_is number.TERMINATE Terminate rest h (λ id fits. record { is_control = fits; spelled = refl })),
-        (at number.OPEN_FWD (read_forward OpenForward) (forward_is number.OPEN_FWD OpenForward rest h (λ id what fits is. record { is_control = (fits, is); spelled = refl })),
-        (at number.CLOSE_FWD (read_forward CloseForward) (forward_is number.CLOSE_FWD CloseForward rest h (λ id what fits is. record { is_control = (fits, is); spelled = refl })),
-        (at number.NEW_STDIO_FWD (read_unread StdioForward) (unread_is number.NEW_STDIO_FWD StdioForward rest h (λ id unread fits. record { is_control = fits; spelled = refl })),
-        (at number.STOP_LISTENING (read_id StopListening) (id_is number.STOP_LISTENING StopListening rest h (λ id fits. record { is_control = fits; spelled = refl })),
-        (at number.PROXY (read_id Proxy) (id_is number.PROXY Proxy rest h (λ id fits. record { is_control = fits; spelled = refl })),
-        tt)))))))))
+    rows = (
+      at number.HELLO read_hello (hello_is rest h),
+      (
+        at number.NEW_SESSION (read_unread NewSession) (unread_is number.NEW_SESSION NewSession rest h (λ id unread fits. record { is_control = fits; spelled = refl })),
+        (
+          at number.ALIVE_CHECK (read_id AliveCheck) (id_is number.ALIVE_CHECK AliveCheck rest h (λ id fits. record { is_control = fits; spelled = refl })),
+          (
+            at number.TERMINATE (read_id Terminate) (id_is number.TERMINATE Terminate rest h (λ id fits. record { is_control = fits; spelled = refl })),
+            (
+              at number.OPEN_FWD (read_forward OpenForward) (forward_is number.OPEN_FWD OpenForward rest h (λ id what fits is. record { is_control = (fits, is); spelled = refl })),
+              (
+                at number.CLOSE_FWD (read_forward CloseForward) (forward_is number.CLOSE_FWD CloseForward rest h (λ id what fits is. record { is_control = (fits, is); spelled = refl })),
+                (
+                  at number.NEW_STDIO_FWD (read_unread StdioForward) (unread_is number.NEW_STDIO_FWD StdioForward rest h (λ id unread fits. record { is_control = fits; spelled = refl })),
+                  (
+                    at number.STOP_LISTENING (read_id StopListening) (id_is number.STOP_LISTENING StopListening rest h (λ id fits. record { is_control = fits; spelled = refl })),
+                    (
+                      at number.PROXY (read_id Proxy) (id_is number.PROXY Proxy rest h (λ id fits. record { is_control = fits; spelled = refl })),
+                      tt,
+                    ),
+                  ),
+                ),
+              ),
+            ),
+          ),
+        ),
+      ),
+    )
 
 -- what reads as a control message is a body of it
 pub reads_is_spelled : (body : List ℕ) → AreBytes body → IfOk (read_control body) (λ c. SpellsControl c body)

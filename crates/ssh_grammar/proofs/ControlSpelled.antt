@@ -1,5 +1,5 @@
 -- What is spelled as a control message reads as it.
-use Rattle.std.proofs.Common.{◌≡◌, ℕ, zero, suc, ◌+◌, ◌≤◌, List, [], ◌∷◌, ◌++◌, length, Result, Ok, Err, refl, sym, ◌∙◌, ap, subst, arith, length-append}
+use Rattle.std.proofs.Common.{◌≡◌, ℕ, zero, suc, ◌≤◌, List, [], ◌∷◌, ◌++◌, length, Ok, refl, sym, ◌∙◌, ap, arith, length-append}
 use Rattle.std.specs.List.{AllByRecursion}
 use Rattle.ssh_fields.specs.Fields.{u32, str}
 use Rattle.ssh_grammar.specs.Control.{ForwardAsk, Control, Hello, NewSession, AliveCheck, Terminate, OpenForward, CloseForward, StdioForward, StopListening, Proxy}
@@ -56,3 +56,10 @@ control_read (Proxy id) is = id_read Proxy (u32 id) id is refl
 -- a body of a control message reads as it
 pub spelled_reads : (c : Control) (body : List ℕ) → SpellsControl c body → read_control body ≡ Ok c
 spelled_reads c body is = ap read_control is.spelled ∙ control_read c is.is_control
+
+pub no_body_for_two : (a b : Control) → IsControl a → IsControl b → spell_control a ≡ spell_control b → a ≡ b
+no_body_for_two a b is_a is_b e =
+    let left : read_control (spell_control a) ≡ Ok a = control_read a is_a in
+    let right : read_control (spell_control a) ≡ Ok b = ap read_control e ∙ control_read b is_b in
+    let both : Ok a ≡ Ok b = sym left ∙ right in
+    cc

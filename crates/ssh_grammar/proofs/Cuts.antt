@@ -1,18 +1,13 @@
 -- Frames: what a cut gives is spelled so, frames that are spelled are cut, and bytes that follow change none.
-use Rattle.std.proofs.Common.{◌≡◌, ℕ, zero, suc, ◌-◌, ◌+◌, ◌<◌, ◌≤◌, ◌^◌, List, [], ◌∷◌, ◌++◌, length, true, false, Bool, refl, sym, ◌∙◌, ap, subst, arith, Option, Some, None, take, drop, length-drop, length-take, length-append, append_assoc}
+use Rattle.std.proofs.Common.{◌≡◌, ℕ, zero, suc, ◌-◌, ◌≤◌, List, [], ◌∷◌, ◌++◌, length, true, false, Bool, refl, sym, ◌∙◌, ap, subst, arith, Some, None, take, drop, length-drop, length-append}
 use Rattle.std.specs.Prelude.{nat_le, nat_lt, nat_eq}
-use Rattle.std.specs.List.{AllByRecursion}
-use Rattle.std.proofs.lemmas.List.{take-append-le, drop-append-le, take-append-drop, take_at, drop_at}
-use Rattle.std.proofs.lemmas.Bool.{eqb-true}
-use Rattle.ssh_fields.specs.Fields.{AreBytes, u32, take_u32}
-use Rattle.ssh_fields.proofs.Fields.{take_u32-is, take_u32-u32, take_u32-append, AreBytes-behind}
-use Rattle.ssh_grammar.specs.declared.fault.BadFrame.{BadFrame}
+use Rattle.std.proofs.lemmas.List.{take-append-le, drop-append-le}
 use Rattle.ssh_grammar.specs.declared.fault.BadFrame.TheVariants as bad
 use Rattle.ssh_grammar.specs.declared.framing.Framing.{Framing}
 use Rattle.ssh_grammar.specs.declared.framing.Framing.TheVariants.{Control, Proxy}
 use Rattle.ssh_grammar.specs.declared.numbers.TheConstants.{LONGEST_FRAME}
-use Rattle.ssh_grammar.specs.Frames.{frame, Front, Frame, More, Faulty, cut_content, cut_padding, shortest, cut_rest, cut_length, first_frame, Cut, with_frame, cut_by, cut}
-use Rattle.ssh_grammar.specs.IsFrame.{IsContent, joined, EndsAt, Cuts}
+use Rattle.ssh_grammar.specs.Frames.{Front, Frame, More, Faulty, cut_content, cut_padding, shortest, cut_rest, cut_length, first_frame, Cut, with_frame, cut_by, cut}
+use Rattle.ssh_grammar.specs.Laws.{cut_then}
 
 -- ---- what is left behind a frame is shorter by its header at least
 
@@ -81,7 +76,7 @@ cut-fuel (suc n) zero framing (b ∷ bytes) h k = absurd (omega arith)
 cut-fuel (suc n) (suc m) framing bytes h k = by_case (first_frame framing bytes) (first-shorter framing bytes) (λ rest a b. cut-fuel n m framing rest a b)
   where
     by_case : (f : Front) → IsShorter (length bytes - 4) f → ((rest : List ℕ) → length rest ≤ n → length rest ≤ m → cut_by n framing rest ≡ cut_by m framing rest)
-      → cut_front (cut_by n framing) bytes f ≡ cut_front (cut_by m framing) bytes f
+        → cut_front (cut_by n framing) bytes f ≡ cut_front (cut_by m framing) bytes f
     by_case (Frame content rest) s ih = ap (with_frame content) (ih rest (omega arith) (omega arith))
     by_case More s ih = refl
     by_case (Faulty f) s ih = refl
@@ -133,7 +128,7 @@ length-extends : (framing : Framing) (n : ℕ) (rest b : List ℕ) → Extends b
 length-extends framing n rest b = by_case (nat_lt n (shortest framing)) (nat_lt LONGEST_FRAME n)
   where
     by_case : (s t : Bool) → Extends b (elim s as (λ _. Front) [ true ↦ Faulty (bad.Short n) | false ↦ elim t as (λ _. Front) [ true ↦ Faulty (bad.Long n) | false ↦ cut_rest framing n rest ] ])
-      (elim s as (λ _. Front) [ true ↦ Faulty (bad.Short n) | false ↦ elim t as (λ _. Front) [ true ↦ Faulty (bad.Long n) | false ↦ cut_rest framing n (rest ++ b) ] ])
+        (elim s as (λ _. Front) [ true ↦ Faulty (bad.Short n) | false ↦ elim t as (λ _. Front) [ true ↦ Faulty (bad.Long n) | false ↦ cut_rest framing n (rest ++ b) ] ])
     by_case true t = refl
     by_case false true = refl
     by_case false false = rest-extends framing n rest b
@@ -146,9 +141,6 @@ first-extends framing (w ∷ x ∷ y ∷ []) b = tt
 first-extends framing (w ∷ x ∷ y ∷ z ∷ rest) b = length-extends framing _ rest b
 
 -- ---- frames of joined pieces
-
-abbrev pub cut_then : Cut → Cut → Cut
-cut_then c more = record { frames = c.frames ++ more.frames; rest = more.rest; fault = more.fault }
 
 abbrev JoinsTo : Framing → List ℕ → List ℕ → Type 0
 JoinsTo framing a b = cut framing (a ++ b) ≡ cut_then (cut framing a) (cut framing ((cut framing a).rest ++ b))

@@ -1,19 +1,18 @@
 -- The bytes of frames: what is cut is spelled so, and what is spelled is cut.
-use Rattle.std.proofs.Common.{◌≡◌, ℕ, zero, suc, ◌-◌, ◌+◌, ◌<◌, ◌≤◌, ◌^◌, List, [], ◌∷◌, ◌++◌, length, true, false, Bool, refl, sym, ◌∙◌, ap, subst, arith, Option, Some, None, take, drop, length-drop, length-take, length-append, append_assoc}
+use Rattle.std.proofs.Common.{◌≡◌, ℕ, zero, suc, ◌-◌, ◌+◌, ◌≤◌, List, [], ◌∷◌, ◌++◌, length, true, false, Bool, refl, sym, ◌∙◌, ap, subst, arith, Option, Some, None, take, drop, length-take, length-append, append_assoc}
 use Rattle.std.specs.Prelude.{nat_le, nat_lt, nat_eq}
-use Rattle.std.specs.List.{AllByRecursion}
 use Rattle.std.proofs.lemmas.List.{take-append-drop, take_at, drop_at}
 use Rattle.std.proofs.lemmas.Bool.{eqb-true}
-use Rattle.ssh_fields.specs.Fields.{AreBytes, u32, of_four, take_u32}
+use Rattle.ssh_fields.specs.Fields.{AreBytes, u32, take_u32}
 use Rattle.ssh_fields.proofs.Fields.{take_u32-is, of_four-u32, AreBytes-behind}
 use Rattle.ssh_grammar.specs.declared.fault.BadFrame.{BadFrame}
 use Rattle.ssh_grammar.specs.declared.fault.BadFrame.TheVariants as bad
 use Rattle.ssh_grammar.specs.declared.framing.Framing.{Framing}
 use Rattle.ssh_grammar.specs.declared.framing.Framing.TheVariants.{Control, Proxy}
 use Rattle.ssh_grammar.specs.declared.numbers.TheConstants.{LONGEST_FRAME}
-use Rattle.ssh_grammar.specs.Frames.{frame, Front, Frame, More, Faulty, cut_content, cut_padding, shortest, cut_rest, cut_length, first_frame, Cut, with_frame, cut_by, cut}
-use Rattle.ssh_grammar.specs.IsFrame.{IsContent, joined, EndsAt, Cuts}
-use Rattle.ssh_grammar.proofs.Cuts.{IsShorter, first-shorter, cut-at, cut-step}
+use Rattle.ssh_grammar.specs.Frames.{frame, Front, Frame, More, Faulty, cut_content, shortest, cut_rest, cut_length, first_frame, with_frame, cut}
+use Rattle.ssh_grammar.specs.IsFrame.{IsContent, joined, Cuts}
+use Rattle.ssh_grammar.proofs.Cuts.{IsShorter, first-shorter, cut-at}
 
 -- ---- what is cut is spelled so
 

@@ -7,3 +7,5 @@ pub mod ControlSpelled
 pub mod Cuts
 pub mod Frames
 pub mod Parses
+pub mod Said
+pub mod Renumbered

@@ -1,13 +1,13 @@
 -- What reads as a message is spelled so.
-use Rattle.std.proofs.Common.{◌≡◌, ◌≢◌, ℕ, ◌<◌, ◌≤◌, ◌^◌, List, [], ◌∷◌, ◌++◌, length, Bool, true, false, Result, Ok, Err, IfOk, refl, sym, ◌∙◌, ap, subst, arith}
+use Rattle.std.proofs.Common.{◌≡◌, ℕ, ◌≤◌, List, [], ◌∷◌, ◌++◌, Result, Ok, Err, IfOk, refl, sym, ◌∙◌, ap, subst, arith}
 use Rattle.std.specs.List.{AllByRecursion}
 use Rattle.std.proofs.lemmas.List.{append-nil}
 use Rattle.ssh_fields.specs.Fields.{AreBytes, u32, str, is_true}
 use Rattle.ssh_grammar.specs.declared.fault.Bad.{Bad}
 use Rattle.ssh_grammar.specs.declared.numbers.TheConstants as number
-use Rattle.ssh_grammar.specs.Messages.{Global, Forward, Cancel, KeepAlive, OtherName, Opens, Session, Direct, Forwarded, OtherType, PlainMessage, Transport, GlobalRequest, RequestSuccess, RequestFailure, Open, ChannelMessage, Confirmation, OpenFailure, Adjust, Data, Extended, Eof, Close, Request, Success, Failure, Message, Plain, To, forward_name, cancel_name, keepalive_name, session_type, direct_type, forwarded_type}
-use Rattle.ssh_grammar.specs.ReadMessage.{on_end, with_reading, read_key, read_global, read_ends, read_opens, read_transport, read_global_request, read_open, read_confirmation, read_open_failure, read_adjust, read_data, read_extended, read_request, read_as, Form, OfPlain, OfChannel, OfNone, forms, read_message}
-use Rattle.ssh_grammar.specs.SpellMessage.{fields_of, wants, number_of, spell_plain, spell_with}
+use Rattle.ssh_grammar.specs.Messages.{Global, Forward, Cancel, KeepAlive, OtherName, Opens, Session, Direct, Forwarded, OtherType, PlainMessage, RequestSuccess, RequestFailure, ChannelMessage, Eof, Close, Success, Failure, Plain, To, forward_name, cancel_name, keepalive_name, session_type, direct_type, forwarded_type}
+use Rattle.ssh_grammar.specs.ReadMessage.{on_end, with_reading, read_key, read_global, read_ends, read_opens, read_transport, read_global_request, read_open, read_confirmation, read_open_failure, read_adjust, read_data, read_extended, read_request, read_as, OfPlain, OfChannel, OfNone, forms, read_message}
+use Rattle.ssh_grammar.specs.SpellMessage.{fields_of, wants, number_of, spell_plain}
 use Rattle.ssh_grammar.specs.IsMessage.{IsKey, IsEnds, IsGlobal, IsOpens, IsPlain, IsChannelMessage, Spells}
 use Rattle.ssh_grammar.proofs.Steps.{u32_step, str_step, bool_step}
 use Rattle.ssh_grammar.proofs.Tables.{by_number-holds, by_name-holds}
@@ -113,52 +113,52 @@ open_failure_is rest h = u32_step (IsFields number.CHANNEL_OPEN_FAILURE rest) _ 
 
 adjust_is : (rest : List ℕ) → AreBytes rest → IfOk (read_adjust rest) (IsFields number.CHANNEL_WINDOW_ADJUST rest)
 adjust_is rest h = u32_step (IsFields number.CHANNEL_WINDOW_ADJUST rest) _ _ rest h (λ add r fits e _. end_step (IsFields number.CHANNEL_WINDOW_ADJUST rest) r _ _ (λ n. record {
-      number = refl;
-      is_message = fits;
-      flag = 0;
-      boolean = λ recipient. refl;
-      spelled = e ∙ ap (λ x. u32 add ++ x) n;
-    }))
+  number = refl;
+  is_message = fits;
+  flag = 0;
+  boolean = λ recipient. refl;
+  spelled = e ∙ ap (λ x. u32 add ++ x) n;
+}))
 
 data_is : (rest : List ℕ) → AreBytes rest → IfOk (read_data rest) (IsFields number.CHANNEL_DATA rest)
 data_is rest h = str_step (IsFields number.CHANNEL_DATA rest) _ _ rest h (λ bytes r fits e _. end_step (IsFields number.CHANNEL_DATA rest) r _ _ (λ n. record {
-      number = refl;
-      is_message = fits;
-      flag = 0;
-      boolean = λ recipient. refl;
-      spelled = e ∙ (ap (λ x. str bytes ++ x) n ∙ append-nil (str bytes));
-    }))
+  number = refl;
+  is_message = fits;
+  flag = 0;
+  boolean = λ recipient. refl;
+  spelled = e ∙ (ap (λ x. str bytes ++ x) n ∙ append-nil (str bytes));
+}))
 
 extended_is : (rest : List ℕ) → AreBytes rest → IfOk (read_extended rest) (IsFields number.CHANNEL_EXTENDED_DATA rest)
 extended_is rest h = u32_step (IsFields number.CHANNEL_EXTENDED_DATA rest) _ _ rest h (λ code r1 fits1 e1 h1. str_step (IsFields number.CHANNEL_EXTENDED_DATA rest) _ _ r1 h1 (λ bytes r2 fits2 e2 _. end_step (IsFields number.CHANNEL_EXTENDED_DATA rest) r2 _ _ (λ n. record {
-      number = refl;
-      is_message = (fits1, fits2);
-      flag = 0;
-      boolean = λ recipient. refl;
-      spelled = e1 ∙ ap (λ x. u32 code ++ x) (e2 ∙ (ap (λ x. str bytes ++ x) n ∙ append-nil (str bytes)));
-    })))
+  number = refl;
+  is_message = (fits1, fits2);
+  flag = 0;
+  boolean = λ recipient. refl;
+  spelled = e1 ∙ ap (λ x. u32 code ++ x) (e2 ∙ (ap (λ x. str bytes ++ x) n ∙ append-nil (str bytes)));
+})))
 
 bare_is : (n : ℕ) (m : ChannelMessage) (rest : List ℕ) → IsFields n [] m → IfOk (on_end rest 5 m) (IsFields n rest)
 bare_is n m rest is = end_step (IsFields n rest) rest 5 m (λ e. subst (λ x. IsFields n x m) (sym e) is)
 
 request_is : (rest : List ℕ) → AreBytes rest → IfOk (read_request rest) (IsFields number.CHANNEL_REQUEST rest)
 request_is rest h = str_step (IsFields number.CHANNEL_REQUEST rest) _ _ rest h (λ kind r1 fits e1 h1. bool_step (IsFields number.CHANNEL_REQUEST rest) _ _ r1 h1 (λ flag r2 e2 _. record {
-      number = refl;
-      is_message = fits;
-      flag = flag;
-      boolean = λ recipient. refl;
-      spelled = e1 ∙ ap (λ x. str kind ++ x) e2;
-    }))
+  number = refl;
+  is_message = fits;
+  flag = flag;
+  boolean = λ recipient. refl;
+  spelled = e1 ∙ ap (λ x. str kind ++ x) e2;
+}))
 
 -- ---- by its number
 
 plain_is : (n : ℕ) (read : List ℕ → Result PlainMessage Bad) (rest : List ℕ) → IfOk (read rest) (IsBehind n rest) → IfOk (read_as n (OfPlain read) rest) (λ m. Spells m (n ∷ rest))
 plain_is n read rest h = with_step (IsBehind n rest) (λ m. Spells m (n ∷ rest)) (read rest) Plain h (λ m is. record {
-    is_message = is.is_message;
-    flag = is.flag;
-    boolean = is.boolean;
-    spelled = is.spelled;
-  })
+  is_message = is.is_message;
+  flag = is.flag;
+  boolean = is.boolean;
+  spelled = is.spelled;
+})
 
 channel_is : (n : ℕ) (read : List ℕ → Result ChannelMessage Bad) (rest : List ℕ) → AreBytes rest → ((bytes : List ℕ) → AreBytes bytes → IfOk (read bytes) (IsFields n bytes)) → IfOk (read_as n (OfChannel read) rest) (λ m. Spells m (n ∷ rest))
 channel_is n read rest h is = u32_step (λ m. Spells m (n ∷ rest)) _ _ rest h (λ recipient r fits e h1.
@@ -192,23 +192,61 @@ message_is n rest h = by_number-holds (λ form. IfOk (read_as n form rest) (λ m
     bare k m is = channel k (λ rest. on_end rest 5 m) (λ bytes _. bare_is k m bytes is)
 
     rows : AllByRecursion (λ row. n ≡ row.0 → IfOk (read_as n row.1 rest) (λ m. Spells m (n ∷ rest))) (forms n)
-    rows =
-        (transport 1 (omega arith, omega arith), (transport 2 (omega arith, omega arith), (transport 3 (omega arith, omega arith), (transport 4 (omega arith, omega arith),
-        (plain number.GLOBAL_REQUEST read_global_request (global_request_is rest h),
-        (plain number.REQUEST_SUCCESS (λ rest. Ok (RequestSuccess rest)) success_is,
-        (plain number.REQUEST_FAILURE (λ rest. on_end rest 1 RequestFailure) failure_is,
-        (plain number.CHANNEL_OPEN read_open (open_is rest h),
-        (channel number.CHANNEL_OPEN_CONFIRMATION read_confirmation confirmation_is,
-        (channel number.CHANNEL_OPEN_FAILURE read_open_failure open_failure_is,
-        (channel number.CHANNEL_WINDOW_ADJUST read_adjust adjust_is,
-        (channel number.CHANNEL_DATA read_data data_is,
-        (channel number.CHANNEL_EXTENDED_DATA read_extended extended_is,
-        (bare number.CHANNEL_EOF Eof (record { number = refl; is_message = tt; flag = 0; boolean = λ r. refl; spelled = refl }),
-        (bare number.CHANNEL_CLOSE Close (record { number = refl; is_message = tt; flag = 0; boolean = λ r. refl; spelled = refl }),
-        (channel number.CHANNEL_REQUEST read_request request_is,
-        (bare number.CHANNEL_SUCCESS Success (record { number = refl; is_message = tt; flag = 0; boolean = λ r. refl; spelled = refl }),
-        (bare number.CHANNEL_FAILURE Failure (record { number = refl; is_message = tt; flag = 0; boolean = λ r. refl; spelled = refl }),
-        tt))))))))))))))))))
+    rows = (
+      transport 1 (omega arith, omega arith),
+      (
+        transport 2 (omega arith, omega arith),
+        (
+          transport 3 (omega arith, omega arith),
+          (
+            transport 4 (omega arith, omega arith),
+            (
+              plain number.GLOBAL_REQUEST read_global_request (global_request_is rest h),
+              (
+                plain number.REQUEST_SUCCESS (λ rest. Ok (RequestSuccess rest)) success_is,
+                (
+                  plain number.REQUEST_FAILURE (λ rest. on_end rest 1 RequestFailure) failure_is,
+                  (
+                    plain number.CHANNEL_OPEN read_open (open_is rest h),
+                    (
+                      channel number.CHANNEL_OPEN_CONFIRMATION read_confirmation confirmation_is,
+                      (
+                        channel number.CHANNEL_OPEN_FAILURE read_open_failure open_failure_is,
+                        (
+                          channel number.CHANNEL_WINDOW_ADJUST read_adjust adjust_is,
+                          (
+                            channel number.CHANNEL_DATA read_data data_is,
+                            (
+                              channel number.CHANNEL_EXTENDED_DATA read_extended extended_is,
+                              (
+                                bare number.CHANNEL_EOF Eof (record { number = refl; is_message = tt; flag = 0; boolean = λ r. refl; spelled = refl }),
+                                (
+                                  bare number.CHANNEL_CLOSE Close (record { number = refl; is_message = tt; flag = 0; boolean = λ r. refl; spelled = refl }),
+                                  (
+                                    channel number.CHANNEL_REQUEST read_request request_is,
+                                    (
+                                      bare number.CHANNEL_SUCCESS Success (record { number = refl; is_message = tt; flag = 0; boolean = λ r. refl; spelled = refl }),
+                                      (
+                                        bare number.CHANNEL_FAILURE Failure (record { number = refl; is_message = tt; flag = 0; boolean = λ r. refl; spelled = refl }),
+                                        tt,
+                                      ),
+                                    ),
+                                  ),
+                                ),
+                              ),
+                            ),
+                          ),
+                        ),
+                      ),
+                    ),
+                  ),
+                ),
+              ),
+            ),
+          ),
+        ),
+      ),
+    )
 
 -- what reads as a message is a payload of it
 pub reads_is_spelled : (p : List ℕ) → AreBytes p → IfOk (read_message p) (λ m. Spells m p)

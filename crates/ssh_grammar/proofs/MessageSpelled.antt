@@ -1,12 +1,11 @@
 -- What is spelled as a message reads as it.
-use Rattle.std.proofs.Common.{◌≡◌, ◌≢◌, ℕ, zero, suc, ◌+◌, ◌<◌, ◌≤◌, ◌^◌, List, [], ◌∷◌, ◌++◌, length, Bool, true, false, Result, Ok, Err, refl, sym, ◌∙◌, ap, subst, arith}
+use Rattle.std.proofs.Common.{◌≡◌, ℕ, zero, suc, ◌+◌, ◌<◌, ◌^◌, List, [], ◌∷◌, ◌++◌, length, Bool, Result, Ok, refl, sym, ◌∙◌, ap, arith}
 use Rattle.std.proofs.lemmas.List.{append-nil}
 use Rattle.ssh_fields.specs.Fields.{u32, str, is_true}
 use Rattle.ssh_grammar.specs.declared.fault.Bad.{Bad}
-use Rattle.ssh_grammar.specs.declared.numbers.TheConstants as number
 use Rattle.ssh_grammar.specs.Messages.{Global, Forward, Cancel, KeepAlive, OtherName, Opens, Session, Direct, Forwarded, OtherType, PlainMessage, Transport, GlobalRequest, RequestSuccess, RequestFailure, Open, ChannelMessage, Confirmation, OpenFailure, Adjust, Data, Extended, Eof, Close, Request, Success, Failure, Message, Plain, To, forward_name, cancel_name, keepalive_name, session_type, direct_type, forwarded_type}
-use Rattle.ssh_grammar.specs.ReadMessage.{on_end, with_reading, read_key, read_global, read_ends, read_opens, read_transport, read_global_request, read_open, read_confirmation, read_open_failure, read_adjust, read_data, read_extended, read_request, read_as, Form, OfPlain, OfChannel, OfNone, forms, read_message}
-use Rattle.ssh_grammar.specs.SpellMessage.{fields_of, wants, number_of, spell_plain, spell_with}
+use Rattle.ssh_grammar.specs.ReadMessage.{on_end, with_reading, read_key, read_global, read_ends, read_opens, read_global_request, read_open, read_confirmation, read_open_failure, read_adjust, read_data, read_extended, read_request, read_as, OfChannel, read_message}
+use Rattle.ssh_grammar.specs.SpellMessage.{wants, spell_plain, spell_with}
 use Rattle.ssh_grammar.specs.IsMessage.{IsKey, IsEnds, IsGlobal, IsOpens, IsPlain, IsChannelMessage, IsMessage, Spells}
 use Rattle.ssh_grammar.proofs.Steps.{u32_read, str_read, bool_read}
 use Rattle.ssh_grammar.proofs.Tables.{by_name-other}

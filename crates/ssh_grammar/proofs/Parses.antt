@@ -1,8 +1,8 @@
 -- What is said in pieces is what is said by all bytes.
 use Rattle.std.proofs.Common.{◌≡◌, ℕ, zero, suc, ◌-◌, ◌≤◌, List, [], ◌∷◌, ◌++◌, length, refl, sym, ◌∙◌, ap, arith, subst}
 use Rattle.ssh_grammar.specs.declared.framing.Framing.TheVariants as framing
-use Rattle.ssh_grammar.specs.Frames.{Front, Frame, More, Faulty, first_frame}
-use Rattle.ssh_grammar.specs.Said.{Mode, InControl, InProxy, Stopped, Saying, BadFraming, first_in, saying_in, mode_after, Parsed, with_saying, parse_front, parse_by, parse, and_then, said}
+use Rattle.ssh_grammar.specs.Frames.{Front, Frame, More, Faulty}
+use Rattle.ssh_grammar.specs.Said.{Mode, InControl, InProxy, Stopped, BadFraming, first_in, saying_in, mode_after, Parsed, with_saying, parse_front, parse_by, parse, and_then}
 use Rattle.ssh_grammar.proofs.Cuts.{IsShorter, first-shorter, Extends, first-extends}
 
 pub in-extends : (mode : Mode) (a b : List ℕ) → Extends b (first_in mode a) (first_in mode (a ++ b))
@@ -33,7 +33,7 @@ parse-fuel (suc n) zero mode (x ∷ a) h k = absurd (omega arith)
 parse-fuel (suc n) (suc m) mode a h k = by_case (first_in mode a) (in-shorter mode a) (λ mode rest i j. parse-fuel n m mode rest i j)
   where
     by_case : (f : Front) → IsShorter (length a - 4) f → ((mode : Mode) (rest : List ℕ) → length rest ≤ n → length rest ≤ m → parse_by n mode rest ≡ parse_by m mode rest)
-      → parse_front (parse_by n) mode a f ≡ parse_front (parse_by m) mode a f
+        → parse_front (parse_by n) mode a f ≡ parse_front (parse_by m) mode a f
     by_case (Frame content rest) s ih = ap (with_saying (saying_in mode content)) (ih (mode_after mode content) rest (omega arith) (omega arith))
     by_case More s ih = refl
     by_case (Faulty f) s ih = refl
@@ -55,7 +55,7 @@ pub parse-stopped : (a : List ℕ) → parse Stopped a ≡ record { says = []; m
 parse-stopped a = parse-step Stopped a
 
 append-at : (mode : Mode) (a b : List ℕ) (f : Front) → first_in mode a ≡ f → Extends b f (first_in mode (a ++ b)) → ((content rest : List ℕ) → f ≡ Frame content rest → parse (mode_after mode content) (rest ++ b) ≡ and_then (parse (mode_after mode content) rest) b)
-  → parse mode (a ++ b) ≡ and_then (parse mode a) b
+    → parse mode (a ++ b) ≡ and_then (parse mode a) b
 append-at mode a b (Frame content rest) e x ih =
     parse-at mode (a ++ b) (Frame content (rest ++ b)) x
     ∙ (ap (with_saying (saying_in mode content)) (ih content rest refl)

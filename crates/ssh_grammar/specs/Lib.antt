@@ -3,6 +3,7 @@ pub mod Messages
 pub mod ReadMessage
 pub mod SpellMessage
 pub mod IsMessage
+pub mod Renumber
 pub mod Control
 pub mod ReadControl
 pub mod SpellControl
@@ -10,3 +11,4 @@ pub mod IsControl
 pub mod Frames
 pub mod IsFrame
 pub mod Said
+pub mod Laws

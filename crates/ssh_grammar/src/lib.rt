@@ -5,6 +5,7 @@
 
 mod fault;
 mod framing;
+pub mod laws;
 pub mod numbers;
 mod side;
 
