@@ -15,7 +15,9 @@ use Rattle.conf_rules.specs.Values.{value_for}
 use Rattle.conf_rules.specs.Criteria.{read_criteria}
 use Rattle.conf_rules.specs.Includes.{Source, CommandLine}
 use Rattle.conf_rules.specs.Sources.{Line, Content, Spelled, Parts, Refused}
-use Rattle.conf_rules.specs.Rows.{Row, Entry, Nothing, Block, Tests, Gives, value, word_in}
+use Rattle.conf_rules.specs.Rows.{Row, value, word_in}
+use Rattle.conf_rules.specs.declared.entry.Entry.{Entry}
+use Rattle.conf_rules.specs.declared.entry.Entry.TheVariants.{Nothing, Block, Tests, Gives}
 
 -- what a line says, or why it is refused
 abbrev pub ReadEntry : Type 0

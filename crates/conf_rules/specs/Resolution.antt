@@ -13,8 +13,10 @@ use Rattle.conf_rules.specs.Tokens.{View, name_expanded}
 use Rattle.conf_rules.specs.Evaluation.{Verdict, verdict}
 use Rattle.conf_rules.specs.Includes.{Source, CommandLine}
 use Rattle.conf_rules.specs.Sources.{Line, Content, Refused, all_lines}
-use Rattle.conf_rules.specs.Rows.{Pass, First, Place, Row, Entry, Block, Tests, value, word_in, number_in, but_none}
+use Rattle.conf_rules.specs.Rows.{Pass, First, Place, Row, value, word_in, number_in, but_none}
 use Rattle.conf_rules.specs.Entries.{entry_of}
+use Rattle.conf_rules.specs.declared.entry.Entry.{Entry}
+use Rattle.conf_rules.specs.declared.entry.Entry.TheVariants.{Block, Tests}
 
 -- a Hostname with its tokens expanded, else the name of the command line
 abbrev pub host_from : Bytes → Option Bytes → Bytes

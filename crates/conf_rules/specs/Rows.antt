@@ -4,7 +4,8 @@ use Rattle.std.specs.List.{slice_get}
 use Rattle.conf_rules.specs.declared.key.Key.{Key}
 use Rattle.conf_rules.specs.declared.value.Value.{Value}
 use Rattle.conf_rules.specs.declared.value.Value.TheVariants.{Word, Number, Names}
-use Rattle.conf_rules.specs.declared.criterion.Criterion.{Criterion}
+use Rattle.conf_rules.specs.declared.entry.Entry.{Entry}
+use Rattle.conf_rules.specs.declared.entry.Entry.TheVariants.{Gives}
 use Rattle.conf_rules.specs.declared.causes.Cause.{Cause}
 use Rattle.conf_rules.specs.Texts.{Bytes, same_word, behind}
 use Rattle.conf_rules.specs.Patterns.{matches}
@@ -20,13 +21,6 @@ pub data Pass : Type 0 where
 pub record Place : Type 0 where
   pub pass : Pass
   pub line : ℕ
-
--- what a line says: nothing by itself, the patterns of Host, the criteria of Match, or a value for a key
-pub data Entry : Type 0 where
-  Nothing : Entry
-  Block : (patterns : List Bytes) → Entry
-  Tests : (criteria : List Criterion) → Entry
-  Gives : Key → Value → Entry
 
 -- What was made of a place: its line, what that says or why it is refused, whether the block that it opens applies, whether it
 -- is active, and the commands that were run for it.
