@@ -18,3 +18,7 @@ pub mod Solo
 pub mod Right
 pub mod Promises
 pub mod Kept
+pub mod Worked
+pub mod WorkedProxy
+pub mod WorkedForwards
+pub mod WorkedLosses

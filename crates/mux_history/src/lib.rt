@@ -6,6 +6,7 @@
 mod broke;
 mod ended;
 mod why;
+mod worked;
 
 pub use broke::Break;
 pub use ended::Ended;
