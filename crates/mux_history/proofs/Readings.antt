@@ -1,0 +1,63 @@
+-- What payloads read as: the gist of their messages, and what all messages of a number have.
+use Rattle.std.proofs.Common.{◌≡◌, ℕ, ◌+◌, List, [], ◌∷◌, length, Some, None, Result, Ok, Err, Bool, refl, ap, subst}
+use Rattle.ssh_fields.specs.Fields.{take_bool, take_u32, take_str}
+use Rattle.ssh_grammar.specs.declared.fault.Bad.{Bad}
+use Rattle.ssh_grammar.specs.declared.fault.Bad.TheVariants as bad
+use Rattle.ssh_grammar.specs.Messages.{Message}
+use Rattle.ssh_grammar.specs.ReadMessage.{Reading, on_bool, on_u32, on_str, on_end, with_reading, read_message}
+use Rattle.mux_history.specs.Gist.{Gist, gist, read_gist, reading}
+
+-- ---- a payload and its gist
+
+pub gist-ok : (p : List ℕ) (m : Message) → read_message p ≡ Ok m → read_gist p ≡ Ok (gist m)
+gist-ok p m e = ap (λ (r : Result Message Bad). elim r as (λ _. Result Gist Bad) [ Ok m ↦ Ok (gist m) | Err x ↦ Err x ]) e
+
+-- the message behind a gist
+pub record Read (p : List ℕ) (g : Gist) : Type 0 where
+  pub message : Message
+  pub reads : read_message p ≡ Ok message
+  pub is : gist message ≡ g
+
+pub gist-from : (p : List ℕ) (g : Gist) → read_gist p ≡ Ok g → Read p g
+gist-from p g e = by_case (read_message p) refl e
+  where
+    by_case : (r : Result Message Bad) → read_message p ≡ r → (elim r as (λ _. Result Gist Bad) [ Ok m ↦ Ok (gist m) | Err x ↦ Err x ]) ≡ Ok g → Read p g
+    by_case (Ok m) reads e = record { message = m; reads = reads; is = cc }
+    by_case (Err x) reads e = cc
+
+pub reading-ok : {A : Type 0} (p : List ℕ) (m : Gist) (f : Gist → A) (other : A) → read_gist p ≡ Ok m → reading p f other ≡ f m
+reading-ok {A} p m f other reads = ap (λ r. elim r as (λ _. A) [ Err e ↦ other | Ok m ↦ f m ]) reads
+
+pub reading-err : {A : Type 0} (p : List ℕ) (e : Bad) (f : Gist → A) (other : A) → read_gist p ≡ Err e → reading p f other ≡ other
+reading-err {A} p e f other reads = ap (λ r. elim r as (λ _. A) [ Err e ↦ other | Ok m ↦ f m ]) reads
+
+-- ---- what holds of all that is read
+
+abbrev pub Always : {A : Type 0} → (A → Type 0) → Reading A → Type 0
+Always P (Ok a) = P a
+Always P (Err e) = Unit {0}
+
+pub always-ok : {A : Type 0} (P : A → Type 0) (r : Reading A) (a : A) → Always P r → r ≡ Ok a → P a
+always-ok P (Ok b) a holds e = let same : b ≡ a = cc in subst P same holds
+always-ok P (Err x) a holds e = cc
+
+pub u32-always : {A : Type 0} (P : A → Type 0) (bytes : List ℕ) (at : ℕ) (f : ℕ → List ℕ → ℕ → Reading A) → ((x : ℕ) (rest : List ℕ) (at : ℕ) → Always P (f x rest at)) → Always P (on_u32 bytes at f)
+u32-always {A} P bytes at f each = elim (take_u32 bytes) as (λ t. Always P (elim t as (λ _. Reading A) [ None ↦ Err (bad.Short at) | Some p ↦ f p.0 p.1 (at + 4) ])) [ None ↦ tt | Some p ↦ each p.0 p.1 (at + 4) ]
+
+pub bool-always : {A : Type 0} (P : A → Type 0) (bytes : List ℕ) (at : ℕ) (f : Bool → List ℕ → ℕ → Reading A) → ((x : Bool) (rest : List ℕ) (at : ℕ) → Always P (f x rest at)) → Always P (on_bool bytes at f)
+bool-always {A} P bytes at f each = elim (take_bool bytes) as (λ t. Always P (elim t as (λ _. Reading A) [ None ↦ Err (bad.Short at) | Some p ↦ f p.0 p.1 (at + 1) ])) [ None ↦ tt | Some p ↦ each p.0 p.1 (at + 1) ]
+
+pub str-always : {A : Type 0} (P : A → Type 0) (bytes : List ℕ) (at : ℕ) (f : List ℕ → List ℕ → ℕ → Reading A) → ((x : List ℕ) (rest : List ℕ) (at : ℕ) → Always P (f x rest at)) → Always P (on_str bytes at f)
+str-always {A} P bytes at f each = elim (take_str bytes) as (λ t. Always P (elim t as (λ _. Reading A) [ None ↦ Err (bad.Short at) | Some p ↦ f p.0 p.1 (at + 4 + length p.0) ])) [ None ↦ tt | Some p ↦ each p.0 p.1 (at + 4 + length p.0) ]
+
+pub end-always : {A : Type 0} (P : A → Type 0) (bytes : List ℕ) (at : ℕ) (m : A) → P m → Always P (on_end bytes at m)
+end-always P [] at m holds = holds
+end-always P (b ∷ bytes) at m holds = tt
+
+pub with-always : {A : Type 0} {B : Type 0} (P : B → Type 0) (r : Reading A) (f : A → B) → ((a : A) → P (f a)) → Always P (with_reading r f)
+with-always P (Ok a) f each = each a
+with-always P (Err e) f each = tt
+
+-- the gist of what always is read
+pub gist-always : (P : Gist → Type 0) (p : List ℕ) (g : Gist) → Always (λ m. P (gist m)) (read_message p) → read_gist p ≡ Ok g → P g
+gist-always P p g always reads = let r = gist-from p g reads in subst P r.is (always-ok (λ m. P (gist m)) (read_message p) r.message always r.reads)
