@@ -1,0 +1,43 @@
+-- A message as the grammar sees it: its strings and data as lists of bytes.
+use Rattle.std.specs.Prelude.{◌≡◌, ℕ, List, Result, Ok, Err}
+use Rattle.conn_messages.specs.declared.message.Global.{Global}
+use Rattle.conn_messages.specs.declared.message.Global.TheVariants as global
+use Rattle.conn_messages.specs.declared.message.Opens.{Opens}
+use Rattle.conn_messages.specs.declared.message.Opens.TheVariants as opens
+use Rattle.conn_messages.specs.declared.message.Message.{Message}
+use Rattle.conn_messages.specs.declared.message.Message.TheVariants as message
+use Rattle.ssh_grammar.specs.Messages as grammar
+
+abbrev pub global_of : Global → grammar.Global
+global_of (global.Forward address port) = grammar.Forward address.now port
+global_of (global.Cancel address port) = grammar.Cancel address.now port
+global_of global.KeepAlive = grammar.KeepAlive
+global_of global.Other = grammar.OtherName
+
+abbrev pub opens_of : Opens → grammar.Opens
+opens_of opens.Session = grammar.Session
+opens_of (opens.Direct host port) = grammar.Direct host.now port
+opens_of (opens.Forwarded address port) = grammar.Forwarded address.now port
+opens_of opens.Other = grammar.OtherType
+
+abbrev pub message_of : Message → grammar.Message
+message_of (message.Transport number rest) = grammar.Plain (grammar.Transport number rest.now)
+message_of (message.GlobalRequest name want rest what) = grammar.Plain (grammar.GlobalRequest name.now want rest.now (global_of what))
+message_of (message.RequestSuccess rest) = grammar.Plain (grammar.RequestSuccess rest.now)
+message_of message.RequestFailure = grammar.Plain grammar.RequestFailure
+message_of (message.Open kind sender window maximum rest what) = grammar.Plain (grammar.Open kind.now sender window maximum rest.now (opens_of what))
+message_of (message.Confirmation recipient sender window maximum rest) = grammar.To recipient (grammar.Confirmation sender window maximum rest.now)
+message_of (message.OpenFailure recipient reason text language) = grammar.To recipient (grammar.OpenFailure reason text.now language.now)
+message_of (message.Adjust recipient add) = grammar.To recipient (grammar.Adjust add)
+message_of (message.Data recipient bytes) = grammar.To recipient (grammar.Data bytes.now)
+message_of (message.Extended recipient code bytes) = grammar.To recipient (grammar.Extended code bytes.now)
+message_of (message.Eof recipient) = grammar.To recipient grammar.Eof
+message_of (message.Close recipient) = grammar.To recipient grammar.Close
+message_of (message.Request recipient kind want rest) = grammar.To recipient (grammar.Request kind.now want rest.now)
+message_of (message.Success recipient) = grammar.To recipient grammar.Success
+message_of (message.Failure recipient) = grammar.To recipient grammar.Failure
+
+-- what a function returned, seen by view, is what reading gives
+abbrev pub Gives : {X Y E : Type 0} → (X → Y) → Result X E → Result Y E → Type 0
+Gives view (Ok x) reading = reading ≡ Ok (view x)
+Gives view (Err e) reading = reading ≡ Err e

@@ -1,0 +1,100 @@
+ghost use Rattle.std.specs.Prelude.{◌≡◌, ℕ, List};
+ghost use Rattle.ssh_grammar.specs.ReadMessage.{read_key, read_global, read_ends, read_opens};
+ghost use Rattle.ssh_grammar.specs.Messages as grammar;
+ghost use Rattle.conn_messages.specs.Message.{Gives, global_of, opens_of};
+
+use crate::fields::Fields;
+use crate::message::{Global, Opens};
+use ssh_grammar::Bad;
+
+const FORWARD: &[u8] = b"tcpip-forward";
+
+const CANCEL: &[u8] = b"cancel-tcpip-forward";
+
+const KEEP_ALIVE: &[u8] = b"keepalive@openssh.com";
+
+/// An address and a port, and nothing after them.
+fn key<'a>(fields: &mut Fields<'a>) -> Result<(&'a [u8], u32), Bad>
+    ensures { (what : List ℕ → ℕ → grammar.Global) → Gives (λ k. what k.0.now k.1) result (read_key fields.old.cursor fields.old.at what) }
+{
+    let address = fields.take_string()?;
+    let port = fields.take_u32()?;
+    fields.end()?;
+    Ok((address, port))
+}
+
+fn forward<'a>(fields: &mut Fields<'a>) -> Result<Global<'a>, Bad>
+    ensures { Gives global_of result (read_key fields.old.cursor fields.old.at grammar.Forward) }
+{
+    let (address, port) = key(fields)?;
+    Ok(Global::Forward { address, port })
+}
+
+fn cancel<'a>(fields: &mut Fields<'a>) -> Result<Global<'a>, Bad>
+    ensures { Gives global_of result (read_key fields.old.cursor fields.old.at grammar.Cancel) }
+{
+    let (address, port) = key(fields)?;
+    Ok(Global::Cancel { address, port })
+}
+
+/// A global request's data, by its name.
+pub(crate) fn global<'a>(name: &[u8], fields: &mut Fields<'a>) -> Result<Global<'a>, Bad>
+    ensures { Gives global_of result (read_global name.now fields.old.cursor fields.old.at) }
+{
+    if name == FORWARD {
+        forward(fields)
+    } else if name == CANCEL {
+        cancel(fields)
+    } else if name == KEEP_ALIVE {
+        Ok(Global::KeepAlive)
+    } else {
+        Ok(Global::Other)
+    }
+}
+
+const SESSION: &[u8] = b"session";
+
+const DIRECT: &[u8] = b"direct-tcpip";
+
+const FORWARDED: &[u8] = b"forwarded-tcpip";
+
+/// A host and a port, those of the originator, and nothing after them.
+fn ends<'a>(fields: &mut Fields<'a>) -> Result<(&'a [u8], u32), Bad>
+    ensures { (what : List ℕ → ℕ → grammar.Opens) → Gives (λ k. what k.0.now k.1) result (read_ends fields.old.cursor fields.old.at what) }
+{
+    let host = fields.take_string()?;
+    let port = fields.take_u32()?;
+    fields.take_string()?;
+    fields.take_u32()?;
+    fields.end()?;
+    Ok((host, port))
+}
+
+fn direct<'a>(fields: &mut Fields<'a>) -> Result<Opens<'a>, Bad>
+    ensures { Gives opens_of result (read_ends fields.old.cursor fields.old.at grammar.Direct) }
+{
+    let (host, port) = ends(fields)?;
+    Ok(Opens::Direct { host, port })
+}
+
+fn forwarded<'a>(fields: &mut Fields<'a>) -> Result<Opens<'a>, Bad>
+    ensures { Gives opens_of result (read_ends fields.old.cursor fields.old.at grammar.Forwarded) }
+{
+    let (address, port) = ends(fields)?;
+    Ok(Opens::Forwarded { address, port })
+}
+
+/// An open's data, by its type.
+pub(crate) fn opens<'a>(kind: &[u8], fields: &mut Fields<'a>) -> Result<Opens<'a>, Bad>
+    ensures { Gives opens_of result (read_opens kind.now fields.old.cursor fields.old.at) }
+{
+    if kind == SESSION {
+        Ok(Opens::Session)
+    } else if kind == DIRECT {
+        direct(fields)
+    } else if kind == FORWARDED {
+        forwarded(fields)
+    } else {
+        Ok(Opens::Other)
+    }
+}
