@@ -1,4 +1,5 @@
 ghost use Rattle.std.specs.Prelude.{◌≡◌, ◌+◌, ◌≤◌, [], ◌++◌, length, ⊤};
+ghost use Rattle.ssh_fields.specs.Fields.{u32, str};
 
 use std::alloc::AllocError;
 use std::marker::Model;
@@ -58,6 +59,23 @@ impl Small {
         let end = self.len + bytes.len();
         self.bytes[self.len..end].copy_from_slice(bytes);
         self.len = end;
+    }
+
+    /// Adds a number of four bytes, the most significant first.
+    pub fn push_u32(&mut self, n: u32)
+        requires { length self.old + 4 ≤ Self.CAPACITY }
+        ensures { self.new ≡ self.old ++ u32 n }
+    {
+        self.push(&n.to_be_bytes());
+    }
+
+    /// Adds a string: its length as a number of four bytes, and then its bytes.
+    pub fn push_string(&mut self, s: &[u8])
+        requires { length self.old + 4 + length s.now ≤ Self.CAPACITY }
+        ensures { self.new ≡ self.old ++ str s.now }
+    {
+        self.push_u32(s.len() as u32);
+        self.push(s);
     }
 
     pub fn as_bytes(&self) -> &[u8]
