@@ -1,5 +1,5 @@
 -- What a reader returned, where it is what the grammar gives.
-use Rattle.std.proofs.Common.{◌≡◌, ℕ, List, Result, Ok, Err, IfOk, subst, sym, ◌∙◌}
+use Rattle.std.proofs.Common.{ℕ, List, Result, Ok, Err, IfOk, subst}
 use Rattle.ssh_fields.specs.Fields.{AreBytes}
 use Rattle.ssh_grammar.specs.declared.fault.Bad.{Bad}
 use Rattle.ssh_grammar.specs.Messages as grammar

@@ -1,5 +1,5 @@
 -- An open whose fields are read one after the other.
-use Rattle.std.proofs.Common.{◌≡◌, ℕ, ◌+◌, List, length, Option, Some, None, Result, Ok, Err, ap, ◌∙◌, sym}
+use Rattle.std.proofs.Common.{◌≡◌, ℕ, ◌+◌, List, length, Option, Some, None, Result, Err, ap, ◌∙◌, sym}
 use Rattle.ssh_fields.specs.Fields.{take_u32, take_str}
 use Rattle.ssh_grammar.specs.Messages.{Opens, Open, Plain}
 use Rattle.ssh_grammar.specs.declared.fault.Bad.{Bad}

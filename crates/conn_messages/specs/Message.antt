@@ -1,5 +1,5 @@
 -- A message as the grammar sees it: its strings and data as lists of bytes.
-use Rattle.std.specs.Prelude.{◌≡◌, ℕ, List, Result, Ok, Err}
+use Rattle.std.specs.Prelude.{◌≡◌, Result, Ok, Err}
 use Rattle.conn_messages.specs.declared.message.Global.{Global}
 use Rattle.conn_messages.specs.declared.message.Global.TheVariants as global
 use Rattle.conn_messages.specs.declared.message.Opens.{Opens}

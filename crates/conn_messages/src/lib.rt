@@ -5,8 +5,17 @@
 mod fields;
 mod further;
 mod message;
+mod places;
 mod read;
+mod write;
 
 pub use message::{Global, Message, Opens};
+pub use places::{recipient_at, sender_at};
 pub use read::read_message;
 pub use ssh_grammar::Bad;
+pub use write::{
+    LONGEST_ADDRESS, LONGEST_TEXT, cancel_forward, close, open_failure, request_failure,
+};
+
+#[cfg(test)]
+mod tests;

@@ -1,0 +1,124 @@
+use super::*;
+
+/// A payload with one byte too many behind it; the fault where its last byte is missing, and the fault with the
+/// byte too many. Where its last field is data, neither is a fault.
+const ROWS: [(&[u8], Option<Bad>, Option<Bad>); 23] = [
+    (b"\x01\x00\x00\x00\x0b\xff", None, None),
+    (b"\x02\xff", Some(Bad::Empty), None),
+    (b"\x03\x00\x00\x00\x05\xff", None, None),
+    (b"\x04\x01\xff", None, None),
+    (
+        b"\x50\x00\x00\x00\x15keepalive@openssh.com\x01\xff",
+        Some(Bad::Short { at: 26 }),
+        None,
+    ),
+    (
+        b"\x50\x00\x00\x00\x0dtcpip-forward\x01\x00\x00\x00\x09127.0.0.1\x00\x00\x1f\x90\xff",
+        Some(Bad::Short { at: 32 }),
+        Some(Bad::Extra { at: 36 }),
+    ),
+    (
+        b"\x50\x00\x00\x00\x14cancel-tcpip-forward\x00\x00\x00\x00\x00\x00\x00\x1f\x90\xff",
+        Some(Bad::Short { at: 30 }),
+        Some(Bad::Extra { at: 34 }),
+    ),
+    (
+        b"\x50\x00\x00\x00\x01x\x07\xff",
+        Some(Bad::Short { at: 6 }),
+        None,
+    ),
+    (b"\x51\x00\x00\x1f\x90\xff", None, None),
+    (b"\x52\xff", Some(Bad::Empty), Some(Bad::Extra { at: 1 })),
+    (
+        b"\x5a\x00\x00\x00\x07session\x00\x00\x00\x05\x00\x20\x00\x00\x00\x00\x80\x00\xff",
+        Some(Bad::Short { at: 20 }),
+        None,
+    ),
+    (
+        b"\x5a\x00\x00\x00\x0cdirect-tcpip\x00\x00\x00\x05\x00\x20\x00\x00\x00\x00\x80\x00\x00\x00\x00\x01h\x00\x00\x00\x50\x00\x00\x00\x01o\x00\x00\x00\x01\xff",
+        Some(Bad::Short { at: 43 }),
+        Some(Bad::Extra { at: 47 }),
+    ),
+    (
+        b"\x5a\x00\x00\x00\x0fforwarded-tcpip\x00\x00\x00\x05\x00\x20\x00\x00\x00\x00\x80\x00\x00\x00\x00\x01a\x00\x00\x00\x50\x00\x00\x00\x01o\x00\x00\x00\x01\xff",
+        Some(Bad::Short { at: 46 }),
+        Some(Bad::Extra { at: 50 }),
+    ),
+    (
+        b"\x5b\x00\x00\x00\x05\x00\x00\x00\x06\x00\x20\x00\x00\x00\x00\x80\x00\xff",
+        Some(Bad::Short { at: 13 }),
+        None,
+    ),
+    (
+        b"\x5c\x00\x00\x00\x05\x00\x00\x00\x01\x00\x00\x00\x02no\x00\x00\x00\x00\xff",
+        Some(Bad::Short { at: 15 }),
+        Some(Bad::Extra { at: 19 }),
+    ),
+    (
+        b"\x5d\x00\x00\x00\x05\x00\x00\x80\x00\xff",
+        Some(Bad::Short { at: 5 }),
+        Some(Bad::Extra { at: 9 }),
+    ),
+    (
+        b"\x5e\x00\x00\x00\x05\x00\x00\x00\x02hi\xff",
+        Some(Bad::Short { at: 5 }),
+        Some(Bad::Extra { at: 11 }),
+    ),
+    (
+        b"\x5f\x00\x00\x00\x05\x00\x00\x00\x01\x00\x00\x00\x02hi\xff",
+        Some(Bad::Short { at: 9 }),
+        Some(Bad::Extra { at: 15 }),
+    ),
+    (
+        b"\x60\x00\x00\x00\x05\xff",
+        Some(Bad::Short { at: 1 }),
+        Some(Bad::Extra { at: 5 }),
+    ),
+    (
+        b"\x61\x00\x00\x00\x05\xff",
+        Some(Bad::Short { at: 1 }),
+        Some(Bad::Extra { at: 5 }),
+    ),
+    (
+        b"\x62\x00\x00\x00\x05\x00\x00\x00\x05shell\x01\xff",
+        Some(Bad::Short { at: 14 }),
+        None,
+    ),
+    (
+        b"\x63\x00\x00\x00\x05\xff",
+        Some(Bad::Short { at: 1 }),
+        Some(Bad::Extra { at: 5 }),
+    ),
+    (
+        b"\x64\x00\x00\x00\x05\xff",
+        Some(Bad::Short { at: 1 }),
+        Some(Bad::Extra { at: 5 }),
+    ),
+];
+
+#[test]
+fn each_message_is_read_to_its_last_byte(rt: HostRuntime) {
+    for (long, short_by_one, long_by_one) in ROWS {
+        let payload = long.split_last().map_or(long, |parts| parts.1);
+        let short = payload.split_last().map_or(payload, |parts| parts.1);
+        assert_eq!(rt; read_message(payload).err(), None, "{payload:?}");
+        assert_eq!(rt; read_message(short).err(), short_by_one, "{short:?}");
+        assert_eq!(rt; read_message(long).err(), long_by_one, "{long:?}");
+    }
+    assert_eq!(rt; read_message(b"\x53").err(), Some(Bad::Kind(83)));
+}
+
+#[test]
+fn own_messages_are_written_to_the_byte(rt: HostRuntime) {
+    let failure = open_failure(5, 1, b"not permitted");
+    assert_eq!(rt;
+        failure.as_bytes(),
+        b"\x5c\x00\x00\x00\x05\x00\x00\x00\x01\x00\x00\x00\x0dnot permitted\x00\x00\x00\x00".as_slice()
+    );
+    assert_eq!(rt; close(5).as_bytes(), b"\x61\x00\x00\x00\x05".as_slice());
+    assert_eq!(rt; request_failure().as_bytes(), b"\x52".as_slice());
+    assert_eq!(rt;
+        cancel_forward(b"", 8080).as_bytes(),
+        b"\x50\x00\x00\x00\x14cancel-tcpip-forward\x00\x00\x00\x00\x00\x00\x00\x1f\x90".as_slice()
+    );
+}
