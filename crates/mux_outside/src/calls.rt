@@ -1,8 +1,6 @@
 ghost use Rattle.std.specs.Prelude.{◌≡◌, [], ◌∷◌, ◌++◌, length, OnOk, OnErr, slice_get};
 ghost use Rattle.mux_outside.specs.Calls.{next_call as next_call_number};
-ghost use Rattle.mux_outside.specs.Counts.{Rose};
 ghost use Rattle.mux_outside.specs.Streams.{among};
-ghost use Rattle.mux_outside.specs.Wire.{StreamFault};
 
 use ssh_fields::OutOfMemory;
 use std::alloc::Global;
@@ -74,22 +72,4 @@ pub fn next_call(calls: u64) -> u64
     ensures { result ≡ next_call_number calls }
 {
     calls.saturating_add(1)
-}
-
-// A count of faults, one higher or at the end of its type.
-pub fn raised(count: u64) -> u64
-    ensures { Rose count result }
-{
-    count.saturating_add(1)
-}
-
-// Raises the count of the side to which a stream belongs.
-pub fn count_fault(stream: u64, server: &mut u64, client: &mut u64)
-    ensures { StreamFault stream server.old server.new client.old client.new }
-{
-    if stream == 0 {
-        *server = raised(*server);
-    } else {
-        *client = raised(*client);
-    }
 }

@@ -3,6 +3,7 @@
 #![tactic(auto)]
 
 mod calls;
+mod counts;
 mod directories;
 mod facts;
 mod file_error;
@@ -28,6 +29,7 @@ mod turn;
 mod wire;
 
 pub use calls::Calls;
+pub use counts::{count_fault, raised};
 pub use facts::Facts;
 pub use file_error::FileError;
 pub use files::Files;

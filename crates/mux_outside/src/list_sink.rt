@@ -3,7 +3,8 @@ ghost use Rattle.mux_outside.specs.Calls.{FailsByNumber, calls_after};
 ghost use Rattle.mux_outside.specs.Counts.{HasCause};
 ghost use Rattle.mux_outside.specs.Sink.{TakesTold, TakesOrNothing};
 
-use crate::calls::{Calls, next_call, raised};
+use crate::calls::{Calls, next_call};
+use crate::counts::raised;
 use crate::file_error::FileError;
 use crate::sink::Sink;
 use ssh_fields::Text;

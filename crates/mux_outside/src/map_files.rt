@@ -5,7 +5,8 @@ ghost use Rattle.mux_outside.specs.Files.{Reads, Lists, ListsNames, content_at};
 ghost use Rattle.std.specs.Prelude.{take};
 ghost use Rattle.std.specs.Option.{option_map};
 
-use crate::calls::{Calls, next_call, raised};
+use crate::calls::{Calls, next_call};
+use crate::counts::raised;
 use crate::directories::{is_directory, names_in, value_at};
 use crate::file_error::FileError;
 use crate::files::Files;

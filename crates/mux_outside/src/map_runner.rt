@@ -4,7 +4,8 @@ ghost use Rattle.mux_outside.specs.Calls.{FailsByNumber, calls_after};
 ghost use Rattle.mux_outside.specs.Counts.{HasCause};
 ghost use Rattle.mux_outside.specs.Runner.{EndsWith, commands_run, status_of as status_by};
 
-use crate::calls::{Calls, next_call, raised};
+use crate::calls::{Calls, next_call};
+use crate::counts::raised;
 use crate::file_error::FileError;
 use crate::runner::Runner;
 use crate::statuses::{CommandStatus, Statuses};

@@ -11,7 +11,8 @@ ghost use Rattle.mux_outside.specs.Marks.{bytes_taken as all_taken};
 ghost use Rattle.mux_outside.specs.Wire.{openings_of, OpenFaults, TurnFits, TurnFaults, wait_marks, open_after, blocked_after, last_after, WroteFits, WroteFaults, write_marks, blocked_after_write};
 ghost use Rattle.mux_outside.specs.ScriptWire.{steps_left, GivesNext, GivesAt, FollowsEntry, OpensByNumber, Starts};
 
-use crate::calls::{Calls, count_fault, next_call, raised};
+use crate::calls::{Calls, next_call};
+use crate::counts::{count_fault, raised};
 use crate::file_error::FileError;
 use crate::mark::{Mark, Opening, bytes_taken};
 use crate::piece::Piece;

@@ -1,4 +1,4 @@
-ghost use Rattle.std.specs.Prelude.{◌≡◌, [], ◌∷◌, ◌++◌, length, IfOk, OnOk, OnErr, slice_get, option_to_list};
+ghost use Rattle.std.specs.Prelude.{◌≡◌, [], ◌∷◌, ◌++◌, length, IfOk, OnOk, OnErr, slice_get, take, ◌-◌};
 ghost use Rattle.mux_outside.specs.Streams.{among, without};
 
 use ssh_fields::OutOfMemory;
@@ -49,7 +49,8 @@ impl Streams {
     /// Takes the last stream away. It takes no memory, so a `push` can come before what may fail and
     /// be taken back.
     pub fn pop(&mut self) -> Option<u64>
-        ensures { self.old ≡ self.new ++ option_to_list result }
+        ensures last { result ≡ slice_get self.old (length self.old - 1) }
+        ensures rest { self.new ≡ take (length self.old - 1) self.old }
     {
         self.numbers.pop()
     }

@@ -1,0 +1,20 @@
+ghost use Rattle.mux_outside.specs.Counts.{Rose};
+ghost use Rattle.mux_outside.specs.Wire.{StreamFault};
+
+/// A count of faults after one more: it stays at the end of its type.
+pub fn raised(count: u64) -> u64
+    ensures { Rose count result }
+{
+    count.saturating_add(1)
+}
+
+/// Counts a fault of a stream: stream 0 is the server's, the others are those of the clients.
+pub fn count_fault(stream: u64, server: &mut u64, client: &mut u64)
+    ensures { StreamFault stream server.old server.new client.old client.new }
+{
+    if stream == 0 {
+        *server = raised(*server);
+    } else {
+        *client = raised(*client);
+    }
+}
