@@ -1,0 +1,144 @@
+// The control socket and its name in the file system.
+use libc::net::listen;
+use mio::net::UnixListener;
+use std::alloc::Global;
+use std::fs::{Files, Permissions};
+use std::net::Net;
+use std::os::fd::{AsFd, AsRawFd, OwnedFd};
+use std::os::unix::fs::{MetadataExt, PermissionsExt};
+use std::os::unix::net;
+use std::os::unix::net::SocketAddr;
+use std::{fs, io};
+
+// How many clients may wait to be accepted.
+const BACKLOG: i32 = 128;
+
+// How many temporary names are tried.
+const TRIES: u32 = 16;
+
+// Who may use the socket: its owner alone.
+const OWNER_ONLY: u32 = 0o600;
+
+// A name that is removed when this is dropped.
+struct Temporary<R: Files + Drop> {
+    rt: R,
+    path: String,
+}
+
+impl<R: Files + Drop> Drop for Temporary<R> {
+    fn drop(self) {
+        let Temporary { rt, path } = self;
+        let _ = fs::remove_file(&rt, path.as_str());
+    }
+}
+
+/// The name of the control socket, which is removed when this is dropped, if it still names our socket.
+pub struct Control<R: Files + Drop> {
+    rt: R,
+    path: String,
+    dev: u64,
+    ino: u64,
+}
+
+impl<R: Files + Drop> Drop for Control<R> {
+    fn drop(self) {
+        let Control { rt, path, dev, ino } = self;
+        if let Ok(found) = fs::symlink_metadata(&rt, path.as_str()) {
+            if found.dev() == dev && found.ino() == ino {
+                let _ = fs::remove_file(&rt, path.as_str());
+            }
+        }
+    }
+}
+
+/// A socket that listens, under a temporary name that nobody knows yet.
+#[derive(Drop)]
+pub struct Unnamed<R: Files + Drop> {
+    listener: UnixListener,
+    temporary: Temporary<R>,
+    dev: u64,
+    ino: u64,
+}
+
+/// Listens under a temporary name beside the path.
+pub fn listen_beside<R: Files + Net + Clone + Drop>(
+    rt: &R,
+    alloc: Global,
+    path: &str,
+) -> io::Result<Unnamed<R>> {
+    let (socket, temporary) = bind_beside(rt, alloc, path)?;
+    let name = temporary.path.as_str();
+    // Before it listens, nobody can connect: so the mode comes first.
+    fs::set_permissions(rt, name, Permissions::from_mode(OWNER_ONLY))?;
+    if listen(socket.as_raw_fd(), BACKLOG) < 0 {
+        return Err(io::Error::from(io::ErrorKind::Other));
+    }
+    let found = fs::symlink_metadata(rt, name)?;
+    let listener = net::UnixListener::from(socket);
+    listener.set_nonblocking(true)?;
+    Ok(Unnamed {
+        listener: UnixListener::from_std(listener),
+        temporary,
+        dev: found.dev(),
+        ino: found.ino(),
+    })
+}
+
+// Binds a socket to the first temporary name that is free.
+fn bind_beside<R: Files + Net + Clone + Drop>(
+    rt: &R,
+    alloc: Global,
+    path: &str,
+) -> io::Result<(OwnedFd, Temporary<R>)> {
+    let folder = match path.rsplit_once('/') {
+        Some((folder, _)) => format!(in alloc; "{folder}/")?,
+        None => String::new(alloc),
+    };
+    let pid = libc::getpid();
+    for number in 0..TRIES {
+        let name = format!(in alloc; "{}.{pid}.{number}", folder.as_str())?;
+        let owner = rt.clone()?;
+        let socket = rt.unix_socket()?;
+        match rt.bind_unix(socket.as_fd(), &SocketAddr::from_pathname(name.as_str())?) {
+            Ok(()) => {
+                let temporary = Temporary {
+                    rt: owner,
+                    path: name,
+                };
+                return Ok((socket, temporary));
+            }
+            Err(e) if e.kind() == io::ErrorKind::AddrInUse => {}
+            Err(e) => return Err(e),
+        }
+    }
+    Err(io::Error::from(io::ErrorKind::AddrInUse))
+}
+
+impl<R: Files + Net + Clone + Drop> Unnamed<R> {
+    /// Gives the socket its name, which must be free, and removes the temporary one.
+    pub fn publish(
+        self,
+        rt: &R,
+        alloc: Global,
+        path: &str,
+    ) -> io::Result<(UnixListener, Control<R>)> {
+        let Unnamed {
+            listener,
+            temporary,
+            dev,
+            ino,
+        } = self;
+        // The name must be usable before it is there: a socket's address is shorter than a path.
+        let _ = SocketAddr::from_pathname(path)?;
+        let name = String::from_str(alloc, path)?;
+        let owner = rt.clone()?;
+        fs::hard_link(rt, temporary.path.as_str(), path)?;
+        let control = Control {
+            rt: owner,
+            path: name,
+            dev,
+            ino,
+        };
+        Ok((listener, control))
+    }
+}

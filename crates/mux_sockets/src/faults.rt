@@ -1,0 +1,22 @@
+// Errors of the system as a caller of the outside sees them.
+ghost use Rattle.mux_outside.specs.Counts.{HasCause};
+
+use mux_outside::{FileError, raised};
+use std::io;
+
+/// What an error is: want of memory, or a fault.
+pub fn file_error(e: &io::Error) -> FileError {
+    match e.kind() {
+        io::ErrorKind::OutOfMemory => FileError::OutOfMemory,
+        _ => FileError::Failed,
+    }
+}
+
+/// Counts a fault, where the answer is one.
+pub fn count_failed<T>(answer: &Result<T, FileError>, faults: &mut u64)
+    ensures { HasCause answer.now faults.old faults.new }
+{
+    if let Err(FileError::Failed) = answer {
+        *faults = raised(*faults);
+    }
+}

@@ -1,0 +1,135 @@
+ghost use Rattle.std.specs.Prelude.{◌≡◌, ◌≤◌, length, None, IfOk, IfSome};
+
+use crate::faults::{count_failed, file_error};
+use mux_outside::{FileError, Files};
+use ssh_fields::{Text, Texts};
+use std::alloc::Global;
+use std::fs::OpenFile;
+use std::io::{ErrorKind, Read};
+use std::rt::Files as System;
+use std::{fs, io, str};
+
+// How many bytes one read takes at most.
+const CHUNK: usize = 65536;
+
+// How many names a directory may have.
+const NAMES: usize = 1_000_000;
+
+/// The files of the system. A path that isn't UTF-8 is a fault, and so is a directory with a name that
+/// isn't, or with more than 1,000,000 names.
+#[derive(Drop)]
+pub struct RealFiles<R: System + AllocGlobal + Clone + Drop> {
+    rt: R,
+    alloc: Global,
+    faults: u64,
+}
+
+impl<R: System + AllocGlobal + Clone + Drop> RealFiles<R> {
+    /// The files, of which no call has failed.
+    pub fn new(rt: R, alloc: Global) -> RealFiles<R>
+        ensures { result.faults ≡ 0 }
+    {
+        RealFiles {
+            rt,
+            alloc,
+            faults: 0,
+        }
+    }
+}
+
+impl<R: System + AllocGlobal + Clone + Drop> Files for RealFiles<R> {
+    ghost told = { λ _. None };
+
+    ghost faults = { λ f. f.faults };
+
+    fn read(&mut self, path: &[u8], most: usize) -> Result<Option<Text>, FileError> {
+        let answer = read_file(&self.rt, self.alloc, path, most);
+        count_failed(&answer, &mut self.faults);
+        answer
+    }
+
+    fn list(&mut self, dir: &[u8]) -> Result<Option<Texts>, FileError> {
+        let answer = list_names(&self.rt, self.alloc, dir);
+        count_failed(&answer, &mut self.faults);
+        answer
+    }
+}
+
+// Whether there is no such file or directory.
+fn is_missing(e: &io::Error) -> bool {
+    e.kind() == ErrorKind::NotFound || e.kind() == ErrorKind::NotADirectory
+}
+
+// The first bytes of a file.
+fn read_file<R: System>(
+    rt: &R,
+    alloc: Global,
+    path: &[u8],
+    most: usize,
+) -> Result<Option<Text>, FileError>
+    ensures { IfOk result (λ found. IfSome found (λ text. length text ≤ most)) }
+{
+    let Ok(path) = str::from_utf8(path) else {
+        return Err(FileError::Failed);
+    };
+    let mut file = match fs::open(rt, path) {
+        Ok(file) => file,
+        Err(e) if is_missing(&e) => return Ok(None),
+        Err(e) => return Err(file_error(&e)),
+    };
+    if file.metadata().map_err(|e| file_error(&e))?.is_dir() {
+        return Ok(None);
+    }
+    Ok(Some(read_first(&mut file, alloc, most)?))
+}
+
+// Room for so many bytes.
+fn room_of(alloc: Global, count: usize) -> Result<Vec<u8>, FileError> {
+    Vec::from_elem(alloc, 0, count).map_err(|_| FileError::OutOfMemory)
+}
+
+// Reads until there are enough bytes, or no more.
+fn read_first<F: Read>(file: &mut F, alloc: Global, most: usize) -> Result<Text, FileError>
+    ensures { IfOk result (λ text. length text ≤ most) }
+{
+    let mut text = Text::new(alloc);
+    let mut chunk = room_of(alloc, CHUNK)?;
+    for _ in 0..u64::MAX {
+        let room = most.saturating_sub(text.as_bytes().len()).min(chunk.len());
+        if room == 0 {
+            return Ok(text);
+        }
+        match file.read(&mut chunk[..room]) {
+            Ok(0) => return Ok(text),
+            Ok(count) => text.add(&chunk[..count])?,
+            Err(e) if e.kind() == ErrorKind::Interrupted => {}
+            Err(e) => return Err(file_error(&e)),
+        }
+    }
+    Ok(text)
+}
+
+// The names in a directory.
+fn list_names<R: System + AllocGlobal + Clone + Drop>(
+    rt: &R,
+    alloc: Global,
+    dir: &[u8],
+) -> Result<Option<Texts>, FileError> {
+    let Ok(dir) = str::from_utf8(dir) else {
+        return Err(FileError::Failed);
+    };
+    let entries = match fs::read_dir(rt, dir) {
+        Ok(entries) => entries,
+        Err(e) if is_missing(&e) => return Ok(None),
+        Err(e) => return Err(file_error(&e)),
+    };
+    let mut names = Texts::new(alloc);
+    for entry in entries {
+        let entry = entry.map_err(|e| file_error(&e))?;
+        if names.len() == NAMES {
+            return Err(FileError::Failed);
+        }
+        names.push(Text::copy(alloc, entry.file_name().as_bytes())?)?;
+    }
+    Ok(Some(names))
+}

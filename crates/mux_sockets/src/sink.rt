@@ -1,0 +1,50 @@
+ghost use Rattle.std.specs.Prelude.{◌≡◌, None};
+
+use crate::faults::count_failed;
+use mux_outside::{FileError, Sink};
+use std::io::{ErrorKind, Write};
+
+/// A writer of the system, as standard output or standard error.
+#[derive(Drop)]
+pub struct RealSink<W: Write + Drop> {
+    out: W,
+    faults: u64,
+}
+
+impl<W: Write + Drop> RealSink<W> {
+    /// The writer, of which no call has failed.
+    pub fn new(out: W) -> RealSink<W>
+        ensures { result.faults ≡ 0 }
+    {
+        RealSink { out, faults: 0 }
+    }
+}
+
+impl<W: Write + Drop> Sink for RealSink<W> {
+    ghost told = { λ _. None };
+
+    ghost faults = { λ s. s.faults };
+
+    fn put(&mut self, bytes: &[u8]) -> Result<(), FileError> {
+        let answer = write_whole(&mut self.out, bytes);
+        count_failed(&answer, &mut self.faults);
+        answer
+    }
+}
+
+// Writes until all is taken. A write that takes nothing is a fault.
+fn write_whole<W: Write>(out: &mut W, bytes: &[u8]) -> Result<(), FileError> {
+    let mut rest = bytes;
+    for _ in 0..u64::MAX {
+        if rest.is_empty() {
+            return out.flush().map_err(|_| FileError::Failed);
+        }
+        match out.write(rest) {
+            Ok(0) => return Err(FileError::Failed),
+            Ok(count) => rest = &rest[count..],
+            Err(e) if e.kind() == ErrorKind::Interrupted => {}
+            Err(_) => return Err(FileError::Failed),
+        }
+    }
+    Err(FileError::Failed)
+}

@@ -1,0 +1,416 @@
+// The sockets of a run, and which of them are ready, in the order in which they became so.
+ghost use Rattle.std.specs.Prelude.{◌≡◌, ◌≤◌, ◌<◌, length, ℕ, List, Option, IfSome, Some};
+ghost use Rattle.mux_sockets.specs.Sockets.{SentFits, FoundFits};
+
+use crate::control::{Control, listen_beside};
+use crate::stream::Stream;
+use crate::transport::connect;
+use mio::event::Event;
+use mio::net::UnixListener;
+use mio::{Events, Interest, Poll, Token};
+use mux_outside::{Piece, Want};
+use slab::Slab;
+use std::alloc::{AllocError, Global};
+use std::fs::Files;
+use std::net::Net;
+use std::time::Duration;
+use std::{io, str};
+
+/// Why the sockets did not open.
+#[derive(Clone, Copy)]
+pub enum Fault {
+    Control,
+    Transport,
+    Memory,
+}
+
+/// What happened next.
+#[derive(Clone, Copy)]
+pub enum Found {
+    Client(u64),
+    Bytes(u64),
+    End(u64),
+    Writable(u64),
+    Failed(u64),
+    NoMemory,
+}
+
+/// How a write went.
+#[derive(Clone, Copy)]
+pub enum Sent {
+    Took(usize),
+    Later,
+    Failed,
+}
+
+#[derive(Drop)]
+struct Entry {
+    number: u64,
+    stream: Stream,
+    // nothing more is read
+    ended: bool,
+    // a write would wait, as far as is known
+    blocked: bool,
+}
+
+#[derive(Clone, Copy, PartialEq, Eq)]
+enum Ready {
+    Accept,
+    Read(usize),
+    Write(usize),
+}
+
+#[derive(Drop)]
+struct Listening<R: Files + Drop> {
+    listener: UnixListener,
+    // the name, which goes away with the listening
+    control: Control<R>,
+}
+
+#[derive(Drop)]
+pub struct Sockets<R: Files + Drop> {
+    poll: Poll,
+    events: Events,
+    entries: Slab<Entry>,
+    listening: Option<Listening<R>>,
+    // an accept failed for want of descriptors or memory, and is tried again
+    pauses: bool,
+    // each once, so at most twice as many as there are entries, and one
+    ready: Vec<Ready>,
+    buf: Vec<u8>,
+}
+
+const LISTENER: Token = Token(usize::MAX);
+
+const PIECE: usize = 65536;
+
+// How many events one look takes.
+const EVENTS: usize = 64;
+
+const PAUSE_MILLIS: u64 = 100;
+
+impl<R: Files + Net + Clone + Drop> Sockets<R> {
+    /// Listens and connects. The control socket gets its name last, when all else has succeeded.
+    pub fn open(
+        rt: &R,
+        alloc: Global,
+        control: &[u8],
+        transport: &[u8],
+    ) -> Result<Sockets<R>, Fault> {
+        let Ok(path) = str::from_utf8(control) else {
+            return Err(Fault::Control);
+        };
+        let unnamed = listen_beside(rt, alloc, path).map_err(|e| fault_of(&e, Fault::Control))?;
+        let stream = connect(rt, alloc, transport).map_err(|e| fault_of(&e, Fault::Transport))?;
+        let mut sockets = Sockets::new(rt, alloc).map_err(|e| fault_of(&e, Fault::Transport))?;
+        sockets
+            .add(0, stream)
+            .map_err(|e| fault_of(&e, Fault::Transport))?;
+        let (listener, control) = unnamed
+            .publish(rt, alloc, path)
+            .map_err(|e| fault_of(&e, Fault::Control))?;
+        sockets
+            .listen(listener, control)
+            .map_err(|e| fault_of(&e, Fault::Control))?;
+        Ok(sockets)
+    }
+
+    fn new(rt: &R, alloc: Global) -> io::Result<Sockets<R>> {
+        Ok(Sockets {
+            poll: Poll::new(rt)?,
+            events: Events::with_capacity(alloc, EVENTS)?,
+            entries: Slab::new(alloc),
+            listening: None,
+            pauses: false,
+            ready: Vec::new(alloc),
+            buf: Vec::from_elem(alloc, 0, PIECE)?,
+        })
+    }
+
+    fn listen(&mut self, mut listener: UnixListener, control: Control<R>) -> io::Result<()> {
+        self.poll
+            .registry()
+            .register(&mut listener, LISTENER, Interest::READABLE)?;
+        self.listening = Some(Listening { listener, control });
+        Ok(())
+    }
+
+    // Takes a stream in, with room for all that can be ready.
+    fn add(&mut self, number: u64, stream: Stream) -> io::Result<()> {
+        let entries = self.entries.len().saturating_add(1);
+        self.ready
+            .reserve(entries.saturating_mul(2).saturating_add(1))?;
+        let entry = Entry {
+            number,
+            stream,
+            ended: false,
+            blocked: false,
+        };
+        let key = self.entries.insert(entry).map_err(|_| AllocError)?;
+        let Some(entry) = self.entries.get_mut(key) else {
+            return Ok(());
+        };
+        if let Err(e) = entry.stream.register(self.poll.registry(), Token(key)) {
+            let _ = self.entries.try_remove(key);
+            return Err(e);
+        }
+        Ok(())
+    }
+
+    fn key_of(&self, number: u64) -> Option<usize> {
+        for (key, entry) in self.entries.iter() {
+            if entry.number == number {
+                return Some(key);
+            }
+        }
+        None
+    }
+
+    pub fn remove(&mut self, number: u64) {
+        let Some(key) = self.key_of(number) else {
+            return;
+        };
+        let _ = self.entries.try_remove(key);
+        self.ready
+            .retain(|r| *r != Ready::Read(key) && *r != Ready::Write(key));
+        if self.pauses {
+            self.resume();
+        }
+    }
+
+    pub fn stop_listening(&mut self) {
+        self.listening = None;
+        self.pauses = false;
+        self.ready.retain(|r| *r != Ready::Accept);
+    }
+
+    // Tries to accept again.
+    fn resume(&mut self) {
+        if note(&mut self.ready, Ready::Accept).is_ok() {
+            self.pauses = false;
+        }
+    }
+
+    /// What happens next: of what is ready, the first that became so. A client that comes gets the
+    /// given number; without one none is accepted.
+    pub fn next(
+        &mut self,
+        waiting: &[u64],
+        want: Want,
+        client: Option<u64>,
+        into: &mut Piece,
+    ) -> Found
+        ensures { FoundFits result client into.new }
+    {
+        for _ in 0..u64::MAX {
+            // What became ready meanwhile goes behind what was ready before, so nobody starves.
+            let some = self.first(waiting, want, client).is_some();
+            if let Err(e) = self.look(some) {
+                return failure_of(&e);
+            }
+            let Some(ready) = self.take_first(waiting, want, client) else {
+                continue;
+            };
+            if let Some(found) = self.go_on(ready, client, into) {
+                return found;
+            }
+        }
+        Found::Failed(0)
+    }
+
+    // Notes what became ready, and waits for it where nothing is.
+    fn look(&mut self, some: bool) -> io::Result<()> {
+        let timeout = if some {
+            Some(Duration::from_millis(0))
+        } else {
+            self.pauses.then_some(Duration::from_millis(PAUSE_MILLIS))
+        };
+        self.poll.poll(&mut self.events, timeout)?;
+        for event in self.events.iter() {
+            note_event(event, &self.entries, &mut self.ready)?;
+        }
+        if self.pauses {
+            self.resume();
+        }
+        Ok(())
+    }
+
+    fn first(&self, waiting: &[u64], want: Want, client: Option<u64>) -> Option<usize> {
+        self.ready.iter().position(|r| match *r {
+            Ready::Accept => want == Want::Read && client.is_some(),
+            Ready::Read(_) => want == Want::Read,
+            Ready::Write(key) => match self.entries.get(key) {
+                Some(entry) => waiting.contains(&entry.number),
+                None => false,
+            },
+        })
+    }
+
+    fn take_first(&mut self, waiting: &[u64], want: Want, client: Option<u64>) -> Option<Ready> {
+        let at = self.first(waiting, want, client)?;
+        if at < self.ready.len() {
+            Some(self.ready.remove(at))
+        } else {
+            None
+        }
+    }
+
+    // Goes on with what was ready. `None`: it was not, or not any more.
+    fn go_on(&mut self, ready: Ready, client: Option<u64>, into: &mut Piece) -> Option<Found>
+        ensures { IfSome result (λ found. FoundFits found client into.new) }
+    {
+        match ready {
+            Ready::Accept => self.accept(client?),
+            Ready::Read(key) => self.read(key, into),
+            Ready::Write(key) => {
+                let entry = self.entries.get_mut(key)?;
+                entry.blocked = false;
+                Some(Found::Writable(entry.number))
+            }
+        }
+    }
+
+    // Accepts a client under this number.
+    fn accept(&mut self, number: u64) -> Option<Found>
+        ensures { IfSome result (λ found. (bytes : List ℕ) → FoundFits found (Some number) bytes) }
+    {
+        let listening = self.listening.as_ref()?;
+        match listening.listener.accept() {
+            Ok((stream, _)) => {
+                if let Err(e) = self.add(number, Stream::Unix(stream)) {
+                    return self.not_accepted(&e);
+                }
+                // More clients may wait.
+                let _ = note(&mut self.ready, Ready::Accept);
+                Some(Found::Client(number))
+            }
+            Err(e) => self.not_accepted(&e),
+        }
+    }
+
+    // A client that could not be accepted is no fault of the run.
+    fn not_accepted(&mut self, e: &io::Error) -> Option<Found>
+        ensures { IfSome result (λ found. (client : Option ℕ) (bytes : List ℕ) → FoundFits found client bytes) }
+    {
+        match e.kind() {
+            io::ErrorKind::WouldBlock => None,
+            io::ErrorKind::Interrupted | io::ErrorKind::ConnectionAborted => {
+                self.resume();
+                None
+            }
+            _ => {
+                self.pauses = true;
+                None
+            }
+        }
+    }
+
+    fn read(&mut self, key: usize, into: &mut Piece) -> Option<Found>
+        ensures { IfSome result (λ found. (client : Option ℕ) → FoundFits found client into.new) }
+    {
+        let entry = self.entries.get_mut(key)?;
+        let number = entry.number;
+        match entry.stream.read(&mut self.buf) {
+            Ok(0) => {
+                entry.ended = true;
+                Some(Found::End(number))
+            }
+            Ok(count) => {
+                // More bytes may wait: the system tells only once that some came.
+                let _ = note(&mut self.ready, Ready::Read(key));
+                let Some(bytes) = self.buf.get(..count.min(PIECE)) else {
+                    return Some(Found::Failed(number));
+                };
+                into.set(bytes);
+                Some(Found::Bytes(number))
+            }
+            Err(e) => match e.kind() {
+                io::ErrorKind::WouldBlock => None,
+                io::ErrorKind::Interrupted => {
+                    let _ = note(&mut self.ready, Ready::Read(key));
+                    None
+                }
+                _ => {
+                    entry.ended = true;
+                    Some(Found::Failed(number))
+                }
+            },
+        }
+    }
+
+    pub fn write(&mut self, number: u64, bytes: &[u8]) -> Sent
+        requires { 0 < length bytes.now }
+        ensures { SentFits result (length bytes.now) }
+    {
+        let Some(key) = self.key_of(number) else {
+            return Sent::Failed;
+        };
+        let Some(entry) = self.entries.get_mut(key) else {
+            return Sent::Failed;
+        };
+        match entry.stream.write(bytes) {
+            Ok(0) => Sent::Failed,
+            Ok(count) => Sent::Took(count),
+            Err(e) => match e.kind() {
+                io::ErrorKind::WouldBlock => {
+                    entry.blocked = true;
+                    Sent::Later
+                }
+                io::ErrorKind::Interrupted => {
+                    entry.blocked = true;
+                    let _ = note(&mut self.ready, Ready::Write(key));
+                    Sent::Later
+                }
+                _ => Sent::Failed,
+            },
+        }
+    }
+}
+
+// Puts what is ready behind what was ready before. There is room for it since its stream was added.
+fn note(ready: &mut Vec<Ready>, what: Ready) -> Result<(), AllocError> {
+    if !ready.contains(&what) {
+        ready.push(what)?;
+    }
+    Ok(())
+}
+
+fn note_event(
+    event: &Event,
+    entries: &Slab<Entry>,
+    ready: &mut Vec<Ready>,
+) -> Result<(), AllocError> {
+    if event.token() == LISTENER {
+        return note(ready, Ready::Accept);
+    }
+    let key = event.token().0;
+    let Some(entry) = entries.get(key) else {
+        return Ok(());
+    };
+    // An error and a peer that went away show at the next read or write.
+    let reads = event.is_readable() || event.is_read_closed() || event.is_error();
+    if reads && !entry.ended {
+        note(ready, Ready::Read(key))?;
+    }
+    let writes = event.is_writable() || event.is_write_closed() || event.is_error();
+    if writes && entry.blocked {
+        note(ready, Ready::Write(key))?;
+    }
+    Ok(())
+}
+
+fn fault_of(e: &io::Error, other: Fault) -> Fault {
+    match e.kind() {
+        io::ErrorKind::OutOfMemory => Fault::Memory,
+        _ => other,
+    }
+}
+
+fn failure_of(e: &io::Error) -> Found
+    ensures { (client : Option ℕ) (bytes : List ℕ) → FoundFits result client bytes }
+{
+    match e.kind() {
+        io::ErrorKind::OutOfMemory => Found::NoMemory,
+        _ => Found::Failed(0),
+    }
+}

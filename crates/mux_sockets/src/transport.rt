@@ -1,0 +1,55 @@
+// The connection to the server.
+use crate::stream::Stream;
+use mio::net::TcpStream;
+use mio::{Events, Interest, Poll, Token};
+use std::alloc::Global;
+use std::fs::Files;
+use std::net::{Net, SocketAddr};
+use std::os::unix::net;
+use std::time::Duration;
+use std::{io, str};
+
+// How many seconds a connection over TCP may take.
+const CONNECT_SECONDS: u32 = 60;
+
+/// Connects to a Unix socket's path where there is a slash, else to a numeric address and port.
+pub fn connect<R: Files + Net>(rt: &R, alloc: Global, transport: &[u8]) -> io::Result<Stream> {
+    if transport.contains(&b'/') {
+        return connect_unix(rt, transport);
+    }
+    let Ok(addr) = SocketAddr::parse_ascii(transport) else {
+        return Err(io::Error::from(io::ErrorKind::InvalidInput));
+    };
+    let mut stream = TcpStream::connect(rt, addr)?;
+    finish(rt, alloc, &mut stream)?;
+    stream.set_nodelay(true)?;
+    Ok(Stream::Tcp(stream))
+}
+
+fn connect_unix<R: Files + Net>(rt: &R, path: &[u8]) -> io::Result<Stream> {
+    let Ok(path) = str::from_utf8(path) else {
+        return Err(io::Error::from(io::ErrorKind::InvalidInput));
+    };
+    // This waits where the server's backlog is full; a non-blocking connect would be refused there.
+    let stream = net::UnixStream::connect(rt, path)?;
+    stream.set_nonblocking(true)?;
+    Ok(Stream::Unix(mio::net::UnixStream::from_std(stream)))
+}
+
+// Waits until the connection is made.
+fn finish<R: Net>(rt: &R, alloc: Global, stream: &mut TcpStream) -> io::Result<()> {
+    let mut poll = Poll::new(rt)?;
+    let mut events = Events::with_capacity(alloc, 4)?;
+    poll.registry()
+        .register(stream, Token(0), Interest::WRITABLE)?;
+    for _ in 0..CONNECT_SECONDS {
+        poll.poll(&mut events, Some(Duration::from_secs(1)))?;
+        if let Some(e) = stream.take_error()? {
+            return Err(e);
+        }
+        if stream.peer_addr().is_ok() {
+            return poll.registry().deregister(stream);
+        }
+    }
+    Err(io::Error::from(io::ErrorKind::TimedOut))
+}

@@ -1,0 +1,197 @@
+ghost use Rattle.std.specs.Prelude.{◌≡◌, ◌+◌, [], false, true, IfSome, None};
+ghost use Rattle.mux_outside.specs.Tally.{no_tally};
+ghost use Rattle.mux_outside.specs.declared.turn.Want.TheVariants.{Read as WantsAll};
+
+use crate::sockets::{Fault, Found, Sent, Sockets};
+use mux_outside::{FileError, Piece, Streams, Tally, Turn, Want, Wire, Wrote, count_fault, raised};
+use std::alloc::Global;
+use std::fs::Files;
+use std::net::Net;
+
+/// A wire over the system's sockets: a Unix socket for the clients, and a Unix socket or TCP for the
+/// server. A client that fails, resets or takes its bytes slowly is that client's matter alone; while
+/// the system has no descriptors left, clients wait.
+#[derive(Drop)]
+pub struct RealWire<R: Files + Net + Clone + Drop> {
+    rt: R,
+    alloc: Global,
+    sockets: Option<Sockets<R>>,
+    streams: Streams,
+    blocked: Streams,
+    last: u64,
+    listening: bool,
+    server_faults: u64,
+    client_faults: u64,
+}
+
+impl<R: Files + Net + Clone + Drop> RealWire<R> {
+    /// A wire that isn't open.
+    pub fn new(rt: R, alloc: Global) -> RealWire<R>
+        ensures streams { result.streams ≡ [] }
+        ensures blocked { result.blocked ≡ [] }
+        ensures listens { result.listening ≡ false }
+        ensures last { result.last ≡ 0 }
+        ensures server { result.server_faults ≡ 0 }
+        ensures client { result.client_faults ≡ 0 }
+    {
+        RealWire {
+            rt,
+            alloc,
+            sockets: None,
+            streams: Streams::new(alloc),
+            blocked: Streams::new(alloc),
+            last: 0,
+            listening: false,
+            server_faults: 0,
+            client_faults: 0,
+        }
+    }
+
+    /// The open streams, in the order in which they were opened.
+    pub fn streams(&self) -> &Streams
+        ensures { result.now ≡ self.now.streams }
+    {
+        &self.streams
+    }
+
+    /// The streams that take no bytes for now.
+    pub fn blocked(&self) -> &Streams
+        ensures { result.now ≡ self.now.blocked }
+    {
+        &self.blocked
+    }
+
+    // The number of the client that may come now.
+    fn next_client(&self, want: Want) -> Option<u64>
+        ensures { IfSome result (λ k. (want ≡ WantsAll) × (self.now.listening ≡ true) × (k ≡ self.now.last + 1)) }
+    {
+        if want == Want::Read && self.listening && self.last < u64::MAX {
+            Some(self.last + 1)
+        } else {
+            None
+        }
+    }
+}
+
+impl<R: Files + Net + Clone + Drop> Wire for RealWire<R> {
+    ghost openings = { λ _. None };
+
+    ghost told = { λ _. None };
+
+    ghost streams = { λ w. w.streams };
+
+    ghost blocked = { λ w. w.blocked };
+
+    ghost listens = { λ w. w.listening };
+
+    ghost last = { λ w. w.last };
+
+    ghost server_faults = { λ w. w.server_faults };
+
+    ghost client_faults = { λ w. w.client_faults };
+
+    ghost tally = { λ _. no_tally };
+
+    fn open(&mut self, control: &[u8], transport: &[u8]) -> Result<(), FileError> {
+        let mut streams = Streams::new(self.alloc);
+        streams.push(0)?;
+        match Sockets::open(&self.rt, self.alloc, control, transport) {
+            Ok(sockets) => {
+                self.sockets = Some(sockets);
+                self.streams = streams;
+                self.blocked = Streams::new(self.alloc);
+                self.listening = true;
+                Ok(())
+            }
+            Err(Fault::Control) => {
+                self.client_faults = raised(self.client_faults);
+                Err(FileError::Failed)
+            }
+            Err(Fault::Transport) => {
+                self.server_faults = raised(self.server_faults);
+                Err(FileError::Failed)
+            }
+            Err(Fault::Memory) => Err(FileError::OutOfMemory),
+        }
+    }
+
+    fn wait(&mut self, waiting: &Streams, want: Want, into: &mut Piece) -> Turn {
+        let client = self.next_client(want);
+        let found = match &mut self.sockets {
+            Some(sockets) => sockets.next(waiting.as_slice(), want, client, into),
+            None => Found::Failed(0),
+        };
+        match found {
+            Found::Client(number) if client == Some(number) => {
+                if self.streams.push(number).is_err() {
+                    drop_socket(&mut self.sockets, number);
+                    return Turn::NoMemory;
+                }
+                self.last = number;
+                Turn::Accepted(number)
+            }
+            Found::Bytes(t) if want == Want::Read && self.streams.contains(t) => Turn::Got(t),
+            Found::End(t) if want == Want::Read && self.streams.contains(t) => Turn::End(t),
+            Found::Writable(t) if self.streams.contains(t) && self.blocked.contains(t) => {
+                self.blocked.remove(t);
+                Turn::Writable(t)
+            }
+            Found::Failed(t) if self.streams.contains(t) => {
+                count_fault(t, &mut self.server_faults, &mut self.client_faults);
+                Turn::Failed(t)
+            }
+            Found::NoMemory => Turn::NoMemory,
+            _ => {
+                self.server_faults = raised(self.server_faults);
+                Turn::Failed(0)
+            }
+        }
+    }
+
+    fn write(&mut self, stream: u64, bytes: &[u8]) -> Wrote {
+        // The room for a stream that blocks comes before the write, which can't be taken back.
+        if self.blocked.push(stream).is_err() {
+            return Wrote::NoMemory;
+        }
+        let sent = match &mut self.sockets {
+            Some(sockets) => sockets.write(stream, bytes),
+            None => Sent::Failed,
+        };
+        match sent {
+            Sent::Later => Wrote::Later,
+            Sent::Took(count) => {
+                let _ = self.blocked.pop();
+                Wrote::Took(count)
+            }
+            Sent::Failed => {
+                let _ = self.blocked.pop();
+                count_fault(stream, &mut self.server_faults, &mut self.client_faults);
+                Wrote::Failed
+            }
+        }
+    }
+
+    fn stop_listening(&mut self) {
+        self.listening = false;
+        if let Some(sockets) = &mut self.sockets {
+            sockets.stop_listening();
+        }
+    }
+
+    fn close(&mut self, stream: u64) {
+        self.streams.remove(stream);
+        self.blocked.remove(stream);
+        drop_socket(&mut self.sockets, stream);
+    }
+
+    fn tally(&self) -> Tally {
+        Tally::zero()
+    }
+}
+
+// Lets go of a stream's socket.
+fn drop_socket<R: Files + Net + Clone + Drop>(sockets: &mut Option<Sockets<R>>, stream: u64) {
+    if let Some(sockets) = sockets {
+        sockets.remove(stream);
+    }
+}
