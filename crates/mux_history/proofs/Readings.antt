@@ -1,11 +1,13 @@
 -- What payloads read as: the gist of their messages, and what all messages of a number have.
-use Rattle.std.proofs.Common.{◌≡◌, ℕ, ◌+◌, List, [], ◌∷◌, length, Some, None, Result, Ok, Err, Bool, refl, ap, subst}
-use Rattle.ssh_fields.specs.Fields.{take_bool, take_u32, take_str}
+use Rattle.std.proofs.Common.{◌≡◌, ℕ, ◌+◌, List, [], ◌∷◌, ◌++◌, length, Some, None, Result, Ok, Err, Bool, false, refl, sym, ap, arith, subst}
+use Rattle.ssh_fields.specs.Fields.{u32, str, take_bool, take_u32, take_str}
 use Rattle.ssh_grammar.specs.declared.fault.Bad.{Bad}
 use Rattle.ssh_grammar.specs.declared.fault.Bad.TheVariants as bad
-use Rattle.ssh_grammar.specs.Messages.{Message}
-use Rattle.ssh_grammar.specs.ReadMessage.{Reading, on_bool, on_u32, on_str, on_end, with_reading, read_message}
-use Rattle.mux_history.specs.Gist.{Gist, gist, read_gist, reading}
+use Rattle.ssh_grammar.specs.Messages.{Message, PlainMessage, Plain, To, GlobalRequest, Global, Cancel, OpenFailure, Close, cancel_name}
+use Rattle.ssh_grammar.specs.SpellMessage.{cancel_forward}
+use Rattle.ssh_fields.proofs.Fields.{take_str-str}
+use Rattle.ssh_grammar.specs.ReadMessage.{Reading, on_bool, on_u32, on_str, on_end, with_reading, read_message, read_open_failure, read_global_request, read_global, read_key}
+use Rattle.mux_history.specs.Gist.{Gist, Requests, Within, Fails, Closes, gist, gist_to, gist_of_plain, read_gist, reading}
 
 -- ---- a payload and its gist
 
@@ -61,3 +63,33 @@ with-always P (Err e) f each = tt
 -- the gist of what always is read
 pub gist-always : (P : Gist → Type 0) (p : List ℕ) (g : Gist) → Always (λ m. P (gist m)) (read_message p) → read_gist p ≡ Ok g → P g
 gist-always P p g always reads = let r = gist-from p g reads in subst P r.is (always-ok (λ m. P (gist m)) (read_message p) r.message always r.reads)
+
+-- ---- what payloads of a number read as
+
+pub then-always : {A : Type 0} {B : Type 0} (P : B → Type 0) (r : Reading A) (f : A → B) → Always (λ a. P (f a)) r → Always P (with_reading r f)
+then-always P (Ok a) f always = always
+then-always P (Err e) f always = tt
+
+pub failure-always : (P : Gist → Type 0) (rest : List ℕ) → ((n : ℕ) → P (Within n Fails)) → Always (λ m. P (gist m)) (read_message (92 ∷ rest))
+failure-always P rest each =
+    u32-always (λ m. P (gist m)) rest 1 _ (λ n rest at. then-always (λ m. P (gist m)) (read_open_failure rest) (To n)
+    (u32-always (λ m. P (gist_to n m)) rest 5 _ (λ reason rest at. str-always (λ m. P (gist_to n m)) rest at _ (λ text rest at. str-always (λ m. P (gist_to n m)) rest at _ (λ language rest at.
+    end-always (λ m. P (gist_to n m)) rest at (OpenFailure reason text language) (each n))))))
+
+pub close-always : (P : Gist → Type 0) (rest : List ℕ) → ((n : ℕ) → P (Within n Closes)) → Always (λ m. P (gist m)) (read_message (97 ∷ rest))
+close-always P rest each = u32-always (λ m. P (gist m)) rest 1 _ (λ n rest at. then-always (λ m. P (gist m)) (on_end rest 5 Close) (To n) (end-always (λ m. P (gist_to n m)) rest 5 Close (each n)))
+
+pub request-always : (P : Gist → Type 0) (rest : List ℕ) → ((what : Global) (want : Bool) → P (Requests what want)) → Always (λ m. P (gist m)) (read_message (80 ∷ rest))
+request-always P rest each =
+    then-always (λ m. P (gist m)) (read_global_request rest) Plain
+    (str-always (λ m. P (gist_of_plain m)) rest 1 _ (λ name rest at. bool-always (λ m. P (gist_of_plain m)) rest at _ (λ want rest at.
+    with-always (λ m. P (gist_of_plain m)) (read_global name rest at) (GlobalRequest name want rest) (λ what. each what want))))
+
+-- the master's cancel reads as one
+pub cancel-always : (P : Gist → Type 0) (address : List ℕ) (port : ℕ) → ((address : List ℕ) (port : ℕ) → P (Requests (Cancel address port) false)) → Always (λ m. P (gist m)) (read_message (cancel_forward address port))
+cancel-always P address port each =
+    then-always (λ m. P (gist m)) (read_global_request (str cancel_name ++ (0 ∷ (str address ++ u32 port)))) Plain
+    (subst (λ t. Always (λ m. P (gist_of_plain m)) (elim t as (λ _. Reading PlainMessage) [ None ↦ Err (bad.Short 1) | Some p ↦ on_bool p.1 (1 + 4 + length p.0) (λ want rest at. with_reading (read_global p.0 rest at) (GlobalRequest p.0 want rest)) ]))
+    (sym (take_str-str cancel_name (0 ∷ (str address ++ u32 port)) (omega arith)))
+    (then-always (λ m. P (gist_of_plain m)) (read_key (str address ++ u32 port) 26 Cancel) (GlobalRequest cancel_name false (str address ++ u32 port))
+    (str-always (λ what. P (Requests what false)) (str address ++ u32 port) 26 _ (λ a rest at. u32-always (λ what. P (Requests what false)) rest at _ (λ p rest at. end-always (λ what. P (Requests what false)) rest at (Cancel a p) (each a p))))))

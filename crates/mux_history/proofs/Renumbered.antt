@@ -111,6 +111,20 @@ read-renamed p g c lt reads =
     let r = gist-from p g reads in
     gist-ok (with_recipient p c) (to_recipient c r.message) (message-renamed p r.message c lt r.reads) ∙ (ap Ok (gist-readdressed c r.message) ∙ ap (λ g. Ok (readdressed c g)) r.is)
 
+message-twice : (p : List ℕ) (m : full.Message) (c : ℕ) → c < 4294967296 → read_message p ≡ Ok m → with_recipient (with_recipient p c) c ≡ with_recipient p c
+message-twice p (full.Plain m) c lt e = ap (λ q. with_recipient q c) (ap (λ at. with_number p at c) (place-of recipient_place p (full.Plain m) e))
+message-twice [] (full.To r m) c lt e = cc
+message-twice (n ∷ rest) (full.To r m) c lt e =
+    ap (λ at. with_number (with_recipient (n ∷ rest) c) at c) (place-of recipient_place (with_recipient (n ∷ rest) c) (full.To c m) (message-renamed (n ∷ rest) (full.To r m) c lt e))
+    ∙ (ap (λ q. with_number q (Some 1) c) once ∙ sym once)
+  where
+    once : with_recipient (n ∷ rest) c ≡ n ∷ (u32 c ++ drop 4 rest)
+    once = ap (λ at. with_number (n ∷ rest) at c) (place-of recipient_place (n ∷ rest) (full.To r m) e)
+
+-- the same recipient twice
+pub renamed-twice : (p : List ℕ) (g : Gist) (c : ℕ) → c < 4294967296 → read_gist p ≡ Ok g → with_recipient (with_recipient p c) c ≡ with_recipient p c
+renamed-twice p g c lt reads = let r = gist-from p g reads in message-twice p r.message c lt r.reads
+
 -- a payload without a recipient stays
 pub none-renamed : (p : List ℕ) (g : Gist) (c : ℕ) → read_gist p ≡ Ok g → recipient_of g ≡ None → with_recipient p c ≡ p
 none-renamed p g c reads none = let r = gist-from p g reads in by_message r.message r.reads (ap recipient_of r.is ∙ none)

@@ -27,12 +27,12 @@ abbrev pub run_end : List Row → List Item
 run_end rows = elim (end_of rows) [ None ↦ [] | Some cause ↦ RunEnd cause ∷ [] ]
 
 -- the items of a log that concern a client, the newest first
-abbrev pub for_client : ℕ → List Row → List Item
-for_client k rows = run_end rows ++ items_for (rows_of k rows)
+abbrev pub items_concerning : ℕ → List Row → List Item
+items_concerning k rows = run_end rows ++ items_for (rows_of k rows)
 
 -- the unshared connection: the log of these items, where each number is the one that the client says itself
 abbrev pub solo : Setting → ℕ → List Row → List Row
-solo setting k rows = log_of (record setting { choices = TheirOwn }) (for_client k rows)
+solo setting k rows = log_of (record setting { choices = TheirOwn }) (items_concerning k rows)
 
 -- ---- agreement up to channel numbers
 
