@@ -1,0 +1,334 @@
+-- One more row keeps the channels apart.
+use Rattle.std.proofs.Common.{◌≡◌, ℕ, ◌<◌, List, [], ◌∷◌, ◌++◌, true, false, Bool, refl, ◌∙◌, ap, arith, map, sym, Option, Some, None, subst, inl, inr, Ok, Err}
+use Rattle.std.specs.Prelude.{◌==◌, filter, find, Result, MatchBool, is_some, min, ◌^◌, ◌-◌}
+use Rattle.std.proofs.lemmas.List.{append-nil}
+use Rattle.std.proofs.lemmas.Bool.Decides.{nat_tests}
+use Rattle.mux_history.specs.Channels.{Channel, after_farewell, after_item, begun_by, channels_of, heard_by, holder, is_held, is_number, live_in, opened_down, opened_up, own_of, with_down, with_own, with_up, with_ups}
+use Rattle.mux_history.specs.Choices.{said_number, takes_number}
+use Rattle.mux_history.specs.Controls.{greeted, said_body}
+use Rattle.mux_history.specs.Gist.{Confirmation, Gist, Open, Refuses, Requests, Succeeds, Transport, Within, read_gist, reading, sender_of}
+use Rattle.mux_history.specs.Heard.{Breaks, Dest, Disconnects, ToClient, ToMaster, dest, dest_gist, finishes, heard_for, heard_master, next_index}
+use Rattle.mux_history.specs.Log.{admits, bare, heard_row, said_by_client, treat}
+use Rattle.mux_history.specs.Policy.{Policy}
+use Rattle.mux_history.specs.Right.{carried_number}
+use Rattle.mux_history.specs.Rows.{Admit, BadServer, Fate, Gone, Heard, Item, Row, RunEnd, Says, ServerCut, ServerEnd, ServerFailed, Took, Unserved, any_of, rows_of}
+use Rattle.mux_history.specs.Said.{Outcome, drops, said_gist, said_payload, silent}
+use Rattle.mux_outside.specs.declared.house.HouseReply.{HouseReply}
+use Rattle.ssh_fields.specs.Fields.{AreBytes}
+use Rattle.ssh_grammar.specs.Messages.{Opens}
+use Rattle.ssh_grammar.specs.Said.{BadFraming, Body, Payload, Saying, heard}
+use Rattle.ssh_grammar.specs.SpellMessage.{wants, with_sender}
+use Rattle.ssh_grammar.specs.declared.fault.Bad.{Bad}
+use Rattle.ssh_grammar.specs.declared.side.Side.TheVariants.{Up}
+use Rattle.mux_history.specs.declared.why.Why.TheVariants as why
+use Rattle.mux_history.specs.declared.broke.Break.TheVariants as broke
+use Rattle.mux_history.specs.declared.ended.Ended.TheVariants as ended
+use Rattle.mux_history.proofs.Readings.{reading-ok}
+use Rattle.mux_history.proofs.Renumbered.{SenderIn, number-sent, reads-sent, resent, sender-in, word}
+use Rattle.mux_isolation.proofs.Dests.{confirmed, dest-err, dest-ok, offered}
+use Rattle.mux_isolation.proofs.Good.{DownStep, Good, Ids, NotLive, Sound, Unused, UpStep, each-both, filter-each, find-none, good-down, good-ids, good-offers, good-opens, good-up, ids-self, ids-then}
+use Rattle.mux_isolation.proofs.Local.{channels-local, is_of}
+use Rattle.mux_isolation.proofs.Meets.{Each}
+use Rattle.mux_isolation.proofs.Moves.{Sent, admits-sent, as_row, body-sent, down-ids, down-step, down-then, quiet-heard, quiet-master, row-parts, sent-by, up-step, ups-ids}
+use Rattle.mux_isolation.proofs.Numbers.{EachOf, IsQuiet, Quiet}
+
+-- ---- what is asked of an item
+
+abbrev pub admits_client : ℕ → Item → Bool
+admits_client k (Admit j) = j == k
+admits_client k _ = false
+
+abbrev pub SayingBytes : Saying → Type 0
+SayingBytes (Payload p) = AreBytes p
+SayingBytes (Body body) = Unit {0}
+SayingBytes (BadFraming fault) = Unit {0}
+
+abbrev pub LawfulItem : List Row → Item → Type 0
+LawfulItem rows (Admit k) = any_of (λ row. admits_client k row.item) rows ≡ false
+LawfulItem rows (Says k saying reply) = (k ≡ 0 → ⊥) × SayingBytes saying
+LawfulItem rows item = Unit {0}
+
+-- the number that it takes is one that no channel holds
+abbrev pub IsFresh : List Row → Row → Type 0
+IsFresh before row = MatchBool (takes_number row) ((carried_number row.up < 16384) × (holder before (carried_number row.up) ≡ None)) (Unit {0})
+
+-- ---- a client's own numbers are small
+
+pub own-small : (p : List ℕ) (m : Gist) (c : ℕ) → AreBytes p → read_gist p ≡ Ok m → sender_of m ≡ Some c → c < 4294967296
+own-small p m c bytes reads owned =
+    let s : SenderIn p m = sender-in p m c bytes reads owned in
+    let said : Some s.old ≡ Some c = sym s.said ∙ owned in
+    let same : s.old ≡ c = cc in
+    subst (λ (i : ℕ). i < 4294967296) same s.small
+
+-- ---- the parts of a step
+
+abbrev Next : Row → List Channel → List Channel
+Next row cs = map (after_farewell row) (map (after_item row) cs ++ begun_by row.client row.up row.item)
+
+good-parted : (row : Row) → EachOf Quiet row.farewell → (xs : List Channel) → Good xs → Good (map (after_farewell row) xs)
+good-parted row quiet xs good = good-ids (after_farewell row) ids xs good
+  where
+    ids : (x : Channel) → Sound x → Ids x (after_farewell row x)
+    ids x sound = elim (x.client == row.client) as (λ b. Ids x (elim b as (λ _. Channel) [ true ↦ with_ups None row.farewell x | false ↦ x ])) [ true ↦ ups-ids None row.farewell quiet x | false ↦ ids-self x ]
+
+good-still : (row : Row) (cs : List Channel) → EachOf Quiet row.farewell → ((x : Channel) → Sound x → Ids x (after_item row x)) → begun_by row.client row.up row.item ≡ [] → Good cs → Good (Next row cs)
+good-still row cs parting ids begun good =
+    good-parted row parting (map (after_item row) cs ++ begun_by row.client row.up row.item)
+    (subst (λ (bs : List Channel). Good (map (after_item row) cs ++ bs)) (sym begun) (subst Good (sym (append-nil (map (after_item row) cs))) (good-ids (after_item row) ids cs good)))
+
+talked-ids : (row : Row) (x : Channel) → EachOf Quiet row.up → Ids x (heard_by row.item x) → Ids x (after_item row x)
+talked-ids row x quiet heard = elim (x.client == row.client) as (λ b. Ids x (elim b as (λ _. Channel) [ true ↦ with_ups (own_of row.item) row.up (heard_by row.item x) | false ↦ x ])) [ true ↦ ids-then x (heard_by row.item x) (with_ups (own_of row.item) row.up (heard_by row.item x)) heard (ups-ids (own_of row.item) row.up quiet (heard_by row.item x)) | false ↦ ids-self x ]
+
+unequal : (a b : ℕ) → (a == b) ≡ true → b ≡ 0 → (a ≡ 0 → ⊥) → ⊥
+unequal a b e z real = real (same a b e ∙ z)
+  where
+    same : (a b : ℕ) → (a == b) ≡ true → a ≡ b
+    same a b e = grind (arith, nat_tests)
+
+-- a row of no client moves no channel
+talked-master : (row : Row) → row.client ≡ 0 → (x : Channel) → Sound x → Ids x (after_item row x)
+talked-master row zero_client x sound = by_case (x.client == row.client) refl
+  where
+    by_case : (b : Bool) → (x.client == row.client) ≡ b → Ids x (elim b as (λ _. Channel) [ true ↦ with_ups (own_of row.item) row.up (heard_by row.item x) | false ↦ x ])
+    by_case true e = absurd (unequal x.client row.client e zero_client sound.client)
+    by_case false e = ids-self x
+
+-- ---- what a client says
+
+unowned-quiet : (m : Gist) → sender_of m ≡ None → IsQuiet m
+unowned-quiet (Confirmation s c w max) e = cc
+unowned-quiet m e = tt
+
+pub ok-same : (p : List ℕ) (m m' : Gist) → read_gist p ≡ Ok m → read_gist p ≡ Ok m' → m ≡ m'
+ok-same p m m' a b = cc
+
+pub quiet-plain : (p : List ℕ) (m : Gist) → read_gist p ≡ Ok m → sender_of m ≡ None → Quiet p
+quiet-plain p m reads unowned m' reads' = subst IsQuiet (ok-same p m m' reads reads') (unowned-quiet m unowned)
+
+pub opened-none : (k : ℕ) (m : Gist) → opened_up k [] m ≡ []
+opened-none k (Open what c w max) = refl
+opened-none k m = refl
+
+pub opened-plain : (k : ℕ) (ups : List (List ℕ)) (m : Gist) → sender_of m ≡ None → opened_up k ups m ≡ []
+opened-plain k [] m e = opened-none k m
+opened-plain k (q ∷ qs) (Open what c w max) e = cc
+opened-plain k (q ∷ qs) m e = refl
+
+begun-none : (k : ℕ) (client : ℕ) (p : List ℕ) (reply : Option HouseReply) → begun_by k [] (Says client (Payload p) reply) ≡ []
+begun-none k client p reply = by_case (read_gist p)
+  where
+    by_case : (r : Result Gist Bad) → (elim r as (λ _. List Channel) [ Err e ↦ [] | Ok m ↦ opened_up k [] m ]) ≡ []
+    by_case (Err e) = refl
+    by_case (Ok m) = opened-none k m
+
+pub unused-own : (k c : ℕ) (before : List Row) → with_own (rows_of k before) c ≡ None → Each (λ x. (x.client == k) ≡ true → is_held x ≡ true → is_number x.own c ≡ false) (channels_of before)
+unused-own k c before none =
+    filter-each k (λ x. is_held x ≡ true → is_number x.own c ≡ false) (channels_of before)
+    (find-none (λ x. is_number x.own c) (filter (is_of k) (channels_of before)) (ap (λ cs. find (λ (x : Channel). is_number x.own c) (filter is_held cs)) (channels-local k before) ∙ none))
+
+unused-both : (n k c : ℕ) (before : List Row) → holder before n ≡ None → with_own (rows_of k before) c ≡ None → Each (Unused n k c) (channels_of before)
+unused-both n k c before fresh none = each-both _ _ (Unused n k c) (λ x a b. record { number = a; own = λ h e. b e h }) (channels_of before) (find-none (λ x. is_number x.number n) (channels_of before) fresh) (unused-own k c before none)
+
+module _ (before : List Row) (good : Good (channels_of before)) (k : ℕ) (real : k ≡ 0 → ⊥) (p : List ℕ) (reply : Option HouseReply) (fw : List (List ℕ)) (parting : EachOf Quiet fw) (down : List (List ℕ)) (fate : Fate) where
+  abbrev the_row : List (List ℕ) → Row
+  the_row up = as_row (Says k (Payload p) reply) k up fw down fate
+
+  good-nothing : Good (Next (the_row []) (channels_of before))
+  good-nothing = good-still (the_row []) (channels_of before) parting (λ x s. talked-ids (the_row []) x tt (ids-self x)) (begun-none k k p reply) good
+
+  good-plain : (m : Gist) → read_gist p ≡ Ok m → sender_of m ≡ None → Good (Next (the_row (p ∷ [])) (channels_of before))
+  good-plain m reads unowned = good-still (the_row (p ∷ [])) (channels_of before) parting (λ x s. talked-ids (the_row (p ∷ [])) x (quiet-plain p m reads unowned, tt) (ids-self x)) (reading-ok p m (opened_up k (p ∷ [])) [] reads ∙ opened-plain k (p ∷ []) m unowned) good
+
+  good-fresh : (pick c : ℕ) (m : Gist) → AreBytes p → read_gist p ≡ Ok m → sender_of m ≡ Some c → with_own (rows_of k before) c ≡ None → IsFresh before (the_row (with_sender p pick ∷ [])) → Good (Next (the_row (with_sender p pick ∷ [])) (channels_of before))
+  good-fresh pick c m bytes reads owned unused fresh = by_message m reads owned (reads-sent p m sender pick)
+    where
+      sender : SenderIn p m
+      sender = sender-in p m c bytes reads owned
+
+      q : List ℕ
+      q = with_sender p pick
+
+      small : c < 4294967296
+      small = own-small p m c bytes reads owned
+
+      has_own : own_of (Says k (Payload p) reply) ≡ Some c
+      has_own = reading-ok p m sender_of None reads ∙ owned
+
+      numbered : (carried_number (with_sender p pick ∷ []) < 16384) × (holder before (carried_number (with_sender p pick ∷ [])) ≡ None)
+      numbered = subst (λ (b : Bool). MatchBool b ((carried_number (with_sender p pick ∷ []) < 16384) × (holder before (carried_number (with_sender p pick ∷ [])) ≡ None)) (Unit {0})) (ap is_some has_own) fresh
+
+      all_unused : Each (Unused (word pick) k c) (channels_of before)
+      all_unused = unused-both (word pick) k c before (ap (holder before) (sym (ap said_number (number-sent p m sender pick))) ∙ numbered.1) unused
+
+      by_message : (m' : Gist) → read_gist p ≡ Ok m' → sender_of m' ≡ Some c → read_gist (with_sender p pick) ≡ Ok (resent (word pick) m') → Good (Next (the_row (with_sender p pick ∷ [])) (channels_of before))
+      by_message (Open what c' w max) reads' owned' again =
+          good-parted (the_row (with_sender p pick ∷ [])) parting (map (after_item (the_row (with_sender p pick ∷ []))) (channels_of before) ++ begun_by k (with_sender p pick ∷ []) (Says k (Payload p) reply))
+          (subst (λ (bs : List Channel). Good (map (after_item (the_row (with_sender p pick ∷ []))) (channels_of before) ++ bs)) (sym begun)
+          (good-opens k c (word pick) w max (map (after_item (the_row (with_sender p pick ∷ []))) (channels_of before)) real small (unused-moved (channels_of before) all_unused) (good-ids (after_item (the_row (with_sender p pick ∷ []))) (λ x s. moved x) (channels_of before) good)))
+        where
+          stays : (x : Channel) → after_item (the_row (with_sender p pick ∷ [])) x ≡ x
+          stays x = by_client (x.client == k)
+            where
+              by_client : (b : Bool) → (elim b as (λ _. Channel) [ true ↦ reading (with_sender p pick) (λ m. with_up (own_of (Says k (Payload p) reply)) m x) x | false ↦ x ]) ≡ x
+              by_client true = reading-ok (with_sender p pick) (Open what (word pick) w max) (λ m. with_up (own_of (Says k (Payload p) reply)) m x) x again
+              by_client false = refl
+
+          moved : (x : Channel) → Ids x (after_item (the_row (with_sender p pick ∷ [])) x)
+          moved x = subst (Ids x) (sym (stays x)) (ids-self x)
+
+          unused-moved : (xs : List Channel) → Each (Unused (word pick) k c) xs → Each (Unused (word pick) k c) (map (after_item (the_row (with_sender p pick ∷ []))) xs)
+          unused-moved [] all = tt
+          unused-moved (x ∷ xs) all = (subst (Unused (word pick) k c) (sym (stays x)) all.0, unused-moved xs all.1)
+
+          begun : begun_by k (with_sender p pick ∷ []) (Says k (Payload p) reply) ≡ record { client = k; by = Up; own = Some c; number = Some (word pick); remote = None; window = w; maximum = max; acts = [] } ∷ []
+          begun = reading-ok p (Open what c' w max) (opened_up k (with_sender p pick ∷ [])) [] reads'
+              ∙ (ap (λ (i : Option ℕ). record { client = k; by = Up; own = Some c'; number = i; remote = None; window = w; maximum = max; acts = [] } ∷ []) (number-sent p m sender pick)
+              ∙ ap (λ (o : Option ℕ). record { client = k; by = Up; own = o; number = Some (word pick); remote = None; window = w; maximum = max; acts = [] } ∷ []) owned')
+      by_message (Confirmation s c' w max) reads' owned' again =
+          good-parted (the_row (with_sender p pick ∷ [])) parting (map (after_item (the_row (with_sender p pick ∷ []))) (channels_of before) ++ begun_by k (with_sender p pick ∷ []) (Says k (Payload p) reply))
+          (subst (λ (bs : List Channel). Good (map (after_item (the_row (with_sender p pick ∷ []))) (channels_of before) ++ bs)) (sym begun)
+          (subst Good (sym (append-nil (map (after_item (the_row (with_sender p pick ∷ []))) (channels_of before))))
+          (good-up k c (word pick) s w max (after_item (the_row (with_sender p pick ∷ []))) small step (channels_of before) all_unused good)))
+        where
+          begun : begun_by k (with_sender p pick ∷ []) (Says k (Payload p) reply) ≡ []
+          begun = reading-ok p (Confirmation s c' w max) (opened_up k (with_sender p pick ∷ [])) [] reads'
+
+          step : (x : Channel) → UpStep k c (word pick) s w max x (after_item (the_row (with_sender p pick ∷ [])) x)
+          step x = by_client (x.client == k) refl
+            where
+              same : (a b : ℕ) → (a == b) ≡ true → a ≡ b
+              same a b e = grind (arith, nat_tests)
+
+              by_client : (b : Bool) → (x.client == k) ≡ b → UpStep k c (word pick) s w max x (elim b as (λ _. Channel) [ true ↦ reading (with_sender p pick) (λ m. with_up (own_of (Says k (Payload p) reply)) m x) x | false ↦ x ])
+              by_client true e = subst (UpStep k c (word pick) s w max x) (sym (reading-ok (with_sender p pick) (Confirmation s (word pick) w max) (λ m. with_up (own_of (Says k (Payload p) reply)) m x) x again ∙ ap (λ o. with_up o (Confirmation s (word pick) w max) x) has_own)) (up-step k c s (word pick) w max x (same x.client k e))
+              by_client false e = inl (ids-self x)
+      by_message m' reads' owned' again = cc
+
+  pub good-sent : (pick : ℕ) (m : Gist) (up : List (List ℕ)) → AreBytes p → read_gist p ≡ Ok m → Sent (rows_of k before) pick p m up → IsFresh before (the_row up) → Good (Next (the_row up) (channels_of before))
+  good-sent pick m up bytes reads (inl none) fresh = subst (λ (u : List (List ℕ)). Good (Next (the_row u) (channels_of before))) (sym none) good-nothing
+  good-sent pick m up bytes reads (inr (inl plain)) fresh = subst (λ (u : List (List ℕ)). Good (Next (the_row u) (channels_of before))) (sym plain.up) (good-plain m reads plain.unowned)
+  good-sent pick m up bytes reads (inr (inr new)) fresh = subst (λ (u : List (List ℕ)). Good (Next (the_row u) (channels_of before))) (sym new.up) (good-fresh pick new.c m bytes reads new.owned new.unused (subst (λ (u : List (List ℕ)). IsFresh before (the_row u)) new.up fresh))
+
+  pub good-said : (policy : Policy) (pick : ℕ) → AreBytes p → IsFresh before (the_row (said_payload policy k (rows_of k before) pick p).sent) → Good (Next (the_row (said_payload policy k (rows_of k before) pick p).sent) (channels_of before))
+  good-said policy pick bytes fresh = by_case (read_gist p) refl fresh
+    where
+      by_case : (r : Result Gist Bad) → read_gist p ≡ r → IsFresh before (the_row (elim r as (λ _. Outcome) [ Err bad ↦ drops (why.BadMessage bad) | Ok m ↦ said_gist policy k (rows_of k before) pick p m ]).sent) → Good (Next (the_row (elim r as (λ _. Outcome) [ Err bad ↦ drops (why.BadMessage bad) | Ok m ↦ said_gist policy k (rows_of k before) pick p m ]).sent) (channels_of before))
+      by_case (Err bad) reads fresh = good-nothing
+      by_case (Ok m) reads fresh = good-sent pick m (said_gist policy k (rows_of k before) pick p m).sent bytes reads (sent-by policy k (rows_of k before) pick p m) fresh
+
+-- ---- what the server says
+
+opened-down-confirmed : (k n s w max : ℕ) (up : List (List ℕ)) → opened_down k up (Confirmation n s w max) ≡ []
+opened-down-confirmed k n s w max [] = refl
+opened-down-confirmed k n s w max (q ∷ qs) = refl
+
+is_zero : (k : ℕ) → (k == 0) ≡ false → k ≡ 0 → ⊥
+is_zero k e z = grind (arith, nat_tests)
+
+module _ (before : List Row) (good : Good (channels_of before)) (k : ℕ) (p : List ℕ) (up : List (List ℕ)) (quiet : EachOf Quiet up) (fw : List (List ℕ)) (parting : EachOf Quiet fw) (down : List (List ℕ)) (fate : Fate) where
+  abbrev heard_one : Row
+  heard_one = as_row (Heard p) k up fw down fate
+
+  heard-still : (m : Gist) → read_gist p ≡ Ok m → IsQuiet m → (x : Channel) → Ids x (after_item heard_one x)
+  heard-still m reads still x = talked-ids heard_one x quiet (subst (Ids x) (sym (reading-ok p m (λ m. with_down m x) x reads)) (down-ids m still x))
+
+  begun-heard : (m : Gist) → read_gist p ≡ Ok m → opened_down k up m ≡ [] → begun_by k up (Heard p) ≡ []
+  begun-heard m reads none = by_case (k == 0)
+    where
+      by_case : (b : Bool) → (elim b as (λ _. List Channel) [ true ↦ [] | false ↦ reading p (opened_down k up) [] ]) ≡ []
+      by_case true = refl
+      by_case false = reading-ok p m (opened_down k up) [] reads ∙ none
+
+  good-confirms : (n s w max : ℕ) → read_gist p ≡ Ok (Confirmation n s w max) → live_in before s ≡ None → Good (Next heard_one (channels_of before))
+  good-confirms n s w max reads unused =
+      good-parted heard_one parting (map (after_item heard_one) (channels_of before) ++ begun_by k up (Heard p))
+      (subst (λ (bs : List Channel). Good (map (after_item heard_one) (channels_of before) ++ bs)) (sym (begun-heard (Confirmation n s w max) reads (opened-down-confirmed k n s w max up)))
+      (subst Good (sym (append-nil (map (after_item heard_one) (channels_of before))))
+      (good-down n s w max (after_item heard_one) step (channels_of before) (find-none (λ x. is_number x.remote s) (channels_of before) unused) good)))
+    where
+      step : (x : Channel) → DownStep n s w max x (after_item heard_one x)
+      step x = by_client (x.client == k)
+        where
+          by_client : (b : Bool) → DownStep n s w max x (elim b as (λ _. Channel) [ true ↦ with_ups None up (reading p (λ m. with_down m x) x) | false ↦ x ])
+          by_client true = subst (λ (y : Channel). DownStep n s w max x (with_ups None up y)) (sym (reading-ok p (Confirmation n s w max) (λ m. with_down m x) x reads)) (down-then n s w max x (with_down (Confirmation n s w max) x) (with_ups None up (with_down (Confirmation n s w max) x)) (down-step n s w max x) (ups-ids None up quiet (with_down (Confirmation n s w max) x)))
+          by_client false = inl (ids-self x)
+
+  unused-still : (m : Gist) → read_gist p ≡ Ok m → IsQuiet m → (s : ℕ) (xs : List Channel) → Each (NotLive s) xs → Each (NotLive s) (map (after_item heard_one) xs)
+  unused-still m reads still s [] all = tt
+  unused-still m reads still s (x ∷ xs) all = let i = heard-still m reads still x in ((λ h. ap (λ o. is_number o s) i.remote ∙ all.0 (i.held h)), unused-still m reads still s xs all.1)
+
+  good-offer : (what : Opens) (s w max : ℕ) → read_gist p ≡ Ok (Open what s w max) → live_in before s ≡ None → Good (Next heard_one (channels_of before))
+  good-offer what s w max reads unused =
+      good-parted heard_one parting (map (after_item heard_one) (channels_of before) ++ begun_by k up (Heard p)) (by_zero (k == 0) refl)
+    where
+      moved : Good (map (after_item heard_one) (channels_of before))
+      moved = good-ids (after_item heard_one) (λ x s'. heard-still (Open what s w max) reads tt x) (channels_of before) good
+
+      nothing : Good (map (after_item heard_one) (channels_of before) ++ [])
+      nothing = subst Good (sym (append-nil (map (after_item heard_one) (channels_of before)))) moved
+
+      by_up : (ups : List (List ℕ)) → (k == 0) ≡ false → Good (map (after_item heard_one) (channels_of before) ++ opened_down k ups (Open what s w max))
+      by_up [] e = good-offers k s w max (map (after_item heard_one) (channels_of before)) (is_zero k e) (unused-still (Open what s w max) reads tt s (channels_of before) (find-none (λ x. is_number x.remote s) (channels_of before) unused)) moved
+      by_up (q ∷ qs) e = nothing
+
+      by_zero : (b : Bool) → (k == 0) ≡ b → Good (map (after_item heard_one) (channels_of before) ++ elim b as (λ _. List Channel) [ true ↦ [] | false ↦ reading p (opened_down k up) [] ])
+      by_zero true e = nothing
+      by_zero false e = subst (λ (bs : List Channel). Good (map (after_item heard_one) (channels_of before) ++ bs)) (sym (reading-ok p (Open what s w max) (opened_down k up) [] reads)) (by_up up e)
+
+  good-other : (m : Gist) → read_gist p ≡ Ok m → IsQuiet m → opened_down k up m ≡ [] → Good (Next heard_one (channels_of before))
+  good-other m reads still none = good-still heard_one (channels_of before) parting (λ x s. heard-still m reads still x) (begun-heard m reads none) good
+
+  opened-end : (ups : List (List ℕ)) (m : Gist) → ((what : Opens) (s w max : ℕ) → m ≡ Open what s w max → ⊥) → opened_down k ups m ≡ []
+  opened-end [] (Open what s w max) other = absurd (other what s w max refl)
+  opened-end [] m other = refl
+  opened-end (q ∷ qs) m other = refl
+
+  pub good-heard : dest before p ≡ ToClient k → Good (Next heard_one (channels_of before))
+  good-heard to = by_case (read_gist p) refl
+    where
+      by_message : (m : Gist) → read_gist p ≡ Ok m → dest_gist before m ≡ ToClient k → Good (Next heard_one (channels_of before))
+      by_message (Confirmation n s w max) reads e = good-confirms n s w max reads ((confirmed before n s k e).unused)
+      by_message (Open what s w max) reads e = good-offer what s w max reads ((offered before s what k e).unused)
+      by_message (Within n act) reads e = good-other (Within n act) reads tt (opened-end up (Within n act) (λ what s w max same. cc))
+      by_message (Transport number) reads e = good-other (Transport number) reads tt (opened-end up (Transport number) (λ what s w max same. cc))
+      by_message (Requests what wants) reads e = good-other (Requests what wants) reads tt (opened-end up (Requests what wants) (λ what s w max same. cc))
+      by_message (Succeeds rest) reads e = good-other (Succeeds rest) reads tt (opened-end up (Succeeds rest) (λ what s w max same. cc))
+      by_message Refuses reads e = good-other Refuses reads tt (opened-end up Refuses (λ what s w max same. cc))
+
+      by_case : (r : Result Gist Bad) → read_gist p ≡ r → Good (Next heard_one (channels_of before))
+      by_case (Err bad) reads = let bad : Breaks _ ≡ ToClient k = sym (dest-err before p bad reads) ∙ to in cc
+      by_case (Ok m) reads = by_message m reads (sym (dest-ok before p m reads) ∙ to)
+
+-- ---- any row
+
+good-bare : (before : List Row) → Good (channels_of before) → (item : Item) (o : Outcome) → EachOf Quiet o.sent → begun_by 0 o.sent item ≡ [] → Good (Next (bare item 0 o) (channels_of before))
+good-bare before good item o quiet none = good-still (bare item 0 o) (channels_of before) tt (talked-master (bare item 0 o) refl) none good
+
+good-mute : (before : List Row) → Good (channels_of before) → (row : Row) → EachOf Quiet row.farewell → row.up ≡ [] → ((x : Channel) → heard_by row.item x ≡ x) → begun_by row.client [] row.item ≡ [] → Good (Next row (channels_of before))
+good-mute before good row parting none stays begun = good-still row (channels_of before) parting (λ x s. talked-ids row x (subst (EachOf Quiet) (sym none) tt) (subst (Ids x) (sym (stays x)) (ids-self x))) (ap (λ u. begun_by row.client u row.item) none ∙ begun) good
+
+abbrev GoodNext : List Row → Row → Type 0
+GoodNext before row = IsFresh before row → Good (channels_of (row ∷ before))
+
+good-heard-row : (before : List Row) → Good (channels_of before) → (p : List ℕ) (d : Dest) → dest before p ≡ d → GoodNext before (heard_row before p d)
+good-heard-row before good p ToMaster e fresh = good-bare before good (Heard p) (heard_master p) (quiet-master p) refl
+good-heard-row before good p (ToClient k) e fresh = row-parts (GoodNext before) (Heard p) k (heard_for (rows_of k before) p) (rows_of k before) (λ fw parting down fate fresh'. good-heard before good k p (heard_for (rows_of k before) p).sent (quiet-heard (rows_of k before) p) fw parting down fate e) fresh
+good-heard-row before good p Disconnects e fresh = good-bare before good (Heard p) (finishes ended.Disconnected) tt refl
+good-heard-row before good p (Breaks why) e fresh = good-bare before good (Heard p) (finishes (ended.Broke (min (next_index before) (2 ^ 64 - 1)) why)) tt refl
+
+-- the channels stay apart by each right row
+pub good-treat : (policy : Policy) (pid pick : ℕ) (before : List Row) (item : Item) → Good (channels_of before) → LawfulItem before item → IsFresh before (treat policy pid pick before item) → Good (channels_of (treat policy pid pick before item ∷ before))
+good-treat policy pid pick before (Admit k) good lawful fresh = row-parts (GoodNext before) (Admit k) k (admits before) (rows_of k before) (λ fw parting down fate fresh'. good-mute before good (as_row (Admit k) k (admits before).sent fw down fate) parting (admits-sent before) (λ x. refl) refl) fresh
+good-treat policy pid pick before (Says k (Payload p) reply) good lawful fresh = row-parts (GoodNext before) (Says k (Payload p) reply) k (said_payload policy k (rows_of k before) pick p) (rows_of k before) (λ fw parting down fate fresh'. good-said before good k lawful.0 p reply fw parting down fate policy pick lawful.1 fresh') fresh
+good-treat policy pid pick before (Says k (Body body) reply) good lawful fresh = row-parts (GoodNext before) (Says k (Body body) reply) k (said_body pid k reply (greeted (rows_of k before)) body) (rows_of k before) (λ fw parting down fate fresh'. good-mute before good (as_row (Says k (Body body) reply) k (said_body pid k reply (greeted (rows_of k before)) body).sent fw down fate) parting (body-sent pid k reply (greeted (rows_of k before)) body) (λ x. refl) refl) fresh
+good-treat policy pid pick before (Says k (BadFraming fault) reply) good lawful fresh = row-parts (GoodNext before) (Says k (BadFraming fault) reply) k (said_by_client policy pid k (rows_of k before) pick (BadFraming fault) reply) (rows_of k before) (λ fw parting down fate fresh'. good-mute before good (as_row (Says k (BadFraming fault) reply) k [] fw down fate) parting refl (λ x. refl) refl) fresh
+good-treat policy pid pick before (Gone k) good lawful fresh = row-parts (GoodNext before) (Gone k) k silent (rows_of k before) (λ fw parting down fate fresh'. good-mute before good (as_row (Gone k) k [] fw down fate) parting refl (λ x. refl) refl) fresh
+good-treat policy pid pick before (Heard p) good lawful fresh = good-heard-row before good p (dest before p) refl fresh
+good-treat policy pid pick before (BadServer fault) good lawful fresh = good-bare before good (BadServer fault) (finishes (ended.Broke (min (next_index before) (2 ^ 64 - 1)) (broke.Frame fault))) tt refl
+good-treat policy pid pick before ServerEnd good lawful fresh = good-bare before good ServerEnd (finishes ended.ServerEnd) tt refl
+good-treat policy pid pick before (ServerCut left) good lawful fresh = good-bare before good (ServerCut left) (finishes (ended.Broke (min (next_index before) (2 ^ 64 - 1)) (broke.Cut left))) tt refl
+good-treat policy pid pick before ServerFailed good lawful fresh = good-bare before good ServerFailed (finishes ended.ServerFailed) tt refl
+good-treat policy pid pick before (Took stream size) good lawful fresh = good-mute before good (bare (Took stream size) stream silent) tt refl (λ x. refl) refl
+good-treat policy pid pick before (RunEnd cause) good lawful fresh = good-bare before good (RunEnd cause) silent tt refl
+good-treat policy pid pick before Unserved good lawful fresh = good-bare before good Unserved silent tt refl

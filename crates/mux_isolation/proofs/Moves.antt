@@ -1,0 +1,299 @@
+-- What each row sends up, and how its messages move channels.
+use Rattle.std.proofs.Common.{◌≡◌, ℕ, List, [], ◌∷◌, ◌++◌, length, true, false, Bool, refl, Option, Some, None, inl, inr, Ok, Err}
+use Rattle.std.specs.Prelude.{◌==◌, ◌&&◌, filter, ◌⊎◌, not, Result, flat_map, nat_lt, nat_le, is_none, codes}
+use Rattle.mux_history.specs.Channels.{Channel, any_by, held_of, is_closes, is_confirmed, is_held, is_number, is_up, with_down, with_own, with_up, with_ups}
+use Rattle.mux_history.specs.Controls.{answers_ask, said_body, said_first, said_later}
+use Rattle.mux_history.specs.Farewell.{farewell, late, late_refusal, late_success, leave_channel, leave_forwarding, to_number, with_ask}
+use Rattle.mux_history.specs.Forwardings.{Forwarding, bound, current, forwarded, forwardings_of, is_free_at}
+use Rattle.mux_history.specs.Gist.{Confirmation, Gist, Open, Refuses, Requests, Succeeds, Transport, Within, read_gist, reading, sender_of}
+use Rattle.mux_history.specs.Heard.{for_client, for_lost, for_master, heard_for, heard_gist, heard_master}
+use Rattle.mux_history.specs.Ledger.{breach}
+use Rattle.mux_history.specs.Log.{admits, all_told, bare, open_matters, queued, row_of}
+use Rattle.mux_history.specs.Policy.{Policy, permits}
+use Rattle.mux_history.specs.Requests.{Ask, asker}
+use Rattle.mux_history.specs.Rows.{Fate, Item, Refused, Row, any_of, is_lost, loses}
+use Rattle.mux_history.specs.Said.{Outcome, confirmed_at, drops, fails_open, is_failing, is_full_of_asks, on_breach, on_confirmed, on_unused, on_waiting, said_gist, said_open, said_request, sends, sends_as, sends_if, sends_open, silent, tells, waiting_at}
+use Rattle.mux_outside.specs.declared.house.HouseReply.{HouseReply}
+use Rattle.ssh_fields.specs.Fields.{str, u32}
+use Rattle.ssh_grammar.specs.Control.{CloseForward, Control, Greets, Hello, OpenForward}
+use Rattle.ssh_grammar.specs.Frames.{frame_answer, frame_payload}
+use Rattle.ssh_grammar.specs.Messages.{Cancel, Direct, Forward, Global, KeepAlive, Opens, OtherName, Session, cancel_name}
+use Rattle.ssh_grammar.specs.ReadControl.{read_control}
+use Rattle.ssh_grammar.specs.SpellMessage.{cancel_forward, close, open_failure, request_failure, wants, with_sender}
+use Rattle.ssh_grammar.specs.declared.fault.Bad.{Bad}
+use Rattle.ssh_grammar.specs.declared.fault.BadControl.{BadControl}
+use Rattle.ssh_grammar.specs.declared.fault.Breach.{Breach}
+use Rattle.ssh_grammar.specs.declared.numbers.TheConstants.{VERSION}
+use Rattle.ssh_grammar.specs.declared.side.Side.TheVariants.{Down, Up}
+use Rattle.mux_history.specs.declared.why.Why.TheVariants as why
+use Rattle.ssh_grammar.specs.declared.fault.BadControl.TheVariants as bad_control
+use Rattle.mux_history.proofs.Readings.{close-always, failure-always, gist-always, request-always}
+use Rattle.mux_isolation.proofs.Good.{DownStep, Ids, UpStep, brought_down, brought_up, ids-self, ids-then}
+use Rattle.mux_isolation.proofs.Numbers.{EachOf, IsQuiet, Quiet}
+
+-- ---- payloads that bring no number
+
+pub quiet-close : (s : ℕ) → Quiet (close s)
+quiet-close s m reads = gist-always IsQuiet (close s) m (close-always IsQuiet (u32 s) (λ n. tt)) reads
+
+pub quiet-failure : (s reason : ℕ) (text : List ℕ) → Quiet (open_failure s reason text)
+quiet-failure s reason text m reads = gist-always IsQuiet (open_failure s reason text) m (failure-always IsQuiet (u32 s ++ (u32 reason ++ (str text ++ str []))) (λ n. tt)) reads
+
+pub quiet-cancel : (address : List ℕ) (port : ℕ) → Quiet (cancel_forward address port)
+quiet-cancel address port m reads = gist-always IsQuiet (cancel_forward address port) m (request-always IsQuiet (str cancel_name ++ (0 ∷ (str address ++ u32 port))) (λ what want. tt)) reads
+
+pub quiet-refusal : Quiet request_failure
+quiet-refusal m reads = gist-always IsQuiet request_failure m tt reads
+
+quiet-append : (xs ys : List (List ℕ)) → EachOf Quiet xs → EachOf Quiet ys → EachOf Quiet (xs ++ ys)
+quiet-append [] ys a b = b
+quiet-append (x ∷ xs) ys a b = (a.0, quiet-append xs ys a.1 b)
+
+quiet-to : (o : Option ℕ) (f : ℕ → List ℕ) → ((n : ℕ) → Quiet (f n)) → EachOf Quiet (to_number o f)
+quiet-to None f each = tt
+quiet-to (Some n) f each = (each n, tt)
+
+quiet-part : (x : Channel) → EachOf Quiet (leave_channel x)
+quiet-part x = by_case (is_confirmed x) (any_by Up is_closes x.acts) (is_up x.by)
+  where
+    by_case : (a b c : Bool) → EachOf Quiet (elim a as (λ _. List (List ℕ)) [ true ↦ elim b as (λ _. List (List ℕ)) [ true ↦ [] | false ↦ to_number x.remote close ] | false ↦ elim c as (λ _. List (List ℕ)) [ true ↦ [] | false ↦ to_number x.remote (λ s. open_failure s 2 (codes "client is gone")) ] ])
+    by_case true true c = tt
+    by_case true false c = quiet-to x.remote close quiet-close
+    by_case false b true = tt
+    by_case false b false = quiet-to x.remote _ (λ s. quiet-failure s 2 (codes "client is gone"))
+
+quiet-parts : (xs : List Channel) → EachOf Quiet (flat_map leave_channel xs)
+quiet-parts [] = tt
+quiet-parts (x ∷ xs) = quiet-append (leave_channel x) (flat_map leave_channel xs) (quiet-part x) (quiet-parts xs)
+
+quiet-forwarding : (f : Forwarding) → EachOf Quiet (leave_forwarding f)
+quiet-forwarding f = by_case (is_none f.cancel)
+  where
+    by_case : (b : Bool) → EachOf Quiet (elim b as (λ _. List (List ℕ)) [ true ↦ to_number f.live (λ port. cancel_forward f.address port) | false ↦ [] ])
+    by_case true = quiet-to f.live _ (λ port. quiet-cancel f.address port)
+    by_case false = tt
+
+quiet-forwardings : (fs : List Forwarding) → EachOf Quiet (flat_map leave_forwarding fs)
+quiet-forwardings [] = tt
+quiet-forwardings (f ∷ fs) = quiet-append (leave_forwarding f) (flat_map leave_forwarding fs) (quiet-forwarding f) (quiet-forwardings fs)
+
+pub quiet-farewell : (row : Row) (own : List Row) → EachOf Quiet (farewell row own)
+quiet-farewell row own = quiet-append (flat_map leave_channel (held_of (row ∷ own))) _ (quiet-parts (held_of (row ∷ own))) (quiet-forwardings (filter (λ (f : Forwarding). not f.over) (forwarded row own (forwardings_of own))))
+
+quiet-asked : (o : Option Ask) (f : Global → List (List ℕ)) → ((g : Global) → EachOf Quiet (f g)) → EachOf Quiet (with_ask o f)
+quiet-asked None f each = tt
+quiet-asked (Some a) f each = each a.what
+
+quiet-success : (rest : List ℕ) (g : Global) → EachOf Quiet (late_success rest g)
+quiet-success rest (Forward address port) = (quiet-cancel address (bound port rest), tt)
+quiet-success rest g = tt
+
+quiet-late-refusal : (g : Global) → EachOf Quiet (late_refusal g)
+quiet-late-refusal (Cancel address port) = (quiet-cancel address port, tt)
+quiet-late-refusal g = tt
+
+pub quiet-late : (m : Gist) (own : List Row) → EachOf Quiet (late m own)
+quiet-late (Confirmation n s w m) own = (quiet-close s, tt)
+quiet-late (Succeeds rest) own = quiet-asked (asker own) (late_success rest) (quiet-success rest)
+quiet-late Refuses own = quiet-asked (asker own) late_refusal quiet-late-refusal
+quiet-late m own = tt
+
+-- what goes up for a server's message
+pub quiet-heard : (own : List Row) (p : List ℕ) → EachOf Quiet (heard_for own p).sent
+quiet-heard own p = by_case (read_gist p)
+  where
+    by_message : (m : Gist) → EachOf Quiet (for_client own p m).sent
+    by_message (Open what s w max) = elim (nat_lt (length (held_of own)) 256) as (λ b. EachOf Quiet (elim b as (λ _. Outcome) [ true ↦ tells (frame_payload p) | false ↦ sends (open_failure s 4 (codes "too many channels")) ]).sent) [ true ↦ tt | false ↦ (quiet-failure s 4 (codes "too many channels"), tt) ]
+    by_message (Confirmation n s w max) = tt
+    by_message (Within n act) = tt
+    by_message m = tt
+
+    by_lost : (m : Gist) (b : Bool) → EachOf Quiet (elim b as (λ _. Outcome) [ true ↦ for_lost own m | false ↦ for_client own p m ]).sent
+    by_lost m true = quiet-late m own
+    by_lost m false = by_message m
+
+    by_case : (r : Result Gist Bad) → EachOf Quiet (elim r as (λ _. Outcome) [ Err bad ↦ silent | Ok m ↦ heard_gist own p m ]).sent
+    by_case (Err bad) = tt
+    by_case (Ok m) = by_lost m (is_lost own)
+
+pub quiet-master : (p : List ℕ) → EachOf Quiet (heard_master p).sent
+quiet-master p = by_case (read_gist p)
+  where
+    by_message : (m : Gist) → EachOf Quiet (for_master m).sent
+    by_message (Requests what true) = (quiet-refusal, tt)
+    by_message (Open what s w max) = (quiet-failure s 1 (codes "not permitted"), tt)
+    by_message m = tt
+
+    by_case : (r : Result Gist Bad) → EachOf Quiet (elim r as (λ _. Outcome) [ Err bad ↦ silent | Ok m ↦ for_master m ]).sent
+    by_case (Err bad) = tt
+    by_case (Ok m) = by_message m
+
+-- ---- what goes up for what a client says
+
+pub record SentPlain (p : List ℕ) (m : Gist) (ups : List (List ℕ)) : Type 0 where
+  pub up : ups ≡ p ∷ []
+  pub unowned : sender_of m ≡ None
+
+pub record SentFresh (own : List Row) (pick : ℕ) (p : List ℕ) (m : Gist) (ups : List (List ℕ)) : Type 0 where
+  pub c : ℕ
+  pub owned : sender_of m ≡ Some c
+  pub up : ups ≡ with_sender p pick ∷ []
+  pub unused : with_own own c ≡ None
+
+abbrev pub Sent : List Row → ℕ → List ℕ → Gist → List (List ℕ) → Type 0
+Sent own pick p m ups = (ups ≡ []) ⊎ (SentPlain p m ups ⊎ SentFresh own pick p m ups)
+
+pub sent-by : (policy : Policy) (k : ℕ) (own : List Row) (pick : ℕ) (p : List ℕ) (m : Gist) → Sent own pick p m (said_gist policy k own pick p m).sent
+sent-by policy k own pick p (Transport number) = elim (number == 1) as (λ b. Sent own pick p (Transport number) (elim b as (λ _. Outcome) [ true ↦ drops why.Disconnected | false ↦ silent ]).sent) [ true ↦ inl refl | false ↦ inl refl ]
+sent-by policy k own pick p (Succeeds rest) = inl refl
+sent-by policy k own pick p Refuses = inl refl
+sent-by policy k own pick p (Requests what wants) = by_full (is_full_of_asks wants own)
+  where
+    by_if : (b : Bool) → Sent own pick p (Requests what wants) (sends_if b p).sent
+    by_if true = inr (inl (record { up = refl; unowned = refl }))
+    by_if false = inl refl
+
+    by_what : (g : Global) → Sent own pick p (Requests what wants) (said_request policy k own p g wants).sent
+    by_what (Forward address port) = by_if (wants && (nat_le (length address) 255 && (permits policy.listens address port && nat_lt (length (current own)) 64)))
+    by_what (Cancel address port) = by_if (any_of (is_free_at k address port) (current own))
+    by_what KeepAlive = by_if true
+    by_what OtherName = inl refl
+
+    by_full : (b : Bool) → Sent own pick p (Requests what wants) (elim b as (λ _. Outcome) [ true ↦ drops (why.TooManyAsks 1024) | false ↦ said_request policy k own p what wants ]).sent
+    by_full true = inl refl
+    by_full false = by_what what
+sent-by policy k own pick p (Open what c w max) = by_unused (with_own own c) refl
+  where
+    by_room : (b : Bool) → with_own own c ≡ None → Sent own pick p (Open what c w max) (elim b as (λ _. Outcome) [ true ↦ sends_as pick p | false ↦ fails_open c 4 (codes "too many channels") ]).sent
+    by_room true unused = inr (inr (record { c = c; owned = refl; up = refl; unused = unused }))
+    by_room false unused = inl refl
+
+    by_type : (t : Opens) → with_own own c ≡ None → Sent own pick p (Open what c w max) (said_open policy own pick p c t).sent
+    by_type Session unused = by_room (nat_lt (length (held_of own)) 256) unused
+    by_type (Direct host port) unused = elim (permits policy.opens host port) as (λ b. Sent own pick p (Open what c w max) (elim b as (λ _. Outcome) [ true ↦ sends_open own pick p c | false ↦ fails_open c 1 (codes "not permitted") ]).sent) [ true ↦ by_room (nat_lt (length (held_of own)) 256) unused | false ↦ inl refl ]
+    by_type t unused = inl refl
+
+    by_unused : (o : Option Channel) → with_own own c ≡ o → Sent own pick p (Open what c w max) (on_unused c (said_open policy own pick p c what) o).sent
+    by_unused None unused = by_type what unused
+    by_unused (Some x) used = inl refl
+sent-by policy k own pick p (Confirmation s c w max) = by_waiting (waiting_at own s)
+  where
+    by_unused : (o : Option Channel) → with_own own c ≡ o → Sent own pick p (Confirmation s c w max) (on_unused c (sends_as pick p) o).sent
+    by_unused None unused = inr (inr (record { c = c; owned = refl; up = refl; unused = unused }))
+    by_unused (Some x) used = inl refl
+
+    by_waiting : (o : Option Channel) → Sent own pick p (Confirmation s c w max) (on_waiting s (on_unused c (sends_as pick p) (with_own own c)) o).sent
+    by_waiting None = inl refl
+    by_waiting (Some x) = by_unused (with_own own c) refl
+sent-by policy k own pick p (Within s act) = by_failing (is_failing act)
+  where
+    by_breach : (o : Option Breach) → Sent own pick p (Within s act) (on_breach p s o).sent
+    by_breach None = inr (inl (record { up = refl; unowned = refl }))
+    by_breach (Some b) = inl refl
+
+    by_confirmed : (o : Option Channel) → Sent own pick p (Within s act) (on_confirmed p s act o).sent
+    by_confirmed None = inl refl
+    by_confirmed (Some x) = by_breach (breach Up act x)
+
+    by_waiting : (o : Option Channel) → Sent own pick p (Within s act) (on_waiting s (sends p) o).sent
+    by_waiting None = inl refl
+    by_waiting (Some x) = inr (inl (record { up = refl; unowned = refl }))
+
+    by_failing : (b : Bool) → Sent own pick p (Within s act) (elim b as (λ _. Outcome) [ true ↦ on_waiting s (sends p) (waiting_at own s) | false ↦ on_confirmed p s act (confirmed_at own s) ]).sent
+    by_failing true = by_waiting (waiting_at own s)
+    by_failing false = by_confirmed (confirmed_at own s)
+
+-- a control message sends nothing
+ask-sent : (opening : Bool) (id : ℕ) (o : Option HouseReply) → (answers_ask opening id o).sent ≡ []
+ask-sent opening id None = refl
+ask-sent opening id (Some given) = refl
+
+later-sent : (pid k : ℕ) (given : Option HouseReply) (r : Result Control BadControl) → (said_later pid k given r).sent ≡ []
+later-sent pid k given (Ok (OpenForward id what)) = ask-sent true id given
+later-sent pid k given (Ok (CloseForward id what)) = ask-sent false id given
+later-sent pid k given (Ok c) = refl
+later-sent pid k given (Err (bad_control.Unknown kind (Some id))) = refl
+later-sent pid k given (Err (bad_control.Unknown kind None)) = refl
+later-sent pid k given (Err fault) = refl
+
+first-sent : (r : Result Control BadControl) → (said_first r).sent ≡ []
+first-sent (Ok (Hello version extensions)) = elim (version == 4) as (λ b. (elim b as (λ _. Outcome) [ true ↦ silent | false ↦ drops (why.Version version) ]).sent ≡ []) [ true ↦ refl | false ↦ refl ]
+first-sent (Ok c) = refl
+first-sent (Err (bad_control.Unknown kind id)) = refl
+first-sent (Err fault) = refl
+
+pub body-sent : (pid k : ℕ) (given : Option HouseReply) (greeted_yet : Bool) (body : List ℕ) → (said_body pid k given greeted_yet body).sent ≡ []
+body-sent pid k given true body = later-sent pid k given (read_control body)
+body-sent pid k given false body = first-sent (read_control body)
+
+pub admits-sent : (rows : List Row) → (admits rows).sent ≡ []
+admits-sent rows = elim (nat_lt (open_matters rows) 64) as (λ b. (elim b as (λ _. Outcome) [ true ↦ tells (frame_answer (Greets VERSION)) | false ↦ record { sent = []; told = []; ends = Refused } ]).sent ≡ []) [ true ↦ refl | false ↦ refl ]
+
+-- ---- any fact of a row of a client, from its parts
+
+abbrev pub as_row : Item → ℕ → List (List ℕ) → List (List ℕ) → List (List ℕ) → Fate → Row
+as_row item k up fw down fate = record { item = item; client = k; up = up; farewell = fw; down = down; fate = fate }
+
+pub row-parts : (P : Row → Type 0) (item : Item) (k : ℕ) (o : Outcome) (own : List Row) → ((fw : List (List ℕ)) → EachOf Quiet fw → (down : List (List ℕ)) (fate : Fate) → P (as_row item k o.sent fw down fate)) → P (row_of item k o own)
+row-parts P item k o own each = by_case (loses parted_row)
+  where
+    parted_row : Row
+    parted_row = queued (all_told (bare item k o) own) (bare item k o) own
+
+    by_case : (b : Bool) → P (elim b as (λ _. Row) [ true ↦ record (queued (all_told (bare item k o) own) (bare item k o) own) { farewell = farewell (queued (all_told (bare item k o) own) (bare item k o) own) own } | false ↦ queued (all_told (bare item k o) own) (bare item k o) own ])
+    by_case true = each (farewell (queued (all_told (bare item k o) own) (bare item k o) own) own) (quiet-farewell (queued (all_told (bare item k o) own) (bare item k o) own) own) _ _
+    by_case false = each [] tt _ _
+
+-- ---- moves of one channel
+
+pub and-right : (a b : Bool) → (a && b) ≡ true → b ≡ true
+and-right true b e = e
+and-right false b e = cc
+
+pub and-left : (a b : Bool) → (a && b) ≡ true → a ≡ true
+and-left true b e = refl
+and-left false b e = cc
+
+up-ids : (own : Option ℕ) (m : Gist) → IsQuiet m → (x : Channel) → Ids x (with_up own m x)
+up-ids own (Confirmation s n w m) quiet x = absurd quiet
+up-ids own (Within s act) quiet x = by_case (is_number x.remote s && is_held x) refl
+  where
+    by_case : (b : Bool) → (is_number x.remote s && is_held x) ≡ b → Ids x (elim b as (λ _. Channel) [ true ↦ record x { acts = (Up, act) ∷ x.acts } | false ↦ x ])
+    by_case true e = record { client = refl; number = refl; own = refl; remote = refl; held = λ h. and-right (is_number x.remote s) (is_held x) e }
+    by_case false e = ids-self x
+up-ids own m quiet x = ids-self x
+
+pub ups-ids : (own : Option ℕ) (ups : List (List ℕ)) → EachOf Quiet ups → (x : Channel) → Ids x (with_ups own ups x)
+ups-ids own [] quiet x = ids-self x
+ups-ids own (q ∷ ups) quiet x = ids-then x (reading q (λ m. with_up own m x) x) (with_ups own ups (reading q (λ m. with_up own m x) x)) (one (read_gist q) (λ m e. quiet.0 m e)) (ups-ids own ups quiet.1 (reading q (λ m. with_up own m x) x))
+  where
+    one : (r : Result Gist Bad) → ((m : Gist) → r ≡ Ok m → IsQuiet m) → Ids x (elim r as (λ _. Channel) [ Err e ↦ x | Ok m ↦ with_up own m x ])
+    one (Err e) quiet = ids-self x
+    one (Ok m) quiet = up-ids own m (quiet m refl) x
+
+pub up-step : (k c s n w max : ℕ) (x : Channel) → x.client ≡ k → UpStep k c n s w max x (with_up (Some c) (Confirmation s n w max) x)
+up-step k c s n w max x mine = by_case (is_number x.remote s && is_held x) refl
+  where
+    by_case : (b : Bool) → (is_number x.remote s && is_held x) ≡ b → UpStep k c n s w max x (elim b as (λ _. Channel) [ true ↦ brought_up c n w max x | false ↦ x ])
+    by_case true e = inr (record { client = mine; held = and-right (is_number x.remote s) (is_held x) e; remote = and-left (is_number x.remote s) (is_held x) e; ids = ids-self (brought_up c n w max x) })
+    by_case false e = inl (ids-self x)
+
+pub down-ids : (m : Gist) → IsQuiet m → (x : Channel) → Ids x (with_down m x)
+down-ids (Confirmation s n w m) quiet x = absurd quiet
+down-ids (Within n act) quiet x = by_case (is_number x.number n && is_held x) refl
+  where
+    by_case : (b : Bool) → (is_number x.number n && is_held x) ≡ b → Ids x (elim b as (λ _. Channel) [ true ↦ record x { acts = (Down, act) ∷ x.acts } | false ↦ x ])
+    by_case true e = record { client = refl; number = refl; own = refl; remote = refl; held = λ h. and-right (is_number x.number n) (is_held x) e }
+    by_case false e = ids-self x
+down-ids m quiet x = ids-self x
+
+pub down-step : (n s w max : ℕ) (x : Channel) → DownStep n s w max x (with_down (Confirmation n s w max) x)
+down-step n s w max x = by_case (is_number x.number n && is_held x) refl
+  where
+    by_case : (b : Bool) → (is_number x.number n && is_held x) ≡ b → DownStep n s w max x (elim b as (λ _. Channel) [ true ↦ brought_down s w max x | false ↦ x ])
+    by_case true e = inr (record { held = and-right (is_number x.number n) (is_held x) e; number = and-left (is_number x.number n) (is_held x) e; ids = ids-self (brought_down s w max x) })
+    by_case false e = inl (ids-self x)
+
+pub down-then : (n s w max : ℕ) (x y z : Channel) → DownStep n s w max x y → Ids y z → DownStep n s w max x z
+down-then n s w max x y z (inl a) b = inl (ids-then x y z a b)
+down-then n s w max x y z (inr a) b = inr (record { held = a.held; number = a.number; ids = ids-then (brought_down s w max x) y z a.ids b })

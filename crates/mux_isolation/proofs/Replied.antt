@@ -1,0 +1,171 @@
+-- What a reply tells its asker: the reply, and the refusals that waited behind it.
+use Rattle.std.proofs.Common.{◌≡◌, ℕ, zero, suc, ◌+◌, ◌<◌, List, [], ◌∷◌, ◌++◌, length, true, false, Bool, refl, ◌∙◌, ap, arith, map, sym, Option, Some, None, subst, Ok, Err, drop, length-append}
+use Rattle.std.specs.Prelude.{◌&&◌, not, Result, replicate, nat_le}
+use Rattle.std.proofs.Math.Seq.{drop-append_seam}
+use Rattle.std.proofs.lemmas.List.{append-nil}
+use Rattle.std.proofs.lemmas.Option.{slice_get_within}
+use Rattle.mux_history.specs.Farewell.{farewell}
+use Rattle.mux_history.specs.Gist.{Gist, Refuses, Succeeds, read_gist, reading}
+use Rattle.mux_history.specs.Heard.{Breaks, Dest, Disconnects, ToClient, ToMaster, dest, for_client, for_lost, heard_for, heard_gist}
+use Rattle.mux_history.specs.Kept.{Asker, ForEach, TellsReply}
+use Rattle.mux_history.specs.Log.{all_told, bare, fate_with, fitting, heard_row, new_answers, overflow, queued, row_of, treat}
+use Rattle.mux_history.specs.Pending.{waiting_down}
+use Rattle.mux_history.specs.Policy.{Policy}
+use Rattle.mux_history.specs.Requests.{answers, answers_to, asks, asks_of, is_reply, is_sent, replies, reply_in, sent_flags, wanted, wanted_by}
+use Rattle.mux_history.specs.Rows.{Goes, Heard, Item, Row, is_lost, loses, rows_of}
+use Rattle.mux_history.specs.Said.{Outcome, silent}
+use Rattle.mux_history.specs.declared.why.Why.{Why}
+use Rattle.ssh_grammar.specs.Frames.{frame_payload}
+use Rattle.ssh_grammar.specs.Messages.{Global}
+use Rattle.ssh_grammar.specs.Said.{heard}
+use Rattle.ssh_grammar.specs.SpellMessage.{request_failure}
+use Rattle.ssh_grammar.specs.declared.fault.Bad.{Bad}
+use Rattle.mux_history.specs.declared.why.Why.TheVariants as why
+use Rattle.mux_history.proofs.Readings.{reading-ok}
+use Rattle.mux_isolation.proofs.Askers.{Orderly, asker-local}
+use Rattle.mux_isolation.proofs.Dests.{Asked}
+use Rattle.mux_isolation.proofs.Everywhere.{LogKnown, by-treat, reply-asked, reply-never, serves}
+use Rattle.mux_isolation.proofs.Logs.{treat-item}
+use Rattle.mux_isolation.proofs.Treats.{client-of}
+
+-- ---- one more reply answers one request and those refused behind it
+
+count_sent : List Bool → ℕ
+count_sent [] = 0
+count_sent (true ∷ flags) = suc (count_sent flags)
+count_sent (false ∷ flags) = count_sent flags
+
+refused-only : (flags : List Bool) → (n : ℕ) × (answers_to flags [] ≡ replicate n request_failure)
+refused-only [] = (0, refl)
+refused-only (true ∷ flags) = (0, refl)
+refused-only (false ∷ flags) = let r = refused-only flags in (suc r.0, ap (λ xs. request_failure ∷ xs) r.1)
+
+next-answers : (flags : List Bool) (heard : List (List ℕ)) (p : List ℕ) → length heard < count_sent flags → (n : ℕ) × (answers_to flags (heard ++ p ∷ []) ≡ answers_to flags heard ++ (p ∷ replicate n request_failure))
+unfolding count_sent
+next-answers [] heard p lt = absurd (omega arith)
+next-answers (false ∷ flags) heard p lt = let r = next-answers flags heard p lt in (r.0, ap (λ xs. request_failure ∷ xs) r.1)
+next-answers (true ∷ flags) [] p lt = let r = refused-only flags in (r.0, ap (λ xs. p ∷ xs) r.1)
+next-answers (true ∷ flags) (h ∷ heard) p lt = let r = next-answers flags heard p (omega arith) in (r.0, ap (λ xs. h ∷ xs) r.1)
+
+count-append : (xs ys : List Bool) → count_sent (xs ++ ys) ≡ count_sent xs + count_sent ys
+unfolding count_sent
+count-append [] ys = omega arith
+count-append (true ∷ xs) ys = let h = count-append xs ys in omega arith
+count-append (false ∷ xs) ys = count-append xs ys
+
+count-flags : (k : ℕ) (sent : Bool) (o : Option Global) → count_sent (sent_flags sent o) ≡ length (asks_of k sent o)
+unfolding count_sent
+count-flags k true None = refl
+count-flags k false None = refl
+count-flags k true (Some what) = refl
+count-flags k false (Some what) = refl
+
+count-asks : (rows : List Row) → count_sent (wanted rows) ≡ length (asks rows)
+unfolding count_sent
+count-asks [] = refl
+count-asks (row ∷ rows) =
+    let a = count-append (wanted rows) (sent_flags (is_sent row) (wanted_by row)) in
+    let b = count-flags row.client (is_sent row) (wanted_by row) in
+    let c = count-asks rows in
+    let d = length-append (asks rows) (asks_of row.client (is_sent row) (wanted_by row)) in
+    omega arith
+
+framed-all : (n : ℕ) (p : List ℕ) → map frame_payload (replicate n p) ≡ replicate n (frame_payload p)
+framed-all zero p = refl
+framed-all (suc n) p = ap (λ xs. frame_payload p ∷ xs) (framed-all n p)
+
+-- ---- the row
+
+-- where no frame is left out, all are told
+all-fit : (n : ℕ) (fs : List (List ℕ)) → overflow n fs ≡ None → fitting n fs ≡ fs
+all-fit n [] none = refl
+all-fit n (f ∷ fs) none = by_case (nat_le (n + length f) 33554432) refl none (λ h. all-fit (n + length f) fs h)
+  where
+    by_case : (b : Bool) → nat_le (n + length f) 33554432 ≡ b → (elim b as (λ _. Option Why) [ true ↦ overflow (n + length f) fs | false ↦ Some (why.QueueFull n (length f)) ]) ≡ None → (overflow (n + length f) fs ≡ None → fitting (n + length f) fs ≡ fs) → (elim b as (λ _. List (List ℕ)) [ true ↦ f ∷ fitting (n + length f) fs | false ↦ [] ]) ≡ f ∷ fs
+    by_case true e none ih = ap (λ xs. f ∷ xs) (ih none)
+    by_case false e none ih = cc
+
+no-overflow : (o : Option Why) → fate_with Goes o ≡ Goes → o ≡ None
+no-overflow None e = refl
+no-overflow (Some why) e = cc
+
+module _ (before : List Row) (orderly : Orderly before) (k : ℕ) (p : List ℕ) (reply : reading p is_reply false ≡ true) (asked : Asked before k) (alive : is_lost (rows_of k before) ≡ false) where
+  abbrev mute_row : Row
+  mute_row = bare (Heard p) k silent
+
+  reply-is : reply_in (Heard p) ≡ p ∷ []
+  reply-is = ap (λ b. elim b as (λ _. List (List ℕ)) [ true ↦ p ∷ [] | false ↦ [] ]) reply
+
+  fewer : length (replies (rows_of k before)) < count_sent (wanted (rows_of k before))
+  fewer = let a = slice_get_within (asks (rows_of k before)) (length (replies (rows_of k before))) asked.ask (asker-local before k orderly asked) in let b = count-asks (rows_of k before) in omega arith
+
+  flags-same : (b : Bool) → sent_flags b None ≡ []
+  flags-same true = refl
+  flags-same false = refl
+
+  answers-row : answers (mute_row ∷ rows_of k before) ≡ answers_to (wanted (rows_of k before)) (replies (rows_of k before) ++ p ∷ [])
+  answers-row = ap (λ w. answers_to w (replies (rows_of k before) ++ reply_in (Heard p))) (append-nil (wanted (rows_of k before))) ∙ ap (λ r. answers_to (wanted (rows_of k before)) (replies (rows_of k before) ++ r)) reply-is
+
+  new-row : (n : ℕ) × (new_answers mute_row (rows_of k before) ≡ frame_payload p ∷ replicate n (frame_payload request_failure))
+  new-row =
+      let r = next-answers (wanted (rows_of k before)) (replies (rows_of k before)) p fewer in (
+        r.0,
+        ap (λ a. map frame_payload (drop (length (answers (rows_of k before))) a)) (answers-row ∙ r.1)
+            ∙ (ap (map frame_payload) (drop-append_seam (answers (rows_of k before)) (p ∷ replicate r.0 request_failure))
+            ∙ ap (λ xs. frame_payload p ∷ xs) (framed-all r.0 request_failure)),
+      )
+
+  told-row : all_told mute_row (rows_of k before) ≡ new_answers mute_row (rows_of k before)
+  told-row = ap (λ b. elim (true && not b) as (λ _. List (List ℕ)) [ true ↦ [] ++ new_answers mute_row (rows_of k before) | false ↦ [] ]) alive
+
+  -- what it does is nothing but the answers
+  does-nothing : heard_for (rows_of k before) p ≡ silent
+  does-nothing = by_case (read_gist p) refl
+    where
+      by_message : (m : Gist) → is_reply m ≡ true → for_client (rows_of k before) p m ≡ silent
+      by_message (Succeeds rest) r = refl
+      by_message Refuses r = refl
+      by_message m r = cc
+
+      by_case : (r : Result Gist Bad) → read_gist p ≡ r → (elim r as (λ _. Outcome) [ Err bad ↦ silent | Ok m ↦ heard_gist (rows_of k before) p m ]) ≡ silent
+      by_case (Err bad) reads = refl
+      by_case (Ok m) reads = ap (λ b. elim b as (λ _. Outcome) [ true ↦ for_lost (rows_of k before) m | false ↦ for_client (rows_of k before) p m ]) alive ∙ by_message m (sym (reading-ok p m is_reply false reads) ∙ reply)
+
+  silent-tells : (row_of (Heard p) k silent (rows_of k before)).fate ≡ Goes → (n : ℕ) × ((row_of (Heard p) k silent (rows_of k before)).down ≡ frame_payload p ∷ replicate n (frame_payload request_failure))
+  silent-tells fate = (new-row.0, down-is ∙ (all-fit (waiting_down (rows_of k before)) (all_told mute_row (rows_of k before)) (no-overflow (overflow (waiting_down (rows_of k before)) (all_told mute_row (rows_of k before))) (sym fate-is ∙ fate)) ∙ (told-row ∙ new-row.1)))
+    where
+      plain_row : Row
+      plain_row = queued (all_told (bare (Heard p) k silent) (rows_of k before)) (bare (Heard p) k silent) (rows_of k before)
+
+      down-is : (row_of (Heard p) k silent (rows_of k before)).down ≡ fitting (waiting_down (rows_of k before)) (all_told mute_row (rows_of k before))
+      down-is = by_case (loses (queued (all_told (bare (Heard p) k silent) (rows_of k before)) (bare (Heard p) k silent) (rows_of k before)))
+        where
+          by_case : (b : Bool) → (elim b as (λ _. Row) [ true ↦ record (queued (all_told (bare (Heard p) k silent) (rows_of k before)) (bare (Heard p) k silent) (rows_of k before)) { farewell = farewell (queued (all_told (bare (Heard p) k silent) (rows_of k before)) (bare (Heard p) k silent) (rows_of k before)) (rows_of k before) } | false ↦ queued (all_told (bare (Heard p) k silent) (rows_of k before)) (bare (Heard p) k silent) (rows_of k before) ]).down ≡ fitting (waiting_down (rows_of k before)) (all_told mute_row (rows_of k before))
+          by_case true = refl
+          by_case false = refl
+
+      fate-is : (row_of (Heard p) k silent (rows_of k before)).fate ≡ fate_with Goes (overflow (waiting_down (rows_of k before)) (all_told mute_row (rows_of k before)))
+      fate-is = by_case (loses (queued (all_told (bare (Heard p) k silent) (rows_of k before)) (bare (Heard p) k silent) (rows_of k before)))
+        where
+          by_case : (b : Bool) → (elim b as (λ _. Row) [ true ↦ record (queued (all_told (bare (Heard p) k silent) (rows_of k before)) (bare (Heard p) k silent) (rows_of k before)) { farewell = farewell (queued (all_told (bare (Heard p) k silent) (rows_of k before)) (bare (Heard p) k silent) (rows_of k before)) (rows_of k before) } | false ↦ queued (all_told (bare (Heard p) k silent) (rows_of k before)) (bare (Heard p) k silent) (rows_of k before) ]).fate ≡ fate_with Goes (overflow (waiting_down (rows_of k before)) (all_told mute_row (rows_of k before)))
+          by_case true = refl
+          by_case false = refl
+
+  pub tells-reply : (row_of (Heard p) k (heard_for (rows_of k before) p) (rows_of k before)).fate ≡ Goes → (n : ℕ) × ((row_of (Heard p) k (heard_for (rows_of k before) p) (rows_of k before)).down ≡ frame_payload p ∷ replicate n (frame_payload request_failure))
+  tells-reply = subst (λ (o : Outcome). (row_of (Heard p) k o (rows_of k before)).fate ≡ Goes → (n : ℕ) × ((row_of (Heard p) k o (rows_of k before)).down ≡ frame_payload p ∷ replicate n (frame_payload request_failure))) (sym does-nothing) silent-tells
+
+tells-treat : (policy : Policy) (pid pick : ℕ) (before : List Row) (item : Item) → Orderly before → TellsReply before (treat policy pid pick before item)
+tells-treat policy pid pick before item orderly p is reply on alive = by_item item (sym (treat-item policy pid pick before item) ∙ is) on alive
+  where
+    by_dest : (d : Dest) → dest before p ≡ d → (heard_row before p d).fate ≡ Goes → is_lost (rows_of (heard_row before p d).client before) ≡ false → (n : ℕ) × ((heard_row before p d).down ≡ frame_payload p ∷ replicate n (frame_payload request_failure))
+    by_dest ToMaster to on alive = absurd (reply-never before p reply to)
+    by_dest (ToClient k) to on alive = tells-reply before orderly k p reply (reply-asked before k p reply to) (subst (λ (j : ℕ). is_lost (rows_of j before) ≡ false) (client-of (Heard p) k (heard_for (rows_of k before) p) (rows_of k before)) alive) on
+    by_dest Disconnects to on alive = cc
+    by_dest (Breaks why) to on alive = cc
+
+    by_item : (i : Item) → i ≡ Heard p → (treat policy pid pick before i).fate ≡ Goes → is_lost (rows_of (treat policy pid pick before i).client before) ≡ false → (n : ℕ) × ((treat policy pid pick before i).down ≡ frame_payload p ∷ replicate n (frame_payload request_failure))
+    by_item (Heard q) e on alive = let same : p ≡ q = cc in subst (λ (r : List ℕ). (heard_row before r (dest before r)).fate ≡ Goes → is_lost (rows_of (heard_row before r (dest before r)).client before) ≡ false → (n : ℕ) × ((heard_row before r (dest before r)).down ≡ frame_payload p ∷ replicate n (frame_payload request_failure))) same (by_dest (dest before p) refl) on alive
+    by_item i e on alive = cc
+
+pub askers-served : (policy : Policy) (pid : ℕ) (rows : List Row) → LogKnown policy pid rows → ForEach Asker rows
+askers-served policy pid rows known = by-treat Asker policy pid (λ pick before item good orderly may makes. record { reaches = serves policy pid pick before item; tells = tells-treat policy pid pick before item orderly }) (λ before stream size. record { reaches = λ p is. cc; tells = λ p is. cc }) rows known.each

@@ -1,0 +1,7 @@
+-- One index serves all look-ups.
+use Rattle.mux_isolation.proofs.Everywhere.{right-known}
+use Rattle.mux_isolation.proofs.Indexed.{one-index}
+use Rattle.mux_isolation.proofs.laws.one_index_serves.Goals as goal
+
+pub returns : goal.returns
+returns c = λ policy pid picks given marks left rows lawful right. one-index policy pid rows (right-known policy pid picks given marks left rows lawful right)

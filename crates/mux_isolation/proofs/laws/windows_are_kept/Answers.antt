@@ -1,0 +1,9 @@
+-- Data is within its window.
+use Rattle.mux_isolation.proofs.Everywhere.{right-known}
+use Rattle.mux_isolation.proofs.Allowed.{ups-allowed}
+use Rattle.mux_isolation.proofs.Told.{downs-allowed}
+use Rattle.mux_isolation.proofs.Mays.{windows}
+use Rattle.mux_isolation.proofs.laws.windows_are_kept.Goals as goal
+
+pub returns : goal.returns
+returns c = λ policy pid picks given marks left rows lawful right. windows policy rows (ups-allowed policy pid rows (right-known policy pid picks given marks left rows lawful right)) (downs-allowed policy pid rows (right-known policy pid picks given marks left rows lawful right))

@@ -1,0 +1,42 @@
+ghost use Rattle.mux_isolation.specs.Laws.{Isolation, NumbersAreApart, WindowsAreKept, PermissionsAreKept, AskersAreServed, OneIndexServes, NothingIsLeft, QueuesAreBounded};
+
+/// What an admitted client is told and what is sent for it is what an unshared connection gives from its
+/// own bytes and the server's messages for its channels, up to the numbers that stand for its own.
+pub fn isolation()
+    ensures { Isolation }
+{}
+
+/// At no row is a number held by two channels, nor one of the server's live in two.
+pub fn numbers_are_apart()
+    ensures { NumbersAreApart }
+{}
+
+/// Data in either direction is within the room and the maximum of its channel.
+pub fn windows_are_kept()
+    ensures { WindowsAreKept }
+{}
+
+/// What is opened or listened on is permitted, and each forwarded open meets a live forwarding.
+pub fn permissions_are_kept()
+    ensures { PermissionsAreKept }
+{}
+
+/// Each reply that doesn't break the run is a row of the client that asked first.
+pub fn askers_are_served()
+    ensures { AskersAreServed }
+{}
+
+/// A look-up among a client's channels by the server's number is the one among all channels.
+pub fn one_index_serves()
+    ensures { OneIndexServes }
+{}
+
+/// A client whose matters are closed has no channel, no request without a reply and no forwarding left.
+pub fn nothing_is_left()
+    ensures { NothingIsLeft }
+{}
+
+/// At no row do more than 33,554,432 bytes wait for a client.
+pub fn queues_are_bounded()
+    ensures { QueuesAreBounded }
+{}

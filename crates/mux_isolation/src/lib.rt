@@ -1,0 +1,10 @@
+//! Laws over all runs of a master. Each function's contract is a law of the history: whatever the wire gives,
+//! whatever numbers are picked and whatever the house replies, it holds of the right log.
+#![tactic(auto)]
+
+mod laws;
+
+pub use laws::{
+    askers_are_served, isolation, nothing_is_left, numbers_are_apart, one_index_serves,
+    permissions_are_kept, queues_are_bounded, windows_are_kept,
+};
