@@ -3,8 +3,8 @@ ghost use Rattle.ssh_grammar.specs.ReadMessage.{read_key, read_global, read_ends
 ghost use Rattle.ssh_grammar.specs.Messages as grammar;
 ghost use Rattle.conn_messages.specs.Message.{Gives, global_of, opens_of};
 
-use crate::fields::Fields;
 use crate::message::{Global, Opens};
+use ssh_fields::FieldReader;
 use ssh_grammar::Bad;
 
 const FORWARD: &[u8] = b"tcpip-forward";
@@ -14,7 +14,7 @@ const CANCEL: &[u8] = b"cancel-tcpip-forward";
 const KEEP_ALIVE: &[u8] = b"keepalive@openssh.com";
 
 /// An address and a port, and nothing after them.
-fn key<'a>(fields: &mut Fields<'a>) -> Result<(&'a [u8], u32), Bad>
+fn key<'a>(fields: &mut FieldReader<'a>) -> Result<(&'a [u8], u32), Bad>
     ensures { (what : List ℕ → ℕ → grammar.Global) → Gives (λ k. what k.0.now k.1) result (read_key fields.old.cursor fields.old.at what) }
 {
     let address = fields.take_string()?;
@@ -23,14 +23,14 @@ fn key<'a>(fields: &mut Fields<'a>) -> Result<(&'a [u8], u32), Bad>
     Ok((address, port))
 }
 
-fn forward<'a>(fields: &mut Fields<'a>) -> Result<Global<'a>, Bad>
+fn forward<'a>(fields: &mut FieldReader<'a>) -> Result<Global<'a>, Bad>
     ensures { Gives global_of result (read_key fields.old.cursor fields.old.at grammar.Forward) }
 {
     let (address, port) = key(fields)?;
     Ok(Global::Forward { address, port })
 }
 
-fn cancel<'a>(fields: &mut Fields<'a>) -> Result<Global<'a>, Bad>
+fn cancel<'a>(fields: &mut FieldReader<'a>) -> Result<Global<'a>, Bad>
     ensures { Gives global_of result (read_key fields.old.cursor fields.old.at grammar.Cancel) }
 {
     let (address, port) = key(fields)?;
@@ -38,7 +38,7 @@ fn cancel<'a>(fields: &mut Fields<'a>) -> Result<Global<'a>, Bad>
 }
 
 /// A global request's data, by its name.
-pub(crate) fn global<'a>(name: &[u8], fields: &mut Fields<'a>) -> Result<Global<'a>, Bad>
+pub(crate) fn global<'a>(name: &[u8], fields: &mut FieldReader<'a>) -> Result<Global<'a>, Bad>
     ensures { Gives global_of result (read_global name.now fields.old.cursor fields.old.at) }
 {
     if name == FORWARD {
@@ -59,7 +59,7 @@ const DIRECT: &[u8] = b"direct-tcpip";
 const FORWARDED: &[u8] = b"forwarded-tcpip";
 
 /// A host and a port, those of the originator, and nothing after them.
-fn ends<'a>(fields: &mut Fields<'a>) -> Result<(&'a [u8], u32), Bad>
+fn ends<'a>(fields: &mut FieldReader<'a>) -> Result<(&'a [u8], u32), Bad>
     ensures { (what : List ℕ → ℕ → grammar.Opens) → Gives (λ k. what k.0.now k.1) result (read_ends fields.old.cursor fields.old.at what) }
 {
     let host = fields.take_string()?;
@@ -70,14 +70,14 @@ fn ends<'a>(fields: &mut Fields<'a>) -> Result<(&'a [u8], u32), Bad>
     Ok((host, port))
 }
 
-fn direct<'a>(fields: &mut Fields<'a>) -> Result<Opens<'a>, Bad>
+fn direct<'a>(fields: &mut FieldReader<'a>) -> Result<Opens<'a>, Bad>
     ensures { Gives opens_of result (read_ends fields.old.cursor fields.old.at grammar.Direct) }
 {
     let (host, port) = ends(fields)?;
     Ok(Opens::Direct { host, port })
 }
 
-fn forwarded<'a>(fields: &mut Fields<'a>) -> Result<Opens<'a>, Bad>
+fn forwarded<'a>(fields: &mut FieldReader<'a>) -> Result<Opens<'a>, Bad>
     ensures { Gives opens_of result (read_ends fields.old.cursor fields.old.at grammar.Forwarded) }
 {
     let (address, port) = ends(fields)?;
@@ -85,7 +85,7 @@ fn forwarded<'a>(fields: &mut Fields<'a>) -> Result<Opens<'a>, Bad>
 }
 
 /// An open's data, by its type.
-pub(crate) fn opens<'a>(kind: &[u8], fields: &mut Fields<'a>) -> Result<Opens<'a>, Bad>
+pub(crate) fn opens<'a>(kind: &[u8], fields: &mut FieldReader<'a>) -> Result<Opens<'a>, Bad>
     ensures { Gives opens_of result (read_opens kind.now fields.old.cursor fields.old.at) }
 {
     if kind == SESSION {

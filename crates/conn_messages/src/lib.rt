@@ -2,7 +2,6 @@
 //! master writes of its own.
 #![tactic(auto)]
 
-mod fields;
 mod further;
 mod message;
 mod places;

@@ -5,14 +5,14 @@ ghost use Rattle.ssh_grammar.specs.IsMessage.{Spells};
 ghost use Rattle.ssh_grammar.specs.Messages as grammar;
 ghost use Rattle.conn_messages.specs.Message.{Gives, message_of};
 
-use crate::fields::Fields;
 use crate::further::{global, opens};
 use crate::message::Message;
+use ssh_fields::FieldReader;
 use ssh_grammar::Bad;
 use ssh_grammar::numbers::*;
 
 /// A message with no field that isn't read yet.
-fn bare<'a>(message: Message<'a>, fields: &mut Fields<'a>) -> Result<Message<'a>, Bad>
+fn bare<'a>(message: Message<'a>, fields: &mut FieldReader<'a>) -> Result<Message<'a>, Bad>
     ensures { Gives message_of result (on_end fields.old.cursor fields.old.at (message_of message.entry)) }
 {
     fields.end()?;
@@ -21,7 +21,7 @@ fn bare<'a>(message: Message<'a>, fields: &mut Fields<'a>) -> Result<Message<'a>
 
 // ---- the messages to no channel
 
-fn global_request<'a>(fields: &mut Fields<'a>) -> Result<Message<'a>, Bad>
+fn global_request<'a>(fields: &mut FieldReader<'a>) -> Result<Message<'a>, Bad>
     requires { fields.old.at ≡ 1 }
     ensures { Gives message_of result (with_reading (read_global_request fields.old.cursor) grammar.Plain) }
 {
@@ -37,7 +37,7 @@ fn global_request<'a>(fields: &mut Fields<'a>) -> Result<Message<'a>, Bad>
     })
 }
 
-fn open<'a>(fields: &mut Fields<'a>) -> Result<Message<'a>, Bad>
+fn open<'a>(fields: &mut FieldReader<'a>) -> Result<Message<'a>, Bad>
     requires { fields.old.at ≡ 1 }
     ensures { Gives message_of result (with_reading (read_open fields.old.cursor) grammar.Plain) }
 {
@@ -59,7 +59,7 @@ fn open<'a>(fields: &mut Fields<'a>) -> Result<Message<'a>, Bad>
 
 // ---- the messages to a channel, after the recipient
 
-fn confirmation<'a>(recipient: u32, fields: &mut Fields<'a>) -> Result<Message<'a>, Bad>
+fn confirmation<'a>(recipient: u32, fields: &mut FieldReader<'a>) -> Result<Message<'a>, Bad>
     requires { fields.old.at ≡ 5 }
     ensures { Gives message_of result (with_reading (read_confirmation fields.old.cursor) (grammar.To recipient)) }
 {
@@ -76,7 +76,7 @@ fn confirmation<'a>(recipient: u32, fields: &mut Fields<'a>) -> Result<Message<'
     })
 }
 
-fn open_failure<'a>(recipient: u32, fields: &mut Fields<'a>) -> Result<Message<'a>, Bad>
+fn open_failure<'a>(recipient: u32, fields: &mut FieldReader<'a>) -> Result<Message<'a>, Bad>
     requires { fields.old.at ≡ 5 }
     ensures { Gives message_of result (with_reading (read_open_failure fields.old.cursor) (grammar.To recipient)) }
 {
@@ -92,7 +92,7 @@ fn open_failure<'a>(recipient: u32, fields: &mut Fields<'a>) -> Result<Message<'
     })
 }
 
-fn adjust<'a>(recipient: u32, fields: &mut Fields<'a>) -> Result<Message<'a>, Bad>
+fn adjust<'a>(recipient: u32, fields: &mut FieldReader<'a>) -> Result<Message<'a>, Bad>
     requires { fields.old.at ≡ 5 }
     ensures { Gives message_of result (with_reading (read_adjust fields.old.cursor) (grammar.To recipient)) }
 {
@@ -101,7 +101,7 @@ fn adjust<'a>(recipient: u32, fields: &mut Fields<'a>) -> Result<Message<'a>, Ba
     Ok(Message::Adjust { recipient, add })
 }
 
-fn data<'a>(recipient: u32, fields: &mut Fields<'a>) -> Result<Message<'a>, Bad>
+fn data<'a>(recipient: u32, fields: &mut FieldReader<'a>) -> Result<Message<'a>, Bad>
     requires { fields.old.at ≡ 5 }
     ensures { Gives message_of result (with_reading (read_data fields.old.cursor) (grammar.To recipient)) }
 {
@@ -110,7 +110,7 @@ fn data<'a>(recipient: u32, fields: &mut Fields<'a>) -> Result<Message<'a>, Bad>
     Ok(Message::Data { recipient, bytes })
 }
 
-fn extended<'a>(recipient: u32, fields: &mut Fields<'a>) -> Result<Message<'a>, Bad>
+fn extended<'a>(recipient: u32, fields: &mut FieldReader<'a>) -> Result<Message<'a>, Bad>
     requires { fields.old.at ≡ 5 }
     ensures { Gives message_of result (with_reading (read_extended fields.old.cursor) (grammar.To recipient)) }
 {
@@ -124,7 +124,7 @@ fn extended<'a>(recipient: u32, fields: &mut Fields<'a>) -> Result<Message<'a>, 
     })
 }
 
-fn request<'a>(recipient: u32, fields: &mut Fields<'a>) -> Result<Message<'a>, Bad>
+fn request<'a>(recipient: u32, fields: &mut FieldReader<'a>) -> Result<Message<'a>, Bad>
     requires { fields.old.at ≡ 5 }
     ensures { Gives message_of result (with_reading (read_request fields.old.cursor) (grammar.To recipient)) }
 {
@@ -140,7 +140,7 @@ fn request<'a>(recipient: u32, fields: &mut Fields<'a>) -> Result<Message<'a>, B
 }
 
 /// A message to a channel, by its number. The recipient comes first in each.
-fn channel_message<'a>(number: u8, fields: &mut Fields<'a>) -> Result<Message<'a>, Bad>
+fn channel_message<'a>(number: u8, fields: &mut FieldReader<'a>) -> Result<Message<'a>, Bad>
     requires place { fields.old.at ≡ 1 }
     requires low { 91 ≤ number }
     requires high { number ≤ 100 }
@@ -169,7 +169,7 @@ fn message<'a>(payload: &'a [u8]) -> Result<Message<'a>, Bad>
         return Err(Bad::Empty);
     };
     let number = *number;
-    let mut fields = Fields::new(rest, 1);
+    let mut fields = FieldReader::new(rest, 1);
     match number {
         DISCONNECT..=DEBUG => Ok(Message::Transport { number, rest }),
         GLOBAL_REQUEST => global_request(&mut fields),

@@ -2,6 +2,7 @@
 #![tactic(auto)]
 
 mod cursor;
+mod field_reader;
 pub mod laws;
 mod out_of_memory;
 mod put;
@@ -9,6 +10,7 @@ mod small;
 mod text;
 
 pub use cursor::Cursor;
+pub use field_reader::{FieldFault, FieldReader};
 pub use out_of_memory::OutOfMemory;
 pub use put::{patch_u32, put_string, put_u32};
 pub use small::Small;

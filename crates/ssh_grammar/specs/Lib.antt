@@ -1,4 +1,5 @@
 pub mod Tables
+pub mod Faults
 pub mod Messages
 pub mod ReadMessage
 pub mod SpellMessage

@@ -1,3 +1,7 @@
+ghost use Rattle.std.specs.Prelude.{◌≡◌};
+ghost use Rattle.ssh_grammar.specs.Faults.{bad_of, bad_control_of};
+
+use ssh_fields::FieldFault;
 use thiserror::Error;
 
 /// Why a payload is no message of RFC 4254. A place counts the payload's bytes from 0.
@@ -72,4 +76,26 @@ pub enum Breach {
     /// One more wanted request while 1,024 are unanswered.
     #[error("{have} requests are unanswered")]
     TooManyAsks { have: u32 },
+}
+
+impl From<FieldFault> for Bad {
+    ghost from_gives = { λ fault bad. bad ≡ bad_of fault };
+
+    fn from(fault: FieldFault) -> Bad {
+        match fault {
+            FieldFault::Short { at } => Bad::Short { at },
+            FieldFault::Extra { at } => Bad::Extra { at },
+        }
+    }
+}
+
+impl From<FieldFault> for BadControl {
+    ghost from_gives = { λ fault bad. bad ≡ bad_control_of fault };
+
+    fn from(fault: FieldFault) -> BadControl {
+        match fault {
+            FieldFault::Short { at } => BadControl::Short { at },
+            FieldFault::Extra { at } => BadControl::Extra { at },
+        }
+    }
 }
