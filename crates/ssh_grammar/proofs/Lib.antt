@@ -10,3 +10,4 @@ pub mod Parses
 pub mod Said
 pub mod Renumbered
 pub mod Written
+pub mod AnswerReads

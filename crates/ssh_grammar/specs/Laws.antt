@@ -10,10 +10,11 @@ use Rattle.ssh_grammar.specs.ReadMessage.{read_message}
 use Rattle.ssh_grammar.specs.SpellMessage.{spell, recipient_of, sender_of, recipient_place, sender_place, with_recipient, with_sender}
 use Rattle.ssh_grammar.specs.IsMessage.{IsMessage, Spells}
 use Rattle.ssh_grammar.specs.Renumber.{to_recipient, to_sender, Stands}
-use Rattle.ssh_grammar.specs.Control.{Control}
+use Rattle.ssh_grammar.specs.Control.{Control, Answer}
 use Rattle.ssh_grammar.specs.ReadControl.{read_control}
-use Rattle.ssh_grammar.specs.SpellControl.{spell_control}
+use Rattle.ssh_grammar.specs.SpellControl.{spell_control, spell_answer}
 use Rattle.ssh_grammar.specs.IsControl.{IsControl, SpellsControl}
+use Rattle.ssh_grammar.specs.ReadAnswer.{read_answer, IsAnswer}
 use Rattle.ssh_grammar.specs.Frames.{Cut, cut, frame}
 use Rattle.ssh_grammar.specs.IsFrame.{IsContent, joined, Cuts}
 use Rattle.ssh_grammar.specs.Said.{Mode, InControl, InProxy, Stopped, Saying, Body, Payload, BadFraming, after_body, parse, and_then, said, heard}
@@ -54,6 +55,16 @@ ControlsReadBack = (c : Control) (body : List ℕ) → SpellsControl c body → 
 -- no body is written for two control messages
 abbrev pub NoBodyForTwo : Type 0
 NoBodyForTwo = (a b : Control) → IsControl a → IsControl b → spell_control a ≡ spell_control b → a ≡ b
+
+-- ---- answers
+
+-- what a master says reads as it
+abbrev pub AnswersReadBack : Type 0
+AnswersReadBack = (a : Answer) → IsAnswer a → read_answer (spell_answer a) ≡ Some a
+
+-- no body is written for two answers
+abbrev pub NoBodyForTwoAnswers : Type 0
+NoBodyForTwoAnswers = (a b : Answer) → IsAnswer a → IsAnswer b → spell_answer a ≡ spell_answer b → a ≡ b
 
 -- ---- frames
 

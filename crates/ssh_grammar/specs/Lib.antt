@@ -9,6 +9,7 @@ pub mod Control
 pub mod ReadControl
 pub mod SpellControl
 pub mod IsControl
+pub mod ReadAnswer
 pub mod Frames
 pub mod IsFrame
 pub mod Said

@@ -1,6 +1,6 @@
 //! What the grammar promises, over all bytes: each function's contract is the law.
 
-ghost use Rattle.ssh_grammar.specs.Laws.{MessagesAreSpelledSo, MessagesReadBack, NoPayloadForTwo, NumbersStand, RecipientIsReplaced, SenderIsReplaced, ControlsAreSpelledSo, ControlsReadBack, NoBodyForTwo, CutIsLongest, NoOtherCut, CutsJoin, ParsesJoin, SaidStays, ControlIsSaid, ProxyIsSaid, NothingMoreIsSaid, ServerIsHeard};
+ghost use Rattle.ssh_grammar.specs.Laws.{MessagesAreSpelledSo, MessagesReadBack, NoPayloadForTwo, NumbersStand, RecipientIsReplaced, SenderIsReplaced, ControlsAreSpelledSo, ControlsReadBack, NoBodyForTwo, AnswersReadBack, NoBodyForTwoAnswers, CutIsLongest, NoOtherCut, CutsJoin, ParsesJoin, SaidStays, ControlIsSaid, ProxyIsSaid, NothingMoreIsSaid, ServerIsHeard};
 
 /// What reads as a message is a payload of it, and each payload of it reads as it.
 pub fn messages_and_their_payloads()
@@ -22,6 +22,12 @@ pub fn control_messages_and_their_bodies()
     ensures spelled { ControlsAreSpelledSo }
     ensures read_back { ControlsReadBack }
     ensures no_two { NoBodyForTwo }
+{}
+
+/// What a master says reads as it.
+pub fn answers_and_their_bodies()
+    ensures read_back { AnswersReadBack }
+    ensures no_two { NoBodyForTwoAnswers }
 {}
 
 /// A cut gives the longest list of valid frames, and pieces that come later only add to it.
