@@ -66,6 +66,10 @@ pub fn listen_beside<R: Files + Net + Clone + Drop>(
     alloc: Global,
     path: &str,
 ) -> io::Result<Unnamed<R>> {
+    // A name that is taken is refused before anything is done. `publish` refuses it too.
+    if fs::symlink_metadata(rt, path).is_ok() {
+        return Err(io::Error::from(io::ErrorKind::AlreadyExists));
+    }
     let (socket, temporary) = bind_beside(rt, alloc, path)?;
     let name = temporary.path.as_str();
     // Before it listens, nobody can connect: so the mode comes first.

@@ -9,6 +9,8 @@ mod runner;
 mod sink;
 mod sockets;
 mod stream;
+#[cfg(test)]
+mod tests;
 mod transport;
 mod wire;
 
