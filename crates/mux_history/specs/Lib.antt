@@ -22,3 +22,4 @@ pub mod Worked
 pub mod WorkedProxy
 pub mod WorkedForwards
 pub mod WorkedLosses
+pub mod Settings

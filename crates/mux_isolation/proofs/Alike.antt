@@ -18,7 +18,8 @@ use Rattle.ssh_grammar.specs.SpellMessage.{wants, with_sender}
 use Rattle.ssh_grammar.specs.declared.side.Side.{Side}
 use Rattle.ssh_grammar.specs.declared.side.Side.TheVariants.{Up}
 use Rattle.mux_history.specs.declared.why.Why.TheVariants as why
-use Rattle.mux_isolation.proofs.Meets.{filter-no, filter-yes, find-no, find-yes, own_numbered}
+use Rattle.mux_history.proofs.Finds.{filter-no, filter-yes, find-no, find-yes}
+use Rattle.mux_isolation.proofs.Meets.{own_numbered}
 
 -- the client's rows here, and alone: the same look-ups, but for the numbers
 pub record Alike (own own' : List Row) : Type 0 where

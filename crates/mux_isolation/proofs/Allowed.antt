@@ -26,12 +26,12 @@ use Rattle.ssh_grammar.specs.declared.fault.Breach.TheVariants.{AfterClose, Afte
 use Rattle.ssh_grammar.specs.declared.side.Side.{Side}
 use Rattle.ssh_grammar.specs.declared.side.Side.TheVariants.{Up}
 use Rattle.mux_history.specs.declared.why.Why.TheVariants as why
+use Rattle.mux_history.proofs.KeepsApart.{LawfulItem, ok-same}
 use Rattle.mux_history.proofs.Readings.{cancel-always, close-always, failure-always, gist-always}
 use Rattle.mux_history.proofs.Renumbered.{reads-sent, sender-in, word}
-use Rattle.mux_isolation.proofs.Everywhere.{LogKnown, by-treat}
-use Rattle.mux_isolation.proofs.Known.{LawfulItem, ok-same}
+use Rattle.mux_history.proofs.RightLogs.{LogKnown, by-treat}
+use Rattle.mux_history.proofs.Sends.{admits-sent, as_row, body-sent}
 use Rattle.mux_isolation.proofs.Mays.{MaySend, SendsAllowed}
-use Rattle.mux_isolation.proofs.Moves.{admits-sent, as_row, body-sent}
 
 -- ---- what the master writes by itself carries nothing
 

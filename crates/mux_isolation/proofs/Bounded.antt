@@ -10,10 +10,10 @@ use Rattle.mux_history.specs.Policy.{Policy}
 use Rattle.mux_history.specs.Rows.{Admit, Gone, Heard, Item, Row, Says, Took, rows_of}
 use Rattle.mux_history.specs.Said.{Outcome, silent}
 use Rattle.mux_isolation.specs.Laws.{WaitsBounded}
+use Rattle.mux_history.proofs.Finds.{filter-no, filter-yes}
+use Rattle.mux_history.proofs.OwnRows.{same-client}
+use Rattle.mux_history.proofs.RightLogs.{LogKnown, by-treat}
 use Rattle.mux_isolation.proofs.Allowed.{row-split}
-use Rattle.mux_isolation.proofs.Everywhere.{LogKnown, by-treat}
-use Rattle.mux_isolation.proofs.Forwards.{same-client}
-use Rattle.mux_isolation.proofs.Meets.{filter-no, filter-yes}
 use Rattle.mux_isolation.proofs.Told.{master-told}
 
 le-from : (a b : ℕ) → nat_le a b ≡ true → a ≤ b

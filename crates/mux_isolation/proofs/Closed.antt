@@ -14,12 +14,13 @@ use Rattle.mux_history.specs.Right.{IsAdmitted}
 use Rattle.mux_history.specs.Rows.{Heard, Item, Row, Says, Took, any_of, is_admit, is_lost, is_out, is_refusal, loses, rows_of}
 use Rattle.mux_isolation.specs.Laws.{HasNothing}
 use Rattle.ssh_grammar.specs.declared.fault.Bad.{Bad}
-use Rattle.mux_isolation.proofs.Everywhere.{LogKnown, RowKnown}
-use Rattle.mux_isolation.proofs.Forwards.{for_of, forwarded-mine, forwardings-local, same-client}
-use Rattle.mux_isolation.proofs.Logs.{treat-item}
-use Rattle.mux_isolation.proofs.Meets.{filter-no, filter-yes}
-use Rattle.mux_isolation.proofs.Nexts.{by-next}
-use Rattle.mux_isolation.proofs.Treats.{client-of, or-left, or-right}
+use Rattle.mux_history.proofs.Bools.{or-left, or-right}
+use Rattle.mux_history.proofs.Finds.{filter-no, filter-yes}
+use Rattle.mux_history.proofs.ForwardsLocal.{for_of, forwarded-mine, forwardings-local}
+use Rattle.mux_history.proofs.LawfulItems.{client-of, treat-item}
+use Rattle.mux_history.proofs.Nexts.{by-next}
+use Rattle.mux_history.proofs.OwnRows.{same-client}
+use Rattle.mux_history.proofs.RightLogs.{LogKnown, RowKnown}
 
 abbrev EachF : (Forwarding → Bool) → List Forwarding → Type 0
 EachF test [] = Unit {0}

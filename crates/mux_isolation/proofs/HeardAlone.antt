@@ -18,20 +18,22 @@ use Rattle.ssh_grammar.specs.SpellMessage.{open_failure, wants, with_recipient}
 use Rattle.ssh_grammar.specs.declared.fault.Bad.{Bad}
 use Rattle.ssh_grammar.specs.declared.side.Side.TheVariants.{Down}
 use Rattle.mux_history.specs.declared.broke.Break.TheVariants as broke
+use Rattle.mux_history.proofs.Apart.{AreApart, NotLive, each-filter, find-none}
+use Rattle.mux_history.proofs.Askers.{Orderly, asker-local}
+use Rattle.mux_history.proofs.Dests.{Asked, Awaited, Confirmed, Legal, Offered, confirmed, dest-err, dest-ok, fails-awaited, offered, reached, refuses-asked, succeeds-asked, within-legal}
+use Rattle.mux_history.proofs.Finds.{Each, filter-no, filter-yes, find-no, find-yes}
+use Rattle.mux_history.proofs.ForwardsLocal.{live-local}
+use Rattle.mux_history.proofs.Local.{channels-local, is_of}
+use Rattle.mux_history.proofs.OwnRows.{all-of, rows-all}
 use Rattle.mux_history.proofs.Readings.{reading-ok}
 use Rattle.mux_history.proofs.Renumbered.{read-renamed, readdressed, renamed-twice}
+use Rattle.mux_history.proofs.Sends.{quiet-heard}
 use Rattle.mux_isolation.proofs.Alike.{Alike, breach-blind, count-alike, find-alike}
 use Rattle.mux_isolation.proofs.Alone.{asks-alone, lost-alone, waiting-alone, wanted-alone}
-use Rattle.mux_isolation.proofs.Askers.{Orderly, asker-local}
-use Rattle.mux_isolation.proofs.Dests.{Asked, Awaited, Confirmed, Legal, Offered, confirmed, dest-err, dest-ok, fails-awaited, offered, reached, refuses-asked, succeeds-asked, within-legal}
-use Rattle.mux_isolation.proofs.Forwards.{all-of, live-local}
-use Rattle.mux_isolation.proofs.Good.{Good, NotLive, each-filter, find-none}
-use Rattle.mux_isolation.proofs.Local.{channels-local, is_of}
-use Rattle.mux_isolation.proofs.Meets.{Each, Meets, filter-no, filter-yes, find-no, find-yes, own_numbered}
-use Rattle.mux_isolation.proofs.Moves.{quiet-heard}
+use Rattle.mux_isolation.proofs.Meets.{Meets, own_numbered}
 use Rattle.mux_isolation.proofs.Named.{Met, holder-local, met, named-heard, number-met, small-own}
 use Rattle.mux_isolation.proofs.Numbers.{AllNamed, channels-alone}
-use Rattle.mux_isolation.proofs.Rows.{AllSmall, alone-all, forwardings-alone, replies-alone, row-alone, rows-all, same-payload, seen_payload}
+use Rattle.mux_isolation.proofs.Rows.{AllSmall, alone-all, forwardings-alone, replies-alone, row-alone, same-payload, seen_payload}
 use Rattle.mux_isolation.proofs.Solos.{alone, alone_row}
 
 -- ---- look-ups alone
@@ -68,7 +70,7 @@ find-met n c (x ∷ xs) meets = by_case (find-met n c xs meets.1) (is_held x) re
             ∙ (find-no (λ (y : Channel). is_number y.number c) (own_numbered x) (filter is_held (map own_numbered xs)) g
             ∙ (ih ∙ sym (ap (λ ys. option_map own_numbered (find (λ (y : Channel). is_number y.number n) ys)) (filter-yes is_held x xs e) ∙ ap (option_map own_numbered) (find-no (λ (y : Channel). is_number y.number n) x (filter is_held xs) f))))
 
-module _ (before : List Row) (good : Good (channels_of before)) (orderly : Orderly before) (k : ℕ) (named : AllNamed (rows_of k before)) (small : AllSmall (rows_of k before)) where
+module _ (before : List Row) (good : AreApart (channels_of before)) (orderly : Orderly before) (k : ℕ) (named : AllNamed (rows_of k before)) (small : AllSmall (rows_of k before)) where
   abbrev own : List Row
   own = rows_of k before
 

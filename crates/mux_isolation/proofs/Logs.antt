@@ -1,32 +1,31 @@
 -- The facts of a right log, by induction over its items, and the isolation of each client.
 use Rattle.std.proofs.Common.{◌≡◌, ℕ, List, [], ◌∷◌, ◌++◌, true, false, Bool, refl, ◌∙◌, ap, arith, map, sym, Option, Some, None, subst}
-use Rattle.std.specs.Prelude.{◌==◌, ◌||◌, ◌&&◌}
+use Rattle.std.specs.Prelude.{◌==◌, ◌||◌}
 use Rattle.std.proofs.lemmas.Bool.Decides.{nat_tests}
 use Rattle.mux_history.specs.Channels.{channels_of, own_of}
-use Rattle.mux_history.specs.Choices.{Choices, FromLists, pick_of, replies_given, reply_at, said_number, with_reply}
-use Rattle.mux_history.specs.Controls.{body_asks, greeted}
-use Rattle.mux_history.specs.Heard.{Breaks, Dest, Disconnects, ToClient, ToMaster, dest, heard_for}
+use Rattle.mux_history.specs.Choices.{Choices, FromLists, pick_of, said_number, with_reply}
 use Rattle.mux_history.specs.Journal.{items}
-use Rattle.mux_history.specs.Log.{admits, bare, heard_row, log_of, makes_next, more_of, next_row, said_by_client, treat}
+use Rattle.mux_history.specs.Log.{admits, bare, log_of, makes_next, more_of, next_row, treat}
 use Rattle.mux_history.specs.Policy.{Policy}
 use Rattle.mux_history.specs.Requests.{replies}
 use Rattle.mux_history.specs.Right.{AreFresh}
 use Rattle.mux_history.specs.Rows.{Admit, BadServer, Gone, Heard, Item, Row, RunEnd, Says, ServerCut, ServerEnd, ServerFailed, Took, Unserved, any_of, is_admit, is_end, is_ended, rows_of}
 use Rattle.mux_history.specs.Said.{silent}
+use Rattle.mux_history.specs.Settings.{by_lists, by_own}
 use Rattle.mux_history.specs.Solo.{IsUnshared, end_of, item_for, items_for, run_end, seen_alone}
 use Rattle.mux_history.specs.declared.ended.Ended.{Ended}
-use Rattle.mux_isolation.specs.Settings.{by_lists, by_own}
 use Rattle.mux_outside.specs.declared.house.HouseReply.{HouseReply}
-use Rattle.ssh_grammar.specs.Said.{BadFraming, Body, Payload}
-use Rattle.mux_isolation.proofs.Askers.{Orderly, orderly-none, orderly-treat}
-use Rattle.mux_isolation.proofs.Good.{Good, same-number}
-use Rattle.mux_isolation.proofs.Known.{IsFresh, LawfulItem, SayingBytes, admits_client, good-treat}
-use Rattle.mux_isolation.proofs.Meets.{filter-no, filter-yes}
-use Rattle.mux_isolation.proofs.Nexts.{by-next, next-live, next-took}
+use Rattle.mux_history.proofs.Apart.{AreApart, same-number}
+use Rattle.mux_history.proofs.Askers.{Orderly, orderly-none, orderly-treat}
+use Rattle.mux_history.proofs.Bools.{or-left, or-right}
+use Rattle.mux_history.proofs.Finds.{filter-no, filter-yes}
+use Rattle.mux_history.proofs.KeepsApart.{IsFresh, LawfulItem, admits_client, good-treat}
+use Rattle.mux_history.proofs.LawfulItems.{LawfulIn, LawfulItems, client-of, reply-lawful, reply-next, rows-admits}
+use Rattle.mux_history.proofs.Nexts.{by-next, next-live, next-took}
 use Rattle.mux_isolation.proofs.Numbers.{AllNamed}
 use Rattle.mux_isolation.proofs.Rows.{AllSmall, SmallItem}
 use Rattle.mux_isolation.proofs.Solos.{alone, alone_row}
-use Rattle.mux_isolation.proofs.Treats.{AdmitFact, AdmitOnce, OwnFacts, Unrefused, admit-item, any-part, client-of, ended-part, item-of, no-admits, or-left, or-right, own-took, own-treat}
+use Rattle.mux_isolation.proofs.Treats.{AdmitFact, AdmitOnce, OwnFacts, Unrefused, admit-item, any-part, ended-part, no-admits, own-took, own-treat}
 use Rattle.mux_isolation.proofs.Unshared.{AllOwn, ended-alone, unshared}
 
 -- ---- what is known of a log
@@ -36,7 +35,7 @@ AllUnrefused [] = Unit {0}
 AllUnrefused (row ∷ before) = Unrefused row.item (is_admit row) × AllUnrefused before
 
 pub record LogFacts (policy : Policy) (pid k : ℕ) (rows : List Row) : Type 0 where
-  pub good : Good (channels_of rows)
+  pub good : AreApart (channels_of rows)
   pub orderly : is_ended rows ≡ false → Orderly rows
   pub named : AllNamed (rows_of k rows)
   pub small : AllSmall (rows_of k rows)
@@ -72,7 +71,7 @@ module _ (policy : Policy) (pid pick k : ℕ) (real : k ≡ 0 → ⊥) (before :
   once-item (RunEnd cause) lawful mine = tt
   once-item Unserved lawful mine = tt
 
-  next-good : Good (channels_of (treat policy pid pick before item ∷ before))
+  next-good : AreApart (channels_of (treat policy pid pick before item ∷ before))
   next-good = good-treat policy pid pick before item facts.good lawful fresh
 
   next-orderly : is_ended (treat policy pid pick before item ∷ before) ≡ false → Orderly (treat policy pid pick before item ∷ before)
@@ -124,76 +123,20 @@ module _ (policy : Policy) (pid pick k : ℕ) (real : k ≡ 0 → ⊥) (before :
       let parts : Parts (rows_of k (treat policy pid pick before item ∷ before)) = next-parts ((treat policy pid pick before item).client == k) refl in
       record { good = next-good; orderly = next-orderly; named = parts.named; small = parts.small; once = parts.once; own = parts.own_rows }
 
--- ---- the items
-
-abbrev pub LawfulIn : List Item → Item → Type 0
-LawfulIn before (Admit k) = any_of (admits_client k) before ≡ false
-LawfulIn before (Says k saying reply) = (k ≡ 0 → ⊥) × SayingBytes saying
-LawfulIn before item = Unit {0}
-
-abbrev pub LawfulItems : List Item → Type 0
-LawfulItems [] = Unit {0}
-LawfulItems (item ∷ before) = LawfulIn before item × LawfulItems before
-
-pub treat-item : (policy : Policy) (pid pick : ℕ) (before : List Row) (item : Item) → (treat policy pid pick before item).item ≡ item
-treat-item policy pid pick before (Admit k) = item-of (Admit k) k (admits before) (rows_of k before)
-treat-item policy pid pick before (Says k saying reply) = item-of (Says k saying reply) k (said_by_client policy pid k (rows_of k before) pick saying reply) (rows_of k before)
-treat-item policy pid pick before (Gone k) = item-of (Gone k) k silent (rows_of k before)
-treat-item policy pid pick before (Heard p) = by_dest (dest before p)
-  where
-    by_dest : (d : Dest) → (heard_row before p d).item ≡ Heard p
-    by_dest ToMaster = refl
-    by_dest (ToClient k) = item-of (Heard p) k (heard_for (rows_of k before) p) (rows_of k before)
-    by_dest Disconnects = refl
-    by_dest (Breaks why) = refl
-treat-item policy pid pick before item = refl
-
 module _ (policy : Policy) (pid : ℕ) (picks : List ℕ) (replies : List HouseReply) where
   abbrev lists : Choices
   lists = FromLists picks replies
-
-  -- the reply changes nothing of what is asked of an item
-  reply-admits : (k : ℕ) (rows : List Row) (item : Item) → admits_client k (with_reply lists rows item) ≡ admits_client k item
-  reply-admits k rows (Says j (Body body) reply) = elim (greeted (rows_of j rows) && body_asks body) as (λ b. admits_client k (elim b as (λ _. Item) [ true ↦ Says j (Body body) (Some (reply_at replies (replies_given rows))) | false ↦ Says j (Body body) None ]) ≡ false) [ true ↦ refl | false ↦ refl ]
-  reply-admits k rows (Says j (Payload p) reply) = refl
-  reply-admits k rows (Says j (BadFraming fault) reply) = refl
-  reply-admits k rows item = refl
-
-  pub reply-next : (rows : List Row) (item : Item) → makes_next rows item ≡ true → makes_next rows (with_reply lists rows item) ≡ true
-  reply-next rows (Says j (Body body) reply) may = elim (greeted (rows_of j rows) && body_asks body) as (λ b. makes_next rows (elim b as (λ _. Item) [ true ↦ Says j (Body body) (Some (reply_at replies (replies_given rows))) | false ↦ Says j (Body body) None ]) ≡ true) [ true ↦ may | false ↦ may ]
-  reply-next rows (Says j (Payload p) reply) may = may
-  reply-next rows (Says j (BadFraming fault) reply) may = may
-  reply-next rows item may = may
-
-  pub reply-lawful : (rows : List Row) (before : List Item) (item : Item) → ((k : ℕ) → any_of (admits_client k) before ≡ false → any_of (λ row. admits_client k row.item) rows ≡ false) → LawfulIn before item → LawfulItem rows (with_reply lists rows item)
-  reply-lawful rows before (Says j (Body body) reply) none lawful = elim (greeted (rows_of j rows) && body_asks body) as (λ b. LawfulItem rows (elim b as (λ _. Item) [ true ↦ Says j (Body body) (Some (reply_at replies (replies_given rows))) | false ↦ Says j (Body body) None ])) [ true ↦ lawful | false ↦ lawful ]
-  reply-lawful rows before (Says j (Payload p) reply) none lawful = lawful
-  reply-lawful rows before (Says j (BadFraming fault) reply) none lawful = lawful
-  reply-lawful rows before (Admit k) none lawful = none k lawful
-  reply-lawful rows before item none lawful = tt
-
-  -- the rows of items that do not admit a client do not
-  more-admits : (k : ℕ) (rows : List Row) (item : Item) → admits_client k item ≡ false → any_of (λ row. admits_client k row.item) rows ≡ false → any_of (λ row. admits_client k row.item) (more_of (by_lists policy pid picks replies) rows item) ≡ false
-  more-admits k rows item other none = by_next (makes_next rows item)
-    where
-      by_next : (b : Bool) → any_of (λ row. admits_client k row.item) (elim b as (λ _. List Row) [ false ↦ rows | true ↦ treat policy pid (pick_of lists rows item) rows (with_reply lists rows item) ∷ rows ]) ≡ false
-      by_next false = none
-      by_next true = ap (λ b. b || any_of (λ (row : Row). admits_client k row.item) rows) (ap (admits_client k) (treat-item policy pid (pick_of lists rows item) rows (with_reply lists rows item)) ∙ (reply-admits k rows item ∙ other)) ∙ none
-
-  pub rows-admits : (k : ℕ) (items : List Item) → any_of (admits_client k) items ≡ false → any_of (λ row. admits_client k row.item) (log_of (by_lists policy pid picks replies) items) ≡ false
-  rows-admits k [] none = refl
-  rows-admits k (item ∷ before) none = more-admits k (log_of (by_lists policy pid picks replies) before) item (or-left (admits_client k item) (any_of (admits_client k) before) none) (rows-admits k before (or-right (admits_client k item) (any_of (admits_client k) before) none))
 
   more-facts : (k : ℕ) → (k ≡ 0 → ⊥) → (rows : List Row) (before : List Item) (item : Item) → ((j : ℕ) → any_of (admits_client j) before ≡ false → any_of (λ row. admits_client j row.item) rows ≡ false) → LawfulIn before item → (AreFresh rows → LogFacts policy pid k rows) → AreFresh (more_of (by_lists policy pid picks replies) rows item) → LogFacts policy pid k (more_of (by_lists policy pid picks replies) rows item)
   more-facts k real rows before item none lawful ih fresh = by_next (makes_next rows item) refl fresh
     where
       by_next : (b : Bool) → makes_next rows item ≡ b → AreFresh (elim b as (λ _. List Row) [ false ↦ rows | true ↦ treat policy pid (pick_of lists rows item) rows (with_reply lists rows item) ∷ rows ]) → LogFacts policy pid k (elim b as (λ _. List Row) [ false ↦ rows | true ↦ treat policy pid (pick_of lists rows item) rows (with_reply lists rows item) ∷ rows ])
       by_next false e fresh = ih fresh
-      by_next true e fresh = next-facts policy pid (pick_of lists rows item) k real rows (with_reply lists rows item) (ih fresh.1) (reply-next rows item e) (reply-lawful rows before item none lawful) fresh.0
+      by_next true e fresh = next-facts policy pid (pick_of lists rows item) k real rows (with_reply lists rows item) (ih fresh.1) (reply-next policy pid picks replies rows item e) (reply-lawful policy pid picks replies rows before item none lawful) fresh.0
 
   pub log-facts : (k : ℕ) → (k ≡ 0 → ⊥) → (items : List Item) → LawfulItems items → AreFresh (log_of (by_lists policy pid picks replies) items) → LogFacts policy pid k (log_of (by_lists policy pid picks replies) items)
   log-facts k real [] lawful fresh = facts-none policy pid k
-  log-facts k real (item ∷ before) lawful fresh = more-facts k real (log_of (by_lists policy pid picks replies) before) before item (λ j none. rows-admits j before none) lawful.0 (λ f. log-facts k real before lawful.1 f) fresh
+  log-facts k real (item ∷ before) lawful fresh = more-facts k real (log_of (by_lists policy pid picks replies) before) before item (λ j none. rows-admits policy pid picks replies j before none) lawful.0 (λ f. log-facts k real before lawful.1 f) fresh
 
 -- ---- the client that is admitted
 

@@ -5,11 +5,9 @@ use Rattle.std.proofs.lemmas.Bool.Decides.{nat_tests}
 use Rattle.mux_history.specs.Channels.{Channel, is_held, is_number, with_down}
 use Rattle.mux_history.specs.Gist.{Act, Confirmation, Confirms, Within}
 use Rattle.ssh_grammar.specs.declared.side.Side.TheVariants.{Down}
-
--- each element
-abbrev pub Each : (Channel → Type 0) → List Channel → Type 0
-Each P [] = Unit {0}
-Each P (x ∷ xs) = P x × Each P xs
+use Rattle.mux_history.proofs.Apart.{AllApart, ApartFrom, each-both, each-filter}
+use Rattle.mux_history.proofs.Finds.{Each, filter-no, filter-yes, find-no, find-yes}
+use Rattle.mux_history.proofs.Local.{is_of}
 
 -- two channels that are not over have different numbers and different numbers of the client's own
 pub record Apart (x y : Channel) : Type 0 where
@@ -58,18 +56,6 @@ record Found (y : Channel) (n : ℕ) (x : Channel) : Type 0 where
   held : is_held x ≡ true
   holds : is_number x.number n ≡ true
   apart : Apart y x
-
-pub filter-yes : {X : Type 0} (test : X → Bool) (x : X) (xs : List X) → test x ≡ true → filter test (x ∷ xs) ≡ x ∷ filter test xs
-filter-yes test x xs h = rw h refl
-
-pub filter-no : {X : Type 0} (test : X → Bool) (x : X) (xs : List X) → test x ≡ false → filter test (x ∷ xs) ≡ filter test xs
-filter-no test x xs h = rw h refl
-
-pub find-yes : {X : Type 0} (test : X → Bool) (x : X) (xs : List X) → test x ≡ true → find test (x ∷ xs) ≡ Some x
-find-yes test x xs h = rw h refl
-
-pub find-no : {X : Type 0} (test : X → Bool) (x : X) (xs : List X) → test x ≡ false → find test (x ∷ xs) ≡ find test xs
-find-no test x xs h = rw h refl
 
 held_by-over : (n : ℕ) (z : Channel) (zs : List Channel) → is_held z ≡ false → held_by n (z ∷ zs) ≡ held_by n zs
 held_by-over n z zs over = ap (find (λ y. is_number y.number n)) (filter-no is_held z zs over)
@@ -138,3 +124,26 @@ confirmation-alone n c s w m x meets = subst (λ (b : Bool). (elim b as (λ _. C
     pick : (b : Bool) → (elim b as (λ _. Channel) [ true ↦ record x { number = x.own; remote = Some s; acts = (Down, Confirms w m) ∷ x.acts } | false ↦ own_numbered x ]) ≡ own_numbered (elim b as (λ _. Channel) [ true ↦ record x { remote = Some s; acts = (Down, Confirms w m) ∷ x.acts } | false ↦ x ])
     pick true = refl
     pick false = refl
+
+both-of : (a b k : ℕ) → (a == k) ≡ true → (b == k) ≡ true → (a == b) ≡ true
+both-of a b k e f = grind (arith, nat_tests)
+
+-- a client's channels are apart, their own numbers too
+pub distinct-of : (k : ℕ) (xs : List Channel) → AllApart xs → Distinct (filter (is_of k) xs)
+distinct-of k [] apart = tt
+distinct-of k (x ∷ xs) apart = by_case (distinct-of k xs apart.1) (x.client == k) refl
+  where
+    pair : (x.client == k) ≡ true → (y : Channel) → (y.client == k) ≡ true → ApartFrom x y → Apart x y
+    pair e y f a = record { numbers = λ h h' n u. a.numbers h h' n u; owns = λ h h' c u. a.owns h h' (both-of x.client y.client k e f) c u }
+
+    mine : (ys : List Channel) → Each (λ y. (y.client == k) ≡ true) (filter (is_of k) ys)
+    mine [] = tt
+    mine (y ∷ ys) = by_head (mine ys) (y.client == k) refl
+      where
+        by_head : Each (λ y. (y.client == k) ≡ true) (filter (is_of k) ys) → (b : Bool) → (y.client == k) ≡ b → Each (λ y. (y.client == k) ≡ true) (filter (is_of k) (y ∷ ys))
+        by_head ih true e = subst (Each (λ y. (y.client == k) ≡ true)) (sym (filter-yes (is_of k) y ys e)) (e, ih)
+        by_head ih false e = subst (Each (λ y. (y.client == k) ≡ true)) (sym (filter-no (is_of k) y ys e)) ih
+
+    by_case : Distinct (filter (is_of k) xs) → (b : Bool) → (x.client == k) ≡ b → Distinct (filter (is_of k) (x ∷ xs))
+    by_case ih true e = subst Distinct (sym (filter-yes (is_of k) x xs e)) (each-both (λ y. (y.client == k) ≡ true) (ApartFrom x) (Apart x) (pair e) (filter (is_of k) xs) (mine xs) (each-filter k (ApartFrom x) xs apart.0), ih)
+    by_case ih false e = subst Distinct (sym (filter-no (is_of k) x xs e)) ih

@@ -16,16 +16,18 @@ use Rattle.ssh_grammar.specs.SpellMessage.{with_sender}
 use Rattle.ssh_grammar.specs.declared.fault.Bad.{Bad}
 use Rattle.ssh_grammar.specs.declared.side.Side.TheVariants.{Up}
 use Rattle.mux_history.specs.declared.why.Why.TheVariants as why
+use Rattle.mux_history.proofs.Apart.{AreApart, Sound, each-filter, each-of, find-of}
+use Rattle.mux_history.proofs.Dests.{Reached, dest-err, dest-ok, reached}
+use Rattle.mux_history.proofs.Finds.{Each, filter-no, filter-yes, find-no, find-yes}
+use Rattle.mux_history.proofs.KeepsApart.{ok-same, opened-none, opened-plain, own-small, quiet-plain}
+use Rattle.mux_history.proofs.Local.{channels-local}
+use Rattle.mux_history.proofs.Quiets.{EachOf, Quiet}
 use Rattle.mux_history.proofs.Readings.{reading-ok}
 use Rattle.mux_history.proofs.Renumbered.{SenderIn, number-sent, readdressed, reads-sent, resent, sender-in, sent-again, spelled, word}
-use Rattle.mux_isolation.proofs.Dests.{Reached, dest-err, dest-ok, reached}
-use Rattle.mux_isolation.proofs.Good.{Good, Sound, distinct-of, each-filter, each-of, find-of}
+use Rattle.mux_history.proofs.Sends.{Sent, as_row, sent-by}
 use Rattle.mux_isolation.proofs.Heard.{Named}
-use Rattle.mux_isolation.proofs.Known.{ok-same, opened-none, opened-plain, own-small, quiet-plain}
-use Rattle.mux_isolation.proofs.Local.{channels-local}
-use Rattle.mux_isolation.proofs.Meets.{Distinct, Each, Meets, filter-no, filter-yes, find-no, find-yes, meets-all, own_numbered}
-use Rattle.mux_isolation.proofs.Moves.{Sent, as_row, sent-by}
-use Rattle.mux_isolation.proofs.Numbers.{EachOf, HeardOne, Numbered, Quiet, RowNamed, UpsNamed}
+use Rattle.mux_isolation.proofs.Meets.{Distinct, Meets, distinct-of, meets-all, own_numbered}
+use Rattle.mux_isolation.proofs.Numbers.{HeardOne, Numbered, RowNamed, UpsNamed}
 use Rattle.mux_isolation.proofs.Rows.{SmallItem, same-use, seen_payload}
 
 -- ---- what was found
@@ -70,7 +72,7 @@ pub record Met (own : List Row) (n : ℕ) : Type 0 where
   pub small : c < 4294967296
   pub meets : Each (Meets n c) (channels_of own)
 
-module _ (before : List Row) (good : Good (channels_of before)) (k : ℕ) where
+module _ (before : List Row) (good : AreApart (channels_of before)) (k : ℕ) where
   pub sound-own : Each Sound (channels_of (rows_of k before))
   sound-own = subst (Each Sound) (channels-local k before) (each-filter k Sound (channels_of before) good.each)
 

@@ -10,28 +10,18 @@ use Rattle.ssh_grammar.specs.Said.{heard}
 use Rattle.ssh_grammar.specs.SpellMessage.{with_sender}
 use Rattle.ssh_grammar.specs.declared.fault.Bad.{Bad}
 use Rattle.ssh_grammar.specs.declared.side.Side.TheVariants.{Up}
+use Rattle.mux_history.proofs.Finds.{Each}
+use Rattle.mux_history.proofs.Quiets.{EachOf, IsQuiet, Quiet}
 use Rattle.mux_history.proofs.Readings.{reading-ok}
 use Rattle.mux_history.proofs.Renumbered.{resent}
 use Rattle.mux_isolation.proofs.Heard.{Named, heard-alone}
-use Rattle.mux_isolation.proofs.Meets.{Each, own_numbered}
+use Rattle.mux_isolation.proofs.Meets.{own_numbered}
 use Rattle.mux_isolation.proofs.Solos.{alone, alone_row}
-
-abbrev pub IsQuiet : Gist → Type 0
-IsQuiet (Confirmation s n w m) = ⊥
-IsQuiet m = Unit {0}
-
--- a payload that is no confirmation, and one that is sent with the client's own number in its place
-abbrev pub Quiet : List ℕ → Type 0
-Quiet q = (m : Gist) → read_gist q ≡ Ok m → IsQuiet m
 
 pub record Numbered (c : ℕ) (q : List ℕ) : Type 0 where
   pub said : Gist
   pub reads : read_gist q ≡ Ok said
   pub again : read_gist (with_sender q c) ≡ Ok (resent c said)
-
-abbrev pub EachOf : (List ℕ → Type 0) → List (List ℕ) → Type 0
-EachOf P [] = Unit {0}
-EachOf P (q ∷ qs) = P q × EachOf P qs
 
 abbrev pub UpsNamed : Option ℕ → List (List ℕ) → Type 0
 UpsNamed None ups = EachOf Quiet ups

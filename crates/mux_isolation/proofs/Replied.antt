@@ -1,18 +1,18 @@
 -- What a reply tells its asker: the reply, and the refusals that waited behind it.
 use Rattle.std.proofs.Common.{◌≡◌, ℕ, zero, suc, ◌+◌, ◌<◌, List, [], ◌∷◌, ◌++◌, length, true, false, Bool, refl, ◌∙◌, ap, arith, map, sym, Option, Some, None, subst, Ok, Err, drop, length-append}
-use Rattle.std.specs.Prelude.{◌&&◌, not, Result, replicate, nat_le}
+use Rattle.std.specs.Prelude.{option_map, ◌&&◌, not, Result, replicate, nat_le}
 use Rattle.std.proofs.Math.Seq.{drop-append_seam}
 use Rattle.std.proofs.lemmas.List.{append-nil}
 use Rattle.std.proofs.lemmas.Option.{slice_get_within}
 use Rattle.mux_history.specs.Farewell.{farewell}
 use Rattle.mux_history.specs.Gist.{Gist, Refuses, Succeeds, read_gist, reading}
-use Rattle.mux_history.specs.Heard.{Breaks, Dest, Disconnects, ToClient, ToMaster, dest, for_client, for_lost, heard_for, heard_gist}
-use Rattle.mux_history.specs.Kept.{Asker, ForEach, TellsReply}
+use Rattle.mux_history.specs.Heard.{Breaks, Dest, Disconnects, ToClient, ToMaster, dest, dest_gist, dest_success, for_client, for_lost, heard_for, heard_gist}
+use Rattle.mux_history.specs.Kept.{Asker, ForEach, ReachesAsker, TellsReply}
 use Rattle.mux_history.specs.Log.{all_told, bare, fate_with, fitting, heard_row, new_answers, overflow, queued, row_of, treat}
 use Rattle.mux_history.specs.Pending.{waiting_down}
 use Rattle.mux_history.specs.Policy.{Policy}
-use Rattle.mux_history.specs.Requests.{answers, answers_to, asks, asks_of, is_reply, is_sent, replies, reply_in, sent_flags, wanted, wanted_by}
-use Rattle.mux_history.specs.Rows.{Goes, Heard, Item, Row, is_lost, loses, rows_of}
+use Rattle.mux_history.specs.Requests.{Ask, answers, answers_to, asker, asks, asks_of, is_reply, is_sent, replies, reply_in, sent_flags, wanted, wanted_by}
+use Rattle.mux_history.specs.Rows.{Goes, Heard, Item, Row, is_end, is_lost, loses, rows_of}
 use Rattle.mux_history.specs.Said.{Outcome, silent}
 use Rattle.mux_history.specs.declared.why.Why.{Why}
 use Rattle.ssh_grammar.specs.Frames.{frame_payload}
@@ -21,12 +21,53 @@ use Rattle.ssh_grammar.specs.Said.{heard}
 use Rattle.ssh_grammar.specs.SpellMessage.{request_failure}
 use Rattle.ssh_grammar.specs.declared.fault.Bad.{Bad}
 use Rattle.mux_history.specs.declared.why.Why.TheVariants as why
+use Rattle.mux_history.proofs.Askers.{Orderly, asker-local, master-asker, success-never}
+use Rattle.mux_history.proofs.Dests.{Asked, dest-err, dest-ok, refuses-asked, succeeds-asked}
+use Rattle.mux_history.proofs.LawfulItems.{client-of, treat-item}
 use Rattle.mux_history.proofs.Readings.{reading-ok}
-use Rattle.mux_isolation.proofs.Askers.{Orderly, asker-local}
-use Rattle.mux_isolation.proofs.Dests.{Asked}
-use Rattle.mux_isolation.proofs.Everywhere.{LogKnown, by-treat, reply-asked, reply-never, serves}
-use Rattle.mux_isolation.proofs.Logs.{treat-item}
-use Rattle.mux_isolation.proofs.Treats.{client-of}
+use Rattle.mux_history.proofs.RightLogs.{LogKnown, by-treat}
+
+-- ---- each reply reaches its asker
+
+pub reply-asked : (before : List Row) (k : ℕ) (p : List ℕ) → reading p is_reply false ≡ true → dest before p ≡ ToClient k → Asked before k
+reply-asked before k p reply to = by_case (read_gist p) refl
+  where
+    by_message : (m : Gist) → is_reply m ≡ true → dest_gist before m ≡ ToClient k → Asked before k
+    by_message (Succeeds rest) r e = succeeds-asked before rest k e
+    by_message Refuses r e = refuses-asked before k e
+    by_message m r e = cc
+
+    by_case : (r : Result Gist Bad) → read_gist p ≡ r → Asked before k
+    by_case (Err bad) reads = let x : Breaks _ ≡ ToClient k = sym (dest-err before p bad reads) ∙ to in absurd (let h = x in cc)
+    by_case (Ok m) reads = by_message m (sym (reading-ok p m is_reply false reads) ∙ reply) (sym (dest-ok before p m reads) ∙ to)
+
+pub reply-never : (before : List Row) (p : List ℕ) → reading p is_reply false ≡ true → dest before p ≡ ToMaster → ⊥
+reply-never before p reply to = by_case (read_gist p) refl
+  where
+    to_client_never : (a : Ask) → ToClient a.client ≡ ToMaster → ⊥
+    to_client_never a e = cc
+
+    by_message : (m : Gist) → is_reply m ≡ true → dest_gist before m ≡ ToMaster → ⊥
+    by_message (Succeeds rest) r e = master-asker (asker before) (dest_success rest) (success-never rest) e
+    by_message Refuses r e = master-asker (asker before) (λ a. ToClient a.client) to_client_never e
+    by_message m r e = cc
+
+    by_case : (r : Result Gist Bad) → read_gist p ≡ r → ⊥
+    by_case (Err bad) reads = let x : Breaks _ ≡ ToMaster = sym (dest-err before p bad reads) ∙ to in absurd (let h = x in cc)
+    by_case (Ok m) reads = by_message m (sym (reading-ok p m is_reply false reads) ∙ reply) (sym (dest-ok before p m reads) ∙ to)
+
+pub serves : (policy : Policy) (pid pick : ℕ) (before : List Row) (item : Item) → ReachesAsker before (treat policy pid pick before item)
+serves policy pid pick before item p is reply on = by_item item (sym (treat-item policy pid pick before item) ∙ is) on
+  where
+    by_dest : (d : Dest) → dest before p ≡ d → is_end (heard_row before p d).fate ≡ false → option_map (λ a. a.client) (asker before) ≡ Some (heard_row before p d).client
+    by_dest ToMaster to on = absurd (reply-never before p reply to)
+    by_dest (ToClient k) to on = let a : Asked before k = reply-asked before k p reply to in ap (option_map (λ (a : Ask). a.client)) a.is ∙ ap Some (a.client ∙ sym (client-of (Heard p) k (heard_for (rows_of k before) p) (rows_of k before)))
+    by_dest Disconnects to on = cc
+    by_dest (Breaks why) to on = cc
+
+    by_item : (i : Item) → i ≡ Heard p → is_end (treat policy pid pick before i).fate ≡ false → option_map (λ a. a.client) (asker before) ≡ Some (treat policy pid pick before i).client
+    by_item (Heard q) e on = let same : p ≡ q = cc in subst (λ (r : List ℕ). is_end (heard_row before r (dest before r)).fate ≡ false → option_map (λ a. a.client) (asker before) ≡ Some (heard_row before r (dest before r)).client) same (by_dest (dest before p) refl) on
+    by_item i e on = cc
 
 -- ---- one more reply answers one request and those refused behind it
 

@@ -16,11 +16,12 @@ use Rattle.ssh_grammar.specs.Frames.{frame_payload}
 use Rattle.ssh_grammar.specs.Said.{Payload}
 use Rattle.ssh_grammar.specs.SpellMessage.{with_recipient}
 use Rattle.ssh_grammar.specs.declared.fault.Bad.{Bad}
+use Rattle.mux_history.proofs.OwnRows.{AllOf, rows-all}
 use Rattle.mux_history.proofs.Readings.{reading-err, reading-ok}
 use Rattle.mux_history.proofs.Renumbered.{read-renamed, readdressed}
 use Rattle.mux_isolation.proofs.Alike.{held-own, numbered}
 use Rattle.mux_isolation.proofs.Alone.{asks-alone, loses-alone, lost-alone, waiting-alone, wanted-alone}
-use Rattle.mux_isolation.proofs.Meets.{filter-yes, own_numbered}
+use Rattle.mux_isolation.proofs.Meets.{own_numbered}
 use Rattle.mux_isolation.proofs.Numbers.{AllNamed, RowNamed, channels-alone}
 use Rattle.mux_isolation.proofs.Solos.{alone, alone_row}
 
@@ -112,15 +113,6 @@ forwarded-alone own row fs small all = by_item row.item small
 
 dropped-alone : (own : List Row) (row : Row) (fs : List Forwarding) → dropped (alone_row own row) fs ≡ dropped row fs
 dropped-alone own row fs = ap (λ b. elim b as (λ _. List Forwarding) [ true ↦ map (of_client row.client (λ f. record f { over = true })) fs | false ↦ fs ]) (loses-alone own row)
-
--- all rows are the client's
-abbrev pub AllOf : ℕ → List Row → Type 0
-AllOf k [] = Unit {0}
-AllOf k (row ∷ before) = ((row.client == k) ≡ true) × AllOf k before
-
-pub rows-all : (k : ℕ) (own : List Row) → AllOf k own → rows_of k own ≡ own
-rows-all k [] all = refl
-rows-all k (row ∷ own) all = filter-yes (λ (r : Row). r.client == k) row own all.0 ∙ ap (λ rs. row ∷ rs) (rows-all k own all.1)
 
 pub alone-all : (k : ℕ) (own : List Row) → AllOf k own → AllOf k (alone own)
 alone-all k [] all = tt

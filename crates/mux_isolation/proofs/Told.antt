@@ -28,14 +28,15 @@ use Rattle.ssh_grammar.specs.declared.numbers.TheConstants.{VERSION}
 use Rattle.ssh_grammar.specs.declared.side.Side.TheVariants.{Down, Up}
 use Rattle.mux_history.specs.declared.why.Why.TheVariants as why
 use Rattle.ssh_grammar.specs.declared.fault.BadControl.TheVariants as bad_control
+use Rattle.mux_history.proofs.Apart.{AreApart}
+use Rattle.mux_history.proofs.Dests.{Legal, Offered, dest-ok, offered, reached, within-legal}
+use Rattle.mux_history.proofs.Finds.{Each, filter-no, filter-yes, find-no, find-yes}
+use Rattle.mux_history.proofs.KeepsApart.{ok-same}
 use Rattle.mux_history.proofs.Renumbered.{read-renamed, readdressed}
+use Rattle.mux_history.proofs.RightLogs.{LogKnown, by-treat}
 use Rattle.mux_isolation.proofs.Allowed.{IsHarmless, fits-of, harmless-failure, row-split}
-use Rattle.mux_isolation.proofs.Dests.{Legal, Offered, dest-ok, offered, reached, within-legal}
-use Rattle.mux_isolation.proofs.Everywhere.{LogKnown, by-treat}
-use Rattle.mux_isolation.proofs.Good.{Good}
-use Rattle.mux_isolation.proofs.Known.{ok-same}
 use Rattle.mux_isolation.proofs.Mays.{MayTell, TellsAllowed}
-use Rattle.mux_isolation.proofs.Meets.{Each, Meets, filter-no, filter-yes, find-no, find-yes}
+use Rattle.mux_isolation.proofs.Meets.{Meets}
 use Rattle.mux_isolation.proofs.Named.{Met, holder-local, met, number-met}
 
 abbrev pub TellOk : List Row → ℕ → List ℕ → Type 0
@@ -251,7 +252,7 @@ find-own-met n c (x ∷ xs) meets = by_held (find-own-met n c xs meets.1) (is_he
             ∙ (find-no (λ (y : Channel). is_number y.own c) x (filter is_held xs) g
             ∙ (ih ∙ sym (ap (find (λ (y : Channel). is_number y.number n)) (filter-yes is_held x xs e) ∙ find-no (λ (y : Channel). is_number y.number n) x (filter is_held xs) f)))
 
-module _ (before : List Row) (good : Good (channels_of before)) (k : ℕ) (p : List ℕ) where
+module _ (before : List Row) (good : AreApart (channels_of before)) (k : ℕ) (p : List ℕ) where
   some-same : (x y : Channel) → Some x ≡ Some y → x ≡ y
   some-same x y e = cc
 
@@ -315,13 +316,13 @@ master-told p = by_case (read_gist p)
     by_case (Err bad) = refl
     by_case (Ok m) = by_message m
 
-down-heard : (before : List Row) → Good (channels_of before) → (p : List ℕ) (d : Dest) → dest before p ≡ d → TellsAllowed before (heard_row before p d)
+down-heard : (before : List Row) → AreApart (channels_of before) → (p : List ℕ) (d : Dest) → dest before p ≡ d → TellsAllowed before (heard_row before p d)
 down-heard before good p ToMaster e = subst (Every (TellOk before 0)) (sym (master-told p)) tt
 down-heard before good p (ToClient k) e = down-row before (Heard p) k (heard_for (rows_of k before) p) (heard-tell before good k p e)
 down-heard before good p Disconnects e = tt
 down-heard before good p (Breaks why) e = tt
 
-down-treat : (policy : Policy) (pid pick : ℕ) (before : List Row) (item : Item) → Good (channels_of before) → TellsAllowed before (treat policy pid pick before item)
+down-treat : (policy : Policy) (pid pick : ℕ) (before : List Row) (item : Item) → AreApart (channels_of before) → TellsAllowed before (treat policy pid pick before item)
 down-treat policy pid pick before (Admit k) good = down-row before (Admit k) k (admits before) (admits-tell before k)
 down-treat policy pid pick before (Says k (Payload p) reply) good = down-row before (Says k (Payload p) reply) k (said_payload policy k (rows_of k before) pick p) (payload-tell before k policy (rows_of k before) pick p)
 down-treat policy pid pick before (Says k (Body body) reply) good = down-row before (Says k (Body body) reply) k (said_body pid k reply (greeted (rows_of k before)) body) (body-tell before k pid reply (greeted (rows_of k before)) body)

@@ -20,20 +20,23 @@ use Rattle.ssh_grammar.specs.declared.fault.Bad.{Bad}
 use Rattle.ssh_grammar.specs.declared.fault.BadFrame.{BadFrame}
 use Rattle.ssh_grammar.specs.declared.numbers.TheConstants.{VERSION}
 use Rattle.mux_history.specs.declared.why.Why.TheVariants as why
+use Rattle.mux_history.proofs.Apart.{AreApart}
+use Rattle.mux_history.proofs.Askers.{Orderly}
+use Rattle.mux_history.proofs.Bools.{or-left, or-right}
+use Rattle.mux_history.proofs.Finds.{filter-no, filter-yes}
+use Rattle.mux_history.proofs.KeepsApart.{LawfulItem, admits_client}
+use Rattle.mux_history.proofs.LawfulItems.{client-of, item-of}
+use Rattle.mux_history.proofs.OwnRows.{all-of, rows-all}
+use Rattle.mux_history.proofs.Quiets.{EachOf, Quiet}
 use Rattle.mux_history.proofs.Readings.{reading-err, reading-ok}
 use Rattle.mux_history.proofs.Renumbered.{sender-in, sent-again}
+use Rattle.mux_history.proofs.Sends.{admits-sent, as_row, body-sent, quiet-heard, row-parts}
 use Rattle.mux_isolation.proofs.Alike.{message-said, numbered}
 use Rattle.mux_isolation.proofs.Alone.{loses-alone}
-use Rattle.mux_isolation.proofs.Askers.{Orderly}
-use Rattle.mux_isolation.proofs.Forwards.{all-of}
-use Rattle.mux_isolation.proofs.Good.{Good}
 use Rattle.mux_isolation.proofs.HeardAlone.{alike, heard-treats}
-use Rattle.mux_isolation.proofs.Known.{LawfulItem, admits_client}
-use Rattle.mux_isolation.proofs.Meets.{filter-no, filter-yes}
-use Rattle.mux_isolation.proofs.Moves.{admits-sent, as_row, body-sent, quiet-heard, row-parts}
 use Rattle.mux_isolation.proofs.Named.{named-heard, named-mute, named-said, small-item}
-use Rattle.mux_isolation.proofs.Numbers.{AllNamed, EachOf, Quiet, RowNamed}
-use Rattle.mux_isolation.proofs.Rows.{AllSmall, SmallItem, alone-all, row-alone, rows-all}
+use Rattle.mux_isolation.proofs.Numbers.{AllNamed, RowNamed}
+use Rattle.mux_isolation.proofs.Rows.{AllSmall, SmallItem, alone-all, row-alone}
 use Rattle.mux_isolation.proofs.Solos.{alone, alone_row}
 
 -- ---- the admission
@@ -45,14 +48,6 @@ AdmitFact k before item = Unit {0}
 abbrev pub AdmitOnce : ℕ → List Row → Type 0
 AdmitOnce k [] = Unit {0}
 AdmitOnce k (row ∷ before) = AdmitFact k before row.item × AdmitOnce k before
-
-pub or-left : (a b : Bool) → (a || b) ≡ false → a ≡ false
-or-left true b e = cc
-or-left false b e = refl
-
-pub or-right : (a b : Bool) → (a || b) ≡ false → b ≡ false
-or-right true b e = cc
-or-right false b e = e
 
 pub admit-alone : (own : List Row) (row : Row) → is_admit (alone_row own row) ≡ is_admit row
 admit-alone own row = by_item row.item row.fate
@@ -128,14 +123,8 @@ pub record OwnFacts (policy : Policy) (pid k : ℕ) (own : List Row) (item : Ite
   pub makes : makes_row (alone own) (item_for own item) ≡ true
   pub treats : Unrefused item (is_admit row) → treat policy pid (said_number (own_of (item_for own item))) (alone own) (item_for own item) ≡ alone_row own row
 
-pub client-of : (item : Item) (k : ℕ) (o : Outcome) (own : List Row) → (row_of item k o own).client ≡ k
-client-of item k o own = row-parts (λ r. r.client ≡ k) item k o own (λ fw parting down fate. refl)
-
-pub item-of : (item : Item) (k : ℕ) (o : Outcome) (own : List Row) → (row_of item k o own).item ≡ item
-item-of item k o own = row-parts (λ r. r.item ≡ item) item k o own (λ fw parting down fate. refl)
-
 -- what is taken, after the end of the run too
-pub own-took : (policy : Policy) (pid : ℕ) (before : List Row) → Good (channels_of before) → (k size : ℕ) → AllNamed (rows_of k before) → OwnFacts policy pid k (rows_of k before) (Took k size) (bare (Took k size) k silent)
+pub own-took : (policy : Policy) (pid : ℕ) (before : List Row) → AreApart (channels_of before) → (k size : ℕ) → AllNamed (rows_of k before) → OwnFacts policy pid k (rows_of k before) (Took k size) (bare (Took k size) k silent)
 own-took policy pid before good k size named = record {
   client = refl;
   is = refl;
@@ -145,7 +134,7 @@ own-took policy pid before good k size named = record {
   treats = λ admitted. refl;
 }
 
-module _ (policy : Policy) (pid pick : ℕ) (before : List Row) (good : Good (channels_of before)) (orderly : Orderly before) where
+module _ (policy : Policy) (pid pick : ℕ) (before : List Row) (good : AreApart (channels_of before)) (orderly : Orderly before) where
   makes-same : (k : ℕ) (item : Item) → (makes_row (alone (rows_of k before)) item ≡ not (is_out (rows_of k (alone (rows_of k before))))) → not (is_out (rows_of k before)) ≡ true → makes_row (alone (rows_of k before)) item ≡ true
   makes-same k item is yes_it = is ∙ (ap (λ rows. not (is_out rows)) (rows-all k (alone (rows_of k before)) (alone-all k (rows_of k before) (all-of k before))) ∙ (ap not (out-alone (rows_of k before)) ∙ yes_it))
 

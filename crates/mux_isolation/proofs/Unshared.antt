@@ -6,10 +6,9 @@ use Rattle.mux_history.specs.Choices.{said_number}
 use Rattle.mux_history.specs.Log.{log_of, makes_next, more_of, treat}
 use Rattle.mux_history.specs.Policy.{Policy}
 use Rattle.mux_history.specs.Rows.{Item, Row, is_end, is_ended}
+use Rattle.mux_history.specs.Settings.{by_own}
 use Rattle.mux_history.specs.Solo.{item_for, items_for, seen, seen_alone}
-use Rattle.mux_isolation.specs.Settings.{by_own}
-use Rattle.mux_isolation.proofs.Idle.{seen-alone}
-use Rattle.mux_isolation.proofs.Solos.{alone, alone_row}
+use Rattle.mux_isolation.proofs.Solos.{alone, alone_row, seen-alone}
 
 -- what is known of each row of a client
 pub record RowOwn (policy : Policy) (pid : ℕ) (before : List Row) (row : Row) : Type 0 where

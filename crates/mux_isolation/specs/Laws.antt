@@ -15,7 +15,7 @@ use Rattle.mux_history.specs.Log.{Setting}
 use Rattle.mux_history.specs.Journal.{IsLawful}
 use Rattle.mux_history.specs.Right.{IsRight, IsAdmitted}
 use Rattle.mux_history.specs.Kept.{AtEach, ForEach, Window, Permission, Asker, NumbersApart, Unshared}
-use Rattle.mux_isolation.specs.Settings.{by_lists}
+use Rattle.mux_history.specs.Settings.{by_lists}
 
 abbrev pub OverRight : (Setting → List Row → Type 0) → Type 0
 OverRight P = (policy : Policy) (pid : ℕ) (picks : List ℕ) (given : List HouseReply) (marks : List Mark) (left : ℕ) (rows : List Row) → IsLawful marks → IsRight (by_lists policy pid picks given) marks left rows → P (by_lists policy pid picks given) rows

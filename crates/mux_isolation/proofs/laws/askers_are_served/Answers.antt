@@ -1,5 +1,5 @@
 -- Replies reach their askers.
-use Rattle.mux_isolation.proofs.Everywhere.{right-known}
+use Rattle.mux_history.proofs.RightLogs.{right-known}
 use Rattle.mux_isolation.proofs.Replied.{askers-served}
 use Rattle.mux_isolation.proofs.laws.askers_are_served.Goals as goal
 

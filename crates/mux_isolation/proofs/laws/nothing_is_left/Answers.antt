@@ -1,5 +1,5 @@
 -- Closed matters leave nothing.
-use Rattle.mux_isolation.proofs.Everywhere.{right-known}
+use Rattle.mux_history.proofs.RightLogs.{right-known}
 use Rattle.mux_isolation.proofs.Closed.{nothing-left}
 use Rattle.mux_isolation.proofs.laws.nothing_is_left.Goals as goal
 

@@ -1,5 +1,5 @@
 -- No number is held twice.
-use Rattle.mux_isolation.proofs.Everywhere.{numbers-apart}
+use Rattle.mux_history.proofs.RightLogs.{numbers-apart}
 use Rattle.mux_isolation.proofs.laws.numbers_are_apart.Goals as goal
 
 pub returns : goal.returns

@@ -1,5 +1,5 @@
 -- One index serves all look-ups.
-use Rattle.mux_isolation.proofs.Everywhere.{right-known}
+use Rattle.mux_history.proofs.RightLogs.{right-known}
 use Rattle.mux_isolation.proofs.Indexed.{one-index}
 use Rattle.mux_isolation.proofs.laws.one_index_serves.Goals as goal
 

@@ -1,5 +1,5 @@
 -- What is opened and listened on is permitted.
-use Rattle.mux_isolation.proofs.Everywhere.{right-known}
+use Rattle.mux_history.proofs.RightLogs.{right-known}
 use Rattle.mux_isolation.proofs.Allowed.{ups-allowed}
 use Rattle.mux_isolation.proofs.Told.{downs-allowed}
 use Rattle.mux_isolation.proofs.Mays.{permissions}

@@ -1,5 +1,5 @@
 -- Queues are bounded.
-use Rattle.mux_isolation.proofs.Everywhere.{right-known}
+use Rattle.mux_history.proofs.RightLogs.{right-known}
 use Rattle.mux_isolation.proofs.Bounded.{queues-bounded}
 use Rattle.mux_isolation.proofs.laws.queues_are_bounded.Goals as goal
 

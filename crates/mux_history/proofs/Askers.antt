@@ -17,10 +17,10 @@ use Rattle.ssh_grammar.specs.Messages.{Cancel, Forward, Global, KeepAlive, Other
 use Rattle.ssh_grammar.specs.SpellMessage.{wants}
 use Rattle.ssh_grammar.specs.declared.fault.Bad.{Bad}
 use Rattle.mux_history.specs.declared.broke.Break.TheVariants as broke
+use Rattle.mux_history.proofs.Dests.{Asked, dest-err, dest-ok, refuses-asked, succeeds-asked}
+use Rattle.mux_history.proofs.Finds.{filter-no, filter-yes}
 use Rattle.mux_history.proofs.Readings.{reading-ok}
-use Rattle.mux_isolation.proofs.Dests.{Asked, dest-err, dest-ok, refuses-asked, succeeds-asked}
-use Rattle.mux_isolation.proofs.Meets.{filter-no, filter-yes}
-use Rattle.mux_isolation.proofs.Moves.{as_row, row-parts}
+use Rattle.mux_history.proofs.Sends.{as_row, row-parts}
 
 abbrev pub asks_for : ℕ → Ask → Bool
 asks_for k a = a.client == k

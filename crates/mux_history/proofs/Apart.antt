@@ -5,8 +5,8 @@ use Rattle.std.proofs.lemmas.Bool.Decides.{nat_tests}
 use Rattle.mux_history.specs.Channels.{Channel, is_held, is_number}
 use Rattle.mux_history.specs.Gist.{Confirms}
 use Rattle.ssh_grammar.specs.declared.side.Side.TheVariants.{Down, Up}
-use Rattle.mux_isolation.proofs.Local.{is_of}
-use Rattle.mux_isolation.proofs.Meets.{Apart, Distinct, Each, filter-no, filter-yes, find-no, find-yes}
+use Rattle.mux_history.proofs.Finds.{Each, filter-no, filter-yes, find-no, find-yes}
+use Rattle.mux_history.proofs.Local.{is_of}
 
 -- what holds of each channel
 pub record Sound (x : Channel) : Type 0 where
@@ -15,18 +15,18 @@ pub record Sound (x : Channel) : Type 0 where
   pub small : (c : ℕ) → x.own ≡ Some c → c < 4294967296
 
 -- and of two
-pub record Apart3 (x y : Channel) : Type 0 where
+pub record ApartFrom (x y : Channel) : Type 0 where
   pub numbers : is_held x ≡ true → is_held y ≡ true → (n : ℕ) → is_number x.number n ≡ true → is_number y.number n ≡ false
   pub remotes : is_held x ≡ true → is_held y ≡ true → (n : ℕ) → is_number x.remote n ≡ true → is_number y.remote n ≡ false
   pub owns : is_held x ≡ true → is_held y ≡ true → (x.client == y.client) ≡ true → (c : ℕ) → is_number x.own c ≡ true → is_number y.own c ≡ false
 
-abbrev pub Distinct3 : List Channel → Type 0
-Distinct3 [] = Unit {0}
-Distinct3 (x ∷ xs) = Each (Apart3 x) xs × Distinct3 xs
+abbrev pub AllApart : List Channel → Type 0
+AllApart [] = Unit {0}
+AllApart (x ∷ xs) = Each (ApartFrom x) xs × AllApart xs
 
-pub record Good (xs : List Channel) : Type 0 where
+pub record AreApart (xs : List Channel) : Type 0 where
   pub each : Each Sound xs
-  pub apart : Distinct3 xs
+  pub apart : AllApart xs
 
 -- ---- a change that keeps what names a channel
 
@@ -43,7 +43,7 @@ ids-self x = record { client = refl; number = refl; own = refl; remote = refl; h
 pub ids-then : (x y z : Channel) → Ids x y → Ids y z → Ids x z
 ids-then x y z a b = record { client = b.client ∙ a.client; number = b.number ∙ a.number; own = b.own ∙ a.own; remote = b.remote ∙ a.remote; held = λ h. a.held (b.held h) }
 
-apart-ids : (x y x' y' : Channel) → Ids x x' → Ids y y' → Apart3 x y → Apart3 x' y'
+apart-ids : (x y x' y' : Channel) → Ids x x' → Ids y y' → ApartFrom x y → ApartFrom x' y'
 apart-ids x y x' y' a b apart = record {
   numbers = λ h k n e. ap (λ o. is_number o n) b.number ∙ apart.numbers (a.held h) (b.held k) n (sym (ap (λ o. is_number o n) a.number) ∙ e);
   remotes = λ h k n e. ap (λ o. is_number o n) b.remote ∙ apart.remotes (a.held h) (b.held k) n (sym (ap (λ o. is_number o n) a.remote) ∙ e);
@@ -71,11 +71,11 @@ pub each-of : (P Q : Channel → Type 0) → ((x : Channel) → P x → Q x) →
 each-of P Q step [] a = tt
 each-of P Q step (x ∷ xs) a = (step x a.0, each-of P Q step xs a.1)
 
-apart-map : (O : Channel → Type 0) (g : Channel → Channel) → ((x y : Channel) → O x → O y → Apart3 x y → Apart3 (g x) (g y)) → (xs : List Channel) → Each O xs → Distinct3 xs → Distinct3 (map g xs)
+apart-map : (O : Channel → Type 0) (g : Channel → Channel) → ((x y : Channel) → O x → O y → ApartFrom x y → ApartFrom (g x) (g y)) → (xs : List Channel) → Each O xs → AllApart xs → AllApart (map g xs)
 apart-map O g step [] fine apart = tt
-apart-map O g step (x ∷ xs) fine apart = (each-map (λ y. O y × Apart3 x y) (Apart3 (g x)) g (λ y h. step x y fine.0 h.0 h.1) xs (each-both O (Apart3 x) (λ y. O y × Apart3 x y) (λ y a b. (a, b)) xs fine.1 apart.0), apart-map O g step xs fine.1 apart.1)
+apart-map O g step (x ∷ xs) fine apart = (each-map (λ y. O y × ApartFrom x y) (ApartFrom (g x)) g (λ y h. step x y fine.0 h.0 h.1) xs (each-both O (ApartFrom x) (λ y. O y × ApartFrom x y) (λ y a b. (a, b)) xs fine.1 apart.0), apart-map O g step xs fine.1 apart.1)
 
-pub good-ids : (g : Channel → Channel) → ((x : Channel) → Sound x → Ids x (g x)) → (xs : List Channel) → Good xs → Good (map g xs)
+pub good-ids : (g : Channel → Channel) → ((x : Channel) → Sound x → Ids x (g x)) → (xs : List Channel) → AreApart xs → AreApart (map g xs)
 good-ids g ids xs good = record {
   each = each-map Sound Sound g (λ x s. sound-ids x (g x) (ids x s) s) xs good.each;
   apart = apart-map Sound g (λ x y o o' a. apart-ids x y (g x) (g y) (ids x o) (ids y o') a) xs good.each good.apart;
@@ -123,7 +123,7 @@ pub record BroughtUp (k c n s w m : ℕ) (x y : Channel) : Type 0 where
 abbrev pub UpStep : ℕ → ℕ → ℕ → ℕ → ℕ → ℕ → Channel → Channel → Type 0
 UpStep k c n s w m x y = Ids x y ⊎ BroughtUp k c n s w m x y
 
-up-apart : (k c n s w m : ℕ) (x y x' y' : Channel) → Unused n k c x → Unused n k c y → UpStep k c n s w m x x' → UpStep k c n s w m y y' → Apart3 x y → Apart3 x' y'
+up-apart : (k c n s w m : ℕ) (x y x' y' : Channel) → Unused n k c x → Unused n k c y → UpStep k c n s w m x x' → UpStep k c n s w m y y' → ApartFrom x y → ApartFrom x' y'
 up-apart k c n s w m x y x' y' u v (inl a) (inl b) apart = apart-ids x y x' y' a b apart
 up-apart k c n s w m x y x' y' u v (inr a) (inl b) apart = apart-ids (brought_up c n w m x) y x' y' a.ids b (record {
   numbers = λ h h' j e. subst (λ (i : ℕ). is_number y.number i ≡ false) (same-number n j e) (v.number h');
@@ -141,7 +141,7 @@ up-sound : (k c n s w m : ℕ) (x y : Channel) → c < 4294967296 → UpStep k c
 up-sound k c n s w m x y lt (inl a) sound = sound-ids x y a sound
 up-sound k c n s w m x y lt (inr a) sound = sound-ids (brought_up c n w m x) y a.ids (record { client = sound.client; owned = λ j e. (c, refl); small = λ j e. let same : c ≡ j = cc in subst (λ (i : ℕ). i < 4294967296) same lt })
 
-pub good-up : (k c n s w m : ℕ) (g : Channel → Channel) → c < 4294967296 → ((x : Channel) → UpStep k c n s w m x (g x)) → (xs : List Channel) → Each (Unused n k c) xs → Good xs → Good (map g xs)
+pub good-up : (k c n s w m : ℕ) (g : Channel → Channel) → c < 4294967296 → ((x : Channel) → UpStep k c n s w m x (g x)) → (xs : List Channel) → Each (Unused n k c) xs → AreApart xs → AreApart (map g xs)
 good-up k c n s w m g lt step xs unused good = record {
   each = each-map Sound Sound g (λ x a. up-sound k c n s w m x (g x) lt (step x) a) xs good.each;
   apart = apart-map (Unused n k c) g (λ x y u v a. up-apart k c n s w m x y (g x) (g y) u v (step x) (step y) a) xs unused good.apart;
@@ -160,7 +160,7 @@ pub record BroughtDown (n s w m : ℕ) (x y : Channel) : Type 0 where
 abbrev pub DownStep : ℕ → ℕ → ℕ → ℕ → Channel → Channel → Type 0
 DownStep n s w m x y = Ids x y ⊎ BroughtDown n s w m x y
 
-down-apart : (n s w m : ℕ) (x y x' y' : Channel) → NotLive s x → NotLive s y → DownStep n s w m x x' → DownStep n s w m y y' → Apart3 x y → Apart3 x' y'
+down-apart : (n s w m : ℕ) (x y x' y' : Channel) → NotLive s x → NotLive s y → DownStep n s w m x x' → DownStep n s w m y y' → ApartFrom x y → ApartFrom x' y'
 down-apart n s w m x y x' y' u v (inl a) (inl b) apart = apart-ids x y x' y' a b apart
 down-apart n s w m x y x' y' u v (inr a) (inl b) apart = apart-ids (brought_down s w m x) y x' y' a.ids b (record {
   numbers = λ h h' j e. apart.numbers a.held h' j e;
@@ -178,7 +178,7 @@ down-sound : (n s w m : ℕ) (x y : Channel) → DownStep n s w m x y → Sound 
 down-sound n s w m x y (inl a) sound = sound-ids x y a sound
 down-sound n s w m x y (inr a) sound = sound-ids (brought_down s w m x) y a.ids (record { client = sound.client; owned = sound.owned; small = sound.small })
 
-pub good-down : (n s w m : ℕ) (g : Channel → Channel) → ((x : Channel) → DownStep n s w m x (g x)) → (xs : List Channel) → Each (NotLive s) xs → Good xs → Good (map g xs)
+pub good-down : (n s w m : ℕ) (g : Channel → Channel) → ((x : Channel) → DownStep n s w m x (g x)) → (xs : List Channel) → Each (NotLive s) xs → AreApart xs → AreApart (map g xs)
 good-down n s w m g step xs unused good = record {
   each = each-map Sound Sound g (λ x a. down-sound n s w m x (g x) (step x) a) xs good.each;
   apart = apart-map (NotLive s) g (λ x y u v a. down-apart n s w m x y (g x) (g y) u v (step x) (step y) a) xs unused good.apart;
@@ -190,20 +190,20 @@ each-end : (P : Channel → Type 0) (xs : List Channel) (z : Channel) → Each P
 each-end P [] z all last = (last, tt)
 each-end P (x ∷ xs) z all last = (all.0, each-end P xs z all.1 last)
 
-apart-end : (xs : List Channel) (z : Channel) → Distinct3 xs → Each (λ x. Apart3 x z) xs → Distinct3 (xs ++ z ∷ [])
+apart-end : (xs : List Channel) (z : Channel) → AllApart xs → Each (λ x. ApartFrom x z) xs → AllApart (xs ++ z ∷ [])
 apart-end [] z apart last = (tt, tt)
-apart-end (x ∷ xs) z apart last = (each-end (Apart3 x) xs z apart.0 last.0, apart-end xs z apart.1 last.1)
+apart-end (x ∷ xs) z apart last = (each-end (ApartFrom x) xs z apart.0 last.0, apart-end xs z apart.1 last.1)
 
-pub good-opens : (k c n w m : ℕ) (xs : List Channel) → (k ≡ 0 → ⊥) → c < 4294967296 → Each (Unused n k c) xs → Good xs → Good (xs ++ record { client = k; by = Up; own = Some c; number = Some n; remote = None; window = w; maximum = m; acts = [] } ∷ [])
+pub good-opens : (k c n w m : ℕ) (xs : List Channel) → (k ≡ 0 → ⊥) → c < 4294967296 → Each (Unused n k c) xs → AreApart xs → AreApart (xs ++ record { client = k; by = Up; own = Some c; number = Some n; remote = None; window = w; maximum = m; acts = [] } ∷ [])
 good-opens k c n w m xs real lt unused good = record {
   each = each-end Sound xs _ good.each (record { client = real; owned = λ j e. (c, refl); small = λ j e. let same : c ≡ j = cc in subst (λ (i : ℕ). i < 4294967296) same lt });
-  apart = apart-end xs _ good.apart (each-of (Unused n k c) (λ x. Apart3 x _) (λ x u. record { numbers = λ h h' j e. differs x.number n j (u.number h) e; remotes = λ h h' j e. refl; owns = λ h h' same j e. differs x.own c j (u.own h same) e }) xs unused);
+  apart = apart-end xs _ good.apart (each-of (Unused n k c) (λ x. ApartFrom x _) (λ x u. record { numbers = λ h h' j e. differs x.number n j (u.number h) e; remotes = λ h h' j e. refl; owns = λ h h' same j e. differs x.own c j (u.own h same) e }) xs unused);
 }
 
-pub good-offers : (k s w m : ℕ) (xs : List Channel) → (k ≡ 0 → ⊥) → Each (NotLive s) xs → Good xs → Good (xs ++ record { client = k; by = Down; own = None; number = None; remote = Some s; window = w; maximum = m; acts = [] } ∷ [])
+pub good-offers : (k s w m : ℕ) (xs : List Channel) → (k ≡ 0 → ⊥) → Each (NotLive s) xs → AreApart xs → AreApart (xs ++ record { client = k; by = Down; own = None; number = None; remote = Some s; window = w; maximum = m; acts = [] } ∷ [])
 good-offers k s w m xs real unused good = record {
   each = each-end Sound xs _ good.each (record { client = real; owned = λ j e. cc; small = λ j e. cc });
-  apart = apart-end xs _ good.apart (each-of (NotLive s) (λ x. Apart3 x _) (λ x u. record { numbers = λ h h' j e. refl; remotes = λ h h' j e. differs x.remote s j (u h) e; owns = λ h h' same j e. refl }) xs unused);
+  apart = apart-end xs _ good.apart (each-of (NotLive s) (λ x. ApartFrom x _) (λ x u. record { numbers = λ h h' j e. refl; remotes = λ h h' j e. differs x.remote s j (u h) e; owns = λ h h' same j e. refl }) xs unused);
 }
 
 -- ---- look-ups that found nothing
@@ -233,29 +233,6 @@ each-filter k P (x ∷ xs) all = by_case (each-filter k P xs all.1) (x.client ==
     by_case : Each P (filter (is_of k) xs) → (b : Bool) → (x.client == k) ≡ b → Each P (filter (is_of k) (x ∷ xs))
     by_case ih true e = subst (Each P) (sym (filter-yes (is_of k) x xs e)) (all.0, ih)
     by_case ih false e = subst (Each P) (sym (filter-no (is_of k) x xs e)) ih
-
-both-of : (a b k : ℕ) → (a == k) ≡ true → (b == k) ≡ true → (a == b) ≡ true
-both-of a b k e f = grind (arith, nat_tests)
-
--- a client's channels are apart, their own numbers too
-pub distinct-of : (k : ℕ) (xs : List Channel) → Distinct3 xs → Distinct (filter (is_of k) xs)
-distinct-of k [] apart = tt
-distinct-of k (x ∷ xs) apart = by_case (distinct-of k xs apart.1) (x.client == k) refl
-  where
-    pair : (x.client == k) ≡ true → (y : Channel) → (y.client == k) ≡ true → Apart3 x y → Apart x y
-    pair e y f a = record { numbers = λ h h' n u. a.numbers h h' n u; owns = λ h h' c u. a.owns h h' (both-of x.client y.client k e f) c u }
-
-    mine : (ys : List Channel) → Each (λ y. (y.client == k) ≡ true) (filter (is_of k) ys)
-    mine [] = tt
-    mine (y ∷ ys) = by_head (mine ys) (y.client == k) refl
-      where
-        by_head : Each (λ y. (y.client == k) ≡ true) (filter (is_of k) ys) → (b : Bool) → (y.client == k) ≡ b → Each (λ y. (y.client == k) ≡ true) (filter (is_of k) (y ∷ ys))
-        by_head ih true e = subst (Each (λ y. (y.client == k) ≡ true)) (sym (filter-yes (is_of k) y ys e)) (e, ih)
-        by_head ih false e = subst (Each (λ y. (y.client == k) ≡ true)) (sym (filter-no (is_of k) y ys e)) ih
-
-    by_case : Distinct (filter (is_of k) xs) → (b : Bool) → (x.client == k) ≡ b → Distinct (filter (is_of k) (x ∷ xs))
-    by_case ih true e = subst Distinct (sym (filter-yes (is_of k) x xs e)) (each-both (λ y. (y.client == k) ≡ true) (Apart3 x) (Apart x) (pair e) (filter (is_of k) xs) (mine xs) (each-filter k (Apart3 x) xs apart.0), ih)
-    by_case ih false e = subst Distinct (sym (filter-no (is_of k) x xs e)) ih
 
 -- the first of all that passes, where it is the client's, is the first of the client's
 pub find-of : (k : ℕ) (test : Channel → Bool) (x : Channel) (xs : List Channel) → find test (filter is_held xs) ≡ Some x → (x.client == k) ≡ true → find test (filter is_held (filter (is_of k) xs)) ≡ Some x

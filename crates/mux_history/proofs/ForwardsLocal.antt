@@ -1,5 +1,5 @@
 -- The forwardings of a client are those of its rows.
-use Rattle.std.proofs.Common.{◌≡◌, ℕ, List, [], ◌∷◌, ◌++◌, length, true, false, Bool, refl, ◌∙◌, ap, arith, map, sym, Some, None, subst, Ok, Err}
+use Rattle.std.proofs.Common.{◌≡◌, ℕ, List, [], ◌∷◌, ◌++◌, length, true, false, Bool, refl, ◌∙◌, ap, arith, map, sym, Some, None, Ok, Err}
 use Rattle.std.specs.Prelude.{◌==◌, ◌&&◌, filter, find, not, Result, bytes_eq}
 use Rattle.std.proofs.lemmas.List.{append-nil}
 use Rattle.std.proofs.lemmas.List.Elements.{filter-append}
@@ -13,23 +13,11 @@ use Rattle.ssh_grammar.specs.Messages.{Cancel, Forward, KeepAlive, OtherName}
 use Rattle.ssh_grammar.specs.Said.{Payload}
 use Rattle.ssh_grammar.specs.SpellMessage.{wants}
 use Rattle.ssh_grammar.specs.declared.fault.Bad.{Bad}
-use Rattle.mux_isolation.proofs.Meets.{filter-no, filter-yes, find-no, find-yes}
-use Rattle.mux_isolation.proofs.Rows.{AllOf, rows-all}
+use Rattle.mux_history.proofs.Finds.{filter-no, filter-yes, find-no, find-yes}
+use Rattle.mux_history.proofs.OwnRows.{rows-twice, same-client}
 
 abbrev pub for_of : ℕ → Forwarding → Bool
 for_of k f = f.client == k
-
--- all rows of a client are its own
-pub all-of : (k : ℕ) (rows : List Row) → AllOf k (rows_of k rows)
-all-of k [] = tt
-all-of k (row ∷ rows) = by_case (all-of k rows) (row.client == k) refl
-  where
-    by_case : AllOf k (rows_of k rows) → (b : Bool) → (row.client == k) ≡ b → AllOf k (rows_of k (row ∷ rows))
-    by_case ih true e = subst (AllOf k) (sym (filter-yes (λ (r : Row). r.client == k) row rows e)) (e, ih)
-    by_case ih false e = subst (AllOf k) (sym (filter-no (λ (r : Row). r.client == k) row rows e)) ih
-
-pub rows-twice : (k : ℕ) (rows : List Row) → rows_of k (rows_of k rows) ≡ rows_of k rows
-rows-twice k rows = rows-all k (rows_of k rows) (all-of k rows)
 
 -- the first of all that passes, where it is of the part, is the first of the part
 pub find-part : {X : Type 0} (held mine test : X → Bool) (x : X) (xs : List X) → find test (filter held xs) ≡ Some x → mine x ≡ true → find test (filter held (filter mine xs)) ≡ Some x
@@ -201,9 +189,6 @@ dropped-other k row fs e = by_case (loses row)
     by_case : (b : Bool) → filter (for_of k) (elim b as (λ _. List Forwarding) [ true ↦ map (of_client row.client (λ f. record f { over = true })) fs | false ↦ fs ]) ≡ filter (for_of k) fs
     by_case true = other-map k (of_client row.client (λ f. record f { over = true })) (of-client-keeps row.client (λ f. record f { over = true }) (λ f. refl)) (of-client-other k row.client (λ f. record f { over = true }) e) fs
     by_case false = refl
-
-pub same-client : (a k : ℕ) → (a == k) ≡ true → a ≡ k
-same-client a k e = grind (arith, nat_tests)
 
 pub forwardings-local : (k : ℕ) (rows : List Row) → filter (for_of k) (forwardings_of rows) ≡ forwardings_of (rows_of k rows)
 forwardings-local k [] = refl

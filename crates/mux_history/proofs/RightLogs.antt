@@ -1,32 +1,27 @@
 -- Each row of a right log is what its item does, and no number is held twice.
-use Rattle.std.proofs.Common.{◌≡◌, ℕ, ◌≤◌, List, [], ◌∷◌, length, true, false, Bool, refl, ◌∙◌, ap, arith, sym, Some, subst, Ok, Err}
-use Rattle.std.specs.Prelude.{filter, option_map, Result, drop}
+use Rattle.std.proofs.Common.{◌≡◌, ℕ, ◌≤◌, List, [], ◌∷◌, length, true, false, Bool, refl, ◌∙◌, ap, arith, sym, subst}
+use Rattle.std.specs.Prelude.{filter, drop}
 use Rattle.mux_history.specs.Channels.{Channel, channels_of, is_held, is_number}
 use Rattle.mux_history.specs.Choices.{FromLists, pick_of, with_reply}
-use Rattle.mux_history.specs.Gist.{Gist, Refuses, Succeeds, read_gist, reading}
-use Rattle.mux_history.specs.Heard.{Breaks, Dest, Disconnects, ToClient, ToMaster, dest, dest_gist, dest_success, heard_for}
 use Rattle.mux_history.specs.Journal.{IsLawful, items}
-use Rattle.mux_history.specs.Kept.{AtEach, ForEach, NumbersApart, ReachesAsker}
-use Rattle.mux_history.specs.Log.{bare, heard_row, log_of, makes_next, makes_row, more_of, treat}
+use Rattle.mux_history.specs.Kept.{AtEach, ForEach, NumbersApart}
+use Rattle.mux_history.specs.Log.{bare, log_of, makes_next, makes_row, more_of, treat}
 use Rattle.mux_history.specs.Policy.{Policy}
-use Rattle.mux_history.specs.Requests.{Ask, asker, is_reply, replies}
+use Rattle.mux_history.specs.Requests.{replies}
 use Rattle.mux_history.specs.Right.{AreFresh, IsRight}
-use Rattle.mux_history.specs.Rows.{Heard, Item, Row, Took, any_of, is_end, is_ended, rows_of}
+use Rattle.mux_history.specs.Rows.{Item, Row, Took, any_of, is_end, is_ended}
 use Rattle.mux_history.specs.Said.{silent}
-use Rattle.mux_isolation.specs.Settings.{by_lists}
+use Rattle.mux_history.specs.Settings.{by_lists}
 use Rattle.mux_outside.specs.declared.house.HouseReply.{HouseReply}
 use Rattle.mux_outside.specs.declared.mark.Mark.{Mark}
-use Rattle.ssh_grammar.specs.declared.fault.Bad.{Bad}
-use Rattle.mux_history.proofs.Readings.{reading-ok}
-use Rattle.mux_isolation.proofs.Askers.{Orderly, master-asker, orderly-none, orderly-treat, success-never}
-use Rattle.mux_isolation.proofs.Dests.{Asked, dest-err, dest-ok, refuses-asked, succeeds-asked}
-use Rattle.mux_isolation.proofs.Good.{Apart3, Distinct3, Good, each-of}
-use Rattle.mux_isolation.proofs.Known.{LawfulItem, admits_client, good-treat}
-use Rattle.mux_isolation.proofs.Logs.{LawfulIn, LawfulItems, reply-lawful, reply-next, rows-admits, treat-item}
-use Rattle.mux_isolation.proofs.Marks.{left-lawful}
-use Rattle.mux_isolation.proofs.Meets.{Each, filter-no, filter-yes}
-use Rattle.mux_isolation.proofs.Nexts.{by-next}
-use Rattle.mux_isolation.proofs.Treats.{client-of, or-left, or-right}
+use Rattle.mux_history.proofs.Apart.{AllApart, ApartFrom, AreApart, each-of}
+use Rattle.mux_history.proofs.Askers.{Orderly, orderly-none, orderly-treat}
+use Rattle.mux_history.proofs.Bools.{or-left, or-right}
+use Rattle.mux_history.proofs.Finds.{Each, filter-no, filter-yes}
+use Rattle.mux_history.proofs.KeepsApart.{LawfulItem, admits_client, good-treat}
+use Rattle.mux_history.proofs.LawfulItems.{LawfulIn, LawfulItems, reply-lawful, reply-next, rows-admits}
+use Rattle.mux_history.proofs.Marks.{left-lawful}
+use Rattle.mux_history.proofs.Nexts.{by-next}
 
 -- ---- each row
 
@@ -36,12 +31,12 @@ pub record RowKnown (policy : Policy) (pid : ℕ) (before : List Row) (row : Row
   pub is : treat policy pid pick before item ≡ row
   pub lawful : LawfulItem before item
   pub may : makes_next before item ≡ true
-  pub good : Good (channels_of before)
+  pub good : AreApart (channels_of before)
   pub orderly : is_ended before ≡ false → Orderly before
 
 pub record LogKnown (policy : Policy) (pid : ℕ) (rows : List Row) : Type 0 where
   pub each : ForEach (RowKnown policy pid) rows
-  pub good : Good (channels_of rows)
+  pub good : AreApart (channels_of rows)
   pub orderly : is_ended rows ≡ false → Orderly rows
 
 module _ (policy : Policy) (pid : ℕ) (picks : List ℕ) (replies : List HouseReply) where
@@ -67,7 +62,7 @@ pub right-known : (policy : Policy) (pid : ℕ) (picks : List ℕ) (replies : Li
 right-known policy pid picks replies marks left rows lawful right = subst (LogKnown policy pid) (sym right.determined) (log-known policy pid picks replies (drop left (items marks)) (left-lawful left marks lawful) (subst AreFresh right.determined right.fresh))
 
 -- a law of each row, by what its item does; what is taken makes a row after the end of the run too
-pub by-treat : (P : List Row → Row → Type 0) (policy : Policy) (pid : ℕ) → ((pick : ℕ) (before : List Row) (item : Item) → Good (channels_of before) → Orderly before → LawfulItem before item → makes_row before item ≡ true → P before (treat policy pid pick before item)) → ((before : List Row) (stream size : ℕ) → P before (bare (Took stream size) stream silent)) → (rows : List Row) → ForEach (RowKnown policy pid) rows → ForEach P rows
+pub by-treat : (P : List Row → Row → Type 0) (policy : Policy) (pid : ℕ) → ((pick : ℕ) (before : List Row) (item : Item) → AreApart (channels_of before) → Orderly before → LawfulItem before item → makes_row before item ≡ true → P before (treat policy pid pick before item)) → ((before : List Row) (stream size : ℕ) → P before (bare (Took stream size) stream silent)) → (rows : List Row) → ForEach (RowKnown policy pid) rows → ForEach P rows
 by-treat P policy pid law taken [] each = tt
 by-treat P policy pid law taken (row ∷ before) each = (subst (P before) each.0.is (by-next before each.0.item each.0.may (λ going makes. law each.0.pick before each.0.item each.0.good (each.0.orderly going) each.0.lawful makes) (λ stream size e. subst (λ (i : Item). P before (treat policy pid each.0.pick before i)) (sym e) (taken before stream size))), by-treat P policy pid law taken before each.1)
 
@@ -81,7 +76,7 @@ none-with P (x ∷ xs) all = by_case (none-with P xs all.1) (is_held x) refl
     by_case ih true e = ap (λ ys. length (filter P ys)) (filter-yes is_held x xs e) ∙ (ap length (filter-no P x (filter is_held xs) (all.0 e)) ∙ ih)
     by_case ih false e = ap (λ ys. length (filter P ys)) (filter-no is_held x xs e) ∙ ih
 
-once-in : (P : Channel → Bool) → ((x y : Channel) → Apart3 x y → is_held x ≡ true → is_held y ≡ true → P x ≡ true → P y ≡ false) → (xs : List Channel) → Distinct3 xs → length (filter P (filter is_held xs)) ≤ 1
+once-in : (P : Channel → Bool) → ((x y : Channel) → ApartFrom x y → is_held x ≡ true → is_held y ≡ true → P x ≡ true → P y ≡ false) → (xs : List Channel) → AllApart xs → length (filter P (filter is_held xs)) ≤ 1
 once-in P pair [] apart = omega arith
 once-in P pair (x ∷ xs) apart = by_case (once-in P pair xs apart.1) (is_held x) refl (P x) refl
   where
@@ -91,60 +86,18 @@ once-in P pair (x ∷ xs) apart = by_case (once-in P pair xs apart.1) (is_held x
     by_case ih true e true f =
         let g = ap (λ ys. length (filter P ys)) (filter-yes is_held x xs e) in
         let h = ap length (filter-yes P x (filter is_held xs) f) in
-        let none = none-with P xs (each-of (Apart3 x) (λ y. is_held y ≡ true → P y ≡ false) (λ y a k. pair x y a e k f) xs apart.0) in
+        let none = none-with P xs (each-of (ApartFrom x) (λ y. is_held y ≡ true → P y ≡ false) (λ y a k. pair x y a e k f) xs apart.0) in
         omega arith
 
-held-once : (rows : List Row) → Good (channels_of rows) → NumbersApart rows
+held-once : (rows : List Row) → AreApart (channels_of rows) → NumbersApart rows
 held-once rows good n = record {
   number = once-in (λ x. is_number x.number n) (λ x y a h k e. a.numbers h k n e) (channels_of rows) good.apart;
   remote = once-in (λ x. is_number x.remote n) (λ x y a h k e. a.remotes h k n e) (channels_of rows) good.apart;
 }
 
-at-each : (policy : Policy) (pid : ℕ) (rows : List Row) → ForEach (RowKnown policy pid) rows → Good (channels_of rows) → AtEach NumbersApart rows
+at-each : (policy : Policy) (pid : ℕ) (rows : List Row) → ForEach (RowKnown policy pid) rows → AreApart (channels_of rows) → AtEach NumbersApart rows
 at-each policy pid [] each good = held-once [] good
 at-each policy pid (row ∷ before) each good = (held-once (row ∷ before) good, at-each policy pid before each.1 each.0.good)
 
 pub numbers-apart : (policy : Policy) (pid : ℕ) (picks : List ℕ) (replies : List HouseReply) (marks : List Mark) (left : ℕ) (rows : List Row) → IsLawful marks → IsRight (by_lists policy pid picks replies) marks left rows → AtEach NumbersApart rows
 numbers-apart policy pid picks replies marks left rows lawful right = let known : LogKnown policy pid rows = right-known policy pid picks replies marks left rows lawful right in at-each policy pid rows known.each known.good
-
--- ---- each reply reaches its asker
-
-pub reply-asked : (before : List Row) (k : ℕ) (p : List ℕ) → reading p is_reply false ≡ true → dest before p ≡ ToClient k → Asked before k
-reply-asked before k p reply to = by_case (read_gist p) refl
-  where
-    by_message : (m : Gist) → is_reply m ≡ true → dest_gist before m ≡ ToClient k → Asked before k
-    by_message (Succeeds rest) r e = succeeds-asked before rest k e
-    by_message Refuses r e = refuses-asked before k e
-    by_message m r e = cc
-
-    by_case : (r : Result Gist Bad) → read_gist p ≡ r → Asked before k
-    by_case (Err bad) reads = let x : Breaks _ ≡ ToClient k = sym (dest-err before p bad reads) ∙ to in absurd (let h = x in cc)
-    by_case (Ok m) reads = by_message m (sym (reading-ok p m is_reply false reads) ∙ reply) (sym (dest-ok before p m reads) ∙ to)
-
-pub reply-never : (before : List Row) (p : List ℕ) → reading p is_reply false ≡ true → dest before p ≡ ToMaster → ⊥
-reply-never before p reply to = by_case (read_gist p) refl
-  where
-    to_client_never : (a : Ask) → ToClient a.client ≡ ToMaster → ⊥
-    to_client_never a e = cc
-
-    by_message : (m : Gist) → is_reply m ≡ true → dest_gist before m ≡ ToMaster → ⊥
-    by_message (Succeeds rest) r e = master-asker (asker before) (dest_success rest) (success-never rest) e
-    by_message Refuses r e = master-asker (asker before) (λ a. ToClient a.client) to_client_never e
-    by_message m r e = cc
-
-    by_case : (r : Result Gist Bad) → read_gist p ≡ r → ⊥
-    by_case (Err bad) reads = let x : Breaks _ ≡ ToMaster = sym (dest-err before p bad reads) ∙ to in absurd (let h = x in cc)
-    by_case (Ok m) reads = by_message m (sym (reading-ok p m is_reply false reads) ∙ reply) (sym (dest-ok before p m reads) ∙ to)
-
-pub serves : (policy : Policy) (pid pick : ℕ) (before : List Row) (item : Item) → ReachesAsker before (treat policy pid pick before item)
-serves policy pid pick before item p is reply on = by_item item (sym (treat-item policy pid pick before item) ∙ is) on
-  where
-    by_dest : (d : Dest) → dest before p ≡ d → is_end (heard_row before p d).fate ≡ false → option_map (λ a. a.client) (asker before) ≡ Some (heard_row before p d).client
-    by_dest ToMaster to on = absurd (reply-never before p reply to)
-    by_dest (ToClient k) to on = let a : Asked before k = reply-asked before k p reply to in ap (option_map (λ (a : Ask). a.client)) a.is ∙ ap Some (a.client ∙ sym (client-of (Heard p) k (heard_for (rows_of k before) p) (rows_of k before)))
-    by_dest Disconnects to on = cc
-    by_dest (Breaks why) to on = cc
-
-    by_item : (i : Item) → i ≡ Heard p → is_end (treat policy pid pick before i).fate ≡ false → option_map (λ a. a.client) (asker before) ≡ Some (treat policy pid pick before i).client
-    by_item (Heard q) e on = let same : p ≡ q = cc in subst (λ (r : List ℕ). is_end (heard_row before r (dest before r)).fate ≡ false → option_map (λ a. a.client) (asker before) ≡ Some (heard_row before r (dest before r)).client) same (by_dest (dest before p) refl) on
-    by_item i e on = cc

@@ -33,12 +33,12 @@ heard-client : (item : Item) (x : Channel) → (heard_by item x).client ≡ x.cl
 heard-client (Heard p) x = read-client p (λ m. with_down m x) x (λ m. down-client m x)
 heard-client item x = refl
 
-pub talked-client : (row : Row) (x : Channel) → (after_item row x).client ≡ x.client
-talked-client row x = elim (x.client == row.client) as (λ b. (elim b as (λ _. Channel) [ true ↦ with_ups (own_of row.item) row.up (heard_by row.item x) | false ↦ x ]).client ≡ x.client)
+pub item-client : (row : Row) (x : Channel) → (after_item row x).client ≡ x.client
+item-client row x = elim (x.client == row.client) as (λ b. (elim b as (λ _. Channel) [ true ↦ with_ups (own_of row.item) row.up (heard_by row.item x) | false ↦ x ]).client ≡ x.client)
     [ true ↦ ups-client (own_of row.item) row.up (heard_by row.item x) ∙ heard-client row.item x | false ↦ refl ]
 
-pub parted-client : (row : Row) (x : Channel) → (after_farewell row x).client ≡ x.client
-parted-client row x = elim (x.client == row.client) as (λ b. (elim b as (λ _. Channel) [ true ↦ with_ups None row.farewell x | false ↦ x ]).client ≡ x.client)
+pub farewell-client : (row : Row) (x : Channel) → (after_farewell row x).client ≡ x.client
+farewell-client row x = elim (x.client == row.client) as (λ b. (elim b as (λ _. Channel) [ true ↦ with_ups None row.farewell x | false ↦ x ]).client ≡ x.client)
     [ true ↦ ups-client None row.farewell x | false ↦ refl ]
 
 abbrev pub is_of : ℕ → Channel → Bool
@@ -111,12 +111,12 @@ channels-local k (row ∷ before) = choose (channels-local k before) (row.client
     choose ih true e =
         let same : row.client ≡ k = grind (arith, nat_tests) in
         let mine : filter (is_of k) (begun_by row.client row.up row.item) ≡ begun_by row.client row.up row.item = subst (λ (j : ℕ). filter (is_of j) (begun_by row.client row.up row.item) ≡ begun_by row.client row.up row.item) same ((begun row.client row.up row.item).0) in
-        filter-change k (after_farewell row) (parted-client row) (map (after_item row) (channels_of before) ++ begun_by row.client row.up row.item)
+        filter-change k (after_farewell row) (farewell-client row) (map (after_item row) (channels_of before) ++ begun_by row.client row.up row.item)
         ∙ ap (map (after_farewell row)) (filter-append (is_of k) (map (after_item row) (channels_of before)) (begun_by row.client row.up row.item)
         ∙ (ap (λ ys. filter (is_of k) (map (after_item row) (channels_of before)) ++ ys) mine
-        ∙ ap (λ ys. ys ++ begun_by row.client row.up row.item) (filter-change k (after_item row) (talked-client row) (channels_of before) ∙ ap (map (after_item row)) ih)))
+        ∙ ap (λ ys. ys ++ begun_by row.client row.up row.item) (filter-change k (after_item row) (item-client row) (channels_of before) ∙ ap (map (after_item row)) ih)))
     choose ih false e =
-        filter-other k (after_farewell row) (parted-client row) (parted-other k row e) (map (after_item row) (channels_of before) ++ begun_by row.client row.up row.item)
+        filter-other k (after_farewell row) (farewell-client row) (parted-other k row e) (map (after_item row) (channels_of before) ++ begun_by row.client row.up row.item)
         ∙ (filter-append (is_of k) (map (after_item row) (channels_of before)) (begun_by row.client row.up row.item)
         ∙ (ap (λ ys. filter (is_of k) (map (after_item row) (channels_of before)) ++ ys) ((begun row.client row.up row.item).1 k e)
-        ∙ (append-nil _ ∙ (filter-other k (after_item row) (talked-client row) (talked-other k row e) (channels_of before) ∙ ih))))
+        ∙ (append-nil _ ∙ (filter-other k (after_item row) (item-client row) (talked-other k row e) (channels_of before) ∙ ih))))

@@ -27,9 +27,9 @@ use Rattle.ssh_grammar.specs.declared.numbers.TheConstants.{VERSION}
 use Rattle.ssh_grammar.specs.declared.side.Side.TheVariants.{Down, Up}
 use Rattle.mux_history.specs.declared.why.Why.TheVariants as why
 use Rattle.ssh_grammar.specs.declared.fault.BadControl.TheVariants as bad_control
+use Rattle.mux_history.proofs.Apart.{DownStep, Ids, UpStep, brought_down, brought_up, ids-self, ids-then}
+use Rattle.mux_history.proofs.Quiets.{EachOf, IsQuiet, Quiet}
 use Rattle.mux_history.proofs.Readings.{close-always, failure-always, gist-always, request-always}
-use Rattle.mux_isolation.proofs.Good.{DownStep, Ids, UpStep, brought_down, brought_up, ids-self, ids-then}
-use Rattle.mux_isolation.proofs.Numbers.{EachOf, IsQuiet, Quiet}
 
 -- ---- payloads that bring no number
 

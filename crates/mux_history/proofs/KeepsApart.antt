@@ -23,14 +23,14 @@ use Rattle.ssh_grammar.specs.declared.side.Side.TheVariants.{Up}
 use Rattle.mux_history.specs.declared.why.Why.TheVariants as why
 use Rattle.mux_history.specs.declared.broke.Break.TheVariants as broke
 use Rattle.mux_history.specs.declared.ended.Ended.TheVariants as ended
+use Rattle.mux_history.proofs.Apart.{AreApart, DownStep, Ids, NotLive, Sound, Unused, UpStep, each-both, filter-each, find-none, good-down, good-ids, good-offers, good-opens, good-up, ids-self, ids-then}
+use Rattle.mux_history.proofs.Dests.{confirmed, dest-err, dest-ok, offered}
+use Rattle.mux_history.proofs.Finds.{Each}
+use Rattle.mux_history.proofs.Local.{channels-local, is_of}
+use Rattle.mux_history.proofs.Quiets.{EachOf, IsQuiet, Quiet}
 use Rattle.mux_history.proofs.Readings.{reading-ok}
 use Rattle.mux_history.proofs.Renumbered.{SenderIn, number-sent, reads-sent, resent, sender-in, word}
-use Rattle.mux_isolation.proofs.Dests.{confirmed, dest-err, dest-ok, offered}
-use Rattle.mux_isolation.proofs.Good.{DownStep, Good, Ids, NotLive, Sound, Unused, UpStep, each-both, filter-each, find-none, good-down, good-ids, good-offers, good-opens, good-up, ids-self, ids-then}
-use Rattle.mux_isolation.proofs.Local.{channels-local, is_of}
-use Rattle.mux_isolation.proofs.Meets.{Each}
-use Rattle.mux_isolation.proofs.Moves.{Sent, admits-sent, as_row, body-sent, down-ids, down-step, down-then, quiet-heard, quiet-master, row-parts, sent-by, up-step, ups-ids}
-use Rattle.mux_isolation.proofs.Numbers.{EachOf, IsQuiet, Quiet}
+use Rattle.mux_history.proofs.Sends.{Sent, admits-sent, as_row, body-sent, down-ids, down-step, down-then, quiet-heard, quiet-master, row-parts, sent-by, up-step, ups-ids}
 
 -- ---- what is asked of an item
 
@@ -66,16 +66,16 @@ own-small p m c bytes reads owned =
 abbrev Next : Row → List Channel → List Channel
 Next row cs = map (after_farewell row) (map (after_item row) cs ++ begun_by row.client row.up row.item)
 
-good-parted : (row : Row) → EachOf Quiet row.farewell → (xs : List Channel) → Good xs → Good (map (after_farewell row) xs)
+good-parted : (row : Row) → EachOf Quiet row.farewell → (xs : List Channel) → AreApart xs → AreApart (map (after_farewell row) xs)
 good-parted row quiet xs good = good-ids (after_farewell row) ids xs good
   where
     ids : (x : Channel) → Sound x → Ids x (after_farewell row x)
     ids x sound = elim (x.client == row.client) as (λ b. Ids x (elim b as (λ _. Channel) [ true ↦ with_ups None row.farewell x | false ↦ x ])) [ true ↦ ups-ids None row.farewell quiet x | false ↦ ids-self x ]
 
-good-still : (row : Row) (cs : List Channel) → EachOf Quiet row.farewell → ((x : Channel) → Sound x → Ids x (after_item row x)) → begun_by row.client row.up row.item ≡ [] → Good cs → Good (Next row cs)
+good-still : (row : Row) (cs : List Channel) → EachOf Quiet row.farewell → ((x : Channel) → Sound x → Ids x (after_item row x)) → begun_by row.client row.up row.item ≡ [] → AreApart cs → AreApart (Next row cs)
 good-still row cs parting ids begun good =
     good-parted row parting (map (after_item row) cs ++ begun_by row.client row.up row.item)
-    (subst (λ (bs : List Channel). Good (map (after_item row) cs ++ bs)) (sym begun) (subst Good (sym (append-nil (map (after_item row) cs))) (good-ids (after_item row) ids cs good)))
+    (subst (λ (bs : List Channel). AreApart (map (after_item row) cs ++ bs)) (sym begun) (subst AreApart (sym (append-nil (map (after_item row) cs))) (good-ids (after_item row) ids cs good)))
 
 talked-ids : (row : Row) (x : Channel) → EachOf Quiet row.up → Ids x (heard_by row.item x) → Ids x (after_item row x)
 talked-ids row x quiet heard = elim (x.client == row.client) as (λ b. Ids x (elim b as (λ _. Channel) [ true ↦ with_ups (own_of row.item) row.up (heard_by row.item x) | false ↦ x ])) [ true ↦ ids-then x (heard_by row.item x) (with_ups (own_of row.item) row.up (heard_by row.item x)) heard (ups-ids (own_of row.item) row.up quiet (heard_by row.item x)) | false ↦ ids-self x ]
@@ -130,17 +130,17 @@ unused-own k c before none =
 unused-both : (n k c : ℕ) (before : List Row) → holder before n ≡ None → with_own (rows_of k before) c ≡ None → Each (Unused n k c) (channels_of before)
 unused-both n k c before fresh none = each-both _ _ (Unused n k c) (λ x a b. record { number = a; own = λ h e. b e h }) (channels_of before) (find-none (λ x. is_number x.number n) (channels_of before) fresh) (unused-own k c before none)
 
-module _ (before : List Row) (good : Good (channels_of before)) (k : ℕ) (real : k ≡ 0 → ⊥) (p : List ℕ) (reply : Option HouseReply) (fw : List (List ℕ)) (parting : EachOf Quiet fw) (down : List (List ℕ)) (fate : Fate) where
+module _ (before : List Row) (good : AreApart (channels_of before)) (k : ℕ) (real : k ≡ 0 → ⊥) (p : List ℕ) (reply : Option HouseReply) (fw : List (List ℕ)) (parting : EachOf Quiet fw) (down : List (List ℕ)) (fate : Fate) where
   abbrev the_row : List (List ℕ) → Row
   the_row up = as_row (Says k (Payload p) reply) k up fw down fate
 
-  good-nothing : Good (Next (the_row []) (channels_of before))
+  good-nothing : AreApart (Next (the_row []) (channels_of before))
   good-nothing = good-still (the_row []) (channels_of before) parting (λ x s. talked-ids (the_row []) x tt (ids-self x)) (begun-none k k p reply) good
 
-  good-plain : (m : Gist) → read_gist p ≡ Ok m → sender_of m ≡ None → Good (Next (the_row (p ∷ [])) (channels_of before))
+  good-plain : (m : Gist) → read_gist p ≡ Ok m → sender_of m ≡ None → AreApart (Next (the_row (p ∷ [])) (channels_of before))
   good-plain m reads unowned = good-still (the_row (p ∷ [])) (channels_of before) parting (λ x s. talked-ids (the_row (p ∷ [])) x (quiet-plain p m reads unowned, tt) (ids-self x)) (reading-ok p m (opened_up k (p ∷ [])) [] reads ∙ opened-plain k (p ∷ []) m unowned) good
 
-  good-fresh : (pick c : ℕ) (m : Gist) → AreBytes p → read_gist p ≡ Ok m → sender_of m ≡ Some c → with_own (rows_of k before) c ≡ None → IsFresh before (the_row (with_sender p pick ∷ [])) → Good (Next (the_row (with_sender p pick ∷ [])) (channels_of before))
+  good-fresh : (pick c : ℕ) (m : Gist) → AreBytes p → read_gist p ≡ Ok m → sender_of m ≡ Some c → with_own (rows_of k before) c ≡ None → IsFresh before (the_row (with_sender p pick ∷ [])) → AreApart (Next (the_row (with_sender p pick ∷ [])) (channels_of before))
   good-fresh pick c m bytes reads owned unused fresh = by_message m reads owned (reads-sent p m sender pick)
     where
       sender : SenderIn p m
@@ -161,10 +161,10 @@ module _ (before : List Row) (good : Good (channels_of before)) (k : ℕ) (real 
       all_unused : Each (Unused (word pick) k c) (channels_of before)
       all_unused = unused-both (word pick) k c before (ap (holder before) (sym (ap said_number (number-sent p m sender pick))) ∙ numbered.1) unused
 
-      by_message : (m' : Gist) → read_gist p ≡ Ok m' → sender_of m' ≡ Some c → read_gist (with_sender p pick) ≡ Ok (resent (word pick) m') → Good (Next (the_row (with_sender p pick ∷ [])) (channels_of before))
+      by_message : (m' : Gist) → read_gist p ≡ Ok m' → sender_of m' ≡ Some c → read_gist (with_sender p pick) ≡ Ok (resent (word pick) m') → AreApart (Next (the_row (with_sender p pick ∷ [])) (channels_of before))
       by_message (Open what c' w max) reads' owned' again =
           good-parted (the_row (with_sender p pick ∷ [])) parting (map (after_item (the_row (with_sender p pick ∷ []))) (channels_of before) ++ begun_by k (with_sender p pick ∷ []) (Says k (Payload p) reply))
-          (subst (λ (bs : List Channel). Good (map (after_item (the_row (with_sender p pick ∷ []))) (channels_of before) ++ bs)) (sym begun)
+          (subst (λ (bs : List Channel). AreApart (map (after_item (the_row (with_sender p pick ∷ []))) (channels_of before) ++ bs)) (sym begun)
           (good-opens k c (word pick) w max (map (after_item (the_row (with_sender p pick ∷ []))) (channels_of before)) real small (unused-moved (channels_of before) all_unused) (good-ids (after_item (the_row (with_sender p pick ∷ []))) (λ x s. moved x) (channels_of before) good)))
         where
           stays : (x : Channel) → after_item (the_row (with_sender p pick ∷ [])) x ≡ x
@@ -187,8 +187,8 @@ module _ (before : List Row) (good : Good (channels_of before)) (k : ℕ) (real 
               ∙ ap (λ (o : Option ℕ). record { client = k; by = Up; own = o; number = Some (word pick); remote = None; window = w; maximum = max; acts = [] } ∷ []) owned')
       by_message (Confirmation s c' w max) reads' owned' again =
           good-parted (the_row (with_sender p pick ∷ [])) parting (map (after_item (the_row (with_sender p pick ∷ []))) (channels_of before) ++ begun_by k (with_sender p pick ∷ []) (Says k (Payload p) reply))
-          (subst (λ (bs : List Channel). Good (map (after_item (the_row (with_sender p pick ∷ []))) (channels_of before) ++ bs)) (sym begun)
-          (subst Good (sym (append-nil (map (after_item (the_row (with_sender p pick ∷ []))) (channels_of before))))
+          (subst (λ (bs : List Channel). AreApart (map (after_item (the_row (with_sender p pick ∷ []))) (channels_of before) ++ bs)) (sym begun)
+          (subst AreApart (sym (append-nil (map (after_item (the_row (with_sender p pick ∷ []))) (channels_of before))))
           (good-up k c (word pick) s w max (after_item (the_row (with_sender p pick ∷ []))) small step (channels_of before) all_unused good)))
         where
           begun : begun_by k (with_sender p pick ∷ []) (Says k (Payload p) reply) ≡ []
@@ -205,15 +205,15 @@ module _ (before : List Row) (good : Good (channels_of before)) (k : ℕ) (real 
               by_client false e = inl (ids-self x)
       by_message m' reads' owned' again = cc
 
-  pub good-sent : (pick : ℕ) (m : Gist) (up : List (List ℕ)) → AreBytes p → read_gist p ≡ Ok m → Sent (rows_of k before) pick p m up → IsFresh before (the_row up) → Good (Next (the_row up) (channels_of before))
-  good-sent pick m up bytes reads (inl none) fresh = subst (λ (u : List (List ℕ)). Good (Next (the_row u) (channels_of before))) (sym none) good-nothing
-  good-sent pick m up bytes reads (inr (inl plain)) fresh = subst (λ (u : List (List ℕ)). Good (Next (the_row u) (channels_of before))) (sym plain.up) (good-plain m reads plain.unowned)
-  good-sent pick m up bytes reads (inr (inr new)) fresh = subst (λ (u : List (List ℕ)). Good (Next (the_row u) (channels_of before))) (sym new.up) (good-fresh pick new.c m bytes reads new.owned new.unused (subst (λ (u : List (List ℕ)). IsFresh before (the_row u)) new.up fresh))
+  pub good-sent : (pick : ℕ) (m : Gist) (up : List (List ℕ)) → AreBytes p → read_gist p ≡ Ok m → Sent (rows_of k before) pick p m up → IsFresh before (the_row up) → AreApart (Next (the_row up) (channels_of before))
+  good-sent pick m up bytes reads (inl none) fresh = subst (λ (u : List (List ℕ)). AreApart (Next (the_row u) (channels_of before))) (sym none) good-nothing
+  good-sent pick m up bytes reads (inr (inl plain)) fresh = subst (λ (u : List (List ℕ)). AreApart (Next (the_row u) (channels_of before))) (sym plain.up) (good-plain m reads plain.unowned)
+  good-sent pick m up bytes reads (inr (inr new)) fresh = subst (λ (u : List (List ℕ)). AreApart (Next (the_row u) (channels_of before))) (sym new.up) (good-fresh pick new.c m bytes reads new.owned new.unused (subst (λ (u : List (List ℕ)). IsFresh before (the_row u)) new.up fresh))
 
-  pub good-said : (policy : Policy) (pick : ℕ) → AreBytes p → IsFresh before (the_row (said_payload policy k (rows_of k before) pick p).sent) → Good (Next (the_row (said_payload policy k (rows_of k before) pick p).sent) (channels_of before))
+  pub good-said : (policy : Policy) (pick : ℕ) → AreBytes p → IsFresh before (the_row (said_payload policy k (rows_of k before) pick p).sent) → AreApart (Next (the_row (said_payload policy k (rows_of k before) pick p).sent) (channels_of before))
   good-said policy pick bytes fresh = by_case (read_gist p) refl fresh
     where
-      by_case : (r : Result Gist Bad) → read_gist p ≡ r → IsFresh before (the_row (elim r as (λ _. Outcome) [ Err bad ↦ drops (why.BadMessage bad) | Ok m ↦ said_gist policy k (rows_of k before) pick p m ]).sent) → Good (Next (the_row (elim r as (λ _. Outcome) [ Err bad ↦ drops (why.BadMessage bad) | Ok m ↦ said_gist policy k (rows_of k before) pick p m ]).sent) (channels_of before))
+      by_case : (r : Result Gist Bad) → read_gist p ≡ r → IsFresh before (the_row (elim r as (λ _. Outcome) [ Err bad ↦ drops (why.BadMessage bad) | Ok m ↦ said_gist policy k (rows_of k before) pick p m ]).sent) → AreApart (Next (the_row (elim r as (λ _. Outcome) [ Err bad ↦ drops (why.BadMessage bad) | Ok m ↦ said_gist policy k (rows_of k before) pick p m ]).sent) (channels_of before))
       by_case (Err bad) reads fresh = good-nothing
       by_case (Ok m) reads fresh = good-sent pick m (said_gist policy k (rows_of k before) pick p m).sent bytes reads (sent-by policy k (rows_of k before) pick p m) fresh
 
@@ -226,7 +226,7 @@ opened-down-confirmed k n s w max (q ∷ qs) = refl
 is_zero : (k : ℕ) → (k == 0) ≡ false → k ≡ 0 → ⊥
 is_zero k e z = grind (arith, nat_tests)
 
-module _ (before : List Row) (good : Good (channels_of before)) (k : ℕ) (p : List ℕ) (up : List (List ℕ)) (quiet : EachOf Quiet up) (fw : List (List ℕ)) (parting : EachOf Quiet fw) (down : List (List ℕ)) (fate : Fate) where
+module _ (before : List Row) (good : AreApart (channels_of before)) (k : ℕ) (p : List ℕ) (up : List (List ℕ)) (quiet : EachOf Quiet up) (fw : List (List ℕ)) (parting : EachOf Quiet fw) (down : List (List ℕ)) (fate : Fate) where
   abbrev heard_one : Row
   heard_one = as_row (Heard p) k up fw down fate
 
@@ -240,11 +240,11 @@ module _ (before : List Row) (good : Good (channels_of before)) (k : ℕ) (p : L
       by_case true = refl
       by_case false = reading-ok p m (opened_down k up) [] reads ∙ none
 
-  good-confirms : (n s w max : ℕ) → read_gist p ≡ Ok (Confirmation n s w max) → live_in before s ≡ None → Good (Next heard_one (channels_of before))
+  good-confirms : (n s w max : ℕ) → read_gist p ≡ Ok (Confirmation n s w max) → live_in before s ≡ None → AreApart (Next heard_one (channels_of before))
   good-confirms n s w max reads unused =
       good-parted heard_one parting (map (after_item heard_one) (channels_of before) ++ begun_by k up (Heard p))
-      (subst (λ (bs : List Channel). Good (map (after_item heard_one) (channels_of before) ++ bs)) (sym (begun-heard (Confirmation n s w max) reads (opened-down-confirmed k n s w max up)))
-      (subst Good (sym (append-nil (map (after_item heard_one) (channels_of before))))
+      (subst (λ (bs : List Channel). AreApart (map (after_item heard_one) (channels_of before) ++ bs)) (sym (begun-heard (Confirmation n s w max) reads (opened-down-confirmed k n s w max up)))
+      (subst AreApart (sym (append-nil (map (after_item heard_one) (channels_of before))))
       (good-down n s w max (after_item heard_one) step (channels_of before) (find-none (λ x. is_number x.remote s) (channels_of before) unused) good)))
     where
       step : (x : Channel) → DownStep n s w max x (after_item heard_one x)
@@ -258,25 +258,25 @@ module _ (before : List Row) (good : Good (channels_of before)) (k : ℕ) (p : L
   unused-still m reads still s [] all = tt
   unused-still m reads still s (x ∷ xs) all = let i = heard-still m reads still x in ((λ h. ap (λ o. is_number o s) i.remote ∙ all.0 (i.held h)), unused-still m reads still s xs all.1)
 
-  good-offer : (what : Opens) (s w max : ℕ) → read_gist p ≡ Ok (Open what s w max) → live_in before s ≡ None → Good (Next heard_one (channels_of before))
+  good-offer : (what : Opens) (s w max : ℕ) → read_gist p ≡ Ok (Open what s w max) → live_in before s ≡ None → AreApart (Next heard_one (channels_of before))
   good-offer what s w max reads unused =
       good-parted heard_one parting (map (after_item heard_one) (channels_of before) ++ begun_by k up (Heard p)) (by_zero (k == 0) refl)
     where
-      moved : Good (map (after_item heard_one) (channels_of before))
+      moved : AreApart (map (after_item heard_one) (channels_of before))
       moved = good-ids (after_item heard_one) (λ x s'. heard-still (Open what s w max) reads tt x) (channels_of before) good
 
-      nothing : Good (map (after_item heard_one) (channels_of before) ++ [])
-      nothing = subst Good (sym (append-nil (map (after_item heard_one) (channels_of before)))) moved
+      nothing : AreApart (map (after_item heard_one) (channels_of before) ++ [])
+      nothing = subst AreApart (sym (append-nil (map (after_item heard_one) (channels_of before)))) moved
 
-      by_up : (ups : List (List ℕ)) → (k == 0) ≡ false → Good (map (after_item heard_one) (channels_of before) ++ opened_down k ups (Open what s w max))
+      by_up : (ups : List (List ℕ)) → (k == 0) ≡ false → AreApart (map (after_item heard_one) (channels_of before) ++ opened_down k ups (Open what s w max))
       by_up [] e = good-offers k s w max (map (after_item heard_one) (channels_of before)) (is_zero k e) (unused-still (Open what s w max) reads tt s (channels_of before) (find-none (λ x. is_number x.remote s) (channels_of before) unused)) moved
       by_up (q ∷ qs) e = nothing
 
-      by_zero : (b : Bool) → (k == 0) ≡ b → Good (map (after_item heard_one) (channels_of before) ++ elim b as (λ _. List Channel) [ true ↦ [] | false ↦ reading p (opened_down k up) [] ])
+      by_zero : (b : Bool) → (k == 0) ≡ b → AreApart (map (after_item heard_one) (channels_of before) ++ elim b as (λ _. List Channel) [ true ↦ [] | false ↦ reading p (opened_down k up) [] ])
       by_zero true e = nothing
-      by_zero false e = subst (λ (bs : List Channel). Good (map (after_item heard_one) (channels_of before) ++ bs)) (sym (reading-ok p (Open what s w max) (opened_down k up) [] reads)) (by_up up e)
+      by_zero false e = subst (λ (bs : List Channel). AreApart (map (after_item heard_one) (channels_of before) ++ bs)) (sym (reading-ok p (Open what s w max) (opened_down k up) [] reads)) (by_up up e)
 
-  good-other : (m : Gist) → read_gist p ≡ Ok m → IsQuiet m → opened_down k up m ≡ [] → Good (Next heard_one (channels_of before))
+  good-other : (m : Gist) → read_gist p ≡ Ok m → IsQuiet m → opened_down k up m ≡ [] → AreApart (Next heard_one (channels_of before))
   good-other m reads still none = good-still heard_one (channels_of before) parting (λ x s. heard-still m reads still x) (begun-heard m reads none) good
 
   opened-end : (ups : List (List ℕ)) (m : Gist) → ((what : Opens) (s w max : ℕ) → m ≡ Open what s w max → ⊥) → opened_down k ups m ≡ []
@@ -284,10 +284,10 @@ module _ (before : List Row) (good : Good (channels_of before)) (k : ℕ) (p : L
   opened-end [] m other = refl
   opened-end (q ∷ qs) m other = refl
 
-  pub good-heard : dest before p ≡ ToClient k → Good (Next heard_one (channels_of before))
+  pub good-heard : dest before p ≡ ToClient k → AreApart (Next heard_one (channels_of before))
   good-heard to = by_case (read_gist p) refl
     where
-      by_message : (m : Gist) → read_gist p ≡ Ok m → dest_gist before m ≡ ToClient k → Good (Next heard_one (channels_of before))
+      by_message : (m : Gist) → read_gist p ≡ Ok m → dest_gist before m ≡ ToClient k → AreApart (Next heard_one (channels_of before))
       by_message (Confirmation n s w max) reads e = good-confirms n s w max reads ((confirmed before n s k e).unused)
       by_message (Open what s w max) reads e = good-offer what s w max reads ((offered before s what k e).unused)
       by_message (Within n act) reads e = good-other (Within n act) reads tt (opened-end up (Within n act) (λ what s w max same. cc))
@@ -296,29 +296,29 @@ module _ (before : List Row) (good : Good (channels_of before)) (k : ℕ) (p : L
       by_message (Succeeds rest) reads e = good-other (Succeeds rest) reads tt (opened-end up (Succeeds rest) (λ what s w max same. cc))
       by_message Refuses reads e = good-other Refuses reads tt (opened-end up Refuses (λ what s w max same. cc))
 
-      by_case : (r : Result Gist Bad) → read_gist p ≡ r → Good (Next heard_one (channels_of before))
+      by_case : (r : Result Gist Bad) → read_gist p ≡ r → AreApart (Next heard_one (channels_of before))
       by_case (Err bad) reads = let bad : Breaks _ ≡ ToClient k = sym (dest-err before p bad reads) ∙ to in cc
       by_case (Ok m) reads = by_message m reads (sym (dest-ok before p m reads) ∙ to)
 
 -- ---- any row
 
-good-bare : (before : List Row) → Good (channels_of before) → (item : Item) (o : Outcome) → EachOf Quiet o.sent → begun_by 0 o.sent item ≡ [] → Good (Next (bare item 0 o) (channels_of before))
+good-bare : (before : List Row) → AreApart (channels_of before) → (item : Item) (o : Outcome) → EachOf Quiet o.sent → begun_by 0 o.sent item ≡ [] → AreApart (Next (bare item 0 o) (channels_of before))
 good-bare before good item o quiet none = good-still (bare item 0 o) (channels_of before) tt (talked-master (bare item 0 o) refl) none good
 
-good-mute : (before : List Row) → Good (channels_of before) → (row : Row) → EachOf Quiet row.farewell → row.up ≡ [] → ((x : Channel) → heard_by row.item x ≡ x) → begun_by row.client [] row.item ≡ [] → Good (Next row (channels_of before))
+good-mute : (before : List Row) → AreApart (channels_of before) → (row : Row) → EachOf Quiet row.farewell → row.up ≡ [] → ((x : Channel) → heard_by row.item x ≡ x) → begun_by row.client [] row.item ≡ [] → AreApart (Next row (channels_of before))
 good-mute before good row parting none stays begun = good-still row (channels_of before) parting (λ x s. talked-ids row x (subst (EachOf Quiet) (sym none) tt) (subst (Ids x) (sym (stays x)) (ids-self x))) (ap (λ u. begun_by row.client u row.item) none ∙ begun) good
 
 abbrev GoodNext : List Row → Row → Type 0
-GoodNext before row = IsFresh before row → Good (channels_of (row ∷ before))
+GoodNext before row = IsFresh before row → AreApart (channels_of (row ∷ before))
 
-good-heard-row : (before : List Row) → Good (channels_of before) → (p : List ℕ) (d : Dest) → dest before p ≡ d → GoodNext before (heard_row before p d)
+good-heard-row : (before : List Row) → AreApart (channels_of before) → (p : List ℕ) (d : Dest) → dest before p ≡ d → GoodNext before (heard_row before p d)
 good-heard-row before good p ToMaster e fresh = good-bare before good (Heard p) (heard_master p) (quiet-master p) refl
 good-heard-row before good p (ToClient k) e fresh = row-parts (GoodNext before) (Heard p) k (heard_for (rows_of k before) p) (rows_of k before) (λ fw parting down fate fresh'. good-heard before good k p (heard_for (rows_of k before) p).sent (quiet-heard (rows_of k before) p) fw parting down fate e) fresh
 good-heard-row before good p Disconnects e fresh = good-bare before good (Heard p) (finishes ended.Disconnected) tt refl
 good-heard-row before good p (Breaks why) e fresh = good-bare before good (Heard p) (finishes (ended.Broke (min (next_index before) (2 ^ 64 - 1)) why)) tt refl
 
 -- the channels stay apart by each right row
-pub good-treat : (policy : Policy) (pid pick : ℕ) (before : List Row) (item : Item) → Good (channels_of before) → LawfulItem before item → IsFresh before (treat policy pid pick before item) → Good (channels_of (treat policy pid pick before item ∷ before))
+pub good-treat : (policy : Policy) (pid pick : ℕ) (before : List Row) (item : Item) → AreApart (channels_of before) → LawfulItem before item → IsFresh before (treat policy pid pick before item) → AreApart (channels_of (treat policy pid pick before item ∷ before))
 good-treat policy pid pick before (Admit k) good lawful fresh = row-parts (GoodNext before) (Admit k) k (admits before) (rows_of k before) (λ fw parting down fate fresh'. good-mute before good (as_row (Admit k) k (admits before).sent fw down fate) parting (admits-sent before) (λ x. refl) refl) fresh
 good-treat policy pid pick before (Says k (Payload p) reply) good lawful fresh = row-parts (GoodNext before) (Says k (Payload p) reply) k (said_payload policy k (rows_of k before) pick p) (rows_of k before) (λ fw parting down fate fresh'. good-said before good k lawful.0 p reply fw parting down fate policy pick lawful.1 fresh') fresh
 good-treat policy pid pick before (Says k (Body body) reply) good lawful fresh = row-parts (GoodNext before) (Says k (Body body) reply) k (said_body pid k reply (greeted (rows_of k before)) body) (rows_of k before) (λ fw parting down fate fresh'. good-mute before good (as_row (Says k (Body body) reply) k (said_body pid k reply (greeted (rows_of k before)) body).sent fw down fate) parting (body-sent pid k reply (greeted (rows_of k before)) body) (λ x. refl) refl) fresh

@@ -5,13 +5,7 @@ use Rattle.std.proofs.lemmas.Bool.Decides.{nat_tests}
 use Rattle.std.proofs.lemmas.List.{reverse-append}
 use Rattle.ssh_fields.proofs.Fields.{AreBytes-append, AreBytes-take, AreBytes-drop}
 use Rattle.mux_history.specs.Journal.{IsLawful, LawfulMark, bytes_in, bytes_of, heard_item, items, items_in, last_client, new_heard, new_sayings, said_item, server_end}
-use Rattle.mux_history.specs.Kept.{Unshared}
-use Rattle.mux_history.specs.Policy.{Policy}
-use Rattle.mux_history.specs.Requests.{replies}
-use Rattle.mux_history.specs.Right.{AreFresh, IsRight}
-use Rattle.mux_history.specs.Rows.{Admit, Gone, Item, Row, Says, ServerFailed, any_of}
-use Rattle.mux_isolation.specs.Settings.{by_lists}
-use Rattle.mux_outside.specs.declared.house.HouseReply.{HouseReply}
+use Rattle.mux_history.specs.Rows.{Admit, Gone, Item, Says, ServerFailed, any_of}
 use Rattle.mux_outside.specs.declared.mark.Mark.{Mark}
 use Rattle.mux_outside.specs.declared.mark.Mark.TheVariants.{Accepts, Frees, Gets, Holds, Takes, Waits, WriteFails}
 use Rattle.ssh_fields.specs.Fields.{AreBytes, of_four}
@@ -22,9 +16,9 @@ use Rattle.ssh_grammar.specs.declared.numbers.TheConstants.{LONGEST_FRAME}
 use Rattle.ssh_grammar.specs.declared.fault.BadFrame.TheVariants as bad_frame
 use Rattle.mux_outside.specs.declared.mark.Mark.TheVariants as wire
 use Rattle.ssh_grammar.specs.declared.framing.Framing.TheVariants as framing
-use Rattle.mux_isolation.proofs.Known.{SayingBytes, admits_client}
-use Rattle.mux_isolation.proofs.Logs.{LawfulIn, LawfulItems, LogFacts, isolated, log-facts}
-use Rattle.mux_isolation.proofs.Treats.{or-left, or-right}
+use Rattle.mux_history.proofs.Bools.{or-left, or-right}
+use Rattle.mux_history.proofs.KeepsApart.{SayingBytes, admits_client}
+use Rattle.mux_history.proofs.LawfulItems.{LawfulIn, LawfulItems}
 
 -- ---- what is cut from bytes are bytes
 
@@ -218,9 +212,6 @@ items-lawful (mark ∷ before) lawful = by_mark mark lawful.0 (items-lawful befo
     by_mark (wire.Accepts k) a ih = (items-admit k before lawful.1 (none-above k before lawful.1 (last-below k (last_client before) a)), ih)
     by_mark mark a ih = plain mark a (λ h. h) ih
 
-positive : (k : ℕ) → 0 < k → k ≡ 0 → ⊥
-positive k lt e = omega (arith, lt, e)
-
 -- so are all but the newest
 lawful-drop : (n : ℕ) (xs : List Item) → LawfulItems xs → LawfulItems (drop n xs)
 lawful-drop zero xs lawful = lawful
@@ -229,8 +220,3 @@ lawful-drop (suc n) (x ∷ xs) lawful = lawful-drop n xs lawful.1
 
 pub left-lawful : (left : ℕ) (marks : List Mark) → IsLawful marks → LawfulItems (drop left (items marks))
 left-lawful left marks lawful = lawful-drop left (items marks) (items-lawful marks lawful)
-
--- over all runs, each admitted client sees what it would see alone
-pub isolation : (policy : Policy) (pid : ℕ) (picks : List ℕ) (replies : List HouseReply) (marks : List Mark) (left : ℕ) (rows : List Row) → IsLawful marks → IsRight (by_lists policy pid picks replies) marks left rows → Unshared (by_lists policy pid picks replies) rows
-isolation policy pid picks replies marks left rows lawful right k lt admitted =
-    isolated policy pid k picks replies rows (subst (LogFacts policy pid k) (sym right.determined) (log-facts policy pid picks replies k (positive k lt) (drop left (items marks)) (left-lawful left marks lawful) (subst AreFresh right.determined right.fresh))) admitted

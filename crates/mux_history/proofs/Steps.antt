@@ -9,7 +9,7 @@ use Rattle.mux_history.specs.NotBuilt.{leaves}
 use Rattle.mux_history.specs.Rows.{Heard, Item, Row}
 use Rattle.ssh_grammar.specs.declared.side.Side.{Side}
 use Rattle.ssh_grammar.specs.declared.side.Side.TheVariants.{Down, Up}
-use Rattle.mux_isolation.proofs.Meets.{filter-no, filter-yes}
+use Rattle.mux_history.proofs.Finds.{filter-no, filter-yes}
 
 -- a change that leaves what is over
 abbrev pub LeavesOver : (Channel → Channel) → Type 0
@@ -40,12 +40,12 @@ heard-over : (item : Item) → LeavesOver (heard_by item)
 heard-over (Heard p) x over = reading-over p (λ m. with_down m x) x (λ m. down-over m x over)
 heard-over item x over = refl
 
-pub talked-over : (row : Row) → LeavesOver (after_item row)
-talked-over row x over = elim (x.client == row.client) as (λ b. (elim b as (λ _. Channel) [ true ↦ with_ups (own_of row.item) row.up (heard_by row.item x) | false ↦ x ]) ≡ x)
+pub item-over : (row : Row) → LeavesOver (after_item row)
+item-over row x over = elim (x.client == row.client) as (λ b. (elim b as (λ _. Channel) [ true ↦ with_ups (own_of row.item) row.up (heard_by row.item x) | false ↦ x ]) ≡ x)
     [ true ↦ ap (with_ups (own_of row.item) row.up) (heard-over row.item x over) ∙ ups-over (own_of row.item) row.up x over | false ↦ refl ]
 
-pub parted-over : (row : Row) → LeavesOver (after_farewell row)
-parted-over row x over = elim (x.client == row.client) as (λ b. (elim b as (λ _. Channel) [ true ↦ with_ups None row.farewell x | false ↦ x ]) ≡ x)
+pub farewell-over : (row : Row) → LeavesOver (after_farewell row)
+farewell-over row x over = elim (x.client == row.client) as (λ b. (elim b as (λ _. Channel) [ true ↦ with_ups None row.farewell x | false ↦ x ]) ≡ x)
     [ true ↦ ups-over None row.farewell x over | false ↦ refl ]
 
 -- what is over stays out
@@ -67,10 +67,10 @@ next_held row hs = filter is_held (map (after_farewell row) (filter is_held (map
 
 pub held-step : (row : Row) (before : List Row) → held_of (row ∷ before) ≡ next_held row (held_of before)
 held-step row before =
-    held-map (after_farewell row) (parted-over row) (map (after_item row) (channels_of before) ++ begun_by row.client row.up row.item)
+    held-map (after_farewell row) (farewell-over row) (map (after_item row) (channels_of before) ++ begun_by row.client row.up row.item)
     ∙ ap (λ ys. filter is_held (map (after_farewell row) ys))
     (filter-append is_held (map (after_item row) (channels_of before)) (begun_by row.client row.up row.item)
-    ∙ (ap (λ ys. ys ++ filter is_held (begun_by row.client row.up row.item)) (held-map (after_item row) (talked-over row) (channels_of before))
+    ∙ (ap (λ ys. ys ++ filter is_held (begun_by row.client row.up row.item)) (held-map (after_item row) (item-over row) (channels_of before))
     ∙ sym (filter-append is_held (map (after_item row) (held_of before)) (begun_by row.client row.up row.item))))
 
 -- the sums of one channel: what a ledger keeps goes on by one message
