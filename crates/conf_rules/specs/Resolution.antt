@@ -119,9 +119,10 @@ row_of told reads rows place line =
     let active = is_active rows place.pass line in
     row_with line active (effect_of told place.pass rows active (counted told reads rows line place.line))
 
--- whether a row is refused
-abbrev pub is_refused : Row → Bool
-is_refused row = elim row.entry [ Ok entry ↦ false | Err cause ↦ true ]
+-- whether a line is refused
+abbrev pub is_refused : Result Entry Cause → Bool
+is_refused (Ok entry) = false
+is_refused (Err cause) = true
 
 -- the place behind another in its pass
 abbrev pub next_place : Place → Place
@@ -133,7 +134,7 @@ rows_from told reads rows place [] = rows
 rows_from told reads rows place (line ∷ lines) =
     let row = row_of told reads rows place line in
     let later = rows_from told reads (rows ++ row ∷ []) (next_place place) lines in
-    if is_refused row then rows ++ row ∷ [] else later
+    if is_refused row.entry then rows ++ row ∷ [] else later
 
 -- the first place of a pass
 abbrev pub first_place : Pass → Place
@@ -147,14 +148,20 @@ rows_by told reads = rows_from told reads [] (first_place First) (all_lines told
 unfoldable pub all_rows : Told → List Row
 all_rows told = rows_by told entry_of
 
--- the refusal of a row
-abbrev pub refusal_of : Row → Option ResolveError
-refusal_of row = elim row.entry [ Ok entry ↦ None | Err cause ↦ Some (At row.line.file row.line.number cause) ]
+-- the refusal of a line, if it is refused
+abbrev pub refusal_at : Line → Result Entry Cause → Option ResolveError
+refusal_at line (Ok entry) = None
+refusal_at line (Err cause) = Some (At line.file line.number cause)
+
+-- the first of two refusals
+abbrev pub or_later : Option ResolveError → Option ResolveError → Option ResolveError
+or_later None later = later
+or_later (Some e) later = Some e
 
 -- the first refused place, if there is one
 abbrev pub refusal_in : List Row → Option ResolveError
 refusal_in [] = None
-refusal_in (row ∷ rows) = let later = refusal_in rows in elim (refusal_of row) [ Some e ↦ Some e | None ↦ later ]
+refusal_in (row ∷ rows) = or_later (refusal_at row.line row.entry) (refusal_in rows)
 
 -- the first refused place of a resolution
 abbrev pub refusal : Told → Option ResolveError

@@ -1,0 +1,11 @@
+pub mod Digits
+pub mod LineLemmas
+pub mod NameLemmas
+pub mod PatternLemmas
+pub mod RowLemmas
+pub mod ServedLemmas
+pub mod ValueLemmas
+pub mod ListingLemmas
+pub mod PlaceLemmas
+pub mod AlongLemmas
+pub mod FileLemmas

@@ -1,0 +1,80 @@
+-- What the rows of one file give is what the rows of all places give.
+use Rattle.std.proofs.Common.{◌≡◌, Bool, true, false, cond, not, ◌&&◌, List, [], ◌∷◌, ◌++◌, Some, None, Result, Ok, Err, refl, sym, ap, ◌∙◌, map}
+use Rattle.std.specs.Prelude.{flat_map}
+use Rattle.std.specs.List.{list_all, slice_get, cons_option}
+use Rattle.conf_rules.specs.declared.key.Key.{Key}
+use Rattle.conf_rules.specs.declared.key.Key.TheVariants.{Hostname}
+use Rattle.conf_rules.specs.declared.value.Value.{Value}
+use Rattle.conf_rules.specs.declared.value.Value.TheVariants.{Word}
+use Rattle.conf_rules.specs.declared.entry.Entry.{Entry}
+use Rattle.conf_rules.specs.declared.entry.Entry.TheVariants.{Nothing, Block, Tests, Gives}
+use Rattle.conf_rules.specs.declared.causes.Cause.{Cause}
+use Rattle.conf_rules.specs.Texts.{Bytes, has}
+use Rattle.conf_rules.specs.Keys.{same_key}
+use Rattle.conf_rules.specs.Rows.{Row as Place, entry_gives, given, values_among, first_of, word_in}
+use Rattle.conf_listing.specs.declared.rows.Row.{Row}
+use Rattle.conf_listing.specs.Shown.{entry_value, row_value, row_values, first_value}
+use Rattle.conf_listing.proofs.ServedLemmas.{is_plain_word, is_plain_entry}
+
+-- the entry of a row that isn't refused
+abbrev pub entry_in : Result Entry Cause → Entry
+entry_in (Ok entry) = entry
+entry_in (Err cause) = Nothing
+
+-- a row without its line
+abbrev pub brief : Place → Row
+brief row = record { entry = entry_in row.entry; applies = row.applies; active = row.active }
+
+given-more : (t : Bool) (key : Key) (entry : Result Entry Cause) (more : List (Key × Value)) → values_among key (cond t (entry_gives entry) [] ++ more) ≡ cons_option (cond t (entry_value key (entry_in entry)) None) (values_among key more)
+given-more false key entry more = refl
+given-more true key (Err cause) more = refl
+given-more true key (Ok Nothing) more = refl
+given-more true key (Ok (Block names)) more = refl
+given-more true key (Ok (Tests criteria)) more = refl
+given-more true key (Ok (Gives other v)) more = elim (same_key key other) as (λ t. cond t (v ∷ values_among key more) (values_among key more) ≡ cons_option (cond t (Some v) None) (values_among key more)) [ true ↦ refl | false ↦ refl ]
+
+-- the values of a key at all places are those of the rows
+pub same-values : (key : Key) (places : List Place) → values_among key (flat_map given places) ≡ row_values key (map brief places)
+same-values key [] = refl
+same-values key (p ∷ ps) = given-more p.active key p.entry (flat_map given ps) ∙ ap (cons_option (row_value key (brief p))) (same-values key ps)
+
+-- the first of several is the first of all
+pub first-of : (vs : List Value) → slice_get (first_of vs) 0 ≡ slice_get vs 0
+first-of [] = refl
+first-of (v ∷ vs) = refl
+
+-- whether what a row says is plain
+abbrev pub is_plain_row : Row → Bool
+is_plain_row row = is_plain_entry row.entry
+
+-- of two tests that both hold, each does
+pub both : (a b : Bool) → (a && b) ≡ true → (a ≡ true) × (b ≡ true)
+both true b e = (refl, e)
+both false b e = absurd cc
+
+no-percent : (b : Bool) → not b ≡ true → b ≡ false
+no-percent true e = absurd cc
+no-percent false e = refl
+
+-- a name in front is the first, and has no percent sign
+named-first : (s : Bool) (v : Value) (later : List Value) (text : Bytes) → cond s (is_plain_word v) true ≡ true
+    → (word_in (slice_get later 0) ≡ Some text → has 37 text ≡ false) → word_in (slice_get (cons_option (cond s (Some v) None) later) 0) ≡ Some text → has 37 text ≡ false
+named-first false v later text plain rest e = rest e
+named-first true (Word t) later text plain rest e = let k : t ≡ text = cc in rw (sym k) (no-percent (has 37 t) plain)
+named-first true v later text plain rest e = absurd cc
+
+plain-more : (t : Bool) (entry : Entry) (later : List Value) (text : Bytes)
+    → is_plain_entry entry ≡ true → (word_in (slice_get later 0) ≡ Some text → has 37 text ≡ false)
+    → word_in (slice_get (cons_option (cond t (entry_value Hostname entry) None) later) 0) ≡ Some text → has 37 text ≡ false
+plain-more false entry later text plain rest e = rest e
+plain-more true Nothing later text plain rest e = rest e
+plain-more true (Block names) later text plain rest e = rest e
+plain-more true (Tests criteria) later text plain rest e = rest e
+plain-more true (Gives key v) later text plain rest e = named-first (same_key Hostname key) v later text plain rest e
+
+-- the host name of plain rows has no percent sign
+pub name-plain : (rows : List Row) (text : Bytes) → list_all is_plain_row rows ≡ true → word_in (first_value Hostname rows) ≡ Some text → has 37 text ≡ false
+name-plain [] text plain e = absurd cc
+name-plain (row ∷ rows) text plain e =
+    let here = both (is_plain_row row) (list_all is_plain_row rows) plain in
+    plain-more row.active row.entry (row_values Hostname rows) text here.0 (name-plain rows text here.1) e

@@ -1,0 +1,5 @@
+pub mod Served
+pub mod Results
+pub mod OneFile
+pub mod Shown
+pub mod Answers
