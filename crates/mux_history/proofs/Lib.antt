@@ -1,9 +1,12 @@
+pub mod Accounts
+pub mod Answered
 pub mod Apart
 pub mod Askers
 pub mod Bools
 pub mod Dests
 pub mod Finds
 pub mod ForwardsLocal
+pub mod Indexed
 pub mod KeepsApart
 pub mod LawfulItems
 pub mod Local
@@ -16,3 +19,4 @@ pub mod Renumbered
 pub mod RightLogs
 pub mod Sends
 pub mod Steps
+pub mod Written

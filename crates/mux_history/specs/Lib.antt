@@ -23,3 +23,4 @@ pub mod WorkedProxy
 pub mod WorkedForwards
 pub mod WorkedLosses
 pub mod Settings
+pub mod Laws

@@ -5,6 +5,7 @@
 
 mod broke;
 mod ended;
+pub mod laws;
 mod why;
 mod worked;
 

@@ -6,7 +6,6 @@ pub mod Bounded
 pub mod Closed
 pub mod Heard
 pub mod HeardAlone
-pub mod Indexed
 pub mod Logs
 pub mod Mays
 pub mod Meets

@@ -1,14 +1,9 @@
-ghost use Rattle.mux_isolation.specs.Laws.{Isolation, NumbersAreApart, WindowsAreKept, PermissionsAreKept, AskersAreServed, OneIndexServes, NothingIsLeft, QueuesAreBounded};
+ghost use Rattle.mux_isolation.specs.Laws.{Isolation, WindowsAreKept, PermissionsAreKept, AskersAreServed, NothingIsLeft, QueuesAreBounded};
 
 /// What an admitted client is told and what is sent for it is what an unshared connection gives from its
 /// own bytes and the server's messages for its channels, up to the numbers that stand for its own.
 pub fn isolation()
     ensures { Isolation }
-{}
-
-/// At no row is a number held by two channels, nor one of the server's live in two.
-pub fn numbers_are_apart()
-    ensures { NumbersAreApart }
 {}
 
 /// Data in either direction is within the room and the maximum of its channel.
@@ -24,11 +19,6 @@ pub fn permissions_are_kept()
 /// Each reply that doesn't break the run is a row of the client that asked first.
 pub fn askers_are_served()
     ensures { AskersAreServed }
-{}
-
-/// A look-up among a client's channels by the server's number is the one among all channels.
-pub fn one_index_serves()
-    ensures { OneIndexServes }
 {}
 
 /// A client whose matters are closed has no channel, no request without a reply and no forwarding left.

@@ -3,9 +3,9 @@ use Rattle.std.proofs.Common.{◌≡◌, ℕ, List, [], ◌∷◌, true, false, 
 use Rattle.std.specs.Prelude.{◌==◌, ◌&&◌, not, filter, find}
 use Rattle.mux_history.specs.Channels.{Channel, channels_of, is_confirmed, is_held, is_number, is_up}
 use Rattle.mux_history.specs.Kept.{AtEach, ForEach}
+use Rattle.mux_history.specs.Laws.{LooksUp, kept}
 use Rattle.mux_history.specs.Policy.{Policy}
 use Rattle.mux_history.specs.Rows.{Row}
-use Rattle.mux_isolation.specs.Laws.{LooksUp, kept}
 use Rattle.mux_history.proofs.Apart.{AllApart, ApartFrom, AreApart, NotLive, each-filter, each-of}
 use Rattle.mux_history.proofs.Finds.{Each, filter-no, filter-yes, find-no, find-yes}
 use Rattle.mux_history.proofs.Local.{channels-local, is_of}

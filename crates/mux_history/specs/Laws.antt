@@ -1,0 +1,101 @@
+-- Laws of the history: how look-ups go on by one row, and what holds at every row of a right log.
+use Rattle.std.specs.Prelude.{ℕ, ◌≡◌, ◌≤◌, ◌+◌, ◌-◌, ◌==◌, ◌&&◌, not, Bool, List, ◌∷◌, ◌++◌, Option, Some, None, true, false, filter, map}
+use Rattle.mux_outside.specs.declared.mark.Mark.{Mark}
+use Rattle.mux_outside.specs.declared.house.HouseReply.{HouseReply}
+use Rattle.ssh_grammar.specs.declared.side.Side.{Side}
+use Rattle.mux_history.specs.Gist.{Act, Carries, Grants}
+use Rattle.mux_history.specs.Policy.{Policy}
+use Rattle.mux_history.specs.Rows.{Row, rows_of}
+use Rattle.mux_history.specs.Pending.{pending, given_to}
+use Rattle.mux_history.specs.Channels.{Channel, is_held, is_confirmed, is_up, channels_of, held_of, live_in, after_item, after_farewell, begun_by}
+use Rattle.mux_history.specs.Ledger.{other_side, room, initial, sum_of, granted, carried}
+use Rattle.mux_history.specs.Requests.{asks, answers}
+use Rattle.mux_history.specs.Forwardings.{forwardings_of}
+use Rattle.mux_history.specs.Said.{confirmed_at, waiting_at}
+use Rattle.mux_history.specs.Log.{Setting}
+use Rattle.mux_history.specs.Journal.{taken_by, log_of_journal, IsLawful}
+use Rattle.mux_history.specs.Promises.{Throughout, TakesFront}
+use Rattle.mux_history.specs.Right.{IsRight}
+use Rattle.mux_history.specs.Kept.{AtEach, NumbersApart}
+use Rattle.mux_history.specs.Settings.{by_lists}
+
+-- ---- rows of others
+
+-- a row of another client leaves a client's rows as they were, and with them all that is looked up in them
+abbrev pub OthersStay : Type 0
+OthersStay = (k : ℕ) (row : Row) (before : List Row) → (row.client == k) ≡ false → rows_of k (row ∷ before) ≡ rows_of k before
+
+-- a client's channels, forwardings and asks are those of all that are its own
+pub record IsLocal (k : ℕ) (rows : List Row) : Type 0 where
+  pub channels : channels_of (rows_of k rows) ≡ filter (λ x. x.client == k) (channels_of rows)
+  pub forwardings : forwardings_of (rows_of k rows) ≡ filter (λ f. f.client == k) (forwardings_of rows)
+  pub asks : asks (rows_of k rows) ≡ filter (λ a. a.client == k) (asks rows)
+
+abbrev pub LookUpsAreLocal : Type 0
+LookUpsAreLocal = (k : ℕ) (rows : List Row) → IsLocal k rows
+
+-- ---- one more row
+
+-- the channels that are held after a row, from those that were held before it
+abbrev pub next_held : Row → List Channel → List Channel
+next_held row held = filter is_held (map (after_farewell row) (filter is_held (map (after_item row) held ++ begun_by row.client row.up row.item)))
+
+abbrev pub HeldGoesOn : Type 0
+HeldGoesOn = (row : Row) (before : List Row) → held_of (row ∷ before) ≡ next_held row (held_of before)
+
+-- what a client was answered stays: a row only adds answers
+abbrev pub AnswersOnlyGrow : Type 0
+AnswersOnlyGrow = (row : Row) (own : List Row) → (more : List (List ℕ)) × (answers (row ∷ own) ≡ answers own ++ more)
+
+-- ---- one more act in a channel
+
+abbrev pub with_act : Side → Act → Channel → Channel
+with_act way act x = record x { acts = (way, act) ∷ x.acts }
+
+-- no more was carried in a direction than was granted for it
+abbrev pub IsWithin : Side → Channel → Type 0
+IsWithin way x = sum_of carried way x.acts ≤ initial way x + sum_of granted (other_side way) x.acts
+
+-- data takes its length from the room of its direction and leaves the other; an adjustment adds to the other
+pub record RoomsGoOn (way : Side) (n : ℕ) (x : Channel) : Type 0 where
+  pub carries : room way (with_act way (Carries n) x) ≡ room way x - n
+  pub leaves : room (other_side way) (with_act way (Carries n) x) ≡ room (other_side way) x
+  pub grants : IsWithin (other_side way) x → room (other_side way) (with_act way (Grants n) x) ≡ room (other_side way) x + n
+  pub keeps : room way (with_act way (Grants n) x) ≡ room way x
+
+abbrev pub AccountsGoOn : Type 0
+AccountsGoOn = (way : Side) (n : ℕ) (x : Channel) → RoomsGoOn way n x
+
+-- ---- what a stream took and what waits for it make up what it is given
+
+abbrev pub AddsUp : Setting → List Mark → Type 0
+AddsUp setting marks = (t : ℕ) → taken_by t marks ++ pending t (log_of_journal setting marks) ≡ given_to t (log_of_journal setting marks)
+
+abbrev pub WrittenAddsUp : Type 0
+WrittenAddsUp = (setting : Setting) (marks : List Mark) → Throughout (TakesFront setting) marks → AddsUp setting marks
+
+-- ---- at every row of a right log
+
+-- of every right log of a lawful wire, whatever numbers are picked and whatever the house replies
+abbrev pub OverRight : (Setting → List Row → Type 0) → Type 0
+OverRight P = (policy : Policy) (pid : ℕ) (picks : List ℕ) (given : List HouseReply) (marks : List Mark) (left : ℕ) (rows : List Row) → IsLawful marks → IsRight (by_lists policy pid picks given) marks left rows → P (by_lists policy pid picks given) rows
+
+-- no number is held by two channels, nor is one of the server's live in two
+abbrev pub NumbersAreApart : Type 0
+NumbersAreApart = OverRight (λ setting rows. AtEach NumbersApart rows)
+
+-- what was found, where it passes
+abbrev pub kept : (Channel → Bool) → Option Channel → Option Channel
+kept test None = None
+kept test (Some x) = elim (test x) [ true ↦ Some x | false ↦ None ]
+
+-- a look-up by the server's number among a client's channels is the one among all, so that one index serves all
+pub record LooksUpAt (rows : List Row) (k s : ℕ) : Type 0 where
+  pub confirmed : confirmed_at (rows_of k rows) s ≡ kept (λ x. (x.client == k) && is_confirmed x) (live_in rows s)
+  pub waiting : waiting_at (rows_of k rows) s ≡ kept (λ x. (x.client == k) && (not (is_up x.by) && not (is_confirmed x))) (live_in rows s)
+
+abbrev pub LooksUp : List Row → Type 0
+LooksUp rows = (k s : ℕ) → LooksUpAt rows k s
+
+abbrev pub OneIndexServes : Type 0
+OneIndexServes = OverRight (λ setting rows. AtEach LooksUp rows)

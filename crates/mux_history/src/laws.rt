@@ -1,0 +1,44 @@
+//! How look-ups go on by one row, and what holds at every row of a right log: each function's contract is
+//! the law.
+
+ghost use Rattle.mux_history.specs.Laws.{OthersStay, LookUpsAreLocal, HeldGoesOn, AnswersOnlyGrow, AccountsGoOn, WrittenAddsUp, NumbersAreApart, OneIndexServes};
+
+/// A row of another client leaves a client's rows as they were.
+pub fn others_stay()
+    ensures { OthersStay }
+{}
+
+/// A client's channels, forwardings and asks are those among all that are its own.
+pub fn look_ups_are_local()
+    ensures { LookUpsAreLocal }
+{}
+
+/// The channels that are held go on by one row.
+pub fn held_goes_on()
+    ensures { HeldGoesOn }
+{}
+
+/// What a client was answered stays.
+pub fn answers_only_grow()
+    ensures { AnswersOnlyGrow }
+{}
+
+/// The rooms of a channel go on by one message.
+pub fn accounts_go_on()
+    ensures { AccountsGoOn }
+{}
+
+/// What a stream took and what waits for it make up what it is given.
+pub fn written_adds_up()
+    ensures { WrittenAddsUp }
+{}
+
+/// At no row is a number held by two channels, nor one of the server's live in two.
+pub fn numbers_are_apart()
+    ensures { NumbersAreApart }
+{}
+
+/// A look-up among a client's channels by the server's number is the one among all channels.
+pub fn one_index_serves()
+    ensures { OneIndexServes }
+{}
