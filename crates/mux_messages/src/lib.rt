@@ -10,3 +10,6 @@ pub use control::Control;
 pub use read::read_control;
 pub use ssh_grammar::BadControl;
 pub use write::{LONGEST_REASON, alive, failure, hello, ok, proxy, remote_port};
+
+#[cfg(test)]
+mod tests;
