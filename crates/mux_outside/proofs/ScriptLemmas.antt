@@ -17,11 +17,13 @@ FirstPasses test [] = Unit {0}
 FirstPasses test (step ∷ steps) = test step ≡ true
 
 -- the steps from the first one that passes begin with one that passes
-pub first_passes : (test : Step → Bool) (steps : List Step) → FirstPasses test (from_first test steps)
+pub first_passes : (test : Step → Bool) (steps : List Step)
+    → FirstPasses test (from_first test steps)
 first_passes test [] = tt
 first_passes test (step ∷ steps) = by_case (test step) refl (first_passes test steps)
   where
-    by_case : (b : Bool) → test step ≡ b → FirstPasses test (from_first test steps) → FirstPasses test (if b then step ∷ steps else from_first test steps)
+    by_case : (b : Bool) → test step ≡ b → FirstPasses test (from_first test steps)
+        → FirstPasses test (if b then step ∷ steps else from_first test steps)
     by_case true e later = e
     by_case false e later = later
 
@@ -35,11 +37,14 @@ cut_first-zero (Fail t ∷ steps) = refl
 cut_first-zero (Writable t ∷ steps) = refl
 
 -- a step that fails the test is passed over
-pub over_one : (test : Step → Bool) (step : Step) (steps : List Step) → test step ≡ false → from_first test (step ∷ steps) ≡ from_first test steps
+pub over_one : (test : Step → Bool) (step : Step) (steps : List Step) → test step ≡ false
+    → from_first test (step ∷ steps) ≡ from_first test steps
 over_one test step steps e = ap (λ b. if b then step ∷ steps else from_first test steps) e
 
 -- the same at a place in a list of which the first step has given some bytes
-pub over_place : (test : Step → Bool) (steps : List Step) (i offset : ℕ) (step : Step) → i < length steps → step ≡ get_or steps i step → test (cut_step offset step) ≡ false → from_first test (cut_first 0 (drop (i + 1) steps)) ≡ from_first test (cut_first offset (drop i steps))
+pub over_place : (test : Step → Bool) (steps : List Step) (i offset : ℕ) (step : Step)
+    → i < length steps → step ≡ get_or steps i step → test (cut_step offset step) ≡ false
+    → from_first test (cut_first 0 (drop (i + 1) steps)) ≡ from_first test (cut_first offset (drop i steps))
 over_place test steps i offset step l at e =
     ap (from_first test) (cut_first-zero (drop (i + 1) steps))
     ∙ sym (over_one test (cut_step offset step) (drop (i + 1) steps) e)
@@ -47,7 +52,8 @@ over_place test steps i offset step l at e =
     ∙ sym (ap (λ s. from_first test (cut_first offset s)) (drop_more steps i step l))
 
 -- a step that isn't skipped can be given
-pub gives_first : (listens : Bool) (last : ℕ) (streams blocked : List ℕ) (steps : List Step) → FirstPasses (is_given listens last streams blocked) steps → FirstGives last steps
+pub gives_first : (listens : Bool) (last : ℕ) (streams blocked : List ℕ) (steps : List Step)
+    → FirstPasses (is_given listens last streams blocked) steps → FirstGives last steps
 gives_first listens last streams blocked [] p = tt
 gives_first listens last streams blocked (Accept ∷ steps) p = grind (arith, common_steps)
 gives_first listens last streams blocked (Bytes t text ∷ steps) p = tt
@@ -61,11 +67,15 @@ both true b e = (refl, e)
 both false b e = (e, cc)
 
 -- a piece of bytes that aren't none isn't empty, and is short enough
-pub piece_fits : (n : ℕ) (text : List ℕ) → 0 < n → IsTrue (not (length text == 0)) → (0 < length (take n text)) × (length (take n text) ≤ n)
+pub piece_fits : (n : ℕ) (text : List ℕ) → 0 < n → IsTrue (not (length text == 0))
+    → (0 < length (take n text)) × (length (take n text) ≤ n)
 piece_fits n text l some = grind (arith, length-take)
 
 -- its turn is one that a wire may give
-pub first_fits : (listens : Bool) (last : ℕ) (streams blocked : List ℕ) (steps : List Step) (piece : List ℕ) → IsTrue (among 0 streams) → FirstPasses (is_given listens last streams blocked) steps → TurnFits (turn_of last steps) Read listens last streams blocked (piece_of steps piece)
+pub first_fits : (listens : Bool) (last : ℕ) (streams blocked : List ℕ) (steps : List Step)
+    (piece : List ℕ) → IsTrue (among 0 streams)
+    → FirstPasses (is_given listens last streams blocked) steps
+    → TurnFits (turn_of last steps) Read listens last streams blocked (piece_of steps piece)
 first_fits listens last streams blocked [] piece server p = (refl, server)
 first_fits listens last streams blocked (Accept ∷ steps) piece server p = (refl, (both listens _ p).0, refl)
 first_fits listens last streams blocked (Bytes t text ∷ steps) piece server p =
@@ -77,19 +87,31 @@ first_fits listens last streams blocked (Fail t ∷ steps) piece server p = p
 first_fits listens last streams blocked (Writable t ∷ steps) piece server p = both _ _ p
 
 -- the turn at a place that was found
-pub given_fits : (listens : Bool) (last : ℕ) (streams blocked : List ℕ) (all steps : List Step) (piece piece' : List ℕ) (turn : Turn) (want : Want) → want ≡ Read → steps ≡ from_first (is_given listens last streams blocked) all → turn ≡ turn_of last steps → piece' ≡ piece_of steps piece → IsTrue (among 0 streams) → TurnFits turn want listens last streams blocked piece'
-given_fits listens last streams blocked all steps piece piece' turn want reads found gives fills server =
-    rw (reads, gives, fills, found) (first_fits listens last streams blocked _ piece server (first_passes _ all))
+pub given_fits : (listens : Bool) (last : ℕ) (streams blocked : List ℕ) (all steps : List Step)
+    (piece piece' : List ℕ) (turn : Turn) (want : Want) → want ≡ Read
+    → steps ≡ from_first (is_given listens last streams blocked) all
+    → turn ≡ turn_of last steps → piece' ≡ piece_of steps piece → IsTrue (among 0 streams)
+    → TurnFits turn want listens last streams blocked piece'
+given_fits listens last streams blocked all steps piece piece' turn want reads found gives fills
+    server =
+    rw (reads, gives, fills, found)
+    (first_fits listens last streams blocked _ piece server (first_passes _ all))
 
 -- a place that was found can be given
-pub found_gives : (listens : Bool) (last : ℕ) (streams blocked : List ℕ) (all steps : List Step) → steps ≡ from_first (is_given listens last streams blocked) all → FirstGives last steps
-found_gives listens last streams blocked all steps found = rw found (gives_first listens last streams blocked _ (first_passes _ all))
+pub found_gives : (listens : Bool) (last : ℕ) (streams blocked : List ℕ) (all steps : List Step)
+    → steps ≡ from_first (is_given listens last streams blocked) all → FirstGives last steps
+found_gives listens last streams blocked all steps found =
+    rw found (gives_first listens last streams blocked _ (first_passes _ all))
 
 -- what is left of a text behind a piece
-pub behind_piece : (n offset start count : ℕ) (text : List ℕ) → start ≡ min offset (length text) → count ≡ min n (length (take (length text - start) (drop start text))) → drop (start + count) text ≡ drop n (drop offset text)
+pub behind_piece : (n offset start count : ℕ) (text : List ℕ) → start ≡ min offset (length text)
+    → count ≡ min n (length (take (length text - start) (drop start text)))
+    → drop (start + count) text ≡ drop n (drop offset text)
 behind_piece n offset start count text at many =
-    let cut : drop start text ≡ drop offset text = ap (λ i. drop i text) at ∙ drop_min offset text in
-    let all : take (length text - start) (drop start text) ≡ drop start text = take_rest text start in
+    let cut : drop start text ≡ drop offset text =
+    ap (λ i. drop i text) at ∙ drop_min offset text in
+    let all : take (length text - start) (drop start text) ≡ drop start text =
+    take_rest text start in
     sym (drop-drop count start text)
     ∙ ap (λ i. drop i (drop start text)) (many ∙ ap (λ xs. min n (length xs)) all)
     ∙ drop_min n (drop start text)

@@ -9,7 +9,9 @@ use Rattle.mux_outside.specs.declared.pairs.Pair.{Pair}
 -- the value under a name, of equal names the first
 abbrev pub value_at : List Pair → List ℕ → Option (List ℕ)
 value_at [] name = None
-value_at (p ∷ ps) name = let later = value_at ps name in if bytes_eq p.name name then Some p.value else later
+value_at (p ∷ ps) name =
+    let later = value_at ps name in
+    if bytes_eq p.name name then Some p.value else later
 
 -- a slash; alone, it is the root's path too
 abbrev pub slash : List ℕ
@@ -17,15 +19,21 @@ slash = 47 ∷ []
 
 -- what stands behind a prefix
 abbrev pub behind : List ℕ → List ℕ → Option (List ℕ)
-behind prefix path = if bytes_eq (take (length prefix) path) prefix then Some (drop (length prefix) path) else None
+behind prefix path =
+    if bytes_eq (take (length prefix) path) prefix then Some (drop (length prefix) path) else None
 
 -- what of a path stands behind a directory and its slash
 abbrev pub inside : List ℕ → List ℕ → Option (List ℕ)
-inside dir path = if bytes_eq dir slash then behind slash path else option_and_then (behind slash) (behind dir path)
+inside dir path =
+    if bytes_eq dir slash then behind slash path
+    else option_and_then (behind slash) (behind dir path)
 
--- whether a path names a directory: the root, or a prefix of a path that isn't empty and is followed by a slash
+-- whether a path names a directory: the root, or a prefix of a path that isn't empty and that a slash
+-- follows
 abbrev pub is_directory : List Pair → List ℕ → Bool
-is_directory files dir = bytes_eq dir slash || (not (bytes_eq dir []) && list_any (λ p. is_some (inside dir p.name)) files)
+is_directory files dir =
+    bytes_eq dir slash
+    || (not (bytes_eq dir []) && list_any (λ p. is_some (inside dir p.name)) files)
 
 -- what a path holds, where it names a file and no directory
 abbrev pub content_at : List Pair → List ℕ → Option (List ℕ)
@@ -38,7 +46,8 @@ as_name (b ∷ bs) = Some (b ∷ bs)
 
 -- the name in a directory by which a path goes on
 abbrev pub name_in : List ℕ → Pair → Option (List ℕ)
-name_in dir p = option_and_then as_name (option_map (before_first (λ b. b == 47)) (inside dir p.name))
+name_in dir p =
+    option_and_then as_name (option_map (before_first (λ b. b == 47)) (inside dir p.name))
 
 -- the names with one more, unless it is among them
 abbrev pub with_name : List (List ℕ) → List ℕ → List (List ℕ)
@@ -57,7 +66,8 @@ Reads (Some files) path most (Ok found) = found ≡ option_map (take most) (cont
 -- the names of a directory in any order, if there is such a directory
 abbrev pub ListsNames : List Pair → List ℕ → Option (List (List ℕ)) → Type 0
 ListsNames files dir None = is_directory files dir ≡ false
-ListsNames files dir (Some names) = (is_directory files dir ≡ true) × IsPermutation (names_in files dir) names
+ListsNames files dir (Some names) =
+    (is_directory files dir ≡ true) × IsPermutation (names_in files dir) names
 
 -- the answer of a listing
 abbrev pub Lists : Option (List Pair) → List ℕ → Result (Option (List (List ℕ))) FileError → Type 0

@@ -7,7 +7,9 @@ use Rattle.mux_outside.specs.declared.statuses.CommandStatus.{CommandStatus}
 -- the status of a command, of equal commands the first; a command that isn't there has 127
 abbrev pub status_of : List CommandStatus → List ℕ → ℕ
 status_of [] command = 127
-status_of (s ∷ ss) command = let later = status_of ss command in if bytes_eq s.command command then s.status else later
+status_of (s ∷ ss) command =
+    let later = status_of ss command in
+    if bytes_eq s.command command then s.status else later
 
 -- the answer of a run
 abbrev pub EndsWith : Option (List CommandStatus) → List ℕ → Result ℕ FileError → Type 0

@@ -1,6 +1,8 @@
 -- What a script gives: the turns of its steps, and the answers to writes by its entries.
 use Rattle.std.specs.Prelude.{◌<◌, ℕ, ◌+◌, ◌-◌, ◌^◌, Bool, not, ◌&&◌, if◌then◌else◌, ◌==◌, nat_lt, List, [], ◌∷◌, length, take, drop, min, max, unwrap_or, slice_get}
 use Rattle.mux_outside.specs.Streams.{among}
+use Rattle.mux_outside.specs.declared.plan.Place.{Place}
+use Rattle.mux_outside.specs.declared.plan.State.{State}
 use Rattle.mux_outside.specs.declared.script.Step.{Step}
 use Rattle.mux_outside.specs.declared.script.Step.TheVariants.{Accept, Bytes, End, Fail, Writable}
 use Rattle.mux_outside.specs.declared.script.WriteEntry.{WriteEntry}
@@ -12,13 +14,17 @@ use Rattle.mux_outside.specs.declared.turn.Wrote.TheVariants.{Took, Later as IsL
 
 -- ---- steps
 
--- whether a step isn't skipped, by whether the wire listens, its last client, and its open and blocked streams
+-- whether a step isn't skipped: by the listening, the last client, the open and the blocked streams
 abbrev pub is_given : Bool → ℕ → List ℕ → List ℕ → Step → Bool
 is_given listens last streams blocked Accept = listens && nat_lt last (2 ^ 64 - 1)
 is_given listens last streams blocked (Bytes t text) = among t streams && not (length text == 0)
 is_given listens last streams blocked (End t) = among t streams
 is_given listens last streams blocked (Fail t) = among t streams
 is_given listens last streams blocked (Writable t) = among t streams && among t blocked
+
+-- the same in a state of the wire
+abbrev pub is_given_in : State → Step → Bool
+is_given_in state step = is_given state.listening state.last state.streams.now state.blocked.now step
 
 -- a client can come only while there is a number above that of the last one
 abbrev pub FirstGives : ℕ → List Step → Type 0
@@ -32,7 +38,9 @@ FirstGives last (Writable t ∷ steps) = Unit {0}
 -- the steps from the first one that isn't skipped
 abbrev pub from_first : (Step → Bool) → List Step → List Step
 from_first test [] = []
-from_first test (step ∷ steps) = let later = from_first test steps in if test step then step ∷ steps else later
+from_first test (step ∷ steps) =
+    let later = from_first test steps in
+    if test step then step ∷ steps else later
 
 -- the turn of the first step, and behind the last step the server's end
 abbrev pub turn_of : ℕ → List Step → Turn
@@ -73,6 +81,10 @@ cut_step n (Writable t) = Writable t
 abbrev pub cut_first : ℕ → List Step → List Step
 cut_first n [] = []
 cut_first n (step ∷ steps) = cut_step n step ∷ steps
+
+-- the steps from a place on
+abbrev pub steps_from : List Step → Place → List Step
+steps_from steps place = cut_first place.offset (drop place.step steps)
 
 -- ---- writes
 

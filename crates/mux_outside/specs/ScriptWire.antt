@@ -1,10 +1,10 @@
 -- How a wire in memory follows its script.
-use Rattle.std.specs.Prelude.{◌≡◌, ℕ, Bool, true, false, List, [], drop, slice_index, Result, Ok, Err}
+use Rattle.std.specs.Prelude.{◌≡◌, ℕ, Bool, true, false, List, [], slice_index, Result, Ok, Err}
 use Rattle.mux_outside.specs.Streams.{among}
 use Rattle.mux_outside.specs.declared.file_error.FileError.{FileError}
 use Rattle.mux_outside.specs.declared.file_error.FileError.TheVariants.{Failed, OutOfMemory}
 use Rattle.mux_outside.specs.Calls.{next_call}
-use Rattle.mux_outside.specs.Script.{is_given, from_first, turn_of, piece_of, steps_after, cut_first, entry_at, answer_of}
+use Rattle.mux_outside.specs.Script.{is_given, from_first, turn_of, piece_of, steps_after, steps_from, entry_at, answer_of}
 use Rattle.mux_outside.specs.declared.script.Step.{Step}
 use Rattle.mux_outside.specs.declared.script.WriteEntry.{WriteEntry}
 use Rattle.mux_outside.specs.declared.turn.Want.{Want}
@@ -15,10 +15,6 @@ use Rattle.mux_outside.specs.declared.turn.Wrote.{Wrote}
 use Rattle.mux_outside.specs.declared.plan.Place.{Place}
 use Rattle.mux_outside.specs.declared.script_wire.ScriptWire.{ScriptWire}
 
--- the steps from a place on
-abbrev pub steps_from : List Step → Place → List Step
-steps_from steps place = cut_first place.offset (drop place.step steps)
-
 -- the steps that are left
 abbrev pub steps_left : ScriptWire → List Step
 steps_left w = steps_from w.steps w.place
@@ -27,14 +23,16 @@ steps_left w = steps_from w.steps w.place
 abbrev pub steps_ahead : ScriptWire → List Step
 steps_ahead w = from_first (is_given w.listening w.last w.streams w.blocked) (steps_left w)
 
--- a turn is that of the next step that isn't skipped, and the place after it leaves the steps behind
-pub record GivesStep (old : ScriptWire) (place : Place) (turn : Turn) (before after : List ℕ) : Type 0 where
+-- a turn is that of the next step that isn't skipped, and the place after it leaves those behind it
+pub record GivesStep (old : ScriptWire) (place : Place) (turn : Turn) (before after : List ℕ)
+    : Type 0 where
   pub turn_is : turn ≡ turn_of old.last (steps_ahead old)
   pub piece_is : after ≡ piece_of (steps_ahead old) before
   pub left_are : steps_from old.steps place ≡ steps_after (steps_ahead old)
 
 -- a turn is that the first waiting stream takes bytes again, and no step was given
-pub record FreesFirst (waiting : List ℕ) (old : ScriptWire) (place : Place) (turn : Turn) : Type 0 where
+pub record FreesFirst (waiting : List ℕ) (old : ScriptWire) (place : Place) (turn : Turn)
+    : Type 0 where
   pub turn_is : turn ≡ Writable (slice_index waiting 0)
   pub left_are : place ≡ old.place
 
@@ -43,28 +41,49 @@ abbrev pub GivesAt : Want → List ℕ → ScriptWire → Place → Turn → Lis
 GivesAt Read waiting old place turn before after = GivesStep old place turn before after
 GivesAt WriteOnly waiting old place turn before after = FreesFirst waiting old place turn
 
--- what a wait gives: want of memory changes nothing
-abbrev pub GivesNext : Want → List ℕ → ScriptWire → ScriptWire → Turn → List ℕ → List ℕ → Type 0
-GivesNext want waiting old new turn before after = GivesAt want waiting old new.place turn before after × (new.steps ≡ old.steps)
+-- the steps that are left stay
+pub record KeepsSteps (old new : ScriptWire) : Type 0 where
+  pub steps_kept : new.steps ≡ old.steps
+  pub place_kept : new.place ≡ old.place
+
+-- the entries that are left stay
+pub record KeepsWrites (old new : ScriptWire) : Type 0 where
+  pub writes_kept : new.writes ≡ old.writes
+  pub written_kept : new.written ≡ old.written
+
+-- which calls of open fail stays
+pub record KeepsOpens (old new : ScriptWire) : Type 0 where
+  pub fails_kept : new.fails ≡ old.fails
+  pub opens_kept : new.opens ≡ old.opens
+
+-- what a wait gives
+pub record GivesNext (want : Want) (waiting : List ℕ) (old new : ScriptWire) (turn : Turn)
+    (before after : List ℕ) : Type 0 where
+  pub gives : GivesAt want waiting old new.place turn before after
+  pub steps_kept : new.steps ≡ old.steps
 
 -- a write followed its entry
 pub record FollowsEntry (len : ℕ) (old new : ScriptWire) (wrote : Wrote) : Type 0 where
   pub wrote_is : wrote ≡ answer_of (entry_at old.writes old.written) len
+  pub writes_kept : new.writes ≡ old.writes
   pub written_is : new.written ≡ next_call old.written
 
 -- a call of open that was counted, and whether it is one of those that fail
 pub record CountsOpen (fails : Bool) (old new : ScriptWire) : Type 0 where
   pub number_fails : among (next_call old.opens) old.fails ≡ fails
   pub opens_are : new.opens ≡ next_call old.opens
+  pub fails_kept : new.fails ≡ old.fails
 
--- a call of open fails exactly where its number is among those that fail; for want of memory it isn't counted
+-- a call of open fails exactly where its number is among those that fail, and isn't counted for want
+-- of memory
 abbrev pub OpensByNumber : Result (Unit {0}) FileError → ScriptWire → ScriptWire → Type 0
 OpensByNumber (Ok x) old new = CountsOpen false old new
 OpensByNumber (Err Failed) old new = CountsOpen true old new
-OpensByNumber (Err OutOfMemory) old new = new.opens ≡ old.opens
+OpensByNumber (Err OutOfMemory) old new = KeepsOpens old new
 
 -- a wire at the start of its script
-pub record Starts (w : ScriptWire) (steps : List Step) (writes : List WriteEntry) (fails : List ℕ) : Type 0 where
+pub record Starts (w : ScriptWire) (steps : List Step) (writes : List WriteEntry) (fails : List ℕ)
+    : Type 0 where
   pub steps_are : w.steps ≡ steps
   pub place_is : w.place ≡ record { step = 0; offset = 0 }
   pub writes_are : w.writes ≡ writes

@@ -10,7 +10,7 @@ pub record TookPrefix (before now bytes : List ℕ) : Type 0 where
   pub whole : bytes ≡ prefix ++ rest
   pub taken : now ≡ before ++ prefix
 
--- what was taken after a call: all bytes, where it failed a prefix of them, and nothing for want of memory
+-- what was taken after a call: all bytes, where it failed a prefix, and nothing for want of memory
 abbrev pub Takes : Result (Unit {0}) FileError → List ℕ → List ℕ → List ℕ → Type 0
 Takes (Ok x) before now bytes = now ≡ before ++ bytes
 Takes (Err Failed) before now bytes = TookPrefix before now bytes

@@ -22,7 +22,9 @@ pub record SameFaults (server server' client client' : ℕ) : Type 0 where
 
 -- the count of the stream's side rose, and the other stays
 abbrev pub StreamFault : ℕ → ℕ → ℕ → ℕ → ℕ → Type 0
-StreamFault t server server' client client' = MatchBool (t == 0) (Rose server server' × (client' ≡ client)) ((server' ≡ server) × Rose client client')
+StreamFault t server server' client client' =
+    MatchBool (t == 0) (Rose server server' × (client' ≡ client))
+    ((server' ≡ server) × Rose client client')
 
 -- ---- open
 
@@ -48,10 +50,13 @@ OpenFaults (Err OutOfMemory) server server' client client' = SameFaults server s
 
 -- which turns may be given
 abbrev pub TurnFits : Turn → Want → Bool → ℕ → List ℕ → List ℕ → List ℕ → Type 0
-TurnFits (Accepted k) want listens last streams blocked bytes = (want ≡ Read) × (listens ≡ true) × (k ≡ last + 1)
-TurnFits (Got t) want listens last streams blocked bytes = (want ≡ Read) × IsTrue (among t streams) × (0 < length bytes) × (length bytes ≤ 65536)
+TurnFits (Accepted k) want listens last streams blocked bytes =
+    (want ≡ Read) × (listens ≡ true) × (k ≡ last + 1)
+TurnFits (Got t) want listens last streams blocked bytes =
+    (want ≡ Read) × IsTrue (among t streams) × (0 < length bytes) × (length bytes ≤ 65536)
 TurnFits (End t) want listens last streams blocked bytes = (want ≡ Read) × IsTrue (among t streams)
-TurnFits (Writable t) want listens last streams blocked bytes = IsTrue (among t streams) × IsTrue (among t blocked)
+TurnFits (Writable t) want listens last streams blocked bytes =
+    IsTrue (among t streams) × IsTrue (among t blocked)
 TurnFits (Failed t) want listens last streams blocked bytes = IsTrue (among t streams)
 TurnFits NoMemory want listens last streams blocked bytes = Unit {0}
 
@@ -66,11 +71,16 @@ turn_marks NoMemory bytes = []
 
 -- the marks that a call of wait adds: the call and its turn, for want of memory none
 abbrev pub wait_marks : Turn → List ℕ → Want → List ℕ → Bool → List ℕ → List Mark
-wait_marks (Accepted k) waiting want streams listens bytes = Waits waiting want streams listens ∷ Accepts k ∷ []
-wait_marks (Got t) waiting want streams listens bytes = Waits waiting want streams listens ∷ Gets t bytes ∷ []
-wait_marks (End t) waiting want streams listens bytes = Waits waiting want streams listens ∷ Ends t ∷ []
-wait_marks (Writable t) waiting want streams listens bytes = Waits waiting want streams listens ∷ Frees t ∷ []
-wait_marks (Failed t) waiting want streams listens bytes = Waits waiting want streams listens ∷ Fails t ∷ []
+wait_marks (Accepted k) waiting want streams listens bytes =
+    Waits waiting want streams listens ∷ Accepts k ∷ []
+wait_marks (Got t) waiting want streams listens bytes =
+    Waits waiting want streams listens ∷ Gets t bytes ∷ []
+wait_marks (End t) waiting want streams listens bytes =
+    Waits waiting want streams listens ∷ Ends t ∷ []
+wait_marks (Writable t) waiting want streams listens bytes =
+    Waits waiting want streams listens ∷ Frees t ∷ []
+wait_marks (Failed t) waiting want streams listens bytes =
+    Waits waiting want streams listens ∷ Fails t ∷ []
 wait_marks NoMemory waiting want streams listens bytes = []
 
 -- the streams that are open after a turn

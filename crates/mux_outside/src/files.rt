@@ -14,8 +14,8 @@ pub trait Files {
     /// How many calls failed.
     ghost faults: { Self → ℕ };
 
-    /// The first `most` bytes of a file, fewer where it is shorter. `None`: there is no such file, or
-    /// the path names a directory.
+    /// The first `most` bytes of a file, fewer where it is shorter. `None`: there is no such file,
+    /// or the path names a directory.
     fn read(&mut self, path: &[u8], most: usize) -> Result<Option<Text>, FileError>
         ensures reads { Reads (told self.old) path.now most result }
         ensures at_most { IfOk result (λ found. IfSome found (λ text. length text ≤ most)) }

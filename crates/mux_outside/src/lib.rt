@@ -1,5 +1,5 @@
-//! The outside as the program sees it: traits for the streams, files, commands and sinks of a run and
-//! for the master's own forwardings, the facts of the machine, and objects in memory for each trait.
+//! The outside as the program sees it: traits for the streams, files, commands and sinks of a run
+//! and for the master's own forwardings, the facts of the machine, and objects in memory.
 #![tactic(auto)]
 
 mod calls;

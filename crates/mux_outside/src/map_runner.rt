@@ -71,7 +71,8 @@ impl Runner for MapRunner {
 
     fn run(&mut self, command: &[u8]) -> Result<u8, FileError>
         ensures status { EndsWith (Some self.old.statuses) command.now result }
-        ensures ran { Some self.new.ran ≡ option_map (λ cs. cs ++ commands_run result command.now) (Some self.old.ran) }
+        ensures ran { Some self.new.ran
+            ≡ option_map (λ cs. cs ++ commands_run result command.now) (Some self.old.ran) }
         ensures cause { HasCause result self.old.faults self.new.faults }
         ensures told { Some self.new.statuses ≡ Some self.old.statuses }
         ensures exact { FailsByNumber result self.old.calls self.old.fails }

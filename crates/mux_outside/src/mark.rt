@@ -13,8 +13,8 @@ pub struct Opening {
     pub transport: Text,
 }
 
-/// What a wire that tells has recorded: each call of `wait` and the turn that it gave, and each answer
-/// to a write.
+/// What a wire that tells has recorded: each call of `wait` and the turn that it gave, and each
+/// answer to a write.
 #[derive(Debug, Drop)]
 pub enum Mark {
     /// A call of `wait`: the waiting streams, what was wanted, the streams open then, and whether

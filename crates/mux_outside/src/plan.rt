@@ -2,7 +2,7 @@
 ghost use Rattle.std.specs.Prelude.{◌≡◌, ◌≤◌, ◌++◌, drop, take, length};
 ghost use Rattle.mux_outside.specs.declared.turn.Want.TheVariants.{Read};
 ghost use Rattle.mux_outside.specs.Streams.{among};
-ghost use Rattle.mux_outside.specs.Script.{is_given as is_given_step, cut_step, cut_first, from_first, FirstGives, turn_of, piece_of, steps_after, entry_at, answer_of};
+ghost use Rattle.mux_outside.specs.Script.{is_given_in, cut_step, steps_from, from_first, FirstGives, turn_of, piece_of, steps_after, entry_at, answer_of};
 ghost use Rattle.mux_outside.specs.Wire.{TurnFits};
 
 use crate::piece::Piece;
@@ -38,7 +38,7 @@ pub struct State<'a> {
 
 // Whether a step that has given so many bytes isn't skipped.
 fn is_given(step: &Step, offset: usize, state: State<'_>) -> bool
-    ensures { result ≡ is_given_step state.entry.listening state.entry.last state.entry.streams.now state.entry.blocked.now (cut_step offset step.now) }
+    ensures { result ≡ is_given_in state.entry (cut_step offset step.now) }
 {
     match step {
         Step::Accept => state.listening && state.last < u64::MAX,
@@ -55,7 +55,7 @@ fn is_given(step: &Step, offset: usize, state: State<'_>) -> bool
 
 /// The first place from this one on whose step isn't skipped.
 pub fn find(steps: &[Step], place: Place, state: State<'_>) -> Place
-    ensures first { cut_first result.offset (drop result.step steps.now) ≡ from_first (is_given_step state.entry.listening state.entry.last state.entry.streams.now state.entry.blocked.now) (cut_first place.offset (drop place.step steps.now)) }
+    ensures { steps_from steps.now result ≡ from_first (is_given_in state.entry) (steps_from steps.now place) }
 {
     let mut offset = place.offset;
     for step in place.step..steps.len() {
@@ -72,10 +72,10 @@ pub fn find(steps: &[Step], place: Place, state: State<'_>) -> Place
 
 /// The turn at a place, and the place after it.
 pub fn give(steps: &[Step], place: Place, last: u64, into: &mut Piece) -> Given
-    requires { FirstGives last (cut_first place.offset (drop place.step steps.now)) }
-    ensures turn { result.turn ≡ turn_of last (cut_first place.offset (drop place.step steps.now)) }
-    ensures piece { into.new ≡ piece_of (cut_first place.offset (drop place.step steps.now)) into.old }
-    ensures place { cut_first result.place.offset (drop result.place.step steps.now) ≡ steps_after (cut_first place.offset (drop place.step steps.now)) }
+    requires { FirstGives last (steps_from steps.now place) }
+    ensures turn { result.turn ≡ turn_of last (steps_from steps.now place) }
+    ensures piece { into.new ≡ piece_of (steps_from steps.now place) into.old }
+    ensures place { steps_from steps.now result.place ≡ steps_after (steps_from steps.now place) }
 {
     let Some(step) = steps.get(place.step) else {
         return Given {

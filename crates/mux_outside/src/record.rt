@@ -21,7 +21,8 @@ pub fn record_wait(
     listening: bool,
     bytes: &[u8],
 ) -> Result<(), OutOfMemory>
-    ensures ok { OnOk result (marks.new.items ≡ marks.old.items ++ wait_marks turn waiting.now want streams.old listening bytes.now) }
+    ensures ok { OnOk result (marks.new.items
+        ≡ marks.old.items ++ wait_marks turn waiting.now want streams.old listening bytes.now) }
     ensures opens { OnOk result (streams.new ≡ open_after turn streams.old) }
     ensures err { OnErr result (marks.new.items ≡ marks.old.items) }
     ensures err_streams { OnErr result (streams.new ≡ streams.old) }

@@ -10,8 +10,8 @@ use std::marker::Model;
 pub enum Step {
     /// A client comes. It is skipped where the wire doesn't listen.
     Accept,
-    /// A stream gives bytes, more than 65,536 in pieces. It is skipped where the stream isn't open or
-    /// no byte is left.
+    /// A stream gives bytes, more than 65,536 in pieces. It is skipped where the stream isn't open
+    /// or no byte is left.
     Bytes(u64, Text),
     /// A stream ends. It is skipped where the stream isn't open.
     End(u64),

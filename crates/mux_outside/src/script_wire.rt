@@ -8,8 +8,11 @@ ghost use Rattle.mux_outside.specs.declared.turn.Want.TheVariants.{WriteOnly};
 ghost use Rattle.mux_outside.specs.declared.turn.Turn.TheVariants.{NoMemory};
 ghost use Rattle.mux_outside.specs.declared.turn.Wrote.TheVariants.{NoMemory as NoMemoryToWrite};
 ghost use Rattle.mux_outside.specs.Marks.{bytes_taken as all_taken};
-ghost use Rattle.mux_outside.specs.Wire.{openings_of, OpenFaults, TurnFits, TurnFaults, wait_marks, open_after, blocked_after, last_after, WroteFits, WroteFaults, write_marks, blocked_after_write};
-ghost use Rattle.mux_outside.specs.ScriptWire.{steps_left, GivesNext, GivesAt, FollowsEntry, OpensByNumber, Starts};
+ghost use Rattle.mux_outside.specs.Wire.{openings_of, OpenFaults};
+ghost use Rattle.mux_outside.specs.Wire.{TurnFits, TurnFaults, wait_marks, open_after, blocked_after, last_after};
+ghost use Rattle.mux_outside.specs.Wire.{WroteFits, WroteFaults, write_marks, blocked_after_write};
+ghost use Rattle.mux_outside.specs.ScriptWire.{GivesAt, GivesNext, FollowsEntry, OpensByNumber, Starts};
+ghost use Rattle.mux_outside.specs.ScriptWire.{KeepsSteps, KeepsWrites, KeepsOpens};
 
 use crate::calls::{Calls, next_call};
 use crate::counts::{count_fault, raised};
@@ -117,7 +120,8 @@ impl ScriptWire {
         requires waiting_open { All (λ t. IsTrue (among t self.now.streams)) waiting.now }
         requires server { IsTrue (among 0 self.now.streams) }
         requires some { want ≡ WriteOnly → 0 < length waiting.now }
-        ensures turn { TurnFits result.turn want self.now.listening self.now.last self.now.streams self.now.blocked into.new }
+        ensures turn { TurnFits result.turn want self.now.listening self.now.last self.now.streams
+            self.now.blocked into.new }
         ensures script { GivesAt want waiting.now self.now result.place result.turn into.old into.new }
     {
         match want {
@@ -160,15 +164,18 @@ impl Wire for ScriptWire {
     ghost tally = { λ _. no_tally };
 
     fn open(&mut self, control: &[u8], transport: &[u8]) -> Result<(), FileError>
-        ensures openings { Some self.new.openings.items ≡ option_map (λ os. os ++ openings_of result control.now transport.now) (Some self.old.openings.items) }
+        ensures openings { Some self.new.openings.items
+            ≡ option_map (λ os. os ++ openings_of result control.now transport.now)
+            (Some self.old.openings.items) }
         ensures told { Some self.new.marks.items ≡ Some self.old.marks.items }
         ensures streams { self.new.streams ≡ (if is_ok result then 0 ∷ [] else self.old.streams) }
         ensures blocked { self.new.blocked ≡ (if is_ok result then [] else self.old.blocked) }
         ensures listens { self.new.listening ≡ (if is_ok result then true else self.old.listening) }
         ensures last { self.new.last ≡ self.old.last }
-        ensures cause { OpenFaults result self.old.server_faults self.new.server_faults self.old.client_faults self.new.client_faults }
+        ensures cause { OpenFaults result self.old.server_faults self.new.server_faults
+            self.old.client_faults self.new.client_faults }
         ensures exact { OpensByNumber result self.old self.new }
-        ensures script { steps_left self.new ≡ steps_left self.old }
+        ensures script { KeepsSteps self.old self.new × KeepsWrites self.old self.new }
     {
         let opening = Opening {
             control: Text::copy(self.alloc, control)?,
@@ -195,16 +202,22 @@ impl Wire for ScriptWire {
         requires waiting_open { All (λ t. IsTrue (among t self.old.streams)) waiting.now }
         requires server { IsTrue (among 0 self.old.streams) }
         requires some { want ≡ WriteOnly → 0 < length waiting.now }
-        ensures turn { TurnFits result want self.old.listening self.old.last self.old.streams self.old.blocked into.new }
+        ensures turn { TurnFits result want self.old.listening self.old.last self.old.streams
+            self.old.blocked into.new }
         ensures openings { Some self.new.openings.items ≡ Some self.old.openings.items }
-        ensures told { Some self.new.marks.items ≡ option_map (λ m. m ++ wait_marks result waiting.now want self.old.streams self.old.listening into.new) (Some self.old.marks.items) }
+        ensures told { Some self.new.marks.items
+            ≡ option_map (λ m. m ++ wait_marks result waiting.now want self.old.streams
+            self.old.listening into.new) (Some self.old.marks.items) }
         ensures streams { self.new.streams ≡ open_after result self.old.streams }
         ensures blocked { self.new.blocked ≡ blocked_after result self.old.blocked }
         ensures listens { self.new.listening ≡ self.old.listening }
         ensures last { self.new.last ≡ last_after result self.old.last }
-        ensures cause { TurnFaults result self.old.server_faults self.new.server_faults self.old.client_faults self.new.client_faults }
-        ensures script { result ≢ NoMemory → GivesNext want waiting.now self.old self.new result into.old into.new }
-        ensures kept { result ≡ NoMemory → steps_left self.new ≡ steps_left self.old }
+        ensures cause { TurnFaults result self.old.server_faults self.new.server_faults
+            self.old.client_faults self.new.client_faults }
+        ensures script { result ≢ NoMemory
+            → GivesNext want waiting.now self.old self.new result into.old into.new }
+        ensures err { result ≡ NoMemory → KeepsSteps self.old self.new }
+        ensures others { KeepsWrites self.old self.new × KeepsOpens self.old self.new }
     {
         let given = self.given(waiting, want, into);
         if record_wait(
@@ -241,14 +254,18 @@ impl Wire for ScriptWire {
         requires some { 0 < length bytes.now }
         ensures wrote { WroteFits result (length bytes.now) }
         ensures openings { Some self.new.openings.items ≡ Some self.old.openings.items }
-        ensures told { Some self.new.marks.items ≡ option_map (λ m. m ++ write_marks result stream bytes.now) (Some self.old.marks.items) }
+        ensures told { Some self.new.marks.items
+            ≡ option_map (λ m. m ++ write_marks result stream bytes.now)
+            (Some self.old.marks.items) }
         ensures streams { self.new.streams ≡ self.old.streams }
         ensures blocked { self.new.blocked ≡ blocked_after_write result stream self.old.blocked }
         ensures listens { self.new.listening ≡ self.old.listening }
         ensures last { self.new.last ≡ self.old.last }
-        ensures cause { WroteFaults result stream self.old.server_faults self.new.server_faults self.old.client_faults self.new.client_faults }
+        ensures cause { WroteFaults result stream self.old.server_faults self.new.server_faults
+            self.old.client_faults self.new.client_faults }
         ensures script { result ≢ NoMemoryToWrite → FollowsEntry (length bytes.now) self.old self.new result }
-        ensures kept { result ≡ NoMemoryToWrite → self.new.written ≡ self.old.written }
+        ensures err { result ≡ NoMemoryToWrite → KeepsWrites self.old self.new }
+        ensures others { KeepsSteps self.old self.new × KeepsOpens self.old self.new }
     {
         let wrote = answer_at(self.writes.as_slice(), self.written, bytes.len());
         if record_write(

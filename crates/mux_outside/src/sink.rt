@@ -12,8 +12,8 @@ pub trait Sink {
     /// How many calls failed.
     ghost faults: { Self → ℕ };
 
-    /// Hands bytes over. `Ok`: all were taken; `Failed`: a prefix was taken; `OutOfMemory`: nothing was
-    /// taken.
+    /// Hands bytes over. `Ok`: all were taken; `Failed`: a prefix was taken; `OutOfMemory`: nothing
+    /// was taken.
     fn put(&mut self, bytes: &[u8]) -> Result<(), FileError>
         ensures taken { TakesTold result (told self.old) (told self.new) bytes.now }
         ensures cause { HasCause result (faults self.old) (faults self.new) };

@@ -46,8 +46,8 @@ impl Streams {
         Ok(())
     }
 
-    /// Takes the last stream away. It takes no memory, so a `push` can come before what may fail and
-    /// be taken back.
+    /// Takes the last stream away. It takes no memory, so a `push` can come before what may fail
+    /// and be taken back.
     pub fn pop(&mut self) -> Option<u64>
         ensures last { result ≡ slice_get self.old (length self.old - 1) }
         ensures rest { self.new ≡ take (length self.old - 1) self.old }
