@@ -8,6 +8,7 @@ use Rattle.mux_history.specs.Choices.{said_number, takes_number}
 use Rattle.mux_history.specs.Controls.{greeted, said_body}
 use Rattle.mux_history.specs.Gist.{Confirmation, Gist, Open, Refuses, Requests, Succeeds, Transport, Within, read_gist, reading, sender_of}
 use Rattle.mux_history.specs.Heard.{Breaks, Dest, Disconnects, ToClient, ToMaster, dest, dest_gist, finishes, heard_for, heard_master, next_index}
+use Rattle.mux_history.specs.Kept.{Every}
 use Rattle.mux_history.specs.Log.{admits, bare, heard_row, said_by_client, treat}
 use Rattle.mux_history.specs.Policy.{Policy}
 use Rattle.mux_history.specs.Right.{carried_number}
@@ -27,7 +28,7 @@ use Rattle.mux_history.proofs.Apart.{AreApart, DownStep, Ids, NotLive, Sound, Un
 use Rattle.mux_history.proofs.Dests.{confirmed, dest-err, dest-ok, offered}
 use Rattle.mux_history.proofs.Finds.{Each}
 use Rattle.mux_history.proofs.Local.{channels-local, is_of}
-use Rattle.mux_history.proofs.Quiets.{EachOf, IsQuiet, Quiet}
+use Rattle.mux_history.proofs.Quiets.{IsQuiet, Quiet}
 use Rattle.mux_history.proofs.Readings.{reading-ok}
 use Rattle.mux_history.proofs.Renumbered.{SenderIn, number-sent, reads-sent, resent, sender-in, word}
 use Rattle.mux_history.proofs.Sends.{Sent, admits-sent, as_row, body-sent, down-ids, down-step, down-then, quiet-heard, quiet-master, row-parts, sent-by, up-step, ups-ids}
@@ -66,18 +67,18 @@ own-small p m c bytes reads owned =
 abbrev Next : Row → List Channel → List Channel
 Next row cs = map (after_farewell row) (map (after_item row) cs ++ begun_by row.client row.up row.item)
 
-good-parted : (row : Row) → EachOf Quiet row.farewell → (xs : List Channel) → AreApart xs → AreApart (map (after_farewell row) xs)
+good-parted : (row : Row) → Every Quiet row.farewell → (xs : List Channel) → AreApart xs → AreApart (map (after_farewell row) xs)
 good-parted row quiet xs good = good-ids (after_farewell row) ids xs good
   where
     ids : (x : Channel) → Sound x → Ids x (after_farewell row x)
     ids x sound = elim (x.client == row.client) as (λ b. Ids x (elim b as (λ _. Channel) [ true ↦ with_ups None row.farewell x | false ↦ x ])) [ true ↦ ups-ids None row.farewell quiet x | false ↦ ids-self x ]
 
-good-still : (row : Row) (cs : List Channel) → EachOf Quiet row.farewell → ((x : Channel) → Sound x → Ids x (after_item row x)) → begun_by row.client row.up row.item ≡ [] → AreApart cs → AreApart (Next row cs)
+good-still : (row : Row) (cs : List Channel) → Every Quiet row.farewell → ((x : Channel) → Sound x → Ids x (after_item row x)) → begun_by row.client row.up row.item ≡ [] → AreApart cs → AreApart (Next row cs)
 good-still row cs parting ids begun good =
     good-parted row parting (map (after_item row) cs ++ begun_by row.client row.up row.item)
     (subst (λ (bs : List Channel). AreApart (map (after_item row) cs ++ bs)) (sym begun) (subst AreApart (sym (append-nil (map (after_item row) cs))) (good-ids (after_item row) ids cs good)))
 
-talked-ids : (row : Row) (x : Channel) → EachOf Quiet row.up → Ids x (heard_by row.item x) → Ids x (after_item row x)
+talked-ids : (row : Row) (x : Channel) → Every Quiet row.up → Ids x (heard_by row.item x) → Ids x (after_item row x)
 talked-ids row x quiet heard = elim (x.client == row.client) as (λ b. Ids x (elim b as (λ _. Channel) [ true ↦ with_ups (own_of row.item) row.up (heard_by row.item x) | false ↦ x ])) [ true ↦ ids-then x (heard_by row.item x) (with_ups (own_of row.item) row.up (heard_by row.item x)) heard (ups-ids (own_of row.item) row.up quiet (heard_by row.item x)) | false ↦ ids-self x ]
 
 unequal : (a b : ℕ) → (a == b) ≡ true → b ≡ 0 → (a ≡ 0 → ⊥) → ⊥
@@ -130,7 +131,7 @@ unused-own k c before none =
 unused-both : (n k c : ℕ) (before : List Row) → holder before n ≡ None → with_own (rows_of k before) c ≡ None → Each (Unused n k c) (channels_of before)
 unused-both n k c before fresh none = each-both _ _ (Unused n k c) (λ x a b. record { number = a; own = λ h e. b e h }) (channels_of before) (find-none (λ x. is_number x.number n) (channels_of before) fresh) (unused-own k c before none)
 
-module _ (before : List Row) (good : AreApart (channels_of before)) (k : ℕ) (real : k ≡ 0 → ⊥) (p : List ℕ) (reply : Option HouseReply) (fw : List (List ℕ)) (parting : EachOf Quiet fw) (down : List (List ℕ)) (fate : Fate) where
+module _ (before : List Row) (good : AreApart (channels_of before)) (k : ℕ) (real : k ≡ 0 → ⊥) (p : List ℕ) (reply : Option HouseReply) (fw : List (List ℕ)) (parting : Every Quiet fw) (down : List (List ℕ)) (fate : Fate) where
   abbrev the_row : List (List ℕ) → Row
   the_row up = as_row (Says k (Payload p) reply) k up fw down fate
 
@@ -226,7 +227,7 @@ opened-down-confirmed k n s w max (q ∷ qs) = refl
 is_zero : (k : ℕ) → (k == 0) ≡ false → k ≡ 0 → ⊥
 is_zero k e z = grind (arith, nat_tests)
 
-module _ (before : List Row) (good : AreApart (channels_of before)) (k : ℕ) (p : List ℕ) (up : List (List ℕ)) (quiet : EachOf Quiet up) (fw : List (List ℕ)) (parting : EachOf Quiet fw) (down : List (List ℕ)) (fate : Fate) where
+module _ (before : List Row) (good : AreApart (channels_of before)) (k : ℕ) (p : List ℕ) (up : List (List ℕ)) (quiet : Every Quiet up) (fw : List (List ℕ)) (parting : Every Quiet fw) (down : List (List ℕ)) (fate : Fate) where
   abbrev heard_one : Row
   heard_one = as_row (Heard p) k up fw down fate
 
@@ -302,11 +303,11 @@ module _ (before : List Row) (good : AreApart (channels_of before)) (k : ℕ) (p
 
 -- ---- any row
 
-good-bare : (before : List Row) → AreApart (channels_of before) → (item : Item) (o : Outcome) → EachOf Quiet o.sent → begun_by 0 o.sent item ≡ [] → AreApart (Next (bare item 0 o) (channels_of before))
+good-bare : (before : List Row) → AreApart (channels_of before) → (item : Item) (o : Outcome) → Every Quiet o.sent → begun_by 0 o.sent item ≡ [] → AreApart (Next (bare item 0 o) (channels_of before))
 good-bare before good item o quiet none = good-still (bare item 0 o) (channels_of before) tt (talked-master (bare item 0 o) refl) none good
 
-good-mute : (before : List Row) → AreApart (channels_of before) → (row : Row) → EachOf Quiet row.farewell → row.up ≡ [] → ((x : Channel) → heard_by row.item x ≡ x) → begun_by row.client [] row.item ≡ [] → AreApart (Next row (channels_of before))
-good-mute before good row parting none stays begun = good-still row (channels_of before) parting (λ x s. talked-ids row x (subst (EachOf Quiet) (sym none) tt) (subst (Ids x) (sym (stays x)) (ids-self x))) (ap (λ u. begun_by row.client u row.item) none ∙ begun) good
+good-mute : (before : List Row) → AreApart (channels_of before) → (row : Row) → Every Quiet row.farewell → row.up ≡ [] → ((x : Channel) → heard_by row.item x ≡ x) → begun_by row.client [] row.item ≡ [] → AreApart (Next row (channels_of before))
+good-mute before good row parting none stays begun = good-still row (channels_of before) parting (λ x s. talked-ids row x (subst (Every Quiet) (sym none) tt) (subst (Ids x) (sym (stays x)) (ids-self x))) (ap (λ u. begun_by row.client u row.item) none ∙ begun) good
 
 abbrev GoodNext : List Row → Row → Type 0
 GoodNext before row = IsFresh before row → AreApart (channels_of (row ∷ before))

@@ -6,9 +6,11 @@ pub mod Bools
 pub mod Dests
 pub mod Finds
 pub mod ForwardsLocal
+pub mod Harmless
 pub mod Indexed
 pub mod KeepsApart
 pub mod LawfulItems
+pub mod Legal
 pub mod Local
 pub mod Marks
 pub mod Nexts

@@ -1,15 +1,22 @@
 -- Payloads that bring no number: all but a confirmation.
-use Rattle.std.proofs.Common.{◌≡◌, ℕ, List, [], ◌∷◌, Ok}
+use Rattle.std.proofs.Common.{◌≡◌, ℕ, List, Ok}
 use Rattle.mux_history.specs.Gist.{Confirmation, Gist, read_gist}
+use Rattle.mux_history.specs.Kept.{Every}
+use Rattle.mux_history.proofs.Harmless.{Harmless, IsHarmless, every-of}
 
 abbrev pub IsQuiet : Gist → Type 0
 IsQuiet (Confirmation s n w m) = ⊥
 IsQuiet m = Unit {0}
 
--- a payload that is no confirmation, and one that is sent with the client's own number in its place
 abbrev pub Quiet : List ℕ → Type 0
 Quiet q = (m : Gist) → read_gist q ≡ Ok m → IsQuiet m
 
-abbrev pub EachOf : (List ℕ → Type 0) → List (List ℕ) → Type 0
-EachOf P [] = Unit {0}
-EachOf P (q ∷ qs) = P q × EachOf P qs
+pub quiet-of : (q : List ℕ) → Harmless q → Quiet q
+quiet-of q harmless m reads = by_message m (harmless m reads)
+  where
+    by_message : (m : Gist) → IsHarmless m → IsQuiet m
+    by_message (Confirmation s n w m) h = absurd h
+    by_message m h = tt
+
+pub quiet-each : (qs : List (List ℕ)) → Every Harmless qs → Every Quiet qs
+quiet-each qs each = every-of Harmless Quiet quiet-of qs each

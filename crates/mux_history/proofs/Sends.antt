@@ -1,25 +1,24 @@
 -- What each row sends up, and how its messages move channels.
-use Rattle.std.proofs.Common.{◌≡◌, ℕ, List, [], ◌∷◌, ◌++◌, length, true, false, Bool, refl, Option, Some, None, inl, inr, Ok, Err}
-use Rattle.std.specs.Prelude.{◌==◌, ◌&&◌, filter, ◌⊎◌, not, Result, flat_map, nat_lt, nat_le, is_none, codes}
-use Rattle.mux_history.specs.Channels.{Channel, any_by, held_of, is_closes, is_confirmed, is_held, is_number, is_up, with_down, with_own, with_up, with_ups}
+use Rattle.std.proofs.Common.{◌≡◌, ℕ, List, [], ◌∷◌, length, true, false, Bool, refl, Option, Some, None, inl, inr, Ok, Err}
+use Rattle.std.specs.Prelude.{◌==◌, ◌&&◌, ◌⊎◌, Result, nat_lt, nat_le, codes}
+use Rattle.mux_history.specs.Channels.{Channel, held_of, is_held, is_number, with_down, with_own, with_up, with_ups}
 use Rattle.mux_history.specs.Controls.{answers_ask, said_body, said_first, said_later}
-use Rattle.mux_history.specs.Farewell.{farewell, late, late_refusal, late_success, leave_channel, leave_forwarding, to_number, with_ask}
-use Rattle.mux_history.specs.Forwardings.{Forwarding, bound, current, forwarded, forwardings_of, is_free_at}
+use Rattle.mux_history.specs.Farewell.{farewell}
+use Rattle.mux_history.specs.Forwardings.{current, is_free_at}
 use Rattle.mux_history.specs.Gist.{Confirmation, Gist, Open, Refuses, Requests, Succeeds, Transport, Within, read_gist, reading, sender_of}
-use Rattle.mux_history.specs.Heard.{for_client, for_lost, for_master, heard_for, heard_gist, heard_master}
+use Rattle.mux_history.specs.Heard.{heard_for, heard_master}
+use Rattle.mux_history.specs.Kept.{Every}
 use Rattle.mux_history.specs.Ledger.{breach}
 use Rattle.mux_history.specs.Log.{admits, all_told, bare, open_matters, queued, row_of}
 use Rattle.mux_history.specs.Policy.{Policy, permits}
-use Rattle.mux_history.specs.Requests.{Ask, asker}
-use Rattle.mux_history.specs.Rows.{Fate, Item, Refused, Row, any_of, is_lost, loses}
+use Rattle.mux_history.specs.Rows.{Fate, Item, Refused, Row, any_of, loses}
 use Rattle.mux_history.specs.Said.{Outcome, confirmed_at, drops, fails_open, is_failing, is_full_of_asks, on_breach, on_confirmed, on_unused, on_waiting, said_gist, said_open, said_request, sends, sends_as, sends_if, sends_open, silent, tells, waiting_at}
 use Rattle.mux_outside.specs.declared.house.HouseReply.{HouseReply}
-use Rattle.ssh_fields.specs.Fields.{str, u32}
 use Rattle.ssh_grammar.specs.Control.{CloseForward, Control, Greets, Hello, OpenForward}
-use Rattle.ssh_grammar.specs.Frames.{frame_answer, frame_payload}
-use Rattle.ssh_grammar.specs.Messages.{Cancel, Direct, Forward, Global, KeepAlive, Opens, OtherName, Session, cancel_name}
+use Rattle.ssh_grammar.specs.Frames.{frame_answer}
+use Rattle.ssh_grammar.specs.Messages.{Cancel, Direct, Forward, Global, KeepAlive, Opens, OtherName, Session}
 use Rattle.ssh_grammar.specs.ReadControl.{read_control}
-use Rattle.ssh_grammar.specs.SpellMessage.{cancel_forward, close, open_failure, request_failure, wants, with_sender}
+use Rattle.ssh_grammar.specs.SpellMessage.{wants, with_sender}
 use Rattle.ssh_grammar.specs.declared.fault.Bad.{Bad}
 use Rattle.ssh_grammar.specs.declared.fault.BadControl.{BadControl}
 use Rattle.ssh_grammar.specs.declared.fault.Breach.{Breach}
@@ -28,105 +27,19 @@ use Rattle.ssh_grammar.specs.declared.side.Side.TheVariants.{Down, Up}
 use Rattle.mux_history.specs.declared.why.Why.TheVariants as why
 use Rattle.ssh_grammar.specs.declared.fault.BadControl.TheVariants as bad_control
 use Rattle.mux_history.proofs.Apart.{DownStep, Ids, UpStep, brought_down, brought_up, ids-self, ids-then}
-use Rattle.mux_history.proofs.Quiets.{EachOf, IsQuiet, Quiet}
-use Rattle.mux_history.proofs.Readings.{close-always, failure-always, gist-always, request-always}
+use Rattle.mux_history.proofs.Harmless.{Harmless, harmless-farewell, harmless-heard, harmless-master}
+use Rattle.mux_history.proofs.Quiets.{IsQuiet, Quiet, quiet-each}
 
 -- ---- payloads that bring no number
 
-pub quiet-close : (s : ℕ) → Quiet (close s)
-quiet-close s m reads = gist-always IsQuiet (close s) m (close-always IsQuiet (u32 s) (λ n. tt)) reads
+pub quiet-farewell : (row : Row) (own : List Row) → Every Quiet (farewell row own)
+quiet-farewell row own = quiet-each (farewell row own) (harmless-farewell row own)
 
-pub quiet-failure : (s reason : ℕ) (text : List ℕ) → Quiet (open_failure s reason text)
-quiet-failure s reason text m reads = gist-always IsQuiet (open_failure s reason text) m (failure-always IsQuiet (u32 s ++ (u32 reason ++ (str text ++ str []))) (λ n. tt)) reads
+pub quiet-heard : (own : List Row) (p : List ℕ) → Every Quiet (heard_for own p).sent
+quiet-heard own p = quiet-each (heard_for own p).sent (harmless-heard own p)
 
-pub quiet-cancel : (address : List ℕ) (port : ℕ) → Quiet (cancel_forward address port)
-quiet-cancel address port m reads = gist-always IsQuiet (cancel_forward address port) m (request-always IsQuiet (str cancel_name ++ (0 ∷ (str address ++ u32 port))) (λ what want. tt)) reads
-
-pub quiet-refusal : Quiet request_failure
-quiet-refusal m reads = gist-always IsQuiet request_failure m tt reads
-
-quiet-append : (xs ys : List (List ℕ)) → EachOf Quiet xs → EachOf Quiet ys → EachOf Quiet (xs ++ ys)
-quiet-append [] ys a b = b
-quiet-append (x ∷ xs) ys a b = (a.0, quiet-append xs ys a.1 b)
-
-quiet-to : (o : Option ℕ) (f : ℕ → List ℕ) → ((n : ℕ) → Quiet (f n)) → EachOf Quiet (to_number o f)
-quiet-to None f each = tt
-quiet-to (Some n) f each = (each n, tt)
-
-quiet-part : (x : Channel) → EachOf Quiet (leave_channel x)
-quiet-part x = by_case (is_confirmed x) (any_by Up is_closes x.acts) (is_up x.by)
-  where
-    by_case : (a b c : Bool) → EachOf Quiet (elim a as (λ _. List (List ℕ)) [ true ↦ elim b as (λ _. List (List ℕ)) [ true ↦ [] | false ↦ to_number x.remote close ] | false ↦ elim c as (λ _. List (List ℕ)) [ true ↦ [] | false ↦ to_number x.remote (λ s. open_failure s 2 (codes "client is gone")) ] ])
-    by_case true true c = tt
-    by_case true false c = quiet-to x.remote close quiet-close
-    by_case false b true = tt
-    by_case false b false = quiet-to x.remote _ (λ s. quiet-failure s 2 (codes "client is gone"))
-
-quiet-parts : (xs : List Channel) → EachOf Quiet (flat_map leave_channel xs)
-quiet-parts [] = tt
-quiet-parts (x ∷ xs) = quiet-append (leave_channel x) (flat_map leave_channel xs) (quiet-part x) (quiet-parts xs)
-
-quiet-forwarding : (f : Forwarding) → EachOf Quiet (leave_forwarding f)
-quiet-forwarding f = by_case (is_none f.cancel)
-  where
-    by_case : (b : Bool) → EachOf Quiet (elim b as (λ _. List (List ℕ)) [ true ↦ to_number f.live (λ port. cancel_forward f.address port) | false ↦ [] ])
-    by_case true = quiet-to f.live _ (λ port. quiet-cancel f.address port)
-    by_case false = tt
-
-quiet-forwardings : (fs : List Forwarding) → EachOf Quiet (flat_map leave_forwarding fs)
-quiet-forwardings [] = tt
-quiet-forwardings (f ∷ fs) = quiet-append (leave_forwarding f) (flat_map leave_forwarding fs) (quiet-forwarding f) (quiet-forwardings fs)
-
-pub quiet-farewell : (row : Row) (own : List Row) → EachOf Quiet (farewell row own)
-quiet-farewell row own = quiet-append (flat_map leave_channel (held_of (row ∷ own))) _ (quiet-parts (held_of (row ∷ own))) (quiet-forwardings (filter (λ (f : Forwarding). not f.over) (forwarded row own (forwardings_of own))))
-
-quiet-asked : (o : Option Ask) (f : Global → List (List ℕ)) → ((g : Global) → EachOf Quiet (f g)) → EachOf Quiet (with_ask o f)
-quiet-asked None f each = tt
-quiet-asked (Some a) f each = each a.what
-
-quiet-success : (rest : List ℕ) (g : Global) → EachOf Quiet (late_success rest g)
-quiet-success rest (Forward address port) = (quiet-cancel address (bound port rest), tt)
-quiet-success rest g = tt
-
-quiet-late-refusal : (g : Global) → EachOf Quiet (late_refusal g)
-quiet-late-refusal (Cancel address port) = (quiet-cancel address port, tt)
-quiet-late-refusal g = tt
-
-pub quiet-late : (m : Gist) (own : List Row) → EachOf Quiet (late m own)
-quiet-late (Confirmation n s w m) own = (quiet-close s, tt)
-quiet-late (Succeeds rest) own = quiet-asked (asker own) (late_success rest) (quiet-success rest)
-quiet-late Refuses own = quiet-asked (asker own) late_refusal quiet-late-refusal
-quiet-late m own = tt
-
--- what goes up for a server's message
-pub quiet-heard : (own : List Row) (p : List ℕ) → EachOf Quiet (heard_for own p).sent
-quiet-heard own p = by_case (read_gist p)
-  where
-    by_message : (m : Gist) → EachOf Quiet (for_client own p m).sent
-    by_message (Open what s w max) = elim (nat_lt (length (held_of own)) 256) as (λ b. EachOf Quiet (elim b as (λ _. Outcome) [ true ↦ tells (frame_payload p) | false ↦ sends (open_failure s 4 (codes "too many channels")) ]).sent) [ true ↦ tt | false ↦ (quiet-failure s 4 (codes "too many channels"), tt) ]
-    by_message (Confirmation n s w max) = tt
-    by_message (Within n act) = tt
-    by_message m = tt
-
-    by_lost : (m : Gist) (b : Bool) → EachOf Quiet (elim b as (λ _. Outcome) [ true ↦ for_lost own m | false ↦ for_client own p m ]).sent
-    by_lost m true = quiet-late m own
-    by_lost m false = by_message m
-
-    by_case : (r : Result Gist Bad) → EachOf Quiet (elim r as (λ _. Outcome) [ Err bad ↦ silent | Ok m ↦ heard_gist own p m ]).sent
-    by_case (Err bad) = tt
-    by_case (Ok m) = by_lost m (is_lost own)
-
-pub quiet-master : (p : List ℕ) → EachOf Quiet (heard_master p).sent
-quiet-master p = by_case (read_gist p)
-  where
-    by_message : (m : Gist) → EachOf Quiet (for_master m).sent
-    by_message (Requests what true) = (quiet-refusal, tt)
-    by_message (Open what s w max) = (quiet-failure s 1 (codes "not permitted"), tt)
-    by_message m = tt
-
-    by_case : (r : Result Gist Bad) → EachOf Quiet (elim r as (λ _. Outcome) [ Err bad ↦ silent | Ok m ↦ for_master m ]).sent
-    by_case (Err bad) = tt
-    by_case (Ok m) = by_message m
+pub quiet-master : (p : List ℕ) → Every Quiet (heard_master p).sent
+quiet-master p = quiet-each (heard_master p).sent (harmless-master p)
 
 -- ---- what goes up for what a client says
 
@@ -234,7 +147,15 @@ admits-sent rows = elim (nat_lt (open_matters rows) 64) as (λ b. (elim b as (λ
 abbrev pub as_row : Item → ℕ → List (List ℕ) → List (List ℕ) → List (List ℕ) → Fate → Row
 as_row item k up fw down fate = record { item = item; client = k; up = up; farewell = fw; down = down; fate = fate }
 
-pub row-parts : (P : Row → Type 0) (item : Item) (k : ℕ) (o : Outcome) (own : List Row) → ((fw : List (List ℕ)) → EachOf Quiet fw → (down : List (List ℕ)) (fate : Fate) → P (as_row item k o.sent fw down fate)) → P (row_of item k o own)
+-- with all that the row tells
+pub row-split : (P : Row → Type 0) (item : Item) (k : ℕ) (o : Outcome) (own : List Row) → ((fw : List (List ℕ)) → Every Harmless fw → (fate : Fate) → P (as_row item k o.sent fw (queued (all_told (bare item k o) own) (bare item k o) own).down fate)) → P (row_of item k o own)
+row-split P item k o own each = by_case (loses (queued (all_told (bare item k o) own) (bare item k o) own))
+  where
+    by_case : (b : Bool) → P (elim b as (λ _. Row) [ true ↦ record (queued (all_told (bare item k o) own) (bare item k o) own) { farewell = farewell (queued (all_told (bare item k o) own) (bare item k o) own) own } | false ↦ queued (all_told (bare item k o) own) (bare item k o) own ])
+    by_case true = each (farewell (queued (all_told (bare item k o) own) (bare item k o) own) own) (harmless-farewell (queued (all_told (bare item k o) own) (bare item k o) own) own) _
+    by_case false = each [] tt _
+
+pub row-parts : (P : Row → Type 0) (item : Item) (k : ℕ) (o : Outcome) (own : List Row) → ((fw : List (List ℕ)) → Every Quiet fw → (down : List (List ℕ)) (fate : Fate) → P (as_row item k o.sent fw down fate)) → P (row_of item k o own)
 row-parts P item k o own each = by_case (loses parted_row)
   where
     parted_row : Row
@@ -263,7 +184,7 @@ up-ids own (Within s act) quiet x = by_case (is_number x.remote s && is_held x) 
     by_case false e = ids-self x
 up-ids own m quiet x = ids-self x
 
-pub ups-ids : (own : Option ℕ) (ups : List (List ℕ)) → EachOf Quiet ups → (x : Channel) → Ids x (with_ups own ups x)
+pub ups-ids : (own : Option ℕ) (ups : List (List ℕ)) → Every Quiet ups → (x : Channel) → Ids x (with_ups own ups x)
 ups-ids own [] quiet x = ids-self x
 ups-ids own (q ∷ ups) quiet x = ids-then x (reading q (λ m. with_up own m x) x) (with_ups own ups (reading q (λ m. with_up own m x) x)) (one (read_gist q) (λ m e. quiet.0 m e)) (ups-ids own ups quiet.1 (reading q (λ m. with_up own m x) x))
   where

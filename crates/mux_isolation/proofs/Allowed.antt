@@ -1,173 +1,32 @@
 -- What goes up is within its window and permitted.
-use Rattle.std.proofs.Common.{◌≡◌, ℕ, ◌≤◌, List, [], ◌∷◌, ◌++◌, length, true, false, Bool, refl, arith, sym, Option, Some, None, subst, Ok, Err}
-use Rattle.std.specs.Prelude.{◌==◌, ◌&&◌, filter, not, Result, flat_map, nat_lt, nat_le, is_none, codes}
-use Rattle.std.proofs.lemmas.Bool.Decides.{nat_tests}
-use Rattle.mux_history.specs.Channels.{Channel, any_by, held_of, is_closes, is_confirmed, is_ends, is_up, with_own}
+use Rattle.std.proofs.Common.{◌≡◌, ℕ, List, [], length, true, false, Bool, refl, sym, Option, Some, None, subst, Ok, Err}
+use Rattle.std.specs.Prelude.{◌==◌, ◌&&◌, Result, nat_lt, nat_le, codes}
+use Rattle.mux_history.specs.Channels.{Channel, held_of, with_own}
 use Rattle.mux_history.specs.Controls.{greeted, said_body}
-use Rattle.mux_history.specs.Farewell.{farewell, late, late_refusal, late_success, leave_channel, leave_forwarding, to_number, with_ask}
-use Rattle.mux_history.specs.Forwardings.{Forwarding, bound, current, forwarded, forwardings_of, is_free_at}
+use Rattle.mux_history.specs.Forwardings.{current, is_free_at}
 use Rattle.mux_history.specs.Gist.{Act, Carries, Closes, Confirmation, Fails, Gist, Open, Refuses, Requests, Succeeds, Transport, Within, read_gist}
-use Rattle.mux_history.specs.Heard.{Breaks, Dest, Disconnects, ToClient, ToMaster, dest, for_client, for_lost, for_master, heard_for, heard_gist, heard_master}
+use Rattle.mux_history.specs.Heard.{Breaks, Dest, Disconnects, ToClient, ToMaster, dest, heard_for, heard_master}
 use Rattle.mux_history.specs.Kept.{Every, Fits, ForEach}
-use Rattle.mux_history.specs.Ledger.{breach, maximum_of, room}
-use Rattle.mux_history.specs.Log.{admits, all_told, bare, heard_row, queued, row_of, treat}
+use Rattle.mux_history.specs.Ledger.{breach}
+use Rattle.mux_history.specs.Log.{admits, bare, heard_row, row_of, treat}
 use Rattle.mux_history.specs.Policy.{Policy, permits}
-use Rattle.mux_history.specs.Requests.{Ask, asker}
-use Rattle.mux_history.specs.Rows.{Admit, Fate, Gone, Heard, Item, Row, Says, any_of, is_lost, loses, rows_of}
-use Rattle.mux_history.specs.Said.{Outcome, confirmed_at, drops, fails_open, is_failing, is_full_of_asks, on_breach, on_confirmed, on_unused, on_waiting, said_gist, said_open, said_payload, said_request, sends, sends_as, sends_if, sends_open, silent, tells, waiting_at}
-use Rattle.ssh_fields.specs.Fields.{AreBytes, str, u32}
-use Rattle.ssh_grammar.specs.Frames.{frame_payload}
+use Rattle.mux_history.specs.Rows.{Admit, Gone, Heard, Item, Row, Says, any_of, rows_of}
+use Rattle.mux_history.specs.Said.{Outcome, confirmed_at, drops, fails_open, is_failing, is_full_of_asks, on_breach, on_confirmed, on_unused, on_waiting, said_gist, said_open, said_payload, said_request, sends, sends_as, sends_if, sends_open, silent, waiting_at}
+use Rattle.ssh_fields.specs.Fields.{AreBytes}
 use Rattle.ssh_grammar.specs.Messages.{Cancel, Direct, Forward, Global, KeepAlive, Opens, OtherName, Session}
 use Rattle.ssh_grammar.specs.Said.{BadFraming, Body, Payload}
-use Rattle.ssh_grammar.specs.SpellMessage.{cancel_forward, close, open_failure, request_failure, wants, with_sender}
+use Rattle.ssh_grammar.specs.SpellMessage.{wants, with_sender}
 use Rattle.ssh_grammar.specs.declared.fault.Bad.{Bad}
 use Rattle.ssh_grammar.specs.declared.fault.Breach.{Breach}
-use Rattle.ssh_grammar.specs.declared.fault.Breach.TheVariants.{AfterClose, AfterEof, NotOpen, PastPacket, PastWindow}
-use Rattle.ssh_grammar.specs.declared.side.Side.{Side}
 use Rattle.ssh_grammar.specs.declared.side.Side.TheVariants.{Up}
 use Rattle.mux_history.specs.declared.why.Why.TheVariants as why
+use Rattle.mux_history.proofs.Harmless.{Harmless, IsHarmless, every-append, every-of, harmless-heard, harmless-master}
 use Rattle.mux_history.proofs.KeepsApart.{LawfulItem, ok-same}
-use Rattle.mux_history.proofs.Readings.{cancel-always, close-always, failure-always, gist-always}
+use Rattle.mux_history.proofs.Legal.{fits-of}
 use Rattle.mux_history.proofs.Renumbered.{reads-sent, sender-in, word}
 use Rattle.mux_history.proofs.RightLogs.{LogKnown, by-treat}
-use Rattle.mux_history.proofs.Sends.{admits-sent, as_row, body-sent}
+use Rattle.mux_history.proofs.Sends.{admits-sent, body-sent, row-split}
 use Rattle.mux_isolation.proofs.Mays.{MaySend, SendsAllowed}
-
--- ---- what the master writes by itself carries nothing
-
-abbrev pub IsHarmless : Gist → Type 0
-IsHarmless (Within s Closes) = Unit {0}
-IsHarmless (Within s Fails) = Unit {0}
-IsHarmless (Requests (Cancel address port) wants) = Unit {0}
-IsHarmless Refuses = Unit {0}
-IsHarmless m = ⊥
-
-abbrev pub Harmless : List ℕ → Type 0
-Harmless q = (m : Gist) → read_gist q ≡ Ok m → IsHarmless m
-
-harmless-close : (s : ℕ) → Harmless (close s)
-harmless-close s m reads = gist-always IsHarmless (close s) m (close-always IsHarmless (u32 s) (λ n. tt)) reads
-
-harmless-refusal : Harmless request_failure
-harmless-refusal m reads = gist-always IsHarmless request_failure m tt reads
-
-pub harmless-failure : (s reason : ℕ) (text : List ℕ) → Harmless (open_failure s reason text)
-harmless-failure s reason text m reads = gist-always IsHarmless (open_failure s reason text) m (failure-always IsHarmless (u32 s ++ (u32 reason ++ (str text ++ str []))) (λ n. tt)) reads
-
-harmless-cancel : (address : List ℕ) (port : ℕ) → Harmless (cancel_forward address port)
-harmless-cancel address port m reads = gist-always IsHarmless (cancel_forward address port) m (cancel-always IsHarmless address port (λ a p. tt)) reads
-
-every-append : (P : List ℕ → Type 0) (xs ys : List (List ℕ)) → Every P xs → Every P ys → Every P (xs ++ ys)
-every-append P [] ys a b = b
-every-append P (x ∷ xs) ys a b = (a.0, every-append P xs ys a.1 b)
-
-every-of : (P Q : List ℕ → Type 0) → ((q : List ℕ) → P q → Q q) → (xs : List (List ℕ)) → Every P xs → Every Q xs
-every-of P Q step [] a = tt
-every-of P Q step (x ∷ xs) a = (step x a.0, every-of P Q step xs a.1)
-
-every-to : (o : Option ℕ) (f : ℕ → List ℕ) → ((n : ℕ) → Harmless (f n)) → Every Harmless (to_number o f)
-every-to None f each = tt
-every-to (Some n) f each = (each n, tt)
-
-harmless-part : (x : Channel) → Every Harmless (leave_channel x)
-harmless-part x = by_case (is_confirmed x) (any_by Up is_closes x.acts) (is_up x.by)
-  where
-    by_case : (a b c : Bool) → Every Harmless (elim a as (λ _. List (List ℕ)) [ true ↦ elim b as (λ _. List (List ℕ)) [ true ↦ [] | false ↦ to_number x.remote close ] | false ↦ elim c as (λ _. List (List ℕ)) [ true ↦ [] | false ↦ to_number x.remote (λ s. open_failure s 2 (codes "client is gone")) ] ])
-    by_case true true c = tt
-    by_case true false c = every-to x.remote close harmless-close
-    by_case false b true = tt
-    by_case false b false = every-to x.remote _ (λ s. harmless-failure s 2 (codes "client is gone"))
-
-harmless-parts : (xs : List Channel) → Every Harmless (flat_map leave_channel xs)
-harmless-parts [] = tt
-harmless-parts (x ∷ xs) = every-append Harmless (leave_channel x) (flat_map leave_channel xs) (harmless-part x) (harmless-parts xs)
-
-harmless-forwarding : (f : Forwarding) → Every Harmless (leave_forwarding f)
-harmless-forwarding f = by_case (is_none f.cancel)
-  where
-    by_case : (b : Bool) → Every Harmless (elim b as (λ _. List (List ℕ)) [ true ↦ to_number f.live (λ port. cancel_forward f.address port) | false ↦ [] ])
-    by_case true = every-to f.live _ (λ port. harmless-cancel f.address port)
-    by_case false = tt
-
-harmless-forwardings : (fs : List Forwarding) → Every Harmless (flat_map leave_forwarding fs)
-harmless-forwardings [] = tt
-harmless-forwardings (f ∷ fs) = every-append Harmless (leave_forwarding f) (flat_map leave_forwarding fs) (harmless-forwarding f) (harmless-forwardings fs)
-
-harmless-farewell : (row : Row) (own : List Row) → Every Harmless (farewell row own)
-harmless-farewell row own = every-append Harmless (flat_map leave_channel (held_of (row ∷ own))) _ (harmless-parts (held_of (row ∷ own))) (harmless-forwardings (filter (λ (f : Forwarding). not f.over) (forwarded row own (forwardings_of own))))
-
-harmless-asked : (o : Option Ask) (f : Global → List (List ℕ)) → ((g : Global) → Every Harmless (f g)) → Every Harmless (with_ask o f)
-harmless-asked None f each = tt
-harmless-asked (Some a) f each = each a.what
-
-harmless-success : (rest : List ℕ) (g : Global) → Every Harmless (late_success rest g)
-harmless-success rest (Forward address port) = (harmless-cancel address (bound port rest), tt)
-harmless-success rest g = tt
-
-harmless-late-refusal : (g : Global) → Every Harmless (late_refusal g)
-harmless-late-refusal (Cancel address port) = (harmless-cancel address port, tt)
-harmless-late-refusal g = tt
-
-harmless-late : (m : Gist) (own : List Row) → Every Harmless (late m own)
-harmless-late (Confirmation n s w m) own = (harmless-close s, tt)
-harmless-late (Succeeds rest) own = harmless-asked (asker own) (late_success rest) (harmless-success rest)
-harmless-late Refuses own = harmless-asked (asker own) late_refusal harmless-late-refusal
-harmless-late m own = tt
-
-harmless-heard : (own : List Row) (p : List ℕ) → Every Harmless (heard_for own p).sent
-harmless-heard own p = by_case (read_gist p)
-  where
-    by_message : (m : Gist) → Every Harmless (for_client own p m).sent
-    by_message (Open what s w max) = elim (nat_lt (length (held_of own)) 256) as (λ b. Every Harmless (elim b as (λ _. Outcome) [ true ↦ tells (frame_payload p) | false ↦ sends (open_failure s 4 (codes "too many channels")) ]).sent) [ true ↦ tt | false ↦ (harmless-failure s 4 (codes "too many channels"), tt) ]
-    by_message (Confirmation n s w max) = tt
-    by_message (Within n act) = tt
-    by_message m = tt
-
-    by_lost : (m : Gist) (b : Bool) → Every Harmless (elim b as (λ _. Outcome) [ true ↦ for_lost own m | false ↦ for_client own p m ]).sent
-    by_lost m true = harmless-late m own
-    by_lost m false = by_message m
-
-    by_case : (r : Result Gist Bad) → Every Harmless (elim r as (λ _. Outcome) [ Err bad ↦ silent | Ok m ↦ heard_gist own p m ]).sent
-    by_case (Err bad) = tt
-    by_case (Ok m) = by_lost m (is_lost own)
-
-harmless-master : (p : List ℕ) → Every Harmless (heard_master p).sent
-harmless-master p = by_case (read_gist p)
-  where
-    by_message : (m : Gist) → Every Harmless (for_master m).sent
-    by_message (Requests what true) = (harmless-refusal, tt)
-    by_message (Open what s w max) = (harmless-failure s 1 (codes "not permitted"), tt)
-    by_message m = tt
-
-    by_case : (r : Result Gist Bad) → Every Harmless (elim r as (λ _. Outcome) [ Err bad ↦ silent | Ok m ↦ for_master m ]).sent
-    by_case (Err bad) = tt
-    by_case (Ok m) = by_message m
-
--- a row by its parts
-pub row-split : (P : Row → Type 0) (item : Item) (k : ℕ) (o : Outcome) (own : List Row) → ((fw : List (List ℕ)) → Every Harmless fw → (fate : Fate) → P (as_row item k o.sent fw (queued (all_told (bare item k o) own) (bare item k o) own).down fate)) → P (row_of item k o own)
-row-split P item k o own each = by_case (loses (queued (all_told (bare item k o) own) (bare item k o) own))
-  where
-    by_case : (b : Bool) → P (elim b as (λ _. Row) [ true ↦ record (queued (all_told (bare item k o) own) (bare item k o) own) { farewell = farewell (queued (all_told (bare item k o) own) (bare item k o) own) own } | false ↦ queued (all_told (bare item k o) own) (bare item k o) own ])
-    by_case true = each (farewell (queued (all_told (bare item k o) own) (bare item k o) own) own) (harmless-farewell (queued (all_told (bare item k o) own) (bare item k o) own) own) _
-    by_case false = each [] tt _
-
--- ---- a legal message fits
-
-le-of : (a b : ℕ) → nat_lt a b ≡ false → b ≤ a
-le-of a b e = grind (arith, nat_tests)
-
-pub fits-of : (way : Side) (size : ℕ) (x : Channel) → breach way (Carries size) x ≡ None → Fits way size (Some x)
-fits-of way size x fine = by_case (is_confirmed x) (any_by way is_closes x.acts) (any_by way is_ends x.acts) (nat_lt (maximum_of way x) size) refl (nat_lt (room way x) size) refl fine
-  where
-    by_case : (a b c d : Bool) → nat_lt (maximum_of way x) size ≡ d → (e : Bool) → nat_lt (room way x) size ≡ e
-        → (elim a as (λ _. Option Breach) [ false ↦ Some NotOpen | true ↦ elim b as (λ _. Option Breach) [ true ↦ Some AfterClose | false ↦ elim c as (λ _. Option Breach) [ true ↦ Some AfterEof | false ↦ elim d as (λ _. Option Breach) [ true ↦ Some (PastPacket (maximum_of way x) size) | false ↦ elim e as (λ _. Option Breach) [ true ↦ Some (PastWindow (room way x) size) | false ↦ None ] ] ] ] ]) ≡ None
-        → Fits way size (Some x)
-    by_case true false false false m_is false r_is fine = (le-of (room way x) size r_is, le-of (maximum_of way x) size m_is)
-    by_case true false false false m_is true r_is fine = cc
-    by_case true false false true m_is e r_is fine = cc
-    by_case true false true d m_is e r_is fine = cc
-    by_case true true c d m_is e r_is fine = cc
-    by_case false b c d m_is e r_is fine = cc
 
 -- ---- what goes up
 

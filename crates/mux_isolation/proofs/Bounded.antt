@@ -13,7 +13,7 @@ use Rattle.mux_isolation.specs.Laws.{WaitsBounded}
 use Rattle.mux_history.proofs.Finds.{filter-no, filter-yes}
 use Rattle.mux_history.proofs.OwnRows.{same-client}
 use Rattle.mux_history.proofs.RightLogs.{LogKnown, by-treat}
-use Rattle.mux_isolation.proofs.Allowed.{row-split}
+use Rattle.mux_history.proofs.Sends.{row-split}
 use Rattle.mux_isolation.proofs.Told.{master-told}
 
 le-from : (a b : ℕ) → nat_le a b ≡ true → a ≤ b

@@ -5,6 +5,7 @@ use Rattle.std.proofs.lemmas.Bool.Decides.{nat_tests}
 use Rattle.mux_history.specs.Channels.{Channel, begun_by, channels_of, held_of, holder, is_held, is_number, opened_down, opened_up, own_of}
 use Rattle.mux_history.specs.Gist.{Confirmation, Gist, Open, Within, read_gist, reading, recipient_of, sender_of}
 use Rattle.mux_history.specs.Heard.{Breaks, ToClient, dest, own_number}
+use Rattle.mux_history.specs.Kept.{Every}
 use Rattle.mux_history.specs.Policy.{Policy}
 use Rattle.mux_history.specs.Rows.{Admit, BadServer, Fate, Gone, Heard, Item, Row, RunEnd, Says, ServerCut, ServerEnd, ServerFailed, Took, Unserved, rows_of}
 use Rattle.mux_history.specs.Said.{Outcome, drops, said_gist, said_payload}
@@ -21,7 +22,7 @@ use Rattle.mux_history.proofs.Dests.{Reached, dest-err, dest-ok, reached}
 use Rattle.mux_history.proofs.Finds.{Each, filter-no, filter-yes, find-no, find-yes}
 use Rattle.mux_history.proofs.KeepsApart.{ok-same, opened-none, opened-plain, own-small, quiet-plain}
 use Rattle.mux_history.proofs.Local.{channels-local}
-use Rattle.mux_history.proofs.Quiets.{EachOf, Quiet}
+use Rattle.mux_history.proofs.Quiets.{Quiet}
 use Rattle.mux_history.proofs.Readings.{reading-ok}
 use Rattle.mux_history.proofs.Renumbered.{SenderIn, number-sent, readdressed, reads-sent, resent, sender-in, sent-again, spelled, word}
 use Rattle.mux_history.proofs.Sends.{Sent, as_row, sent-by}
@@ -172,7 +173,7 @@ module _ (before : List Row) (good : AreApart (channels_of before)) (k : ℕ) wh
   reading-own : (p : List ℕ) (up : List (List ℕ)) → map own_numbered (reading p (opened_down k up) []) ≡ reading p (opened_down k up) []
   reading-own p up = elim (read_gist p) as (λ r. map own_numbered (elim r as (λ _. List Channel) [ Err e ↦ [] | Ok m ↦ opened_down k up m ]) ≡ (elim r as (λ _. List Channel) [ Err e ↦ [] | Ok m ↦ opened_down k up m ])) [ Err e ↦ refl | Ok m ↦ down-own up m ]
 
-  pub named-heard : (p : List ℕ) → dest before p ≡ ToClient k → (up : List (List ℕ)) → EachOf Quiet up → (fw : List (List ℕ)) → EachOf Quiet fw → (down : List (List ℕ)) (fate : Fate) → RowNamed (rows_of k before) (as_row (Heard p) k up fw down fate)
+  pub named-heard : (p : List ℕ) → dest before p ≡ ToClient k → (up : List (List ℕ)) → Every Quiet up → (fw : List (List ℕ)) → Every Quiet fw → (down : List (List ℕ)) (fate : Fate) → RowNamed (rows_of k before) (as_row (Heard p) k up fw down fate)
   named-heard p to up quiet fw parting down fate = record {
     heard = heard-each p to;
     ups = quiet;
@@ -185,10 +186,10 @@ module _ (before : List Row) (good : AreApart (channels_of before)) (k : ℕ) wh
       by_zero false = same-use (rows_of k before) p (opened_down k up) [] (λ m n reads some. small-own n) (down-same up) ∙ sym (reading-own p up)
 
   -- rows that send nothing and begin nothing
-  pub named-mute : (item : Item) → (up : List (List ℕ)) → up ≡ [] → ((x : Channel) → HeardOne (rows_of k before) item x) → own_of item ≡ None → begun_by k [] (item_for (rows_of k before) item) ≡ [] → begun_by k [] item ≡ [] → (fw : List (List ℕ)) → EachOf Quiet fw → (down : List (List ℕ)) (fate : Fate) → RowNamed (rows_of k before) (as_row item k up fw down fate)
+  pub named-mute : (item : Item) → (up : List (List ℕ)) → up ≡ [] → ((x : Channel) → HeardOne (rows_of k before) item x) → own_of item ≡ None → begun_by k [] (item_for (rows_of k before) item) ≡ [] → begun_by k [] item ≡ [] → (fw : List (List ℕ)) → Every Quiet fw → (down : List (List ℕ)) (fate : Fate) → RowNamed (rows_of k before) (as_row item k up fw down fate)
   named-mute item up none heard unowned begun begun' fw parting down fate = record {
     heard = each-unit (HeardOne (rows_of k before) item) heard (channels_of (rows_of k before));
-    ups = subst (λ (o : Option ℕ). UpsNamed o up) (sym unowned) (subst (EachOf Quiet) (sym none) tt);
+    ups = subst (λ (o : Option ℕ). UpsNamed o up) (sym unowned) (subst (Every Quiet) (sym none) tt);
     parting = parting;
     begun = ap (λ o. begun_by k (own_ups o up) (item_for (rows_of k before) item)) unowned ∙ (ap (λ u. begun_by k u (item_for (rows_of k before) item)) none ∙ (begun ∙ sym (ap (map own_numbered) (ap (λ u. begun_by k u item) none ∙ begun'))));
   }
@@ -210,7 +211,7 @@ module _ (before : List Row) (good : AreApart (channels_of before)) (k : ℕ) wh
   resent-twice c n (Confirmation r s w max) = refl
   resent-twice c n m = refl
 
-  module _ (p : List ℕ) (reply : Option HouseReply) (fw : List (List ℕ)) (parting : EachOf Quiet fw) (down : List (List ℕ)) (fate : Fate) where
+  module _ (p : List ℕ) (reply : Option HouseReply) (fw : List (List ℕ)) (parting : Every Quiet fw) (down : List (List ℕ)) (fate : Fate) where
     abbrev said_row : List (List ℕ) → Row
     said_row up = as_row (Says k (Payload p) reply) k up fw down fate
 

@@ -4,6 +4,7 @@ use Rattle.std.specs.Prelude.{◌==◌, ◌&&◌, Result}
 use Rattle.std.proofs.lemmas.List.{map-append}
 use Rattle.mux_history.specs.Channels.{Channel, after_farewell, after_item, begun_by, channels_of, heard_by, is_held, is_number, own_of, with_up, with_ups}
 use Rattle.mux_history.specs.Gist.{Act, Confirmation, Confirms, Gist, Within, read_gist, reading}
+use Rattle.mux_history.specs.Kept.{Every}
 use Rattle.mux_history.specs.Rows.{Heard, Item, Row}
 use Rattle.mux_history.specs.Solo.{item_for, own_ups}
 use Rattle.ssh_grammar.specs.Said.{heard}
@@ -11,7 +12,7 @@ use Rattle.ssh_grammar.specs.SpellMessage.{with_sender}
 use Rattle.ssh_grammar.specs.declared.fault.Bad.{Bad}
 use Rattle.ssh_grammar.specs.declared.side.Side.TheVariants.{Up}
 use Rattle.mux_history.proofs.Finds.{Each}
-use Rattle.mux_history.proofs.Quiets.{EachOf, IsQuiet, Quiet}
+use Rattle.mux_history.proofs.Quiets.{IsQuiet, Quiet}
 use Rattle.mux_history.proofs.Readings.{reading-ok}
 use Rattle.mux_history.proofs.Renumbered.{resent}
 use Rattle.mux_isolation.proofs.Heard.{Named, heard-alone}
@@ -24,8 +25,8 @@ pub record Numbered (c : ℕ) (q : List ℕ) : Type 0 where
   pub again : read_gist (with_sender q c) ≡ Ok (resent c said)
 
 abbrev pub UpsNamed : Option ℕ → List (List ℕ) → Type 0
-UpsNamed None ups = EachOf Quiet ups
-UpsNamed (Some c) ups = EachOf (Numbered c) ups
+UpsNamed None ups = Every Quiet ups
+UpsNamed (Some c) ups = Every (Numbered c) ups
 
 within-up : (own : Option ℕ) (s : ℕ) (act : Act) (x : Channel) → with_up own (Within s act) (own_numbered x) ≡ own_numbered (with_up own (Within s act) x)
 within-up own s act x = pick (is_number x.remote s && is_held x)
@@ -58,11 +59,11 @@ quiet-one q quiet x = by_case (read_gist q) (λ m e. quiet m e)
     by_case (Err e) quiet = refl
     by_case (Ok m) quiet = quiet-up None m (quiet m refl) x
 
-quiet-ups : (ups : List (List ℕ)) → EachOf Quiet ups → (x : Channel) → with_ups None ups (own_numbered x) ≡ own_numbered (with_ups None ups x)
+quiet-ups : (ups : List (List ℕ)) → Every Quiet ups → (x : Channel) → with_ups None ups (own_numbered x) ≡ own_numbered (with_ups None ups x)
 quiet-ups [] quiet x = refl
 quiet-ups (q ∷ ups) quiet x = ap (with_ups None ups) (quiet-one q quiet.0 x) ∙ quiet-ups ups quiet.1 (reading q (λ m. with_up None m x) x)
 
-numbered-ups : (c : ℕ) (ups : List (List ℕ)) → EachOf (Numbered c) ups → (x : Channel) → with_ups (Some c) (own_ups (Some c) ups) (own_numbered x) ≡ own_numbered (with_ups (Some c) ups x)
+numbered-ups : (c : ℕ) (ups : List (List ℕ)) → Every (Numbered c) ups → (x : Channel) → with_ups (Some c) (own_ups (Some c) ups) (own_numbered x) ≡ own_numbered (with_ups (Some c) ups x)
 numbered-ups c [] each x = refl
 numbered-ups c (q ∷ ups) each x =
     ap (with_ups (Some c) (own_ups (Some c) ups))
@@ -82,7 +83,7 @@ HeardOne before item x = Unit {0}
 pub record RowNamed (before : List Row) (row : Row) : Type 0 where
   pub heard : Each (HeardOne before row.item) (channels_of before)
   pub ups : UpsNamed (own_of row.item) row.up
-  pub parting : EachOf Quiet row.farewell
+  pub parting : Every Quiet row.farewell
   pub begun : begun_by row.client (own_ups (own_of row.item) row.up) (item_for before row.item) ≡ map own_numbered (begun_by row.client row.up row.item)
 
 abbrev pub AllNamed : List Row → Type 0
@@ -107,7 +108,7 @@ talked-alone before row x heard ups = by_case (x.client == row.client)
         ∙ ups-alone (own_of row.item) row.up ups (heard_by row.item x))
     by_case false = refl
 
-parted-alone : (before : List Row) (row : Row) (x : Channel) → EachOf Quiet row.farewell → after_farewell (alone_row before row) (own_numbered x) ≡ own_numbered (after_farewell row x)
+parted-alone : (before : List Row) (row : Row) (x : Channel) → Every Quiet row.farewell → after_farewell (alone_row before row) (own_numbered x) ≡ own_numbered (after_farewell row x)
 parted-alone before row x quiet = by_case (x.client == row.client)
   where
     by_case : (b : Bool) → (elim b as (λ _. Channel) [ true ↦ with_ups None row.farewell (own_numbered x) | false ↦ own_numbered x ]) ≡ own_numbered (elim b as (λ _. Channel) [ true ↦ with_ups None row.farewell x | false ↦ x ])
@@ -118,7 +119,7 @@ talked-all : (before : List Row) (row : Row) (xs : List Channel) → Each (Heard
 talked-all before row [] heard ups = refl
 talked-all before row (x ∷ xs) heard ups = ap (λ y. y ∷ map (after_item (alone_row before row)) (map own_numbered xs)) (talked-alone before row x heard.0 ups) ∙ ap (λ ys. own_numbered (after_item row x) ∷ ys) (talked-all before row xs heard.1 ups)
 
-parted-all : (before : List Row) (row : Row) (xs : List Channel) → EachOf Quiet row.farewell → map (after_farewell (alone_row before row)) (map own_numbered xs) ≡ map own_numbered (map (after_farewell row) xs)
+parted-all : (before : List Row) (row : Row) (xs : List Channel) → Every Quiet row.farewell → map (after_farewell (alone_row before row)) (map own_numbered xs) ≡ map own_numbered (map (after_farewell row) xs)
 parted-all before row [] quiet = refl
 parted-all before row (x ∷ xs) quiet = ap (λ y. y ∷ map (after_farewell (alone_row before row)) (map own_numbered xs)) (parted-alone before row x quiet) ∙ ap (λ ys. own_numbered (after_farewell row x) ∷ ys) (parted-all before row xs quiet)
 

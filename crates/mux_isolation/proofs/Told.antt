@@ -31,10 +31,12 @@ use Rattle.ssh_grammar.specs.declared.fault.BadControl.TheVariants as bad_contro
 use Rattle.mux_history.proofs.Apart.{AreApart}
 use Rattle.mux_history.proofs.Dests.{Legal, Offered, dest-ok, offered, reached, within-legal}
 use Rattle.mux_history.proofs.Finds.{Each, filter-no, filter-yes, find-no, find-yes}
+use Rattle.mux_history.proofs.Harmless.{IsHarmless, every-append, harmless-failure}
 use Rattle.mux_history.proofs.KeepsApart.{ok-same}
+use Rattle.mux_history.proofs.Legal.{fits-of}
 use Rattle.mux_history.proofs.Renumbered.{read-renamed, readdressed}
 use Rattle.mux_history.proofs.RightLogs.{LogKnown, by-treat}
-use Rattle.mux_isolation.proofs.Allowed.{IsHarmless, fits-of, harmless-failure, row-split}
+use Rattle.mux_history.proofs.Sends.{row-split}
 use Rattle.mux_isolation.proofs.Mays.{MayTell, TellsAllowed}
 use Rattle.mux_isolation.proofs.Meets.{Meets}
 use Rattle.mux_isolation.proofs.Named.{Met, holder-local, met, number-met}
@@ -177,10 +179,6 @@ module _ (before : List Row) (k : ℕ) where
 
   refusal-replies : Replies request_failure
   refusal-replies m reads = let same : Refuses ≡ m = cc in ap is_reply (sym same)
-
-  every-append : (P : List ℕ → Type 0) (xs ys : List (List ℕ)) → Every P xs → Every P ys → Every P (xs ++ ys)
-  every-append P [] ys a b = b
-  every-append P (x ∷ xs) ys a b = (a.0, every-append P xs ys a.1 b)
 
   every-drop : (P : List ℕ → Type 0) (n : ℕ) (xs : List (List ℕ)) → Every P xs → Every P (drop n xs)
   every-drop P zero xs a = a

@@ -6,6 +6,7 @@ use Rattle.mux_history.specs.Choices.{said_number}
 use Rattle.mux_history.specs.Controls.{greeted, is_says, said_body}
 use Rattle.mux_history.specs.Gist.{Gist, read_gist, sender_of}
 use Rattle.mux_history.specs.Heard.{Breaks, Dest, Disconnects, ToClient, ToMaster, dest, heard_for}
+use Rattle.mux_history.specs.Kept.{Every}
 use Rattle.mux_history.specs.Log.{admits, all_told, bare, entered, heard_row, makes_row, matters_of, open_matters, queued, row_of, treat}
 use Rattle.mux_history.specs.Policy.{Policy}
 use Rattle.mux_history.specs.Rows.{Admit, BadServer, Fate, Gone, Heard, Item, Refused, Row, RunEnd, Says, ServerCut, ServerEnd, ServerFailed, Took, Unserved, any_of, is_admit, is_end, is_ended, is_out, is_refusal, loses, rows_of}
@@ -27,7 +28,7 @@ use Rattle.mux_history.proofs.Finds.{filter-no, filter-yes}
 use Rattle.mux_history.proofs.KeepsApart.{LawfulItem, admits_client}
 use Rattle.mux_history.proofs.LawfulItems.{client-of, item-of}
 use Rattle.mux_history.proofs.OwnRows.{all-of, rows-all}
-use Rattle.mux_history.proofs.Quiets.{EachOf, Quiet}
+use Rattle.mux_history.proofs.Quiets.{Quiet}
 use Rattle.mux_history.proofs.Readings.{reading-err, reading-ok}
 use Rattle.mux_history.proofs.Renumbered.{sender-in, sent-again}
 use Rattle.mux_history.proofs.Sends.{admits-sent, as_row, body-sent, quiet-heard, row-parts}
@@ -156,7 +157,7 @@ module _ (policy : Policy) (pid pick : ℕ) (before : List Row) (good : AreApart
     treats = λ admitted. ap (λ o. row_of (Admit k) k o (rows_of k (alone (rows_of k before)))) (alone_admits ∙ sym (full_admits (nat_lt (open_matters before) 64) refl admitted)) ∙ outcome-treats k named small (Admit k) (λ rows. admits before) (admits before) (row_named [] tt _ _) refl;
   }
     where
-      row_named : (fw : List (List ℕ)) → EachOf Quiet fw → (down : List (List ℕ)) (fate : Fate) → RowNamed (rows_of k before) (as_row (Admit k) k (admits before).sent fw down fate)
+      row_named : (fw : List (List ℕ)) → Every Quiet fw → (down : List (List ℕ)) (fate : Fate) → RowNamed (rows_of k before) (as_row (Admit k) k (admits before).sent fw down fate)
       row_named fw parting down fate = named-mute before good k (Admit k) (admits before).sent (admits-sent before) (λ x. tt) refl refl refl fw parting down fate
 
       alone_admits : admits (alone (rows_of k before)) ≡ tells (frame_answer (Greets VERSION))
@@ -188,7 +189,7 @@ module _ (policy : Policy) (pid pick : ℕ) (before : List Row) (good : AreApart
     treats = λ admitted. outcome-treats k named small (Says k (Body body) reply) (λ rows. said_body pid k reply (greeted rows) body) (said_body pid k reply (greeted (rows_of k before)) body) (row_named [] tt _ _) (ap (λ g. said_body pid k reply g body) (greeted-alone (rows_of k before)));
   }
     where
-      row_named : (fw : List (List ℕ)) → EachOf Quiet fw → (down : List (List ℕ)) (fate : Fate) → RowNamed (rows_of k before) (as_row (Says k (Body body) reply) k (said_body pid k reply (greeted (rows_of k before)) body).sent fw down fate)
+      row_named : (fw : List (List ℕ)) → Every Quiet fw → (down : List (List ℕ)) (fate : Fate) → RowNamed (rows_of k before) (as_row (Says k (Body body) reply) k (said_body pid k reply (greeted (rows_of k before)) body).sent fw down fate)
       row_named fw parting down fate = named-mute before good k (Says k (Body body) reply) (said_body pid k reply (greeted (rows_of k before)) body).sent (body-sent pid k reply (greeted (rows_of k before)) body) (λ x. tt) refl refl refl fw parting down fate
 
   own-bad : (k : ℕ) (fault : BadFrame) (reply : Option HouseReply) → AllNamed (rows_of k before) → AllSmall (rows_of k before) → not (is_out (rows_of k before)) ≡ true → OwnFacts policy pid k (rows_of k before) (Says k (BadFraming fault) reply) (row_of (Says k (BadFraming fault) reply) k (drops (why.BadFrame fault)) (rows_of k before))
