@@ -1,0 +1,17 @@
+pub mod Clients
+pub mod Plain
+pub mod RowFacts
+pub mod Says
+pub mod Fits
+pub mod Grows
+pub mod Sayings
+pub mod Listed
+pub mod Served
+pub mod Moved
+pub mod Goes
+pub mod Ends
+pub mod Comes
+pub mod GoesOn
+pub mod Closes
+pub mod Bodies
+pub mod Queues

@@ -1,0 +1,167 @@
+-- An engine stands for a journal, the newest mark first, and for the clients that were closed: one clause a part.
+use Rattle.std.specs.Prelude.{◌≡◌, ◌≢◌, ℕ, Bool, true, false, not, List, [], ◌∷◌, ◌==◌, filter, Option, Some, None, if◌then◌else◌}
+use Rattle.ssh_grammar.specs.Said.{parse, InControl, Payload}
+use Rattle.mux_outside.specs.Streams.{among}
+use Rattle.mux_outside.specs.declared.mark.Mark.{Mark}
+use Rattle.mux_outside.specs.declared.mark.Mark.TheVariants.{Waits, Accepts, Gets, Ends, Frees, Fails, Takes, Holds, WriteFails}
+use Rattle.mux_history.specs.declared.why.Why.{Why}
+use Rattle.mux_history.specs.Rows.{Row, rows_of, is_out, is_ended, losses, any_of, is_lost as has_loss, is_admit, Item, Says, Gone, Heard, Goes, Refused, Drop, End}
+use Rattle.mux_history.specs.Pending.{pending_down}
+use Rattle.mux_history.specs.Policy.{Anything}
+use Rattle.mux_history.specs.Controls.{greeted}
+use Rattle.mux_history.specs.NotBuilt.{LaterControl, ServerSays}
+use Rattle.mux_history.specs.Choices.{FromLists}
+use Rattle.mux_history.specs.Log.{Setting, served, entered}
+use Rattle.mux_history.specs.Solo.{end_of}
+use Rattle.mux_history.specs.Journal.{bytes_of, log_of_journal}
+use Rattle.mux_history.specs.Promises.{listens}
+use Rattle.mux_engine.specs.declared.client.Standing.{Standing}
+use Rattle.mux_engine.specs.declared.client.Standing.TheVariants.{Awaited, Greeted, Lost}
+use Rattle.mux_engine.specs.State.{ClientState, State}
+use Rattle.mux_engine.specs.Step.{is_lost, is_present, waiting_in, served_in}
+
+-- a run of a master that serves the hello and the alive check: nothing is chosen in it
+abbrev pub setting : ℕ → Setting
+setting pid = record { policy = record { opens = Anything; listens = Anything }; pid = pid; choices = FromLists [] []; missing = LaterControl ∷ ServerSays ∷ [] }
+
+-- its rows
+abbrev pub log : ℕ → List Mark → List Row
+log pid marks = log_of_journal (setting pid) marks
+
+-- ---- one client
+
+abbrev pub greet : Standing → Standing
+greet Awaited = Greeted
+greet Greeted = Greeted
+greet (Lost why) = Lost why
+
+abbrev pub is_greeted : Standing → Bool
+is_greeted Awaited = false
+is_greeted Greeted = true
+is_greeted (Lost why) = true
+
+abbrev pub standing_by : Item → Standing → Standing
+standing_by (Says k saying given) s = greet s
+standing_by (Gone k) s = Lost None
+standing_by _ s = s
+
+-- how a client stands after its rows
+abbrev pub standing_of : List Row → Standing
+standing_of [] = Awaited
+standing_of (row ∷ before) = elim row.fate [
+  | Drop cause ↦ Lost (Some cause)
+  | Refused ↦ Lost None
+  | Goes ↦ standing_by row.item (standing_of before)
+  | End cause ↦ standing_of before
+]
+
+-- a client stands for its own rows
+pub record ClientFits (own : List Row) (c : ClientState) : Type 0 where
+  pub standing_is : c.standing ≡ standing_of own
+  pub greeted_is : is_lost c.standing ≡ false → greeted own ≡ is_greeted c.standing
+  pub queue_is : c.queue ≡ pending_down own
+
+-- and, while it is served, for its own bytes
+pub record ClientReads (bytes : List ℕ) (c : ClientState) : Type 0 where
+  pub mode_is : is_lost c.standing ≡ false → (parse InControl bytes).mode ≡ InControl
+  pub rest_is : is_lost c.standing ≡ false → c.rest ≡ (parse InControl bytes).rest
+
+-- a client stands for its rows, and for its bytes while the run goes on
+pub record StandsAt (rows : List Row) (marks : List Mark) (c : ClientState) : Type 0 where
+  pub nonzero : c.number ≢ 0
+  pub fits : ClientFits (rows_of c.number rows) c
+  pub reads : is_ended rows ≡ false → ClientReads (bytes_of c.number marks) c
+
+abbrev pub EachStands : List Row → List Mark → List ClientState → Type 0
+EachStands rows marks [] = Unit {0}
+EachStands rows marks (c ∷ cs) = StandsAt rows marks c × EachStands rows marks cs
+
+-- no two clients have one number
+abbrev pub AreApart : List ClientState → Type 0
+AreApart [] = Unit {0}
+AreApart (c ∷ cs) = (is_present cs c.number ≡ false) × AreApart cs
+
+-- ---- all of them
+
+-- a client was accepted
+abbrev pub is_accepted : ℕ → List Mark → Bool
+is_accepted k [] = false
+is_accepted k (Accepts j ∷ before) = if j == k then true else is_accepted k before
+is_accepted k (mark ∷ before) = is_accepted k before
+
+abbrev pub not_closed : List ℕ → ℕ × Option Why → Bool
+not_closed closed l = not (among l.0 closed)
+
+-- a row that says nothing to the server and hears nothing of it
+abbrev pub IsPlainItem : Item → Type 0
+IsPlainItem (Says k (Payload p) given) = ⊥
+IsPlainItem (Heard p) = ⊥
+IsPlainItem _ = Unit {0}
+
+pub record IsPlain (row : Row) : Type 0 where
+  pub item : IsPlainItem row.item
+  pub up : row.up ≡ []
+  pub farewell : row.farewell ≡ []
+
+abbrev pub ArePlain : List Row → Type 0
+ArePlain [] = Unit {0}
+ArePlain (row ∷ before) = IsPlain row × ArePlain before
+
+-- the rows of a client that was let in: it was never refused
+pub record IsKnown (own : List Row) : Type 0 where
+  pub admitted : any_of is_admit own ≡ true
+  pub out_is : is_out own ≡ has_loss own
+
+pub record IsStrange (s : State) (marks : List Mark) (closed : List ℕ) (k : ℕ) : Type 0 where
+  pub not_here : is_present s.clients k ≡ false
+  pub not_closed_yet : among k closed ≡ false
+  pub no_bytes : k ≢ 0 → bytes_of k marks ≡ []
+
+pub record Stands (s : State) (marks : List Mark) (closed : List ℕ) : Type 0 where
+  pub ended_is : s.ended ≡ end_of (log s.pid marks)
+  pub listening_is : s.listening ≡ listens (log s.pid marks)
+  pub apart : AreApart s.clients
+  pub waiting_is : s.waiting ≡ waiting_in s.clients
+  pub leaving_are : s.leaving ≡ filter (not_closed closed) (losses (log s.pid marks))
+  pub served_are : served_in s.clients ≡ served (log s.pid marks)
+  pub clients : EachStands (log s.pid marks) marks s.clients
+  -- a client that is neither here nor closed has no rows
+  pub absent : (k : ℕ) → k ≢ 0 → is_present s.clients k ≡ false → among k closed ≡ false → rows_of k (log s.pid marks) ≡ []
+  pub closed_gone : (k : ℕ) → among k closed ≡ true → is_present s.clients k ≡ false
+  pub closed_out : (k : ℕ) → among k closed ≡ true → is_out (rows_of k (log s.pid marks)) ≡ true
+  -- while the run goes on, one that was accepted is here or closed
+  pub there : is_ended (log s.pid marks) ≡ false → (k : ℕ) → is_accepted k marks ≡ true → is_present s.clients k ≡ false → among k closed ≡ true
+  -- and one that never was is neither, and said nothing
+  pub strange : (k : ℕ) → is_accepted k marks ≡ false → IsStrange s marks closed k
+  -- while the run goes on the server said nothing
+  pub silent : is_ended (log s.pid marks) ≡ false → bytes_of 0 marks ≡ []
+  pub server_in : is_out (rows_of 0 (log s.pid marks)) ≡ false
+  pub plain : ArePlain (log s.pid marks)
+  pub known : (k : ℕ) → among k (entered (log s.pid marks)) ≡ true → IsKnown (rows_of k (log s.pid marks))
+
+-- ---- one step more
+
+-- what may come after these marks: a client is accepted once, and other marks name one that was accepted
+abbrev pub IsAllowed : State → List Mark → Mark → Type 0
+IsAllowed s marks (Accepts k) = (k ≢ 0) × (is_accepted k marks ≡ false)
+IsAllowed s marks (Gets k bytes) = k ≢ 0 → is_accepted k marks ≡ true
+IsAllowed s marks (Ends k) = k ≢ 0 → is_accepted k marks ≡ true
+IsAllowed s marks (Fails k) = k ≢ 0 → is_accepted k marks ≡ true
+IsAllowed s marks (WriteFails k) = k ≢ 0 → is_accepted k marks ≡ true
+IsAllowed s marks (Takes k bytes) = is_present s.clients k ≡ true
+IsAllowed s marks (Frees k) = Unit {0}
+IsAllowed s marks (Holds k) = Unit {0}
+IsAllowed s marks (Waits waiting want streams listens) = Unit {0}
+
+-- from every journal that the engine stood for, it stands afterwards for that journal with the mark
+abbrev pub GoesOn : State → State → Mark → Type 0
+GoesOn old new mark = (marks : List Mark) (closed : List ℕ) → Stands old marks closed → IsAllowed old marks mark → Stands new (mark ∷ marks) closed
+
+-- the client is the first of those that are lost and not closed
+abbrev pub IsFirst : ℕ → List (ℕ × Option Why) → Type 0
+IsFirst k [] = ⊥
+IsFirst k (l ∷ ls) = l.0 ≡ k
+
+-- and from every list of clients that were closed, for that list with the client
+abbrev pub Closes : State → State → ℕ → Type 0
+Closes old new k = (marks : List Mark) (closed : List ℕ) → Stands old marks closed → Stands new marks (k ∷ closed)

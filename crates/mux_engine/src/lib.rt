@@ -1,0 +1,9 @@
+//! The machine of a run: what the streams of the clients and of the server say goes in as events, what is to be
+//! written waits in a queue for each stream, and `serve` drives both over a wire.
+#![tactic(auto)]
+
+mod asked;
+mod client;
+mod engine;
+
+pub use engine::{Engine, Event, Went};
