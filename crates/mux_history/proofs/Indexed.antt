@@ -47,7 +47,7 @@ find-kept k s test (x ∷ xs) apart = by_all (find-kept k s test xs apart.1) (x.
     by_all ih true a true b true c false d = ap (λ ys. find (λ (y : Channel). is_number y.remote s && test y) (filter is_held ys)) (filter-yes (is_of k) x xs a) ∙ (ap (find (λ (y : Channel). is_number y.remote s && test y)) (filter-yes is_held x (filter (is_of k) xs) b) ∙ (find-no (λ (y : Channel). is_number y.remote s && test y) x (filter is_held (filter (is_of k) xs)) (ap (λ t. t && test x) c ∙ d) ∙ (others b c ∙ sym (ap (kept (λ (y : Channel). (y.client == k) && test y)) (here b c) ∙ (ap (λ t. elim (t && test x) as (λ _. Option Channel) [ true ↦ Some x | false ↦ None ]) a ∙ ap (λ t. elim t as (λ _. Option Channel) [ true ↦ Some x | false ↦ None ]) d)))))
     by_all ih true a true b true c true d = ap (λ ys. find (λ (y : Channel). is_number y.remote s && test y) (filter is_held ys)) (filter-yes (is_of k) x xs a) ∙ (ap (find (λ (y : Channel). is_number y.remote s && test y)) (filter-yes is_held x (filter (is_of k) xs) b) ∙ (find-yes (λ (y : Channel). is_number y.remote s && test y) x (filter is_held (filter (is_of k) xs)) (ap (λ t. t && test x) c ∙ d) ∙ sym (ap (kept (λ (y : Channel). (y.client == k) && test y)) (here b c) ∙ (ap (λ t. elim (t && test x) as (λ _. Option Channel) [ true ↦ Some x | false ↦ None ]) a ∙ ap (λ t. elim t as (λ _. Option Channel) [ true ↦ Some x | false ↦ None ]) d))))
 
-looks-up : (rows : List Row) → AreApart (channels_of rows) → LooksUp rows
+pub looks-up : (rows : List Row) → AreApart (channels_of rows) → LooksUp rows
 looks-up rows good k s = record {
   confirmed = ap (λ cs. find (λ (x : Channel). is_number x.remote s && is_confirmed x) (filter is_held cs)) (sym (channels-local k rows)) ∙ find-kept k s is_confirmed (channels_of rows) good.apart;
   waiting = ap (λ cs. find (λ (x : Channel). is_number x.remote s && (not (is_up x.by) && not (is_confirmed x))) (filter is_held cs)) (sym (channels-local k rows)) ∙ find-kept k s (λ x. not (is_up x.by) && not (is_confirmed x)) (channels_of rows) good.apart;

@@ -19,6 +19,7 @@ pub mod Quiets
 pub mod Readings
 pub mod Renumbered
 pub mod RightLogs
+pub mod Rooms
 pub mod Sends
 pub mod Steps
 pub mod Written

@@ -1,5 +1,6 @@
 -- Laws of the history: how look-ups go on by one row, and what holds at every row of a right log.
 use Rattle.std.specs.Prelude.{ℕ, ◌≡◌, ◌≤◌, ◌+◌, ◌-◌, ◌==◌, ◌&&◌, not, Bool, List, ◌∷◌, ◌++◌, Option, Some, None, true, false, filter, map}
+use Rattle.std.specs.List.{AllByRecursion}
 use Rattle.mux_outside.specs.declared.mark.Mark.{Mark}
 use Rattle.mux_outside.specs.declared.house.HouseReply.{HouseReply}
 use Rattle.ssh_grammar.specs.declared.side.Side.{Side}
@@ -7,8 +8,8 @@ use Rattle.mux_history.specs.Gist.{Act, Carries, Grants}
 use Rattle.mux_history.specs.Policy.{Policy}
 use Rattle.mux_history.specs.Rows.{Row, rows_of}
 use Rattle.mux_history.specs.Pending.{pending, given_to}
-use Rattle.mux_history.specs.Channels.{Channel, is_held, is_confirmed, is_up, channels_of, held_of, live_in, after_item, after_farewell, begun_by}
-use Rattle.mux_history.specs.Ledger.{other_side, room, initial, sum_of, granted, carried}
+use Rattle.mux_history.specs.Channels.{Channel, after_farewell, after_item, begun_by, channels_of, held_of, is_confirmed, is_held, is_up, live_in}
+use Rattle.mux_history.specs.Ledger.{answered, asked, carried, granted, initial, other_side, room, sum_of}
 use Rattle.mux_history.specs.Requests.{asks, answers}
 use Rattle.mux_history.specs.Forwardings.{forwardings_of}
 use Rattle.mux_history.specs.Said.{confirmed_at, waiting_at}
@@ -56,6 +57,11 @@ with_act way act x = record x { acts = (way, act) ∷ x.acts }
 abbrev pub IsWithin : Side → Channel → Type 0
 IsWithin way x = sum_of carried way x.acts ≤ initial way x + sum_of granted (other_side way) x.acts
 
+-- and no more was answered than was asked
+pub record IsAccounted (way : Side) (x : Channel) : Type 0 where
+  pub within : IsWithin way x
+  pub answered : sum_of answered (other_side way) x.acts ≤ sum_of asked way x.acts
+
 -- data takes its length from the room of its direction and leaves the other; an adjustment adds to the other
 pub record RoomsGoOn (way : Side) (n : ℕ) (x : Channel) : Type 0 where
   pub carries : room way (with_act way (Carries n) x) ≡ room way x - n
@@ -83,6 +89,13 @@ OverRight P = (policy : Policy) (pid : ℕ) (picks : List ℕ) (given : List Hou
 -- no number is held by two channels, nor is one of the server's live in two
 abbrev pub NumbersAreApart : Type 0
 NumbersAreApart = OverRight (λ setting rows. AtEach NumbersApart rows)
+
+-- no room falls below zero, nor does a count of unanswered requests
+abbrev pub RoomsHold : List Row → Type 0
+RoomsHold rows = AllByRecursion (λ x. (way : Side) → IsAccounted way x) (channels_of rows)
+
+abbrev pub RoomsNeverFall : Type 0
+RoomsNeverFall = OverRight (λ setting rows. AtEach RoomsHold rows)
 
 -- what was found, where it passes
 abbrev pub kept : (Channel → Bool) → Option Channel → Option Channel

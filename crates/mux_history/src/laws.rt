@@ -1,7 +1,7 @@
 //! How look-ups go on by one row, and what holds at every row of a right log: each function's contract is
 //! the law.
 
-ghost use Rattle.mux_history.specs.Laws.{OthersStay, LookUpsAreLocal, HeldGoesOn, AnswersOnlyGrow, AccountsGoOn, WrittenAddsUp, NumbersAreApart, OneIndexServes};
+ghost use Rattle.mux_history.specs.Laws.{OthersStay, LookUpsAreLocal, HeldGoesOn, AnswersOnlyGrow, AccountsGoOn, WrittenAddsUp, NumbersAreApart, RoomsNeverFall, OneIndexServes};
 
 /// A row of another client leaves a client's rows as they were.
 pub fn others_stay()
@@ -36,6 +36,11 @@ pub fn written_adds_up()
 /// At no row is a number held by two channels, nor one of the server's live in two.
 pub fn numbers_are_apart()
     ensures { NumbersAreApart }
+{}
+
+/// At no row was more carried in a channel than was granted, or more answered than was asked.
+pub fn rooms_never_fall()
+    ensures { RoomsNeverFall }
 {}
 
 /// A look-up among a client's channels by the server's number is the one among all channels.

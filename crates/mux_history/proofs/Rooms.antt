@@ -1,0 +1,470 @@
+-- No room falls below zero: what is carried was granted before.
+use Rattle.std.proofs.Common.{◌≡◌, ℕ, ◌≤◌, List, [], ◌∷◌, ◌++◌, map, true, false, Bool, refl, ◌∙◌, ap, arith, sym, Option, Some, None, subst, inl, inr, Ok, Err}
+use Rattle.std.specs.Prelude.{◌==◌, ◌&&◌, ◌⊎◌, filter, find, Result}
+use Rattle.std.specs.List.{AllByRecursion}
+use Rattle.std.proofs.lemmas.Bool.Decides.{nat_tests}
+use Rattle.mux_history.specs.Channels.{Channel, after_farewell, after_item, any_by, begun_by, channels_of, heard_by, holder, is_closes, is_confirmed, is_held, is_number, live_in, opened_down, opened_up, own_of, with_down, with_up, with_ups}
+use Rattle.mux_history.specs.Controls.{greeted, said_body}
+use Rattle.mux_history.specs.Gist.{Act, Answers, Asks, Carries, Closes, Confirmation, Confirms, Ends, Fails, Gist, Grants, Open, Refuses, Requests, Succeeds, Transport, Within, read_gist, reading}
+use Rattle.mux_history.specs.Heard.{Breaks, Dest, Disconnects, ToClient, ToMaster, dest, dest_within, heard_for, heard_master}
+use Rattle.mux_history.specs.Kept.{AtEach, Every, ForEach}
+use Rattle.mux_history.specs.Laws.{IsAccounted, IsWithin, RoomsHold, kept, with_act}
+use Rattle.mux_history.specs.Ledger.{answered, asked, breach, carried, other_side, room, sum_of, unanswered}
+use Rattle.mux_history.specs.Log.{admits, all_told, bare, heard_row, queued, row_of, treat}
+use Rattle.mux_history.specs.Policy.{Policy}
+use Rattle.mux_history.specs.Rows.{Admit, BadServer, Fate, Gone, Heard, Item, Row, RunEnd, Says, ServerCut, ServerEnd, ServerFailed, Took, Unserved, rows_of}
+use Rattle.mux_history.specs.Said.{Outcome, confirmed_at, drops, is_failing, on_breach, on_confirmed, on_waiting, said_gist, said_payload, said_within, sends, silent, waiting_at}
+use Rattle.mux_outside.specs.declared.house.HouseReply.{HouseReply}
+use Rattle.ssh_fields.specs.Fields.{AreBytes}
+use Rattle.ssh_grammar.specs.Said.{BadFraming, Body, Payload}
+use Rattle.ssh_grammar.specs.SpellMessage.{wants, with_sender}
+use Rattle.ssh_grammar.specs.declared.fault.Bad.{Bad}
+use Rattle.ssh_grammar.specs.declared.fault.Breach.{Breach}
+use Rattle.ssh_grammar.specs.declared.fault.Breach.TheVariants.{AfterClose, NotOpen, Unasked}
+use Rattle.ssh_grammar.specs.declared.side.Side.{Side}
+use Rattle.ssh_grammar.specs.declared.side.Side.TheVariants.{Down, Up}
+use Rattle.mux_history.specs.declared.why.Why.TheVariants as why
+use Rattle.mux_history.proofs.Apart.{AllApart, ApartFrom, AreApart, Sound, each-both}
+use Rattle.mux_history.proofs.Dests.{Legal, dest-ok, is_plain, within-legal}
+use Rattle.mux_history.proofs.Finds.{Each, filter-no, filter-yes, find-no, find-yes}
+use Rattle.mux_history.proofs.Harmless.{Harmless, IsHarmless, harmless-heard}
+use Rattle.mux_history.proofs.Indexed.{looks-up}
+use Rattle.mux_history.proofs.KeepsApart.{LawfulItem}
+use Rattle.mux_history.proofs.Legal.{fits-of}
+use Rattle.mux_history.proofs.Readings.{reading-ok}
+use Rattle.mux_history.proofs.Renumbered.{reads-sent, resent, sender-in, word}
+use Rattle.mux_history.proofs.RightLogs.{LogKnown, RowKnown}
+use Rattle.mux_history.proofs.Sends.{Sent, admits-sent, and-left, and-right, as_row, body-sent, row-split, sent-by}
+
+-- ---- one more act
+
+-- an act that its channel's account allows
+abbrev pub MayAct : Side → Act → Channel → Type 0
+MayAct way (Carries n) x = n ≤ room way x
+MayAct way Answers x = 1 ≤ unanswered (other_side way) x
+MayAct way act x = Unit {0}
+
+carries-may : (way : Side) (act : Act) (x : Channel) → MayAct way act x → carried act ≤ room way x
+carries-may way (Carries n) x may = may
+carries-may way (Confirms w m) x may = omega arith
+carries-may way Fails x may = omega arith
+carries-may way (Grants n) x may = omega arith
+carries-may way Ends x may = omega arith
+carries-may way Closes x may = omega arith
+carries-may way (Asks wants) x may = omega arith
+carries-may way Answers x may = omega arith
+
+answers-may : (way : Side) (act : Act) (x : Channel) → MayAct way act x → answered act ≤ unanswered (other_side way) x
+answers-may way Answers x may = may
+answers-may way (Carries n) x may = omega arith
+answers-may way (Confirms w m) x may = omega arith
+answers-may way Fails x may = omega arith
+answers-may way (Grants n) x may = omega arith
+answers-may way Ends x may = omega arith
+answers-may way Closes x may = omega arith
+answers-may way (Asks wants) x may = omega arith
+
+abbrev pub Accounted : Channel → Type 0
+Accounted x = (way : Side) → IsAccounted way x
+
+within-act : (way v : Side) (act : Act) (x : Channel) → carried act ≤ room way x → IsWithin v x → IsWithin v (with_act way act x)
+within-act Up Up act x may within = by_side x.by may within
+  where
+    by_side : (side : Side) → carried act ≤ room Up (record x { by = side }) → IsWithin Up (record x { by = side }) → IsWithin Up (record x { by = side; acts = (Up, act) ∷ x.acts })
+    by_side Up may within = omega arith
+    by_side Down may within = omega arith
+within-act Down Down act x may within = by_side x.by may within
+  where
+    by_side : (side : Side) → carried act ≤ room Down (record x { by = side }) → IsWithin Down (record x { by = side }) → IsWithin Down (record x { by = side; acts = (Down, act) ∷ x.acts })
+    by_side Up may within = omega arith
+    by_side Down may within = omega arith
+within-act Up Down act x may within = by_side x.by within
+  where
+    by_side : (side : Side) → IsWithin Down (record x { by = side }) → IsWithin Down (record x { by = side; acts = (Up, act) ∷ x.acts })
+    by_side Up within = omega arith
+    by_side Down within = omega arith
+within-act Down Up act x may within = by_side x.by within
+  where
+    by_side : (side : Side) → IsWithin Up (record x { by = side }) → IsWithin Up (record x { by = side; acts = (Down, act) ∷ x.acts })
+    by_side Up within = omega arith
+    by_side Down within = omega arith
+
+answered-act : (way v : Side) (act : Act) (x : Channel) → answered act ≤ unanswered (other_side way) x → sum_of answered (other_side v) x.acts ≤ sum_of asked v x.acts → sum_of answered (other_side v) ((way, act) ∷ x.acts) ≤ sum_of asked v ((way, act) ∷ x.acts)
+answered-act Up Up act x may fewer = omega arith
+answered-act Up Down act x may fewer = omega arith
+answered-act Down Up act x may fewer = omega arith
+answered-act Down Down act x may fewer = omega arith
+
+pub accounted-act : (way : Side) (act : Act) (x : Channel) → MayAct way act x → Accounted x → Accounted (with_act way act x)
+accounted-act way act x may known v = record { within = within-act way v act x (carries-may way act x may) (known v).within; answered = answered-act way v act x (answers-may way act x may) (known v).answered }
+
+-- its numbers are not looked at
+accounted-named : (own number remote : Option ℕ) (x : Channel) → Accounted x → Accounted (record x { own = own; number = number; remote = remote })
+accounted-named own number remote x known v = record { within = (known v).within; answered = (known v).answered }
+
+-- a message that breaks no rule
+pub may-of : (way : Side) (act : Act) (x : Channel) → breach way act x ≡ None → MayAct way act x
+may-of way (Carries n) x fine = (fits-of way n x fine).0
+may-of way Answers x fine = by_case (is_confirmed x) (any_by way is_closes x.acts) (unanswered (other_side way) x == 0) refl fine
+  where
+    by_case : (a b c : Bool) → (unanswered (other_side way) x == 0) ≡ c → (elim a as (λ _. Option Breach) [ false ↦ Some NotOpen | true ↦ elim b as (λ _. Option Breach) [ true ↦ Some AfterClose | false ↦ elim c as (λ _. Option Breach) [ true ↦ Some Unasked | false ↦ None ] ] ]) ≡ None → 1 ≤ unanswered (other_side way) x
+    by_case true false false e fine = grind (arith, nat_tests)
+    by_case true false true e fine = cc
+    by_case true true c e fine = cc
+    by_case false b c e fine = cc
+may-of way (Confirms w m) x fine = tt
+may-of way Fails x fine = tt
+may-of way (Grants n) x fine = tt
+may-of way Ends x fine = tt
+may-of way Closes x fine = tt
+may-of way (Asks wants) x fine = tt
+
+-- ---- one message
+
+abbrev SafeUp : Gist → Channel → Type 0
+SafeUp (Within s act) x = is_number x.remote s ≡ true → is_held x ≡ true → MayAct Up act x
+SafeUp m x = Unit {0}
+
+abbrev SafeDown : Gist → Channel → Type 0
+SafeDown (Within n act) x = is_number x.number n ≡ true → is_held x ≡ true → MayAct Down act x
+SafeDown m x = Unit {0}
+
+accounted-up : (own : Option ℕ) (m : Gist) (x : Channel) → SafeUp m x → Accounted x → Accounted (with_up own m x)
+accounted-up own (Confirmation s n w max) x safe known = elim (is_number x.remote s && is_held x) as (λ b. Accounted (elim b as (λ _. Channel) [ true ↦ record x { own = own; number = Some n; acts = (Up, Confirms w max) ∷ x.acts } | false ↦ x ])) [ true ↦ accounted-named own (Some n) x.remote (with_act Up (Confirms w max) x) (accounted-act Up (Confirms w max) x tt known) | false ↦ known ]
+accounted-up own (Within s act) x safe known = by_case (is_number x.remote s && is_held x) refl
+  where
+    by_case : (b : Bool) → (is_number x.remote s && is_held x) ≡ b → Accounted (elim b as (λ _. Channel) [ true ↦ record x { acts = (Up, act) ∷ x.acts } | false ↦ x ])
+    by_case true e = accounted-act Up act x (safe (and-left (is_number x.remote s) (is_held x) e) (and-right (is_number x.remote s) (is_held x) e)) known
+    by_case false e = known
+accounted-up own (Transport number) x safe known = known
+accounted-up own (Requests what want) x safe known = known
+accounted-up own (Succeeds rest) x safe known = known
+accounted-up own Refuses x safe known = known
+accounted-up own (Open what s w max) x safe known = known
+
+accounted-down : (m : Gist) (x : Channel) → SafeDown m x → Accounted x → Accounted (with_down m x)
+accounted-down (Confirmation n s w max) x safe known = elim (is_number x.number n && is_held x) as (λ b. Accounted (elim b as (λ _. Channel) [ true ↦ record x { remote = Some s; acts = (Down, Confirms w max) ∷ x.acts } | false ↦ x ])) [ true ↦ accounted-named x.own x.number (Some s) (with_act Down (Confirms w max) x) (accounted-act Down (Confirms w max) x tt known) | false ↦ known ]
+accounted-down (Within n act) x safe known = by_case (is_number x.number n && is_held x) refl
+  where
+    by_case : (b : Bool) → (is_number x.number n && is_held x) ≡ b → Accounted (elim b as (λ _. Channel) [ true ↦ record x { acts = (Down, act) ∷ x.acts } | false ↦ x ])
+    by_case true e = accounted-act Down act x (safe (and-left (is_number x.number n) (is_held x) e) (and-right (is_number x.number n) (is_held x) e)) known
+    by_case false e = known
+accounted-down (Transport number) x safe known = known
+accounted-down (Requests what want) x safe known = known
+accounted-down (Succeeds rest) x safe known = known
+accounted-down Refuses x safe known = known
+accounted-down (Open what s w max) x safe known = known
+
+accounted-reading : (p : List ℕ) (f : Gist → Channel) (x : Channel) → Accounted x → ((m : Gist) → read_gist p ≡ Ok m → Accounted (f m)) → Accounted (reading p f x)
+accounted-reading p f x known each = by_case (read_gist p) refl
+  where
+    by_case : (r : Result Gist Bad) → read_gist p ≡ r → Accounted (elim r as (λ _. Channel) [ Err e ↦ x | Ok m ↦ f m ])
+    by_case (Err e) reads = known
+    by_case (Ok m) reads = each m reads
+
+safe-harmless : (m : Gist) (x : Channel) → IsHarmless m → SafeUp m x
+safe-harmless (Within s Closes) x h = λ a b. tt
+safe-harmless (Within s Fails) x h = λ a b. tt
+safe-harmless (Within s act) x h = absurd h
+safe-harmless m x h = tt
+
+accounted-harmless : (own : Option ℕ) (ups : List (List ℕ)) → Every Harmless ups → (x : Channel) → Accounted x → Accounted (with_ups own ups x)
+accounted-harmless own [] harmless x known = known
+accounted-harmless own (p ∷ ups) harmless x known =
+    accounted-harmless own ups harmless.1 (reading p (λ m. with_up own m x) x)
+    (accounted-reading p (λ m. with_up own m x) x known (λ m reads. accounted-up own m x (safe-harmless m x (harmless.0 m reads)) known))
+
+-- ---- the channel that is meant
+
+found-in : (test : Channel → Bool) → ((x y : Channel) → ApartFrom x y → is_held x ≡ true → is_held y ≡ true → test x ≡ true → test y ≡ false) → (xs : List Channel) → AllApart xs → Each (λ z. is_held z ≡ true → test z ≡ true → find test (filter is_held xs) ≡ Some z) xs
+found-in test pair [] apart = tt
+found-in test pair (x ∷ xs) apart = (
+  (λ held has. ap (find test) (filter-yes is_held x xs held) ∙ find-yes test x (filter is_held xs) has),
+  each-both (ApartFrom x) (λ z. is_held z ≡ true → test z ≡ true → find test (filter is_held xs) ≡ Some z) (λ z. is_held z ≡ true → test z ≡ true → find test (filter is_held (x ∷ xs)) ≡ Some z) behind xs apart.0 (found-in test pair xs apart.1),
+)
+  where
+    behind : (z : Channel) → ApartFrom x z → (is_held z ≡ true → test z ≡ true → find test (filter is_held xs) ≡ Some z) → is_held z ≡ true → test z ≡ true → find test (filter is_held (x ∷ xs)) ≡ Some z
+    behind z a found held has = by_held (is_held x) refl (test x) refl
+      where
+        by_held : (b : Bool) → is_held x ≡ b → (t : Bool) → test x ≡ t → find test (filter is_held (x ∷ xs)) ≡ Some z
+        by_held false e t f = ap (find test) (filter-no is_held x xs e) ∙ found held has
+        by_held true e false f = ap (find test) (filter-yes is_held x xs e) ∙ (find-no test x (filter is_held xs) f ∙ found held has)
+        by_held true e true f = absurd (let no : test z ≡ false = pair x z a e held f in let bad : true ≡ false = sym has ∙ no in cc)
+
+-- what is known of a channel of the log
+pub record KnownIn (before : List Row) (x : Channel) : Type 0 where
+  pub accounted : Accounted x
+  pub live : (s : ℕ) → is_held x ≡ true → is_number x.remote s ≡ true → live_in before s ≡ Some x
+  pub holds : (n : ℕ) → is_held x ≡ true → is_number x.number n ≡ true → holder before n ≡ Some x
+
+known-in : (before : List Row) → AreApart (channels_of before) → Each Accounted (channels_of before) → Each (KnownIn before) (channels_of before)
+known-in before good known = by_all (channels_of before) known (λ s. found-in (λ y. is_number y.remote s) (λ x y a h k e. a.remotes h k s e) (channels_of before) good.apart) (λ n. found-in (λ y. is_number y.number n) (λ x y a h k e. a.numbers h k n e) (channels_of before) good.apart)
+  where
+    by_all : (xs : List Channel) → Each Accounted xs → ((s : ℕ) → Each (λ z. is_held z ≡ true → is_number z.remote s ≡ true → live_in before s ≡ Some z) xs) → ((n : ℕ) → Each (λ z. is_held z ≡ true → is_number z.number n ≡ true → holder before n ≡ Some z) xs) → Each (KnownIn before) xs
+    by_all [] known lives holds = tt
+    by_all (x ∷ xs) known lives holds = (record { accounted = known.0; live = λ s. (lives s).0; holds = λ n. (holds n).0 }, by_all xs known.1 (λ s. (lives s).1) (λ n. (holds n).1))
+
+some-same : (x y : Channel) → Some x ≡ Some y → x ≡ y
+some-same x y e = cc
+
+-- ---- what a client says in a confirmed channel
+
+abbrev UpLegal : List Row → ℕ → Act → Type 0
+UpLegal own s act = (is_failing act ≡ true) ⊎ ((y : Channel) × (confirmed_at own s ≡ Some y) × (breach Up act y ≡ None))
+
+-- what goes up of a message within a channel is legal
+within-up : (own : List Row) (p : List ℕ) (s : ℕ) (act : Act) → ((said_within own p s act).sent ≡ []) ⊎ (((said_within own p s act).sent ≡ p ∷ []) × UpLegal own s act)
+within-up own p s act = by_failing (is_failing act) refl
+  where
+    by_waiting : is_failing act ≡ true → (o : Option Channel) → ((on_waiting s (sends p) o).sent ≡ []) ⊎ (((on_waiting s (sends p) o).sent ≡ p ∷ []) × UpLegal own s act)
+    by_waiting e None = inl refl
+    by_waiting e (Some x) = inr (refl, inl e)
+
+    by_breach : (x : Channel) → confirmed_at own s ≡ Some x → (o : Option Breach) → breach Up act x ≡ o → ((on_breach p s o).sent ≡ []) ⊎ (((on_breach p s o).sent ≡ p ∷ []) × UpLegal own s act)
+    by_breach x at None fine = inr (refl, inr (x, at, fine))
+    by_breach x at (Some b) fine = inl refl
+
+    by_confirmed : (o : Option Channel) → confirmed_at own s ≡ o → ((on_confirmed p s act o).sent ≡ []) ⊎ (((on_confirmed p s act o).sent ≡ p ∷ []) × UpLegal own s act)
+    by_confirmed None at = inl refl
+    by_confirmed (Some x) at = by_breach x at (breach Up act x) refl
+
+    by_failing : (b : Bool) → is_failing act ≡ b → ((elim b as (λ _. Outcome) [ true ↦ on_waiting s (sends p) (waiting_at own s) | false ↦ on_confirmed p s act (confirmed_at own s) ]).sent ≡ []) ⊎ (((elim b as (λ _. Outcome) [ true ↦ on_waiting s (sends p) (waiting_at own s) | false ↦ on_confirmed p s act (confirmed_at own s) ]).sent ≡ p ∷ []) × UpLegal own s act)
+    by_failing true e = by_waiting e (waiting_at own s)
+    by_failing false e = by_confirmed (confirmed_at own s) refl
+
+-- ---- a row
+
+abbrev Accounts : List Row → Row → Type 0
+Accounts before row = Each Accounted (channels_of before) → Each Accounted (channels_of (row ∷ before))
+
+accounted-farewell : (row : Row) → Every Harmless row.farewell → (x : Channel) → Accounted x → Accounted (after_farewell row x)
+accounted-farewell row harmless x known = elim (x.client == row.client) as (λ b. Accounted (elim b as (λ _. Channel) [ true ↦ with_ups None row.farewell x | false ↦ x ])) [ true ↦ accounted-harmless None row.farewell harmless x known | false ↦ known ]
+
+each-append : (P : Channel → Type 0) (xs ys : List Channel) → Each P xs → Each P ys → Each P (xs ++ ys)
+each-append P [] ys a b = b
+each-append P (x ∷ xs) ys a b = (a.0, each-append P xs ys a.1 b)
+
+each-mapped : (P Q : Channel → Type 0) (f : Channel → Channel) → ((x : Channel) → P x → Q (f x)) → (xs : List Channel) → Each P xs → Each Q (map f xs)
+each-mapped P Q f step [] a = tt
+each-mapped P Q f step (x ∷ xs) a = (step x a.0, each-mapped P Q f step xs a.1)
+
+-- a channel begins with nothing done in it
+accounted-new : (x : Channel) → x.acts ≡ [] → Accounted x
+accounted-new x none Up = record { within = by_side x.by; answered = ap_none }
+  where
+    by_side : (side : Side) → IsWithin Up (record x { by = side })
+    by_side side = let c = ap (sum_of carried Up) none in omega (arith, c)
+
+    ap_none : sum_of answered Down x.acts ≤ sum_of asked Up x.acts
+    ap_none = let c = ap (sum_of answered Down) none in omega (arith, c)
+accounted-new x none Down = record { within = by_side x.by; answered = ap_none }
+  where
+    by_side : (side : Side) → IsWithin Down (record x { by = side })
+    by_side side = let c = ap (sum_of carried Down) none in omega (arith, c)
+
+    ap_none : sum_of answered Up x.acts ≤ sum_of asked Down x.acts
+    ap_none = let c = ap (sum_of answered Up) none in omega (arith, c)
+
+begun-reading : (p : List ℕ) (f : Gist → List Channel) → ((m : Gist) → Each Accounted (f m)) → Each Accounted (reading p f [])
+begun-reading p f each = elim (read_gist p) as (λ r. Each Accounted (elim r as (λ _. List Channel) [ Err e ↦ [] | Ok m ↦ f m ])) [ Err e ↦ tt | Ok m ↦ each m ]
+
+begun-up : (k : ℕ) (up : List (List ℕ)) (m : Gist) → Each Accounted (opened_up k up m)
+begun-up k [] m = tt
+begun-up k (p ∷ ps) (Open what c w max) = (accounted-new _ refl, tt)
+begun-up k (p ∷ ps) m = tt
+
+begun-down : (k : ℕ) (up : List (List ℕ)) (m : Gist) → Each Accounted (opened_down k up m)
+begun-down k [] (Open what s w max) = (accounted-new _ refl, tt)
+begun-down k [] m = tt
+begun-down k (p ∷ ps) m = tt
+
+begun-accounted : (k : ℕ) (up : List (List ℕ)) (item : Item) → Each Accounted (begun_by k up item)
+begun-accounted k up (Says j (Payload p) reply) = begun-reading p (opened_up k up) (begun-up k up)
+begun-accounted k up (Heard p) = elim (k == 0) as (λ b. Each Accounted (elim b as (λ _. List Channel) [ true ↦ [] | false ↦ reading p (opened_down k up) [] ])) [ true ↦ tt | false ↦ begun-reading p (opened_down k up) (begun-down k up) ]
+begun-accounted k up item = tt
+
+-- what the item does to each channel, and then the farewell
+by-items : (before : List Row) (row : Row) → AreApart (channels_of before) → Every Harmless row.farewell → ((x : Channel) → KnownIn before x → Accounted (after_item row x)) → Accounts before row
+by-items before row good harmless step known =
+    each-mapped Accounted Accounted (after_farewell row) (accounted-farewell row harmless) (map (after_item row) (channels_of before) ++ begun_by row.client row.up row.item)
+    (each-append Accounted (map (after_item row) (channels_of before)) (begun_by row.client row.up row.item)
+    (each-mapped (KnownIn before) Accounted (after_item row) step (channels_of before) (known-in before good known))
+    (begun-accounted row.client row.up row.item))
+
+-- a row that says nothing in a channel
+still-item : (before : List Row) (row : Row) → Every Harmless row.up → ((x : Channel) → heard_by row.item x ≡ x) → (x : Channel) → KnownIn before x → Accounted (after_item row x)
+still-item before row harmless stays x known = elim (x.client == row.client) as (λ b. Accounted (elim b as (λ _. Channel) [ true ↦ with_ups (own_of row.item) row.up (heard_by row.item x) | false ↦ x ])) [ true ↦ accounted-harmless (own_of row.item) row.up harmless (heard_by row.item x) (subst Accounted (sym (stays x)) known.accounted) | false ↦ known.accounted ]
+
+-- ---- what a client says
+
+same-client-as : (a b : ℕ) → (a == b) ≡ true → a ≡ b
+same-client-as a b e = grind (arith, nat_tests)
+
+module _ (before : List Row) (good : AreApart (channels_of before)) (k : ℕ) where
+  -- the confirmed channel that was found is the one that is meant
+  meant-up : (x : Channel) → KnownIn before x → (x.client == k) ≡ true → (s : ℕ) (act : Act) → UpLegal (rows_of k before) s act → SafeUp (Within s act) x
+  meant-up x known mine s act (inl failing) has held = by_act act failing
+    where
+      by_act : (act : Act) → is_failing act ≡ true → MayAct Up act x
+      by_act Fails e = tt
+      by_act act e = cc
+  meant-up x known mine s act (inr found) has held = by_passes ((x.client == k) && is_confirmed x) refl
+    where
+      at : kept (λ y. (y.client == k) && is_confirmed y) (Some x) ≡ Some found.0
+      at = sym (ap (kept (λ y. (y.client == k) && is_confirmed y)) (known.live s held has)) ∙ (sym (looks-up before good k s).confirmed ∙ found.1)
+
+      by_passes : (b : Bool) → ((x.client == k) && is_confirmed x) ≡ b → MayAct Up act x
+      by_passes true e = let same : x ≡ found.0 = some-same x found.0 (sym (ap (λ b. elim b as (λ _. Option Channel) [ true ↦ Some x | false ↦ None ]) e) ∙ at) in may-of Up act x (ap (breach Up act) same ∙ found.2)
+      by_passes false e = let bad : None ≡ Some found.0 = sym (ap (λ b. elim b as (λ _. Option Channel) [ true ↦ Some x | false ↦ None ]) e) ∙ at in absurd cc
+
+  said-item : (p : List ℕ) (reply : Option HouseReply) (up fw down : List (List ℕ)) (fate : Fate) → ((x : Channel) → KnownIn before x → (x.client == k) ≡ true → (own : Option ℕ) → Accounted (with_ups own up x)) → (x : Channel) → KnownIn before x → Accounted (after_item (as_row (Says k (Payload p) reply) k up fw down fate) x)
+  said-item p reply up fw down fate each x known = by_client (x.client == k) refl
+    where
+      by_client : (b : Bool) → (x.client == k) ≡ b → Accounted (elim b as (λ _. Channel) [ true ↦ with_ups (own_of (Says k (Payload p) reply)) up x | false ↦ x ])
+      by_client true e = each x known e (own_of (Says k (Payload p) reply))
+      by_client false e = known.accounted
+
+  one-up : (q : List ℕ) (m : Gist) → read_gist q ≡ Ok m → (x : Channel) → KnownIn before x → SafeUp m x → (own : Option ℕ) → Accounted (with_ups own (q ∷ []) x)
+  one-up q m reads x known safe own = subst Accounted (sym (reading-ok q m (λ m. with_up own m x) x reads)) (accounted-up own m x safe known.accounted)
+
+  said-ups : (policy : Policy) (pick : ℕ) (p : List ℕ) → AreBytes p → (x : Channel) → KnownIn before x → (x.client == k) ≡ true → (own : Option ℕ) → Accounted (with_ups own (said_payload policy k (rows_of k before) pick p).sent x)
+  said-ups policy pick p bytes x known mine own = by_case (read_gist p) refl
+    where
+      at : (up : List (List ℕ)) → Type 0
+      at up = Accounted (with_ups own up x)
+
+      others : (m : Gist) → read_gist p ≡ Ok m → ((c : ℕ) → SafeUp (resent c m) x) → SafeUp m x → Sent (rows_of k before) pick p m (said_gist policy k (rows_of k before) pick p m).sent → Accounted (with_ups own (said_gist policy k (rows_of k before) pick p m).sent x)
+      others m reads safe_sent safe (inl none) = subst (λ (up : List (List ℕ)). Accounted (with_ups own up x)) (sym none) known.accounted
+      others m reads safe_sent safe (inr (inl plain)) = subst (λ (up : List (List ℕ)). Accounted (with_ups own up x)) (sym plain.up) (one-up p m reads x known safe own)
+      others m reads safe_sent safe (inr (inr new)) = subst (λ (up : List (List ℕ)). Accounted (with_ups own up x)) (sym new.up) (one-up (with_sender p pick) (resent (word pick) m) (reads-sent p m (sender-in p m new.c bytes reads new.owned) pick) x known (safe_sent (word pick)) own)
+
+      by_gist : (m : Gist) → read_gist p ≡ Ok m → Accounted (with_ups own (said_gist policy k (rows_of k before) pick p m).sent x)
+      by_gist (Within s act) reads = by_within (within-up (rows_of k before) p s act)
+        where
+          by_within : ((said_within (rows_of k before) p s act).sent ≡ []) ⊎ (((said_within (rows_of k before) p s act).sent ≡ p ∷ []) × UpLegal (rows_of k before) s act) → Accounted (with_ups own (said_within (rows_of k before) p s act).sent x)
+          by_within (inl none) = subst (λ (up : List (List ℕ)). Accounted (with_ups own up x)) (sym none) known.accounted
+          by_within (inr sent) = subst (λ (up : List (List ℕ)). Accounted (with_ups own up x)) (sym sent.0) (one-up p (Within s act) reads x known (meant-up x known mine s act sent.1) own)
+      by_gist (Confirmation s c w max) reads = others (Confirmation s c w max) reads (λ c. tt) tt (sent-by policy k (rows_of k before) pick p (Confirmation s c w max))
+      by_gist (Open what c w max) reads = others (Open what c w max) reads (λ c. tt) tt (sent-by policy k (rows_of k before) pick p (Open what c w max))
+      by_gist (Transport number) reads = others (Transport number) reads (λ c. tt) tt (sent-by policy k (rows_of k before) pick p (Transport number))
+      by_gist (Requests what want) reads = others (Requests what want) reads (λ c. tt) tt (sent-by policy k (rows_of k before) pick p (Requests what want))
+      by_gist (Succeeds rest) reads = others (Succeeds rest) reads (λ c. tt) tt (sent-by policy k (rows_of k before) pick p (Succeeds rest))
+      by_gist Refuses reads = others Refuses reads (λ c. tt) tt (sent-by policy k (rows_of k before) pick p Refuses)
+
+      by_case : (r : Result Gist Bad) → read_gist p ≡ r → Accounted (with_ups own (elim r as (λ _. Outcome) [ Err bad ↦ drops (why.BadMessage bad) | Ok m ↦ said_gist policy k (rows_of k before) pick p m ]).sent x)
+      by_case (Err bad) reads = known.accounted
+      by_case (Ok m) reads = by_gist m reads
+
+  -- ---- what the server says to it
+
+  meant-down : (p : List ℕ) → dest before p ≡ ToClient k → (m : Gist) → read_gist p ≡ Ok m → (x : Channel) → KnownIn before x → SafeDown m x
+  meant-down p to (Within n act) reads x known = by_act act (sym (dest-ok before p (Within n act) reads) ∙ to)
+    where
+      legal : (act : Act) → is_plain act ≡ true → dest_within before n act ≡ ToClient k → is_number x.number n ≡ true → is_held x ≡ true → MayAct Down act x
+      legal act plain to has held =
+          let l : Legal before n act k = within-legal before n act k plain to in
+          let same : x ≡ l.channel = some-same x l.channel (sym (known.holds n held has) ∙ l.is) in
+          may-of Down act x (ap (breach Down act) same ∙ l.fine)
+
+      by_act : (act : Act) → dest_within before n act ≡ ToClient k → is_number x.number n ≡ true → is_held x ≡ true → MayAct Down act x
+      by_act Fails to = λ has held. tt
+      by_act (Confirms w max) to = legal (Confirms w max) refl to
+      by_act (Grants g) to = legal (Grants g) refl to
+      by_act (Carries size) to = legal (Carries size) refl to
+      by_act Ends to = legal Ends refl to
+      by_act Closes to = legal Closes refl to
+      by_act (Asks want) to = legal (Asks want) refl to
+      by_act Answers to = legal Answers refl to
+  meant-down p to (Confirmation n s w max) reads x known = tt
+  meant-down p to (Transport number) reads x known = tt
+  meant-down p to (Requests what want) reads x known = tt
+  meant-down p to (Succeeds rest) reads x known = tt
+  meant-down p to Refuses reads x known = tt
+  meant-down p to (Open what s w max) reads x known = tt
+
+  heard-item : (p : List ℕ) → dest before p ≡ ToClient k → (up fw down : List (List ℕ)) (fate : Fate) → Every Harmless up → (x : Channel) → KnownIn before x → Accounted (after_item (as_row (Heard p) k up fw down fate) x)
+  heard-item p to up fw down fate harmless x known = elim (x.client == k) as (λ b. Accounted (elim b as (λ _. Channel) [ true ↦ with_ups None up (reading p (λ m. with_down m x) x) | false ↦ x ])) [
+    | true ↦ accounted-harmless None up harmless (reading p (λ m. with_down m x) x) (accounted-reading p (λ m. with_down m x) x known.accounted (λ m reads. accounted-down m x (meant-down p to m reads x known) known.accounted))
+    | false ↦ known.accounted
+  ]
+
+-- ---- any row
+
+master-item : (before : List Row) (row : Row) → AreApart (channels_of before) → row.client ≡ 0 → Every Harmless row.farewell → Accounts before row
+master-item before row good none harmless = λ known. by-each (channels_of before) good.each known
+  where
+    stays : (x : Channel) → Sound x → after_item row x ≡ x
+    stays x sound = ap (λ b. elim b as (λ _. Channel) [ true ↦ with_ups (own_of row.item) row.up (heard_by row.item x) | false ↦ x ]) (ap (λ c. x.client == c) none ∙ not_zero x.client sound.client)
+      where
+        not_zero : (c : ℕ) → (c ≡ 0 → ⊥) → (c == 0) ≡ false
+        not_zero c real = by_test (c == 0) refl
+          where
+            zero_is : (c == 0) ≡ true → c ≡ 0
+            zero_is e = grind (arith, nat_tests)
+
+            by_test : (b : Bool) → (c == 0) ≡ b → (c == 0) ≡ false
+            by_test false e = e
+            by_test true e = absurd (real (zero_is e))
+
+    by-each : (xs : List Channel) → Each Sound xs → Each Accounted xs → Each Accounted (map (after_farewell row) (map (after_item row) xs ++ begun_by row.client row.up row.item))
+    by-each xs sound known =
+        each-mapped Accounted Accounted (after_farewell row) (accounted-farewell row harmless) (map (after_item row) xs ++ begun_by row.client row.up row.item)
+        (each-append Accounted (map (after_item row) xs) (begun_by row.client row.up row.item)
+        (each-mapped (λ x. Sound x × Accounted x) Accounted (after_item row) (λ x both. subst Accounted (sym (stays x both.0)) both.1) xs (both-each xs sound known))
+        (begun-accounted row.client row.up row.item))
+      where
+        both-each : (xs : List Channel) → Each Sound xs → Each Accounted xs → Each (λ x. Sound x × Accounted x) xs
+        both-each [] a b = tt
+        both-each (x ∷ xs) a b = ((a.0, b.0), both-each xs a.1 b.1)
+
+-- a row by its parts
+row-any : (P : Row → Type 0) (item : Item) (k : ℕ) (o : Outcome) (own : List Row) → ((fw : List (List ℕ)) → Every Harmless fw → (down : List (List ℕ)) (fate : Fate) → P (as_row item k o.sent fw down fate)) → P (row_of item k o own)
+row-any P item k o own each = row-split P item k o own (λ fw parting fate. each fw parting (queued (all_told (bare item k o) own) (bare item k o) own).down fate)
+
+none-harmless : (ups : List (List ℕ)) → ups ≡ [] → Every Harmless ups
+none-harmless ups none = subst (Every Harmless) (sym none) tt
+
+mute-row : (before : List Row) → AreApart (channels_of before) → (item : Item) (k : ℕ) (o : Outcome) → Every Harmless o.sent → ((x : Channel) → heard_by item x ≡ x) → Accounts before (row_of item k o (rows_of k before))
+mute-row before good item k o harmless stays = row-any (Accounts before) item k o (rows_of k before) (λ fw parting down fate. by-items before (as_row item k o.sent fw down fate) good parting (still-item before (as_row item k o.sent fw down fate) harmless stays))
+
+heard-accounts : (before : List Row) → AreApart (channels_of before) → (p : List ℕ) (d : Dest) → dest before p ≡ d → Accounts before (heard_row before p d)
+heard-accounts before good p ToMaster e = master-item before (bare (Heard p) 0 (heard_master p)) good refl tt
+heard-accounts before good p (ToClient k) e = row-any (Accounts before) (Heard p) k (heard_for (rows_of k before) p) (rows_of k before) (λ fw parting down fate. by-items before (as_row (Heard p) k (heard_for (rows_of k before) p).sent fw down fate) good parting (heard-item before good k p e (heard_for (rows_of k before) p).sent fw down fate (harmless-heard (rows_of k before) p)))
+heard-accounts before good p Disconnects e = master-item before (heard_row before p Disconnects) good refl tt
+heard-accounts before good p (Breaks cause) e = master-item before (heard_row before p (Breaks cause)) good refl tt
+
+accounts-treat : (policy : Policy) (pid pick : ℕ) (before : List Row) (item : Item) → AreApart (channels_of before) → LawfulItem before item → Accounts before (treat policy pid pick before item)
+accounts-treat policy pid pick before (Admit k) good lawful = mute-row before good (Admit k) k (admits before) (none-harmless (admits before).sent (admits-sent before)) (λ x. refl)
+accounts-treat policy pid pick before (Says k (Payload p) reply) good lawful = row-any (Accounts before) (Says k (Payload p) reply) k (said_payload policy k (rows_of k before) pick p) (rows_of k before) (λ fw parting down fate. by-items before (as_row (Says k (Payload p) reply) k (said_payload policy k (rows_of k before) pick p).sent fw down fate) good parting (said-item before good k p reply (said_payload policy k (rows_of k before) pick p).sent fw down fate (said-ups before good k policy pick p lawful.1)))
+accounts-treat policy pid pick before (Says k (Body body) reply) good lawful = mute-row before good (Says k (Body body) reply) k (said_body pid k reply (greeted (rows_of k before)) body) (none-harmless _ (body-sent pid k reply (greeted (rows_of k before)) body)) (λ x. refl)
+accounts-treat policy pid pick before (Says k (BadFraming fault) reply) good lawful = mute-row before good (Says k (BadFraming fault) reply) k (drops (why.BadFrame fault)) tt (λ x. refl)
+accounts-treat policy pid pick before (Gone k) good lawful = mute-row before good (Gone k) k silent tt (λ x. refl)
+accounts-treat policy pid pick before (Heard p) good lawful = heard-accounts before good p (dest before p) refl
+accounts-treat policy pid pick before (Took stream size) good lawful = by-items before (bare (Took stream size) stream silent) good tt (still-item before (bare (Took stream size) stream silent) tt (λ x. refl))
+accounts-treat policy pid pick before (BadServer fault) good lawful = master-item before (treat policy pid pick before (BadServer fault)) good refl tt
+accounts-treat policy pid pick before ServerEnd good lawful = master-item before (treat policy pid pick before ServerEnd) good refl tt
+accounts-treat policy pid pick before (ServerCut left) good lawful = master-item before (treat policy pid pick before (ServerCut left)) good refl tt
+accounts-treat policy pid pick before ServerFailed good lawful = master-item before (treat policy pid pick before ServerFailed) good refl tt
+accounts-treat policy pid pick before (RunEnd cause) good lawful = master-item before (treat policy pid pick before (RunEnd cause)) good refl tt
+accounts-treat policy pid pick before Unserved good lawful = master-item before (treat policy pid pick before Unserved) good refl tt
+
+-- ---- every row
+
+as-all : (xs : List Channel) → Each Accounted xs → AllByRecursion Accounted xs
+as-all [] a = tt
+as-all (x ∷ xs) a = (a.0, as-all xs a.1)
+
+record RoomsKnown (rows : List Row) : Type 0 where
+  each : Each Accounted (channels_of rows)
+  all : AtEach RoomsHold rows
+
+rooms-known : (policy : Policy) (pid : ℕ) (rows : List Row) → ForEach (RowKnown policy pid) rows → RoomsKnown rows
+rooms-known policy pid [] known = record { each = tt; all = tt }
+rooms-known policy pid (row ∷ before) known =
+    let ih : RoomsKnown before = rooms-known policy pid before known.1 in
+    let k : RowKnown policy pid before row = known.0 in
+    let here : Each Accounted (channels_of (row ∷ before)) = subst (Accounts before) k.is (accounts-treat policy pid k.pick before k.item k.good k.lawful) ih.each in
+    record { each = here; all = (as-all (channels_of (row ∷ before)) here, ih.all) }
+
+pub rooms-hold : (policy : Policy) (pid : ℕ) (rows : List Row) → LogKnown policy pid rows → AtEach RoomsHold rows
+rooms-hold policy pid rows known = (rooms-known policy pid rows known.each).all
