@@ -11,6 +11,7 @@ pub mod Indexed
 pub mod KeepsApart
 pub mod LawfulItems
 pub mod Legal
+pub mod Limits
 pub mod Local
 pub mod Marks
 pub mod Nexts

@@ -24,3 +24,4 @@ pub mod WorkedForwards
 pub mod WorkedLosses
 pub mod Settings
 pub mod Laws
+pub mod WorkedLimits

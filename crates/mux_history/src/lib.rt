@@ -6,6 +6,8 @@
 mod broke;
 mod ended;
 pub mod laws;
+#[cfg(test)]
+mod tests;
 mod why;
 mod worked;
 

@@ -3,5 +3,6 @@
 
 mod control;
 mod forwards;
+mod limits;
 mod losses;
 mod proxy;
