@@ -1,5 +1,5 @@
 -- A frame that is spelled as an answer says it.
-use Rattle.std.proofs.Common.{◌≡◌, List, ℕ, ap, ◌∙◌, sym}
+use Rattle.std.proofs.Common.{◌≡◌, List, ℕ, ap, ◌∙◌}
 use Rattle.ssh_grammar.specs.declared.framing.Framing.TheVariants as framing
 use Rattle.ssh_grammar.specs.Control.{Answer}
 use Rattle.ssh_grammar.specs.SpellControl.{spell_answer}

@@ -1,8 +1,7 @@
 -- The pairs of a hello, one after the other.
-use Rattle.std.proofs.Common.{◌≡◌, ◌≢◌, ℕ, zero, suc, ◌+◌, ◌<◌, ◌≤◌, List, [], ◌∷◌, ◌++◌, length, Option, Some, None, Result, Ok, Err, refl, sym, ◌∙◌, ap, subst, arith, length-append}
+use Rattle.std.proofs.Common.{◌≡◌, ◌≢◌, ℕ, zero, suc, ◌+◌, ◌<◌, ◌≤◌, List, [], ◌∷◌, ◌++◌, length, Option, Some, None, Result, Ok, Err, refl, sym, ◌∙◌, ap, arith, length-append}
 use Rattle.ssh_fields.specs.Fields.{take_u32, split_at, take_str}
 use Rattle.ssh_fields.proofs.Fields.{value_and_rest, split_at-is}
-use Rattle.ssh_grammar.specs.declared.fault.BadControl.{BadControl}
 use Rattle.ssh_grammar.specs.declared.fault.BadControl.TheVariants as bad
 use Rattle.ssh_grammar.specs.Control.{Control, Hello}
 use Rattle.ssh_grammar.specs.ReadControl.{on_pairs, read_hello}
