@@ -32,7 +32,8 @@ impl<R: Files + Drop> Drop for Temporary<R> {
     }
 }
 
-/// The name of the control socket, which is removed when this is dropped, if it still names our socket.
+/// The name of the control socket, which is removed when this is dropped, if it still names our
+/// socket.
 pub struct Control<R: Files + Drop> {
     rt: R,
     path: String,
@@ -66,7 +67,9 @@ pub fn listen_beside<R: Files + Net + Clone + Drop>(
     alloc: Global,
     path: &str,
 ) -> io::Result<Unnamed<R>> {
-    // A name that is taken is refused before anything is done. `publish` refuses it too.
+    // A name that is too long or taken is refused before anything is done. `publish` refuses a taken
+    // one too.
+    let _ = SocketAddr::from_pathname(path)?;
     if fs::symlink_metadata(rt, path).is_ok() {
         return Err(io::Error::from(io::ErrorKind::AlreadyExists));
     }
@@ -132,8 +135,6 @@ impl<R: Files + Net + Clone + Drop> Unnamed<R> {
             dev,
             ino,
         } = self;
-        // The name must be usable before it is there: a socket's address is shorter than a path.
-        let _ = SocketAddr::from_pathname(path)?;
         let name = String::from_str(alloc, path)?;
         let owner = rt.clone()?;
         fs::hard_link(rt, temporary.path.as_str(), path)?;

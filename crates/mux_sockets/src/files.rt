@@ -15,8 +15,8 @@ const CHUNK: usize = 65536;
 // How many names a directory may have.
 const NAMES: usize = 1_000_000;
 
-/// The files of the system. A path that isn't UTF-8 is a fault, and so is a directory with a name that
-/// isn't, or with more than 1,000,000 names.
+/// The files of the system. A path that isn't UTF-8 is a fault, and so is a directory with a name
+/// that isn't, or with more than 1,000,000 names.
 #[derive(Drop)]
 pub struct RealFiles<R: System + AllocGlobal + Clone + Drop> {
     rt: R,

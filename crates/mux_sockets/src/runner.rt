@@ -9,8 +9,8 @@ use std::{io, str};
 // The status of a command that a signal ended.
 const BY_A_SIGNAL: u8 = 255;
 
-/// The system's shell, `/bin/sh -c`. A command reads from nowhere, and what it writes is dropped. An end
-/// by a signal gives 255. A command that isn't UTF-8 is a fault.
+/// The system's shell, `/bin/sh -c`. A command reads from nowhere, and what it writes is dropped.
+/// An end by a signal gives 255. A command that isn't UTF-8 is a fault.
 #[derive(Drop)]
 pub struct RealRunner<P: Processes + Drop> {
     rt: P,

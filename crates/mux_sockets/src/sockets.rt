@@ -290,7 +290,8 @@ impl<R: Files + Net + Clone + Drop> Sockets<R> {
 
     // A client that could not be accepted is no fault of the run.
     fn not_accepted(&mut self, e: &io::Error) -> Option<Found>
-        ensures { IfSome result (λ found. (client : Option ℕ) (bytes : List ℕ) → FoundFits found client bytes) }
+        ensures { IfSome result (λ found.
+            (client : Option ℕ) (bytes : List ℕ) → FoundFits found client bytes) }
     {
         match e.kind() {
             io::ErrorKind::WouldBlock => None,

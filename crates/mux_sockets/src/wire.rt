@@ -8,9 +8,9 @@ use std::alloc::Global;
 use std::fs::Files;
 use std::net::Net;
 
-/// A wire over the system's sockets: a Unix socket for the clients, and a Unix socket or TCP for the
-/// server. A client that fails, resets or takes its bytes slowly is that client's matter alone; while
-/// the system has no descriptors left, clients wait.
+/// A wire over the system's sockets: a Unix socket for the clients, and a Unix socket or TCP for
+/// the server. A client that fails, resets or takes its bytes slowly is that client's matter alone;
+/// while the system has no descriptors left, clients wait.
 #[derive(Drop)]
 pub struct RealWire<R: Files + Net + Clone + Drop> {
     rt: R,
@@ -63,7 +63,8 @@ impl<R: Files + Net + Clone + Drop> RealWire<R> {
 
     // The number of the client that may come now.
     fn next_client(&self, want: Want) -> Option<u64>
-        ensures { IfSome result (λ k. (want ≡ WantsAll) × (self.now.listening ≡ true) × (k ≡ self.now.last + 1)) }
+        ensures { IfSome result (λ k.
+            (want ≡ WantsAll) × (self.now.listening ≡ true) × (k ≡ self.now.last + 1)) }
     {
         if want == Want::Read && self.listening && self.last < u64::MAX {
             Some(self.last + 1)
