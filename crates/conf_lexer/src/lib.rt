@@ -4,6 +4,8 @@
 #![tactic(auto)]
 
 mod heads;
+#[cfg(test)]
+mod tests;
 mod words;
 
 pub use conf_rules::LexError;

@@ -10,6 +10,8 @@ mod lines;
 mod listing;
 mod rows;
 mod spelling;
+#[cfg(test)]
+mod tests;
 mod values;
 
 pub use conf_rules::{Cause, Key, ResolveError, Value, ValueError};
