@@ -25,3 +25,4 @@ pub mod WorkedLosses
 pub mod Settings
 pub mod Laws
 pub mod WorkedLimits
+pub mod WorkedPolicy

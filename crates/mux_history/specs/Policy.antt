@@ -39,15 +39,14 @@ any_policy = record { opens = Anything; listens = Anything }
 
 -- ---- how a list is read: `any`, `none`, or entries `host:port`, `[address]:port` and `port`
 
--- a decimal number up to 65,535, without leading zeros
+-- a decimal number up to 65,535; leading zeros are allowed
 abbrev pub digits : ℕ → List ℕ → Option ℕ
 digits n [] = elim (nat_le n 65535) [ true ↦ Some n | false ↦ None ]
 digits n (b ∷ bytes) = elim (nat_le 48 b && nat_le b 57) [ true ↦ digits (n * 10 + (b - 48)) bytes | false ↦ None ]
 
 abbrev pub read_number : List ℕ → Option ℕ
 read_number [] = None
-read_number (b ∷ []) = digits 0 (b ∷ [])
-read_number (b ∷ c ∷ bytes) = elim (b == 48) [ true ↦ None | false ↦ digits 0 (b ∷ c ∷ bytes) ]
+read_number (b ∷ bytes) = digits 0 (b ∷ bytes)
 
 -- `*`, or a number
 abbrev pub read_port : List ℕ → Option (Option ℕ)

@@ -5,4 +5,5 @@ mod control;
 mod forwards;
 mod limits;
 mod losses;
+mod policy;
 mod proxy;
