@@ -4,6 +4,8 @@
 
 mod forms;
 mod reader;
+#[cfg(test)]
+mod tests;
 
 pub use conf_rules::{Asked, AskedLine, AskedLines, Command, ConfigFrom, Usage, UsageError};
 pub use reader::{WordsError, read_words};
