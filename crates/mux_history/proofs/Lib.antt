@@ -8,6 +8,7 @@ pub mod Finds
 pub mod ForwardsLocal
 pub mod Harmless
 pub mod Indexed
+pub mod Journals
 pub mod KeepsApart
 pub mod LawfulItems
 pub mod Legal

@@ -15,8 +15,8 @@ use Rattle.mux_history.specs.Forwardings.{forwardings_of}
 use Rattle.mux_history.specs.Said.{confirmed_at, waiting_at}
 use Rattle.mux_history.specs.Log.{Setting}
 use Rattle.mux_history.specs.Journal.{taken_by, log_of_journal, IsLawful}
-use Rattle.mux_history.specs.Promises.{Throughout, TakesFront}
-use Rattle.mux_history.specs.Right.{IsRight}
+use Rattle.mux_history.specs.Promises.{Throughout, TakesFront, IsCut}
+use Rattle.mux_history.specs.Right.{AreFresh, IsRight}
 use Rattle.mux_history.specs.Kept.{AtEach, NumbersApart}
 use Rattle.mux_history.specs.Settings.{by_lists}
 
@@ -85,6 +85,14 @@ WrittenAddsUp = (setting : Setting) (marks : List Mark) → Throughout (TakesFro
 -- of every right log of a lawful wire, whatever numbers are picked and whatever the house replies
 abbrev pub OverRight : (Setting → List Row → Type 0) → Type 0
 OverRight P = (policy : Policy) (pid : ℕ) (picks : List ℕ) (given : List HouseReply) (marks : List Mark) (left : ℕ) (rows : List Row) → IsLawful marks → IsRight (by_lists policy pid picks given) marks left rows → P (by_lists policy pid picks given) rows
+
+-- the log of a journal is right where its picks were fresh, and so is one that want of memory cut
+pub record LogsAreRight (setting : Setting) (marks : List Mark) : Type 0 where
+  pub whole : AreFresh (log_of_journal setting marks) → IsRight setting marks 0 (log_of_journal setting marks)
+  pub cut : (rows : List Row) → IsCut setting marks rows → AreFresh rows → (left : ℕ) × IsRight setting marks left rows
+
+abbrev pub JournalsGiveRightLogs : Type 0
+JournalsGiveRightLogs = (policy : Policy) (pid : ℕ) (picks : List ℕ) (given : List HouseReply) (marks : List Mark) → LogsAreRight (by_lists policy pid picks given) marks
 
 -- no number is held by two channels, nor is one of the server's live in two
 abbrev pub NumbersAreApart : Type 0

@@ -11,7 +11,7 @@ use Rattle.mux_history.specs.declared.ended.Ended.TheVariants.{Spent}
 use Rattle.mux_history.specs.Rows.{Row, rows_of, Says}
 use Rattle.mux_history.specs.Pending.{pending}
 use Rattle.mux_history.specs.Controls.{greeted, body_stops}
-use Rattle.mux_history.specs.Log.{Setting, served, more_all, goes}
+use Rattle.mux_history.specs.Log.{Setting, goes, served, more_all}
 use Rattle.mux_history.specs.Solo.{end_of}
 use Rattle.mux_history.specs.Journal.{is_blocked, built_items, log_of_journal}
 
@@ -70,7 +70,7 @@ Settled setting marks = (t : ℕ) → IsSettled setting marks t
 
 -- ---- Open: the streams that are open at a wait, and whether clients are accepted
 
--- a row serves STOP_LISTENING: it is said after the hello
+-- a row serves STOP_LISTENING: it is said after the hello, and the row goes on
 abbrev pub stops : Row → List Row → Bool
 stops row own = goes row.fate && elim row.item [ Says k saying given ↦ elim saying [ Body body ↦ greeted own && body_stops body | _ ↦ false ] | _ ↦ false ]
 

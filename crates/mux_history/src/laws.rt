@@ -1,7 +1,7 @@
 //! How look-ups go on by one row, and what holds at every row of a right log: each function's contract is
 //! the law.
 
-ghost use Rattle.mux_history.specs.Laws.{OthersStay, LookUpsAreLocal, HeldGoesOn, AnswersOnlyGrow, AccountsGoOn, WrittenAddsUp, NumbersAreApart, RoomsNeverFall, OneIndexServes};
+ghost use Rattle.mux_history.specs.Laws.{OthersStay, LookUpsAreLocal, HeldGoesOn, AnswersOnlyGrow, AccountsGoOn, WrittenAddsUp, JournalsGiveRightLogs, NumbersAreApart, RoomsNeverFall, OneIndexServes};
 
 /// A row of another client leaves a client's rows as they were.
 pub fn others_stay()
@@ -31,6 +31,11 @@ pub fn accounts_go_on()
 /// What a stream took and what waits for it make up what it is given.
 pub fn written_adds_up()
     ensures { WrittenAddsUp }
+{}
+
+/// The log of a journal is right where its picks were fresh, and so is one that want of memory cut.
+pub fn journals_give_right_logs()
+    ensures { JournalsGiveRightLogs }
 {}
 
 /// At no row is a number held by two channels, nor one of the server's live in two.
