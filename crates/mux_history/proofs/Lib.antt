@@ -14,6 +14,7 @@ pub mod LawfulItems
 pub mod Legal
 pub mod Limits
 pub mod Local
+pub mod Locality
 pub mod Marks
 pub mod Nexts
 pub mod OwnRows

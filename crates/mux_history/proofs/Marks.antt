@@ -1,5 +1,5 @@
 -- The items of a lawful wire are lawful.
-use Rattle.std.proofs.Common.{◌≡◌, ℕ, zero, suc, ◌-◌, ◌+◌, ◌<◌, List, [], ◌∷◌, ◌++◌, length, true, false, Bool, refl, ◌∙◌, ap, arith, map, sym, subst, take, drop}
+use Rattle.std.proofs.Common.{◌≡◌, ℕ, zero, suc, ◌-◌, ◌<◌, List, [], ◌∷◌, ◌++◌, length, true, false, Bool, refl, ◌∙◌, ap, arith, map, sym, subst, take, drop}
 use Rattle.std.specs.Prelude.{◌==◌, ◌||◌, nat_le, nat_lt, nat_eq, reverse}
 use Rattle.std.proofs.lemmas.Bool.Decides.{nat_tests}
 use Rattle.std.proofs.lemmas.List.{reverse-append}
@@ -183,7 +183,7 @@ none-above k [] lawful lt = refl
 none-above k (mark ∷ before) lawful lt = by_mark mark lawful.0 lt (none-above k before lawful.1)
   where
     by_mark : (mark : Mark) → LawfulMark before mark → last_client (mark ∷ before) < k → (last_client before < k → any_of (accepts k) before ≡ false) → any_of (accepts k) (mark ∷ before) ≡ false
-    by_mark (wire.Accepts j) a lt ih = ap (λ b. b || any_of (accepts k) before) (other-client j k lt) ∙ ih (omega (arith, a))
+    by_mark (wire.Accepts j) a lt ih = ap (λ b. b || any_of (accepts k) before) (other-client j k lt) ∙ ih (omega (arith, a, lt))
     by_mark mark a lt ih = ih lt
 
 -- what no mark accepts no item admits
@@ -198,9 +198,6 @@ items-admit k (mark ∷ before) lawful none = by_mark mark lawful.0 (or-left (ac
     by_mark (wire.Accepts j) a other ih = ap (λ b. b || any_of (admits_client k) (items before)) other ∙ ih
     by_mark mark a other ih = plain mark a (λ h. h) ih
 
-last-below : (k n : ℕ) → k ≡ n + 1 → n < k
-last-below k n e = omega (arith, e)
-
 pub items-lawful : (marks : List Mark) → IsLawful marks → LawfulItems (items marks)
 items-lawful [] lawful = tt
 items-lawful (mark ∷ before) lawful = by_mark mark lawful.0 (items-lawful before lawful.1)
@@ -209,7 +206,7 @@ items-lawful (mark ∷ before) lawful = by_mark mark lawful.0 (items-lawful befo
     plain mark a never ih = plain-lawful (reverse (items_in before mark)) (items before) (plain-reverse (items_in before mark) (plain-mark before mark lawful.1 a never)) ih
 
     by_mark : (mark : Mark) → LawfulMark before mark → LawfulItems (items before) → LawfulItems (reverse (items_in before mark) ++ items before)
-    by_mark (wire.Accepts k) a ih = (items-admit k before lawful.1 (none-above k before lawful.1 (last-below k (last_client before) a)), ih)
+    by_mark (wire.Accepts k) a ih = (items-admit k before lawful.1 (none-above k before lawful.1 a), ih)
     by_mark mark a ih = plain mark a (λ h. h) ih
 
 -- so are all but the newest

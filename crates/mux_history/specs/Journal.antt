@@ -1,5 +1,5 @@
 -- What a wire was seen to do, the newest mark first, and the items that it gives.
-use Rattle.std.specs.Prelude.{ℕ, ◌==◌, ◌+◌, ◌≡◌, ◌<◌, ◌≤◌, List, [], ◌∷◌, ◌++◌, None, Option, Bool, true, ◌&&◌, option_map, false, length, drop, map, reverse, All, IsTrue}
+use Rattle.std.specs.Prelude.{ℕ, ◌==◌, ◌≡◌, ◌<◌, ◌≤◌, List, [], ◌∷◌, ◌++◌, None, Option, Bool, true, ◌&&◌, option_map, false, length, drop, map, reverse, All, IsTrue}
 use Rattle.mux_outside.specs.declared.mark.Mark.{Mark}
 use Rattle.mux_outside.specs.declared.mark.Mark.TheVariants.{Waits, Accepts, Gets, Ends, Frees, Fails, Takes, Holds, WriteFails}
 use Rattle.ssh_fields.specs.Fields.{AreBytes}
@@ -100,9 +100,9 @@ last_client [] = 0
 last_client (Accepts k ∷ before) = k
 last_client (mark ∷ before) = last_client before
 
--- clients are numbered from 1 in the order in which they are accepted, and streams are the server's and theirs
+-- each client has a number above the last one's, and streams are the server's and theirs
 abbrev pub LawfulMark : List Mark → Mark → Type 0
-LawfulMark before (Accepts k) = k ≡ last_client before + 1
+LawfulMark before (Accepts k) = last_client before < k
 LawfulMark before (Gets stream bytes) = (stream ≤ last_client before) × (0 < length bytes) × (length bytes ≤ 65536) × AreBytes bytes
 LawfulMark before (Ends stream) = stream ≤ last_client before
 LawfulMark before (Fails stream) = stream ≤ last_client before

@@ -6,14 +6,15 @@ use Rattle.mux_outside.specs.declared.house.HouseReply.{HouseReply}
 use Rattle.ssh_grammar.specs.declared.side.Side.{Side}
 use Rattle.mux_history.specs.Gist.{Act, Carries, Grants}
 use Rattle.mux_history.specs.Policy.{Policy}
-use Rattle.mux_history.specs.Rows.{Row, rows_of}
+use Rattle.mux_history.specs.Rows.{Row, rows_of, Item, Says, Gone, Heard, Took}
+use Rattle.mux_history.specs.Heard.{ToClient, dest}
 use Rattle.mux_history.specs.Pending.{pending, given_to}
 use Rattle.mux_history.specs.Channels.{Channel, after_farewell, after_item, begun_by, channels_of, held_of, is_confirmed, is_held, is_up, live_in}
 use Rattle.mux_history.specs.Ledger.{answered, asked, carried, granted, initial, other_side, room, sum_of}
 use Rattle.mux_history.specs.Requests.{asks, answers}
 use Rattle.mux_history.specs.Forwardings.{forwardings_of}
 use Rattle.mux_history.specs.Said.{confirmed_at, waiting_at}
-use Rattle.mux_history.specs.Log.{Setting}
+use Rattle.mux_history.specs.Log.{Setting, treat, heard_row}
 use Rattle.mux_history.specs.Journal.{taken_by, log_of_journal, IsLawful}
 use Rattle.mux_history.specs.Promises.{Throughout, TakesFront, IsCut}
 use Rattle.mux_history.specs.Right.{AreFresh, IsRight}
@@ -34,6 +35,21 @@ pub record IsLocal (k : ℕ) (rows : List Row) : Type 0 where
 
 abbrev pub LookUpsAreLocal : Type 0
 LookUpsAreLocal = (k : ℕ) (rows : List Row) → IsLocal k rows
+
+-- an item of this client alone: what it says, its end, and what it takes
+abbrev pub IsOf : ℕ → Item → Type 0
+IsOf k (Says j saying given) = j ≡ k
+IsOf k (Gone j) = j ≡ k
+IsOf k (Took j size) = j ≡ k
+IsOf k item = ⊥
+
+-- a client's row looks at nothing but the client's rows, once the item is known to be its own
+pub record RowsAreLocal (policy : Policy) (pid pick k : ℕ) (rows : List Row) : Type 0 where
+  pub own : (item : Item) → IsOf k item → treat policy pid pick rows item ≡ treat policy pid pick (rows_of k rows) item
+  pub heard : (p : List ℕ) → dest rows p ≡ ToClient k → treat policy pid pick rows (Heard p) ≡ heard_row (rows_of k rows) p (ToClient k)
+
+abbrev pub Locality : Type 0
+Locality = (policy : Policy) (pid pick k : ℕ) (rows : List Row) → RowsAreLocal policy pid pick k rows
 
 -- ---- one more row
 

@@ -1,7 +1,7 @@
 //! How look-ups go on by one row, and what holds at every row of a right log: each function's contract is
 //! the law.
 
-ghost use Rattle.mux_history.specs.Laws.{OthersStay, LookUpsAreLocal, HeldGoesOn, AnswersOnlyGrow, AccountsGoOn, WrittenAddsUp, JournalsGiveRightLogs, NumbersAreApart, RoomsNeverFall, OneIndexServes};
+ghost use Rattle.mux_history.specs.Laws.{OthersStay, LookUpsAreLocal, Locality, HeldGoesOn, AnswersOnlyGrow, AccountsGoOn, WrittenAddsUp, JournalsGiveRightLogs, NumbersAreApart, RoomsNeverFall, OneIndexServes};
 
 /// A row of another client leaves a client's rows as they were.
 pub fn others_stay()
@@ -11,6 +11,11 @@ pub fn others_stay()
 /// A client's channels, forwardings and asks are those among all that are its own.
 pub fn look_ups_are_local()
     ensures { LookUpsAreLocal }
+{}
+
+/// A client's row looks at nothing but the client's rows.
+pub fn rows_are_local()
+    ensures { Locality }
 {}
 
 /// The channels that are held go on by one row.
