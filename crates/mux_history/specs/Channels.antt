@@ -67,14 +67,26 @@ is_held x = not (is_over x)
 
 -- what is sent down under the number that stands for the channel; a confirmation brings the server's number
 abbrev pub with_down : Gist → Channel → Channel
-with_down (Confirmation n s w m) x = elim (is_number x.number n && is_held x) [ true ↦ record x { remote = Some s; acts = (Down, Confirms w m) ∷ x.acts } | false ↦ x ]
-with_down (Within n act) x = elim (is_number x.number n && is_held x) [ true ↦ record x { acts = (Down, act) ∷ x.acts } | false ↦ x ]
+with_down (Confirmation n s w m) x = elim (is_number x.number n && is_held x) [
+  | true ↦ record x { remote = Some s; acts = (Down, Confirms w m) ∷ x.acts }
+  | false ↦ x
+]
+with_down (Within n act) x = elim (is_number x.number n && is_held x) [
+  | true ↦ record x { acts = (Down, act) ∷ x.acts }
+  | false ↦ x
+]
 with_down _ x = x
 
 -- what is sent up under the server's number; a confirmation brings the other two numbers
 abbrev pub with_up : Option ℕ → Gist → Channel → Channel
-with_up own (Confirmation s n w m) x = elim (is_number x.remote s && is_held x) [ true ↦ record x { own = own; number = Some n; acts = (Up, Confirms w m) ∷ x.acts } | false ↦ x ]
-with_up own (Within s act) x = elim (is_number x.remote s && is_held x) [ true ↦ record x { acts = (Up, act) ∷ x.acts } | false ↦ x ]
+with_up own (Confirmation s n w m) x = elim (is_number x.remote s && is_held x) [
+  | true ↦ record x { own = own; number = Some n; acts = (Up, Confirms w m) ∷ x.acts }
+  | false ↦ x
+]
+with_up own (Within s act) x = elim (is_number x.remote s && is_held x) [
+  | true ↦ record x { acts = (Up, act) ∷ x.acts }
+  | false ↦ x
+]
 with_up own _ x = x
 
 abbrev pub with_ups : Option ℕ → List (List ℕ) → Channel → Channel
@@ -99,7 +111,10 @@ heard_by _ x = x
 
 -- what the item says and sends
 abbrev pub after_item : Row → Channel → Channel
-after_item row x = elim (x.client == row.client) [ true ↦ with_ups (own_of row.item) row.up (heard_by row.item x) | false ↦ x ]
+after_item row x = elim (x.client == row.client) [
+  | true ↦ with_ups (own_of row.item) row.up (heard_by row.item x)
+  | false ↦ x
+]
 
 abbrev pub after_farewell : Row → Channel → Channel
 after_farewell row x = elim (x.client == row.client) [ true ↦ with_ups None row.farewell x | false ↦ x ]
@@ -109,12 +124,14 @@ after_farewell row x = elim (x.client == row.client) [ true ↦ with_ups None ro
 -- a client's open that is sent: the number that stands for the channel is the sender in the payload that went up
 abbrev pub opened_up : ℕ → List (List ℕ) → Gist → List Channel
 opened_up k [] m = []
-opened_up k (p ∷ ps) (Open what c w m) = record { client = k; by = Up; own = Some c; number = reading p sender_of None; remote = None; window = w; maximum = m; acts = [] } ∷ []
+opened_up k (p ∷ ps) (Open what c w m) =
+    record { client = k; by = Up; own = Some c; number = reading p sender_of None; remote = None; window = w; maximum = m; acts = [] } ∷ []
 opened_up k (p ∷ ps) _ = []
 
 -- a server's open; one that is answered in its row begins no channel
 abbrev pub opened_down : ℕ → List (List ℕ) → Gist → List Channel
-opened_down k [] (Open what s w m) = record { client = k; by = Down; own = None; number = None; remote = Some s; window = w; maximum = m; acts = [] } ∷ []
+opened_down k [] (Open what s w m) =
+    record { client = k; by = Down; own = None; number = None; remote = Some s; window = w; maximum = m; acts = [] } ∷ []
 opened_down k _ _ = []
 
 abbrev pub begun_by : ℕ → List (List ℕ) → Item → List Channel
@@ -125,7 +142,8 @@ begun_by k up _ = []
 -- all channels, those that are over too, in the order in which they began
 abbrev pub channels_of : List Row → List Channel
 channels_of [] = []
-channels_of (row ∷ before) = map (after_farewell row) (map (after_item row) (channels_of before) ++ begun_by row.client row.up row.item)
+channels_of (row ∷ before) =
+    map (after_farewell row) (map (after_item row) (channels_of before) ++ begun_by row.client row.up row.item)
 
 -- those that are not over
 abbrev pub held_of : List Row → List Channel

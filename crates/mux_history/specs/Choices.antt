@@ -19,7 +19,10 @@ takes_number row = is_sent row && is_some (own_of row.item)
 
 abbrev pub numbers_taken : List Row → ℕ
 numbers_taken [] = 0
-numbers_taken (row ∷ before) = elim (takes_number row) [ true ↦ numbers_taken before + 1 | false ↦ numbers_taken before ]
+numbers_taken (row ∷ before) = elim (takes_number row) [
+  | true ↦ numbers_taken before + 1
+  | false ↦ numbers_taken before
+]
 
 abbrev pub said_number : Option ℕ → ℕ
 said_number None = 0
@@ -36,15 +39,19 @@ has_reply _ = false
 
 abbrev pub replies_given : List Row → ℕ
 replies_given [] = 0
-replies_given (row ∷ before) = elim (has_reply row.item) [ true ↦ replies_given before + 1 | false ↦ replies_given before ]
+replies_given (row ∷ before) = elim (has_reply row.item) [
+  | true ↦ replies_given before + 1
+  | false ↦ replies_given before
+]
 
 abbrev pub reply_at : List HouseReply → ℕ → HouseReply
 reply_at replies n = unwrap_or (slice_get replies n) reply.Refused
 
 -- an item with the house's reply, where it asks the house: a control message after the hello
 abbrev pub with_reply : Choices → List Row → Item → Item
-with_reply (FromLists picks replies) rows (Says k (Body body) given) = elim (greeted (rows_of k rows) && body_asks body) [
-  | true ↦ Says k (Body body) (Some (reply_at replies (replies_given rows)))
-  | false ↦ Says k (Body body) None
-]
+with_reply (FromLists picks replies) rows (Says k (Body body) given) =
+    elim (greeted (rows_of k rows) && body_asks body) [
+      | true ↦ Says k (Body body) (Some (reply_at replies (replies_given rows)))
+      | false ↦ Says k (Body body) None
+    ]
 with_reply choices rows item = item

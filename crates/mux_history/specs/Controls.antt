@@ -38,7 +38,10 @@ type_of (StopListening id) = number.STOP_LISTENING
 type_of (Proxy id) = number.PROXY
 
 abbrev pub first_control : Control → Outcome
-first_control (Hello version extensions) = elim (version == number.VERSION) [ true ↦ silent | false ↦ drops (why.Version version) ]
+first_control (Hello version extensions) = elim (version == number.VERSION) [
+  | true ↦ silent
+  | false ↦ drops (why.Version version)
+]
 first_control c = drops (why.NoHello (type_of c))
 
 abbrev pub first_unread : BadControl → Outcome
@@ -66,7 +69,8 @@ abbrev pub later_control : ℕ → ℕ → Option HouseReply → Control → Out
 later_control pid k given (Hello version extensions) = drops why.SecondHello
 later_control pid k given (NewSession id rest) = answers_with (Failed id no_descriptors)
 later_control pid k given (AliveCheck id) = answers_with (Alive id pid)
-later_control pid k given (Terminate id) = record { sent = []; told = frame_answer (Okay id) ∷ []; ends = End (ended.Terminated k id) }
+later_control pid k given (Terminate id) =
+    record { sent = []; told = frame_answer (Okay id) ∷ []; ends = End (ended.Terminated k id) }
 later_control pid k given (OpenForward id what) = answers_ask true id given
 later_control pid k given (CloseForward id what) = answers_ask false id given
 later_control pid k given (StdioForward id rest) = answers_with (Failed id no_descriptors)
@@ -84,7 +88,10 @@ said_later pid k given (Err fault) = later_unread fault
 -- ---- a body
 
 abbrev pub said_body : ℕ → ℕ → Option HouseReply → Bool → List ℕ → Outcome
-said_body pid k given has_greeted body = elim has_greeted [ true ↦ said_later pid k given (read_control body) | false ↦ said_first (read_control body) ]
+said_body pid k given has_greeted body = elim has_greeted [
+  | true ↦ said_later pid k given (read_control body)
+  | false ↦ said_first (read_control body)
+]
 
 -- whether a body asks the house
 abbrev pub asks_house : Control → Bool

@@ -25,7 +25,10 @@ leave_channel x = elim (is_confirmed x) [
 
 -- a cancel without reply of a live forwarding that no unanswered cancel means
 abbrev pub leave_forwarding : Forwarding → List (List ℕ)
-leave_forwarding f = elim (is_none f.cancel) [ true ↦ to_number f.live (λ port. cancel_forward f.address port) | false ↦ [] ]
+leave_forwarding f = elim (is_none f.cancel) [
+  | true ↦ to_number f.live (λ port. cancel_forward f.address port)
+  | false ↦ []
+]
 
 -- for the row that loses the client, with its other outputs, after the client's rows before it: channels in the order in
 -- which they began, then forwardings in order of asking; the loss itself has not ended the forwardings here
@@ -59,4 +62,5 @@ late _ own = []
 
 -- a client's matters are open while it is admitted and not lost, holds a channel, or has a sent request without reply
 abbrev pub has_open_matters : List Row → Bool
-has_open_matters own = (any_of is_admit own && not (is_lost own)) || (any_of is_held (held_of own) || nat_lt (length (replies own)) (length (asks own)))
+has_open_matters own =
+    (any_of is_admit own && not (is_lost own)) || (any_of is_held (held_of own) || nat_lt (length (replies own)) (length (asks own)))

@@ -42,7 +42,8 @@ replied place _ f = f
 
 -- live with this address and port, and no unanswered cancel means it
 abbrev pub is_free_at : ℕ → List ℕ → ℕ → Forwarding → Bool
-is_free_at k address port f = (f.client == k) && (not f.over && (is_none f.cancel && (is_number f.live port && bytes_eq f.address address)))
+is_free_at k address port f =
+    (f.client == k) && (not f.over && (is_none f.cancel && (is_number f.live port && bytes_eq f.address address)))
 
 -- what a cancel leaves of the forwarding that it means: one that wants no reply ends it at once
 abbrev pub stopped : Bool → ℕ → Forwarding → Forwarding
@@ -52,12 +53,17 @@ stopped false place f = record f { over = true }
 -- the earliest forwarding that passes, changed
 abbrev pub change_first : (Forwarding → Bool) → (Forwarding → Forwarding) → List Forwarding → List Forwarding
 change_first test change [] = []
-change_first test change (f ∷ fs) = elim (test f) [ true ↦ change f ∷ fs | false ↦ f ∷ change_first test change fs ]
+change_first test change (f ∷ fs) = elim (test f) [
+  | true ↦ change f ∷ fs
+  | false ↦ f ∷ change_first test change fs
+]
 
 -- what a client's request that is sent makes of the forwardings
 abbrev pub requested : ℕ → ℕ → Gist → List Forwarding → List Forwarding
-requested k place (Requests (Forward address port) wants) fs = fs ++ record { client = k; address = address; port = port; request = place; live = None; cancel = None; over = false } ∷ []
-requested k place (Requests (Cancel address port) wants) fs = change_first (is_free_at k address port) (stopped wants place) fs
+requested k place (Requests (Forward address port) wants) fs =
+    fs ++ record { client = k; address = address; port = port; request = place; live = None; cancel = None; over = false } ∷ []
+requested k place (Requests (Cancel address port) wants) fs =
+    change_first (is_free_at k address port) (stopped wants place) fs
 requested k place _ fs = fs
 
 abbrev pub of_client : ℕ → (Forwarding → Forwarding) → Forwarding → Forwarding
@@ -73,12 +79,16 @@ forwarded row own fs = elim row.item [
 
 -- all of a client end with its loss
 abbrev pub dropped : Row → List Forwarding → List Forwarding
-dropped row fs = elim (loses row) [ true ↦ map (of_client row.client (λ f. record f { over = true })) fs | false ↦ fs ]
+dropped row fs = elim (loses row) [
+  | true ↦ map (of_client row.client (λ f. record f { over = true })) fs
+  | false ↦ fs
+]
 
 -- all forwardings of all clients, those that are over too, in order of asking
 abbrev pub forwardings_of : List Row → List Forwarding
 forwardings_of [] = []
-forwardings_of (row ∷ before) = dropped row (forwarded row (rows_of row.client before) (forwardings_of before))
+forwardings_of (row ∷ before) =
+    dropped row (forwarded row (rows_of row.client before) (forwardings_of before))
 
 -- those that are asked or live
 abbrev pub current : List Row → List Forwarding

@@ -34,7 +34,8 @@ gist_of_plain full.RequestFailure = Refuses
 gist_of_plain (full.Open kind sender window maximum rest what) = Open what sender window maximum
 
 abbrev pub gist_to : ℕ → full.ChannelMessage → Gist
-gist_to recipient (full.Confirmation sender window maximum rest) = Confirmation recipient sender window maximum
+gist_to recipient (full.Confirmation sender window maximum rest) =
+    Confirmation recipient sender window maximum
 gist_to recipient (full.OpenFailure reason text language) = Within recipient Fails
 gist_to recipient (full.Adjust add) = Within recipient (Grants add)
 gist_to recipient (full.Data bytes) = Within recipient (Carries (length bytes))

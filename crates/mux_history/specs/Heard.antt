@@ -38,7 +38,10 @@ dest_success rest a = elim a.what [
 ]
 
 abbrev pub dest_open : List Row → ℕ → Opens → Dest
-dest_open rows s (Forwarded address port) = elim (live_in rows s) [ Some x ↦ Breaks (broke.NumberInUse s) | None ↦ elim (live_at rows address port) [ Some f ↦ ToClient f.client | None ↦ ToMaster ] ]
+dest_open rows s (Forwarded address port) = elim (live_in rows s) [
+  | Some x ↦ Breaks (broke.NumberInUse s)
+  | None ↦ elim (live_at rows address port) [ Some f ↦ ToClient f.client | None ↦ ToMaster ]
+]
 dest_open rows s _ = elim (live_in rows s) [ Some x ↦ Breaks (broke.NumberInUse s) | None ↦ ToMaster ]
 
 -- a channel that a client opened and that has no answer
@@ -46,14 +49,26 @@ abbrev pub is_pending : Channel → Bool
 is_pending x = is_up x.by && not (is_confirmed x)
 
 abbrev pub pending_open : List Row → ℕ → Option Channel
-pending_open rows n = elim (holder rows n) [ None ↦ None | Some x ↦ elim (is_pending x) [ true ↦ Some x | false ↦ None ] ]
+pending_open rows n = elim (holder rows n) [
+  | None ↦ None
+  | Some x ↦ elim (is_pending x) [ true ↦ Some x | false ↦ None ]
+]
 
 abbrev pub dest_confirmation : List Row → ℕ → ℕ → Dest
-dest_confirmation rows n s = elim (pending_open rows n) [ None ↦ Breaks (broke.NotPending n) | Some x ↦ elim (live_in rows s) [ Some y ↦ Breaks (broke.NumberInUse s) | None ↦ ToClient x.client ] ]
+dest_confirmation rows n s = elim (pending_open rows n) [
+  | None ↦ Breaks (broke.NotPending n)
+  | Some x ↦ elim (live_in rows s) [ Some y ↦ Breaks (broke.NumberInUse s) | None ↦ ToClient x.client ]
+]
 
 abbrev pub dest_within : List Row → ℕ → Act → Dest
-dest_within rows n Fails = elim (pending_open rows n) [ None ↦ Breaks (broke.NotPending n) | Some x ↦ ToClient x.client ]
-dest_within rows n act = elim (holder rows n) [ None ↦ Breaks (broke.NoChannel n) | Some x ↦ elim (breach Down act x) [ Some b ↦ Breaks (broke.Channel n b) | None ↦ ToClient x.client ] ]
+dest_within rows n Fails = elim (pending_open rows n) [
+  | None ↦ Breaks (broke.NotPending n)
+  | Some x ↦ ToClient x.client
+]
+dest_within rows n act = elim (holder rows n) [
+  | None ↦ Breaks (broke.NoChannel n)
+  | Some x ↦ elim (breach Down act x) [ Some b ↦ Breaks (broke.Channel n b) | None ↦ ToClient x.client ]
+]
 
 abbrev pub dest_gist : List Row → Gist → Dest
 dest_gist rows (Transport number) = elim (number == DISCONNECT) [ true ↦ Disconnects | false ↦ ToMaster ]
@@ -86,7 +101,10 @@ renamed own p (Some n) = with_recipient p (own_number (holder own n))
 
 -- of a client that is not lost; replies are given by the row's answers
 abbrev pub for_client : List Row → List ℕ → Gist → Outcome
-for_client own p (Open what s window maximum) = elim (nat_lt (length (held_of own)) 256) [ true ↦ tells (frame_payload p) | false ↦ sends (open_failure s RESOURCE_SHORTAGE too_many_channels) ]
+for_client own p (Open what s window maximum) = elim (nat_lt (length (held_of own)) 256) [
+  | true ↦ tells (frame_payload p)
+  | false ↦ sends (open_failure s RESOURCE_SHORTAGE too_many_channels)
+]
 for_client own p (Confirmation n s w m) = tells (frame_payload (renamed own p (Some n)))
 for_client own p (Within n act) = tells (frame_payload (renamed own p (Some n)))
 for_client own p _ = silent
@@ -115,7 +133,10 @@ is_heard _ = false
 -- the place of the server's next frame, counted from 1
 abbrev pub next_index : List Row → ℕ
 next_index [] = 1
-next_index (row ∷ before) = elim (is_heard row.item) [ true ↦ next_index before + 1 | false ↦ next_index before ]
+next_index (row ∷ before) = elim (is_heard row.item) [
+  | true ↦ next_index before + 1
+  | false ↦ next_index before
+]
 
 -- the count stays at its type's end
 abbrev pub broken : List Row → Break → Outcome

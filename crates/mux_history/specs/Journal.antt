@@ -64,9 +64,15 @@ items_in before (Gets stream bytes) = elim (stream == 0) [
   | true ↦ new_heard (bytes_of 0 before) (bytes_of 0 before ++ bytes)
   | false ↦ new_sayings stream (bytes_of stream before) (bytes_of stream before ++ bytes)
 ]
-items_in before (Ends stream) = elim (stream == 0) [ true ↦ server_end (parse InProxy (bytes_of 0 before)).rest ∷ [] | false ↦ Gone stream ∷ [] ]
+items_in before (Ends stream) = elim (stream == 0) [
+  | true ↦ server_end (parse InProxy (bytes_of 0 before)).rest ∷ []
+  | false ↦ Gone stream ∷ []
+]
 items_in before (Fails stream) = elim (stream == 0) [ true ↦ ServerFailed ∷ [] | false ↦ Gone stream ∷ [] ]
-items_in before (WriteFails stream) = elim (stream == 0) [ true ↦ ServerFailed ∷ [] | false ↦ Gone stream ∷ [] ]
+items_in before (WriteFails stream) = elim (stream == 0) [
+  | true ↦ ServerFailed ∷ []
+  | false ↦ Gone stream ∷ []
+]
 items_in before (Takes stream bytes) = Took stream (length bytes) ∷ []
 items_in before _ = []
 
@@ -81,12 +87,16 @@ server_gives _ = false
 
 -- the items as far as they are read
 abbrev pub built_items : List Form → List Mark → Mark → List Item
-built_items missing before mark = elim (skips_server missing && server_gives mark) [ true ↦ Unserved ∷ [] | false ↦ items_in before mark ]
+built_items missing before mark = elim (skips_server missing && server_gives mark) [
+  | true ↦ Unserved ∷ []
+  | false ↦ items_in before mark
+]
 
 -- the rows of what was seen: each mark adds those of its items
 abbrev pub log_of_journal : Setting → List Mark → List Row
 log_of_journal setting [] = []
-log_of_journal setting (mark ∷ before) = more_all setting (log_of_journal setting before) (built_items setting.missing before mark)
+log_of_journal setting (mark ∷ before) =
+    more_all setting (log_of_journal setting before) (built_items setting.missing before mark)
 
 -- what a wire told at first, and what it tells after these marks: a wire's list has the oldest mark first
 abbrev pub Tells : Option (List Mark) → Option (List Mark) → List Mark → Type 0
@@ -103,7 +113,8 @@ last_client (mark ∷ before) = last_client before
 -- each client has a number above the last one's, and streams are the server's and theirs
 abbrev pub LawfulMark : List Mark → Mark → Type 0
 LawfulMark before (Accepts k) = last_client before < k
-LawfulMark before (Gets stream bytes) = (stream ≤ last_client before) × (0 < length bytes) × (length bytes ≤ 65536) × AreBytes bytes
+LawfulMark before (Gets stream bytes) =
+    (stream ≤ last_client before) × (0 < length bytes) × (length bytes ≤ 65536) × AreBytes bytes
 LawfulMark before (Ends stream) = stream ≤ last_client before
 LawfulMark before (Fails stream) = stream ≤ last_client before
 LawfulMark before (Frees stream) = IsTrue (is_blocked stream before)

@@ -70,7 +70,8 @@ IsPermitted policy (Requests (Forward address port) wants) = permits policy.list
 IsPermitted policy m = Unit {0}
 
 abbrev pub MeetsLive : List Row → ℕ → Gist → Type 0
-MeetsLive before k (Open (Forwarded address port) s window maximum) = option_map (λ f. f.client) (live_at before address port) ≡ Some k
+MeetsLive before k (Open (Forwarded address port) s window maximum) =
+    option_map (λ f. f.client) (live_at before address port) ≡ Some k
 MeetsLive before k m = Unit {0}
 
 pub record Permission (policy : Policy) (before : List Row) (row : Row) : Type 0 where
@@ -81,12 +82,14 @@ pub record Permission (policy : Policy) (before : List Row) (row : Row) : Type 0
 
 -- it is a row of the client that asked
 abbrev pub ReachesAsker : List Row → Row → Type 0
-ReachesAsker before row = (p : List ℕ) → row.item ≡ Heard p → reading p is_reply false ≡ true → is_end row.fate ≡ false → option_map (λ a. a.client) (asker before) ≡ Some row.client
+ReachesAsker before row =
+    (p : List ℕ) → row.item ≡ Heard p → reading p is_reply false ≡ true → is_end row.fate ≡ false → option_map (λ a. a.client) (asker before) ≡ Some row.client
 
 -- it stands first in what the row tells, before the refusals that waited behind it, unless the client was lost before or
 -- is dropped by this row
 abbrev pub TellsReply : List Row → Row → Type 0
-TellsReply before row = (p : List ℕ) → row.item ≡ Heard p → reading p is_reply false ≡ true → row.fate ≡ Goes → is_lost (rows_of row.client before) ≡ false → (n : ℕ) × (row.down ≡ frame_payload p ∷ replicate n (frame_payload request_failure))
+TellsReply before row =
+    (p : List ℕ) → row.item ≡ Heard p → reading p is_reply false ≡ true → row.fate ≡ Goes → is_lost (rows_of row.client before) ≡ false → (n : ℕ) × (row.down ≡ frame_payload p ∷ replicate n (frame_payload request_failure))
 
 pub record Asker (before : List Row) (row : Row) : Type 0 where
   pub reaches : ReachesAsker before row

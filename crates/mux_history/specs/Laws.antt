@@ -25,7 +25,8 @@ use Rattle.mux_history.specs.Settings.{by_lists}
 
 -- a row of another client leaves a client's rows as they were, and with them all that is looked up in them
 abbrev pub OthersStay : Type 0
-OthersStay = (k : ℕ) (row : Row) (before : List Row) → (row.client == k) ≡ false → rows_of k (row ∷ before) ≡ rows_of k before
+OthersStay =
+    (k : ℕ) (row : Row) (before : List Row) → (row.client == k) ≡ false → rows_of k (row ∷ before) ≡ rows_of k before
 
 -- a client's channels, forwardings and asks are those of all that are its own
 pub record IsLocal (k : ℕ) (rows : List Row) : Type 0 where
@@ -55,14 +56,16 @@ Locality = (policy : Policy) (pid pick k : ℕ) (rows : List Row) → RowsAreLoc
 
 -- the channels that are held after a row, from those that were held before it
 abbrev pub next_held : Row → List Channel → List Channel
-next_held row held = filter is_held (map (after_farewell row) (filter is_held (map (after_item row) held ++ begun_by row.client row.up row.item)))
+next_held row held =
+    filter is_held (map (after_farewell row) (filter is_held (map (after_item row) held ++ begun_by row.client row.up row.item)))
 
 abbrev pub HeldGoesOn : Type 0
 HeldGoesOn = (row : Row) (before : List Row) → held_of (row ∷ before) ≡ next_held row (held_of before)
 
 -- what a client was answered stays: a row only adds answers
 abbrev pub AnswersOnlyGrow : Type 0
-AnswersOnlyGrow = (row : Row) (own : List Row) → (more : List (List ℕ)) × (answers (row ∷ own) ≡ answers own ++ more)
+AnswersOnlyGrow =
+    (row : Row) (own : List Row) → (more : List (List ℕ)) × (answers (row ∷ own) ≡ answers own ++ more)
 
 -- ---- one more act in a channel
 
@@ -91,16 +94,19 @@ AccountsGoOn = (way : Side) (n : ℕ) (x : Channel) → RoomsGoOn way n x
 -- ---- what a stream took and what waits for it make up what it is given
 
 abbrev pub AddsUp : Setting → List Mark → Type 0
-AddsUp setting marks = (t : ℕ) → taken_by t marks ++ pending t (log_of_journal setting marks) ≡ given_to t (log_of_journal setting marks)
+AddsUp setting marks =
+    (t : ℕ) → taken_by t marks ++ pending t (log_of_journal setting marks) ≡ given_to t (log_of_journal setting marks)
 
 abbrev pub WrittenAddsUp : Type 0
-WrittenAddsUp = (setting : Setting) (marks : List Mark) → Throughout (TakesFront setting) marks → AddsUp setting marks
+WrittenAddsUp =
+    (setting : Setting) (marks : List Mark) → Throughout (TakesFront setting) marks → AddsUp setting marks
 
 -- ---- at every row of a right log
 
 -- of every right log of a lawful wire, whatever numbers are picked and whatever the house replies
 abbrev pub OverRight : (Setting → List Row → Type 0) → Type 0
-OverRight P = (policy : Policy) (pid : ℕ) (picks : List ℕ) (given : List HouseReply) (marks : List Mark) (left : ℕ) (rows : List Row) → IsLawful marks → IsRight (by_lists policy pid picks given) marks left rows → P (by_lists policy pid picks given) rows
+OverRight P =
+    (policy : Policy) (pid : ℕ) (picks : List ℕ) (given : List HouseReply) (marks : List Mark) (left : ℕ) (rows : List Row) → IsLawful marks → IsRight (by_lists policy pid picks given) marks left rows → P (by_lists policy pid picks given) rows
 
 -- the log of a journal is right where its picks were fresh, and so is one that want of memory cut
 pub record LogsAreRight (setting : Setting) (marks : List Mark) : Type 0 where
@@ -108,7 +114,8 @@ pub record LogsAreRight (setting : Setting) (marks : List Mark) : Type 0 where
   pub cut : (rows : List Row) → IsCut setting marks rows → AreFresh rows → (left : ℕ) × IsRight setting marks left rows
 
 abbrev pub JournalsGiveRightLogs : Type 0
-JournalsGiveRightLogs = (policy : Policy) (pid : ℕ) (picks : List ℕ) (given : List HouseReply) (marks : List Mark) → LogsAreRight (by_lists policy pid picks given) marks
+JournalsGiveRightLogs =
+    (policy : Policy) (pid : ℕ) (picks : List ℕ) (given : List HouseReply) (marks : List Mark) → LogsAreRight (by_lists policy pid picks given) marks
 
 -- no number is held by two channels, nor is one of the server's live in two
 abbrev pub NumbersAreApart : Type 0

@@ -41,15 +41,24 @@ packet _ = 0
 -- the sum of a count over what was done in one direction
 abbrev pub sum_of : (Act → ℕ) → Side → List (Side × Act) → ℕ
 sum_of count way [] = 0
-sum_of count way (a ∷ acts) = elim (same_side a.0 way) [ true ↦ count a.1 + sum_of count way acts | false ↦ sum_of count way acts ]
+sum_of count way (a ∷ acts) = elim (same_side a.0 way) [
+  | true ↦ count a.1 + sum_of count way acts
+  | false ↦ sum_of count way acts
+]
 
 -- the window that the receiver of a direction gave at first
 abbrev pub initial : Side → Channel → ℕ
-initial way x = elim (same_side x.by way) [ true ↦ sum_of first_window (other_side way) x.acts | false ↦ x.window ]
+initial way x = elim (same_side x.by way) [
+  | true ↦ sum_of first_window (other_side way) x.acts
+  | false ↦ x.window
+]
 
 -- the longest data that the receiver of a direction takes at once
 abbrev pub maximum_of : Side → Channel → ℕ
-maximum_of way x = elim (same_side x.by way) [ true ↦ sum_of packet (other_side way) x.acts | false ↦ x.maximum ]
+maximum_of way x = elim (same_side x.by way) [
+  | true ↦ sum_of packet (other_side way) x.acts
+  | false ↦ x.maximum
+]
 
 -- the room of a direction: that window, and all adjustments, without all data
 abbrev pub room : Side → Channel → ℕ
@@ -68,11 +77,20 @@ packet_breach maximum have n = elim (nat_lt maximum n) [
 ]
 
 abbrev pub act_breach : Side → Act → Channel → Option Breach
-act_breach way (Carries n) x = elim (any_by way is_ends x.acts) [ true ↦ Some AfterEof | false ↦ packet_breach (maximum_of way x) (room way x) n ]
+act_breach way (Carries n) x = elim (any_by way is_ends x.acts) [
+  | true ↦ Some AfterEof
+  | false ↦ packet_breach (maximum_of way x) (room way x) n
+]
 act_breach way Ends x = elim (any_by way is_ends x.acts) [ true ↦ Some AfterEof | false ↦ None ]
-act_breach way (Grants n) x = elim (nat_lt 4294967295 (room (other_side way) x + n)) [ true ↦ Some (Overflow (room (other_side way) x) n) | false ↦ None ]
+act_breach way (Grants n) x = elim (nat_lt 4294967295 (room (other_side way) x + n)) [
+  | true ↦ Some (Overflow (room (other_side way) x) n)
+  | false ↦ None
+]
 act_breach way Answers x = elim (unanswered (other_side way) x == 0) [ true ↦ Some Unasked | false ↦ None ]
-act_breach way (Asks true) x = elim (nat_lt (unanswered way x) 1024) [ true ↦ None | false ↦ Some (TooManyAsks (unanswered way x)) ]
+act_breach way (Asks true) x = elim (nat_lt (unanswered way x) 1024) [
+  | true ↦ None
+  | false ↦ Some (TooManyAsks (unanswered way x))
+]
 act_breach way _ x = None
 
 -- the breach of one more act in a direction

@@ -35,17 +35,26 @@ goes _ = false
 
 -- a row that goes on, of a client that is not lost, tells them after its own frames
 abbrev pub all_told : Row → List Row → List (List ℕ)
-all_told row own = elim (goes row.fate && not (is_lost own)) [ true ↦ row.down ++ new_answers row own | false ↦ row.down ]
+all_told row own = elim (goes row.fate && not (is_lost own)) [
+  | true ↦ row.down ++ new_answers row own
+  | false ↦ row.down
+]
 
 -- the frames that fit into a queue in which so many bytes wait: the first that does not is left out with all after it
 abbrev pub fitting : ℕ → List (List ℕ) → List (List ℕ)
 fitting have [] = []
-fitting have (f ∷ fs) = elim (nat_le (have + length f) 33554432) [ true ↦ f ∷ fitting (have + length f) fs | false ↦ [] ]
+fitting have (f ∷ fs) = elim (nat_le (have + length f) 33554432) [
+  | true ↦ f ∷ fitting (have + length f) fs
+  | false ↦ []
+]
 
 -- the two lengths where one does not fit
 abbrev pub overflow : ℕ → List (List ℕ) → Option Why
 overflow have [] = None
-overflow have (f ∷ fs) = elim (nat_le (have + length f) 33554432) [ true ↦ overflow (have + length f) fs | false ↦ Some (why.QueueFull have (length f)) ]
+overflow have (f ∷ fs) = elim (nat_le (have + length f) 33554432) [
+  | true ↦ overflow (have + length f) fs
+  | false ↦ Some (why.QueueFull have (length f))
+]
 
 -- then the client is dropped, unless the row ends the run or drops it already
 abbrev pub fate_with : Fate → Option Why → Fate
@@ -55,7 +64,8 @@ fate_with ends None = ends
 fate_with ends (Some cause) = Drop cause
 
 abbrev pub queued : List (List ℕ) → Row → List Row → Row
-queued frames row own = record row { down = fitting (waiting_down own) frames; fate = fate_with row.fate (overflow (waiting_down own) frames) }
+queued frames row own =
+    record row { down = fitting (waiting_down own) frames; fate = fate_with row.fate (overflow (waiting_down own) frames) }
 
 abbrev pub with_farewell : Row → List Row → Row
 with_farewell row own = elim (loses row) [ true ↦ record row { farewell = farewell row own } | false ↦ row ]
@@ -79,7 +89,10 @@ entered (row ∷ before) = entered before ++ elim (is_admit row) [ true ↦ row.
 -- how many of these clients have open matters
 abbrev pub matters_of : List Row → List ℕ → ℕ
 matters_of rows [] = 0
-matters_of rows (k ∷ ks) = elim (has_open_matters (rows_of k rows)) [ true ↦ matters_of rows ks + 1 | false ↦ matters_of rows ks ]
+matters_of rows (k ∷ ks) = elim (has_open_matters (rows_of k rows)) [
+  | true ↦ matters_of rows ks + 1
+  | false ↦ matters_of rows ks
+]
 
 abbrev pub open_matters : List Row → ℕ
 open_matters rows = matters_of rows (entered rows)
@@ -90,7 +103,10 @@ served rows = filter (λ k. not (is_out (rows_of k rows))) (entered rows)
 
 -- the hello, where fewer than 64 clients have open matters
 abbrev pub admits : List Row → Outcome
-admits rows = elim (nat_lt (open_matters rows) 64) [ true ↦ tells (frame_answer (Greets VERSION)) | false ↦ record { sent = []; told = []; ends = Refused } ]
+admits rows = elim (nat_lt (open_matters rows) 64) [
+  | true ↦ tells (frame_answer (Greets VERSION))
+  | false ↦ record { sent = []; told = []; ends = Refused }
+]
 
 abbrev pub heard_row : List Row → List ℕ → Dest → Row
 heard_row rows p ToMaster = bare (Heard p) 0 (heard_master p)
@@ -101,7 +117,8 @@ heard_row rows p (Breaks cause) = bare (Heard p) 0 (broken rows cause)
 -- the row of an item after these rows, where `pick` is the next fresh number
 abbrev pub treat : Policy → ℕ → ℕ → List Row → Item → Row
 treat policy pid pick rows (Admit k) = row_of (Admit k) k (admits rows) (rows_of k rows)
-treat policy pid pick rows (Says k saying given) = row_of (Says k saying given) k (said_by_client policy pid k (rows_of k rows) pick saying given) (rows_of k rows)
+treat policy pid pick rows (Says k saying given) =
+    row_of (Says k saying given) k (said_by_client policy pid k (rows_of k rows) pick saying given) (rows_of k rows)
 treat policy pid pick rows (Gone k) = row_of (Gone k) k silent (rows_of k rows)
 treat policy pid pick rows (Heard p) = heard_row rows p (dest rows p)
 treat policy pid pick rows (BadServer fault) = bare (BadServer fault) 0 (broken rows (broke.Frame fault))
@@ -141,11 +158,15 @@ pub record Setting : Type 0 where
 -- the row that an item makes
 abbrev pub next_row : Setting → List Row → Item → Row
 next_row setting rows item =
-    let row = treat setting.policy setting.pid (pick_of setting.choices rows item) rows (with_reply setting.choices rows item) in
+    let row =
+    treat setting.policy setting.pid (pick_of setting.choices rows item) rows (with_reply setting.choices rows item) in
     built setting.missing row (rows_of row.client rows)
 
 abbrev pub more_of : Setting → List Row → Item → List Row
-more_of setting rows item = elim (makes_next rows item) [ false ↦ rows | true ↦ next_row setting rows item ∷ rows ]
+more_of setting rows item = elim (makes_next rows item) [
+  | false ↦ rows
+  | true ↦ next_row setting rows item ∷ rows
+]
 
 -- the rows after more items, in the order in which these came
 abbrev pub more_all : Setting → List Row → List Item → List Row

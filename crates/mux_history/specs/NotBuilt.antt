@@ -37,7 +37,10 @@ later_fate _ = Some (Drop why.NotBuilt)
 -- a first message that does not read, by its type
 abbrev pub first_fate : ℕ → BadControl → Option Fate
 first_fate kind (Unknown type id) = None
-first_fate kind _ = elim ((kind == HELLO) || (kind == ALIVE_CHECK)) [ true ↦ Some (Drop why.NotBuilt) | false ↦ Some (Drop (why.NoHello kind)) ]
+first_fate kind _ = elim ((kind == HELLO) || (kind == ALIVE_CHECK)) [
+  | true ↦ Some (Drop why.NotBuilt)
+  | false ↦ Some (Drop (why.NoHello kind))
+]
 
 abbrev pub body_fate : Bool → ℕ → Result Control BadControl → Option Fate
 body_fate true kind (Ok c) = later_fate c
@@ -70,7 +73,8 @@ fate_if false fate = None
 
 -- something of the client is left
 abbrev pub leaves : List Row → Bool
-leaves own = any_of is_held (held_of own) || (nat_lt (length (replies own)) (length (asks own)) || nat_lt 0 (length (current own)))
+leaves own =
+    any_of is_held (held_of own) || (nat_lt (length (replies own)) (length (asks own)) || nat_lt 0 (length (current own)))
 
 -- ---- a row as far as its form is built
 

@@ -29,12 +29,16 @@ took_up _ = 0
 
 abbrev pub pending_up : List Row → List ℕ
 pending_up [] = []
-pending_up (row ∷ before) = drop (took_up row.item) (pending_up before ++ joined (map frame_payload (sent_by row)))
+pending_up (row ∷ before) =
+    drop (took_up row.item) (pending_up before ++ joined (map frame_payload (sent_by row)))
 
 -- ---- for each stream
 
 abbrev pub pending : ℕ → List Row → List ℕ
-pending stream rows = elim (stream == 0) [ true ↦ pending_up rows | false ↦ pending_down (rows_of stream rows) ]
+pending stream rows = elim (stream == 0) [
+  | true ↦ pending_up rows
+  | false ↦ pending_down (rows_of stream rows)
+]
 
 abbrev pub given_by : ℕ → Row → List ℕ
 given_by stream row = elim (stream == 0) [

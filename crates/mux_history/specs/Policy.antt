@@ -27,7 +27,8 @@ has_port (Some p) port = p == port
 
 abbrev pub permits_any : List Entry → List ℕ → ℕ → Bool
 permits_any [] host port = false
-permits_any (e ∷ entries) host port = (has_host e.host host && has_port e.port port) || permits_any entries host port
+permits_any (e ∷ entries) host port =
+    (has_host e.host host && has_port e.port port) || permits_any entries host port
 
 -- hosts are compared by bytes; the port asked is the one that is looked at, 0 included
 abbrev pub permits : Allow → List ℕ → ℕ → Bool
@@ -42,7 +43,10 @@ any_policy = record { opens = Anything; listens = Anything }
 -- a decimal number up to 65,535; leading zeros are allowed
 abbrev pub digits : ℕ → List ℕ → Option ℕ
 digits n [] = elim (nat_le n 65535) [ true ↦ Some n | false ↦ None ]
-digits n (b ∷ bytes) = elim (nat_le 48 b && nat_le b 57) [ true ↦ digits (n * 10 + (b - 48)) bytes | false ↦ None ]
+digits n (b ∷ bytes) = elim (nat_le 48 b && nat_le b 57) [
+  | true ↦ digits (n * 10 + (b - 48)) bytes
+  | false ↦ None
+]
 
 abbrev pub read_number : List ℕ → Option ℕ
 read_number [] = None
@@ -50,12 +54,18 @@ read_number (b ∷ bytes) = digits 0 (b ∷ bytes)
 
 -- `*`, or a number
 abbrev pub read_port : List ℕ → Option (Option ℕ)
-read_port text = elim (bytes_eq text (codes "*")) [ true ↦ Some None | false ↦ elim (read_number text) [ None ↦ None | Some n ↦ Some (Some n) ] ]
+read_port text = elim (bytes_eq text (codes "*")) [
+  | true ↦ Some None
+  | false ↦ elim (read_number text) [ None ↦ None | Some n ↦ Some (Some n) ]
+]
 
 -- `*`, or a text that isn't empty
 abbrev pub read_host : List ℕ → Option (Option (List ℕ))
 read_host [] = None
-read_host (b ∷ text) = elim (bytes_eq (b ∷ text) (codes "*")) [ true ↦ Some None | false ↦ Some (Some (b ∷ text)) ]
+read_host (b ∷ text) = elim (bytes_eq (b ∷ text) (codes "*")) [
+  | true ↦ Some None
+  | false ↦ Some (Some (b ∷ text))
+]
 
 abbrev pub entry_of : Option (Option (List ℕ)) → Option (Option ℕ) → Option Entry
 entry_of (Some host) (Some port) = Some (record { host = host; port = port })
@@ -79,7 +89,10 @@ read_colon_port [] = None
 read_colon_port (b ∷ text) = elim (b == 58) [ true ↦ read_port text | false ↦ None ]
 
 abbrev pub read_bracketed : List ℕ → Option Entry
-read_bracketed text = elim (before_last 93 text) [ None ↦ None | Some parts ↦ entry_of (read_host parts.0) (read_colon_port parts.1) ]
+read_bracketed text = elim (before_last 93 text) [
+  | None ↦ None
+  | Some parts ↦ entry_of (read_host parts.0) (read_colon_port parts.1)
+]
 
 -- without brackets a host has no colon and no bracket; a lone port means each host
 abbrev pub read_bare : List ℕ → Option Entry
@@ -102,7 +115,10 @@ read_entries at (text ∷ texts) = elim (read_entry text) [
 
 -- the two words that stand alone
 abbrev pub read_word : List ℕ → Option Allow
-read_word text = elim (bytes_eq text (codes "any")) [ true ↦ Some Anything | false ↦ elim (bytes_eq text (codes "none")) [ true ↦ Some (Entries []) | false ↦ None ] ]
+read_word text = elim (bytes_eq text (codes "any")) [
+  | true ↦ Some Anything
+  | false ↦ elim (bytes_eq text (codes "none")) [ true ↦ Some (Entries []) | false ↦ None ]
+]
 
 abbrev pub alone_or_bad : Allow → List (List ℕ) → Result Allow ℕ
 alone_or_bad allow [] = Ok allow

@@ -30,20 +30,28 @@ abbrev pub IsFront : List ℕ → List ℕ → Type 0
 IsFront front bytes = (rest : List ℕ) × (bytes ≡ front ++ rest)
 
 abbrev pub TakesFront : Setting → List Mark → Mark → Type 0
-TakesFront setting before (Takes stream bytes) = IsFront bytes (pending stream (log_of_journal setting before))
+TakesFront setting before (Takes stream bytes) =
+    IsFront bytes (pending stream (log_of_journal setting before))
 TakesFront setting before _ = Unit {0}
 
 -- the stream's last answer to a write was a failure
 abbrev pub write_failed : ℕ → List Mark → Bool
 write_failed t [] = false
-write_failed t (WriteFails stream ∷ before) = elim (stream == t) [ true ↦ true | false ↦ write_failed t before ]
-write_failed t (Takes stream bytes ∷ before) = elim (stream == t) [ true ↦ false | false ↦ write_failed t before ]
+write_failed t (WriteFails stream ∷ before) = elim (stream == t) [
+  | true ↦ true
+  | false ↦ write_failed t before
+]
+write_failed t (Takes stream bytes ∷ before) = elim (stream == t) [
+  | true ↦ false
+  | false ↦ write_failed t before
+]
 write_failed t (Holds stream ∷ before) = elim (stream == t) [ true ↦ false | false ↦ write_failed t before ]
 write_failed t (mark ∷ before) = write_failed t before
 
 -- nothing more can be written to the stream now
 abbrev pub IsSettled : Setting → List Mark → ℕ → Type 0
-IsSettled setting marks t = (pending t (log_of_journal setting marks) ≡ []) ⊎ (IsTrue (is_blocked t marks) ⊎ IsTrue (write_failed t marks))
+IsSettled setting marks t =
+    (pending t (log_of_journal setting marks) ≡ []) ⊎ (IsTrue (is_blocked t marks) ⊎ IsTrue (write_failed t marks))
 
 abbrev pub has_output : List Row → ℕ → Bool
 has_output rows t = not (is_empty (pending t rows))
@@ -72,7 +80,8 @@ Settled setting marks = (t : ℕ) → IsSettled setting marks t
 
 -- a row serves STOP_LISTENING: it is said after the hello, and the row goes on
 abbrev pub stops : Row → List Row → Bool
-stops row own = goes row.fate && elim row.item [ Says k saying given ↦ elim saying [ Body body ↦ greeted own && body_stops body | _ ↦ false ] | _ ↦ false ]
+stops row own =
+    goes row.fate && elim row.item [ Says k saying given ↦ elim saying [ Body body ↦ greeted own && body_stops body | _ ↦ false ] | _ ↦ false ]
 
 -- no row so far serves it
 abbrev pub listens : List Row → Bool
@@ -85,7 +94,8 @@ pub record OpenRight (rows : List Row) (streams : List ℕ) (accepts : Bool) : T
   pub listening : accepts ≡ listens rows
 
 abbrev pub OpenAt : Setting → List Mark → Mark → Type 0
-OpenAt setting before (Waits waiting want streams accepts) = OpenRight (log_of_journal setting before) streams accepts
+OpenAt setting before (Waits waiting want streams accepts) =
+    OpenRight (log_of_journal setting before) streams accepts
 OpenAt setting before _ = Unit {0}
 
 abbrev pub OpenStreams : Setting → List Mark → Type 0
@@ -111,7 +121,8 @@ ConnectionEnds setting turns marks answer = EndsAs turns marks (end_of (log_of_j
 -- the log without some of the newest items of the last mark
 abbrev pub IsCut : Setting → List Mark → List Row → Type 0
 IsCut setting [] rows = rows ≡ []
-IsCut setting (mark ∷ before) rows = (n : ℕ) × (rows ≡ more_all setting (log_of_journal setting before) (take n (built_items setting.missing before mark)))
+IsCut setting (mark ∷ before) rows =
+    (n : ℕ) × (rows ≡ more_all setting (log_of_journal setting before) (take n (built_items setting.missing before mark)))
 
 -- ---- the house
 

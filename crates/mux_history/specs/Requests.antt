@@ -17,7 +17,10 @@ wanted_in _ = None
 
 -- the wanted request that a row's client says
 abbrev pub wanted_by : Row → Option Global
-wanted_by row = elim row.item [ Says k saying reply ↦ elim saying [ Payload p ↦ reading p wanted_in None | _ ↦ None ] | _ ↦ None ]
+wanted_by row = elim row.item [
+  | Says k saying reply ↦ elim saying [ Payload p ↦ reading p wanted_in None | _ ↦ None ]
+  | _ ↦ None
+]
 
 abbrev pub is_sent : Row → Bool
 is_sent row = elim row.up [ [] ↦ false | p ∷ ps ↦ true ]

@@ -16,7 +16,8 @@ carried_number (p ∷ ps) = said_number (reading p sender_of None)
 -- each number taken was below the bound, and no channel held it
 abbrev pub AreFresh : List Row → Type 0
 AreFresh [] = Unit {0}
-AreFresh (row ∷ before) = MatchBool (takes_number row) ((carried_number row.up < 16384) × (holder before (carried_number row.up) ≡ None)) (Unit {0}) × AreFresh before
+AreFresh (row ∷ before) =
+    MatchBool (takes_number row) ((carried_number row.up < 16384) × (holder before (carried_number row.up) ≡ None)) (Unit {0}) × AreFresh before
 
 -- a right log for these marks, without the newest items that are left out: none, or after want of memory some of the
 -- last event

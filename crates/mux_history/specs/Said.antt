@@ -38,7 +38,8 @@ drops cause = record { sent = []; told = []; ends = Drop cause }
 
 -- a channel of this client that the server opened and that waits for the client's answer
 abbrev pub waiting_at : List Row → ℕ → Option Channel
-waiting_at own s = find (λ x. is_number x.remote s && (not (is_up x.by) && not (is_confirmed x))) (held_of own)
+waiting_at own s =
+    find (λ x. is_number x.remote s && (not (is_up x.by) && not (is_confirmed x))) (held_of own)
 
 -- a confirmed channel of this client
 abbrev pub confirmed_at : List Row → ℕ → Option Channel
@@ -84,7 +85,10 @@ is_failing _ = false
 
 -- a failed open answers one that waits; all else is said in a confirmed channel
 abbrev pub said_within : List Row → List ℕ → ℕ → Act → Outcome
-said_within own p s act = elim (is_failing act) [ true ↦ on_waiting s (sends p) (waiting_at own s) | false ↦ on_confirmed p s act (confirmed_at own s) ]
+said_within own p s act = elim (is_failing act) [
+  | true ↦ on_waiting s (sends p) (waiting_at own s)
+  | false ↦ on_confirmed p s act (confirmed_at own s)
+]
 
 -- the client's own number may not be in use
 abbrev pub on_unused : ℕ → Outcome → Option Channel → Outcome
@@ -101,8 +105,10 @@ sends_if false p = silent
 abbrev pub said_request : Policy → ℕ → List Row → List ℕ → Global → Bool → Outcome
 said_request policy k own p KeepAlive wants = sends p
 said_request policy k own p OtherName wants = silent
-said_request policy k own p (Forward address port) wants = sends_if (wants && (nat_le (length address) 255 && (permits policy.listens address port && nat_lt (length (current own)) 64))) p
-said_request policy k own p (Cancel address port) wants = sends_if (any_of (is_free_at k address port) (current own)) p
+said_request policy k own p (Forward address port) wants =
+    sends_if (wants && (nat_le (length address) 255 && (permits policy.listens address port && nat_lt (length (current own)) 64))) p
+said_request policy k own p (Cancel address port) wants =
+    sends_if (any_of (is_free_at k address port) (current own)) p
 
 abbrev pub is_full_of_asks : Bool → List Row → Bool
 is_full_of_asks wants own = wants && nat_le 1024 (unanswered_asks own)
@@ -110,13 +116,24 @@ is_full_of_asks wants own = wants && nat_le 1024 (unanswered_asks own)
 -- ---- all messages
 
 abbrev pub said_gist : Policy → ℕ → List Row → ℕ → List ℕ → Gist → Outcome
-said_gist policy k own pick p (Transport number) = elim (number == DISCONNECT) [ true ↦ drops why.Disconnected | false ↦ silent ]
-said_gist policy k own pick p (Requests what wants) = elim (is_full_of_asks wants own) [ true ↦ drops (why.TooManyAsks 1024) | false ↦ said_request policy k own p what wants ]
+said_gist policy k own pick p (Transport number) = elim (number == DISCONNECT) [
+  | true ↦ drops why.Disconnected
+  | false ↦ silent
+]
+said_gist policy k own pick p (Requests what wants) = elim (is_full_of_asks wants own) [
+  | true ↦ drops (why.TooManyAsks 1024)
+  | false ↦ said_request policy k own p what wants
+]
 said_gist policy k own pick p (Succeeds rest) = drops (why.Unasked REQUEST_SUCCESS)
 said_gist policy k own pick p Refuses = drops (why.Unasked REQUEST_FAILURE)
-said_gist policy k own pick p (Open what sender window maximum) = on_unused sender (said_open policy own pick p sender what) (with_own own sender)
-said_gist policy k own pick p (Confirmation s sender window maximum) = on_waiting s (on_unused sender (sends_as pick p) (with_own own sender)) (waiting_at own s)
+said_gist policy k own pick p (Open what sender window maximum) =
+    on_unused sender (said_open policy own pick p sender what) (with_own own sender)
+said_gist policy k own pick p (Confirmation s sender window maximum) =
+    on_waiting s (on_unused sender (sends_as pick p) (with_own own sender)) (waiting_at own s)
 said_gist policy k own pick p (Within s act) = said_within own p s act
 
 abbrev pub said_payload : Policy → ℕ → List Row → ℕ → List ℕ → Outcome
-said_payload policy k own pick p = elim (read_gist p) [ Err bad ↦ drops (why.BadMessage bad) | Ok m ↦ said_gist policy k own pick p m ]
+said_payload policy k own pick p = elim (read_gist p) [
+  | Err bad ↦ drops (why.BadMessage bad)
+  | Ok m ↦ said_gist policy k own pick p m
+]

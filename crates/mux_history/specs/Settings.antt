@@ -6,7 +6,8 @@ use Rattle.mux_history.specs.Choices.{FromLists, TheirOwn}
 use Rattle.mux_history.specs.Log.{Setting}
 
 abbrev pub by_lists : Policy → ℕ → List ℕ → List HouseReply → Setting
-by_lists policy pid picks replies = record { policy = policy; pid = pid; choices = FromLists picks replies; missing = [] }
+by_lists policy pid picks replies =
+    record { policy = policy; pid = pid; choices = FromLists picks replies; missing = [] }
 
 abbrev pub by_own : Policy → ℕ → Setting
 by_own policy pid = record { policy = policy; pid = pid; choices = TheirOwn; missing = [] }

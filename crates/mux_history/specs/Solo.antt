@@ -48,7 +48,8 @@ own_ups None ups = ups
 own_ups (Some c) ups = map (λ p. with_sender p c) ups
 
 abbrev pub seen : Row → Seen
-seen row = record { sent = own_ups (own_of row.item) row.up ++ row.farewell; told = row.down; ends = row.fate }
+seen row =
+    record { sent = own_ups (own_of row.item) row.up ++ row.farewell; told = row.down; ends = row.fate }
 
 abbrev pub seen_alone : Row → Seen
 seen_alone row = record { sent = row.up ++ row.farewell; told = row.down; ends = row.fate }
@@ -69,7 +70,10 @@ abbrev pub agree : List Row → List Row → Bool
 agree [] [] = true
 agree [] (s ∷ ss) = false
 agree (r ∷ rs) [] = false
-agree (r ∷ rs) (s ∷ ss) = elim (all_same (seen r).sent (seen_alone s).sent) [ false ↦ false | true ↦ elim (all_same r.down s.down) [ true ↦ agree rs ss | false ↦ false ] ]
+agree (r ∷ rs) (s ∷ ss) = elim (all_same (seen r).sent (seen_alone s).sent) [
+  | false ↦ false
+  | true ↦ elim (all_same r.down s.down) [ true ↦ agree rs ss | false ↦ false ]
+]
 
 abbrev pub looks_unshared : Setting → ℕ → List Row → Bool
 looks_unshared setting k rows = agree (rows_of k rows) (solo setting k rows)

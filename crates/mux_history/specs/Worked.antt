@@ -24,7 +24,8 @@ hex (c ∷ d ∷ text) = elim (c == 32) [ true ↦ hex (d ∷ text) | false ↦ 
 -- ---- runs
 
 abbrev pub under : Policy → ℕ → List HouseReply → Setting
-under policy pid replies = record { policy = policy; pid = pid; choices = FromLists (0 ∷ 1 ∷ 2 ∷ 3 ∷ []) replies; missing = [] }
+under policy pid replies =
+    record { policy = policy; pid = pid; choices = FromLists (0 ∷ 1 ∷ 2 ∷ 3 ∷ []) replies; missing = [] }
 
 abbrev pub open_setting : Setting
 open_setting = under any_policy 42 []
@@ -71,19 +72,23 @@ abbrev pub two_alive_checks : List Mark
 two_alive_checks = Accepts 1 ∷ Accepts 2 ∷ bytewise 1 2 alive_check ++ Ends 0 ∷ []
 
 abbrev pub another_version : List Mark
-another_version = Accepts 1 ∷ Accepts 2 ∷ Gets 1 (hex (codes "00000008 00000001 00000003")) ∷ Gets 2 alive_check ∷ []
+another_version =
+    Accepts 1 ∷ Accepts 2 ∷ Gets 1 (hex (codes "00000008 00000001 00000003")) ∷ Gets 2 alive_check ∷ []
 
 abbrev pub session_with_descriptors : List Mark
-session_with_descriptors = greets 1 ++ Gets 1 (hex (codes "0000000c 10000002 00000005 00000000")) ∷ Gets 1 (hex (codes "00 00 00")) ∷ []
+session_with_descriptors =
+    greets 1 ++ Gets 1 (hex (codes "0000000c 10000002 00000005 00000000")) ∷ Gets 1 (hex (codes "00 00 00")) ∷ []
 
 abbrev pub terminate : List Mark
-terminate = greets 1 ++ Gets 1 (hex (codes "00000008 10000005 00000003")) ∷ Gets 1 (hex (codes "00000008 10000004 00000007")) ∷ []
+terminate =
+    greets 1 ++ Gets 1 (hex (codes "00000008 10000005 00000003")) ∷ Gets 1 (hex (codes "00000008 10000004 00000007")) ∷ []
 
 abbrev pub alive_without_id : List Mark
 alive_without_id = greets 1 ++ Gets 1 (hex (codes "00000004 10000004")) ∷ []
 
 abbrev pub unknown_types : List Mark
-unknown_types = greets 1 ++ greets 2 ++ Gets 1 (hex (codes "00000008 1000000a 00000009")) ∷ Gets 2 (hex (codes "00000004 1000000a")) ∷ []
+unknown_types =
+    greets 1 ++ greets 2 ++ Gets 1 (hex (codes "00000008 1000000a 00000009")) ∷ Gets 2 (hex (codes "00000004 1000000a")) ∷ []
 
 -- what is asked of the house: a remote forwarding of port 8080 at any address to port 80 of a host
 abbrev pub forward_asks : List Mark

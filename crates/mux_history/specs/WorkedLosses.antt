@@ -19,7 +19,8 @@ abbrev pub late_success : List Mark
 late_success = late_confirmation ++ Gets 0 (bound_to 40001) ∷ []
 
 abbrev pub all_closed : List Mark
-all_closed = late_success ++ (Gets 0 (hex (codes "00000006 00 61 00000000")) ∷ Gets 0 (hex (codes "00000006 00 61 00000001")) ∷ [])
+all_closed =
+    late_success ++ (Gets 0 (hex (codes "00000006 00 61 00000000")) ∷ Gets 0 (hex (codes "00000006 00 61 00000001")) ∷ [])
 
 -- a client that ends with an open of the server that it has not answered, and one that it has
 abbrev pub leaves_opens : List Mark
@@ -41,7 +42,8 @@ crowded = leaves ++ come 2 64
 
 -- a client takes nothing for now; another is served
 abbrev pub held_back : List Mark
-held_back = Accepts 1 ∷ Holds 1 ∷ Accepts 2 ∷ Takes 2 hello ∷ Gets 2 (hello ++ hex (codes "00000008 10000004 00000007")) ∷ []
+held_back =
+    Accepts 1 ∷ Holds 1 ∷ Accepts 2 ∷ Takes 2 hello ∷ Gets 2 (hello ++ hex (codes "00000008 10000004 00000007")) ∷ []
 
 abbrev pub freed_again : List Mark
 freed_again = held_back ++ (Frees 1 ∷ Takes 1 hello ∷ [])

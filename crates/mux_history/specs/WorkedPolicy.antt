@@ -10,4 +10,5 @@ abbrev pub texts : List (List ℕ)
 texts = codes "db:5432" ∷ codes "080" ∷ codes "[fe80::1]:22" ∷ codes "web:*" ∷ codes "*" ∷ []
 
 abbrev pub entries : Allow
-entries = Entries (entry (Some (codes "db")) (Some 5432) ∷ entry None (Some 80) ∷ entry (Some (codes "fe80::1")) (Some 22) ∷ entry (Some (codes "web")) None ∷ entry None None ∷ [])
+entries =
+    Entries (entry (Some (codes "db")) (Some 5432) ∷ entry None (Some 80) ∷ entry (Some (codes "fe80::1")) (Some 22) ∷ entry (Some (codes "web")) None ∷ entry None None ∷ [])

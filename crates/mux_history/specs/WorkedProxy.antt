@@ -11,7 +11,8 @@ use Rattle.mux_history.specs.Worked.{hex, sent, enters}
 
 -- an open of a session under the client's number, with a window of 2,097,152 and a maximum of 32,768
 abbrev pub session : ℕ → List ℕ
-session own = hex (codes "00000019 00 5a 00000007") ++ (codes "session" ++ (u32 own ++ hex (codes "00200000 00008000")))
+session own =
+    hex (codes "00000019 00 5a 00000007") ++ (codes "session" ++ (u32 own ++ hex (codes "00200000 00008000")))
 
 -- two clients that both opened a session as 0, and what went up after these
 abbrev pub two_sessions : List Mark
@@ -25,17 +26,21 @@ abbrev pub confirmed : List Mark
 confirmed = two_sessions ++ Gets 0 (hex (codes "00000012 00 5b 00000001 00000005 00000005 00008000")) ∷ []
 
 abbrev pub past_window : List Mark
-past_window = confirmed ++ (Gets 2 (hex (codes "0000000f 00 5e 00000005 00000005") ++ codes "hello") ∷ Gets 2 (hex (codes "0000000b 00 5e 00000005 00000001") ++ codes "x") ∷ [])
+past_window =
+    confirmed ++ (Gets 2 (hex (codes "0000000f 00 5e 00000005 00000005") ++ codes "hello") ∷ Gets 2 (hex (codes "0000000b 00 5e 00000005 00000001") ++ codes "x") ∷ [])
 
 abbrev pub overgrown_down : List Mark
-overgrown_down = confirmed ++ (Gets 2 (hex (codes "0000000a 00 5d 00000005 ffdfffff")) ∷ Gets 2 (hex (codes "0000000a 00 5d 00000005 00000001")) ∷ [])
+overgrown_down =
+    confirmed ++ (Gets 2 (hex (codes "0000000a 00 5d 00000005 ffdfffff")) ∷ Gets 2 (hex (codes "0000000a 00 5d 00000005 00000001")) ∷ [])
 
 abbrev pub overgrown_up : List Mark
-overgrown_up = confirmed ++ (Gets 0 (hex (codes "0000000a 00 5d 00000001 fffffffa")) ∷ Gets 0 (hex (codes "0000000a 00 5d 00000001 00000001")) ∷ [])
+overgrown_up =
+    confirmed ++ (Gets 0 (hex (codes "0000000a 00 5d 00000001 fffffffa")) ∷ Gets 0 (hex (codes "0000000a 00 5d 00000001 00000001")) ∷ [])
 
 -- the channel is closed both ways
 abbrev pub closed : List Mark
-closed = confirmed ++ (Gets 2 (hex (codes "00000006 00 61 00000005")) ∷ Gets 0 (hex (codes "00000006 00 61 00000001")) ∷ [])
+closed =
+    confirmed ++ (Gets 2 (hex (codes "00000006 00 61 00000005")) ∷ Gets 0 (hex (codes "00000006 00 61 00000001")) ∷ [])
 
 abbrev pub data_to_one : Mark
 data_to_one = Gets 0 (hex (codes "0000000b 00 5e 00000001 00000001") ++ codes "x")
@@ -48,7 +53,8 @@ abbrev pub data_too_early : List Mark
 data_too_early = closed ++ (Gets 1 (session 1) ∷ data_to_one ∷ [])
 
 abbrev pub again_setting : Setting
-again_setting = record { policy = any_policy; pid = 42; choices = FromLists (0 ∷ 1 ∷ 1 ∷ []) []; missing = [] }
+again_setting =
+    record { policy = any_policy; pid = 42; choices = FromLists (0 ∷ 1 ∷ 1 ∷ []) []; missing = [] }
 
 abbrev pub foreign_data : List Mark
 foreign_data = confirmed ++ Gets 1 (hex (codes "0000000b 00 5e 00000005 00000001") ++ codes "x") ∷ []
@@ -56,19 +62,23 @@ foreign_data = confirmed ++ Gets 1 (hex (codes "0000000b 00 5e 00000005 00000001
 -- ---- what opens are refused
 
 abbrev pub database_only : Policy
-database_only = record { opens = Entries (record { host = Some (codes "db"); port = Some 5432 } ∷ []); listens = Anything }
+database_only =
+    record { opens = Entries (record { host = Some (codes "db"); port = Some 5432 } ∷ []); listens = Anything }
 
 abbrev pub to_web : List ℕ
-to_web = hex (codes "00000031 00 5a 0000000c") ++ (codes "direct-tcpip" ++ (hex (codes "00000004 00200000 00008000 00000003") ++ (codes "web" ++ hex (codes "00000050 00000000 00000001"))))
+to_web =
+    hex (codes "00000031 00 5a 0000000c") ++ (codes "direct-tcpip" ++ (hex (codes "00000004 00200000 00008000 00000003") ++ (codes "web" ++ hex (codes "00000050 00000000 00000001"))))
 
 abbrev pub to_database : ℕ → List ℕ
-to_database number = hex (codes "00000030 00 5a 0000000c") ++ (codes "direct-tcpip" ++ (u32 number ++ (hex (codes "00200000 00008000 00000002") ++ (codes "db" ++ hex (codes "00001538 00000000 00000001")))))
+to_database number =
+    hex (codes "00000030 00 5a 0000000c") ++ (codes "direct-tcpip" ++ (u32 number ++ (hex (codes "00200000 00008000 00000002") ++ (codes "db" ++ hex (codes "00001538 00000000 00000001")))))
 
 abbrev pub opens_directly : List Mark
 opens_directly = enters 1 ++ (Gets 1 to_web ∷ Gets 1 (to_database 4) ∷ [])
 
 abbrev pub opens_display : List Mark
-opens_display = enters 1 ++ Gets 1 (hex (codes "00000015 00 5a 00000003") ++ (codes "x11" ++ hex (codes "00000004 00200000 00008000"))) ∷ []
+opens_display =
+    enters 1 ++ Gets 1 (hex (codes "00000015 00 5a 00000003") ++ (codes "x11" ++ hex (codes "00000004 00200000 00008000"))) ∷ []
 
 -- ---- frames
 
@@ -80,7 +90,8 @@ server_says bytes = Gets 0 bytes ∷ []
 
 -- PROXY in two pieces, the second of which begins the first payload
 abbrev pub enters_in_pieces : List Mark
-enters_in_pieces = Gets 1 (hex (codes "00000008 10")) ∷ Gets 1 (hex (codes "00000f 00000000") ++ session 0) ∷ []
+enters_in_pieces =
+    Gets 1 (hex (codes "00000008 10")) ∷ Gets 1 (hex (codes "00000f 00000000") ++ session 0) ∷ []
 
 abbrev pub cut_short : List Mark
 cut_short = Gets 0 (hex (codes "00000006 00")) ∷ Ends 0 ∷ []

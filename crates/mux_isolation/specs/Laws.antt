@@ -35,7 +35,8 @@ pub record HasNothing (own : List Row) : Type 0 where
 
 -- an admitted client whose matters are closed has nothing left
 abbrev pub NothingIsLeft : Type 0
-NothingIsLeft = OverRight (λ setting rows. (k : ℕ) → IsAdmitted k rows → has_open_matters (rows_of k rows) ≡ false → HasNothing (rows_of k rows))
+NothingIsLeft =
+    OverRight (λ setting rows. (k : ℕ) → IsAdmitted k rows → has_open_matters (rows_of k rows) ≡ false → HasNothing (rows_of k rows))
 
 -- what waits for each client is at most 33,554,432 bytes
 abbrev pub WaitsBounded : List Row → Type 0

@@ -20,7 +20,10 @@ abbrev pub on_u32 : {A : Type 0} → List ℕ → ℕ → (ℕ → List ℕ → 
 on_u32 bytes at next = elim (take_u32 bytes) [ None ↦ Err (bad.Short at) | Some p ↦ next p.0 p.1 (at + 4) ]
 
 abbrev pub on_str : {A : Type 0} → List ℕ → ℕ → (List ℕ → List ℕ → ℕ → Reading A) → Reading A
-on_str bytes at next = elim (take_str bytes) [ None ↦ Err (bad.Short at) | Some p ↦ next p.0 p.1 (at + 4 + length p.0) ]
+on_str bytes at next = elim (take_str bytes) [
+  | None ↦ Err (bad.Short at)
+  | Some p ↦ next p.0 p.1 (at + 4 + length p.0)
+]
 
 -- nothing is left over
 abbrev pub on_end : {A : Type 0} → List ℕ → ℕ → A → Reading A
@@ -31,19 +34,23 @@ on_end (b ∷ bytes) at m = Err (bad.Extra at)
 
 -- an address and a port, and nothing after them
 abbrev pub read_key : List ℕ → ℕ → (List ℕ → ℕ → Global) → Reading Global
-read_key rest at what = on_str rest at (λ address rest at. on_u32 rest at (λ port rest at. on_end rest at (what address port)))
+read_key rest at what =
+    on_str rest at (λ address rest at. on_u32 rest at (λ port rest at. on_end rest at (what address port)))
 
 -- a global request's data, by its name (RFC 4254, section 7.1)
 abbrev pub read_global : List ℕ → List ℕ → ℕ → Reading Global
-read_global name rest at = by_name ((forward_name, read_key rest at Forward) ∷ (cancel_name, read_key rest at Cancel) ∷ (keepalive_name, Ok KeepAlive) ∷ []) name (Ok OtherName)
+read_global name rest at =
+    by_name ((forward_name, read_key rest at Forward) ∷ (cancel_name, read_key rest at Cancel) ∷ (keepalive_name, Ok KeepAlive) ∷ []) name (Ok OtherName)
 
 -- a host and a port, those of the originator, and nothing after them
 abbrev pub read_ends : List ℕ → ℕ → (List ℕ → ℕ → Opens) → Reading Opens
-read_ends rest at what = on_str rest at (λ host rest at. on_u32 rest at (λ port rest at. on_str rest at (λ from rest at. on_u32 rest at (λ from_port rest at. on_end rest at (what host port)))))
+read_ends rest at what =
+    on_str rest at (λ host rest at. on_u32 rest at (λ port rest at. on_str rest at (λ from rest at. on_u32 rest at (λ from_port rest at. on_end rest at (what host port)))))
 
 -- an open's data, by its type (RFC 4254, sections 6.1 and 7.2)
 abbrev pub read_opens : List ℕ → List ℕ → ℕ → Reading Opens
-read_opens kind rest at = by_name ((session_type, Ok Session) ∷ (direct_type, read_ends rest at Direct) ∷ (forwarded_type, read_ends rest at Forwarded) ∷ []) kind (Ok OtherType)
+read_opens kind rest at =
+    by_name ((session_type, Ok Session) ∷ (direct_type, read_ends rest at Direct) ∷ (forwarded_type, read_ends rest at Forwarded) ∷ []) kind (Ok OtherType)
 
 abbrev pub with_reading : {A : Type 0} → {B : Type 0} → Reading A → (A → B) → Reading B
 with_reading (Ok a) f = Ok (f a)
@@ -55,18 +62,22 @@ abbrev pub read_transport : ℕ → List ℕ → Reading PlainMessage
 read_transport n rest = Ok (Transport n rest)
 
 abbrev pub read_global_request : List ℕ → Reading PlainMessage
-read_global_request rest = on_str rest 1 (λ name rest at. on_bool rest at (λ want rest at. with_reading (read_global name rest at) (GlobalRequest name want rest)))
+read_global_request rest =
+    on_str rest 1 (λ name rest at. on_bool rest at (λ want rest at. with_reading (read_global name rest at) (GlobalRequest name want rest)))
 
 abbrev pub read_open : List ℕ → Reading PlainMessage
-read_open rest = on_str rest 1 (λ kind rest at. on_u32 rest at (λ sender rest at. on_u32 rest at (λ window rest at. on_u32 rest at (λ maximum rest at. with_reading (read_opens kind rest at) (Open kind sender window maximum rest)))))
+read_open rest =
+    on_str rest 1 (λ kind rest at. on_u32 rest at (λ sender rest at. on_u32 rest at (λ window rest at. on_u32 rest at (λ maximum rest at. with_reading (read_opens kind rest at) (Open kind sender window maximum rest)))))
 
 -- ---- the messages to a channel, from the place after the recipient
 
 abbrev pub read_confirmation : List ℕ → Reading ChannelMessage
-read_confirmation rest = on_u32 rest 5 (λ sender rest at. on_u32 rest at (λ window rest at. on_u32 rest at (λ maximum rest at. Ok (Confirmation sender window maximum rest))))
+read_confirmation rest =
+    on_u32 rest 5 (λ sender rest at. on_u32 rest at (λ window rest at. on_u32 rest at (λ maximum rest at. Ok (Confirmation sender window maximum rest))))
 
 abbrev pub read_open_failure : List ℕ → Reading ChannelMessage
-read_open_failure rest = on_u32 rest 5 (λ reason rest at. on_str rest at (λ text rest at. on_str rest at (λ language rest at. on_end rest at (OpenFailure reason text language))))
+read_open_failure rest =
+    on_u32 rest 5 (λ reason rest at. on_str rest at (λ text rest at. on_str rest at (λ language rest at. on_end rest at (OpenFailure reason text language))))
 
 abbrev pub read_adjust : List ℕ → Reading ChannelMessage
 read_adjust rest = on_u32 rest 5 (λ add rest at. on_end rest at (Adjust add))
@@ -75,10 +86,12 @@ abbrev pub read_data : List ℕ → Reading ChannelMessage
 read_data rest = on_str rest 5 (λ bytes rest at. on_end rest at (Data bytes))
 
 abbrev pub read_extended : List ℕ → Reading ChannelMessage
-read_extended rest = on_u32 rest 5 (λ code rest at. on_str rest at (λ bytes rest at. on_end rest at (Extended code bytes)))
+read_extended rest =
+    on_u32 rest 5 (λ code rest at. on_str rest at (λ bytes rest at. on_end rest at (Extended code bytes)))
 
 abbrev pub read_request : List ℕ → Reading ChannelMessage
-read_request rest = on_str rest 5 (λ kind rest at. on_bool rest at (λ want rest at. Ok (Request kind want rest)))
+read_request rest =
+    on_str rest 5 (λ kind rest at. on_bool rest at (λ want rest at. Ok (Request kind want rest)))
 
 -- ---- all messages, by their numbers
 
