@@ -6,13 +6,13 @@ pub mod Bools
 pub mod Dests
 pub mod Finds
 pub mod ForwardsLocal
+pub mod FullLists
 pub mod Harmless
 pub mod Indexed
 pub mod Journals
 pub mod KeepsApart
 pub mod LawfulItems
 pub mod Legal
-pub mod Limits
 pub mod Local
 pub mod Locality
 pub mod Marks

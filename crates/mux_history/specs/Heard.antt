@@ -5,6 +5,7 @@ use Rattle.ssh_grammar.specs.declared.numbers.TheConstants.{DISCONNECT, ADMINIST
 use Rattle.ssh_grammar.specs.Messages.{Opens, Forwarded, Forward}
 use Rattle.ssh_grammar.specs.SpellMessage.{open_failure, request_failure, not_permitted, too_many_channels, with_recipient}
 use Rattle.ssh_grammar.specs.Frames.{frame_payload}
+use Rattle.mux_history.specs.declared.limits.TheConstants.{MAX_CHANNELS}
 use Rattle.mux_history.specs.declared.broke.Break.{Break}
 use Rattle.mux_history.specs.declared.broke.Break.TheVariants as broke
 use Rattle.mux_history.specs.declared.ended.Ended.{Ended}
@@ -101,7 +102,7 @@ renamed own p (Some n) = with_recipient p (own_number (holder own n))
 
 -- of a client that is not lost; replies are given by the row's answers
 abbrev pub for_client : List Row → List ℕ → Gist → Outcome
-for_client own p (Open what s window maximum) = elim (nat_lt (length (held_of own)) 256) [
+for_client own p (Open what s window maximum) = elim (nat_lt (length (held_of own)) MAX_CHANNELS) [
   | true ↦ tells (frame_payload p)
   | false ↦ sends (open_failure s RESOURCE_SHORTAGE too_many_channels)
 ]

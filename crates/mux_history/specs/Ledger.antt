@@ -5,6 +5,7 @@ use Rattle.ssh_grammar.specs.declared.side.Side.{Side}
 use Rattle.ssh_grammar.specs.declared.side.Side.TheVariants.{Up, Down}
 use Rattle.ssh_grammar.specs.declared.fault.Breach.{Breach}
 use Rattle.ssh_grammar.specs.declared.fault.Breach.TheVariants.{NotOpen, AfterClose, AfterEof, PastPacket, PastWindow, Overflow, Unasked, TooManyAsks}
+use Rattle.mux_history.specs.declared.limits.TheConstants.{MAX_CHANNEL_REQUESTS, MAX_WINDOW}
 use Rattle.mux_history.specs.Gist.{Act, Confirms, Grants, Carries, Ends, Asks, Answers}
 use Rattle.mux_history.specs.Channels.{Channel, same_side, any_by, is_closes, is_ends, is_confirmed}
 
@@ -82,12 +83,12 @@ act_breach way (Carries n) x = elim (any_by way is_ends x.acts) [
   | false ↦ packet_breach (maximum_of way x) (room way x) n
 ]
 act_breach way Ends x = elim (any_by way is_ends x.acts) [ true ↦ Some AfterEof | false ↦ None ]
-act_breach way (Grants n) x = elim (nat_lt 4294967295 (room (other_side way) x + n)) [
+act_breach way (Grants n) x = elim (nat_lt MAX_WINDOW (room (other_side way) x + n)) [
   | true ↦ Some (Overflow (room (other_side way) x) n)
   | false ↦ None
 ]
 act_breach way Answers x = elim (unanswered (other_side way) x == 0) [ true ↦ Some Unasked | false ↦ None ]
-act_breach way (Asks true) x = elim (nat_lt (unanswered way x) 1024) [
+act_breach way (Asks true) x = elim (nat_lt (unanswered way x) MAX_CHANNEL_REQUESTS) [
   | true ↦ None
   | false ↦ Some (TooManyAsks (unanswered way x))
 ]

@@ -5,6 +5,7 @@ use Rattle.ssh_grammar.specs.declared.numbers.TheConstants.{VERSION}
 use Rattle.ssh_grammar.specs.Control.{Greets}
 use Rattle.ssh_grammar.specs.Frames.{frame_payload, frame_answer}
 use Rattle.ssh_grammar.specs.Said.{Saying, Body, Payload, BadFraming}
+use Rattle.mux_history.specs.declared.limits.TheConstants.{MAX_CLIENTS, MAX_QUEUE}
 use Rattle.mux_history.specs.declared.why.Why.{Why}
 use Rattle.mux_history.specs.declared.why.Why.TheVariants as why
 use Rattle.mux_history.specs.declared.broke.Break.TheVariants as broke
@@ -43,7 +44,7 @@ all_told row own = elim (goes row.fate && not (is_lost own)) [
 -- the frames that fit into a queue in which so many bytes wait: the first that does not is left out with all after it
 abbrev pub fitting : ℕ → List (List ℕ) → List (List ℕ)
 fitting have [] = []
-fitting have (f ∷ fs) = elim (nat_le (have + length f) 33554432) [
+fitting have (f ∷ fs) = elim (nat_le (have + length f) MAX_QUEUE) [
   | true ↦ f ∷ fitting (have + length f) fs
   | false ↦ []
 ]
@@ -51,7 +52,7 @@ fitting have (f ∷ fs) = elim (nat_le (have + length f) 33554432) [
 -- the two lengths where one does not fit
 abbrev pub overflow : ℕ → List (List ℕ) → Option Why
 overflow have [] = None
-overflow have (f ∷ fs) = elim (nat_le (have + length f) 33554432) [
+overflow have (f ∷ fs) = elim (nat_le (have + length f) MAX_QUEUE) [
   | true ↦ overflow (have + length f) fs
   | false ↦ Some (why.QueueFull have (length f))
 ]
@@ -103,7 +104,7 @@ served rows = filter (λ k. not (is_out (rows_of k rows))) (entered rows)
 
 -- the hello, where fewer than 64 clients have open matters
 abbrev pub admits : List Row → Outcome
-admits rows = elim (nat_lt (open_matters rows) 64) [
+admits rows = elim (nat_lt (open_matters rows) MAX_CLIENTS) [
   | true ↦ tells (frame_answer (Greets VERSION))
   | false ↦ record { sent = []; told = []; ends = Refused }
 ]

@@ -6,6 +6,7 @@ use Rattle.mux_outside.specs.declared.turn.Want.{Want}
 use Rattle.mux_outside.specs.declared.turn.Want.TheVariants.{WriteOnly}
 use Rattle.mux_outside.specs.declared.house.HouseReply.{HouseReply}
 use Rattle.ssh_grammar.specs.Said.{Body}
+use Rattle.mux_history.specs.declared.limits.TheConstants.{READING_STOPS_AT}
 use Rattle.mux_history.specs.declared.ended.Ended.{Ended}
 use Rattle.mux_history.specs.declared.ended.Ended.TheVariants.{Spent}
 use Rattle.mux_history.specs.Rows.{Row, rows_of, Says}
@@ -61,7 +62,7 @@ has_output rows t = not (is_empty (pending t rows))
 pub record WaitsRight (setting : Setting) (before : List Mark) (waiting : List ℕ) (want : Want) (streams : List ℕ) : Type 0 where
   pub waits_for : waiting ≡ filter (has_output (log_of_journal setting before)) streams
   pub blocked : All (λ t. IsTrue (is_blocked t before)) waiting
-  pub write_only : (want ≡ WriteOnly) ↔ (4194304 ≤ length (pending 0 (log_of_journal setting before)))
+  pub write_only : (want ≡ WriteOnly) ↔ (READING_STOPS_AT ≤ length (pending 0 (log_of_journal setting before)))
   pub settled : (t : ℕ) → IsSettled setting before t
 
 abbrev pub WaitsAt : Setting → List Mark → Mark → Type 0

@@ -1,6 +1,7 @@
 -- Right logs.
 use Rattle.std.specs.Prelude.{ℕ, ◌≡◌, ◌<◌, List, [], ◌∷◌, None, IsTrue, MatchBool, drop}
 use Rattle.mux_outside.specs.declared.mark.Mark.{Mark}
+use Rattle.mux_history.specs.declared.limits.TheConstants.{NUMBERS_END}
 use Rattle.mux_history.specs.Gist.{reading, sender_of}
 use Rattle.mux_history.specs.Rows.{Row, rows_of, any_of, is_admit}
 use Rattle.mux_history.specs.Channels.{holder}
@@ -17,7 +18,7 @@ carried_number (p ∷ ps) = said_number (reading p sender_of None)
 abbrev pub AreFresh : List Row → Type 0
 AreFresh [] = Unit {0}
 AreFresh (row ∷ before) =
-    MatchBool (takes_number row) ((carried_number row.up < 16384) × (holder before (carried_number row.up) ≡ None)) (Unit {0}) × AreFresh before
+    MatchBool (takes_number row) ((carried_number row.up < NUMBERS_END) × (holder before (carried_number row.up) ≡ None)) (Unit {0}) × AreFresh before
 
 -- a right log for these marks, without the newest items that are left out: none, or after want of memory some of the
 -- last event

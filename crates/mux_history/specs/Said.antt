@@ -6,6 +6,7 @@ use Rattle.ssh_grammar.specs.declared.numbers.TheConstants.{DISCONNECT, REQUEST_
 use Rattle.ssh_grammar.specs.Messages.{Opens, Session, Direct, Global, Forward, Cancel, KeepAlive, OtherName}
 use Rattle.ssh_grammar.specs.SpellMessage.{with_sender, open_failure, not_permitted, unknown_type, too_many_channels}
 use Rattle.ssh_grammar.specs.Frames.{frame_payload}
+use Rattle.mux_history.specs.declared.limits.TheConstants.{MAX_ADDRESS, MAX_CHANNELS, MAX_FORWARDINGS, MAX_GLOBAL_REQUESTS}
 use Rattle.mux_history.specs.declared.why.Why.{Why}
 use Rattle.mux_history.specs.declared.why.Why.TheVariants as why
 use Rattle.mux_history.specs.Gist.{Gist, Transport, Requests, Succeeds, Refuses, Open, Confirmation, Within, Act, Fails, read_gist}
@@ -53,7 +54,7 @@ abbrev pub sends_as : ℕ → List ℕ → Outcome
 sends_as pick p = sends (with_sender p pick)
 
 abbrev pub sends_open : List Row → ℕ → List ℕ → ℕ → Outcome
-sends_open own pick p sender = elim (nat_lt (length (held_of own)) 256) [
+sends_open own pick p sender = elim (nat_lt (length (held_of own)) MAX_CHANNELS) [
   | true ↦ sends_as pick p
   | false ↦ fails_open sender RESOURCE_SHORTAGE too_many_channels
 ]
@@ -106,12 +107,12 @@ abbrev pub said_request : Policy → ℕ → List Row → List ℕ → Global �
 said_request policy k own p KeepAlive wants = sends p
 said_request policy k own p OtherName wants = silent
 said_request policy k own p (Forward address port) wants =
-    sends_if (wants && (nat_le (length address) 255 && (permits policy.listens address port && nat_lt (length (current own)) 64))) p
+    sends_if (wants && (nat_le (length address) MAX_ADDRESS && (permits policy.listens address port && nat_lt (length (current own)) MAX_FORWARDINGS))) p
 said_request policy k own p (Cancel address port) wants =
     sends_if (any_of (is_free_at k address port) (current own)) p
 
 abbrev pub is_full_of_asks : Bool → List Row → Bool
-is_full_of_asks wants own = wants && nat_le 1024 (unanswered_asks own)
+is_full_of_asks wants own = wants && nat_le MAX_GLOBAL_REQUESTS (unanswered_asks own)
 
 -- ---- all messages
 
@@ -121,7 +122,7 @@ said_gist policy k own pick p (Transport number) = elim (number == DISCONNECT) [
   | false ↦ silent
 ]
 said_gist policy k own pick p (Requests what wants) = elim (is_full_of_asks wants own) [
-  | true ↦ drops (why.TooManyAsks 1024)
+  | true ↦ drops (why.TooManyAsks MAX_GLOBAL_REQUESTS)
   | false ↦ said_request policy k own p what wants
 ]
 said_gist policy k own pick p (Succeeds rest) = drops (why.Unasked REQUEST_SUCCESS)

@@ -6,6 +6,7 @@
 mod broke;
 mod ended;
 pub mod laws;
+pub mod limits;
 #[cfg(test)]
 mod tests;
 mod why;

@@ -1,6 +1,7 @@
 -- Laws over all runs: each holds of every right log of a lawful wire, whatever numbers are picked and whatever the
 -- house replies.
 use Rattle.std.specs.Prelude.{ℕ, ◌≡◌, ◌≤◌, List, [], false, length}
+use Rattle.mux_history.specs.declared.limits.TheConstants.{MAX_QUEUE}
 use Rattle.mux_history.specs.Rows.{Row, rows_of}
 use Rattle.mux_history.specs.Pending.{waiting_down}
 use Rattle.mux_history.specs.Channels.{held_of}
@@ -40,7 +41,7 @@ NothingIsLeft =
 
 -- what waits for each client is at most 33,554,432 bytes
 abbrev pub WaitsBounded : List Row → Type 0
-WaitsBounded rows = (k : ℕ) → waiting_down (rows_of k rows) ≤ 33554432
+WaitsBounded rows = (k : ℕ) → waiting_down (rows_of k rows) ≤ MAX_QUEUE
 
 abbrev pub QueuesAreBounded : Type 0
 QueuesAreBounded = OverRight (λ setting rows. AtEach WaitsBounded rows)

@@ -1,5 +1,5 @@
 -- The answer of the law.
-use Rattle.mux_history.proofs.Limits.{full-of-channels}
+use Rattle.mux_history.proofs.FullLists.{full-of-channels}
 use Rattle.mux_history.proofs.worked.limits.a_client_has_at_most_256_channels.Goals as goal
 
 pub returns : goal.returns
