@@ -8,7 +8,8 @@ use Rattle.ssh_grammar.specs.IsMessage.{Spells}
 use Rattle.ssh_grammar.proofs.MessageReads.{reads_is_spelled}
 use Rattle.ssh_grammar.proofs.MessageSpelled.{spelled_reads}
 use Rattle.conn_messages.specs.declared.message.Message.{Message}
-use Rattle.conn_messages.specs.Message.{Gives, message_of}
+use Rattle.ssh_grammar.specs.Gives.{Gives}
+use Rattle.conn_messages.specs.Message.{message_of}
 
 pub is_spelled : (p : List ℕ) (r : Result Message Bad) → AreBytes p → Gives message_of r (read_message p) → IfOk r (λ m. Spells (message_of m) p)
 is_spelled p (Ok m) h gives = subst (λ r. IfOk r (λ m. Spells m p)) gives (reads_is_spelled p h)

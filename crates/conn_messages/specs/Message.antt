@@ -1,12 +1,17 @@
 -- A message as the grammar sees it: its strings and data as lists of bytes.
-use Rattle.std.specs.Prelude.{◌≡◌, Result, Ok, Err}
+use Rattle.std.specs.Prelude.{ℕ, List, ◌++◌, Result, false}
+use Rattle.ssh_fields.specs.Fields.{u32, str}
 use Rattle.conn_messages.specs.declared.message.Global.{Global}
 use Rattle.conn_messages.specs.declared.message.Global.TheVariants as global
 use Rattle.conn_messages.specs.declared.message.Opens.{Opens}
 use Rattle.conn_messages.specs.declared.message.Opens.TheVariants as opens
 use Rattle.conn_messages.specs.declared.message.Message.{Message}
 use Rattle.conn_messages.specs.declared.message.Message.TheVariants as message
+use Rattle.ssh_grammar.specs.declared.fault.Bad.{Bad}
+use Rattle.ssh_grammar.specs.Gives.{Gives}
 use Rattle.ssh_grammar.specs.Messages as grammar
+use Rattle.ssh_grammar.specs.ReadMessage.{with_reading, Form, OfNone, forms}
+use Rattle.ssh_grammar.specs.Tables.{by_number}
 
 abbrev pub global_of : Global → grammar.Global
 global_of (global.Forward address port) = grammar.Forward address.now port
@@ -37,7 +42,19 @@ message_of (message.Request recipient kind want rest) = grammar.To recipient (gr
 message_of (message.Success recipient) = grammar.To recipient grammar.Success
 message_of (message.Failure recipient) = grammar.To recipient grammar.Failure
 
--- what a function returned, seen by view, is what reading gives
-abbrev pub Gives : {X Y E : Type 0} → (X → Y) → Result X E → Result Y E → Type 0
-Gives view (Ok x) reading = reading ≡ Ok (view x)
-Gives view (Err e) reading = reading ≡ Err e
+-- what was returned is the message to no channel that reading gives
+abbrev pub GivesPlain : Result Message Bad → Result grammar.PlainMessage Bad → Type 0
+GivesPlain result reading = Gives message_of result (with_reading reading grammar.Plain)
+
+-- what was returned is the message to this recipient that reading gives
+abbrev pub GivesTo : ℕ → Result Message Bad → Result grammar.ChannelMessage Bad → Type 0
+GivesTo recipient result reading = Gives message_of result (with_reading reading (grammar.To recipient))
+
+-- how the bytes after this number are read
+abbrev pub form_of : ℕ → Form
+form_of number = by_number (forms number) number OfNone
+
+-- a `cancel-tcpip-forward` that wants no reply
+abbrev pub cancel_of : List ℕ → ℕ → grammar.Message
+cancel_of address port =
+    grammar.Plain (grammar.GlobalRequest grammar.cancel_name false (str address ++ u32 port) (grammar.Cancel address port))

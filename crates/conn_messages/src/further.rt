@@ -1,7 +1,8 @@
 ghost use Rattle.std.specs.Prelude.{◌≡◌, ℕ, List};
+ghost use Rattle.ssh_grammar.specs.Gives.{Gives};
 ghost use Rattle.ssh_grammar.specs.ReadMessage.{read_key, read_global, read_ends, read_opens};
 ghost use Rattle.ssh_grammar.specs.Messages as grammar;
-ghost use Rattle.conn_messages.specs.Message.{Gives, global_of, opens_of};
+ghost use Rattle.conn_messages.specs.Message.{global_of, opens_of};
 
 use crate::message::{Global, Opens};
 use ssh_fields::FieldReader;
@@ -15,7 +16,8 @@ const KEEP_ALIVE: &[u8] = b"keepalive@openssh.com";
 
 /// An address and a port, and nothing after them.
 fn key<'a>(fields: &mut FieldReader<'a>) -> Result<(&'a [u8], u32), Bad>
-    ensures { (what : List ℕ → ℕ → grammar.Global) → Gives (λ k. what k.0.now k.1) result (read_key fields.old.cursor fields.old.at what) }
+    ensures { (what : List ℕ → ℕ → grammar.Global)
+        → Gives (λ k. what k.0.now k.1) result (read_key fields.old.cursor fields.old.at what) }
 {
     let address = fields.take_string()?;
     let port = fields.take_u32()?;
@@ -60,7 +62,8 @@ const FORWARDED: &[u8] = b"forwarded-tcpip";
 
 /// A host and a port, those of the originator, and nothing after them.
 fn ends<'a>(fields: &mut FieldReader<'a>) -> Result<(&'a [u8], u32), Bad>
-    ensures { (what : List ℕ → ℕ → grammar.Opens) → Gives (λ k. what k.0.now k.1) result (read_ends fields.old.cursor fields.old.at what) }
+    ensures { (what : List ℕ → ℕ → grammar.Opens)
+        → Gives (λ k. what k.0.now k.1) result (read_ends fields.old.cursor fields.old.at what) }
 {
     let host = fields.take_string()?;
     let port = fields.take_u32()?;

@@ -1,4 +1,5 @@
-/// What a global request is about: its data, read further for these names alone (RFC 4254, sections 4 and 7.1).
+/// What a global request is about: its data, read further for these names alone (RFC 4254, sections 4
+/// and 7.1).
 #[derive(Clone, Copy, Debug)]
 pub enum Global<'a> {
     /// `tcpip-forward`
@@ -11,7 +12,8 @@ pub enum Global<'a> {
     Other,
 }
 
-/// What an open is about: its data, read further for these types alone (RFC 4254, sections 6.1 and 7.2).
+/// What an open is about: its data, read further for these types alone (RFC 4254, sections 6.1 and
+/// 7.2).
 #[derive(Clone, Copy, Debug)]
 pub enum Opens<'a> {
     /// `session`
@@ -24,8 +26,8 @@ pub enum Opens<'a> {
     Other,
 }
 
-/// A message of RFC 4254 with its fields in their order. Strings and data are parts of the payload; `rest` is
-/// data as it came, and `what` is that data read further.
+/// A message of RFC 4254 with its fields in their order. Strings and data are parts of the payload;
+/// `rest` is data as it came, and `what` is that data read further.
 #[derive(Clone, Copy, Debug)]
 pub enum Message<'a> {
     /// A message of the transport, 1 to 4, whose fields aren't read.

@@ -1,9 +1,9 @@
 ghost use Rattle.std.specs.Prelude.{◌≡◌, ◌≤◌, List, IfOk, Ok};
-ghost use Rattle.ssh_grammar.specs.ReadMessage.{with_reading, read_global_request, read_open, read_confirmation, read_open_failure, read_adjust, read_data, read_extended, read_request, on_end, read_as, forms, OfNone, read_message as reading};
-ghost use Rattle.ssh_grammar.specs.Tables.{by_number};
+ghost use Rattle.ssh_grammar.specs.Gives.{Gives};
+ghost use Rattle.ssh_grammar.specs.ReadMessage.{read_global_request, read_open, read_confirmation, read_open_failure, read_adjust, read_data, read_extended, read_request, on_end, read_as, read_message as reading};
 ghost use Rattle.ssh_grammar.specs.IsMessage.{Spells};
 ghost use Rattle.ssh_grammar.specs.Messages as grammar;
-ghost use Rattle.conn_messages.specs.Message.{Gives, message_of};
+ghost use Rattle.conn_messages.specs.Message.{message_of, GivesPlain, GivesTo, form_of};
 
 use crate::further::{global, opens};
 use crate::message::Message;
@@ -23,7 +23,7 @@ fn bare<'a>(message: Message<'a>, fields: &mut FieldReader<'a>) -> Result<Messag
 
 fn global_request<'a>(fields: &mut FieldReader<'a>) -> Result<Message<'a>, Bad>
     requires { fields.old.at ≡ 1 }
-    ensures { Gives message_of result (with_reading (read_global_request fields.old.cursor) grammar.Plain) }
+    ensures { GivesPlain result (read_global_request fields.old.cursor) }
 {
     let name = fields.take_string()?;
     let want = fields.take_bool()?;
@@ -39,7 +39,7 @@ fn global_request<'a>(fields: &mut FieldReader<'a>) -> Result<Message<'a>, Bad>
 
 fn open<'a>(fields: &mut FieldReader<'a>) -> Result<Message<'a>, Bad>
     requires { fields.old.at ≡ 1 }
-    ensures { Gives message_of result (with_reading (read_open fields.old.cursor) grammar.Plain) }
+    ensures { GivesPlain result (read_open fields.old.cursor) }
 {
     let kind = fields.take_string()?;
     let sender = fields.take_u32()?;
@@ -61,7 +61,7 @@ fn open<'a>(fields: &mut FieldReader<'a>) -> Result<Message<'a>, Bad>
 
 fn confirmation<'a>(recipient: u32, fields: &mut FieldReader<'a>) -> Result<Message<'a>, Bad>
     requires { fields.old.at ≡ 5 }
-    ensures { Gives message_of result (with_reading (read_confirmation fields.old.cursor) (grammar.To recipient)) }
+    ensures { GivesTo recipient result (read_confirmation fields.old.cursor) }
 {
     let sender = fields.take_u32()?;
     let window = fields.take_u32()?;
@@ -78,7 +78,7 @@ fn confirmation<'a>(recipient: u32, fields: &mut FieldReader<'a>) -> Result<Mess
 
 fn open_failure<'a>(recipient: u32, fields: &mut FieldReader<'a>) -> Result<Message<'a>, Bad>
     requires { fields.old.at ≡ 5 }
-    ensures { Gives message_of result (with_reading (read_open_failure fields.old.cursor) (grammar.To recipient)) }
+    ensures { GivesTo recipient result (read_open_failure fields.old.cursor) }
 {
     let reason = fields.take_u32()?;
     let text = fields.take_string()?;
@@ -94,7 +94,7 @@ fn open_failure<'a>(recipient: u32, fields: &mut FieldReader<'a>) -> Result<Mess
 
 fn adjust<'a>(recipient: u32, fields: &mut FieldReader<'a>) -> Result<Message<'a>, Bad>
     requires { fields.old.at ≡ 5 }
-    ensures { Gives message_of result (with_reading (read_adjust fields.old.cursor) (grammar.To recipient)) }
+    ensures { GivesTo recipient result (read_adjust fields.old.cursor) }
 {
     let add = fields.take_u32()?;
     fields.end()?;
@@ -103,7 +103,7 @@ fn adjust<'a>(recipient: u32, fields: &mut FieldReader<'a>) -> Result<Message<'a
 
 fn data<'a>(recipient: u32, fields: &mut FieldReader<'a>) -> Result<Message<'a>, Bad>
     requires { fields.old.at ≡ 5 }
-    ensures { Gives message_of result (with_reading (read_data fields.old.cursor) (grammar.To recipient)) }
+    ensures { GivesTo recipient result (read_data fields.old.cursor) }
 {
     let bytes = fields.take_string()?;
     fields.end()?;
@@ -112,7 +112,7 @@ fn data<'a>(recipient: u32, fields: &mut FieldReader<'a>) -> Result<Message<'a>,
 
 fn extended<'a>(recipient: u32, fields: &mut FieldReader<'a>) -> Result<Message<'a>, Bad>
     requires { fields.old.at ≡ 5 }
-    ensures { Gives message_of result (with_reading (read_extended fields.old.cursor) (grammar.To recipient)) }
+    ensures { GivesTo recipient result (read_extended fields.old.cursor) }
 {
     let code = fields.take_u32()?;
     let bytes = fields.take_string()?;
@@ -126,7 +126,7 @@ fn extended<'a>(recipient: u32, fields: &mut FieldReader<'a>) -> Result<Message<
 
 fn request<'a>(recipient: u32, fields: &mut FieldReader<'a>) -> Result<Message<'a>, Bad>
     requires { fields.old.at ≡ 5 }
-    ensures { Gives message_of result (with_reading (read_request fields.old.cursor) (grammar.To recipient)) }
+    ensures { GivesTo recipient result (read_request fields.old.cursor) }
 {
     let kind = fields.take_string()?;
     let want = fields.take_bool()?;
@@ -142,9 +142,9 @@ fn request<'a>(recipient: u32, fields: &mut FieldReader<'a>) -> Result<Message<'
 /// A message to a channel, by its number. The recipient comes first in each.
 fn channel_message<'a>(number: u8, fields: &mut FieldReader<'a>) -> Result<Message<'a>, Bad>
     requires place { fields.old.at ≡ 1 }
-    requires low { 91 ≤ number }
-    requires high { number ≤ 100 }
-    ensures { Gives message_of result (read_as number (by_number (forms number) number OfNone) fields.old.cursor) }
+    requires low { CHANNEL_OPEN_CONFIRMATION ≤ number }
+    requires high { number ≤ CHANNEL_FAILURE }
+    ensures { Gives message_of result (read_as number (form_of number) fields.old.cursor) }
 {
     let recipient = fields.take_u32()?;
     match number {
@@ -181,7 +181,8 @@ fn message<'a>(payload: &'a [u8]) -> Result<Message<'a>, Bad>
     }
 }
 
-/// The message that a payload is, all of the payload; or its first fault, from left to right, and the fault's place.
+/// The message that a payload is, all of the payload; or its first fault from left to right, and the
+/// fault's place.
 pub fn read_message(payload: &[u8]) -> Result<Message<'_>, Bad>
     // What is read is spelled so.
     ensures spelled { IfOk result (λ m. Spells (message_of m) payload.now) }

@@ -1,8 +1,8 @@
-ghost use Rattle.std.specs.Prelude.{◌≡◌, ◌≤◌, ◌++◌, [], false, length, Ok};
-ghost use Rattle.ssh_fields.specs.Fields.{u32, str};
+ghost use Rattle.std.specs.Prelude.{◌≡◌, ◌≤◌, [], length, Ok};
 ghost use Rattle.ssh_grammar.specs.Messages as grammar;
 ghost use Rattle.ssh_grammar.specs.ReadMessage.{read_message as reading};
 ghost use Rattle.ssh_grammar.specs.SpellMessage as spelling;
+ghost use Rattle.conn_messages.specs.Message.{cancel_of};
 
 use ssh_fields::Small;
 use ssh_grammar::numbers::*;
@@ -49,7 +49,7 @@ pub fn request_failure() -> Small
 pub fn cancel_forward(address: &[u8], port: u32) -> Small
     requires { length address.now ≤ LONGEST_ADDRESS }
     ensures spelled { result ≡ spelling.cancel_forward address.now port }
-    ensures read_back { reading result ≡ Ok (grammar.Plain (grammar.GlobalRequest grammar.cancel_name false (str address.now ++ u32 port) (grammar.Cancel address.now port))) }
+    ensures read_back { reading result ≡ Ok (cancel_of address.now port) }
 {
     let mut payload = Small::copy(&[GLOBAL_REQUEST]);
     payload.push_string(b"cancel-tcpip-forward");

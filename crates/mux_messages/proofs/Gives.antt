@@ -9,14 +9,14 @@ use Rattle.ssh_grammar.specs.IsControl.{SpellsControl}
 use Rattle.ssh_grammar.proofs.ControlReads.{reads_is_spelled}
 use Rattle.ssh_grammar.proofs.ControlSpelled.{spelled_reads}
 use Rattle.mux_messages.specs.declared.control.Control.{Control}
-use Rattle.mux_messages.specs.Control.{Gives, Skipped, control_of}
+use Rattle.mux_messages.specs.Control.{GivesControl, Skipped, control_of}
 
-pub is_spelled : (body : List ℕ) (r : Result Control BadControl) → AreBytes body → Gives r (read_control body) → IfOk r (λ c. (skipped : Skipped) × SpellsControl (control_of skipped c) body)
+pub is_spelled : (body : List ℕ) (r : Result Control BadControl) → AreBytes body → GivesControl r (read_control body) → IfOk r (λ c. (skipped : Skipped) × SpellsControl (control_of skipped c) body)
 is_spelled body (Ok c) h gives = (gives.0, subst (λ r. IfOk r (λ c. SpellsControl c body)) gives.1 (reads_is_spelled body h))
 is_spelled body (Err e) h gives = tt
 
-pub is_read : (body : List ℕ) (r : Result Control BadControl) → Gives r (read_control body) → (c : grammar.Control) → SpellsControl c body → Gives r (Ok c)
-is_read body r gives c is = subst (Gives r) (spelled_reads c body is) gives
+pub is_read : (body : List ℕ) (r : Result Control BadControl) → GivesControl r (read_control body) → (c : grammar.Control) → SpellsControl c body → GivesControl r (Ok c)
+is_read body r gives c is = subst (GivesControl r) (spelled_reads c body is) gives
 
 -- a message is read as its type says
 pub of_type : (kind k : ℕ) (rest : List ℕ) (r : Result grammar.Control BadControl) → kind ≡ k → by_number forms k (read_unknown k) rest ≡ r → by_number forms kind (read_unknown kind) rest ≡ r

@@ -13,7 +13,13 @@ pub record Skipped : Type 0 where
   pub rest : List ℕ
 
 abbrev pub ask_of : FwdAsk → grammar.ForwardAsk
-ask_of a = record { kind = a.kind; listen_host = a.listen_host.now; listen_port = a.listen_port; connect_host = a.connect_host.now; connect_port = a.connect_port }
+ask_of a = record {
+  kind = a.kind;
+  listen_host = a.listen_host.now;
+  listen_port = a.listen_port;
+  connect_host = a.connect_host.now;
+  connect_port = a.connect_port;
+}
 
 abbrev pub control_of : Skipped → Control → grammar.Control
 control_of skipped (control.Hello version) = grammar.Hello version skipped.extensions
@@ -27,13 +33,15 @@ control_of skipped (control.StopListening id) = grammar.StopListening id
 control_of skipped (control.Proxy id) = grammar.Proxy id
 
 -- what was returned is what reading gives: the message but for what is skipped, or that very fault
-abbrev pub Gives : Result Control BadControl → Result grammar.Control BadControl → Type 0
-Gives (Ok c) reading = (skipped : Skipped) × (reading ≡ Ok (control_of skipped c))
-Gives (Err e) reading = reading ≡ Err e
+abbrev pub GivesControl : Result Control BadControl → Result grammar.Control BadControl → Type 0
+GivesControl (Ok c) reading = (skipped : Skipped) × (reading ≡ Ok (control_of skipped c))
+GivesControl (Err e) reading = reading ≡ Err e
 
 -- the bytes are pairs of name and value up to the end
 abbrev pub ArePairs : List ℕ → ℕ → Type 0
-ArePairs bytes at = (pairs : List (List ℕ × List ℕ)) × ((next : List (List ℕ × List ℕ) → grammar.Control) → on_pairs (length bytes) bytes at next ≡ Ok (next pairs))
+ArePairs bytes at =
+    (pairs : List (List ℕ × List ℕ))
+    × ((next : List (List ℕ × List ℕ) → grammar.Control) → on_pairs (length bytes) bytes at next ≡ Ok (next pairs))
 
 -- they are none, with that fault
 abbrev pub AreNoPairs : List ℕ → ℕ → BadControl → Type 0

@@ -1,9 +1,10 @@
 ghost use Rattle.std.specs.Prelude.{◌≡◌, ◌<◌, ◌^◌, ℕ, List, length, IfOk, IfErr, OnOk, Ok, Err};
+ghost use Rattle.ssh_grammar.specs.Gives.{Gives};
 ghost use Rattle.ssh_grammar.specs.ReadControl.{on_pairs, read_id, read_unread, read_hello, read_forward, read_unknown, forms, read_control as reading};
 ghost use Rattle.ssh_grammar.specs.Tables.{by_number};
 ghost use Rattle.ssh_grammar.specs.IsControl.{SpellsControl};
 ghost use Rattle.ssh_grammar.specs.Control as grammar;
-ghost use Rattle.mux_messages.specs.Control.{Gives, Skipped, ArePairs, AreNoPairs, control_of, ask_of};
+ghost use Rattle.mux_messages.specs.Control.{GivesControl, Skipped, ArePairs, AreNoPairs, control_of, ask_of};
 
 use crate::control::Control;
 use mux_outside::FwdAsk;
@@ -14,8 +15,8 @@ use ssh_grammar::numbers::*;
 /// An id, and nothing after it.
 fn id(fields: &mut FieldReader<'_>) -> Result<u32, BadControl>
     requires { fields.old.at ≡ 4 }
-    ensures ok { IfOk result (λ id. (message : ℕ → grammar.Control) → read_id message fields.old.cursor ≡ Ok (message id)) }
-    ensures err { IfErr result (λ e. (message : ℕ → grammar.Control) → read_id message fields.old.cursor ≡ Err e) }
+    ensures { (message : ℕ → grammar.Control)
+        → Gives message result (read_id message fields.old.cursor) }
 {
     let id = fields.take_u32()?;
     fields.end()?;
@@ -25,8 +26,8 @@ fn id(fields: &mut FieldReader<'_>) -> Result<u32, BadControl>
 /// An id; what follows it isn't read.
 fn id_alone(fields: &mut FieldReader<'_>) -> Result<u32, BadControl>
     requires { fields.old.at ≡ 4 }
-    ensures ok { IfOk result (λ id. (message : ℕ → List ℕ → grammar.Control) → read_unread message fields.old.cursor ≡ Ok (message id fields.new.cursor)) }
-    ensures err { IfErr result (λ e. (message : ℕ → List ℕ → grammar.Control) → read_unread message fields.old.cursor ≡ Err e) }
+    ensures { (message : ℕ → List ℕ → grammar.Control)
+        → Gives (λ id. message id fields.new.cursor) result (read_unread message fields.old.cursor) }
 {
     let id = fields.take_u32()?;
     Ok(id)
@@ -35,8 +36,8 @@ fn id_alone(fields: &mut FieldReader<'_>) -> Result<u32, BadControl>
 /// An id, and what is to be forwarded.
 fn forward<'a>(fields: &mut FieldReader<'a>) -> Result<(u32, FwdAsk<'a>), BadControl>
     requires { fields.old.at ≡ 4 }
-    ensures ok { IfOk result (λ x. (message : ℕ → grammar.ForwardAsk → grammar.Control) → read_forward message fields.old.cursor ≡ Ok (message x.0 (ask_of x.1))) }
-    ensures err { IfErr result (λ e. (message : ℕ → grammar.ForwardAsk → grammar.Control) → read_forward message fields.old.cursor ≡ Err e) }
+    ensures { (message : ℕ → grammar.ForwardAsk → grammar.Control)
+        → Gives (λ x. message x.0 (ask_of x.1)) result (read_forward message fields.old.cursor) }
 {
     let id = fields.take_u32()?;
     let kind = fields.take_u32()?;
@@ -70,7 +71,7 @@ fn skip_extensions(fields: &mut FieldReader<'_>) -> Result<(), BadControl>
 /// A version, and extensions that are skipped.
 fn hello<'a>(fields: &mut FieldReader<'a>) -> Result<Control<'a>, BadControl>
     requires { fields.old.at ≡ 4 }
-    ensures { Gives result (read_hello fields.old.cursor) }
+    ensures { GivesControl result (read_hello fields.old.cursor) }
 {
     let version = fields.take_u32()?;
     skip_extensions(fields)?;
@@ -88,7 +89,7 @@ fn unknown(kind: u32, fields: &mut FieldReader<'_>) -> BadControl
 /// A control message, by its type.
 fn by_type<'a>(kind: u32, fields: &mut FieldReader<'a>) -> Result<Control<'a>, BadControl>
     requires { fields.old.at ≡ 4 }
-    ensures { Gives result (by_number forms kind (read_unknown kind) fields.old.cursor) }
+    ensures { GivesControl result (by_number forms kind (read_unknown kind) fields.old.cursor) }
 {
     match kind {
         HELLO => hello(fields),
@@ -129,21 +130,22 @@ fn by_type<'a>(kind: u32, fields: &mut FieldReader<'a>) -> Result<Control<'a>, B
 }
 
 fn control(body: &[u8]) -> Result<Control<'_>, BadControl>
-    ensures { Gives result (reading body.now) }
+    ensures { GivesControl result (reading body.now) }
 {
     let mut fields = FieldReader::new(body, 0);
     let kind = fields.take_u32()?;
     by_type(kind, &mut fields)
 }
 
-/// The control message that a body is, all of the body; or its first fault, from left to right, and the fault's place.
+/// The control message that a body is, all of the body; or its first fault from left to right, and the
+/// fault's place.
 pub fn read_control(body: &[u8]) -> Result<Control<'_>, BadControl>
     // What is read is spelled so.
     ensures spelled { IfOk result (λ c. (skipped : Skipped) × SpellsControl (control_of skipped c) body.now) }
     // What is spelled so is read.
-    ensures only { (c : grammar.Control) → SpellsControl c body.now → Gives result (Ok c) }
+    ensures only { (c : grammar.Control) → SpellsControl c body.now → GivesControl result (Ok c) }
     // Which fault it is.
-    ensures exact { Gives result (reading body.now) }
+    ensures exact { GivesControl result (reading body.now) }
 {
     control(body)
 }

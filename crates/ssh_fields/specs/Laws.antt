@@ -14,14 +14,24 @@ BooleansReadBack = (b : Bool) (rest : List ℕ) → take_bool (bool b ++ rest) �
 
 -- what reads is spelled so, and has no other spelling
 abbrev pub NumbersAreSpelledSo : Type 0
-NumbersAreSpelledSo = (bytes : List ℕ) (n : ℕ) (rest : List ℕ) → AreBytes bytes → take_u32 bytes ≡ Some (n, rest) → (bytes ≡ u32 n ++ rest) × (n < 2 ^ 32)
+NumbersAreSpelledSo =
+    (bytes : List ℕ) (n : ℕ) (rest : List ℕ) → AreBytes bytes → take_u32 bytes ≡ Some (n, rest)
+    → (bytes ≡ u32 n ++ rest) × (n < 2 ^ 32)
 
 abbrev pub StringsAreSpelledSo : Type 0
-StringsAreSpelledSo = (bytes s rest : List ℕ) → AreBytes bytes → take_str bytes ≡ Some (s, rest) → (bytes ≡ str s ++ rest) × (length s < 2 ^ 32)
+StringsAreSpelledSo =
+    (bytes s rest : List ℕ) → AreBytes bytes → take_str bytes ≡ Some (s, rest)
+    → (bytes ≡ str s ++ rest) × (length s < 2 ^ 32)
 
 -- a number put in place is the number that stands there, among the bytes that stood around it
 abbrev pub PatchedNumberStands : Type 0
-PatchedNumberStands = (bytes : List ℕ) (at n : ℕ) → at + 4 ≤ length bytes → n < 2 ^ 32 → u32_at at (with_u32 bytes at n) ≡ n
+PatchedNumberStands =
+    (bytes : List ℕ) (at n : ℕ) → at + 4 ≤ length bytes → n < 2 ^ 32
+    → u32_at at (with_u32 bytes at n) ≡ n
 
 abbrev pub PatchKeepsTheRest : Type 0
-PatchKeepsTheRest = (bytes : List ℕ) (at n : ℕ) → at + 4 ≤ length bytes → (length (with_u32 bytes at n) ≡ length bytes) × (take at (with_u32 bytes at n) ≡ take at bytes) × (drop (at + 4) (with_u32 bytes at n) ≡ drop (at + 4) bytes)
+PatchKeepsTheRest =
+    (bytes : List ℕ) (at n : ℕ) → at + 4 ≤ length bytes
+    → (length (with_u32 bytes at n) ≡ length bytes)
+    × (take at (with_u32 bytes at n) ≡ take at bytes)
+    × (drop (at + 4) (with_u32 bytes at n) ≡ drop (at + 4) bytes)

@@ -16,7 +16,8 @@ pub enum FieldFault {
     Extra { at: usize },
 }
 
-/// The fields of a message from some place on, read in order. A field that doesn't fit is named by its place.
+/// The fields of a message from some place on, read in order. A field that doesn't fit is named by its
+/// place, and isn't taken.
 #[derive(Drop)]
 pub struct FieldReader<'a> {
     /// The bytes that are left.
@@ -27,6 +28,8 @@ pub struct FieldReader<'a> {
 }
 
 impl<'a> FieldReader<'a> {
+    ghost use Rattle.ssh_fields.specs.FieldReader.{IsUnchanged};
+
     /// The fields of these bytes, which stand at a place of the message.
     pub fn new(bytes: &'a [u8], at: usize) -> FieldReader<'a>
         requires { at + length bytes.now < 2 ^ 63 }
@@ -51,7 +54,7 @@ impl<'a> FieldReader<'a> {
         ensures place { OnOk result (self.new.at ≡ self.old.at + 1) }
         ensures err { IfErr result (λ e. e ≡ Short self.old.at) }
         ensures short { OnErr result (take_bool self.old.cursor ≡ None) }
-        ensures unchanged { OnErr result ((self.new.cursor ≡ self.old.cursor) × (self.new.at ≡ self.old.at)) }
+        ensures unchanged { OnErr result (IsUnchanged self.old self.new) }
     {
         let b = self
             .cursor
@@ -66,7 +69,7 @@ impl<'a> FieldReader<'a> {
         ensures place { OnOk result (self.new.at ≡ self.old.at + 4) }
         ensures err { IfErr result (λ e. e ≡ Short self.old.at) }
         ensures short { OnErr result (take_u32 self.old.cursor ≡ None) }
-        ensures unchanged { OnErr result ((self.new.cursor ≡ self.old.cursor) × (self.new.at ≡ self.old.at)) }
+        ensures unchanged { OnErr result (IsUnchanged self.old self.new) }
     {
         let n = self
             .cursor
@@ -81,7 +84,7 @@ impl<'a> FieldReader<'a> {
         ensures place { IfOk result (λ s. self.new.at ≡ self.old.at + 4 + length s.now) }
         ensures err { IfErr result (λ e. e ≡ Short self.old.at) }
         ensures short { OnErr result (take_str self.old.cursor ≡ None) }
-        ensures unchanged { OnErr result ((self.new.cursor ≡ self.old.cursor) × (self.new.at ≡ self.old.at)) }
+        ensures unchanged { OnErr result (IsUnchanged self.old self.new) }
     {
         let s = self
             .cursor

@@ -7,7 +7,8 @@ pub fn spelled_fields_read_back()
     ensures booleans { BooleansReadBack }
 {}
 
-/// What reads is spelled so, and has no other spelling. Only a boolean has: each byte but 0 is true.
+/// What reads is spelled so, and has no other spelling. Only a boolean has: each byte but 0 is
+/// true.
 pub fn read_fields_are_spelled_so()
     ensures numbers { NumbersAreSpelledSo }
     ensures strings { StringsAreSpelledSo }

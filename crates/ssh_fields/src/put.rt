@@ -12,7 +12,8 @@ pub fn put_u32(out: &mut Vec<u8>, n: u32) -> Result<(), OutOfMemory>
     Ok(())
 }
 
-/// Writes a string: its length as a number of four bytes, and then its bytes. An `Err` writes nothing.
+/// Writes a string: its length as a number of four bytes, and then its bytes. An `Err` writes
+/// nothing.
 pub fn put_string(out: &mut Vec<u8>, s: &[u8]) -> Result<(), OutOfMemory>
     requires { length s.now < 2 ^ 32 }
     ensures ok { OnOk result (out.new.items ≡ out.old.items ++ str s.now) }

@@ -55,19 +55,19 @@ control_is_said bytes h keep =
     ∙ (parse-bodies (cut framing.Control bytes).frames (cut framing.Control bytes).rest is.valid keep
     ∙ ap (λ xs. map Body (cut framing.Control bytes).frames ++ xs) (ends (cut framing.Control bytes).rest (cut framing.Control bytes).fault is.longest))
 
-after-last : (bodies : List (List ℕ)) (last rest : List ℕ) (mode : Mode) → AreBodies bodies → IsContent framing.Control last → KeepControl bodies → after_body last ≡ mode
+after-last : (bodies : List (List ℕ)) (last rest : List ℕ) (mode : Mode) → AreBodies bodies → KeepControl bodies → IsContent framing.Control last → after_body last ≡ mode
     → said (joined framing.Control bodies ++ (frame framing.Control last ++ rest)) ≡ map Body bodies ++ (Body last ∷ (parse mode rest).says)
-after-last bodies last rest mode are is keep after =
+after-last bodies last rest mode are keep is after =
     parse-bodies bodies (frame framing.Control last ++ rest) are keep
     ∙ ap (λ xs. map Body bodies ++ xs) (ap (λ (p : Parsed). p.says) (parse-body last rest is) ∙ ap (λ m. Body last ∷ (parse m rest).says) after)
 
-pub proxy_is_said : (bodies : List (List ℕ)) (last rest : List ℕ) → AreBodies bodies → IsContent framing.Control last → KeepControl bodies → after_body last ≡ InProxy
+pub proxy_is_said : (bodies : List (List ℕ)) (last rest : List ℕ) → AreBodies bodies → KeepControl bodies → IsContent framing.Control last → after_body last ≡ InProxy
     → said (joined framing.Control bodies ++ (frame framing.Control last ++ rest)) ≡ map Body bodies ++ (Body last ∷ says framing.Proxy Payload rest)
-proxy_is_said bodies last rest are is keep after = after-last bodies last rest InProxy are is keep after ∙ ap (λ xs. map Body bodies ++ (Body last ∷ xs)) (payloads rest)
+proxy_is_said bodies last rest are keep is after = after-last bodies last rest InProxy are keep is after ∙ ap (λ xs. map Body bodies ++ (Body last ∷ xs)) (payloads rest)
 
-pub nothing_more_is_said : (bodies : List (List ℕ)) (last rest : List ℕ) → AreBodies bodies → IsContent framing.Control last → KeepControl bodies → after_body last ≡ Stopped
+pub nothing_more_is_said : (bodies : List (List ℕ)) (last rest : List ℕ) → AreBodies bodies → KeepControl bodies → IsContent framing.Control last → after_body last ≡ Stopped
     → said (joined framing.Control bodies ++ (frame framing.Control last ++ rest)) ≡ map Body bodies ++ (Body last ∷ [])
-nothing_more_is_said bodies last rest are is keep after = after-last bodies last rest Stopped are is keep after ∙ ap (λ (p : Parsed). map Body bodies ++ (Body last ∷ p.says)) (parse-stopped rest)
+nothing_more_is_said bodies last rest are keep is after = after-last bodies last rest Stopped are keep is after ∙ ap (λ (p : Parsed). map Body bodies ++ (Body last ∷ p.says)) (parse-stopped rest)
 
 pub said_stays : (a b : List ℕ) → (more : List Saying) × (said (a ++ b) ≡ said a ++ more)
 said_stays a b = ((parse (parse InControl a).mode ((parse InControl a).rest ++ b)).says, ap (λ (p : Parsed). p.says) (parse-append InControl a b))

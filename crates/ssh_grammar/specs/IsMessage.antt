@@ -48,7 +48,8 @@ IsPlain (Transport n rest) = (number.DISCONNECT ≤ n) × (n ≤ number.DEBUG)
 IsPlain (GlobalRequest name want rest what) = IsString name × IsGlobal name rest what
 IsPlain (RequestSuccess rest) = Unit {0}
 IsPlain RequestFailure = Unit {0}
-IsPlain (Open kind sender window maximum rest what) = IsString kind × IsNumber sender × IsNumber window × IsNumber maximum × IsOpens kind rest what
+IsPlain (Open kind sender window maximum rest what) =
+    IsString kind × IsNumber sender × IsNumber window × IsNumber maximum × IsOpens kind rest what
 
 abbrev pub IsChannelMessage : ChannelMessage → Type 0
 IsChannelMessage (Confirmation sender window maximum rest) = IsNumber sender × IsNumber window × IsNumber maximum

@@ -35,14 +35,20 @@ NoPayloadForTwo = (a b : Message) → IsMessage a → IsMessage b → spell a �
 
 -- the numbers of recipient and sender stand at their places
 abbrev pub NumbersStand : Type 0
-NumbersStand = (p : List ℕ) → AreBytes p → IfOk (read_message p) (λ m. Stands (recipient_of m) (recipient_place m) p × Stands (sender_of m) (sender_place m) p)
+NumbersStand =
+    (p : List ℕ) → AreBytes p
+    → IfOk (read_message p) (λ m. Stands (recipient_of m) (recipient_place m) p × Stands (sender_of m) (sender_place m) p)
 
 -- with one number replaced in place, a payload reads as the same message but for that number
 abbrev pub RecipientIsReplaced : Type 0
-RecipientIsReplaced = (p : List ℕ) (n : ℕ) → AreBytes p → n < 2 ^ 32 → IfOk (read_message p) (λ m. read_message (with_recipient p n) ≡ Ok (to_recipient n m))
+RecipientIsReplaced =
+    (p : List ℕ) (n : ℕ) → AreBytes p → n < 2 ^ 32
+    → IfOk (read_message p) (λ m. read_message (with_recipient p n) ≡ Ok (to_recipient n m))
 
 abbrev pub SenderIsReplaced : Type 0
-SenderIsReplaced = (p : List ℕ) (n : ℕ) → AreBytes p → n < 2 ^ 32 → IfOk (read_message p) (λ m. read_message (with_sender p n) ≡ Ok (to_sender n m))
+SenderIsReplaced =
+    (p : List ℕ) (n : ℕ) → AreBytes p → n < 2 ^ 32
+    → IfOk (read_message p) (λ m. read_message (with_sender p n) ≡ Ok (to_sender n m))
 
 -- ---- control messages
 
@@ -73,7 +79,10 @@ abbrev pub CutIsLongest : Type 0
 CutIsLongest = (framing : Framing) (bytes : List ℕ) → AreBytes bytes → Cuts framing bytes (cut framing bytes)
 
 abbrev pub NoOtherCut : Type 0
-NoOtherCut = (framing : Framing) (bytes : List ℕ) (frames : List (List ℕ)) (rest : List ℕ) (fault : Option BadFrame) → Cuts framing bytes (record { frames = frames; rest = rest; fault = fault }) → cut framing bytes ≡ record { frames = frames; rest = rest; fault = fault }
+NoOtherCut =
+    (framing : Framing) (bytes : List ℕ) (frames : List (List ℕ)) (rest : List ℕ) (fault : Option BadFrame)
+    → Cuts framing bytes (record { frames = frames; rest = rest; fault = fault })
+    → cut framing bytes ≡ record { frames = frames; rest = rest; fault = fault }
 
 -- one cut after the other
 abbrev pub cut_then : Cut → Cut → Cut
@@ -81,7 +90,9 @@ cut_then c more = record { frames = c.frames ++ more.frames; rest = more.rest; f
 
 -- bytes that come later are cut behind the rest, and add frames only
 abbrev pub CutsJoin : Type 0
-CutsJoin = (framing : Framing) (a b : List ℕ) → cut framing (a ++ b) ≡ cut_then (cut framing a) (cut framing ((cut framing a).rest ++ b))
+CutsJoin =
+    (framing : Framing) (a b : List ℕ)
+    → cut framing (a ++ b) ≡ cut_then (cut framing a) (cut framing ((cut framing a).rest ++ b))
 
 -- ---- what is said
 
@@ -110,17 +121,25 @@ AreBodies bodies = AllByRecursion (IsContent framing.Control) bodies
 
 -- where no control message begins the proxy or ends the reading, all control messages are said, and then the fault
 abbrev pub ControlIsSaid : Type 0
-ControlIsSaid = (bytes : List ℕ) → AreBytes bytes → KeepControl (cut framing.Control bytes).frames → said bytes ≡ says framing.Control Body bytes
+ControlIsSaid =
+    (bytes : List ℕ) → AreBytes bytes → KeepControl (cut framing.Control bytes).frames
+    → said bytes ≡ says framing.Control Body bytes
 
 -- after the first that begins the proxy, the frames of all bytes after it are payloads
 abbrev pub ProxyIsSaid : Type 0
-ProxyIsSaid = (bodies : List (List ℕ)) (last rest : List ℕ) → AreBodies bodies → IsContent framing.Control last → KeepControl bodies → after_body last ≡ InProxy
-    → said (joined framing.Control bodies ++ (frame framing.Control last ++ rest)) ≡ map Body bodies ++ (Body last ∷ says framing.Proxy Payload rest)
+ProxyIsSaid =
+    (bodies : List (List ℕ)) (last rest : List ℕ) → AreBodies bodies → KeepControl bodies
+    → IsContent framing.Control last → after_body last ≡ InProxy
+    → said (joined framing.Control bodies ++ (frame framing.Control last ++ rest))
+    ≡ map Body bodies ++ (Body last ∷ says framing.Proxy Payload rest)
 
 -- after the first that ends the reading, nothing is said
 abbrev pub NothingMoreIsSaid : Type 0
-NothingMoreIsSaid = (bodies : List (List ℕ)) (last rest : List ℕ) → AreBodies bodies → IsContent framing.Control last → KeepControl bodies → after_body last ≡ Stopped
-    → said (joined framing.Control bodies ++ (frame framing.Control last ++ rest)) ≡ map Body bodies ++ (Body last ∷ [])
+NothingMoreIsSaid =
+    (bodies : List (List ℕ)) (last rest : List ℕ) → AreBodies bodies → KeepControl bodies
+    → IsContent framing.Control last → after_body last ≡ Stopped
+    → said (joined framing.Control bodies ++ (frame framing.Control last ++ rest))
+    ≡ map Body bodies ++ (Body last ∷ [])
 
 -- the server says payloads from its first byte on
 abbrev pub ServerIsHeard : Type 0

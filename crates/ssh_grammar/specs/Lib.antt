@@ -1,5 +1,6 @@
 pub mod Tables
 pub mod Faults
+pub mod Gives
 pub mod Messages
 pub mod ReadMessage
 pub mod SpellMessage
