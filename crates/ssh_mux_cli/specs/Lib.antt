@@ -1,3 +1,7 @@
 pub mod Status
-pub mod Lines
+pub mod Ending
+pub mod Outcomes
+pub mod Answers
+pub mod Causes
+pub mod Out
 pub mod Err

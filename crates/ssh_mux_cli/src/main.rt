@@ -2,49 +2,54 @@
 //! (PROTOCOL.mux version 4). The program is `run`; `main` hands it its outside.
 #![tactic(auto)]
 
+mod diagnostics;
+mod ending;
+mod listing;
+mod machine;
+mod report;
 mod run;
+mod standard;
 mod status;
 #[cfg(test)]
 mod tests;
 
-use mux_outside::{
-    Calls, Facts, ListSink, MapFiles, MapRunner, NoHouse, Pairs, ScriptWire, Statuses, Steps,
-    Writes,
-};
+use ending::Ending;
+use machine::{facts_of, words_of};
+use mux_outside::NoHouse;
+use mux_sockets::{RealFiles, RealRunner, RealSink, RealWire};
+use report::report;
 use run::run;
-use ssh_fields::Texts;
-use std::io;
-use std::io::Write;
+use ssh_fields::OutOfMemory;
+use standard::Standard;
+use status::Status;
 use std::process::ExitCode;
 
-fn main(rt: HostRuntime) -> io::Result<ExitCode> {
+fn main(rt: HostRuntime) -> ExitCode {
     let alloc = rt.alloc();
-    let facts = Facts {
-        home: None,
-        local_user: None,
-        uid: None,
-        host_name: None,
-        vars: Pairs::new(alloc),
-        pid: None,
+    let mut err = RealSink::new(Standard::Error(rt.stderr()));
+    let status = match start(&rt, &mut err) {
+        Ok(status) => status,
+        Err(OutOfMemory) => report(alloc, &mut err, &Ending::NoMemory),
     };
-    let mut out = ListSink::new(alloc, Calls::new(alloc));
-    let mut err = ListSink::new(alloc, Calls::new(alloc));
-    let status = run(
-        &Texts::new(alloc),
+    ExitCode::from(status.code())
+}
+
+// Runs over the system, with as many turns as there are.
+fn start(rt: &HostRuntime, err: &mut RealSink<Standard>) -> Result<Status, OutOfMemory> {
+    let alloc = rt.alloc();
+    let words = words_of(rt, alloc)?;
+    let mut files = RealFiles::new(rt.clone()?, alloc);
+    let facts = facts_of(rt, alloc, &mut files)?;
+    Ok(run(
+        alloc,
+        &words,
         &facts,
-        &mut ScriptWire::new(
-            alloc,
-            Steps::new(alloc),
-            Writes::new(alloc),
-            Calls::new(alloc),
-        ),
-        &mut MapFiles::new(alloc, Pairs::new(alloc), Calls::new(alloc)),
-        &mut MapRunner::new(alloc, Statuses::new(alloc), Calls::new(alloc)),
-        &mut out,
-        &mut err,
+        &mut RealWire::new(rt.clone()?, alloc),
+        &mut files,
+        &mut RealRunner::new(rt.clone()?, alloc),
+        &mut RealSink::new(Standard::Output(rt.stdout())),
+        err,
         &mut NoHouse,
         u64::MAX,
-    );
-    rt.stderr().write_all(err.taken())?;
-    Ok(ExitCode::from(status.code()))
+    ))
 }

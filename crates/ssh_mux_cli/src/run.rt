@@ -1,21 +1,28 @@
-ghost use Rattle.std.specs.Prelude.{◌≡◌, ◌⊎◌};
-ghost use Rattle.ssh_mux_cli.specs.Err.{TookLine};
-ghost use Rattle.ssh_mux_cli.specs.Lines.{line_of};
-ghost use Rattle.ssh_mux_cli.specs.declared.status.Status.TheVariants as status;
+ghost use Rattle.std.specs.Prelude.{◌≡◌};
+ghost use Rattle.std.specs.Bool.{OnFalse};
+ghost use Rattle.ssh_mux_cli.specs.Answers.{Comes, so_far, may_write, reads_files};
+ghost use Rattle.ssh_mux_cli.specs.Causes.{FilesCause, OutCause};
+ghost use Rattle.ssh_mux_cli.specs.Err.{Ended};
+ghost use Rattle.ssh_mux_cli.specs.Out.{OutTakes};
+ghost use Rattle.ssh_mux_cli.specs.Outcomes.{outcome};
 
+use crate::ending::Ending;
+use crate::listing::list;
+use crate::report::report;
 use crate::status::Status;
-use mux_outside::{Facts, FileError, Files, House, Runner, Sink, Wire};
+use conf_rules::Command;
+use conf_words::{WordsError, read_words};
+use mux_outside::{Facts, Files, House, Runner, Sink, Wire};
 use ssh_fields::Texts;
-
-/// The line of an ask that is not built yet.
-const NOT_BUILT: &[u8] = b"ssh-mux: not built yet\n";
+use std::alloc::Global;
 
 /// Does what the words ask for, over the outside that is handed in, and tells how it ended.
 ///
-/// `words` are the program's words without its name. A status other than that of success or of a
-/// failed `out` has its one line, which goes to `err` in one `put`; where `err` has no memory for it
-/// the status is that of want of memory.
+/// `words` are the program's words without its name. The listing of `-G` goes to `out` in one `put`, once it is complete. A status
+/// other than that of success or of a failed `out` has its one line, which goes to `err` in one `put`; where there is no memory for
+/// it the status is that of want of memory.
 pub fn run<W: Wire, F: Files, R: Runner, S: Sink, H: House>(
+    alloc: Global,
     words: &Texts,
     facts: &Facts,
     wire: &mut W,
@@ -26,16 +33,42 @@ pub fn run<W: Wire, F: Files, R: Runner, S: Sink, H: House>(
     house: &mut H,
     turns: u64,
 ) -> Status
-    ensures status { (result ≡ status.NotBuilt) ⊎ (result ≡ status.Memory) }
-    ensures line { TookLine (line_of result) (S.told err.old) (S.told err.new) (S.faults err.old) (S.faults err.new) }
-    ensures out { out.new ≡ out.old }
+    ensures ended { Ended (outcome (F.told files.old) facts.now words.now) result (S.told err.old) (S.told err.new) (S.faults err.old) (S.faults err.new) }
+    ensures out { OutTakes result (outcome (F.told files.old) facts.now words.now) (S.told out.old) (S.told out.new) }
+    ensures unwritten { OnFalse (may_write result) (out.new ≡ out.old) }
+    ensures unread { OnFalse (reads_files (outcome (F.told files.old) facts.now words.now)) (files.new ≡ files.old) }
+    ensures files_cause { FilesCause result (F.faults files.old) (F.faults files.new) }
+    ensures out_cause { OutCause result (S.faults out.old) (S.faults out.new) }
     ensures wire { wire.new ≡ wire.old }
-    ensures files { files.new ≡ files.old }
     ensures runner { runner.new ≡ runner.old }
     ensures house { house.new ≡ house.old }
 {
-    match err.put(NOT_BUILT) {
-        Err(FileError::OutOfMemory) => Status::Memory,
-        _ => Status::NotBuilt,
+    match obey(alloc, words, facts, files, out) {
+        Ok(status) => status,
+        Err(ending) => report(alloc, err, &ending),
+    }
+}
+
+// Does what the words ask for.
+fn obey<F: Files, S: Sink>(
+    alloc: Global,
+    words: &Texts,
+    facts: &Facts,
+    files: &mut F,
+    out: &mut S,
+) -> Result<Status, Ending>
+    ensures exact { Comes (outcome (F.told files.old) facts.now words.now) result }
+    ensures out { OutTakes (so_far result) (outcome (F.told files.old) facts.now words.now) (S.told out.old) (S.told out.new) }
+    ensures unwritten { OnFalse (may_write (so_far result)) (out.new ≡ out.old) }
+    ensures unread { OnFalse (reads_files (outcome (F.told files.old) facts.now words.now)) (files.new ≡ files.old) }
+    ensures files_cause { FilesCause (so_far result) (F.faults files.old) (F.faults files.new) }
+    ensures out_cause { OutCause (so_far result) (S.faults out.old) (S.faults out.new) }
+{
+    match read_words(alloc, words) {
+        Ok(Command::List(asked)) => list(alloc, &asked, facts, files, out),
+        Ok(_) => Err(Ending::NotServed),
+        Err(WordsError::Refused(e)) => Err(Ending::BadWords(e)),
+        Err(WordsError::NotBuilt) => Err(Ending::NotServed),
+        Err(WordsError::OutOfMemory) => Err(Ending::NoMemory),
     }
 }

@@ -1,0 +1,3 @@
+pub mod EndLemmas
+pub mod LineLemmas
+pub mod RefusalLemmas
