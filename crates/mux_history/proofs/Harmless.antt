@@ -4,41 +4,34 @@ use Rattle.std.specs.Prelude.{filter, not, Result, flat_map, nat_lt, is_none, co
 use Rattle.mux_history.specs.Channels.{Channel, any_by, held_of, is_closes, is_confirmed, is_up}
 use Rattle.mux_history.specs.Farewell.{farewell, late, late_refusal, late_success, leave_channel, leave_forwarding, to_number, with_ask}
 use Rattle.mux_history.specs.Forwardings.{Forwarding, bound, forwarded, forwardings_of}
-use Rattle.mux_history.specs.Gist.{Closes, Confirmation, Fails, Gist, Open, Refuses, Requests, Succeeds, Within, read_gist}
+use Rattle.mux_history.specs.Gist.{Confirmation, Gist, Open, Refuses, Requests, Succeeds, Within, read_gist}
 use Rattle.mux_history.specs.Heard.{for_client, for_lost, for_master, heard_for, heard_gist, heard_master}
-use Rattle.mux_history.specs.Kept.{Every}
+use Rattle.mux_history.specs.Kept.{Every, IsMasters}
 use Rattle.mux_history.specs.Requests.{Ask, asker}
 use Rattle.mux_history.specs.Rows.{Row, is_lost}
 use Rattle.mux_history.specs.Said.{Outcome, sends, silent, tells}
 use Rattle.ssh_fields.specs.Fields.{str, u32}
 use Rattle.ssh_grammar.specs.Frames.{frame_payload}
 use Rattle.ssh_grammar.specs.Messages.{Cancel, Forward, Global}
-use Rattle.ssh_grammar.specs.SpellMessage.{cancel_forward, close, open_failure, request_failure, wants}
+use Rattle.ssh_grammar.specs.SpellMessage.{cancel_forward, close, open_failure, request_failure}
 use Rattle.ssh_grammar.specs.declared.fault.Bad.{Bad}
 use Rattle.ssh_grammar.specs.declared.side.Side.TheVariants.{Up}
 use Rattle.mux_history.proofs.Readings.{cancel-always, close-always, failure-always, gist-always}
 
-abbrev pub IsHarmless : Gist → Type 0
-IsHarmless (Within s Closes) = Unit {0}
-IsHarmless (Within s Fails) = Unit {0}
-IsHarmless (Requests (Cancel address port) wants) = Unit {0}
-IsHarmless Refuses = Unit {0}
-IsHarmless m = ⊥
-
 abbrev pub Harmless : List ℕ → Type 0
-Harmless q = (m : Gist) → read_gist q ≡ Ok m → IsHarmless m
+Harmless q = (m : Gist) → read_gist q ≡ Ok m → IsMasters m
 
 pub harmless-close : (s : ℕ) → Harmless (close s)
-harmless-close s m reads = gist-always IsHarmless (close s) m (close-always IsHarmless (u32 s) (λ n. tt)) reads
+harmless-close s m reads = gist-always IsMasters (close s) m (close-always IsMasters (u32 s) (λ n. tt)) reads
 
 pub harmless-refusal : Harmless request_failure
-harmless-refusal m reads = gist-always IsHarmless request_failure m tt reads
+harmless-refusal m reads = gist-always IsMasters request_failure m tt reads
 
 pub harmless-failure : (s reason : ℕ) (text : List ℕ) → Harmless (open_failure s reason text)
-harmless-failure s reason text m reads = gist-always IsHarmless (open_failure s reason text) m (failure-always IsHarmless (u32 s ++ (u32 reason ++ (str text ++ str []))) (λ n. tt)) reads
+harmless-failure s reason text m reads = gist-always IsMasters (open_failure s reason text) m (failure-always IsMasters (u32 s ++ (u32 reason ++ (str text ++ str []))) (λ n. tt)) reads
 
 pub harmless-cancel : (address : List ℕ) (port : ℕ) → Harmless (cancel_forward address port)
-harmless-cancel address port m reads = gist-always IsHarmless (cancel_forward address port) m (cancel-always IsHarmless address port (λ a p. tt)) reads
+harmless-cancel address port m reads = gist-always IsMasters (cancel_forward address port) m (cancel-always IsMasters address port (λ a p. tt)) reads
 
 pub every-append : (P : List ℕ → Type 0) (xs ys : List (List ℕ)) → Every P xs → Every P ys → Every P (xs ++ ys)
 every-append P [] ys a b = b

@@ -2,10 +2,10 @@
 use Rattle.std.specs.Prelude.{ℕ, ◌≡◌, ◌≤◌, ◌<◌, List, [], ◌∷◌, Option, Some, None, Ok, true, false, length, filter, drop, option_map, replicate, flat_map, reverse}
 use Rattle.ssh_grammar.specs.declared.side.Side.{Side}
 use Rattle.ssh_grammar.specs.declared.side.Side.TheVariants.{Up, Down}
-use Rattle.ssh_grammar.specs.Messages.{Direct, Forwarded, Forward}
+use Rattle.ssh_grammar.specs.Messages.{Direct, Forwarded, Forward, Cancel}
 use Rattle.ssh_grammar.specs.SpellMessage.{request_failure}
 use Rattle.ssh_grammar.specs.Frames.{frame_payload}
-use Rattle.mux_history.specs.Gist.{Gist, Requests, Open, Within, Carries, read_gist, reading}
+use Rattle.mux_history.specs.Gist.{Carries, Closes, Fails, Gist, Open, Refuses, Requests, Within, read_gist, reading}
 use Rattle.mux_history.specs.Rows.{Row, rows_of, sent_by, is_lost, is_end, Heard, Goes}
 use Rattle.mux_history.specs.Channels.{Channel, held_of, is_number, with_own}
 use Rattle.mux_history.specs.Ledger.{room, maximum_of}
@@ -94,6 +94,20 @@ TellsReply before row =
 pub record Asker (before : List Row) (row : Row) : Type 0 where
   pub reaches : ReachesAsker before row
   pub tells : TellsReply before row
+
+-- ---- The master's own words: what it sends for nobody, and in farewells, carries no data and brings no number
+
+-- a refused request, a failed open, a close, or a cancel
+abbrev pub IsMasters : Gist → Type 0
+IsMasters (Within s Closes) = Unit {0}
+IsMasters (Within s Fails) = Unit {0}
+IsMasters (Requests (Cancel address port) wants) = Unit {0}
+IsMasters Refuses = Unit {0}
+IsMasters m = ⊥
+
+pub record OwnWords (before : List Row) (row : Row) : Type 0 where
+  pub farewell : EachSays IsMasters row.farewell
+  pub up : row.client ≡ 0 → EachSays IsMasters row.up
 
 -- ---- Numbers: none is held by two channels, and none of the server's is live in two
 

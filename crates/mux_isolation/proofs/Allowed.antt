@@ -6,7 +6,7 @@ use Rattle.mux_history.specs.Controls.{greeted, said_body}
 use Rattle.mux_history.specs.Forwardings.{current, is_free_at}
 use Rattle.mux_history.specs.Gist.{Act, Carries, Closes, Confirmation, Fails, Gist, Open, Refuses, Requests, Succeeds, Transport, Within, read_gist}
 use Rattle.mux_history.specs.Heard.{Breaks, Dest, Disconnects, ToClient, ToMaster, dest, heard_for, heard_master}
-use Rattle.mux_history.specs.Kept.{Every, Fits, ForEach}
+use Rattle.mux_history.specs.Kept.{Every, Fits, ForEach, IsMasters}
 use Rattle.mux_history.specs.Ledger.{breach}
 use Rattle.mux_history.specs.Log.{admits, bare, heard_row, row_of, treat}
 use Rattle.mux_history.specs.Policy.{Policy, permits}
@@ -20,7 +20,7 @@ use Rattle.ssh_grammar.specs.declared.fault.Bad.{Bad}
 use Rattle.ssh_grammar.specs.declared.fault.Breach.{Breach}
 use Rattle.ssh_grammar.specs.declared.side.Side.TheVariants.{Up}
 use Rattle.mux_history.specs.declared.why.Why.TheVariants as why
-use Rattle.mux_history.proofs.Harmless.{Harmless, IsHarmless, every-append, every-of, harmless-heard, harmless-master}
+use Rattle.mux_history.proofs.Harmless.{Harmless, every-append, every-of, harmless-heard, harmless-master}
 use Rattle.mux_history.proofs.KeepsApart.{LawfulItem, ok-same}
 use Rattle.mux_history.proofs.Legal.{fits-of}
 use Rattle.mux_history.proofs.Renumbered.{reads-sent, sender-in, word}
@@ -33,7 +33,7 @@ use Rattle.mux_isolation.proofs.Mays.{MaySend, SendsAllowed}
 abbrev SendOk : Policy → List Row → List ℕ → Type 0
 SendOk policy own q = (m : Gist) → read_gist q ≡ Ok m → MaySend policy own m
 
-harmless-may : (policy : Policy) (own : List Row) (m : Gist) → IsHarmless m → MaySend policy own m
+harmless-may : (policy : Policy) (own : List Row) (m : Gist) → IsMasters m → MaySend policy own m
 harmless-may policy own (Within s Closes) h = tt
 harmless-may policy own (Within s Fails) h = tt
 harmless-may policy own (Requests (Cancel address port) wants) h = tt

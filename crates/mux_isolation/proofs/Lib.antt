@@ -11,6 +11,7 @@ pub mod Mays
 pub mod Meets
 pub mod Named
 pub mod Numbers
+pub mod OwnSayings
 pub mod Replied
 pub mod Rows
 pub mod Solos

@@ -9,7 +9,7 @@ use Rattle.mux_history.specs.Requests.{asks, replies}
 use Rattle.mux_history.specs.Forwardings.{current}
 use Rattle.mux_history.specs.Farewell.{has_open_matters}
 use Rattle.mux_history.specs.Right.{IsAdmitted}
-use Rattle.mux_history.specs.Kept.{AtEach, ForEach, Window, Permission, Asker, Unshared}
+use Rattle.mux_history.specs.Kept.{AtEach, ForEach, Window, Permission, Asker, OwnWords, Unshared}
 use Rattle.mux_history.specs.Laws.{OverRight}
 
 -- each admitted client sees what it would see alone, up to the numbers that stand for its own
@@ -27,6 +27,10 @@ PermissionsAreKept = OverRight (λ setting rows. ForEach (Permission setting.pol
 -- each global reply that does not break the run reaches its asker
 abbrev pub AskersAreServed : Type 0
 AskersAreServed = OverRight (λ setting rows. ForEach Asker rows)
+
+-- what the master sends of its own carries no client's data
+abbrev pub MasterSaysLittle : Type 0
+MasterSaysLittle = OverRight (λ setting rows. ForEach OwnWords rows)
 
 -- nothing is left of a client: no channel, no request without a reply, no forwarding
 pub record HasNothing (own : List Row) : Type 0 where

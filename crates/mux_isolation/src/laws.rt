@@ -1,4 +1,4 @@
-ghost use Rattle.mux_isolation.specs.Laws.{Isolation, WindowsAreKept, PermissionsAreKept, AskersAreServed, NothingIsLeft, QueuesAreBounded};
+ghost use Rattle.mux_isolation.specs.Laws.{Isolation, WindowsAreKept, PermissionsAreKept, AskersAreServed, MasterSaysLittle, NothingIsLeft, QueuesAreBounded};
 
 /// What an admitted client is told and what is sent for it is what an unshared connection gives from its
 /// own bytes and the server's messages for its channels, up to the numbers that stand for its own.
@@ -19,6 +19,12 @@ pub fn permissions_are_kept()
 /// Each reply that doesn't break the run is a row of the client that asked first.
 pub fn askers_are_served()
     ensures { AskersAreServed }
+{}
+
+/// What the master sends for nobody, and in farewells, is a refused request, a failed open, a close or a
+/// cancel.
+pub fn master_says_little()
+    ensures { MasterSaysLittle }
 {}
 
 /// A client whose matters are closed has no channel, no request without a reply and no forwarding left.
