@@ -18,34 +18,42 @@ pub record Channel : Type 0 where
   pub maximum : ℕ
   pub acts : List (Side × Act)
 
+-- the number is there, and is this one
 abbrev pub is_number : Option ℕ → ℕ → Bool
 is_number None n = false
 is_number (Some m) n = m == n
 
+-- the direction from the client to the server
 abbrev pub is_up : Side → Bool
 is_up Up = true
 is_up Down = false
 
+-- both are the same direction
 abbrev pub same_side : Side → Side → Bool
 same_side Up way = is_up way
 same_side Down way = not (is_up way)
 
+-- a confirmation
 abbrev pub is_confirms : Act → Bool
 is_confirms (Confirms window maximum) = true
 is_confirms _ = false
 
+-- a failed open
 abbrev pub is_fails : Act → Bool
 is_fails Fails = true
 is_fails _ = false
 
+-- a CLOSE
 abbrev pub is_closes : Act → Bool
 is_closes Closes = true
 is_closes _ = false
 
+-- an EOF
 abbrev pub is_ends : Act → Bool
 is_ends Ends = true
 is_ends _ = false
 
+-- some act passes
 abbrev pub any_act : (Act → Bool) → List (Side × Act) → Bool
 any_act test acts = any_of (λ a. test a.1) acts
 
@@ -53,6 +61,7 @@ any_act test acts = any_of (λ a. test a.1) acts
 abbrev pub any_by : Side → (Act → Bool) → List (Side × Act) → Bool
 any_by way test acts = any_of (λ a. same_side a.0 way && test a.1) acts
 
+-- the open was confirmed
 abbrev pub is_confirmed : Channel → Bool
 is_confirmed x = any_act is_confirms x.acts
 
@@ -60,6 +69,7 @@ is_confirmed x = any_act is_confirms x.acts
 abbrev pub is_over : Channel → Bool
 is_over x = any_act is_fails x.acts || (any_by Up is_closes x.acts && any_by Down is_closes x.acts)
 
+-- the channel is not over
 abbrev pub is_held : Channel → Bool
 is_held x = not (is_over x)
 
@@ -89,6 +99,7 @@ with_up own (Within s act) x = elim (is_number x.remote s && is_held x) [
 ]
 with_up own _ x = x
 
+-- payloads in the order in which they go up
 abbrev pub with_ups : Option ℕ → List (List ℕ) → Channel → Channel
 with_ups own [] x = x
 with_ups own (p ∷ ps) x = with_ups own ps (reading p (λ m. with_up own m x) x)
@@ -101,10 +112,12 @@ own_of_saying (Payload p) = reading p sender_of None
 own_of_saying (Body body) = None
 own_of_saying (BadFraming fault) = None
 
+-- the same of an item
 abbrev pub own_of : Item → Option ℕ
 own_of (Says k saying reply) = own_of_saying saying
 own_of _ = None
 
+-- what the server says to a channel
 abbrev pub heard_by : Item → Channel → Channel
 heard_by (Heard p) x = reading p (λ m. with_down m x) x
 heard_by _ x = x
@@ -116,6 +129,7 @@ after_item row x = elim (x.client == row.client) [
   | false ↦ x
 ]
 
+-- what the farewell sends
 abbrev pub after_farewell : Row → Channel → Channel
 after_farewell row x = elim (x.client == row.client) [ true ↦ with_ups None row.farewell x | false ↦ x ]
 
@@ -134,6 +148,7 @@ opened_down k [] (Open what s w m) =
     record { client = k; by = Down; own = None; number = None; remote = Some s; window = w; maximum = m; acts = [] } ∷ []
 opened_down k _ _ = []
 
+-- the channel that an item begins, if it begins one
 abbrev pub begun_by : ℕ → List (List ℕ) → Item → List Channel
 begun_by k up (Says client (Payload p) reply) = reading p (opened_up k up) []
 begun_by k up (Heard p) = elim (k == 0) [ true ↦ [] | false ↦ reading p (opened_down k up) [] ]

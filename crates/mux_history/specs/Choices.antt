@@ -17,6 +17,7 @@ pub data Choices : Type 0 where
 abbrev pub takes_number : Row → Bool
 takes_number row = is_sent row && is_some (own_of row.item)
 
+-- how many numbers the rows took
 abbrev pub numbers_taken : List Row → ℕ
 numbers_taken [] = 0
 numbers_taken (row ∷ before) = elim (takes_number row) [
@@ -24,6 +25,7 @@ numbers_taken (row ∷ before) = elim (takes_number row) [
   | false ↦ numbers_taken before
 ]
 
+-- the number that was said, 0 where there is none
 abbrev pub said_number : Option ℕ → ℕ
 said_number None = 0
 said_number (Some c) = c
@@ -33,10 +35,12 @@ abbrev pub pick_of : Choices → List Row → Item → ℕ
 pick_of (FromLists picks replies) rows item = slice_index picks (numbers_taken rows)
 pick_of TheirOwn rows item = said_number (own_of item)
 
+-- an item that carries a reply of the house
 abbrev pub has_reply : Item → Bool
 has_reply (Says k saying (Some given)) = true
 has_reply _ = false
 
+-- how many replies the rows carry
 abbrev pub replies_given : List Row → ℕ
 replies_given [] = 0
 replies_given (row ∷ before) = elim (has_reply row.item) [
@@ -44,6 +48,7 @@ replies_given (row ∷ before) = elim (has_reply row.item) [
   | false ↦ replies_given before
 ]
 
+-- the reply at a place; past the last one, a refusal
 abbrev pub reply_at : List HouseReply → ℕ → HouseReply
 reply_at replies n = unwrap_or (slice_get replies n) reply.Refused
 

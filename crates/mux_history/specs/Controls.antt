@@ -13,11 +13,13 @@ use Rattle.mux_history.specs.declared.ended.Ended.TheVariants as ended
 use Rattle.mux_history.specs.Rows.{Row, any_of, Item, Says, End}
 use Rattle.mux_history.specs.Said.{Outcome, silent, tells, drops}
 
+-- the answer as a frame
 abbrev pub answers_with : Answer → Outcome
 answers_with answer = tells (frame_answer answer)
 
 -- ---- while the hello is awaited
 
+-- an item of what a client says
 abbrev pub is_says : Item → Bool
 is_says (Says k saying given) = true
 is_says _ = false
@@ -26,6 +28,7 @@ is_says _ = false
 abbrev pub greeted : List Row → Bool
 greeted own = any_of (λ row. is_says row.item) own
 
+-- the type of a control message
 abbrev pub type_of : Control → ℕ
 type_of (Hello version extensions) = number.HELLO
 type_of (NewSession id rest) = number.NEW_SESSION
@@ -37,6 +40,7 @@ type_of (StdioForward id rest) = number.NEW_STDIO_FWD
 type_of (StopListening id) = number.STOP_LISTENING
 type_of (Proxy id) = number.PROXY
 
+-- a first message that reads: HELLO with version 4, and nothing else
 abbrev pub first_control : Control → Outcome
 first_control (Hello version extensions) = elim (version == number.VERSION) [
   | true ↦ silent
@@ -44,10 +48,12 @@ first_control (Hello version extensions) = elim (version == number.VERSION) [
 ]
 first_control c = drops (why.NoHello (type_of c))
 
+-- a first message that does not read: an unknown type is no hello either
 abbrev pub first_unread : BadControl → Outcome
 first_unread (bad.Unknown kind id) = drops (why.NoHello kind)
 first_unread fault = drops (why.BadControl fault)
 
+-- the first message
 abbrev pub said_first : Result Control BadControl → Outcome
 said_first (Ok c) = first_control c
 said_first (Err fault) = first_unread fault
@@ -61,10 +67,12 @@ house_answer true id (reply.Port port) = RemotePort id port
 house_answer false id (reply.Port port) = Failed id no_forwardings
 house_answer opening id reply.Refused = Failed id no_forwardings
 
+-- the answer to an ask, once the house has replied
 abbrev pub answers_ask : Bool → ℕ → Option HouseReply → Outcome
 answers_ask opening id None = silent
 answers_ask opening id (Some given) = answers_with (house_answer opening id given)
 
+-- a message after the hello, by its type
 abbrev pub later_control : ℕ → ℕ → Option HouseReply → Control → Outcome
 later_control pid k given (Hello version extensions) = drops why.SecondHello
 later_control pid k given (NewSession id rest) = answers_with (Failed id no_descriptors)
@@ -77,16 +85,19 @@ later_control pid k given (StdioForward id rest) = answers_with (Failed id no_de
 later_control pid k given (StopListening id) = answers_with (Okay id)
 later_control pid k given (Proxy id) = answers_with (Proxies id)
 
+-- one that does not read: an unknown type is refused by its id
 abbrev pub later_unread : BadControl → Outcome
 later_unread (bad.Unknown kind (Some id)) = answers_with (Failed id unsupported)
 later_unread fault = drops (why.BadControl fault)
 
+-- a message after the hello
 abbrev pub said_later : ℕ → ℕ → Option HouseReply → Result Control BadControl → Outcome
 said_later pid k given (Ok c) = later_control pid k given c
 said_later pid k given (Err fault) = later_unread fault
 
 -- ---- a body
 
+-- a body, before or after the hello
 abbrev pub said_body : ℕ → ℕ → Option HouseReply → Bool → List ℕ → Outcome
 said_body pid k given has_greeted body = elim has_greeted [
   | true ↦ said_later pid k given (read_control body)
@@ -99,12 +110,15 @@ asks_house (OpenForward id what) = true
 asks_house (CloseForward id what) = true
 asks_house _ = false
 
+-- the same of a body
 abbrev pub body_asks : List ℕ → Bool
 body_asks body = elim (read_control body) [ Err fault ↦ false | Ok c ↦ asks_house c ]
 
+-- a STOP_LISTENING
 abbrev pub is_stop : Control → Bool
 is_stop (StopListening id) = true
 is_stop _ = false
 
+-- the same of a body
 abbrev pub body_stops : List ℕ → Bool
 body_stops body = elim (read_control body) [ Err fault ↦ false | Ok c ↦ is_stop c ]

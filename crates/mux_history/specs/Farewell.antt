@@ -12,6 +12,7 @@ use Rattle.mux_history.specs.Forwardings.{Forwarding, bound, forwarded, forwardi
 
 -- ---- at once
 
+-- the payload for a number, where there is one
 abbrev pub to_number : Option ℕ → (ℕ → List ℕ) → List (List ℕ)
 to_number None f = []
 to_number (Some n) f = f n ∷ []
@@ -38,14 +39,17 @@ farewell row own =
 
 -- ---- later
 
+-- after a success: a forwarding that was asked is cancelled
 abbrev pub late_success : List ℕ → Global → List (List ℕ)
 late_success rest (Forward address port) = cancel_forward address (bound port rest) ∷ []
 late_success rest _ = []
 
+-- after a failure: a cancel that was asked is said again, without reply
 abbrev pub late_refusal : Global → List (List ℕ)
 late_refusal (Cancel address port) = cancel_forward address port ∷ []
 late_refusal _ = []
 
+-- what follows for the request that is answered
 abbrev pub with_ask : Option Ask → (Global → List (List ℕ)) → List (List ℕ)
 with_ask None f = []
 with_ask (Some a) f = f a.what

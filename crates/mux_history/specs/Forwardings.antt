@@ -24,6 +24,7 @@ pub record Forwarding : Type 0 where
 abbrev pub bound : ℕ → List ℕ → ℕ
 bound port rest = elim (port == 0) [ true ↦ u32_at 0 rest | false ↦ port ]
 
+-- the forwarding was asked at this place, and has no success yet
 abbrev pub is_request : Forwarding → ℕ → Bool
 is_request f place = (f.request == place) && is_none f.live
 
@@ -66,6 +67,7 @@ requested k place (Requests (Cancel address port) wants) fs =
     change_first (is_free_at k address port) (stopped wants place) fs
 requested k place _ fs = fs
 
+-- a change of one client's forwardings
 abbrev pub of_client : ℕ → (Forwarding → Forwarding) → Forwarding → Forwarding
 of_client k change f = elim (f.client == k) [ true ↦ change f | false ↦ f ]
 

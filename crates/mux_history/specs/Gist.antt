@@ -16,6 +16,7 @@ pub data Act : Type 0 where
   Asks : (wants : Bool) → Act
   Answers : Act
 
+-- what the log looks at of a message
 pub data Gist : Type 0 where
   Transport : (number : ℕ) → Gist
   Requests : (what : Global) (wants : Bool) → Gist
@@ -26,6 +27,7 @@ pub data Gist : Type 0 where
   -- every other message to a channel
   Within : (recipient : ℕ) (act : Act) → Gist
 
+-- of a message to no channel
 abbrev pub gist_of_plain : full.PlainMessage → Gist
 gist_of_plain (full.Transport number rest) = Transport number
 gist_of_plain (full.GlobalRequest name want rest what) = Requests what want
@@ -33,6 +35,7 @@ gist_of_plain (full.RequestSuccess rest) = Succeeds rest
 gist_of_plain full.RequestFailure = Refuses
 gist_of_plain (full.Open kind sender window maximum rest what) = Open what sender window maximum
 
+-- of a message to a channel
 abbrev pub gist_to : ℕ → full.ChannelMessage → Gist
 gist_to recipient (full.Confirmation sender window maximum rest) =
     Confirmation recipient sender window maximum
@@ -46,6 +49,7 @@ gist_to recipient (full.Request kind want rest) = Within recipient (Asks want)
 gist_to recipient full.Success = Within recipient Answers
 gist_to recipient full.Failure = Within recipient Answers
 
+-- of any message
 abbrev pub gist : full.Message → Gist
 gist (full.Plain m) = gist_of_plain m
 gist (full.To recipient m) = gist_to recipient m
@@ -58,6 +62,7 @@ read_gist p = elim (read_message p) [ Ok m ↦ Ok (gist m) | Err e ↦ Err e ]
 abbrev pub reading : {A : Type 0} → List ℕ → (Gist → A) → A → A
 reading p f other = elim (read_gist p) [ Err e ↦ other | Ok m ↦ f m ]
 
+-- the channel that the message is for
 abbrev pub recipient_of : Gist → Option ℕ
 recipient_of (Confirmation recipient sender window maximum) = Some recipient
 recipient_of (Within recipient act) = Some recipient

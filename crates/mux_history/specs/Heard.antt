@@ -21,12 +21,14 @@ use Rattle.mux_history.specs.Said.{Outcome, silent, sends, tells}
 
 -- ---- where a payload goes: this alone looks at all rows
 
+-- the master, a client, the end of the run, or a break
 pub data Dest : Type 0 where
   ToMaster : Dest
   ToClient : (client : ℕ) → Dest
   Disconnects : Dest
   Breaks : (why : Break) → Dest
 
+-- to the client whose request is answered
 abbrev pub dest_asker : Option Ask → (Ask → Dest) → Dest
 dest_asker None f = Breaks broke.NoAsker
 dest_asker (Some a) f = f a
@@ -38,6 +40,7 @@ dest_success rest a = elim a.what [
   | _ ↦ ToClient a.client
 ]
 
+-- a number of the server that is live may not be used again; a forwarded connection goes to the client of the earliest live forwarding
 abbrev pub dest_open : List Row → ℕ → Opens → Dest
 dest_open rows s (Forwarded address port) = elim (live_in rows s) [
   | Some x ↦ Breaks (broke.NumberInUse s)
@@ -49,18 +52,21 @@ dest_open rows s _ = elim (live_in rows s) [ Some x ↦ Breaks (broke.NumberInUs
 abbrev pub is_pending : Channel → Bool
 is_pending x = is_up x.by && not (is_confirmed x)
 
+-- the unanswered open that holds a number
 abbrev pub pending_open : List Row → ℕ → Option Channel
 pending_open rows n = elim (holder rows n) [
   | None ↦ None
   | Some x ↦ elim (is_pending x) [ true ↦ Some x | false ↦ None ]
 ]
 
+-- to the client that opened
 abbrev pub dest_confirmation : List Row → ℕ → ℕ → Dest
 dest_confirmation rows n s = elim (pending_open rows n) [
   | None ↦ Breaks (broke.NotPending n)
   | Some x ↦ elim (live_in rows s) [ Some y ↦ Breaks (broke.NumberInUse s) | None ↦ ToClient x.client ]
 ]
 
+-- a failure to the client that opened; all else to the client whose channel it is, where the account allows it
 abbrev pub dest_within : List Row → ℕ → Act → Dest
 dest_within rows n Fails = elim (pending_open rows n) [
   | None ↦ Breaks (broke.NotPending n)
@@ -71,6 +77,7 @@ dest_within rows n act = elim (holder rows n) [
   | Some x ↦ elim (breach Down act x) [ Some b ↦ Breaks (broke.Channel n b) | None ↦ ToClient x.client ]
 ]
 
+-- where a message goes
 abbrev pub dest_gist : List Row → Gist → Dest
 dest_gist rows (Transport number) = elim (number == DISCONNECT) [ true ↦ Disconnects | false ↦ ToMaster ]
 dest_gist rows (Requests what wants) = ToMaster
@@ -80,6 +87,7 @@ dest_gist rows (Open what s window maximum) = dest_open rows s what
 dest_gist rows (Confirmation n s window maximum) = dest_confirmation rows n s
 dest_gist rows (Within n act) = dest_within rows n act
 
+-- where a payload goes
 abbrev pub dest : List Row → List ℕ → Dest
 dest rows p = elim (read_gist p) [ Err bad ↦ Breaks (broke.Message bad) | Ok m ↦ dest_gist rows m ]
 
@@ -91,6 +99,7 @@ for_master (Requests what true) = sends request_failure
 for_master (Open what s window maximum) = sends (open_failure s ADMINISTRATIVELY_PROHIBITED not_permitted)
 for_master _ = silent
 
+-- the client's own number of a channel
 abbrev pub own_number : Option Channel → ℕ
 own_number None = 0
 own_number (Some x) = elim x.own [ None ↦ 0 | Some c ↦ c ]
@@ -110,23 +119,29 @@ for_client own p (Confirmation n s w m) = tells (frame_payload (renamed own p (S
 for_client own p (Within n act) = tells (frame_payload (renamed own p (Some n)))
 for_client own p _ = silent
 
+-- of a client that is lost
 abbrev pub for_lost : List Row → Gist → Outcome
 for_lost own m = record { sent = late m own; told = []; ends = Goes }
 
+-- what a message gives its client
 abbrev pub heard_gist : List Row → List ℕ → Gist → Outcome
 heard_gist own p m = elim (is_lost own) [ true ↦ for_lost own m | false ↦ for_client own p m ]
 
+-- what a payload gives its client
 abbrev pub heard_for : List Row → List ℕ → Outcome
 heard_for own p = elim (read_gist p) [ Err bad ↦ silent | Ok m ↦ heard_gist own p m ]
 
+-- what a payload gives that goes to the master
 abbrev pub heard_master : List ℕ → Outcome
 heard_master p = elim (read_gist p) [ Err bad ↦ silent | Ok m ↦ for_master m ]
 
+-- nothing but the end
 abbrev pub finishes : Ended → Outcome
 finishes cause = record { sent = []; told = []; ends = End cause }
 
 -- ---- breaks
 
+-- a payload of the server
 abbrev pub is_heard : Item → Bool
 is_heard (Heard p) = true
 is_heard _ = false

@@ -10,6 +10,7 @@ use Rattle.mux_history.specs.Log.{Setting, more_all}
 
 -- ---- what streams gave and took
 
+-- the bytes that a stream gave at a mark
 abbrev pub bytes_in : ℕ → Mark → List ℕ
 bytes_in t (Gets stream bytes) = elim (stream == t) [ true ↦ bytes | false ↦ [] ]
 bytes_in t _ = []
@@ -19,6 +20,7 @@ abbrev pub bytes_of : ℕ → List Mark → List ℕ
 bytes_of t [] = []
 bytes_of t (mark ∷ before) = bytes_of t before ++ bytes_in t mark
 
+-- the bytes that a stream took at a mark
 abbrev pub taken_in : ℕ → Mark → List ℕ
 taken_in t (Takes stream bytes) = elim (stream == t) [ true ↦ bytes | false ↦ [] ]
 taken_in t _ = []
@@ -37,6 +39,7 @@ is_blocked t (mark ∷ before) = is_blocked t before
 
 -- ---- items
 
+-- one thing that a client says
 abbrev pub said_item : ℕ → Saying → Item
 said_item k saying = Says k saying None
 
@@ -44,6 +47,7 @@ said_item k saying = Says k saying None
 abbrev pub new_sayings : ℕ → List ℕ → List ℕ → List Item
 new_sayings k before after = map (said_item k) (drop (length (said before)) (said after))
 
+-- one thing that the server says
 abbrev pub heard_item : Saying → Item
 heard_item (Body body) = Heard body
 heard_item (Payload p) = Heard p
@@ -53,6 +57,7 @@ heard_item (BadFraming fault) = BadServer fault
 abbrev pub new_heard : List ℕ → List ℕ → List Item
 new_heard before after = map heard_item (drop (length (parse InProxy before).says) (parse InProxy after).says)
 
+-- the end of the server's stream, after the bytes that are left
 abbrev pub server_end : List ℕ → Item
 server_end [] = ServerEnd
 server_end (b ∷ rest) = ServerCut (length (b ∷ rest))
@@ -81,6 +86,7 @@ abbrev pub items : List Mark → List Item
 items [] = []
 items (mark ∷ before) = reverse (items_in before mark) ++ items before
 
+-- the server gave bytes
 abbrev pub server_gives : Mark → Bool
 server_gives (Gets stream bytes) = stream == 0
 server_gives _ = false
@@ -123,6 +129,7 @@ LawfulMark before (Holds stream) = stream ≤ last_client before
 LawfulMark before (WriteFails stream) = stream ≤ last_client before
 LawfulMark before (Waits waiting want streams listens) = All (λ t. IsTrue (is_blocked t before)) waiting
 
+-- each mark is lawful after those before it
 abbrev pub IsLawful : List Mark → Type 0
 IsLawful [] = Unit {0}
 IsLawful (mark ∷ before) = LawfulMark before mark × IsLawful before

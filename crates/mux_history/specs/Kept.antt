@@ -22,10 +22,12 @@ abbrev pub AtEach : (List Row → Type 0) → List Row → Type 0
 AtEach P [] = P []
 AtEach P (row ∷ before) = P (row ∷ before) × AtEach P before
 
+-- a fact of each row and the rows before it
 abbrev pub ForEach : (List Row → Row → Type 0) → List Row → Type 0
 ForEach P [] = Unit {0}
 ForEach P (row ∷ before) = P before row × ForEach P before
 
+-- a fact of each payload
 abbrev pub Every : (List ℕ → Type 0) → List (List ℕ) → Type 0
 Every P [] = Unit {0}
 Every P (p ∷ ps) = P p × Every P ps
@@ -40,6 +42,7 @@ EachTells P frames = Every (λ frame. (m : Gist) → read_gist (drop 5 frame) �
 
 -- ---- Sent for it: the payloads that were sent for a client, in order
 
+-- what the rows of a client send up
 abbrev pub sent_for : ℕ → List Row → List (List ℕ)
 sent_for k rows = flat_map sent_by (reverse (rows_of k rows))
 
@@ -50,30 +53,36 @@ abbrev pub Fits : Side → ℕ → Option Channel → Type 0
 Fits way size None = ⊥
 Fits way size (Some x) = (size ≤ room way x) × (size ≤ maximum_of way x)
 
+-- of what goes up, from the client's rows before it
 abbrev pub UpFits : List Row → Gist → Type 0
 UpFits own (Within s (Carries size)) = Fits Up size (confirmed_at own s)
 UpFits own m = Unit {0}
 
+-- of what goes down, from the client's rows before it
 abbrev pub DownFits : List Row → Gist → Type 0
 DownFits own (Within c (Carries size)) = Fits Down size (with_own own c)
 DownFits own m = Unit {0}
 
+-- data in a row fits
 pub record Window (before : List Row) (row : Row) : Type 0 where
   pub up : EachSays (UpFits (rows_of row.client before)) (sent_by row)
   pub down : EachTells (DownFits (rows_of row.client before)) row.down
 
 -- ---- Permission: no forwarding passes its permission list, and each forwarded open meets a live forwarding
 
+-- a direct channel and a forwarding that is asked are on their lists
 abbrev pub IsPermitted : Policy → Gist → Type 0
 IsPermitted policy (Open (Direct host port) c window maximum) = permits policy.opens host port ≡ true
 IsPermitted policy (Requests (Forward address port) wants) = permits policy.listens address port ≡ true
 IsPermitted policy m = Unit {0}
 
+-- a forwarded open is for the client of the earliest live forwarding
 abbrev pub MeetsLive : List Row → ℕ → Gist → Type 0
 MeetsLive before k (Open (Forwarded address port) s window maximum) =
     option_map (λ f. f.client) (live_at before address port) ≡ Some k
 MeetsLive before k m = Unit {0}
 
+-- what a row sends and tells is permitted
 pub record Permission (policy : Policy) (before : List Row) (row : Row) : Type 0 where
   pub up : EachSays (IsPermitted policy) (sent_by row)
   pub down : EachTells (MeetsLive before row.client) row.down
@@ -91,6 +100,7 @@ abbrev pub TellsReply : List Row → Row → Type 0
 TellsReply before row =
     (p : List ℕ) → row.item ≡ Heard p → reading p is_reply false ≡ true → row.fate ≡ Goes → is_lost (rows_of row.client before) ≡ false → (n : ℕ) × (row.down ≡ frame_payload p ∷ replicate n (frame_payload request_failure))
 
+-- a reply in a row is its asker's
 pub record Asker (before : List Row) (row : Row) : Type 0 where
   pub reaches : ReachesAsker before row
   pub tells : TellsReply before row
@@ -105,26 +115,31 @@ IsMasters (Requests (Cancel address port) wants) = Unit {0}
 IsMasters Refuses = Unit {0}
 IsMasters m = ⊥
 
+-- the farewell of a row, and what a row of nobody sends
 pub record OwnWords (before : List Row) (row : Row) : Type 0 where
   pub farewell : EachSays IsMasters row.farewell
   pub up : row.client ≡ 0 → EachSays IsMasters row.up
 
 -- ---- Numbers: none is held by two channels, and none of the server's is live in two
 
+-- of one number
 pub record HeldOnce (rows : List Row) (n : ℕ) : Type 0 where
   pub number : length (filter (λ x. is_number x.number n) (held_of rows)) ≤ 1
   pub remote : length (filter (λ x. is_number x.remote n) (held_of rows)) ≤ 1
 
+-- of every number
 abbrev pub NumbersApart : List Row → Type 0
 NumbersApart rows = (n : ℕ) → HeldOnce rows n
 
 -- ---- Unshared connection
 
+-- of every admitted client
 abbrev pub Unshared : Setting → List Row → Type 0
 Unshared setting rows = (k : ℕ) → 0 < k → IsAdmitted k rows → IsUnshared setting k rows
 
 -- ---- all of them
 
+-- what every right log keeps
 pub record Kept (setting : Setting) (rows : List Row) : Type 0 where
   pub window : ForEach Window rows
   pub permission : ForEach (Permission setting.policy) rows

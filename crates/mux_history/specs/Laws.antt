@@ -34,6 +34,7 @@ pub record IsLocal (k : ℕ) (rows : List Row) : Type 0 where
   pub forwardings : forwardings_of (rows_of k rows) ≡ filter (λ f. f.client == k) (forwardings_of rows)
   pub asks : asks (rows_of k rows) ≡ filter (λ a. a.client == k) (asks rows)
 
+-- of every client and every log
 abbrev pub LookUpsAreLocal : Type 0
 LookUpsAreLocal = (k : ℕ) (rows : List Row) → IsLocal k rows
 
@@ -49,6 +50,7 @@ pub record RowsAreLocal (policy : Policy) (pid pick k : ℕ) (rows : List Row) :
   pub own : (item : Item) → IsOf k item → treat policy pid pick rows item ≡ treat policy pid pick (rows_of k rows) item
   pub heard : (p : List ℕ) → dest rows p ≡ ToClient k → treat policy pid pick rows (Heard p) ≡ heard_row (rows_of k rows) p (ToClient k)
 
+-- of every client and every log
 abbrev pub Locality : Type 0
 Locality = (policy : Policy) (pid pick k : ℕ) (rows : List Row) → RowsAreLocal policy pid pick k rows
 
@@ -59,6 +61,7 @@ abbrev pub next_held : Row → List Channel → List Channel
 next_held row held =
     filter is_held (map (after_farewell row) (filter is_held (map (after_item row) held ++ begun_by row.client row.up row.item)))
 
+-- so the channels that are held are known from those before the row
 abbrev pub HeldGoesOn : Type 0
 HeldGoesOn = (row : Row) (before : List Row) → held_of (row ∷ before) ≡ next_held row (held_of before)
 
@@ -69,6 +72,7 @@ AnswersOnlyGrow =
 
 -- ---- one more act in a channel
 
+-- a channel with one more act
 abbrev pub with_act : Side → Act → Channel → Channel
 with_act way act x = record x { acts = (way, act) ∷ x.acts }
 
@@ -88,15 +92,18 @@ pub record RoomsGoOn (way : Side) (n : ℕ) (x : Channel) : Type 0 where
   pub grants : IsWithin (other_side way) x → room (other_side way) (with_act way (Grants n) x) ≡ room (other_side way) x + n
   pub keeps : room way (with_act way (Grants n) x) ≡ room way x
 
+-- of every channel
 abbrev pub AccountsGoOn : Type 0
 AccountsGoOn = (way : Side) (n : ℕ) (x : Channel) → RoomsGoOn way n x
 
 -- ---- what a stream took and what waits for it make up what it is given
 
+-- of every stream
 abbrev pub AddsUp : Setting → List Mark → Type 0
 AddsUp setting marks =
     (t : ℕ) → taken_by t marks ++ pending t (log_of_journal setting marks) ≡ given_to t (log_of_journal setting marks)
 
+-- where each take is the front of what waited
 abbrev pub WrittenAddsUp : Type 0
 WrittenAddsUp =
     (setting : Setting) (marks : List Mark) → Throughout (TakesFront setting) marks → AddsUp setting marks
@@ -113,6 +120,7 @@ pub record LogsAreRight (setting : Setting) (marks : List Mark) : Type 0 where
   pub whole : AreFresh (log_of_journal setting marks) → IsRight setting marks 0 (log_of_journal setting marks)
   pub cut : (rows : List Row) → IsCut setting marks rows → AreFresh rows → (left : ℕ) × IsRight setting marks left rows
 
+-- of every journal, where all forms are built
 abbrev pub JournalsGiveRightLogs : Type 0
 JournalsGiveRightLogs =
     (policy : Policy) (pid : ℕ) (picks : List ℕ) (given : List HouseReply) (marks : List Mark) → LogsAreRight (by_lists policy pid picks given) marks
@@ -125,6 +133,7 @@ NumbersAreApart = OverRight (λ setting rows. AtEach NumbersApart rows)
 abbrev pub RoomsHold : List Row → Type 0
 RoomsHold rows = AllByRecursion (λ x. (way : Side) → IsAccounted way x) (channels_of rows)
 
+-- at every row of every right log
 abbrev pub RoomsNeverFall : Type 0
 RoomsNeverFall = OverRight (λ setting rows. AtEach RoomsHold rows)
 
@@ -138,8 +147,10 @@ pub record LooksUpAt (rows : List Row) (k s : ℕ) : Type 0 where
   pub confirmed : confirmed_at (rows_of k rows) s ≡ kept (λ x. (x.client == k) && is_confirmed x) (live_in rows s)
   pub waiting : waiting_at (rows_of k rows) s ≡ kept (λ x. (x.client == k) && (not (is_up x.by) && not (is_confirmed x))) (live_in rows s)
 
+-- of every client and number
 abbrev pub LooksUp : List Row → Type 0
 LooksUp rows = (k s : ℕ) → LooksUpAt rows k s
 
+-- at every row of every right log
 abbrev pub OneIndexServes : Type 0
 OneIndexServes = OverRight (λ setting rows. AtEach LooksUp rows)

@@ -9,32 +9,39 @@ use Rattle.mux_history.specs.declared.limits.TheConstants.{MAX_CHANNEL_REQUESTS,
 use Rattle.mux_history.specs.Gist.{Act, Confirms, Grants, Carries, Ends, Asks, Answers}
 use Rattle.mux_history.specs.Channels.{Channel, same_side, any_by, is_closes, is_ends, is_confirmed}
 
+-- the direction back
 abbrev pub other_side : Side → Side
 other_side Up = Down
 other_side Down = Up
 
 -- what one act counts
 
+-- what an adjustment grants
 abbrev pub granted : Act → ℕ
 granted (Grants n) = n
 granted _ = 0
 
+-- the length of data
 abbrev pub carried : Act → ℕ
 carried (Carries n) = n
 carried _ = 0
 
+-- one for a wanted request
 abbrev pub asked : Act → ℕ
 asked (Asks true) = 1
 asked _ = 0
 
+-- one for a reply
 abbrev pub answered : Act → ℕ
 answered Answers = 1
 answered _ = 0
 
+-- the window that a confirmation gives
 abbrev pub first_window : Act → ℕ
 first_window (Confirms window maximum) = window
 first_window _ = 0
 
+-- the maximum that a confirmation gives
 abbrev pub packet : Act → ℕ
 packet (Confirms window maximum) = maximum
 packet _ = 0
@@ -71,12 +78,14 @@ unanswered way x = sum_of asked way x.acts - sum_of answered (other_side way) x.
 
 -- ---- breaches, the first that fits
 
+-- data is longer than a packet may be, or than there is room
 abbrev pub packet_breach : ℕ → ℕ → ℕ → Option Breach
 packet_breach maximum have n = elim (nat_lt maximum n) [
   | true ↦ Some (PastPacket maximum n)
   | false ↦ elim (nat_lt have n) [ true ↦ Some (PastWindow have n) | false ↦ None ]
 ]
 
+-- the breach in a channel that is confirmed and not closed by this side
 abbrev pub act_breach : Side → Act → Channel → Option Breach
 act_breach way (Carries n) x = elim (any_by way is_ends x.acts) [
   | true ↦ Some AfterEof

@@ -23,6 +23,7 @@ use Rattle.mux_history.specs.Choices.{Choices, pick_of, with_reply}
 
 -- ---- a client's row: the answers that its requests and replies complete, the queue's bound, the farewell
 
+-- a row of what an item does, and nothing else
 abbrev pub bare : Item → ℕ → Outcome → Row
 bare item k o = record { item = item; client = k; up = o.sent; farewell = []; down = o.told; fate = o.ends }
 
@@ -30,6 +31,7 @@ bare item k o = record { item = item; client = k; up = o.sent; farewell = []; do
 abbrev pub new_answers : Row → List Row → List (List ℕ)
 new_answers row own = map frame_payload (drop (length (answers own)) (answers (row ∷ own)))
 
+-- the run and the client go on
 abbrev pub goes : Fate → Bool
 goes Goes = true
 goes _ = false
@@ -64,10 +66,12 @@ fate_with (Drop cause) full = Drop cause
 fate_with ends None = ends
 fate_with ends (Some cause) = Drop cause
 
+-- a row with the frames that fit
 abbrev pub queued : List (List ℕ) → Row → List Row → Row
 queued frames row own =
     record row { down = fitting (waiting_down own) frames; fate = fate_with row.fate (overflow (waiting_down own) frames) }
 
+-- a row that loses its client says farewell
 abbrev pub with_farewell : Row → List Row → Row
 with_farewell row own = elim (loses row) [ true ↦ record row { farewell = farewell row own } | false ↦ row ]
 
@@ -77,6 +81,7 @@ row_of item k o own = let row = bare item k o in with_farewell (queued (all_told
 
 -- ---- what each item does
 
+-- what a client says
 abbrev pub said_by_client : Policy → ℕ → ℕ → List Row → ℕ → Saying → Option HouseReply → Outcome
 said_by_client policy pid k own pick (Body body) given = said_body pid k given (greeted own) body
 said_by_client policy pid k own pick (Payload p) given = said_payload policy k own pick p
@@ -95,6 +100,7 @@ matters_of rows (k ∷ ks) = elim (has_open_matters (rows_of k rows)) [
   | false ↦ matters_of rows ks
 ]
 
+-- how many clients have open matters
 abbrev pub open_matters : List Row → ℕ
 open_matters rows = matters_of rows (entered rows)
 
@@ -109,6 +115,7 @@ admits rows = elim (nat_lt (open_matters rows) MAX_CLIENTS) [
   | false ↦ record { sent = []; told = []; ends = Refused }
 ]
 
+-- the row of a payload of the server
 abbrev pub heard_row : List Row → List ℕ → Dest → Row
 heard_row rows p ToMaster = bare (Heard p) 0 (heard_master p)
 heard_row rows p (ToClient k) = row_of (Heard p) k (heard_for (rows_of k rows) p) (rows_of k rows)
@@ -139,6 +146,7 @@ makes_row rows (Gone k) = not (is_out (rows_of k rows))
 makes_row rows (RunEnd cause) = false
 makes_row rows _ = true
 
+-- what is taken
 abbrev pub is_took : Item → Bool
 is_took (Took stream size) = true
 is_took _ = false
@@ -163,6 +171,7 @@ next_row setting rows item =
     treat setting.policy setting.pid (pick_of setting.choices rows item) rows (with_reply setting.choices rows item) in
     built setting.missing row (rows_of row.client rows)
 
+-- the rows after one more item
 abbrev pub more_of : Setting → List Row → Item → List Row
 more_of setting rows item = elim (makes_next rows item) [
   | false ↦ rows

@@ -17,6 +17,7 @@ use Rattle.mux_history.specs.Requests.{asks, replies}
 use Rattle.mux_history.specs.Forwardings.{current}
 use Rattle.mux_history.specs.Controls.{greeted}
 
+-- the forms, as far as they are not built
 pub data Form : Type 0 where
   -- of a client in the control phase: a frame that is none, a hello or an alive check that does not read, and after the
   -- hello all but the alive check; other types are not read
@@ -30,6 +31,7 @@ pub data Form : Type 0 where
 
 -- ---- the control phase
 
+-- after the hello
 abbrev pub later_fate : Control → Option Fate
 later_fate (AliveCheck id) = None
 later_fate _ = Some (Drop why.NotBuilt)
@@ -42,12 +44,14 @@ first_fate kind _ = elim ((kind == HELLO) || (kind == ALIVE_CHECK)) [
   | false ↦ Some (Drop (why.NoHello kind))
 ]
 
+-- a body, by whether its client has greeted
 abbrev pub body_fate : Bool → ℕ → Result Control BadControl → Option Fate
 body_fate true kind (Ok c) = later_fate c
 body_fate true kind (Err fault) = Some (Drop why.NotBuilt)
 body_fate false kind (Ok c) = None
 body_fate false kind (Err fault) = first_fate kind fault
 
+-- what a client says in the control phase
 abbrev pub control_fate : Item → List Row → Option Fate
 control_fate (Says k (Body body) given) own = body_fate (greeted own) (u32_at 0 body) (read_control body)
 control_fate (Says k (BadFraming fault) given) own = Some (Drop why.NotBuilt)
@@ -55,18 +59,22 @@ control_fate _ own = None
 
 -- ---- the other forms
 
+-- bytes of the server
 abbrev pub server_fate : Item → Option Fate
 server_fate Unserved = Some (End ended.NotBuilt)
 server_fate _ = None
 
+-- a global request
 abbrev pub is_global : Gist → Bool
 is_global (Requests what wants) = true
 is_global _ = false
 
+-- a client's global request
 abbrev pub in_global : Item → Bool
 in_global (Says k (Payload p) given) = reading p is_global false
 in_global _ = false
 
+-- the fate where the form is met
 abbrev pub fate_if : Bool → Fate → Option Fate
 fate_if true fate = Some fate
 fate_if false fate = None
@@ -85,14 +93,17 @@ form_fate ServerSays row own = server_fate row.item
 form_fate GlobalRequest row own = fate_if (in_global row.item) (Drop why.NotBuilt)
 form_fate LossOfMatters row own = fate_if (loses row && leaves own) (End ended.NotBuilt)
 
+-- a row of a form that is not built has its item and a fate alone
 abbrev pub unbuilt : Option Fate → Row → Row
 unbuilt None row = row
 unbuilt (Some fate) row = record row { up = []; farewell = []; down = []; fate = fate }
 
+-- the forms are looked at one after another
 abbrev pub built : List Form → Row → List Row → Row
 built [] row own = row
 built (form ∷ forms) row own = built forms (unbuilt (form_fate form row own) row) own
 
+-- the form of the server's bytes
 abbrev pub is_server_form : Form → Bool
 is_server_form ServerSays = true
 is_server_form _ = false

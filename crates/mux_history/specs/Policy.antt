@@ -7,24 +7,29 @@ pub record Entry : Type 0 where
   pub host : Option (List ℕ)
   pub port : Option ℕ
 
+-- all, or what some entry permits
 pub data Allow : Type 0 where
   Anything : Allow
   Entries : (entries : List Entry) → Allow
 
+-- the list for opens and the list for forwardings
 pub record Policy : Type 0 where
   pub opens : Allow
   pub listens : Allow
 
 -- ---- what is permitted
 
+-- the entry is for this host
 abbrev pub has_host : Option (List ℕ) → List ℕ → Bool
 has_host None host = true
 has_host (Some h) host = bytes_eq h host
 
+-- the entry is for this port
 abbrev pub has_port : Option ℕ → ℕ → Bool
 has_port None port = true
 has_port (Some p) port = p == port
 
+-- some entry permits it
 abbrev pub permits_any : List Entry → List ℕ → ℕ → Bool
 permits_any [] host port = false
 permits_any (e ∷ entries) host port =
@@ -35,6 +40,7 @@ abbrev pub permits : Allow → List ℕ → ℕ → Bool
 permits Anything host port = true
 permits (Entries entries) host port = permits_any entries host port
 
+-- all is permitted
 abbrev pub any_policy : Policy
 any_policy = record { opens = Anything; listens = Anything }
 
@@ -48,6 +54,7 @@ digits n (b ∷ bytes) = elim (nat_le 48 b && nat_le b 57) [
   | false ↦ None
 ]
 
+-- at least one digit
 abbrev pub read_number : List ℕ → Option ℕ
 read_number [] = None
 read_number (b ∷ bytes) = digits 0 (b ∷ bytes)
@@ -67,6 +74,7 @@ read_host (b ∷ text) = elim (bytes_eq (b ∷ text) (codes "*")) [
   | false ↦ Some (Some (b ∷ text))
 ]
 
+-- both parts of an entry
 abbrev pub entry_of : Option (Option (List ℕ)) → Option (Option ℕ) → Option Entry
 entry_of (Some host) (Some port) = Some (record { host = host; port = port })
 entry_of _ _ = None
@@ -88,6 +96,7 @@ abbrev pub read_colon_port : List ℕ → Option (Option ℕ)
 read_colon_port [] = None
 read_colon_port (b ∷ text) = elim (b == 58) [ true ↦ read_port text | false ↦ None ]
 
+-- an address in brackets, up to the last closing bracket
 abbrev pub read_bracketed : List ℕ → Option Entry
 read_bracketed text = elim (before_last 93 text) [
   | None ↦ None
@@ -101,6 +110,7 @@ read_bare text = elim (before_last 58 text) [
   | Some parts ↦ elim (any_of is_mark parts.0) [ true ↦ None | false ↦ entry_of (read_host parts.0) (read_port parts.1) ]
 ]
 
+-- an entry, by its first byte
 abbrev pub read_entry : List ℕ → Option Entry
 read_entry [] = None
 read_entry (b ∷ text) = elim (b == 91) [ true ↦ read_bracketed text | false ↦ read_bare (b ∷ text) ]
@@ -120,6 +130,7 @@ read_word text = elim (bytes_eq text (codes "any")) [
   | false ↦ elim (bytes_eq text (codes "none")) [ true ↦ Some (Entries []) | false ↦ None ]
 ]
 
+-- a word that stands alone; the text after it is bad
 abbrev pub alone_or_bad : Allow → List (List ℕ) → Result Allow ℕ
 alone_or_bad allow [] = Ok allow
 alone_or_bad allow (text ∷ texts) = Err 1

@@ -23,13 +23,16 @@ Throughout P (mark ∷ before) = P before mark × Throughout P before
 
 -- ---- Written: what a stream takes is the front of what waits for it
 
+-- no byte
 abbrev pub is_empty : List ℕ → Bool
 is_empty [] = true
 is_empty (b ∷ bytes) = false
 
+-- the bytes begin with these
 abbrev pub IsFront : List ℕ → List ℕ → Type 0
 IsFront front bytes = (rest : List ℕ) × (bytes ≡ front ++ rest)
 
+-- of a take
 abbrev pub TakesFront : Setting → List Mark → Mark → Type 0
 TakesFront setting before (Takes stream bytes) =
     IsFront bytes (pending stream (log_of_journal setting before))
@@ -54,6 +57,7 @@ abbrev pub IsSettled : Setting → List Mark → ℕ → Type 0
 IsSettled setting marks t =
     (pending t (log_of_journal setting marks) ≡ []) ⊎ (IsTrue (is_blocked t marks) ⊎ IsTrue (write_failed t marks))
 
+-- something waits for the stream
 abbrev pub has_output : List Row → ℕ → Bool
 has_output rows t = not (is_empty (pending t rows))
 
@@ -65,10 +69,12 @@ pub record WaitsRight (setting : Setting) (before : List Mark) (waiting : List �
   pub write_only : (want ≡ WriteOnly) ↔ (READING_STOPS_AT ≤ length (pending 0 (log_of_journal setting before)))
   pub settled : (t : ℕ) → IsSettled setting before t
 
+-- of a wait
 abbrev pub WaitsAt : Setting → List Mark → Mark → Type 0
 WaitsAt setting before (Waits waiting want streams listens) = WaitsRight setting before waiting want streams
 WaitsAt setting before _ = Unit {0}
 
+-- takes and waits
 pub record Written (setting : Setting) (marks : List Mark) : Type 0 where
   pub takes : Throughout (TakesFront setting) marks
   pub waits : Throughout (WaitsAt setting) marks
@@ -94,16 +100,19 @@ pub record OpenRight (rows : List Row) (streams : List ℕ) (accepts : Bool) : T
   pub open_streams : streams ≡ 0 ∷ served rows
   pub listening : accepts ≡ listens rows
 
+-- of a wait
 abbrev pub OpenAt : Setting → List Mark → Mark → Type 0
 OpenAt setting before (Waits waiting want streams accepts) =
     OpenRight (log_of_journal setting before) streams accepts
 OpenAt setting before _ = Unit {0}
 
+-- of every wait
 abbrev pub OpenStreams : Setting → List Mark → Type 0
 OpenStreams setting marks = Throughout (OpenAt setting) marks
 
 -- ---- Connection's end
 
+-- how often the wire waited
 abbrev pub waits_in : List Mark → ℕ
 waits_in [] = 0
 waits_in (Waits waiting want streams accepts ∷ before) = waits_in before + 1
@@ -114,6 +123,7 @@ abbrev pub EndsAs : ℕ → List Mark → Option Ended → Ended → Type 0
 EndsAs turns marks (Some cause) answer = answer ≡ cause
 EndsAs turns marks None answer = (answer ≡ Spent) × (waits_in marks ≡ turns)
 
+-- of a run of at most so many turns
 abbrev pub ConnectionEnds : Setting → ℕ → List Mark → Ended → Type 0
 ConnectionEnds setting turns marks answer = EndsAs turns marks (end_of (log_of_journal setting marks)) answer
 

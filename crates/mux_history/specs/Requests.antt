@@ -11,6 +11,7 @@ pub record Ask : Type 0 where
   pub client : ℕ
   pub what : Global
 
+-- a request that wants a reply
 abbrev pub wanted_in : Gist → Option Global
 wanted_in (Requests what true) = Some what
 wanted_in _ = None
@@ -22,9 +23,11 @@ wanted_by row = elim row.item [
   | _ ↦ None
 ]
 
+-- something was sent
 abbrev pub is_sent : Row → Bool
 is_sent row = elim row.up [ [] ↦ false | p ∷ ps ↦ true ]
 
+-- the ask of a row
 abbrev pub asks_of : ℕ → Bool → Option Global → List Ask
 asks_of k true (Some what) = record { client = k; what = what } ∷ []
 asks_of k _ _ = []
@@ -34,6 +37,7 @@ abbrev pub asks : List Row → List Ask
 asks [] = []
 asks (row ∷ before) = asks before ++ asks_of row.client (is_sent row) (wanted_by row)
 
+-- whether a wanted request was sent
 abbrev pub sent_flags : Bool → Option Global → List Bool
 sent_flags sent None = []
 sent_flags sent (Some what) = sent ∷ []
@@ -43,11 +47,13 @@ abbrev pub wanted : List Row → List Bool
 wanted [] = []
 wanted (row ∷ before) = wanted before ++ sent_flags (is_sent row) (wanted_by row)
 
+-- a success or a failure
 abbrev pub is_reply : Gist → Bool
 is_reply (Succeeds rest) = true
 is_reply Refuses = true
 is_reply _ = false
 
+-- the reply of a row, as it came
 abbrev pub reply_in : Item → List (List ℕ)
 reply_in (Heard p) = elim (reading p is_reply false) [ true ↦ p ∷ [] | false ↦ [] ]
 reply_in _ = []
@@ -70,8 +76,10 @@ answers_to (false ∷ flags) heard = request_failure ∷ answers_to flags heard
 answers_to (true ∷ flags) [] = []
 answers_to (true ∷ flags) (p ∷ heard) = p ∷ answers_to flags heard
 
+-- what the client was answered so far
 abbrev pub answers : List Row → List (List ℕ)
 answers own = answers_to (wanted own) (replies own)
 
+-- how many wanted requests have no answer
 abbrev pub unanswered_asks : List Row → ℕ
 unanswered_asks own = length (wanted own) - length (answers own)

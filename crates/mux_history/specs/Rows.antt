@@ -40,6 +40,7 @@ pub record Row : Type 0 where
   pub down : List (List ℕ)
   pub fate : Fate
 
+-- some element passes
 abbrev pub any_of : {X : Type 0} → (X → Bool) → List X → Bool
 any_of test [] = false
 any_of test (x ∷ xs) = test x || any_of test xs
@@ -56,6 +57,7 @@ sent_by row = row.up ++ row.farewell
 abbrev pub loses : Row → Bool
 loses row = elim row.fate [ Drop why ↦ true | Goes ↦ elim row.item [ Gone k ↦ true | _ ↦ false ] | _ ↦ false ]
 
+-- some row lost the client
 abbrev pub is_lost : List Row → Bool
 is_lost own = any_of loses own
 
@@ -63,6 +65,7 @@ is_lost own = any_of loses own
 abbrev pub is_admit : Row → Bool
 is_admit row = elim row.fate [ Refused ↦ false | _ ↦ elim row.item [ Admit k ↦ true | _ ↦ false ] ]
 
+-- the client was not let in
 abbrev pub is_refusal : Fate → Bool
 is_refusal Refused = true
 is_refusal _ = false
@@ -71,6 +74,7 @@ is_refusal _ = false
 abbrev pub is_out : List Row → Bool
 is_out own = any_of (λ row. loses row || is_refusal row.fate) own
 
+-- the run ends
 abbrev pub is_end : Fate → Bool
 is_end (End cause) = true
 is_end _ = false
@@ -79,6 +83,7 @@ is_end _ = false
 abbrev pub is_ended : List Row → Bool
 is_ended rows = any_of (λ row. is_end row.fate) rows
 
+-- the loss of one row
 abbrev pub loss_by : Row → List (ℕ × Option Why)
 loss_by row = elim row.fate [
   | Drop cause ↦ (row.client, Some cause) ∷ []

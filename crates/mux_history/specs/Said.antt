@@ -23,15 +23,19 @@ pub record Outcome : Type 0 where
   pub told : List (List ℕ)
   pub ends : Fate
 
+-- nothing
 abbrev pub silent : Outcome
 silent = record { sent = []; told = []; ends = Goes }
 
+-- one payload up
 abbrev pub sends : List ℕ → Outcome
 sends p = record { sent = p ∷ []; told = []; ends = Goes }
 
+-- one frame down
 abbrev pub tells : List ℕ → Outcome
 tells frame = record { sent = []; told = frame ∷ []; ends = Goes }
 
+-- the client is dropped
 abbrev pub drops : Why → Outcome
 drops cause = record { sent = []; told = []; ends = Drop cause }
 
@@ -46,6 +50,7 @@ waiting_at own s =
 abbrev pub confirmed_at : List Row → ℕ → Option Channel
 confirmed_at own s = find (λ x. is_number x.remote s && is_confirmed x) (held_of own)
 
+-- the open fails, which the master tells the client
 abbrev pub fails_open : ℕ → ℕ → List ℕ → Outcome
 fails_open sender reason text = tells (frame_payload (open_failure sender reason text))
 
@@ -53,6 +58,7 @@ fails_open sender reason text = tells (frame_payload (open_failure sender reason
 abbrev pub sends_as : ℕ → List ℕ → Outcome
 sends_as pick p = sends (with_sender p pick)
 
+-- a client has at most 256 channels
 abbrev pub sends_open : List Row → ℕ → List ℕ → ℕ → Outcome
 sends_open own pick p sender = elim (nat_lt (length (held_of own)) MAX_CHANNELS) [
   | true ↦ sends_as pick p
@@ -68,18 +74,22 @@ said_open policy own pick p sender (Direct host port) = elim (permits policy.ope
 ]
 said_open policy own pick p sender _ = fails_open sender UNKNOWN_CHANNEL_TYPE unknown_type
 
+-- an open of the server must wait under this number
 abbrev pub on_waiting : ℕ → Outcome → Option Channel → Outcome
 on_waiting s o None = drops (why.NotYours s)
 on_waiting s o (Some x) = o
 
+-- a breach drops the client
 abbrev pub on_breach : List ℕ → ℕ → Option Breach → Outcome
 on_breach p s None = sends p
 on_breach p s (Some b) = drops (why.Channel s b)
 
+-- a confirmed channel must have this number
 abbrev pub on_confirmed : List ℕ → ℕ → Act → Option Channel → Outcome
 on_confirmed p s act None = drops (why.NotYours s)
 on_confirmed p s act (Some x) = on_breach p s (breach Up act x)
 
+-- a failed open
 abbrev pub is_failing : Act → Bool
 is_failing Fails = true
 is_failing _ = false
@@ -103,6 +113,7 @@ abbrev pub sends_if : Bool → List ℕ → Outcome
 sends_if true p = sends p
 sends_if false p = silent
 
+-- a global request, by its name
 abbrev pub said_request : Policy → ℕ → List Row → List ℕ → Global → Bool → Outcome
 said_request policy k own p KeepAlive wants = sends p
 said_request policy k own p OtherName wants = silent
@@ -111,11 +122,13 @@ said_request policy k own p (Forward address port) wants =
 said_request policy k own p (Cancel address port) wants =
     sends_if (any_of (is_free_at k address port) (current own)) p
 
+-- one wanted request too many
 abbrev pub is_full_of_asks : Bool → List Row → Bool
 is_full_of_asks wants own = wants && nat_le MAX_GLOBAL_REQUESTS (unanswered_asks own)
 
 -- ---- all messages
 
+-- a message, by its number
 abbrev pub said_gist : Policy → ℕ → List Row → ℕ → List ℕ → Gist → Outcome
 said_gist policy k own pick p (Transport number) = elim (number == DISCONNECT) [
   | true ↦ drops why.Disconnected
@@ -133,6 +146,7 @@ said_gist policy k own pick p (Confirmation s sender window maximum) =
     on_waiting s (on_unused sender (sends_as pick p) (with_own own sender)) (waiting_at own s)
 said_gist policy k own pick p (Within s act) = said_within own p s act
 
+-- a payload; one that does not read drops the client
 abbrev pub said_payload : Policy → ℕ → List Row → ℕ → List ℕ → Outcome
 said_payload policy k own pick p = elim (read_gist p) [
   | Err bad ↦ drops (why.BadMessage bad)

@@ -14,6 +14,7 @@ abbrev pub item_for : List Row → Item → Item
 item_for own (Heard p) = Heard (reading p (λ m. renamed own p (recipient_of m)) p)
 item_for own item = item
 
+-- the items of a client's rows
 abbrev pub items_for : List Row → List Item
 items_for [] = []
 items_for (row ∷ before) = item_for before row.item ∷ items_for before
@@ -23,6 +24,7 @@ abbrev pub end_of : List Row → Option Ended
 end_of [] = None
 end_of (row ∷ before) = elim row.fate [ End cause ↦ Some cause | _ ↦ end_of before ]
 
+-- the last item, where the run ended
 abbrev pub run_end : List Row → List Item
 run_end rows = elim (end_of rows) [ None ↦ [] | Some cause ↦ RunEnd cause ∷ [] ]
 
@@ -47,10 +49,12 @@ abbrev pub own_ups : Option ℕ → List (List ℕ) → List (List ℕ)
 own_ups None ups = ups
 own_ups (Some c) ups = map (λ p. with_sender p c) ups
 
+-- among others, under its own numbers
 abbrev pub seen : Row → Seen
 seen row =
     record { sent = own_ups (own_of row.item) row.up ++ row.farewell; told = row.down; ends = row.fate }
 
+-- alone
 abbrev pub seen_alone : Row → Seen
 seen_alone row = record { sent = row.up ++ row.farewell; told = row.down; ends = row.fate }
 
@@ -60,12 +64,14 @@ IsUnshared setting k rows = map seen (rows_of k rows) ≡ map seen_alone (solo s
 
 -- the same as a test of what is sent and told
 
+-- two lists of texts are the same
 abbrev pub all_same : List (List ℕ) → List (List ℕ) → Bool
 all_same [] [] = true
 all_same [] (y ∷ ys) = false
 all_same (x ∷ xs) [] = false
 all_same (x ∷ xs) (y ∷ ys) = elim (bytes_eq x y) [ true ↦ all_same xs ys | false ↦ false ]
 
+-- two lists of rows agree
 abbrev pub agree : List Row → List Row → Bool
 agree [] [] = true
 agree [] (s ∷ ss) = false
@@ -75,5 +81,6 @@ agree (r ∷ rs) (s ∷ ss) = elim (all_same (seen r).sent (seen_alone s).sent) 
   | true ↦ elim (all_same r.down s.down) [ true ↦ agree rs ss | false ↦ false ]
 ]
 
+-- a client's rows and its unshared connection do
 abbrev pub looks_unshared : Setting → ℕ → List Row → Bool
 looks_unshared setting k rows = agree (rows_of k rows) (solo setting k rows)

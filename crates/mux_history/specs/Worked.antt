@@ -12,6 +12,7 @@ use Rattle.mux_history.specs.Journal.{log_of_journal}
 
 -- ---- bytes
 
+-- a hexadecimal digit
 abbrev pub digit : ℕ → ℕ
 digit c = elim (nat_lt c 58) [ true ↦ c - 48 | false ↦ c - 87 ]
 
@@ -23,16 +24,20 @@ hex (c ∷ d ∷ text) = elim (c == 32) [ true ↦ hex (d ∷ text) | false ↦ 
 
 -- ---- runs
 
+-- a run under a policy
 abbrev pub under : Policy → ℕ → List HouseReply → Setting
 under policy pid replies =
     record { policy = policy; pid = pid; choices = FromLists (0 ∷ 1 ∷ 2 ∷ 3 ∷ []) replies; missing = [] }
 
+-- a run in which all is permitted
 abbrev pub open_setting : Setting
 open_setting = under any_policy 42 []
 
+-- the log of a journal
 abbrev pub run_of : Setting → List Mark → List Row
 run_of setting marks = log_of_journal setting (reverse marks)
 
+-- the log under that setting
 abbrev pub run : List Mark → List Row
 run marks = run_of open_setting marks
 
@@ -40,17 +45,21 @@ run marks = run_of open_setting marks
 abbrev pub sent : List Row → List ℕ
 sent rows = given_to 0 rows
 
+-- what a client is given
 abbrev pub told : ℕ → List Row → List ℕ
 told k rows = given_to k rows
 
+-- the same after the hello and the answer to PROXY
 abbrev pub told_in_proxy : ℕ → List Row → List ℕ
 told_in_proxy k rows = drop 24 (given_to k rows)
 
 -- ---- what clients begin with
 
+-- a hello of version 4
 abbrev pub hello : List ℕ
 hello = hex (codes "00000008 00000001 00000004")
 
+-- a client that has greeted
 abbrev pub greets : ℕ → List Mark
 greets k = Accepts k ∷ Gets k hello ∷ []
 
@@ -65,27 +74,34 @@ bytewise a b (x ∷ xs) = Gets a (x ∷ []) ∷ Gets b (x ∷ []) ∷ bytewise a
 
 -- ---- the control phase
 
+-- a hello and an alive check
 abbrev pub alive_check : List ℕ
 alive_check = hello ++ hex (codes "00000008 10000004 00000007")
 
+-- two clients ask at once
 abbrev pub two_alive_checks : List Mark
 two_alive_checks = Accepts 1 ∷ Accepts 2 ∷ bytewise 1 2 alive_check ++ Ends 0 ∷ []
 
+-- one client speaks version 3
 abbrev pub another_version : List Mark
 another_version =
     Accepts 1 ∷ Accepts 2 ∷ Gets 1 (hex (codes "00000008 00000001 00000003")) ∷ Gets 2 alive_check ∷ []
 
+-- a session by descriptors, and bytes after it
 abbrev pub session_with_descriptors : List Mark
 session_with_descriptors =
     greets 1 ++ Gets 1 (hex (codes "0000000c 10000002 00000005 00000000")) ∷ Gets 1 (hex (codes "00 00 00")) ∷ []
 
+-- the end is asked for, and more
 abbrev pub terminate : List Mark
 terminate =
     greets 1 ++ Gets 1 (hex (codes "00000008 10000005 00000003")) ∷ Gets 1 (hex (codes "00000008 10000004 00000007")) ∷ []
 
+-- an alive check that is cut short
 abbrev pub alive_without_id : List Mark
 alive_without_id = greets 1 ++ Gets 1 (hex (codes "00000004 10000004")) ∷ []
 
+-- an unknown type with an id, and one without
 abbrev pub unknown_types : List Mark
 unknown_types =
     greets 1 ++ greets 2 ++ Gets 1 (hex (codes "00000008 1000000a 00000009")) ∷ Gets 2 (hex (codes "00000004 1000000a")) ∷ []

@@ -15,9 +15,11 @@ asks_port port =
 abbrev pub bound_to : ℕ → List ℕ
 bound_to port = hex (codes "00000006 00 51") ++ u32 port
 
+-- a success without data
 abbrev pub success : List ℕ
 success = hex (codes "00000002 00 51")
 
+-- a failure
 abbrev pub failure : List ℕ
 failure = hex (codes "00000002 00 52")
 
@@ -26,6 +28,7 @@ abbrev pub cancels : ℕ → List ℕ
 cancels port =
     hex (codes "00000023 00 50 00000014") ++ (codes "cancel-tcpip-forward" ++ (hex (codes "01 00000000") ++ u32 port))
 
+-- a cancel that wants no reply
 abbrev pub cancels_at_once : ℕ → List ℕ
 cancels_at_once port =
     hex (codes "00000023 00 50 00000014") ++ (codes "cancel-tcpip-forward" ++ (hex (codes "00 00000000") ++ u32 port))
@@ -45,16 +48,20 @@ abbrev pub connected : List Mark
 connected =
     two_ports ++ (Gets 0 (connects_to 40002 9) ∷ Gets 2 (hex (codes "00000012 00 5b 00000009 00000003 00200000 00008000")) ∷ [])
 
+-- the server uses its number twice
 abbrev pub connected_twice : List Mark
 connected_twice = connected ++ Gets 0 (connects_to 40002 9) ∷ []
 
+-- one port may be listened on
 abbrev pub port_8080_only : Policy
 port_8080_only =
     record { opens = Anything; listens = Entries (record { host = None; port = Some 8080 } ∷ []) }
 
+-- two ports are asked for
 abbrev pub one_of_two_ports : List Mark
 one_of_two_ports = enters 1 ++ (Gets 1 (asks_port 8080) ∷ Gets 1 (asks_port 9090) ∷ Gets 0 (bound_to 0) ∷ [])
 
+-- a request that is refused
 abbrev pub no_more_sessions : List Mark
 no_more_sessions =
     enters 1 ++ Gets 1 (hex (codes "00000023 00 50 0000001c") ++ (codes "no-more-sessions@openssh.com" ++ hex (codes "01"))) ∷ []
@@ -74,8 +81,10 @@ abbrev pub told_too_late : List Mark
 told_too_late =
     enters 1 ++ (enters 2 ++ (Gets 1 (asks_port 0) ∷ Gets 2 (asks_port 0) ∷ Gets 0 (bound_to 40001) ∷ WriteFails 1 ∷ Gets 0 (bound_to 40002) ∷ []))
 
+-- a reply where nothing was asked
 abbrev pub replies_to_nothing : List Mark
 replies_to_nothing = enters 1 ++ Gets 0 success ∷ []
 
+-- a success without the port
 abbrev pub short_port : List Mark
 short_port = enters 1 ++ (Gets 1 (asks_port 0) ∷ Gets 0 success ∷ [])

@@ -29,6 +29,7 @@ abbrev pub OneMoreAsk : Type 0
 OneMoreAsk =
     (policy : Policy) (k pick : ℕ) (own : List Row) → unanswered_asks own ≡ 1023 → said_payload policy k own pick keepalive ≡ sends keepalive
 
+-- the 1,025th
 abbrev pub OneAskTooMany : Type 0
 OneAskTooMany =
     (policy : Policy) (k pick : ℕ) (own : List Row) → unanswered_asks own ≡ 1024 → said_payload policy k own pick keepalive ≡ drops (TooManyAsks 1024)

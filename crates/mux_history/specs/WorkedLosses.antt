@@ -12,12 +12,15 @@ leaves =
     enters 1 ++ (Gets 1 (session 0) ∷ Gets 0 (hex (codes "00000012 00 5b 00000000 00000007 00000064 00000064"))
     ∷ Gets 1 (session 1) ∷ Gets 1 (asks_port 0) ∷ Ends 1 ∷ [])
 
+-- its open is confirmed afterwards
 abbrev pub late_confirmation : List Mark
 late_confirmation = leaves ++ Gets 0 (hex (codes "00000012 00 5b 00000001 00000008 00000064 00000064")) ∷ []
 
+-- its forwarding succeeds afterwards
 abbrev pub late_success : List Mark
 late_success = late_confirmation ++ Gets 0 (bound_to 40001) ∷ []
 
+-- the server closes both channels
 abbrev pub all_closed : List Mark
 all_closed =
     late_success ++ (Gets 0 (hex (codes "00000006 00 61 00000000")) ∷ Gets 0 (hex (codes "00000006 00 61 00000001")) ∷ [])
@@ -33,6 +36,7 @@ abbrev pub come : ℕ → ℕ → List Mark
 come first zero = []
 come first (suc n) = Accepts first ∷ come (first + 1) n
 
+-- one more than may be served
 abbrev pub sixty_five : List Mark
 sixty_five = come 1 65
 
@@ -45,5 +49,6 @@ abbrev pub held_back : List Mark
 held_back =
     Accepts 1 ∷ Holds 1 ∷ Accepts 2 ∷ Takes 2 hello ∷ Gets 2 (hello ++ hex (codes "00000008 10000004 00000007")) ∷ []
 
+-- the first takes its output
 abbrev pub freed_again : List Mark
 freed_again = held_back ++ (Frees 1 ∷ Takes 1 hello ∷ [])

@@ -2,6 +2,7 @@
 use Rattle.std.specs.Prelude.{ℕ, List, [], ◌∷◌, Option, Some, None, codes}
 use Rattle.mux_history.specs.Policy.{Entry, Allow, Entries}
 
+-- an entry
 abbrev pub entry : Option (List ℕ) → Option ℕ → Entry
 entry host port = record { host = host; port = port }
 
@@ -9,6 +10,7 @@ entry host port = record { host = host; port = port }
 abbrev pub texts : List (List ℕ)
 texts = codes "db:5432" ∷ codes "080" ∷ codes "[fe80::1]:22" ∷ codes "web:*" ∷ codes "*" ∷ []
 
+-- what they say
 abbrev pub entries : Allow
 entries =
     Entries (entry (Some (codes "db")) (Some 5432) ∷ entry None (Some 80) ∷ entry (Some (codes "fe80::1")) (Some 22) ∷ entry (Some (codes "web")) None ∷ entry None None ∷ [])

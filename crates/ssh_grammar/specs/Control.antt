@@ -33,11 +33,14 @@ pub data Answer : Type 0 where
 
 -- the reasons that this master gives for a failure
 
+-- where descriptors are asked for
 abbrev pub no_descriptors : List ℕ
 no_descriptors = codes "descriptors are not supported"
 
+-- where the house refuses
 abbrev pub no_forwardings : List ℕ
 no_forwardings = codes "forwardings are not served"
 
+-- where the type is unknown
 abbrev pub unsupported : List ℕ
 unsupported = codes "unsupported request"

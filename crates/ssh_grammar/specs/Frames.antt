@@ -17,6 +17,7 @@ frame_body body = str body
 abbrev pub frame_payload : List ℕ → List ℕ
 frame_payload payload = u32 (length payload + 1) ++ (0 ∷ payload)
 
+-- either frame
 abbrev pub frame : Framing → List ℕ → List ℕ
 frame Control body = frame_body body
 frame Proxy payload = frame_payload payload
@@ -37,14 +38,17 @@ pub data Front : Type 0 where
 abbrev pub cut_content : ℕ → List ℕ → Front
 cut_content n rest = elim (nat_le n (length rest)) [ true ↦ Frame (take n rest) (drop n rest) | false ↦ More ]
 
+-- the padding length comes first
 abbrev pub cut_padding : ℕ → List ℕ → Front
 cut_padding n [] = More
 cut_padding n (b ∷ rest) = elim (nat_eq b 0) [ true ↦ cut_content (n - 1) rest | false ↦ Faulty (bad.Padding b) ]
 
+-- the least length field
 abbrev pub shortest : Framing → ℕ
 shortest Control = 4
 shortest Proxy = 2
 
+-- what follows the length
 abbrev pub cut_rest : Framing → ℕ → List ℕ → Front
 cut_rest Control n rest = cut_content n rest
 cut_rest Proxy n rest = cut_padding n rest
@@ -57,6 +61,7 @@ cut_length framing n rest =
       | false ↦ elim (nat_lt LONGEST_FRAME n) [ true ↦ Faulty (bad.Long n) | false ↦ cut_rest framing n rest ]
     ]
 
+-- the front, by its length field
 abbrev pub first_frame : Framing → List ℕ → Front
 first_frame framing bytes = elim (take_u32 bytes) [ None ↦ More | Some p ↦ cut_length framing p.0 p.1 ]
 
@@ -66,6 +71,7 @@ pub record Cut : Type 0 where
   pub rest : List ℕ
   pub fault : Option BadFrame
 
+-- one more frame in front
 abbrev pub with_frame : List ℕ → Cut → Cut
 with_frame content c = record { frames = content ∷ c.frames; rest = c.rest; fault = c.fault }
 
@@ -78,5 +84,6 @@ cut_by (suc n) framing bytes = elim (first_frame framing bytes) [
   | Faulty fault ↦ record { frames = []; rest = bytes; fault = Some fault }
 ]
 
+-- all frames of some bytes
 abbrev pub cut : Framing → List ℕ → Cut
 cut framing bytes = cut_by (length bytes) framing bytes

@@ -36,26 +36,33 @@ pub data ChannelMessage : Type 0 where
   Success : ChannelMessage
   Failure : ChannelMessage
 
+-- every message
 pub data Message : Type 0 where
   Plain : (message : PlainMessage) → Message
   To : (recipient : ℕ) (message : ChannelMessage) → Message
 
 -- ---- the names and types that are read further, and those that are known without data
 
+-- asks for a forwarding
 abbrev pub forward_name : List ℕ
 forward_name = codes "tcpip-forward"
 
+-- cancels one
 abbrev pub cancel_name : List ℕ
 cancel_name = codes "cancel-tcpip-forward"
 
+-- asks for a sign of life
 abbrev pub keepalive_name : List ℕ
 keepalive_name = codes "keepalive@openssh.com"
 
+-- a session
 abbrev pub session_type : List ℕ
 session_type = codes "session"
 
+-- a connection that the client makes
 abbrev pub direct_type : List ℕ
 direct_type = codes "direct-tcpip"
 
+-- a connection that came to a forwarding
 abbrev pub forwarded_type : List ℕ
 forwarded_type = codes "forwarded-tcpip"

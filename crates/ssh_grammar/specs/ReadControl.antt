@@ -7,15 +7,19 @@ use Rattle.ssh_grammar.specs.declared.numbers.TheConstants as number
 use Rattle.ssh_grammar.specs.Tables.{by_number}
 use Rattle.ssh_grammar.specs.Control.{ForwardAsk, Control, Hello, NewSession, AliveCheck, Terminate, OpenForward, CloseForward, StdioForward, StopListening, Proxy}
 
+-- a control message, or a fault
 abbrev pub Reading : Type 0
 Reading = Result Control BadControl
 
+-- a number
 abbrev pub on_u32 : List ℕ → ℕ → (ℕ → List ℕ → ℕ → Reading) → Reading
 on_u32 bytes at next = elim (take_u32 bytes) [ None ↦ Err (bad.Short at) | Some p ↦ next p.0 p.1 (at + 4) ]
 
+-- a string
 abbrev pub on_str : List ℕ → ℕ → (List ℕ → List ℕ → ℕ → Reading) → Reading
 on_str bytes at next = elim (take_str bytes) [ None ↦ Err (bad.Short at) | Some p ↦ next p.0 p.1 (at + 4 + length p.0) ]
 
+-- nothing is left over
 abbrev pub on_end : List ℕ → ℕ → Control → Reading
 on_end [] at m = Ok m
 on_end (b ∷ bytes) at m = Err (bad.Extra at)
@@ -34,9 +38,11 @@ on_pairs zero rest at next = on_end rest at (next [])
 on_pairs (suc n) [] at next = Ok (next [])
 on_pairs (suc n) (b ∷ rest) at next = on_str (b ∷ rest) at (λ name rest at. on_str rest at (λ value rest at. on_pairs n rest at (λ pairs. next ((name, value) ∷ pairs))))
 
+-- a version and extensions
 abbrev pub read_hello : List ℕ → Reading
 read_hello rest = on_u32 rest 4 (λ version rest at. on_pairs (length rest) rest at (Hello version))
 
+-- an id, a kind and both ends
 abbrev pub read_forward : (ℕ → ForwardAsk → Control) → List ℕ → Reading
 read_forward message rest =
     on_u32 rest 4 (λ id rest at. on_u32 rest at (λ kind rest at.
@@ -44,6 +50,7 @@ read_forward message rest =
     on_str rest at (λ connect_host rest at. on_u32 rest at (λ connect_port rest at.
     on_end rest at (message id (record { kind = kind; listen_host = listen_host; listen_port = listen_port; connect_host = connect_host; connect_port = connect_port }))))))))
 
+-- how each type is read
 abbrev pub forms : List (ℕ × (List ℕ → Reading))
 forms =
     (number.HELLO, read_hello)

@@ -8,17 +8,21 @@ use Rattle.ssh_grammar.specs.declared.numbers.TheConstants as number
 use Rattle.ssh_grammar.specs.Tables.{by_number, by_name}
 use Rattle.ssh_grammar.specs.Messages.{Global, Forward, Cancel, KeepAlive, OtherName, Opens, Session, Direct, Forwarded, OtherType, PlainMessage, Transport, GlobalRequest, RequestSuccess, RequestFailure, Open, ChannelMessage, Confirmation, OpenFailure, Adjust, Data, Extended, Eof, Close, Request, Success, Failure, Message, Plain, To, forward_name, cancel_name, keepalive_name, session_type, direct_type, forwarded_type}
 
+-- a value, or a fault
 abbrev pub Reading : Type 0 → Type 0
 Reading A = Result A Bad
 
 -- ---- one field
 
+-- a boolean
 abbrev pub on_bool : {A : Type 0} → List ℕ → ℕ → (Bool → List ℕ → ℕ → Reading A) → Reading A
 on_bool bytes at next = elim (take_bool bytes) [ None ↦ Err (bad.Short at) | Some p ↦ next p.0 p.1 (at + 1) ]
 
+-- a number
 abbrev pub on_u32 : {A : Type 0} → List ℕ → ℕ → (ℕ → List ℕ → ℕ → Reading A) → Reading A
 on_u32 bytes at next = elim (take_u32 bytes) [ None ↦ Err (bad.Short at) | Some p ↦ next p.0 p.1 (at + 4) ]
 
+-- a string
 abbrev pub on_str : {A : Type 0} → List ℕ → ℕ → (List ℕ → List ℕ → ℕ → Reading A) → Reading A
 on_str bytes at next = elim (take_str bytes) [
   | None ↦ Err (bad.Short at)
@@ -52,43 +56,53 @@ abbrev pub read_opens : List ℕ → List ℕ → ℕ → Reading Opens
 read_opens kind rest at =
     by_name ((session_type, Ok Session) ∷ (direct_type, read_ends rest at Direct) ∷ (forwarded_type, read_ends rest at Forwarded) ∷ []) kind (Ok OtherType)
 
+-- what was read, changed
 abbrev pub with_reading : {A : Type 0} → {B : Type 0} → Reading A → (A → B) → Reading B
 with_reading (Ok a) f = Ok (f a)
 with_reading (Err e) f = Err e
 
 -- ---- the messages to no channel, from the place 1
 
+-- a transport message is not read further
 abbrev pub read_transport : ℕ → List ℕ → Reading PlainMessage
 read_transport n rest = Ok (Transport n rest)
 
+-- a name, whether a reply is wanted, and data (section 4)
 abbrev pub read_global_request : List ℕ → Reading PlainMessage
 read_global_request rest =
     on_str rest 1 (λ name rest at. on_bool rest at (λ want rest at. with_reading (read_global name rest at) (GlobalRequest name want rest)))
 
+-- a type, the sender, window and maximum, and data (section 5.1)
 abbrev pub read_open : List ℕ → Reading PlainMessage
 read_open rest =
     on_str rest 1 (λ kind rest at. on_u32 rest at (λ sender rest at. on_u32 rest at (λ window rest at. on_u32 rest at (λ maximum rest at. with_reading (read_opens kind rest at) (Open kind sender window maximum rest)))))
 
 -- ---- the messages to a channel, from the place after the recipient
 
+-- the sender, window and maximum, and data (section 5.1)
 abbrev pub read_confirmation : List ℕ → Reading ChannelMessage
 read_confirmation rest =
     on_u32 rest 5 (λ sender rest at. on_u32 rest at (λ window rest at. on_u32 rest at (λ maximum rest at. Ok (Confirmation sender window maximum rest))))
 
+-- a reason, a text and its language (section 5.1)
 abbrev pub read_open_failure : List ℕ → Reading ChannelMessage
 read_open_failure rest =
     on_u32 rest 5 (λ reason rest at. on_str rest at (λ text rest at. on_str rest at (λ language rest at. on_end rest at (OpenFailure reason text language))))
 
+-- the bytes to add (section 5.2)
 abbrev pub read_adjust : List ℕ → Reading ChannelMessage
 read_adjust rest = on_u32 rest 5 (λ add rest at. on_end rest at (Adjust add))
 
+-- data (section 5.2)
 abbrev pub read_data : List ℕ → Reading ChannelMessage
 read_data rest = on_str rest 5 (λ bytes rest at. on_end rest at (Data bytes))
 
+-- data of a kind (section 5.2)
 abbrev pub read_extended : List ℕ → Reading ChannelMessage
 read_extended rest =
     on_u32 rest 5 (λ code rest at. on_str rest at (λ bytes rest at. on_end rest at (Extended code bytes)))
 
+-- a type, whether a reply is wanted, and data (section 5.4)
 abbrev pub read_request : List ℕ → Reading ChannelMessage
 read_request rest =
     on_str rest 5 (λ kind rest at. on_bool rest at (λ want rest at. Ok (Request kind want rest)))
@@ -101,6 +115,7 @@ pub data Form : Type 0 where
   OfChannel : (read : List ℕ → Reading ChannelMessage) → Form
   OfNone : Form
 
+-- the table of messages
 abbrev pub forms : ℕ → List (ℕ × Form)
 forms n =
     (number.DISCONNECT, OfPlain (read_transport n)) ∷ (number.IGNORE, OfPlain (read_transport n))
@@ -121,6 +136,7 @@ forms n =
     ∷ (number.CHANNEL_FAILURE, OfChannel (λ rest. on_end rest 5 Failure))
     ∷ []
 
+-- a message of a form
 abbrev pub read_as : ℕ → Form → List ℕ → Reading Message
 read_as n (OfPlain read) rest = with_reading (read rest) Plain
 read_as n (OfChannel read) rest = on_u32 rest 1 (λ recipient rest at. with_reading (read rest) (To recipient))

@@ -26,19 +26,23 @@ after_control (NewSession id rest) = Stopped
 after_control (StdioForward id rest) = Stopped
 after_control _ = InControl
 
+-- the same of a body; one that does not read changes nothing
 abbrev pub after_body : List ℕ → Mode
 after_body body = elim (read_control body) [ Err e ↦ InControl | Ok c ↦ after_control c ]
 
+-- the front of the next bytes
 abbrev pub first_in : Mode → List ℕ → Front
 first_in InControl bytes = first_frame framing.Control bytes
 first_in InProxy bytes = first_frame framing.Proxy bytes
 first_in Stopped bytes = More
 
+-- what a frame says
 abbrev pub saying_in : Mode → List ℕ → Saying
 saying_in InControl content = Body content
 saying_in InProxy content = Payload content
 saying_in Stopped content = Payload content
 
+-- the mode after a frame
 abbrev pub mode_after : Mode → List ℕ → Mode
 mode_after InControl content = after_body content
 mode_after InProxy content = InProxy
@@ -50,6 +54,7 @@ pub record Parsed : Type 0 where
   pub mode : Mode
   pub rest : List ℕ
 
+-- one more thing in front
 abbrev pub with_saying : Saying → Parsed → Parsed
 with_saying x p = record { says = x ∷ p.says; mode = p.mode; rest = p.rest }
 

@@ -4,10 +4,12 @@ use Rattle.ssh_fields.specs.Fields.{u32, str}
 use Rattle.ssh_grammar.specs.declared.numbers.TheConstants as number
 use Rattle.ssh_grammar.specs.Control.{ForwardAsk, Control, Hello, NewSession, AliveCheck, Terminate, OpenForward, CloseForward, StdioForward, StopListening, Proxy, Answer, Greets, Okay, PermissionDenied, Failed, Alive, RemotePort, Proxies}
 
+-- extensions
 abbrev pub spell_pairs : List (List ℕ × List ℕ) → List ℕ
 spell_pairs [] = []
 spell_pairs (pair ∷ pairs) = str pair.0 ++ (str pair.1 ++ spell_pairs pairs)
 
+-- a forwarding
 abbrev pub spell_ask : ForwardAsk → List ℕ
 spell_ask a = u32 a.kind ++ (str a.listen_host ++ (u32 a.listen_port ++ (str a.connect_host ++ u32 a.connect_port)))
 

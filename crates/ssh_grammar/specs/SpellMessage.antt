@@ -8,6 +8,7 @@ use Rattle.ssh_grammar.specs.ReadMessage.{read_message}
 
 -- ---- the spelling
 
+-- a message to no channel
 abbrev pub spell_plain : ℕ → PlainMessage → List ℕ
 spell_plain flag (Transport n rest) = n ∷ rest
 spell_plain flag (GlobalRequest name want rest what) = number.GLOBAL_REQUEST ∷ (str name ++ (flag ∷ rest))
@@ -15,6 +16,7 @@ spell_plain flag (RequestSuccess rest) = number.REQUEST_SUCCESS ∷ rest
 spell_plain flag RequestFailure = number.REQUEST_FAILURE ∷ []
 spell_plain flag (Open kind sender window maximum rest what) = number.CHANNEL_OPEN ∷ (str kind ++ (u32 sender ++ (u32 window ++ (u32 maximum ++ rest))))
 
+-- the number of a message to a channel
 abbrev pub number_of : ChannelMessage → ℕ
 number_of (Confirmation sender window maximum rest) = number.CHANNEL_OPEN_CONFIRMATION
 number_of (OpenFailure reason text language) = number.CHANNEL_OPEN_FAILURE
@@ -51,6 +53,7 @@ wants (Plain (GlobalRequest name want rest what)) = want
 wants (To recipient (Request kind want rest)) = want
 wants _ = false
 
+-- the byte that a writer gives
 abbrev pub flag_of : Bool → ℕ
 flag_of true = 1
 flag_of false = 0
@@ -61,10 +64,12 @@ spell m = spell_with (flag_of (wants m)) m
 
 -- ---- the channel numbers in a message
 
+-- the channel that the message is for
 abbrev pub recipient_of : Message → Option ℕ
 recipient_of (Plain m) = None
 recipient_of (To recipient m) = Some recipient
 
+-- the channel that it opens or confirms
 abbrev pub sender_of : Message → Option ℕ
 sender_of (Plain (Open kind sender window maximum rest what)) = Some sender
 sender_of (To recipient (Confirmation sender window maximum rest)) = Some sender
@@ -85,9 +90,11 @@ sender_place _ = None
 abbrev pub in_payload : {A : Type 0} → (Message → Option A) → List ℕ → Option A
 in_payload f p = elim (read_message p) [ Err e ↦ None | Ok m ↦ f m ]
 
+-- where the recipient stands in a payload
 abbrev pub recipient_at : List ℕ → Option ℕ
 recipient_at p = in_payload recipient_place p
 
+-- where the sender stands in a payload
 abbrev pub sender_at : List ℕ → Option ℕ
 sender_at p = in_payload sender_place p
 
@@ -96,23 +103,29 @@ abbrev pub with_number : List ℕ → Option ℕ → ℕ → List ℕ
 with_number p None n = p
 with_number p (Some at) n = with_u32 p at n
 
+-- with another recipient
 abbrev pub with_recipient : List ℕ → ℕ → List ℕ
 with_recipient p n = with_number p (recipient_at p) n
 
+-- with another sender
 abbrev pub with_sender : List ℕ → ℕ → List ℕ
 with_sender p n = with_number p (sender_at p) n
 
 -- ---- what the master writes of its own
 
+-- an open fails (section 5.1)
 abbrev pub open_failure : ℕ → ℕ → List ℕ → List ℕ
 open_failure recipient reason text = spell (To recipient (OpenFailure reason text []))
 
+-- a channel is closed (section 5.3)
 abbrev pub close : ℕ → List ℕ
 close recipient = spell (To recipient Close)
 
+-- a global request is refused (section 4)
 abbrev pub request_failure : List ℕ
 request_failure = spell (Plain RequestFailure)
 
+-- a forwarding is cancelled, without reply (section 7.1)
 abbrev pub cancel_forward : List ℕ → ℕ → List ℕ
 cancel_forward address port = spell (Plain (GlobalRequest cancel_name false (str address ++ u32 port) (Cancel address port)))
 
@@ -120,11 +133,14 @@ cancel_forward address port = spell (Plain (GlobalRequest cancel_name false (str
 abbrev pub not_permitted : List ℕ
 not_permitted = codes "not permitted"
 
+-- reason 2
 abbrev pub client_is_gone : List ℕ
 client_is_gone = codes "client is gone"
 
+-- reason 3
 abbrev pub unknown_type : List ℕ
 unknown_type = codes "unknown channel type"
 
+-- reason 4
 abbrev pub too_many_channels : List ℕ
 too_many_channels = codes "too many channels"
