@@ -19,11 +19,11 @@ use Rattle.mux_engine.proofs.Moved.{true_false, lost_is}
 abbrev pub in_losses : ℕ → List (ℕ × Option Why) → Bool
 in_losses k ls = list_any (λ l. l.0 == k) ls
 
-first_in : (k : ℕ) (ls : List (ℕ × Option Why)) → IsFirst k ls → in_losses k ls ≡ true
+pub first_in : (k : ℕ) (ls : List (ℕ × Option Why)) → IsFirst k ls → in_losses k ls ≡ true
 first_in k [] f = absurd f
 first_in k (l ∷ ls) f = ap (λ b. b || in_losses k ls) (eq-eqb l.0 k f)
 
-unfiltered : (k : ℕ) (p : ℕ × Option Why → Bool) (ls : List (ℕ × Option Why)) → in_losses k (filter p ls) ≡ true → in_losses k ls ≡ true
+pub unfiltered : (k : ℕ) (p : ℕ × Option Why → Bool) (ls : List (ℕ × Option Why)) → in_losses k (filter p ls) ≡ true → in_losses k ls ≡ true
 unfiltered k p [] h = h
 unfiltered k p (l ∷ ls) h = by_test (p l) (unfiltered k p ls) h
   where
@@ -35,13 +35,13 @@ unfiltered k p (l ∷ ls) h = by_test (p l) (unfiltered k p ls) h
         by_own false h = ih h
     by_test false ih h = ap (λ b. (l.0 == k) || b) (ih h) ∙ or_true (l.0 == k)
 
-out_more : (k : ℕ) (row : Row) (rows : List Row) → is_out (rows_of k rows) ≡ true → is_out (rows_of k (row ∷ rows)) ≡ true
+pub out_more : (k : ℕ) (row : Row) (rows : List Row) → is_out (rows_of k rows) ≡ true → is_out (rows_of k (row ∷ rows)) ≡ true
 out_more k row rows out = elim (eqb_tells row.client k) [
   | inl q ↦ ap is_out (own_row k row rows q.1) ∙ (out_row row.item row.fate row (rows_of k rows) refl refl ∙ (ap (λ b. puts_out row.fate row.item || b) out ∙ or_true (puts_out row.fate row.item)))
   | inr q ↦ ap is_out (other_row row.client k row rows refl q.1) ∙ out
 ]
 
-own_out : (k : ℕ) (row : Row) (rows : List Row) → row.client ≡ k → puts_out row.fate row.item ≡ true → is_out (rows_of k (row ∷ rows)) ≡ true
+pub own_out : (k : ℕ) (row : Row) (rows : List Row) → row.client ≡ k → puts_out row.fate row.item ≡ true → is_out (rows_of k (row ∷ rows)) ≡ true
 own_out k row rows e p = ap is_out (own_row k row rows e) ∙ (out_row row.item row.fate row (rows_of k rows) refl refl ∙ ap (λ b. b || is_out (rows_of k rows)) p)
 
 or_one : (a : Bool) → (a || false) ≡ true → a ≡ true

@@ -44,7 +44,7 @@ loss_mine closed Greeted Greeted k e = refl
 loss_mine closed Greeted (Lost why) k e = ap (λ b. cond (not b) ((k, why) ∷ []) []) e
 loss_mine closed (Lost why) b k e = refl
 
-open_here : (s : State) (marks : List Mark) (closed : List ℕ) (k : ℕ) → Stands s marks closed → is_present s.clients k ≡ true → among k closed ≡ false
+pub open_here : (s : State) (marks : List Mark) (closed : List ℕ) (k : ℕ) → Stands s marks closed → is_present s.clients k ≡ true → among k closed ≡ false
 open_here s marks closed k st here = by_closed (among k closed) refl
   where
     by_closed : (b : Bool) → among k closed ≡ b → b ≡ false
@@ -97,7 +97,7 @@ goes_got s marks closed k bytes ne st live here =
 abbrev pub gone_row : ℕ → ℕ → List Row → Row
 gone_row pid k rows = next_row (setting pid) rows (Gone k)
 
-gone_is : (pid k : ℕ) (rows : List Row) → ArePlain rows → RowIs (Gone k) k [] Goes (gone_row pid k rows)
+pub gone_is : (pid k : ℕ) (rows : List Row) → ArePlain rows → RowIs (Gone k) k [] Goes (gone_row pid k rows)
 gone_is pid k rows p =
     let row : Row = row_of (Gone k) k silent (rows_of k rows) in
     built_is (Gone k) k [] Goes row (rows_of row.client rows) None (row_is (Gone k) k silent (rows_of k rows) tt refl (plain_of k rows p)) refl refl

@@ -162,7 +162,7 @@ took_end : (rest : List ℕ) → is_took (server_end rest) ≡ false
 took_end [] = refl
 took_end (b ∷ rest) = refl
 
-by_number : (pid : ℕ) (rows : List Row) (k : ℕ) (item : Item) → k ≢ 0 → more_all (setting pid) rows (elim (k == 0) as (λ _. List Item) [ true ↦ item ∷ [] | false ↦ Gone k ∷ [] ]) ≡ more_of (setting pid) rows (Gone k)
+pub by_number : (pid : ℕ) (rows : List Row) (k : ℕ) (item : Item) → k ≢ 0 → more_all (setting pid) rows (elim (k == 0) as (λ _. List Item) [ true ↦ item ∷ [] | false ↦ Gone k ∷ [] ]) ≡ more_of (setting pid) rows (Gone k)
 by_number pid rows k item ne = ap (λ b. more_all (setting pid) rows (elim b as (λ _. List Item) [ true ↦ item ∷ [] | false ↦ Gone k ∷ [] ])) (test_other k 0 ne)
 
 -- ---- any mark

@@ -15,3 +15,9 @@ pub mod GoesOn
 pub mod Closes
 pub mod Bodies
 pub mod Queues
+pub mod Others
+pub mod Serve
+pub mod Offers
+pub mod Arms
+pub mod Loops
+pub mod Turns

@@ -42,7 +42,7 @@ queue_pending s marks closed k st c = elim (eqb_tells k 0) [
       ∙ sym (ap (λ b. elim b as (λ _. List ℕ) [ true ↦ pending_up (log s.pid marks) | false ↦ pending_down (rows_of k (log s.pid marks)) ]) q.0)
 ]
 
-none_waits : (k : ℕ) (cs : List ClientState) → is_present cs k ≡ false → among k (waiting_in cs) ≡ false
+pub none_waits : (k : ℕ) (cs : List ClientState) → is_present cs k ≡ false → among k (waiting_in cs) ≡ false
 none_waits k [] p = refl
 none_waits k (c ∷ cs) p = let q : (c.number ≢ k) × (is_present cs k ≡ false) = not_here k c cs p in by_empty (is_empty c.queue) (test_other c.number k q.0) (none_waits k cs q.1)
   where

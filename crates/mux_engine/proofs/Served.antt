@@ -93,6 +93,12 @@ absent_waiting k (c ∷ cs) p = let q : (c.number ≢ k) × (is_present cs k ≡
     by_empty true e ih = ih
     by_empty false e ih = without_head k c.number (waiting_in cs) false e ∙ ap (λ l. c.number ∷ l) ih
 
+abbrev pub no_bytes : List ℕ
+no_bytes = []
+
+pub drop_none : (n : ℕ) → drop n no_bytes ≡ no_bytes
+drop_none n = grind (arith, common_steps)
+
 drop_empty : (n : ℕ) (q : List ℕ) → is_empty q ≡ true → is_empty (drop n q) ≡ true
 drop_empty n [] e = ap is_empty (drop_nothing n)
   where

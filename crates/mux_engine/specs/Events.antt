@@ -1,8 +1,10 @@
 -- What the events of an engine are in the journal.
-use Rattle.std.specs.Prelude.{◌≡◌, ◌≢◌, ◌⊎◌, ℕ, Option, Some, None}
+use Rattle.mux_outside.specs.declared.turn.Turn.{Turn}
+use Rattle.mux_outside.specs.declared.turn.Turn.TheVariants as turn
+use Rattle.std.specs.Prelude.{◌≡◌, ◌≢◌, ◌⊎◌, ℕ, List, Option, Some, None}
 use Rattle.mux_history.specs.declared.ended.Ended.{Ended}
 use Rattle.mux_outside.specs.declared.mark.Mark.{Mark}
-use Rattle.mux_outside.specs.declared.mark.Mark.TheVariants.{Accepts, Gets, Ends, Fails, WriteFails}
+use Rattle.mux_outside.specs.declared.mark.Mark.TheVariants.{Accepts, Gets, Ends, Frees, Fails, WriteFails}
 use Rattle.mux_engine.specs.declared.engine.Event.{Event}
 use Rattle.mux_engine.specs.declared.engine.Event.TheVariants.{Accepted, FromClient, ClientEnd, ClientFailed, FromServer, ServerEnd, ServerFailed}
 use Rattle.mux_engine.specs.declared.engine.Went.{Went}
@@ -31,3 +33,27 @@ client_of (ClientFailed k) = k
 client_of (FromServer bytes) = 0
 client_of ServerEnd = 0
 client_of ServerFailed = 0
+
+-- the mark of a turn
+abbrev pub turn_mark : Turn → List ℕ → Option Mark
+turn_mark (turn.Accepted k) bytes = Some (Accepts k)
+turn_mark (turn.Got t) bytes = Some (Gets t bytes)
+turn_mark (turn.End t) bytes = Some (Ends t)
+turn_mark (turn.Writable t) bytes = Some (Frees t)
+turn_mark (turn.Failed t) bytes = Some (Fails t)
+turn_mark turn.NoMemory bytes = None
+
+-- the event that a turn tells, if it tells one
+abbrev pub IsNext : Option Event → Turn → List ℕ → Type 0
+IsNext None (turn.Writable t) bytes = Unit {0}
+IsNext None turn.NoMemory bytes = Unit {0}
+IsNext None (turn.Accepted k) bytes = ⊥
+IsNext None (turn.Got t) bytes = ⊥
+IsNext None (turn.End t) bytes = ⊥
+IsNext None (turn.Failed t) bytes = ⊥
+IsNext (Some e) (turn.Accepted k) bytes = Tells e (Accepts k)
+IsNext (Some e) (turn.Got t) bytes = Tells e (Gets t bytes)
+IsNext (Some e) (turn.End t) bytes = Tells e (Ends t)
+IsNext (Some e) (turn.Failed t) bytes = Tells e (Fails t)
+IsNext (Some e) (turn.Writable t) bytes = ⊥
+IsNext (Some e) turn.NoMemory bytes = ⊥

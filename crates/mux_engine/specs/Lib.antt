@@ -4,3 +4,4 @@ pub mod Asks
 pub mod Step
 pub mod Events
 pub mod Stands
+pub mod Serving

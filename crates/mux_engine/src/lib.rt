@@ -5,5 +5,6 @@
 mod asked;
 mod client;
 mod engine;
+mod serving;
 
 pub use engine::{Engine, Event, Went};
