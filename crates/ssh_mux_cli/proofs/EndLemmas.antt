@@ -1,18 +1,17 @@
 -- From what a run came to, and the line that was written of it, to how it ended.
-use Rattle.std.proofs.Common.{◌≡◌, ◌≤◌, ◌⊎◌, inl, inr, ℕ, Bool, true, false, IsTrue, List, Option, Some, None, Ok, Err, refl, sym, ap, subst, arith}
+use Rattle.std.proofs.Common.{◌≡◌, ◌≤◌, ◌⊎◌, inl, inr, ℕ, true, false, List, Option, refl, sym, subst, arith}
 use Rattle.std.specs.Bool.{OnFalse}
 use Rattle.conf_rules.specs.declared.causes.Cause.TheVariants.{ReadFault, RunFault, NotBuilt}
 use Rattle.conf_rules.specs.declared.causes.ListError.TheVariants as list_errors
 use Rattle.conf_rules.specs.declared.causes.ResolveError.TheVariants.{At, OutOfMemory}
 use Rattle.conf_rules.specs.Diagnostics as ends
 use Rattle.conf_rules.specs.Diagnostics.{Ending}
-use Rattle.conf_rules.specs.Outcome.{Outcome, Ends, Writes, Opens, Drills}
-use Rattle.mux_outside.specs.Counts.{Rose}
+use Rattle.conf_rules.specs.Outcome.{Outcome}
 use Rattle.ssh_mux_cli.specs.declared.status.Status.{Status}
 use Rattle.ssh_mux_cli.specs.declared.status.Status.TheVariants as statuses
 use Rattle.ssh_mux_cli.specs.Answers.{IsDue, is_silent, may_write}
 use Rattle.ssh_mux_cli.specs.Causes.{FilesCause, OutCause}
-use Rattle.ssh_mux_cli.specs.Err.{Reports, Ended, EndsBy}
+use Rattle.ssh_mux_cli.specs.Err.{Reports, Ended}
 use Rattle.ssh_mux_cli.specs.Out.{OutTakes}
 use Rattle.ssh_mux_cli.specs.Status.{status_of, refusal_status, listing_status}
 

@@ -1,5 +1,5 @@
 -- The lines of endings, and what was taken of them.
-use Rattle.std.proofs.Common.{◌≡◌, ◌⊎◌, inl, inr, ℕ, List, [], ◌++◌, Option, Some, None, Result, Ok, Err, refl, sym, ap, subst, ◌∙◌, arith, append_assoc}
+use Rattle.std.proofs.Common.{◌≡◌, inl, inr, ℕ, List, [], ◌++◌, Option, Some, None, Result, Ok, Err, refl, sym, ap, subst, ◌∙◌, append_assoc}
 use Rattle.std.proofs.lemmas.List.{append-nil}
 use Rattle.std.specs.Prelude.{OnOk}
 use Rattle.conf_rules.specs.declared.causes.Cause.TheVariants.{ReadFault, RunFault, NotBuilt}
@@ -7,7 +7,6 @@ use Rattle.conf_rules.specs.declared.causes.ListError.TheVariants as list_errors
 use Rattle.conf_rules.specs.declared.causes.ResolveError.TheVariants.{At, OutOfMemory}
 use Rattle.conf_rules.specs.Diagnostics as ends
 use Rattle.conf_rules.specs.Diagnostics.{Ending, line_of, text_of}
-use Rattle.mux_outside.specs.Sink.{TookPrefix}
 use Rattle.ssh_mux_cli.specs.declared.status.Status.{Status}
 use Rattle.ssh_mux_cli.specs.declared.status.Status.TheVariants as statuses
 use Rattle.ssh_mux_cli.specs.Err.{TookLine, TookSome, PutsLine, Reports}

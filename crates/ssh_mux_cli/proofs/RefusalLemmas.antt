@@ -1,12 +1,10 @@
 -- From the answer for a file to what comes of it.
-use Rattle.std.proofs.Common.{◌≡◌, Bool, true, false, List, Option, Some, None, Ok, Err, refl, sym, subst}
-use Rattle.conf_rules.specs.declared.causes.Cause.{Cause}
+use Rattle.std.proofs.Common.{◌≡◌, true, List, Option, Some, None, Ok, Err, refl}
 use Rattle.conf_rules.specs.declared.causes.Cause.TheVariants.{ReadFault, RunFault}
 use Rattle.conf_rules.specs.declared.causes.ResolveError.{ResolveError}
 use Rattle.conf_rules.specs.declared.causes.ResolveError.TheVariants.{At, OutOfMemory}
 use Rattle.conf_rules.specs.Texts.{Bytes}
 use Rattle.conf_rules.specs.Diagnostics.{BadLine}
-use Rattle.conf_rules.specs.Outcome.{Outcome, Ends, Writes}
 use Rattle.conf_listing.specs.Answers.{Lists, file_answer, told_by}
 use Rattle.mux_outside.specs.declared.facts.Facts.{Facts}
 use Rattle.mux_outside.specs.declared.pairs.Pair.{Pair}

@@ -53,7 +53,7 @@ fn conf(alloc: Global, content: &str) -> Result<Pairs, OutOfMemory> {
 }
 
 /// A run over the file `conf`; of the machine and its user nothing is known.
-fn ran(alloc: Global, line: &str, content: &str, fails: Fails) -> Result<Ran, OutOfMemory> {
+fn run_over(alloc: Global, line: &str, content: &str, fails: Fails) -> Result<Ran, OutOfMemory> {
     let facts = Facts {
         home: None,
         local_user: None,
@@ -163,7 +163,7 @@ fn a_listing_is_written_or_its_refusal_is_told_in_one_line(rt: HostRuntime) -> R
             "ssh-mux: not built yet\n",
         ),
     ] {
-        let ran = ran(rt.alloc(), line, content, fails)?;
+        let ran = run_over(rt.alloc(), line, content, fails)?;
         assert!(rt; ran.status == status, "{line} over {content}");
         assert!(rt; ran.out.taken() == out.as_bytes(), "{line} over {content}");
         assert!(rt; ran.err.taken() == err.as_bytes(), "{line} over {content}");

@@ -1,8 +1,4 @@
-use Rattle.std.proofs.Common.{sym}
 use Rattle.ssh_mux_cli.proofs.RefusalLemmas.{refused, reads_one}
-use Rattle.ssh_mux_cli.specs.Answers.{IsDue}
-use Rattle.ssh_mux_cli.specs.Ending.{shown}
-use Rattle.ssh_mux_cli.specs.Outcomes.{file_outcome}
 use Rattle.ssh_mux_cli.proofs.listing.list_one.Goals as goal
 
 pub returns-in-Err-clause-exact : goal.returns-in-Err-clause-exact
