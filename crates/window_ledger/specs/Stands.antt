@@ -1,0 +1,62 @@
+-- A ledger stands for a channel of the history (RFC 4254, section 5).
+use Rattle.std.specs.Prelude.{◌≡◌, ℕ, Bool, true, false, [], Option, Some, None, Result, Ok, Err}
+use Rattle.ssh_grammar.specs.declared.side.Side.{Side}
+use Rattle.ssh_grammar.specs.declared.side.Side.TheVariants.{Up, Down}
+use Rattle.ssh_grammar.specs.declared.fault.Breach.{Breach}
+use Rattle.mux_history.specs.Gist.{Act}
+use Rattle.mux_history.specs.Channels.{Channel, any_by, is_closes, is_confirmed, is_ends}
+use Rattle.mux_history.specs.Ledger.{maximum_of, room, unanswered}
+use Rattle.mux_history.specs.Laws.{IsAccounted, with_act}
+use Rattle.window_ledger.specs.declared.account.Account.{Account}
+use Rattle.window_ledger.specs.declared.account.Speech.{Speech}
+use Rattle.window_ledger.specs.declared.account.Speech.TheVariants.{Speaking, Ended, Closed}
+use Rattle.window_ledger.specs.declared.ledger.Ledger.{Ledger}
+use Rattle.window_ledger.specs.declared.ledger.State.{State}
+use Rattle.window_ledger.specs.declared.ledger.State.TheVariants.{Opened, Confirmed}
+
+-- what the sender of a direction has ended
+abbrev pub speech_of : Side → Channel → Speech
+speech_of way x = elim (any_by way is_closes x.acts) [ true ↦ Closed | false ↦ elim (any_by way is_ends x.acts) [ true ↦ Ended | false ↦ Speaking ] ]
+
+-- the account of a direction: the sums over all that was done in the channel
+abbrev pub account_of : Side → Channel → Account
+account_of way x = record { room = room way x; maximum = maximum_of way x; unanswered = unanswered way x; speech = speech_of way x }
+
+-- a side has opened the channel with this window and this maximum, and nothing was done in it yet
+pub record IsBegun (by : Side) (window maximum : ℕ) (x : Channel) : Type 0 where
+  pub opener : x.by ≡ by
+  pub first : x.window ≡ window
+  pub longest : x.maximum ≡ maximum
+  pub fresh : x.acts ≡ []
+
+-- the channel is confirmed, these are its accounts, and no more was carried than granted, nor answered than asked
+pub record AreAccounts (up down : Account) (x : Channel) : Type 0 where
+  pub answered : is_confirmed x ≡ true
+  pub upward : up ≡ account_of Up x
+  pub downward : down ≡ account_of Down x
+  pub sound : (way : Side) → IsAccounted way x
+
+abbrev pub IsStateOf : State → Channel → Type 0
+IsStateOf (Opened by window maximum) x = IsBegun by window maximum x
+IsStateOf (Confirmed up down) x = AreAccounts up down x
+
+-- a ledger stands for a channel
+abbrev pub Stands : Ledger → Channel → Type 0
+Stands ledger x = IsStateOf ledger.state x
+
+abbrev pub is_answered : State → Bool
+is_answered (Opened by window maximum) = false
+is_answered (Confirmed up down) = true
+
+-- the open of its channel was confirmed
+abbrev pub confirmed : Ledger → Bool
+confirmed ledger = is_answered ledger.state
+
+-- a call answers with the breach, where there is one
+abbrev pub Answers : {A : Type 0} → Result A Breach → Option Breach → Type 0
+Answers (Ok a) broken = broken ≡ None
+Answers (Err breach) broken = broken ≡ Some breach
+
+-- of each channel for which a ledger stood before, it stands afterwards for the channel with one more act
+abbrev pub GoesOn : Ledger → Ledger → Side → Act → Type 0
+GoesOn old new way act = (x : Channel) → Stands old x → Stands new (with_act way act x)

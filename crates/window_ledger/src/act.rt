@@ -1,0 +1,14 @@
+/// What a message does in a confirmed channel.
+#[derive(Clone, Copy)]
+pub enum Act {
+    /// DATA or EXTENDED_DATA of so many bytes.
+    Data(u32),
+    /// WINDOW_ADJUST by so many bytes.
+    Grant(u32),
+    Eof,
+    Close,
+    /// A channel request, and whether it wants a reply.
+    Request(bool),
+    /// SUCCESS or FAILURE.
+    Reply,
+}

@@ -1,0 +1,206 @@
+ghost use Rattle.std.specs.Prelude.{◌≡◌, ◌+◌, ◌&&◌, Bool, true, false, OnOk, OnErr};
+ghost use Rattle.mux_history.specs.Gist.{Confirms, Grants, Carries, Ends, Closes, Asks, Answers};
+ghost use Rattle.mux_history.specs.Channels.{Channel, any_by, is_closes, is_confirmed};
+ghost use Rattle.mux_history.specs.Ledger.{breach, carried, granted, initial, other_side, room, sum_of};
+ghost use Rattle.mux_history.specs.Laws.{with_act};
+ghost use Rattle.window_ledger.specs.Act.{act_of};
+ghost use Rattle.window_ledger.specs.Stands.{Stands, IsBegun, Answers as IsAnswer, GoesOn, confirmed};
+ghost use Rattle.window_ledger.specs.Step.{judged, between, own_after, other_after, breach_in, state_after};
+ghost use Rattle.ssh_grammar.specs.declared.side.Side.TheVariants.{Up, Down};
+
+use crate::account::{Account, Speech};
+use crate::act::Act;
+use ssh_grammar::{Breach, Side};
+
+/// How a channel stands.
+#[derive(Clone, Copy, Debug, PartialEq, Eq)]
+enum State {
+    /// One side has opened it, with its own window and maximum; the other hasn't answered.
+    Opened { by: Side, window: u32, maximum: u32 },
+    /// Both sides may speak.
+    Confirmed { up: Account, down: Account },
+}
+
+/// After an act, the account of its own direction and that of the other.
+fn exchange(own: Account, other: Account, act: Act) -> Result<(Account, Account), Breach>
+    ensures { result ≡ judged (between act own other) (own_after act own, other_after act other) }
+{
+    let own = own.says(act)?;
+    let other = other.hears(act)?;
+    Ok((own, other))
+}
+
+fn after(state: State, way: Side, act: Act) -> Result<State, Breach>
+    ensures { result ≡ judged (breach_in way act state) (state_after way act state) }
+{
+    let State::Confirmed { up, down } = state else {
+        return Err(Breach::NotOpen);
+    };
+    match way {
+        Side::Up => {
+            let (up, down) = exchange(up, down, act)?;
+            Ok(State::Confirmed { up, down })
+        }
+        Side::Down => {
+            let (down, up) = exchange(down, up, act)?;
+            Ok(State::Confirmed { up, down })
+        }
+    }
+}
+
+/// The account of one channel. `way` is the direction of a message.
+#[derive(Clone, Copy, Debug, PartialEq, Eq)]
+pub struct Ledger {
+    state: State,
+}
+
+impl Ledger {
+    /// A channel that a side has opened, with the window and the maximum that its OPEN carries.
+    pub fn opened(by: Side, window: u32, max: u32) -> Ledger
+        ensures stands { (x : Channel) → IsBegun by window max x → Stands result x }
+        ensures confirmed { confirmed result ≡ false }
+    {
+        Ledger {
+            state: State::Opened {
+                by,
+                window,
+                maximum: max,
+            },
+        }
+    }
+
+    /// Whether the open was confirmed.
+    pub fn confirmed(&self) -> bool
+        ensures test { result ≡ confirmed self.now }
+        ensures exact { (x : Channel) → Stands self.now x → result ≡ is_confirmed x }
+    {
+        match self.state {
+            State::Opened { .. } => false,
+            State::Confirmed { .. } => true,
+        }
+    }
+
+    /// The other side's CONFIRMATION, with the window and the maximum that it carries.
+    pub fn confirm(&mut self, window: u32, max: u32)
+        requires { confirmed self.old ≡ false }
+        ensures stands { (x : Channel) → Stands self.old x → Stands self.new (with_act (other_side x.by) (Confirms window max) x) }
+        ensures confirmed { confirmed self.new ≡ true }
+    {
+        let State::Opened {
+            by,
+            window: first,
+            maximum,
+        } = self.state
+        else {
+            unreachable!()
+        };
+        let to_opener = Account::new(first, maximum);
+        let from_opener = Account::new(window, max);
+        self.state = match by {
+            Side::Up => State::Confirmed {
+                up: from_opener,
+                down: to_opener,
+            },
+            Side::Down => State::Confirmed {
+                up: to_opener,
+                down: from_opener,
+            },
+        };
+    }
+
+    fn take(&mut self, way: Side, act: Act) -> Result<(), Breach>
+        ensures exact { (x : Channel) → Stands self.old x → IsAnswer result (breach way (act_of act) x) }
+        ensures ok { OnOk result (GoesOn self.old self.new way (act_of act)) }
+        ensures unchanged { OnErr result (self.new ≡ self.old) }
+        ensures confirmed { confirmed self.new ≡ confirmed self.old }
+    {
+        self.state = after(self.state, way, act)?;
+        Ok(())
+    }
+
+    /// DATA or EXTENDED_DATA of `len` bytes (RFC 4254, section 5.2).
+    pub fn data(&mut self, way: Side, len: u32) -> Result<(), Breach>
+        ensures exact { (x : Channel) → Stands self.old x → IsAnswer result (breach way (Carries len) x) }
+        ensures ok { OnOk result (GoesOn self.old self.new way (Carries len)) }
+        ensures unchanged { OnErr result (self.new ≡ self.old) }
+        ensures confirmed { confirmed self.new ≡ confirmed self.old }
+    {
+        self.take(way, Act::Data(len))
+    }
+
+    /// WINDOW_ADJUST by `n` bytes: room for the other direction (RFC 4254, section 5.2).
+    pub fn grant(&mut self, way: Side, n: u32) -> Result<(), Breach>
+        ensures exact { (x : Channel) → Stands self.old x → IsAnswer result (breach way (Grants n) x) }
+        ensures ok { OnOk result (GoesOn self.old self.new way (Grants n)) }
+        ensures unchanged { OnErr result (self.new ≡ self.old) }
+        ensures confirmed { confirmed self.new ≡ confirmed self.old }
+    {
+        self.take(way, Act::Grant(n))
+    }
+
+    /// EOF (RFC 4254, section 5.3).
+    pub fn eof(&mut self, way: Side) -> Result<(), Breach>
+        ensures exact { (x : Channel) → Stands self.old x → IsAnswer result (breach way Ends x) }
+        ensures ok { OnOk result (GoesOn self.old self.new way Ends) }
+        ensures unchanged { OnErr result (self.new ≡ self.old) }
+        ensures confirmed { confirmed self.new ≡ confirmed self.old }
+    {
+        self.take(way, Act::Eof)
+    }
+
+    /// CLOSE (RFC 4254, section 5.3).
+    pub fn close(&mut self, way: Side) -> Result<(), Breach>
+        ensures exact { (x : Channel) → Stands self.old x → IsAnswer result (breach way Closes x) }
+        ensures ok { OnOk result (GoesOn self.old self.new way Closes) }
+        ensures unchanged { OnErr result (self.new ≡ self.old) }
+        ensures confirmed { confirmed self.new ≡ confirmed self.old }
+    {
+        self.take(way, Act::Close)
+    }
+
+    /// A channel request; `want` says whether it wants a reply (RFC 4254, section 5.4).
+    pub fn request(&mut self, way: Side, want: bool) -> Result<(), Breach>
+        ensures exact { (x : Channel) → Stands self.old x → IsAnswer result (breach way (Asks want) x) }
+        ensures ok { OnOk result (GoesOn self.old self.new way (Asks want)) }
+        ensures unchanged { OnErr result (self.new ≡ self.old) }
+        ensures confirmed { confirmed self.new ≡ confirmed self.old }
+    {
+        self.take(way, Act::Request(want))
+    }
+
+    /// SUCCESS or FAILURE of a channel request of the other direction (RFC 4254, section 5.4).
+    pub fn reply(&mut self, way: Side) -> Result<(), Breach>
+        ensures exact { (x : Channel) → Stands self.old x → IsAnswer result (breach way Answers x) }
+        ensures ok { OnOk result (GoesOn self.old self.new way Answers) }
+        ensures unchanged { OnErr result (self.new ≡ self.old) }
+        ensures confirmed { confirmed self.new ≡ confirmed self.old }
+    {
+        self.take(way, Act::Reply)
+    }
+
+    /// Whether both sides have sent CLOSE.
+    pub fn closed(&self) -> bool
+        ensures exact { (x : Channel) → Stands self.now x → result ≡ (any_by Up is_closes x.acts && any_by Down is_closes x.acts) }
+    {
+        match self.state {
+            State::Opened { .. } => false,
+            State::Confirmed { up, down } => {
+                up.speech == Speech::Closed && down.speech == Speech::Closed
+            }
+        }
+    }
+
+    /// How many bytes of data the receiver of a direction takes for now. Before the CONFIRMATION that is the
+    /// opener's window towards the opener, and nothing the other way.
+    pub fn room(&self, way: Side) -> u32
+        ensures exact { (x : Channel) → Stands self.now x → result ≡ room way x }
+        // No room falls below zero: what is left and what was carried make up all that was granted.
+        ensures sums { (x : Channel) → Stands self.now x → result + sum_of carried way x.acts ≡ initial way x + sum_of granted (other_side way) x.acts }
+    {
+        match (self.state, way) {
+            (State::Confirmed { up, .. }, Side::Up) => up.room,
+            (State::Confirmed { down, .. }, Side::Down) => down.room,
+            (State::Opened { by, window, .. }, _) => { if by == way { 0 } else { window } }
+        }
+    }
+}
