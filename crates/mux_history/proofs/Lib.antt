@@ -18,6 +18,7 @@ pub mod Locality
 pub mod Marks
 pub mod Nexts
 pub mod OwnRows
+pub mod Picks
 pub mod Quiets
 pub mod Readings
 pub mod Renumbered

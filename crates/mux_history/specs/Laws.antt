@@ -17,8 +17,8 @@ use Rattle.mux_history.specs.Said.{confirmed_at, waiting_at}
 use Rattle.mux_history.specs.Log.{Setting, treat, heard_row}
 use Rattle.mux_history.specs.Journal.{taken_by, log_of_journal, IsLawful}
 use Rattle.mux_history.specs.Promises.{Throughout, TakesFront, IsCut}
-use Rattle.mux_history.specs.Right.{AreFresh, IsRight}
-use Rattle.mux_history.specs.Kept.{AtEach, NumbersApart}
+use Rattle.mux_history.specs.Right.{AreFresh, IsRight, TakesPick}
+use Rattle.mux_history.specs.Kept.{AtEach, ForEach, NumbersApart}
 use Rattle.mux_history.specs.Settings.{by_lists}
 
 -- ---- rows of others
@@ -128,6 +128,10 @@ JournalsGiveRightLogs =
 -- no number is held by two channels, nor is one of the server's live in two
 abbrev pub NumbersAreApart : Type 0
 NumbersAreApart = OverRight (λ setting rows. AtEach NumbersApart rows)
+
+-- the numbers that were taken are the picks, in order
+abbrev pub PicksAreTaken : Type 0
+PicksAreTaken = OverRight (λ setting rows. ForEach (TakesPick setting.choices) rows)
 
 -- no room falls below zero, nor does a count of unanswered requests
 abbrev pub RoomsHold : List Row → Type 0

@@ -1,11 +1,12 @@
 -- Right logs.
-use Rattle.std.specs.Prelude.{ℕ, ◌≡◌, ◌<◌, List, [], ◌∷◌, None, IsTrue, MatchBool, drop}
+use Rattle.std.specs.Prelude.{ℕ, ◌≡◌, ◌<◌, List, [], ◌∷◌, true, None, IsTrue, MatchBool, drop}
 use Rattle.mux_outside.specs.declared.mark.Mark.{Mark}
 use Rattle.mux_history.specs.declared.limits.TheConstants.{NUMBERS_END}
+use Rattle.ssh_fields.specs.Fields.{u32, u32_at}
 use Rattle.mux_history.specs.Gist.{reading, sender_of}
 use Rattle.mux_history.specs.Rows.{Row, rows_of, any_of, is_admit}
 use Rattle.mux_history.specs.Channels.{holder}
-use Rattle.mux_history.specs.Choices.{takes_number, said_number}
+use Rattle.mux_history.specs.Choices.{Choices, takes_number, said_number, pick_of}
 use Rattle.mux_history.specs.Journal.{items}
 use Rattle.mux_history.specs.Log.{Setting, log_of}
 
@@ -29,3 +30,7 @@ pub record IsRight (setting : Setting) (marks : List Mark) (left : ℕ) (rows : 
 -- a client is admitted in a log
 abbrev pub IsAdmitted : ℕ → List Row → Type 0
 IsAdmitted k rows = IsTrue (any_of is_admit (rows_of k rows))
+
+-- a row that takes a number carries the next pick up, as four bytes spell it
+abbrev pub TakesPick : Choices → List Row → Row → Type 0
+TakesPick choices before row = takes_number row ≡ true → carried_number row.up ≡ u32_at 0 (u32 (pick_of choices before row.item))

@@ -1,7 +1,7 @@
 //! How look-ups go on by one row, and what holds at every row of a right log: each function's contract is
 //! the law.
 
-ghost use Rattle.mux_history.specs.Laws.{OthersStay, LookUpsAreLocal, Locality, HeldGoesOn, AnswersOnlyGrow, AccountsGoOn, WrittenAddsUp, JournalsGiveRightLogs, NumbersAreApart, RoomsNeverFall, OneIndexServes};
+ghost use Rattle.mux_history.specs.Laws.{OthersStay, LookUpsAreLocal, Locality, HeldGoesOn, AnswersOnlyGrow, AccountsGoOn, WrittenAddsUp, JournalsGiveRightLogs, NumbersAreApart, PicksAreTaken, RoomsNeverFall, OneIndexServes};
 
 /// A row of another client leaves a client's rows as they were.
 pub fn others_stay()
@@ -46,6 +46,11 @@ pub fn journals_give_right_logs()
 /// At no row is a number held by two channels, nor one of the server's live in two.
 pub fn numbers_are_apart()
     ensures { NumbersAreApart }
+{}
+
+/// The numbers that were taken are the picks, in order.
+pub fn picks_are_taken()
+    ensures { PicksAreTaken }
 {}
 
 /// At no row was more carried in a channel than was granted, or more answered than was asked.

@@ -9,7 +9,7 @@ use Rattle.mux_history.specs.Requests.{asks, replies}
 use Rattle.mux_history.specs.Forwardings.{current}
 use Rattle.mux_history.specs.Farewell.{has_open_matters}
 use Rattle.mux_history.specs.Right.{IsAdmitted}
-use Rattle.mux_history.specs.Kept.{AtEach, ForEach, Window, Permission, Asker, OwnWords, Unshared}
+use Rattle.mux_history.specs.Kept.{AtEach, ForEach, Window, Permission, Asker, OwnWords, Unshared, Kept}
 use Rattle.mux_history.specs.Laws.{OverRight}
 
 -- each admitted client sees what it would see alone, up to the numbers that stand for its own
@@ -49,3 +49,7 @@ WaitsBounded rows = (k : ℕ) → waiting_down (rows_of k rows) ≤ MAX_QUEUE
 
 abbrev pub QueuesAreBounded : Type 0
 QueuesAreBounded = OverRight (λ setting rows. AtEach WaitsBounded rows)
+
+-- every right log keeps all that a run promises of its rows
+abbrev pub AllIsKept : Type 0
+AllIsKept = OverRight Kept

@@ -1,4 +1,4 @@
-ghost use Rattle.mux_isolation.specs.Laws.{Isolation, WindowsAreKept, PermissionsAreKept, AskersAreServed, MasterSaysLittle, NothingIsLeft, QueuesAreBounded};
+ghost use Rattle.mux_isolation.specs.Laws.{Isolation, WindowsAreKept, PermissionsAreKept, AskersAreServed, MasterSaysLittle, NothingIsLeft, QueuesAreBounded, AllIsKept};
 
 /// What an admitted client is told and what is sent for it is what an unshared connection gives from its
 /// own bytes and the server's messages for its channels, up to the numbers that stand for its own.
@@ -35,4 +35,10 @@ pub fn nothing_is_left()
 /// At no row do more than 33,554,432 bytes wait for a client.
 pub fn queues_are_bounded()
     ensures { QueuesAreBounded }
+{}
+
+/// Every right log keeps all that a run promises of its rows: windows, permissions, askers, numbers apart,
+/// and the unshared connection of each admitted client.
+pub fn all_is_kept()
+    ensures { AllIsKept }
 {}
