@@ -1,3 +1,4 @@
 pub mod Accounts
 pub mod Breaches
 pub mod Takes
+pub mod Named
