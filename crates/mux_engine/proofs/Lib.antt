@@ -21,3 +21,4 @@ pub mod Offers
 pub mod Arms
 pub mod Loops
 pub mod Turns
+pub mod Marks

@@ -30,7 +30,7 @@ wider pid start told streams blocked held listens last given todo s k v = serve_
     by_test t true a = true_false a
     by_test t false a = a
 
-none_without : (k : ℕ) (todo : List ℕ) → among k (without k todo) ≡ false
+pub none_without : (k : ℕ) (todo : List ℕ) → among k (without k todo) ≡ false
 none_without k [] = refl
 none_without k (j ∷ todo) = elim (eqb_tells j k) [
     inl q ↦ ap (λ b. among k (cond (not b) (j ∷ without k todo) (without k todo))) q.0 ∙ none_without k todo

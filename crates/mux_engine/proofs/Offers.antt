@@ -35,7 +35,7 @@ accepted_here s marks closed k st here = by_accepted (is_accepted k marks) refl
     by_accepted true e = refl
     by_accepted false e = let v : IsStrange s marks closed k = st.strange k e in true_false (sym here ∙ v.not_here)
 
-same_present : (s : State) (mark : Mark) (t : ℕ) → NotArrival mark → is_present (after s mark).clients t ≡ is_present s.clients t
+pub same_present : (s : State) (mark : Mark) (t : ℕ) → NotArrival mark → is_present (after s mark).clients t ≡ is_present s.clients t
 same_present s mark t n = sym (among_numbers t (after s mark).clients) ∙ (ap (among t) (after_numbers s mark n) ∙ among_numbers t s.clients)
 
 accepted_same : (mark : Mark) (journal : List Mark) (k : ℕ) → NotArrival mark → is_accepted k (mark ∷ journal) ≡ is_accepted k journal
@@ -64,7 +64,7 @@ unseen_more s journal closed blocked blocked' last mark st n acc unseen same j l
     by_zero e (inl z) = let zero_is : j ≡ 0 = sym e ∙ z.1 in omega arith
     by_zero e (inr z) = let u : IsUnseen journal blocked j = unseen j lt in true_false (sym (acc z.1) ∙ (ap (λ i. is_accepted i journal) e ∙ u.not_accepted))
 
-plain_at : (pid : ℕ) (s : State) (journal : List Mark) (closed : List ℕ) → s.pid ≡ pid → Stands s journal closed → ArePlain (log pid journal)
+pub plain_at : (pid : ℕ) (s : State) (journal : List Mark) (closed : List ℕ) → s.pid ≡ pid → Stands s journal closed → ArePlain (log pid journal)
 plain_at pid s journal closed e st = subst (λ p. ArePlain (log p journal)) e st.plain
 
 pub without_other : (k t : ℕ) (todo : List ℕ) → k ≢ t → among t (without k todo) ≡ among t todo
