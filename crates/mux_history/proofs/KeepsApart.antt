@@ -78,8 +78,8 @@ good-still row cs parting ids begun good =
     good-parted row parting (map (after_item row) cs ++ begun_by row.client row.up row.item)
     (subst (λ (bs : List Channel). AreApart (map (after_item row) cs ++ bs)) (sym begun) (subst AreApart (sym (append-nil (map (after_item row) cs))) (good-ids (after_item row) ids cs good)))
 
-talked-ids : (row : Row) (x : Channel) → Every Quiet row.up → Ids x (heard_by row.item x) → Ids x (after_item row x)
-talked-ids row x quiet heard = elim (x.client == row.client) as (λ b. Ids x (elim b as (λ _. Channel) [ true ↦ with_ups (own_of row.item) row.up (heard_by row.item x) | false ↦ x ])) [ true ↦ ids-then x (heard_by row.item x) (with_ups (own_of row.item) row.up (heard_by row.item x)) heard (ups-ids (own_of row.item) row.up quiet (heard_by row.item x)) | false ↦ ids-self x ]
+item-ids : (row : Row) (x : Channel) → Every Quiet row.up → Ids x (heard_by row.item x) → Ids x (after_item row x)
+item-ids row x quiet heard = elim (x.client == row.client) as (λ b. Ids x (elim b as (λ _. Channel) [ true ↦ with_ups (own_of row.item) row.up (heard_by row.item x) | false ↦ x ])) [ true ↦ ids-then x (heard_by row.item x) (with_ups (own_of row.item) row.up (heard_by row.item x)) heard (ups-ids (own_of row.item) row.up quiet (heard_by row.item x)) | false ↦ ids-self x ]
 
 unequal : (a b : ℕ) → (a == b) ≡ true → b ≡ 0 → (a ≡ 0 → ⊥) → ⊥
 unequal a b e z real = real (same a b e ∙ z)
@@ -88,8 +88,8 @@ unequal a b e z real = real (same a b e ∙ z)
     same a b e = grind (arith, nat_tests)
 
 -- a row of no client moves no channel
-talked-master : (row : Row) → row.client ≡ 0 → (x : Channel) → Sound x → Ids x (after_item row x)
-talked-master row zero_client x sound = by_case (x.client == row.client) refl
+item-master : (row : Row) → row.client ≡ 0 → (x : Channel) → Sound x → Ids x (after_item row x)
+item-master row zero_client x sound = by_case (x.client == row.client) refl
   where
     by_case : (b : Bool) → (x.client == row.client) ≡ b → Ids x (elim b as (λ _. Channel) [ true ↦ with_ups (own_of row.item) row.up (heard_by row.item x) | false ↦ x ])
     by_case true e = absurd (unequal x.client row.client e zero_client sound.client)
@@ -136,10 +136,10 @@ module _ (before : List Row) (good : AreApart (channels_of before)) (k : ℕ) (r
   the_row up = as_row (Says k (Payload p) reply) k up fw down fate
 
   good-nothing : AreApart (Next (the_row []) (channels_of before))
-  good-nothing = good-still (the_row []) (channels_of before) parting (λ x s. talked-ids (the_row []) x tt (ids-self x)) (begun-none k k p reply) good
+  good-nothing = good-still (the_row []) (channels_of before) parting (λ x s. item-ids (the_row []) x tt (ids-self x)) (begun-none k k p reply) good
 
   good-plain : (m : Gist) → read_gist p ≡ Ok m → sender_of m ≡ None → AreApart (Next (the_row (p ∷ [])) (channels_of before))
-  good-plain m reads unowned = good-still (the_row (p ∷ [])) (channels_of before) parting (λ x s. talked-ids (the_row (p ∷ [])) x (quiet-plain p m reads unowned, tt) (ids-self x)) (reading-ok p m (opened_up k (p ∷ [])) [] reads ∙ opened-plain k (p ∷ []) m unowned) good
+  good-plain m reads unowned = good-still (the_row (p ∷ [])) (channels_of before) parting (λ x s. item-ids (the_row (p ∷ [])) x (quiet-plain p m reads unowned, tt) (ids-self x)) (reading-ok p m (opened_up k (p ∷ [])) [] reads ∙ opened-plain k (p ∷ []) m unowned) good
 
   good-fresh : (pick c : ℕ) (m : Gist) → AreBytes p → read_gist p ≡ Ok m → sender_of m ≡ Some c → with_own (rows_of k before) c ≡ None → IsFresh before (the_row (with_sender p pick ∷ [])) → AreApart (Next (the_row (with_sender p pick ∷ [])) (channels_of before))
   good-fresh pick c m bytes reads owned unused fresh = by_message m reads owned (reads-sent p m sender pick)
@@ -232,7 +232,7 @@ module _ (before : List Row) (good : AreApart (channels_of before)) (k : ℕ) (p
   heard_one = as_row (Heard p) k up fw down fate
 
   heard-still : (m : Gist) → read_gist p ≡ Ok m → IsQuiet m → (x : Channel) → Ids x (after_item heard_one x)
-  heard-still m reads still x = talked-ids heard_one x quiet (subst (Ids x) (sym (reading-ok p m (λ m. with_down m x) x reads)) (down-ids m still x))
+  heard-still m reads still x = item-ids heard_one x quiet (subst (Ids x) (sym (reading-ok p m (λ m. with_down m x) x reads)) (down-ids m still x))
 
   begun-heard : (m : Gist) → read_gist p ≡ Ok m → opened_down k up m ≡ [] → begun_by k up (Heard p) ≡ []
   begun-heard m reads none = by_case (k == 0)
@@ -304,10 +304,10 @@ module _ (before : List Row) (good : AreApart (channels_of before)) (k : ℕ) (p
 -- ---- any row
 
 good-bare : (before : List Row) → AreApart (channels_of before) → (item : Item) (o : Outcome) → Every Quiet o.sent → begun_by 0 o.sent item ≡ [] → AreApart (Next (bare item 0 o) (channels_of before))
-good-bare before good item o quiet none = good-still (bare item 0 o) (channels_of before) tt (talked-master (bare item 0 o) refl) none good
+good-bare before good item o quiet none = good-still (bare item 0 o) (channels_of before) tt (item-master (bare item 0 o) refl) none good
 
 good-mute : (before : List Row) → AreApart (channels_of before) → (row : Row) → Every Quiet row.farewell → row.up ≡ [] → ((x : Channel) → heard_by row.item x ≡ x) → begun_by row.client [] row.item ≡ [] → AreApart (Next row (channels_of before))
-good-mute before good row parting none stays begun = good-still row (channels_of before) parting (λ x s. talked-ids row x (subst (Every Quiet) (sym none) tt) (subst (Ids x) (sym (stays x)) (ids-self x))) (ap (λ u. begun_by row.client u row.item) none ∙ begun) good
+good-mute before good row parting none stays begun = good-still row (channels_of before) parting (λ x s. item-ids row x (subst (Every Quiet) (sym none) tt) (subst (Ids x) (sym (stays x)) (ids-self x))) (ap (λ u. begun_by row.client u row.item) none ∙ begun) good
 
 abbrev GoodNext : List Row → Row → Type 0
 GoodNext before row = IsFresh before row → AreApart (channels_of (row ∷ before))

@@ -72,11 +72,11 @@ filter-other k f keeps stays (x ∷ xs) = choose (filter-other k f keeps stays x
 differ : (a b k : ℕ) → (a == k) ≡ true → (b == k) ≡ false → (a == b) ≡ false
 differ a b k mine other = grind (arith, nat_tests)
 
-talked-other : (k : ℕ) (row : Row) → (row.client == k) ≡ false → (x : Channel) → (x.client == k) ≡ true → after_item row x ≡ x
-talked-other k row other x mine = rw (differ x.client row.client k mine other, after_item) refl
+item-other : (k : ℕ) (row : Row) → (row.client == k) ≡ false → (x : Channel) → (x.client == k) ≡ true → after_item row x ≡ x
+item-other k row other x mine = rw (differ x.client row.client k mine other, after_item) refl
 
-parted-other : (k : ℕ) (row : Row) → (row.client == k) ≡ false → (x : Channel) → (x.client == k) ≡ true → after_farewell row x ≡ x
-parted-other k row other x mine = rw (differ x.client row.client k mine other, after_farewell) refl
+leave-other : (k : ℕ) (row : Row) → (row.client == k) ≡ false → (x : Channel) → (x.client == k) ≡ true → after_farewell row x ≡ x
+leave-other k row other x mine = rw (differ x.client row.client k mine other, after_farewell) refl
 
 -- a row begins channels of its client alone
 abbrev Begun : ℕ → List Channel → Type 0
@@ -116,7 +116,7 @@ channels-local k (row ∷ before) = choose (channels-local k before) (row.client
         ∙ (ap (λ ys. filter (is_of k) (map (after_item row) (channels_of before)) ++ ys) mine
         ∙ ap (λ ys. ys ++ begun_by row.client row.up row.item) (filter-change k (after_item row) (item-client row) (channels_of before) ∙ ap (map (after_item row)) ih)))
     choose ih false e =
-        filter-other k (after_farewell row) (farewell-client row) (parted-other k row e) (map (after_item row) (channels_of before) ++ begun_by row.client row.up row.item)
+        filter-other k (after_farewell row) (farewell-client row) (leave-other k row e) (map (after_item row) (channels_of before) ++ begun_by row.client row.up row.item)
         ∙ (filter-append (is_of k) (map (after_item row) (channels_of before)) (begun_by row.client row.up row.item)
         ∙ (ap (λ ys. filter (is_of k) (map (after_item row) (channels_of before)) ++ ys) ((begun row.client row.up row.item).1 k e)
-        ∙ (append-nil _ ∙ (filter-other k (after_item row) (item-client row) (talked-other k row e) (channels_of before) ∙ ih))))
+        ∙ (append-nil _ ∙ (filter-other k (after_item row) (item-client row) (item-other k row e) (channels_of before) ∙ ih))))

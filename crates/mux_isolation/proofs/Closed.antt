@@ -22,11 +22,11 @@ use Rattle.mux_history.proofs.Nexts.{by-next}
 use Rattle.mux_history.proofs.OwnRows.{same-client}
 use Rattle.mux_history.proofs.RightLogs.{LogKnown, RowKnown}
 
-abbrev EachF : (Forwarding → Bool) → List Forwarding → Type 0
+abbrev pub EachF : (Forwarding → Bool) → List Forwarding → Type 0
 EachF test [] = Unit {0}
 EachF test (f ∷ fs) = (test f ≡ true) × EachF test fs
 
-abbrev is_done : Forwarding → Bool
+abbrev pub is_done : Forwarding → Bool
 is_done f = f.over
 
 passes-filter : (test : Forwarding → Bool) (fs : List Forwarding) → EachF test (filter test fs)
@@ -38,7 +38,7 @@ passes-filter test (f ∷ fs) = by_case (passes-filter test fs) (test f) refl
     by_case ih false e = subst (EachF test) (sym (filter-no test f fs e)) ih
 
 -- where all are over, none is current
-none-current : (fs : List Forwarding) → EachF is_done fs → filter (λ f. not f.over) fs ≡ []
+pub none-current : (fs : List Forwarding) → EachF is_done fs → filter (λ f. not f.over) fs ≡ []
 none-current [] done = refl
 none-current (f ∷ fs) done = filter-no (λ (f : Forwarding). not f.over) f fs (ap not done.0) ∙ none-current fs done.1
 
@@ -93,7 +93,7 @@ forwarded-done policy pid pick before k item row own client is mine makes lost f
     by_item (Heard p) mine makes = by_reading (read_gist p) (λ m. map (of_client row.client (replied (length (replies own)) m)) fs) (λ m. stay-done row.client (length (replies own)) m fs done)
     by_item i mine makes = done
 
-lost-done : (policy : Policy) (pid k : ℕ) (rows : List Row) → ForEach (RowKnown policy pid) rows → is_lost (rows_of k rows) ≡ true → EachF is_done (forwardings_of (rows_of k rows))
+pub lost-done : (policy : Policy) (pid k : ℕ) (rows : List Row) → ForEach (RowKnown policy pid) rows → is_lost (rows_of k rows) ≡ true → EachF is_done (forwardings_of (rows_of k rows))
 lost-done policy pid k [] each lost = tt
 lost-done policy pid k (row ∷ before) each lost = by_case (λ h. lost-done policy pid k before each.1 h) (row.client == k) refl lost
   where

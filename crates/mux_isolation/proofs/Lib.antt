@@ -4,6 +4,7 @@ pub mod Allowed
 pub mod Alone
 pub mod Bounded
 pub mod Closed
+pub mod Few
 pub mod Heard
 pub mod HeardAlone
 pub mod Logs

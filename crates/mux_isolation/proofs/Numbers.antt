@@ -98,8 +98,8 @@ heard-one : (before : List Row) (item : Item) (x : Channel) → HeardOne before 
 heard-one before (Heard p) x named = heard-alone before p x named
 heard-one before item x named = refl
 
-talked-alone : (before : List Row) (row : Row) (x : Channel) → HeardOne before row.item x → UpsNamed (own_of row.item) row.up → after_item (alone_row before row) (own_numbered x) ≡ own_numbered (after_item row x)
-talked-alone before row x heard ups = by_case (x.client == row.client)
+item-alone : (before : List Row) (row : Row) (x : Channel) → HeardOne before row.item x → UpsNamed (own_of row.item) row.up → after_item (alone_row before row) (own_numbered x) ≡ own_numbered (after_item row x)
+item-alone before row x heard ups = by_case (x.client == row.client)
   where
     by_case : (b : Bool) → (elim b as (λ _. Channel) [ true ↦ with_ups (own_of (item_for before row.item)) (own_ups (own_of row.item) row.up) (heard_by (item_for before row.item) (own_numbered x)) | false ↦ own_numbered x ]) ≡ own_numbered (elim b as (λ _. Channel) [ true ↦ with_ups (own_of row.item) row.up (heard_by row.item x) | false ↦ x ])
     by_case true =
@@ -108,20 +108,20 @@ talked-alone before row x heard ups = by_case (x.client == row.client)
         ∙ ups-alone (own_of row.item) row.up ups (heard_by row.item x))
     by_case false = refl
 
-parted-alone : (before : List Row) (row : Row) (x : Channel) → Every Quiet row.farewell → after_farewell (alone_row before row) (own_numbered x) ≡ own_numbered (after_farewell row x)
-parted-alone before row x quiet = by_case (x.client == row.client)
+leave-alone : (before : List Row) (row : Row) (x : Channel) → Every Quiet row.farewell → after_farewell (alone_row before row) (own_numbered x) ≡ own_numbered (after_farewell row x)
+leave-alone before row x quiet = by_case (x.client == row.client)
   where
     by_case : (b : Bool) → (elim b as (λ _. Channel) [ true ↦ with_ups None row.farewell (own_numbered x) | false ↦ own_numbered x ]) ≡ own_numbered (elim b as (λ _. Channel) [ true ↦ with_ups None row.farewell x | false ↦ x ])
     by_case true = quiet-ups row.farewell quiet x
     by_case false = refl
 
-talked-all : (before : List Row) (row : Row) (xs : List Channel) → Each (HeardOne before row.item) xs → UpsNamed (own_of row.item) row.up → map (after_item (alone_row before row)) (map own_numbered xs) ≡ map own_numbered (map (after_item row) xs)
-talked-all before row [] heard ups = refl
-talked-all before row (x ∷ xs) heard ups = ap (λ y. y ∷ map (after_item (alone_row before row)) (map own_numbered xs)) (talked-alone before row x heard.0 ups) ∙ ap (λ ys. own_numbered (after_item row x) ∷ ys) (talked-all before row xs heard.1 ups)
+item-all : (before : List Row) (row : Row) (xs : List Channel) → Each (HeardOne before row.item) xs → UpsNamed (own_of row.item) row.up → map (after_item (alone_row before row)) (map own_numbered xs) ≡ map own_numbered (map (after_item row) xs)
+item-all before row [] heard ups = refl
+item-all before row (x ∷ xs) heard ups = ap (λ y. y ∷ map (after_item (alone_row before row)) (map own_numbered xs)) (item-alone before row x heard.0 ups) ∙ ap (λ ys. own_numbered (after_item row x) ∷ ys) (item-all before row xs heard.1 ups)
 
-parted-all : (before : List Row) (row : Row) (xs : List Channel) → Every Quiet row.farewell → map (after_farewell (alone_row before row)) (map own_numbered xs) ≡ map own_numbered (map (after_farewell row) xs)
-parted-all before row [] quiet = refl
-parted-all before row (x ∷ xs) quiet = ap (λ y. y ∷ map (after_farewell (alone_row before row)) (map own_numbered xs)) (parted-alone before row x quiet) ∙ ap (λ ys. own_numbered (after_farewell row x) ∷ ys) (parted-all before row xs quiet)
+leave-all : (before : List Row) (row : Row) (xs : List Channel) → Every Quiet row.farewell → map (after_farewell (alone_row before row)) (map own_numbered xs) ≡ map own_numbered (map (after_farewell row) xs)
+leave-all before row [] quiet = refl
+leave-all before row (x ∷ xs) quiet = ap (λ y. y ∷ map (after_farewell (alone_row before row)) (map own_numbered xs)) (leave-alone before row x quiet) ∙ ap (λ ys. own_numbered (after_farewell row x) ∷ ys) (leave-all before row xs quiet)
 
 -- the channels of a client alone are those that it has here, each under the client's own number
 pub channels-alone : (own : List Row) → AllNamed own → channels_of (alone own) ≡ map own_numbered (channels_of own)
@@ -129,7 +129,7 @@ channels-alone [] named = refl
 channels-alone (row ∷ before) named =
     ap (map (after_farewell (alone_row before row)))
     (ap (λ cs. map (after_item (alone_row before row)) cs ++ begun_by row.client (own_ups (own_of row.item) row.up) (item_for before row.item)) (channels-alone before named.1)
-    ∙ (ap (λ cs. cs ++ begun_by row.client (own_ups (own_of row.item) row.up) (item_for before row.item)) (talked-all before row (channels_of before) named.0.heard named.0.ups)
+    ∙ (ap (λ cs. cs ++ begun_by row.client (own_ups (own_of row.item) row.up) (item_for before row.item)) (item-all before row (channels_of before) named.0.heard named.0.ups)
     ∙ (ap (λ bs. map own_numbered (map (after_item row) (channels_of before)) ++ bs) named.0.begun
     ∙ sym (map-append own_numbered (map (after_item row) (channels_of before)) (begun_by row.client row.up row.item)))))
-    ∙ parted-all before row (map (after_item row) (channels_of before) ++ begun_by row.client row.up row.item) named.0.parting
+    ∙ leave-all before row (map (after_item row) (channels_of before) ++ begun_by row.client row.up row.item) named.0.parting

@@ -260,13 +260,13 @@ module _ (before : List Row) (good : AreApart (channels_of before)) (k : ℕ) (p
       let at : with_recipient p r.c ≡ renamed (rows_of k before) p (Some n) = sym (ap (with_recipient p) (number-met before good k n r)) in
       subst (MayTell before k) (ok-same (with_recipient p r.c) (readdressed r.c m) m' (read-renamed p m r.c r.small reads) (ap read_gist at ∙ reads')) may
 
-  talk-may : (n : ℕ) (act : Act) → dest_gist before (Within n act) ≡ ToClient k → (r : Met (rows_of k before) n) → MayTell before k (Within r.c act)
-  talk-may n (Carries size) to r =
+  act-may : (n : ℕ) (act : Act) → dest_gist before (Within n act) ≡ ToClient k → (r : Met (rows_of k before) n) → MayTell before k (Within r.c act)
+  act-may n (Carries size) to r =
       let f : Legal before n (Carries size) k = within-legal before n (Carries size) k refl to in
       let same : f.channel ≡ r.channel = some-same f.channel r.channel (sym (holder-local before good k n f.channel f.is f.client) ∙ r.is) in
       let at : with_own (rows_of k before) r.c ≡ Some r.channel = find-own-met n r.c (channels_of (rows_of k before)) r.meets ∙ r.is in
       subst (Fits Down size) (sym at) (fits-of Down size r.channel (sym (ap (breach Down (Carries size)) same) ∙ f.fine))
-  talk-may n act to r = tt
+  act-may n act to r = tt
 
   client-tell : (m : Gist) → read_gist p ≡ Ok m → dest_gist before m ≡ ToClient k → Every (TellOk before k) (for_client (rows_of k before) p m).told
   client-tell (Open what s w max) reads to = elim (nat_lt (length (held_of (rows_of k before))) 256) as (λ b. Every (TellOk before k) (elim b as (λ _. Outcome) [ true ↦ tells (frame_payload p) | false ↦ sends (open_failure s 4 (codes "too many channels")) ]).told) [ true ↦ (open_tell, tt) | false ↦ tt ]
@@ -280,7 +280,7 @@ module _ (before : List Row) (good : AreApart (channels_of before)) (k : ℕ) (p
       open_tell : TellOk before k (frame_payload p)
       open_tell m' reads' = subst (MayTell before k) (ok-same p (Open what s w max) m' reads reads') may
   client-tell (Confirmation n s w max) reads to = let r : Met (rows_of k before) n = met before good k n (reached before (Confirmation n s w max) n k refl to) in (renamed-tell (Confirmation n s w max) n reads refl r tt, tt)
-  client-tell (Within n act) reads to = let r : Met (rows_of k before) n = met before good k n (reached before (Within n act) n k refl to) in (renamed-tell (Within n act) n reads refl r (talk-may n act to r), tt)
+  client-tell (Within n act) reads to = let r : Met (rows_of k before) n = met before good k n (reached before (Within n act) n k refl to) in (renamed-tell (Within n act) n reads refl r (act-may n act to r), tt)
   client-tell (Transport number) reads to = tt
   client-tell (Requests what wants) reads to = tt
   client-tell (Succeeds rest) reads to = tt

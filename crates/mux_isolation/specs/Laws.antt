@@ -1,7 +1,7 @@
 -- Laws over all runs: each holds of every right log of a lawful wire, whatever numbers are picked and whatever the
 -- house replies.
 use Rattle.std.specs.Prelude.{ℕ, ◌≡◌, ◌≤◌, List, [], false, length}
-use Rattle.mux_history.specs.declared.limits.TheConstants.{MAX_QUEUE}
+use Rattle.mux_history.specs.declared.limits.TheConstants.{MAX_CHANNELS, MAX_QUEUE}
 use Rattle.mux_history.specs.Rows.{Row, rows_of}
 use Rattle.mux_history.specs.Pending.{waiting_down}
 use Rattle.mux_history.specs.Channels.{held_of}
@@ -49,6 +49,13 @@ WaitsBounded rows = (k : ℕ) → waiting_down (rows_of k rows) ≤ MAX_QUEUE
 
 abbrev pub QueuesAreBounded : Type 0
 QueuesAreBounded = OverRight (λ setting rows. AtEach WaitsBounded rows)
+
+-- a client holds at most 256 channels
+abbrev pub ChannelsBounded : List Row → Type 0
+ChannelsBounded rows = (k : ℕ) → length (held_of (rows_of k rows)) ≤ MAX_CHANNELS
+
+abbrev pub ChannelsAreFew : Type 0
+ChannelsAreFew = OverRight (λ setting rows. AtEach ChannelsBounded rows)
 
 -- every right log keeps all that a run promises of its rows
 abbrev pub AllIsKept : Type 0

@@ -1,4 +1,4 @@
-ghost use Rattle.mux_isolation.specs.Laws.{Isolation, WindowsAreKept, PermissionsAreKept, AskersAreServed, MasterSaysLittle, NothingIsLeft, QueuesAreBounded, AllIsKept};
+ghost use Rattle.mux_isolation.specs.Laws.{Isolation, WindowsAreKept, PermissionsAreKept, AskersAreServed, MasterSaysLittle, NothingIsLeft, QueuesAreBounded, ChannelsAreFew, AllIsKept};
 
 /// What an admitted client is told and what is sent for it is what an unshared connection gives from its
 /// own bytes and the server's messages for its channels, up to the numbers that stand for its own.
@@ -35,6 +35,11 @@ pub fn nothing_is_left()
 /// At no row do more than 33,554,432 bytes wait for a client.
 pub fn queues_are_bounded()
     ensures { QueuesAreBounded }
+{}
+
+/// At no row does a client hold more than 256 channels.
+pub fn channels_are_few()
+    ensures { ChannelsAreFew }
 {}
 
 /// Every right log keeps all that a run promises of its rows: windows, permissions, askers, numbers apart,
