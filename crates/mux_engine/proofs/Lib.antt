@@ -22,3 +22,4 @@ pub mod Arms
 pub mod Loops
 pub mod Turns
 pub mod Marks
+pub mod Turned

@@ -5,7 +5,8 @@ ghost use Rattle.mux_outside.specs.Counts.{Rose};
 ghost use Rattle.mux_outside.specs.Streams.{among, without};
 ghost use Rattle.mux_history.specs.declared.ended.Ended.TheVariants.{ServerFailed, OutOfMemory as WantOfMemory};
 ghost use Rattle.mux_engine.specs.Step.{is_present, numbers, queue_in, new_state};
-ghost use Rattle.mux_engine.specs.Events.{went_of, IsNext};
+ghost use Rattle.mux_engine.specs.Events.{went_of, IsNext, Tells};
+ghost use Rattle.mux_outside.specs.declared.mark.Mark.TheVariants.{Gets, Ends, Fails};
 ghost use Rattle.mux_engine.specs.Serving.{IsRun, Serving, IsServed, IsServedBut, Promised};
 
 use crate::engine::{Engine, Event, Went};
@@ -102,5 +103,102 @@ fn close_lost<W: Wire>(engine: &mut Engine, wire: &mut W, held: &mut Streams)
         wire.close(client);
         held.remove(client);
         engine.closed(client);
+    }
+}
+
+// Accepts no more clients where the engine wants none.
+fn hush<W: Wire>(engine: &Engine, wire: &mut W)
+    requires served { IsServedBut (W.told wire.old) (W.streams wire.old) (W.blocked wire.old) (W.blocked wire.old) (W.listens wire.old) (W.last wire.old) [] engine.now }
+    ensures serving { (pid : ℕ) (start : Option (List TheMark)) (held : List ℕ) (given : ℕ) →
+        Serving pid start (W.told wire.old) (W.streams wire.old) (W.blocked wire.old) held (W.listens wire.old) (W.last wire.old) given [] engine.now →
+        Serving pid start (W.told wire.new) (W.streams wire.new) (W.blocked wire.new) held (W.listens wire.new) (W.last wire.new) given [] engine.now }
+    ensures hears { W.listens wire.new ≡ engine.now.listening }
+    ensures faults { W.server_faults wire.new ≡ W.server_faults wire.old }
+{
+    if engine.listening() {
+        return;
+    }
+    wire.stop_listening();
+}
+
+// Makes the wire ready for a turn: each stream is offered what waits for it, and the streams of lost clients are closed.
+fn settle<W: Wire, H: House>(alloc: Global, engine: &mut Engine, wire: &mut W, house: &mut H, held: &mut Streams) -> Result<(), OutOfMemory>
+    requires served { IsServedBut (W.told wire.old) (W.streams wire.old) (W.blocked wire.old) held.old (W.listens wire.old) (W.last wire.old) (numbers engine.old.clients) engine.old }
+    ensures serving { (pid : ℕ) (start : Option (List TheMark)) (given : ℕ) →
+        Serving pid start (W.told wire.old) (W.streams wire.old) (W.blocked wire.old) held.old (W.listens wire.old) (W.last wire.old) given (numbers engine.old.clients) engine.old →
+        MatchResult result
+            (λ done. Serving pid start (W.told wire.new) (W.streams wire.new) (W.blocked wire.new) held.new (W.listens wire.new) (W.last wire.new) given [] engine.new)
+            (λ e. Promised pid start (W.told wire.new) given) }
+    ensures closed { OnOk result (engine.new.leaving ≡ []) }
+    ensures hears { OnOk result (W.listens wire.new ≡ engine.new.listening) }
+    ensures ended { OnOk result (engine.new.ended ≡ engine.old.ended) }
+    ensures faults { W.server_faults wire.new ≡ W.server_faults wire.old }
+{
+    flush(alloc, engine, wire, house, held)?;
+    close_lost(engine, wire, held);
+    hush(engine, wire);
+    Ok(())
+}
+
+// The event of bytes that a stream gave.
+fn event_of_bytes<'a>(stream: u64, bytes: &'a [u8]) -> Event<'a>
+    ensures { Tells result (Gets stream bytes.now) }
+{
+    if stream == 0 { Event::FromServer(bytes) } else { Event::FromClient(stream, bytes) }
+}
+
+// The event of a stream that gives no more.
+fn event_of_end<'a>(stream: u64) -> Event<'a>
+    ensures { Tells result (Ends stream) }
+{
+    if stream == 0 { Event::ServerEnd } else { Event::ClientEnd(stream) }
+}
+
+// The event of a stream that failed.
+fn event_of_fault<'a>(stream: u64) -> Event<'a>
+    ensures { Tells result (Fails stream) }
+{
+    if stream == 0 { Event::ServerFailed } else { Event::ClientFailed(stream) }
+}
+
+// The event that a turn tells, where it tells one.
+fn event_of<'a>(turn: Turn, bytes: &'a [u8]) -> Option<Event<'a>>
+    ensures { IsNext result turn bytes.now }
+{
+    match turn {
+        Turn::Accepted(client) => Some(Event::Accepted(client)),
+        Turn::Got(stream) => Some(event_of_bytes(stream, bytes)),
+        Turn::End(stream) => Some(event_of_end(stream)),
+        Turn::Failed(stream) => Some(event_of_fault(stream)),
+        Turn::Writable(_) => None,
+        Turn::NoMemory => None,
+    }
+}
+
+// One turn: what the wire tells next goes into the engine.
+fn turn<W: Wire, H: House>(engine: &mut Engine, wire: &mut W, house: &mut H, held: &mut Streams, piece: &mut Piece) -> Result<Went, OutOfMemory>
+    requires served { IsServedBut (W.told wire.old) (W.streams wire.old) (W.blocked wire.old) held.old (W.listens wire.old) (W.last wire.old) [] engine.old }
+    requires closed { engine.old.leaving ≡ [] }
+    requires on { engine.old.ended ≡ None }
+    requires hears { W.listens wire.old ≡ engine.old.listening }
+    ensures serving { (pid : ℕ) (start : Option (List TheMark)) (given : ℕ) →
+        Serving pid start (W.told wire.old) (W.streams wire.old) (W.blocked wire.old) held.old (W.listens wire.old) (W.last wire.old) given [] engine.old →
+        MatchResult result
+            (λ went. Serving pid start (W.told wire.new) (W.streams wire.new) (W.blocked wire.new) held.new (W.listens wire.new) (W.last wire.new) (given + 1) (numbers engine.new.clients) engine.new)
+            (λ e. Promised pid start (W.told wire.new) (given + 1)) }
+    ensures went { IfOk result (λ went. went ≡ went_of engine.new.ended) }
+    ensures failed { OnOk result (engine.new.ended ≡ Some ServerFailed → Rose (W.server_faults wire.old) (W.server_faults wire.new)) }
+    ensures later { W.server_faults wire.old ≤ W.server_faults wire.new }
+{
+    let next = wire.wait(engine.waiting(), Want::Read, piece);
+    match event_of(next, piece.as_bytes()) {
+        Some(e) => engine.event(e, house),
+        None => match next {
+            Turn::Writable(stream) => {
+                held.remove(stream);
+                Ok(Went::On)
+            }
+            _ => Err(OutOfMemory),
+        },
     }
 }
