@@ -17,7 +17,7 @@ use Rattle.mux_engine.specs.Step.{is_present, numbers, queue_in, at_client, clie
 use Rattle.mux_engine.specs.Stands.{setting, Stands}
 use Rattle.mux_engine.specs.Serving.{Serving, Promised, IsServed}
 use Rattle.mux_engine.proofs.Grows.{test_other, or_true}
-use Rattle.mux_engine.proofs.Serve.{among_numbers, numbers_at}
+use Rattle.mux_engine.proofs.Wires.{among_numbers, numbers_at}
 use Rattle.mux_engine.proofs.Offers.{serve_empty, without_other, AtStream, at_stream, nonzero_here}
 
 pub seen_same : (pid : ℕ) (start told : Option (List Mark)) (streams streams' blocked blocked' held held' : List ℕ) (listens listens' : Bool) (last last' given : ℕ) (todo : List ℕ) (s s' : State) → Serving pid start told streams blocked held listens last given todo s

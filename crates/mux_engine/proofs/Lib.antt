@@ -16,10 +16,11 @@ pub mod Closes
 pub mod Bodies
 pub mod Queues
 pub mod Others
-pub mod Serve
+pub mod Wires
 pub mod Offers
 pub mod Arms
 pub mod Loops
 pub mod Turns
 pub mod Marks
 pub mod Turned
+pub mod Runs

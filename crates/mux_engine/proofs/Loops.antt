@@ -20,7 +20,7 @@ use Rattle.mux_engine.proofs.Moved.{true_false}
 use Rattle.mux_engine.proofs.Served.{gone_less, present_less}
 use Rattle.mux_engine.proofs.Closes.{closes, in_losses, first_in, unfiltered, loss_is_out}
 use Rattle.mux_engine.proofs.Queues.{waits_among, none_waits}
-use Rattle.mux_engine.proofs.Serve.{among_numbers}
+use Rattle.mux_engine.proofs.Wires.{among_numbers}
 use Rattle.mux_engine.proofs.Offers.{serve_empty, without_other, AtStream, at_stream}
 
 pub wider : (pid : ℕ) (start told : Option (List Mark)) (streams blocked held : List ℕ) (listens : Bool) (last given : ℕ) (todo : List ℕ) (s : State) (k : ℕ) → Serving pid start told streams blocked held listens last given todo s → Serving pid start told streams blocked held listens last given (k ∷ todo) s

@@ -19,7 +19,7 @@ use Rattle.mux_engine.proofs.Grows.{test_other, or_true}
 use Rattle.mux_engine.proofs.Moved.{true_false}
 use Rattle.mux_engine.proofs.GoesOn.{goes_on}
 use Rattle.mux_engine.proofs.Others.{mark_stream, server_pending}
-use Rattle.mux_engine.proofs.Serve.{among_numbers, arrival_numbers, after_numbers, NotArrival, Next, PromiseAt, settled_other, log_out}
+use Rattle.mux_engine.proofs.Wires.{among_numbers, arrival_numbers, after_numbers, NotArrival, Next, PromiseAt, settled_other, log_out}
 use Rattle.mux_engine.proofs.Offers.{accepted_here, unseen_more, without_other, same_present, plain_at}
 use Rattle.mux_engine.proofs.Loops.{none_without}
 
@@ -84,7 +84,7 @@ next_says pid start told streams blocked held hears last given s v mark o found 
       blocked_is = λ t p. v.blocked_is t (sym (same_present s mark t m.comes) ∙ p) ∙ sym (m.blocked t);
       failed_out = λ t w live. log_out pid mark v.journal t (v.failed_out t (sym (m.failed t) ∙ w) live);
       unseen = unseen_more s v.journal v.closed blocked blocked last mark v.stands m.comes acc v.unseen (λ j ne. refl);
-      settled = rest_settled pid start told streams blocked held hears last given s v mark (goes_on s mark v.journal v.closed v.stands m.allowed) (Rattle.mux_engine.proofs.Serve.after_pid s mark ∙ v.pid_is)
+      settled = rest_settled pid start told streams blocked held hears last given s v mark (goes_on s mark v.journal v.closed v.stands m.allowed) (Rattle.mux_engine.proofs.Wires.after_pid s mark ∙ v.pid_is)
         (λ nz. ap (among (mark_stream mark)) (after_numbers s mark m.comes) ∙ (among_numbers (mark_stream mark) s.clients ∙ stream_here pid start told streams blocked held hears last given [] s (mark_stream mark) v found nz));
     }
 
@@ -111,7 +111,7 @@ next_accepts pid start told streams blocked held hears last given s v k e live =
       failed_out = λ t w l. log_out pid mark v.journal t (v.failed_out t w l);
       unseen = λ j lt. let w : IsUnseen v.journal blocked j = v.unseen j (omega arith) in
         record { not_accepted = ap (λ b. cond b true (is_accepted j v.journal)) (test_other k j (λ q. absurd (omega arith))) ∙ w.not_accepted; never_blocked = w.never_blocked; not_blocked = w.not_blocked };
-      settled = rest_settled pid start told streams blocked held hears last given s v mark (goes_on s mark v.journal v.closed v.stands (nz, u.not_accepted)) (Rattle.mux_engine.proofs.Serve.after_pid s mark ∙ v.pid_is)
+      settled = rest_settled pid start told streams blocked held hears last given s v mark (goes_on s mark v.journal v.closed v.stands (nz, u.not_accepted)) (Rattle.mux_engine.proofs.Wires.after_pid s mark ∙ v.pid_is)
         (λ z. ap (among k) more ∙ (among_more k ∙ (ap (λ b. among k (numbers s.clients) || (b || false)) (eq-eqb k k refl) ∙ or_last (among k (numbers s.clients)))));
     }
   where

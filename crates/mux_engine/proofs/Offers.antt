@@ -23,7 +23,7 @@ use Rattle.mux_engine.proofs.GoesOn.{ended_is, by_number}
 use Rattle.mux_engine.proofs.Closes.{own_out}
 use Rattle.mux_engine.proofs.Queues.{zero_absent, queue_pending}
 use Rattle.mux_engine.proofs.Others.{mark_stream}
-use Rattle.mux_engine.proofs.Serve.{NotArrival, among_numbers, after_numbers, Next, PromiseAt, settled_other, log_out}
+use Rattle.mux_engine.proofs.Wires.{NotArrival, among_numbers, after_numbers, Next, PromiseAt, settled_other, log_out}
 
 pub nonzero_here : (s : State) (marks : List Mark) (closed : List ℕ) (k : ℕ) → Stands s marks closed → is_present s.clients k ≡ true → k ≢ 0
 nonzero_here s marks closed k st here e = true_false (sym here ∙ (ap (is_present s.clients) e ∙ zero_absent (log s.pid marks) marks s.clients st.clients))
@@ -50,7 +50,7 @@ accepted_same (Holds j) journal k n = refl
 accepted_same (WriteFails j) journal k n = refl
 
 blocked_apart : (mark : Mark) (journal : List Mark) (t : ℕ) → mark_stream mark ≢ t → is_blocked t (mark ∷ journal) ≡ is_blocked t journal
-blocked_apart mark journal t ne = Rattle.mux_engine.proofs.Serve.blocked_other mark journal t ne
+blocked_apart mark journal t ne = Rattle.mux_engine.proofs.Wires.blocked_other mark journal t ne
 
 -- a client that did not come yet has no part in a mark
 pub unseen_more : (s : State) (journal : List Mark) (closed blocked blocked' : List ℕ) (last : ℕ) (mark : Mark) → Stands s journal closed → NotArrival mark → (mark_stream mark ≢ 0 → is_accepted (mark_stream mark) journal ≡ true)
@@ -193,7 +193,7 @@ next_write_fails pid start told streams blocked held listens last given todo s v
       unseen = unseen_more s v.journal v.closed blocked blocked last mark v.stands tt (λ z. at.accepted) v.unseen (λ j ne. refl);
       settled = λ t a. elim (eqb_tells k t) [
           inl q ↦ inr (inr (ap (λ b. elim b as (λ _. Bool) [ true ↦ true | false ↦ write_failed t v.journal ]) q.0))
-        | inr q ↦ settled_other pid mark v.journal t (plain_at pid s v.journal v.closed v.pid_is v.stands) (plain_at pid (after s mark) (mark ∷ v.journal) v.closed (Rattle.mux_engine.proofs.Serve.after_pid s mark ∙ v.pid_is) st') q.1 (v.settled t (sym (without_other k t todo q.1) ∙ a))
+        | inr q ↦ settled_other pid mark v.journal t (plain_at pid s v.journal v.closed v.pid_is v.stands) (plain_at pid (after s mark) (mark ∷ v.journal) v.closed (Rattle.mux_engine.proofs.Wires.after_pid s mark ∙ v.pid_is) st') q.1 (v.settled t (sym (without_other k t todo q.1) ∙ a))
         ];
     }
 

@@ -18,7 +18,7 @@ use Rattle.mux_engine.specs.Step.{numbers, after, over, changed, client_got, los
 use Rattle.mux_engine.specs.Events.{Tells, IsNext}
 use Rattle.mux_engine.specs.declared.engine.Event.{Event}
 use Rattle.mux_engine.specs.Serving.{Serving, Promised}
-use Rattle.mux_engine.proofs.Serve.{serve_next, promised_of, Next}
+use Rattle.mux_engine.proofs.Wires.{serve_next, promised_of, Next}
 use Rattle.mux_engine.proofs.Turns.{next_waits}
 use Rattle.mux_engine.proofs.Arms.{seen_same}
 use Rattle.mux_engine.proofs.Loops.{todo_is}
@@ -28,7 +28,7 @@ two_marks : (a b : Mark) (told : Option (List Mark)) → option_map (λ m. m ++ 
 two_marks a b None = refl
 two_marks a b (Some m) = ap (λ (l : List Mark). Some l) (sym (append_assoc m (a ∷ []) (b ∷ [])))
 
-no_marks : (told : Option (List Mark)) → option_map (λ m. m ++ []) told ≡ told
+pub no_marks : (told : Option (List Mark)) → option_map (λ m. m ++ []) told ≡ told
 no_marks None = refl
 no_marks (Some m) = ap (λ (l : List Mark). Some l) (append-nil m)
 

@@ -33,7 +33,7 @@ use Rattle.mux_engine.proofs.GoesOn.{goes_on}
 use Rattle.mux_engine.proofs.Closes.{in_losses}
 use Rattle.mux_engine.proofs.Queues.{waits_among, queue_pending, zero_absent}
 use Rattle.mux_engine.proofs.Others.{mark_stream, server_pending}
-use Rattle.mux_engine.proofs.Serve.{among_numbers, arrival_numbers, after_numbers, NotArrival, Next, PromiseAt, settled_other, log_out, after_pid}
+use Rattle.mux_engine.proofs.Wires.{among_numbers, arrival_numbers, after_numbers, NotArrival, Next, PromiseAt, settled_other, log_out, after_pid}
 use Rattle.mux_engine.proofs.Offers.{accepted_here, unseen_more, without_other, AtStream, at_stream}
 use Rattle.mux_engine.proofs.Loops.{waits_here}
 

@@ -92,3 +92,11 @@ pub record Promised (pid : ℕ) (start told : Option (List Mark)) (given : ℕ) 
   pub tells : Tells start told journal
   pub kept : Kept pid journal
   pub waits : waits_in journal ≤ given
+
+-- what is known of a run that ended
+pub record Ran (pid turns : ℕ) (start told : Option (List Mark)) (answer : Ended) : Type 0 where
+  pub journal : List Mark
+  pub tells : Tells start told journal
+  pub kept : Kept pid journal
+  pub waits : waits_in journal ≤ turns
+  pub ends : EndsRight (setting pid) turns journal answer

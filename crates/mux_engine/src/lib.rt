@@ -8,3 +8,4 @@ mod engine;
 mod serving;
 
 pub use engine::{Engine, Event, Went};
+pub use serving::serve;

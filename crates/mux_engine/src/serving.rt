@@ -7,7 +7,7 @@ ghost use Rattle.mux_history.specs.declared.ended.Ended.TheVariants.{ServerFaile
 ghost use Rattle.mux_engine.specs.Step.{is_present, numbers, queue_in, new_state};
 ghost use Rattle.mux_engine.specs.Events.{went_of, IsNext, Tells};
 ghost use Rattle.mux_outside.specs.declared.mark.Mark.TheVariants.{Gets, Ends, Fails};
-ghost use Rattle.mux_engine.specs.Serving.{IsRun, Serving, IsServed, IsServedBut, Promised};
+ghost use Rattle.mux_engine.specs.Serving.{IsRun, Serving, IsServed, IsServedBut, Promised, Ran};
 
 use crate::engine::{Engine, Event, Went};
 use mux_history::Ended;
@@ -200,5 +200,48 @@ fn turn<W: Wire, H: House>(engine: &mut Engine, wire: &mut W, house: &mut H, hel
             }
             _ => Err(OutOfMemory),
         },
+    }
+}
+
+// Serves a wire for so many turns: why it ended.
+fn run<W: Wire, H: House>(alloc: Global, engine: &mut Engine, wire: &mut W, house: &mut H, turns: u64) -> Result<Ended, OutOfMemory>
+    requires served { IsServedBut (W.told wire.old) (W.streams wire.old) (W.blocked wire.old) [] (W.listens wire.old) (W.last wire.old) (numbers engine.old.clients) engine.old }
+    requires on { engine.old.ended ≡ None }
+    ensures ran { (pid : ℕ) (start : Option (List TheMark)) →
+        Serving pid start (W.told wire.old) (W.streams wire.old) (W.blocked wire.old) [] (W.listens wire.old) (W.last wire.old) 0 (numbers engine.old.clients) engine.old →
+        MatchResult result
+            (λ answer. Ran pid turns start (W.told wire.new) answer)
+            (λ e. Promised pid start (W.told wire.new) turns) }
+    ensures failed { IfOk result (λ answer. answer ≡ ServerFailed → Rose (W.server_faults wire.old) (W.server_faults wire.new)) }
+{
+    let mut piece = Piece::new(alloc)?;
+    let mut held = Streams::new(alloc);
+    for _ in 0..turns {
+        settle(alloc, engine, wire, house, &mut held)?;
+        match turn(engine, wire, house, &mut held, &mut piece)? {
+            Went::On => {}
+            Went::Ended(cause) => {
+                flush(alloc, engine, wire, house, &mut held)?;
+                return Ok(cause);
+            }
+        }
+    }
+    flush(alloc, engine, wire, house, &mut held)?;
+    Ok(Ended::Spent)
+}
+
+/// Serves a wire with a new engine until the run ends, for so many turns at most: why it ended. What the wire tells of
+/// this run is written and kept open as it must be, and ends as it must.
+pub fn serve<W: Wire, H: House>(alloc: Global, engine: &mut Engine, wire: &mut W, house: &mut H, turns: u64) -> Ended
+    requires fresh { engine.old ≡ new_state engine.old.pid }
+    requires server_alone { W.streams wire.old ≡ 0 ∷ [] }
+    requires none_blocked { W.blocked wire.old ≡ [] }
+    requires listens { W.listens wire.old ≡ true }
+    ensures kept { IsRun H.may engine.old.pid turns (W.told wire.old) (W.told wire.new) result }
+    ensures failed { result ≡ ServerFailed → Rose (W.server_faults wire.old) (W.server_faults wire.new) }
+{
+    match run(alloc, engine, wire, house, turns) {
+        Ok(ended) => ended,
+        Err(_) => Ended::OutOfMemory,
     }
 }

@@ -7,7 +7,7 @@ use Rattle.mux_outside.specs.declared.mark.Mark.{Mark}
 use Rattle.mux_outside.specs.declared.mark.Mark.TheVariants.{Takes, Holds, WriteFails}
 use Rattle.mux_engine.specs.State.{State}
 use Rattle.mux_engine.specs.Step.{queue_in, taken, after, numbers}
-use Rattle.mux_engine.proofs.Serve.{serve_next, promised_next, after_numbers}
+use Rattle.mux_engine.proofs.Wires.{serve_next, promised_next, after_numbers}
 use Rattle.mux_engine.proofs.Offers.{next_takes, next_holds, next_write_fails}
 use Rattle.mux_engine.proofs.Arms.{seen_same, le_of, took_less, took_numbers, failed_ended, client_fault, here_open, here_nonzero, nothing_left, empty_is, on_err}
 use Rattle.mux_engine.proofs.serving.offer_once.Goals as goal

@@ -12,7 +12,7 @@ use Rattle.mux_engine.specs.State.{State}
 use Rattle.mux_engine.specs.Step.{numbers, after}
 use Rattle.mux_engine.specs.Events.{Tells, IsNext}
 use Rattle.mux_engine.specs.Serving.{Serving, Promised}
-use Rattle.mux_engine.proofs.Serve.{promised_of}
+use Rattle.mux_engine.proofs.Wires.{promised_of}
 use Rattle.mux_engine.proofs.Turns.{waiting_blocked, waiting_open}
 use Rattle.mux_engine.proofs.Turned.{Turned, turned, freed, either_way, seen_turned}
 use Rattle.mux_engine.proofs.Arms.{seen_same}
