@@ -1,11 +1,11 @@
 -- A ledger stands for a channel of the history (RFC 4254, section 5).
-use Rattle.std.specs.Prelude.{◌≡◌, ℕ, Bool, true, false, [], Option, Some, None, Result, Ok, Err}
+use Rattle.std.specs.Prelude.{◌≡◌, ◌+◌, ◌&&◌, ℕ, Bool, true, false, [], Option, Some, None, Result, Ok, Err}
 use Rattle.ssh_grammar.specs.declared.side.Side.{Side}
 use Rattle.ssh_grammar.specs.declared.side.Side.TheVariants.{Up, Down}
 use Rattle.ssh_grammar.specs.declared.fault.Breach.{Breach}
-use Rattle.mux_history.specs.Gist.{Act}
+use Rattle.mux_history.specs.Gist.{Act, Confirms}
 use Rattle.mux_history.specs.Channels.{Channel, any_by, is_closes, is_confirmed, is_ends}
-use Rattle.mux_history.specs.Ledger.{maximum_of, room, unanswered}
+use Rattle.mux_history.specs.Ledger.{breach, carried, granted, initial, maximum_of, other_side, room, sum_of, unanswered}
 use Rattle.mux_history.specs.Laws.{IsAccounted, with_act}
 use Rattle.window_ledger.specs.declared.account.Account.{Account}
 use Rattle.window_ledger.specs.declared.account.Speech.{Speech}
@@ -57,6 +57,22 @@ abbrev pub Answers : {A : Type 0} → Result A Breach → Option Breach → Type
 Answers (Ok a) broken = broken ≡ None
 Answers (Err breach) broken = broken ≡ Some breach
 
+-- of each channel for which a ledger stands, a call answers with what one more act would break there
+abbrev pub Judges : {A : Type 0} → Ledger → Side → Act → Result A Breach → Type 0
+Judges ledger way act result = (x : Channel) → Stands ledger x → Answers result (breach way act x)
+
 -- of each channel for which a ledger stood before, it stands afterwards for the channel with one more act
 abbrev pub GoesOn : Ledger → Ledger → Side → Act → Type 0
 GoesOn old new way act = (x : Channel) → Stands old x → Stands new (with_act way act x)
+
+-- and for the channel that the other side has confirmed with this window and this maximum
+abbrev pub IsConfirmed : Ledger → Ledger → (window maximum : ℕ) → Type 0
+IsConfirmed old new window maximum = (x : Channel) → Stands old x → Stands new (with_act (other_side x.by) (Confirms window maximum) x)
+
+-- what is left for a direction and what was carried in it make up all that was granted for it
+abbrev pub AddsUp : (left : ℕ) → Side → Channel → Type 0
+AddsUp left way x = left + sum_of carried way x.acts ≡ initial way x + sum_of granted (other_side way) x.acts
+
+-- both sides have sent CLOSE
+abbrev pub both_closed : Channel → Bool
+both_closed x = any_by Up is_closes x.acts && any_by Down is_closes x.acts

@@ -1,12 +1,10 @@
-ghost use Rattle.std.specs.Prelude.{◌≡◌, ◌+◌, ◌&&◌, Bool, true, false, OnOk, OnErr};
-ghost use Rattle.mux_history.specs.Gist.{Confirms, Grants, Carries, Ends, Closes, Asks, Answers};
-ghost use Rattle.mux_history.specs.Channels.{Channel, any_by, is_closes, is_confirmed};
-ghost use Rattle.mux_history.specs.Ledger.{breach, carried, granted, initial, other_side, room, sum_of};
-ghost use Rattle.mux_history.specs.Laws.{with_act};
+ghost use Rattle.std.specs.Prelude.{◌≡◌, true, false, OnOk, OnErr};
+ghost use Rattle.mux_history.specs.Gist.{Grants, Carries, Ends, Closes, Asks, Answers};
+ghost use Rattle.mux_history.specs.Channels.{Channel, is_confirmed};
+ghost use Rattle.mux_history.specs.Ledger.{room};
 ghost use Rattle.window_ledger.specs.Act.{act_of};
-ghost use Rattle.window_ledger.specs.Stands.{Stands, IsBegun, Answers as IsAnswer, GoesOn, confirmed};
+ghost use Rattle.window_ledger.specs.Stands.{Stands, IsBegun, Judges, GoesOn, IsConfirmed, AddsUp, both_closed, confirmed};
 ghost use Rattle.window_ledger.specs.Step.{judged, between, own_after, other_after, breach_in, state_after};
-ghost use Rattle.ssh_grammar.specs.declared.side.Side.TheVariants.{Up, Down};
 
 use crate::account::{Account, Speech};
 use crate::act::Act;
@@ -83,7 +81,7 @@ impl Ledger {
     /// The other side's CONFIRMATION, with the window and the maximum that it carries.
     pub fn confirm(&mut self, window: u32, max: u32)
         requires { confirmed self.old ≡ false }
-        ensures stands { (x : Channel) → Stands self.old x → Stands self.new (with_act (other_side x.by) (Confirms window max) x) }
+        ensures stands { IsConfirmed self.old self.new window max }
         ensures confirmed { confirmed self.new ≡ true }
     {
         let State::Opened {
@@ -109,7 +107,7 @@ impl Ledger {
     }
 
     fn take(&mut self, way: Side, act: Act) -> Result<(), Breach>
-        ensures exact { (x : Channel) → Stands self.old x → IsAnswer result (breach way (act_of act) x) }
+        ensures exact { Judges self.old way (act_of act) result }
         ensures ok { OnOk result (GoesOn self.old self.new way (act_of act)) }
         ensures unchanged { OnErr result (self.new ≡ self.old) }
         ensures confirmed { confirmed self.new ≡ confirmed self.old }
@@ -120,7 +118,7 @@ impl Ledger {
 
     /// DATA or EXTENDED_DATA of `len` bytes (RFC 4254, section 5.2).
     pub fn data(&mut self, way: Side, len: u32) -> Result<(), Breach>
-        ensures exact { (x : Channel) → Stands self.old x → IsAnswer result (breach way (Carries len) x) }
+        ensures exact { Judges self.old way (Carries len) result }
         ensures ok { OnOk result (GoesOn self.old self.new way (Carries len)) }
         ensures unchanged { OnErr result (self.new ≡ self.old) }
         ensures confirmed { confirmed self.new ≡ confirmed self.old }
@@ -130,7 +128,7 @@ impl Ledger {
 
     /// WINDOW_ADJUST by `n` bytes: room for the other direction (RFC 4254, section 5.2).
     pub fn grant(&mut self, way: Side, n: u32) -> Result<(), Breach>
-        ensures exact { (x : Channel) → Stands self.old x → IsAnswer result (breach way (Grants n) x) }
+        ensures exact { Judges self.old way (Grants n) result }
         ensures ok { OnOk result (GoesOn self.old self.new way (Grants n)) }
         ensures unchanged { OnErr result (self.new ≡ self.old) }
         ensures confirmed { confirmed self.new ≡ confirmed self.old }
@@ -140,7 +138,7 @@ impl Ledger {
 
     /// EOF (RFC 4254, section 5.3).
     pub fn eof(&mut self, way: Side) -> Result<(), Breach>
-        ensures exact { (x : Channel) → Stands self.old x → IsAnswer result (breach way Ends x) }
+        ensures exact { Judges self.old way Ends result }
         ensures ok { OnOk result (GoesOn self.old self.new way Ends) }
         ensures unchanged { OnErr result (self.new ≡ self.old) }
         ensures confirmed { confirmed self.new ≡ confirmed self.old }
@@ -150,7 +148,7 @@ impl Ledger {
 
     /// CLOSE (RFC 4254, section 5.3).
     pub fn close(&mut self, way: Side) -> Result<(), Breach>
-        ensures exact { (x : Channel) → Stands self.old x → IsAnswer result (breach way Closes x) }
+        ensures exact { Judges self.old way Closes result }
         ensures ok { OnOk result (GoesOn self.old self.new way Closes) }
         ensures unchanged { OnErr result (self.new ≡ self.old) }
         ensures confirmed { confirmed self.new ≡ confirmed self.old }
@@ -160,7 +158,7 @@ impl Ledger {
 
     /// A channel request; `want` says whether it wants a reply (RFC 4254, section 5.4).
     pub fn request(&mut self, way: Side, want: bool) -> Result<(), Breach>
-        ensures exact { (x : Channel) → Stands self.old x → IsAnswer result (breach way (Asks want) x) }
+        ensures exact { Judges self.old way (Asks want) result }
         ensures ok { OnOk result (GoesOn self.old self.new way (Asks want)) }
         ensures unchanged { OnErr result (self.new ≡ self.old) }
         ensures confirmed { confirmed self.new ≡ confirmed self.old }
@@ -170,7 +168,7 @@ impl Ledger {
 
     /// SUCCESS or FAILURE of a channel request of the other direction (RFC 4254, section 5.4).
     pub fn reply(&mut self, way: Side) -> Result<(), Breach>
-        ensures exact { (x : Channel) → Stands self.old x → IsAnswer result (breach way Answers x) }
+        ensures exact { Judges self.old way Answers result }
         ensures ok { OnOk result (GoesOn self.old self.new way Answers) }
         ensures unchanged { OnErr result (self.new ≡ self.old) }
         ensures confirmed { confirmed self.new ≡ confirmed self.old }
@@ -180,7 +178,7 @@ impl Ledger {
 
     /// Whether both sides have sent CLOSE.
     pub fn closed(&self) -> bool
-        ensures exact { (x : Channel) → Stands self.now x → result ≡ (any_by Up is_closes x.acts && any_by Down is_closes x.acts) }
+        ensures exact { (x : Channel) → Stands self.now x → result ≡ both_closed x }
     {
         match self.state {
             State::Opened { .. } => false,
@@ -195,7 +193,7 @@ impl Ledger {
     pub fn room(&self, way: Side) -> u32
         ensures exact { (x : Channel) → Stands self.now x → result ≡ room way x }
         // No room falls below zero: what is left and what was carried make up all that was granted.
-        ensures sums { (x : Channel) → Stands self.now x → result + sum_of carried way x.acts ≡ initial way x + sum_of granted (other_side way) x.acts }
+        ensures sums { (x : Channel) → Stands self.now x → AddsUp result way x }
     {
         match (self.state, way) {
             (State::Confirmed { up, .. }, Side::Up) => up.room,
