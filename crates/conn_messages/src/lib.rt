@@ -2,12 +2,14 @@
 //! that the master writes of its own.
 #![tactic(auto)]
 
+mod counts;
 mod further;
 mod message;
 mod places;
 mod read;
 mod write;
 
+pub use counts::{data_len, wanted};
 pub use message::{Global, Message, Opens};
 pub use places::{recipient_at, sender_at};
 pub use read::read_message;
