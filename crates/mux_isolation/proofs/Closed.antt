@@ -49,7 +49,7 @@ ends-all c k e (f ∷ fs) mine = (ap (λ b. (elim b as (λ _. Forwarding) [ true
     both : (a b k : ℕ) → (a == k) ≡ true → (b == k) ≡ true → (a == b) ≡ true
     both a b k e f = grind (arith, nat_tests)
 
-replied-done : (n : ℕ) (m : Gist) (f : Forwarding) → f.over ≡ true → (replied n m f).over ≡ true
+pub replied-done : (n : ℕ) (m : Gist) (f : Forwarding) → f.over ≡ true → (replied n m f).over ≡ true
 replied-done n (Succeeds rest) f done = by_case (is_request f n) (is_number f.cancel n)
   where
     by_case : (a b : Bool) → (elim a as (λ _. Forwarding) [ true ↦ record f { live = Some (bound f.port rest) } | false ↦ elim b as (λ _. Forwarding) [ true ↦ record f { over = true } | false ↦ f ] ]).over ≡ true

@@ -12,6 +12,7 @@ pub mod Mays
 pub mod Meets
 pub mod Named
 pub mod Numbers
+pub mod Offers
 pub mod OwnSayings
 pub mod Replied
 pub mod Rows

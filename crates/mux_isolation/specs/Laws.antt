@@ -1,7 +1,7 @@
 -- Laws over all runs: each holds of every right log of a lawful wire, whatever numbers are picked and whatever the
 -- house replies.
 use Rattle.std.specs.Prelude.{ℕ, ◌≡◌, ◌≤◌, List, [], false, length}
-use Rattle.mux_history.specs.declared.limits.TheConstants.{MAX_CHANNELS, MAX_QUEUE}
+use Rattle.mux_history.specs.declared.limits.TheConstants.{MAX_CHANNELS, MAX_FORWARDINGS, MAX_QUEUE}
 use Rattle.mux_history.specs.Rows.{Row, rows_of}
 use Rattle.mux_history.specs.Pending.{waiting_down}
 use Rattle.mux_history.specs.Channels.{held_of}
@@ -56,6 +56,13 @@ ChannelsBounded rows = (k : ℕ) → length (held_of (rows_of k rows)) ≤ MAX_C
 
 abbrev pub ChannelsAreFew : Type 0
 ChannelsAreFew = OverRight (λ setting rows. AtEach ChannelsBounded rows)
+
+-- a client has at most 64 forwardings, asked or live
+abbrev pub ForwardingsBounded : List Row → Type 0
+ForwardingsBounded rows = (k : ℕ) → length (current (rows_of k rows)) ≤ MAX_FORWARDINGS
+
+abbrev pub ForwardingsAreFew : Type 0
+ForwardingsAreFew = OverRight (λ setting rows. AtEach ForwardingsBounded rows)
 
 -- every right log keeps all that a run promises of its rows
 abbrev pub AllIsKept : Type 0

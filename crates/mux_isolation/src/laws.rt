@@ -1,4 +1,4 @@
-ghost use Rattle.mux_isolation.specs.Laws.{Isolation, WindowsAreKept, PermissionsAreKept, AskersAreServed, MasterSaysLittle, NothingIsLeft, QueuesAreBounded, ChannelsAreFew, AllIsKept};
+ghost use Rattle.mux_isolation.specs.Laws.{Isolation, WindowsAreKept, PermissionsAreKept, AskersAreServed, MasterSaysLittle, NothingIsLeft, QueuesAreBounded, ChannelsAreFew, ForwardingsAreFew, AllIsKept};
 
 /// What an admitted client is told and what is sent for it is what an unshared connection gives from its
 /// own bytes and the server's messages for its channels, up to the numbers that stand for its own.
@@ -40,6 +40,11 @@ pub fn queues_are_bounded()
 /// At no row does a client hold more than 256 channels.
 pub fn channels_are_few()
     ensures { ChannelsAreFew }
+{}
+
+/// At no row does a client have more than 64 forwardings, asked or live.
+pub fn forwardings_are_few()
+    ensures { ForwardingsAreFew }
 {}
 
 /// Every right log keeps all that a run promises of its rows: windows, permissions, askers, numbers apart,
