@@ -2,6 +2,7 @@ pub mod Alike
 pub mod AllRuns
 pub mod Allowed
 pub mod Alone
+pub mod Asked
 pub mod Bounded
 pub mod Closed
 pub mod Few

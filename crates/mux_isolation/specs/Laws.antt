@@ -1,7 +1,7 @@
 -- Laws over all runs: each holds of every right log of a lawful wire, whatever numbers are picked and whatever the
 -- house replies.
-use Rattle.std.specs.Prelude.{ℕ, ◌≡◌, ◌≤◌, List, [], false, length}
-use Rattle.mux_history.specs.declared.limits.TheConstants.{MAX_CHANNELS, MAX_FORWARDINGS, MAX_QUEUE}
+use Rattle.std.specs.Prelude.{ℕ, ◌+◌, ◌≡◌, ◌≤◌, List, [], false, length}
+use Rattle.mux_history.specs.declared.limits.TheConstants.{MAX_CHANNELS, MAX_FORWARDINGS, MAX_GLOBAL_REQUESTS, MAX_QUEUE}
 use Rattle.mux_history.specs.Rows.{Row, rows_of}
 use Rattle.mux_history.specs.Pending.{waiting_down}
 use Rattle.mux_history.specs.Channels.{held_of}
@@ -63,6 +63,13 @@ ForwardingsBounded rows = (k : ℕ) → length (current (rows_of k rows)) ≤ MA
 
 abbrev pub ForwardingsAreFew : Type 0
 ForwardingsAreFew = OverRight (λ setting rows. AtEach ForwardingsBounded rows)
+
+-- at most 1,024 global requests of a client that were sent have no reply
+abbrev pub RequestsBounded : List Row → Type 0
+RequestsBounded rows = (k : ℕ) → length (asks (rows_of k rows)) ≤ length (replies (rows_of k rows)) + MAX_GLOBAL_REQUESTS
+
+abbrev pub RequestsAreFew : Type 0
+RequestsAreFew = OverRight (λ setting rows. AtEach RequestsBounded rows)
 
 -- every right log keeps all that a run promises of its rows
 abbrev pub AllIsKept : Type 0
