@@ -1,5 +1,5 @@
 -- The arms of an offer.
-use Rattle.std.proofs.Common.{◌≡◌, ◌≢◌, ◌≤◌, ◌<◌, ◌-◌, ℕ, Bool, true, false, ◌||◌, List, [], ◌∷◌, ◌++◌, length, take, drop, Option, Some, None, refl, sym, ap, ◌∙◌, subst, inl, inr, ◌⊎◌, cond, arith, length-drop}
+use Rattle.std.proofs.Common.{◌≡◌, ◌≢◌, ◌≤◌, ◌<◌, ◌-◌, ℕ, Bool, true, false, ◌||◌, List, [], ◌∷◌, length, drop, Option, refl, sym, ap, ◌∙◌, subst, inl, inr, cond, arith, length-drop}
 use Rattle.std.specs.Prelude.{◌==◌, is_some, Result, Ok, Err, MatchResult, IsErr}
 use Rattle.std.specs.Bool.{MatchBool}
 use Rattle.std.proofs.lemmas.Bool.{eqb-true}
@@ -10,18 +10,16 @@ use Rattle.mux_outside.specs.Wire.{StreamFault}
 use Rattle.mux_outside.specs.declared.mark.Mark.{Mark}
 use Rattle.mux_outside.specs.declared.mark.Mark.TheVariants.{WriteFails}
 use Rattle.mux_history.specs.declared.ended.Ended.TheVariants as ended
-use Rattle.mux_history.specs.Journal.{is_blocked}
-use Rattle.mux_history.specs.Promises.{IsSettled}
 use Rattle.mux_engine.specs.State.{ClientState, State}
 use Rattle.mux_engine.specs.Step.{is_present, numbers, queue_in, at_client, client_took, taken, over, changed, lost_client, after}
 use Rattle.mux_engine.specs.Stands.{setting, Stands}
-use Rattle.mux_engine.specs.Serving.{Serving, Promised, IsServed}
+use Rattle.mux_engine.specs.Serving.{Serving}
 use Rattle.mux_engine.proofs.Grows.{test_other, or_true}
 use Rattle.mux_engine.proofs.Wires.{among_numbers, numbers_at}
 use Rattle.mux_engine.proofs.Offers.{serve_empty, without_other, AtStream, at_stream, nonzero_here}
 
 pub seen_same : (pid : ℕ) (start told : Option (List Mark)) (streams streams' blocked blocked' held held' : List ℕ) (listens listens' : Bool) (last last' given : ℕ) (todo : List ℕ) (s s' : State) → Serving pid start told streams blocked held listens last given todo s
-  → streams' ≡ streams → blocked' ≡ blocked → held' ≡ held → listens' ≡ listens → last' ≡ last → s' ≡ s → Serving pid start told streams' blocked' held' listens' last' given todo s'
+    → streams' ≡ streams → blocked' ≡ blocked → held' ≡ held → listens' ≡ listens → last' ≡ last → s' ≡ s → Serving pid start told streams' blocked' held' listens' last' given todo s'
 seen_same pid start told streams streams' blocked blocked' held held' listens listens' last last' given todo s s' v a b c d e f =
     subst (λ x. Serving pid start told x blocked' held' listens' last' given todo s') (sym a)
     (subst (λ x. Serving pid start told streams x held' listens' last' given todo s') (sym b)
@@ -74,13 +72,13 @@ here_nonzero pid start told streams blocked held listens last given todo s k v h
 
 -- a stream for which nothing waits is settled
 pub nothing_left : (pid : ℕ) (start told : Option (List Mark)) (streams blocked held : List ℕ) (listens : Bool) (last given : ℕ) (todo : List ℕ) (s : State) (k : ℕ) → Serving pid start told streams blocked held listens last given todo s → is_present s.clients k ≡ true → queue_in s.clients k ≡ []
-  → Serving pid start told streams blocked held listens last given (without k todo) s
+    → Serving pid start told streams blocked held listens last given (without k todo) s
 nothing_left pid start told streams blocked held listens last given todo s k v here none =
     serve_empty pid start told streams blocked held listens last given todo (without k todo) s v
-      (λ t journal closed e st b a. elim (eqb_tells k t) [
-          inl q ↦ inr (inl (let at : AtStream pid s journal closed k = at_stream pid s journal closed k e st here in ap (λ i. Rattle.mux_history.specs.Pending.pending i (Rattle.mux_engine.specs.Stands.log pid journal)) (sym q.1) ∙ (sym at.queue ∙ none)))
-        | inr q ↦ inl (sym (without_other k t todo q.1) ∙ a)
-        ])
+    (λ t journal closed e st b a. elim (eqb_tells k t) [
+      | inl q ↦ inr (inl (let at : AtStream pid s journal closed k = at_stream pid s journal closed k e st here in ap (λ i. Rattle.mux_history.specs.Pending.pending i (Rattle.mux_engine.specs.Stands.log pid journal)) (sym q.1) ∙ (sym at.queue ∙ none)))
+      | inr q ↦ inl (sym (without_other k t todo q.1) ∙ a)
+    ])
 
 pub empty_is : (bytes : List ℕ) → (length bytes == 0) ≡ true → bytes ≡ []
 empty_is [] e = refl

@@ -1,20 +1,18 @@
 -- The loops over streams that are offered what waits for them, and over clients that are closed.
-use Rattle.std.proofs.Common.{◌≡◌, ◌≢◌, ◌≤◌, ◌<◌, ◌+◌, ℕ, zero, suc, Bool, true, false, not, ◌||◌, List, [], ◌∷◌, ◌++◌, length, get_or, drop, Option, Some, None, refl, sym, ap, ◌∙◌, subst, inl, inr, ◌⊎◌, cond, arith}
-use Rattle.std.specs.Prelude.{◌==◌, filter, is_some}
+use Rattle.std.proofs.Common.{◌≡◌, ◌≢◌, ◌≤◌, ◌<◌, ◌+◌, ℕ, zero, suc, Bool, true, false, not, ◌||◌, List, [], ◌∷◌, length, get_or, drop, Option, Some, None, refl, sym, ap, ◌∙◌, subst, inl, inr, ◌⊎◌, cond, arith}
+use Rattle.std.specs.Prelude.{◌==◌, filter}
 use Rattle.std.proofs.Math.Seq.{drop-cons}
-use Rattle.std.proofs.lemmas.Bool.{eq-eqb, eqb-true}
+use Rattle.std.proofs.lemmas.Bool.{eq-eqb}
 use Rattle.std.proofs.lemmas.Bool.Decides.{eqb_tells}
 use Rattle.mux_outside.specs.Streams.{among, without}
 use Rattle.mux_outside.specs.declared.mark.Mark.{Mark}
 use Rattle.mux_history.specs.declared.why.Why.{Why}
-use Rattle.mux_history.specs.Rows.{Row, rows_of, is_out, losses}
-use Rattle.mux_history.specs.Pending.{pending}
-use Rattle.mux_history.specs.Journal.{is_blocked}
+use Rattle.mux_history.specs.Rows.{rows_of, is_out, losses}
 use Rattle.mux_history.specs.Promises.{IsSettled, is_empty}
 use Rattle.mux_engine.specs.State.{ClientState, State}
-use Rattle.mux_engine.specs.Step.{is_present, numbers, queue_in, waiting_in, without_client, closed_by, first_of}
+use Rattle.mux_engine.specs.Step.{is_present, numbers, queue_in, without_client, closed_by, first_of}
 use Rattle.mux_engine.specs.Stands.{setting, log, Stands, IsFirst, not_closed}
-use Rattle.mux_engine.specs.Serving.{Serving, IsServed, IsUnseen}
+use Rattle.mux_engine.specs.Serving.{Serving, IsUnseen}
 use Rattle.mux_engine.proofs.Grows.{test_other, or_true}
 use Rattle.mux_engine.proofs.Moved.{true_false}
 use Rattle.mux_engine.proofs.Served.{gone_less, present_less}
@@ -33,16 +31,16 @@ wider pid start told streams blocked held listens last given todo s k v = serve_
 pub none_without : (k : ℕ) (todo : List ℕ) → among k (without k todo) ≡ false
 none_without k [] = refl
 none_without k (j ∷ todo) = elim (eqb_tells j k) [
-    inl q ↦ ap (λ b. among k (cond (not b) (j ∷ without k todo) (without k todo))) q.0 ∙ none_without k todo
+  | inl q ↦ ap (λ b. among k (cond (not b) (j ∷ without k todo) (without k todo))) q.0 ∙ none_without k todo
   | inr q ↦ ap (λ b. among k (cond (not b) (j ∷ without k todo) (without k todo))) q.0 ∙ (ap (λ b. b || among k (without k todo)) q.0 ∙ none_without k todo)
-  ]
+]
 
 -- the stream that was offered is done with
 pub narrower : (pid : ℕ) (start told : Option (List Mark)) (streams blocked held : List ℕ) (listens : Bool) (last given : ℕ) (todo : List ℕ) (s : State) (k : ℕ) → Serving pid start told streams blocked held listens last given (without k (k ∷ todo)) s → Serving pid start told streams blocked held listens last given todo s
 narrower pid start told streams blocked held listens last given todo s k v = serve_empty pid start told streams blocked held listens last given (without k (k ∷ todo)) todo s v (λ t journal closed e st b a. inl (elim (eqb_tells k t) [
-    inl q ↦ ap (λ i. among i (without k (k ∷ todo))) (sym q.1) ∙ none_without k (k ∷ todo)
+  | inl q ↦ ap (λ i. among i (without k (k ∷ todo))) (sym q.1) ∙ none_without k (k ∷ todo)
   | inr q ↦ without_other k t (k ∷ todo) q.1 ∙ (ap (λ b. b || among t todo) q.0 ∙ a)
-  ]))
+]))
 
 -- after one offer more is to be offered, or nothing
 pub on_more : (pid : ℕ) (start told : Option (List Mark)) (streams blocked held : List ℕ) (listens : Bool) (last given : ℕ) (todo : List ℕ) (s : State) (k : ℕ) (more : Bool) → more ≡ true → Serving pid start told streams blocked held listens last given (cond more (k ∷ (k ∷ todo)) (without k (k ∷ todo))) s → Serving pid start told streams blocked held listens last given (k ∷ todo) s
@@ -57,11 +55,11 @@ on_done pid start told streams blocked held listens last given todo s k more e v
 
 -- a stream that is blocked is settled
 pub held_back : (pid : ℕ) (start told : Option (List Mark)) (streams blocked held : List ℕ) (listens : Bool) (last given : ℕ) (todo : List ℕ) (s : State) (k : ℕ) → Serving pid start told streams blocked held listens last given (k ∷ todo) s → is_present s.clients k ≡ true → among k held ≡ true
-  → Serving pid start told streams blocked held listens last given todo s
+    → Serving pid start told streams blocked held listens last given todo s
 held_back pid start told streams blocked held listens last given todo s k v here h = serve_empty pid start told streams blocked held listens last given (k ∷ todo) todo s v (λ t journal closed e st b a. elim (eqb_tells k t) [
-    inl q ↦ inr (inr (inl (sym (b t (ap (is_present s.clients) (sym q.1) ∙ here)) ∙ (ap (λ i. among i blocked) (sym q.1) ∙ (ap (among k) (sym v.held_is) ∙ h)))))
+  | inl q ↦ inr (inr (inl (sym (b t (ap (is_present s.clients) (sym q.1) ∙ here)) ∙ (ap (λ i. among i blocked) (sym q.1) ∙ (ap (among k) (sym v.held_is) ∙ h)))))
   | inr q ↦ inl (ap (λ b. b || among t todo) q.0 ∙ a)
-  ])
+])
 
 not_empty : (q : List ℕ) → not (is_empty q) ≡ false → q ≡ []
 not_empty [] e = refl
@@ -74,8 +72,8 @@ only_waiting pid start told streams blocked held listens last given s v = serve_
     by_here : (t : ℕ) (journal : List Mark) (closed : List ℕ) → s.pid ≡ pid → Stands s journal closed → among t s.waiting ≡ false → (b : Bool) → among t (numbers s.clients) ≡ b → (among t (numbers s.clients) ≡ false) ⊎ IsSettled (setting pid) journal t
     by_here t journal closed e st a false h = inl h
     by_here t journal closed e st a true h =
-      let at : AtStream pid s journal closed t = at_stream pid s journal closed t e st (sym (among_numbers t s.clients) ∙ h) in
-      inr (inl (sym at.queue ∙ not_empty (queue_in s.clients t) (sym (waits_among t s.clients st.apart) ∙ (ap (among t) (sym st.waiting_is) ∙ a))))
+        let at : AtStream pid s journal closed t = at_stream pid s journal closed t e st (sym (among_numbers t s.clients) ∙ h) in
+        inr (inl (sym at.queue ∙ not_empty (queue_in s.clients t) (sym (waits_among t s.clients st.apart) ∙ (ap (among t) (sym st.waiting_is) ∙ a))))
 
 pub waits_here : (s : State) (marks : List Mark) (closed : List ℕ) (t : ℕ) → Stands s marks closed → among t s.waiting ≡ true → is_present s.clients t ≡ true
 waits_here s marks closed t st a = by_here (is_present s.clients t) refl
@@ -118,12 +116,12 @@ without_numbers k (c ∷ cs) = by_test (c.number == k) (without_numbers k cs)
 
 among_less : (k t : ℕ) (xs : List ℕ) → among t xs ≡ false → among t (without k xs) ≡ false
 among_less k t xs a = elim (eqb_tells k t) [
-    inl q ↦ ap (λ i. among i (without k xs)) (sym q.1) ∙ none_without k xs
+  | inl q ↦ ap (λ i. among i (without k xs)) (sym q.1) ∙ none_without k xs
   | inr q ↦ without_other k t xs q.1 ∙ a
-  ]
+]
 
 pub serve_closed : (pid : ℕ) (start told : Option (List Mark)) (streams blocked held : List ℕ) (listens : Bool) (last given : ℕ) (todo : List ℕ) (s : State) (k : ℕ) → Serving pid start told streams blocked held listens last given todo s → IsFirst k s.leaving
-  → Serving pid start told (without k streams) (without k blocked) (without k held) listens last given todo (closed_by s k)
+    → Serving pid start told (without k streams) (without k blocked) (without k held) listens last given todo (closed_by s k)
 serve_closed pid start told streams blocked held listens last given todo s k v first =
     let nz : k ≢ 0 = first_nonzero s v.journal v.closed k v.stands first in
     record {
@@ -137,9 +135,9 @@ serve_closed pid start told streams blocked held listens last given todo s k v f
       open_are = ap (without k) v.open_are ∙ (ap (λ b. cond (not b) (0 ∷ without k (numbers s.clients)) (without k (numbers s.clients))) (test_other 0 k (λ e. nz (sym e))) ∙ ap (λ l. 0 ∷ l) (without_numbers k s.clients));
       held_is = ap (without k) v.held_is;
       blocked_is = λ t p. elim (eqb_tells k t) [
-          inl q ↦ true_false (sym p ∙ (ap (is_present (without_client k s.clients)) (sym q.1) ∙ gone_less k s.clients))
+        | inl q ↦ true_false (sym p ∙ (ap (is_present (without_client k s.clients)) (sym q.1) ∙ gone_less k s.clients))
         | inr q ↦ without_other k t blocked q.1 ∙ v.blocked_is t (sym (present_less k t s.clients q.1) ∙ p)
-        ];
+      ];
       failed_out = v.failed_out;
       unseen = λ j lt. let u : IsUnseen v.journal blocked j = v.unseen j lt in record { not_accepted = u.not_accepted; never_blocked = u.never_blocked; not_blocked = among_less k j blocked u.not_blocked };
       settled = v.settled;
@@ -157,8 +155,8 @@ filter_short p (l ∷ ls) = by_test (p l) (filter_short p ls)
 pub fewer : (k : ℕ) (ls : List (ℕ × Option Why)) → IsFirst k ls → length (filter (λ (l : ℕ × Option Why). not (l.0 == k)) ls) < length ls
 fewer k [] f = absurd f
 fewer k (l ∷ ls) f = let e : filter (λ (l : ℕ × Option Why). not (l.0 == k)) (l ∷ ls) ≡ filter (λ (l : ℕ × Option Why). not (l.0 == k)) ls = ap (λ b. cond (not b) (l ∷ filter (λ (l : ℕ × Option Why). not (l.0 == k)) ls) (filter (λ (l : ℕ × Option Why). not (l.0 == k)) ls)) (eq-eqb l.0 k f) in
-  let s : length (filter (λ (l : ℕ × Option Why). not (l.0 == k)) ls) ≤ length ls = filter_short (λ (l : ℕ × Option Why). not (l.0 == k)) ls in
-  omega (arith, ap length e)
+    let s : length (filter (λ (l : ℕ × Option Why). not (l.0 == k)) ls) ≤ length ls = filter_short (λ (l : ℕ × Option Why). not (l.0 == k)) ls in
+    omega (arith, ap length e)
 
 pub first_is : (k : ℕ) (why : Option Why) (ls : List (ℕ × Option Why)) → first_of ls ≡ Some (k, why) → IsFirst k ls
 first_is k why [] e = absurd (cc)

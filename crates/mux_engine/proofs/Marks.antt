@@ -1,21 +1,19 @@
 -- What a turn makes of what holds while a wire is served.
-use Rattle.std.proofs.Common.{◌≡◌, ◌≢◌, ◌≤◌, ◌<◌, ◌+◌, ℕ, Bool, true, false, not, ◌||◌, List, [], ◌∷◌, ◌++◌, length, Option, Some, None, refl, sym, ap, ◌∙◌, subst, inl, inr, ◌⊎◌, cond, arith, append_assoc}
-use Rattle.std.specs.Prelude.{◌==◌, is_some, IsTrue}
-use Rattle.std.specs.Option.{option_map}
+use Rattle.std.proofs.Common.{◌≡◌, ◌≢◌, ◌<◌, ◌+◌, ℕ, Bool, true, false, ◌||◌, List, [], ◌∷◌, ◌++◌, Option, None, refl, sym, ap, ◌∙◌, inl, inr, cond, arith}
+use Rattle.std.specs.Prelude.{◌==◌}
 use Rattle.std.proofs.lemmas.Bool.{eq-eqb}
 use Rattle.std.proofs.lemmas.Bool.Decides.{eqb_tells}
 use Rattle.std.proofs.lemmas.List.Folds.{list_any-append}
 use Rattle.mux_outside.specs.Streams.{among, without}
 use Rattle.mux_outside.specs.declared.mark.Mark.{Mark}
 use Rattle.mux_outside.specs.declared.mark.Mark.TheVariants.{Waits, Accepts, Gets, Ends, Frees, Fails, Takes, Holds, WriteFails}
-use Rattle.mux_history.specs.Rows.{is_out, rows_of}
 use Rattle.mux_history.specs.Journal.{is_blocked}
 use Rattle.mux_history.specs.Promises.{IsSettled, write_failed, waits_in}
 use Rattle.mux_engine.specs.State.{State}
 use Rattle.mux_engine.specs.Step.{is_present, numbers, after}
 use Rattle.mux_engine.specs.Stands.{setting, log, Stands, is_accepted}
 use Rattle.mux_engine.specs.Serving.{Serving, IsUnseen}
-use Rattle.mux_engine.proofs.Grows.{test_other, or_true}
+use Rattle.mux_engine.proofs.Grows.{test_other}
 use Rattle.mux_engine.proofs.Moved.{true_false}
 use Rattle.mux_engine.proofs.GoesOn.{goes_on}
 use Rattle.mux_engine.proofs.Others.{mark_stream, server_pending}
@@ -30,14 +28,14 @@ stream_here pid start told streams blocked held listens last given todo s k v fo
 
 -- whoever has no stream that is named by the mark is settled as before
 rest_settled : (pid : ℕ) (start told : Option (List Mark)) (streams blocked held : List ℕ) (listens : Bool) (last given : ℕ) (s : State) (v : Serving pid start told streams blocked held listens last given [] s) (mark : Mark)
-  → Stands (after s mark) (mark ∷ v.journal) v.closed → (after s mark).pid ≡ pid → (mark_stream mark ≢ 0 → among (mark_stream mark) (numbers (after s mark).clients) ≡ true)
-  → (t : ℕ) → among t (numbers (after s mark).clients) ≡ false → IsSettled (setting pid) (mark ∷ v.journal) t
+    → Stands (after s mark) (mark ∷ v.journal) v.closed → (after s mark).pid ≡ pid → (mark_stream mark ≢ 0 → among (mark_stream mark) (numbers (after s mark).clients) ≡ true)
+    → (t : ℕ) → among t (numbers (after s mark).clients) ≡ false → IsSettled (setting pid) (mark ∷ v.journal) t
 rest_settled pid start told streams blocked held listens last given s v mark st same here t a = elim (eqb_tells t 0) [
-    inl z ↦ inl (ap (λ i. Rattle.mux_history.specs.Pending.pending i (log pid (mark ∷ v.journal))) z.1 ∙ server_pending (log pid (mark ∷ v.journal)) (plain_at pid (after s mark) (mark ∷ v.journal) v.closed same st))
+  | inl z ↦ inl (ap (λ i. Rattle.mux_history.specs.Pending.pending i (log pid (mark ∷ v.journal))) z.1 ∙ server_pending (log pid (mark ∷ v.journal)) (plain_at pid (after s mark) (mark ∷ v.journal) v.closed same st))
   | inr z ↦ settled_other pid mark v.journal t (plain_at pid s v.journal v.closed v.pid_is v.stands) (plain_at pid (after s mark) (mark ∷ v.journal) v.closed same st)
       (λ e. true_false (sym (ap (λ i. among i (numbers (after s mark).clients)) (sym e) ∙ here (λ w. z.1 (sym e ∙ w))) ∙ a))
       (v.settled t refl)
-  ]
+]
 
 -- what is told by the stream of the server or of a client that is here
 abbrev pub OfStream : Mark → Type 0
@@ -71,7 +69,7 @@ says_mark s journal (Holds k) o acc = absurd o
 says_mark s journal (WriteFails k) o acc = absurd o
 
 pub next_says : (pid : ℕ) (start told : Option (List Mark)) (streams blocked held : List ℕ) (hears : Bool) (last given : ℕ) (s : State) (v : Serving pid start told streams blocked held hears last given [] s) (mark : Mark)
-  → OfStream mark → among (mark_stream mark) streams ≡ true → Next pid s v.journal streams blocked held last given (numbers (after s mark).clients) mark
+    → OfStream mark → among (mark_stream mark) streams ≡ true → Next pid s v.journal streams blocked held last given (numbers (after s mark).clients) mark
 next_says pid start told streams blocked held hears last given s v mark o found =
     let acc : mark_stream mark ≢ 0 → is_accepted (mark_stream mark) v.journal ≡ true = λ nz. accepted_here s v.journal v.closed (mark_stream mark) v.stands (stream_here pid start told streams blocked held hears last given [] s (mark_stream mark) v found nz) in
     let m : Says s v.journal mark = says_mark s v.journal mark o acc in
@@ -85,12 +83,12 @@ next_says pid start told streams blocked held hears last given s v mark o found 
       failed_out = λ t w live. log_out pid mark v.journal t (v.failed_out t (sym (m.failed t) ∙ w) live);
       unseen = unseen_more s v.journal v.closed blocked blocked last mark v.stands m.comes acc v.unseen (λ j ne. refl);
       settled = rest_settled pid start told streams blocked held hears last given s v mark (goes_on s mark v.journal v.closed v.stands m.allowed) (Rattle.mux_engine.proofs.Wires.after_pid s mark ∙ v.pid_is)
-        (λ nz. ap (among (mark_stream mark)) (after_numbers s mark m.comes) ∙ (among_numbers (mark_stream mark) s.clients ∙ stream_here pid start told streams blocked held hears last given [] s (mark_stream mark) v found nz));
+          (λ nz. ap (among (mark_stream mark)) (after_numbers s mark m.comes) ∙ (among_numbers (mark_stream mark) s.clients ∙ stream_here pid start told streams blocked held hears last given [] s (mark_stream mark) v found nz));
     }
 
 -- a client comes
 pub next_accepts : (pid : ℕ) (start told : Option (List Mark)) (streams blocked held : List ℕ) (hears : Bool) (last given : ℕ) (s : State) (v : Serving pid start told streams blocked held hears last given [] s) (k : ℕ)
-  → k ≡ last + 1 → s.ended ≡ None → Next pid s v.journal (streams ++ k ∷ []) blocked held k given (numbers (after s (Accepts k)).clients) (Accepts k)
+    → k ≡ last + 1 → s.ended ≡ None → Next pid s v.journal (streams ++ k ∷ []) blocked held k given (numbers (after s (Accepts k)).clients) (Accepts k)
 next_accepts pid start told streams blocked held hears last given s v k e live =
     let mark : Mark = Accepts k in
     let new : last < k = omega arith in
@@ -105,14 +103,14 @@ next_accepts pid start told streams blocked held hears last given s v k e live =
       open_are = ap (λ l. l ++ k ∷ []) v.open_are ∙ ap (λ l. 0 ∷ l) (sym more);
       held_is = v.held_is;
       blocked_is = λ t p. elim (eqb_tells k t) [
-          inl q ↦ ap (λ i. among i blocked) (sym q.1) ∙ (u.not_blocked ∙ (sym u.never_blocked ∙ ap (λ i. is_blocked i v.journal) q.1))
+        | inl q ↦ ap (λ i. among i blocked) (sym q.1) ∙ (u.not_blocked ∙ (sym u.never_blocked ∙ ap (λ i. is_blocked i v.journal) q.1))
         | inr q ↦ v.blocked_is t (sym (among_numbers t s.clients) ∙ (sym (or_none (among t (numbers s.clients))) ∙ (sym (ap (λ b. among t (numbers s.clients) || (b || false)) q.0) ∙ (sym (among_more t) ∙ (sym (ap (among t) more) ∙ (among_numbers t (after s mark).clients ∙ p))))))
-        ];
+      ];
       failed_out = λ t w l. log_out pid mark v.journal t (v.failed_out t w l);
       unseen = λ j lt. let w : IsUnseen v.journal blocked j = v.unseen j (omega arith) in
-        record { not_accepted = ap (λ b. cond b true (is_accepted j v.journal)) (test_other k j (λ q. absurd (omega arith))) ∙ w.not_accepted; never_blocked = w.never_blocked; not_blocked = w.not_blocked };
+          record { not_accepted = ap (λ b. cond b true (is_accepted j v.journal)) (test_other k j (λ q. absurd (omega arith))) ∙ w.not_accepted; never_blocked = w.never_blocked; not_blocked = w.not_blocked };
       settled = rest_settled pid start told streams blocked held hears last given s v mark (goes_on s mark v.journal v.closed v.stands (nz, u.not_accepted)) (Rattle.mux_engine.proofs.Wires.after_pid s mark ∙ v.pid_is)
-        (λ z. ap (among k) more ∙ (among_more k ∙ (ap (λ b. among k (numbers s.clients) || (b || false)) (eq-eqb k k refl) ∙ or_last (among k (numbers s.clients)))));
+          (λ z. ap (among k) more ∙ (among_more k ∙ (ap (λ b. among k (numbers s.clients) || (b || false)) (eq-eqb k k refl) ∙ or_last (among k (numbers s.clients)))));
     }
   where
     or_last : (a : Bool) → (a || (true || false)) ≡ true
@@ -125,7 +123,7 @@ next_accepts pid start told streams blocked held hears last given s v k e live =
 
 -- a stream takes bytes again
 pub next_frees : (pid : ℕ) (start told : Option (List Mark)) (streams blocked held : List ℕ) (hears : Bool) (last given : ℕ) (s : State) (v : Serving pid start told streams blocked held hears last given [] s) (k : ℕ)
-  → among k streams ≡ true → Next pid s v.journal streams (without k blocked) (without k held) last given (numbers s.clients) (Frees k)
+    → among k streams ≡ true → Next pid s v.journal streams (without k blocked) (without k held) last given (numbers s.clients) (Frees k)
 next_frees pid start told streams blocked held hears last given s v k found =
     let mark : Mark = Frees k in
     let here : k ≢ 0 → is_present s.clients k ≡ true = λ nz. stream_here pid start told streams blocked held hears last given [] s k v found nz in
@@ -136,9 +134,9 @@ next_frees pid start told streams blocked held hears last given s v k found =
       open_are = v.open_are;
       held_is = ap (without k) v.held_is;
       blocked_is = λ t p. elim (eqb_tells k t) [
-          inl q ↦ ap (λ i. among i (without k blocked)) (sym q.1) ∙ (none_without k blocked ∙ sym (ap (λ b. elim b as (λ _. Bool) [ true ↦ false | false ↦ is_blocked t v.journal ]) q.0))
+        | inl q ↦ ap (λ i. among i (without k blocked)) (sym q.1) ∙ (none_without k blocked ∙ sym (ap (λ b. elim b as (λ _. Bool) [ true ↦ false | false ↦ is_blocked t v.journal ]) q.0))
         | inr q ↦ without_other k t blocked q.1 ∙ (v.blocked_is t p ∙ sym (ap (λ b. elim b as (λ _. Bool) [ true ↦ false | false ↦ is_blocked t v.journal ]) q.0))
-        ];
+      ];
       failed_out = λ t w l. log_out pid mark v.journal t (v.failed_out t w l);
       unseen = unseen_more s v.journal v.closed blocked (without k blocked) last mark v.stands tt (λ nz. accepted_here s v.journal v.closed k v.stands (here nz)) v.unseen (λ j ne. without_other k j blocked ne);
       settled = rest_settled pid start told streams blocked held hears last given s v mark (goes_on s mark v.journal v.closed v.stands tt) v.pid_is (λ nz. among_numbers k s.clients ∙ here nz);

@@ -1,9 +1,9 @@
 -- What an answer to a write makes of what holds while a wire is served.
-use Rattle.std.proofs.Common.{◌≡◌, ◌≢◌, ◌≤◌, ◌<◌, ℕ, zero, suc, Bool, true, false, not, ◌||◌, List, [], ◌∷◌, ◌++◌, length, take, drop, Option, Some, None, refl, sym, ap, ◌∙◌, subst, inl, inr, ◌⊎◌, cond, arith}
-use Rattle.std.specs.Prelude.{◌==◌, filter, is_some}
-use Rattle.std.proofs.lemmas.Bool.{eq-eqb, eqb-true}
+use Rattle.std.proofs.Common.{◌≡◌, ◌≢◌, ◌<◌, ℕ, Bool, true, false, not, ◌||◌, List, [], ◌∷◌, ◌++◌, take, drop, Option, None, refl, sym, ap, ◌∙◌, subst, inl, inr, ◌⊎◌, cond, arith}
+use Rattle.std.specs.Prelude.{◌==◌, is_some}
+use Rattle.std.proofs.lemmas.Bool.{eq-eqb}
 use Rattle.std.proofs.lemmas.Bool.Decides.{eqb_tells}
-use Rattle.std.proofs.lemmas.List.{take-append-drop, length-take-le, length-drop}
+use Rattle.std.proofs.lemmas.List.{take-append-drop}
 use Rattle.std.proofs.lemmas.List.Folds.{list_any-append}
 use Rattle.mux_outside.specs.Streams.{among, without}
 use Rattle.mux_outside.specs.declared.mark.Mark.{Mark}
@@ -11,11 +11,11 @@ use Rattle.mux_outside.specs.declared.mark.Mark.TheVariants.{Waits, Accepts, Get
 use Rattle.mux_history.specs.Rows.{Row, rows_of, is_out, is_ended, Gone, ServerFailed}
 use Rattle.mux_history.specs.Pending.{pending}
 use Rattle.mux_history.specs.Journal.{is_blocked}
-use Rattle.mux_history.specs.Promises.{IsSettled, write_failed, is_empty}
-use Rattle.mux_engine.specs.State.{ClientState, State}
-use Rattle.mux_engine.specs.Step.{is_present, numbers, queue_in, after}
+use Rattle.mux_history.specs.Promises.{IsSettled, write_failed}
+use Rattle.mux_engine.specs.State.{State}
+use Rattle.mux_engine.specs.Step.{is_present, queue_in, after}
 use Rattle.mux_engine.specs.Stands.{setting, log, ArePlain, Stands, is_accepted, IsStrange}
-use Rattle.mux_engine.specs.Serving.{IsUnseen, Serving, Promised}
+use Rattle.mux_engine.specs.Serving.{IsUnseen, Serving}
 use Rattle.mux_engine.proofs.Grows.{test_other}
 use Rattle.mux_engine.proofs.Moved.{true_false}
 use Rattle.mux_engine.proofs.Goes.{open_here, gone_is, gone_log}
@@ -54,7 +54,7 @@ blocked_apart mark journal t ne = Rattle.mux_engine.proofs.Wires.blocked_other m
 
 -- a client that did not come yet has no part in a mark
 pub unseen_more : (s : State) (journal : List Mark) (closed blocked blocked' : List ℕ) (last : ℕ) (mark : Mark) → Stands s journal closed → NotArrival mark → (mark_stream mark ≢ 0 → is_accepted (mark_stream mark) journal ≡ true)
-  → ((j : ℕ) → last < j → IsUnseen journal blocked j) → ((j : ℕ) → mark_stream mark ≢ j → among j blocked' ≡ among j blocked) → (j : ℕ) → last < j → IsUnseen (mark ∷ journal) blocked' j
+    → ((j : ℕ) → last < j → IsUnseen journal blocked j) → ((j : ℕ) → mark_stream mark ≢ j → among j blocked' ≡ among j blocked) → (j : ℕ) → last < j → IsUnseen (mark ∷ journal) blocked' j
 unseen_more s journal closed blocked blocked' last mark st n acc unseen same j lt =
     let u : IsUnseen journal blocked j = unseen j lt in
     let apart : mark_stream mark ≢ j = λ e. by_zero e (eqb_tells (mark_stream mark) 0) in
@@ -70,16 +70,16 @@ plain_at pid s journal closed e st = subst (λ p. ArePlain (log p journal)) e st
 pub without_other : (k t : ℕ) (todo : List ℕ) → k ≢ t → among t (without k todo) ≡ among t todo
 without_other k t [] ne = refl
 without_other k t (j ∷ todo) ne = elim (eqb_tells j k) [
-    inl q ↦ ap (λ b. among t (cond (not b) (j ∷ without k todo) (without k todo))) q.0 ∙ (without_other k t todo ne ∙ sym (ap (λ b. b || among t todo) (test_other j t (λ e. ne (sym q.1 ∙ e)))))
+  | inl q ↦ ap (λ b. among t (cond (not b) (j ∷ without k todo) (without k todo))) q.0 ∙ (without_other k t todo ne ∙ sym (ap (λ b. b || among t todo) (test_other j t (λ e. ne (sym q.1 ∙ e)))))
   | inr q ↦ ap (λ b. among t (cond (not b) (j ∷ without k todo) (without k todo))) q.0 ∙ ap (λ b. (j == t) || b) (without_other k t todo ne)
-  ]
+]
 
 -- the streams in `todo` but one
 apart_or_left : (k t : ℕ) (todo : List ℕ) → among t (k ∷ todo) ≡ false → (k ≢ t) × (among t todo ≡ false)
 apart_or_left k t todo a = elim (eqb_tells k t) [
-    inl q ↦ true_false (sym (ap (λ b. b || among t todo) q.0) ∙ a)
+  | inl q ↦ true_false (sym (ap (λ b. b || among t todo) q.0) ∙ a)
   | inr q ↦ (q.1, sym (ap (λ b. b || among t todo) q.0) ∙ a)
-  ]
+]
 
 same_number : (k : ℕ) → (k == k) ≡ true
 same_number k = eq-eqb k k refl
@@ -91,15 +91,15 @@ pub record AtStream (pid : ℕ) (s : State) (journal : List Mark) (closed : List
 
 pub at_stream : (pid : ℕ) (s : State) (journal : List Mark) (closed : List ℕ) (k : ℕ) → s.pid ≡ pid → Stands s journal closed → is_present s.clients k ≡ true → AtStream pid s journal closed k
 at_stream pid s journal closed k e st here = record {
-    nonzero = nonzero_here s journal closed k st here;
-    accepted = accepted_here s journal closed k st here;
-    queue = queue_pending s journal closed k st (open_here s journal closed k st here) ∙ ap (λ p. pending k (log p journal)) e;
-  }
+  nonzero = nonzero_here s journal closed k st here;
+  accepted = accepted_here s journal closed k st here;
+  queue = queue_pending s journal closed k st (open_here s journal closed k st here) ∙ ap (λ p. pending k (log p journal)) e;
+}
 
 -- ---- bytes that were taken
 
 pub next_takes : (pid : ℕ) (start told : Option (List Mark)) (streams blocked held : List ℕ) (listens : Bool) (last given : ℕ) (todo : List ℕ) (s : State) (v : Serving pid start told streams blocked held listens last given todo s) (k n : ℕ)
-  → is_present s.clients k ≡ true → Next pid s v.journal streams blocked held last given (k ∷ todo) (Takes k (take n (queue_in s.clients k)))
+    → is_present s.clients k ≡ true → Next pid s v.journal streams blocked held last given (k ∷ todo) (Takes k (take n (queue_in s.clients k)))
 next_takes pid start told streams blocked held listens last given todo s v k n here =
     let bytes : List ℕ = queue_in s.clients k in
     let mark : Mark = Takes k (take n bytes) in
@@ -113,18 +113,18 @@ next_takes pid start told streams blocked held listens last given todo s v k n h
       held_is = v.held_is;
       blocked_is = λ t p. v.blocked_is t (sym (same_present s mark t tt) ∙ p);
       failed_out = λ t w live. elim (eqb_tells k t) [
-          inl q ↦ true_false (sym w ∙ ap (λ b. elim b as (λ _. Bool) [ true ↦ false | false ↦ write_failed t v.journal ]) q.0)
+        | inl q ↦ true_false (sym w ∙ ap (λ b. elim b as (λ _. Bool) [ true ↦ false | false ↦ write_failed t v.journal ]) q.0)
         | inr q ↦ log_out pid mark v.journal t (v.failed_out t (sym (ap (λ b. elim b as (λ _. Bool) [ true ↦ false | false ↦ write_failed t v.journal ]) q.0) ∙ w) live)
-        ];
+      ];
       unseen = unseen_more s v.journal v.closed blocked blocked last mark v.stands tt (λ z. at.accepted) v.unseen (λ j ne. refl);
       settled = λ t a. let q : (k ≢ t) × (among t todo ≡ false) = apart_or_left k t todo a in
-        settled_other pid mark v.journal t (plain_at pid s v.journal v.closed v.pid_is v.stands) (plain_at pid (after s mark) (mark ∷ v.journal) v.closed v.pid_is st') q.0 (v.settled t q.1);
+          settled_other pid mark v.journal t (plain_at pid s v.journal v.closed v.pid_is v.stands) (plain_at pid (after s mark) (mark ∷ v.journal) v.closed v.pid_is st') q.0 (v.settled t q.1);
     }
 
 -- ---- a stream that is blocked now
 
 pub next_holds : (pid : ℕ) (start told : Option (List Mark)) (streams blocked held : List ℕ) (listens : Bool) (last given : ℕ) (todo : List ℕ) (s : State) (v : Serving pid start told streams blocked held listens last given todo s) (k : ℕ)
-  → is_present s.clients k ≡ true → Next pid s v.journal streams (blocked ++ k ∷ []) (held ++ k ∷ []) last given (without k todo) (Holds k)
+    → is_present s.clients k ≡ true → Next pid s v.journal streams (blocked ++ k ∷ []) (held ++ k ∷ []) last given (without k todo) (Holds k)
 next_holds pid start told streams blocked held listens last given todo s v k here =
     let mark : Mark = Holds k in
     let at : AtStream pid s v.journal v.closed k = at_stream pid s v.journal v.closed k v.pid_is v.stands here in
@@ -136,18 +136,18 @@ next_holds pid start told streams blocked held listens last given todo s v k her
       open_are = v.open_are;
       held_is = ap (λ l. l ++ k ∷ []) v.held_is;
       blocked_is = λ t p. among_more t ∙ elim (eqb_tells k t) [
-          inl q ↦ ap (λ b. among t blocked || (b || false)) q.0 ∙ (or_last (among t blocked) ∙ sym (ap (λ b. elim b as (λ _. Bool) [ true ↦ true | false ↦ is_blocked t v.journal ]) q.0))
+        | inl q ↦ ap (λ b. among t blocked || (b || false)) q.0 ∙ (or_last (among t blocked) ∙ sym (ap (λ b. elim b as (λ _. Bool) [ true ↦ true | false ↦ is_blocked t v.journal ]) q.0))
         | inr q ↦ ap (λ b. among t blocked || (b || false)) q.0 ∙ (or_none (among t blocked) ∙ (v.blocked_is t p ∙ sym (ap (λ b. elim b as (λ _. Bool) [ true ↦ true | false ↦ is_blocked t v.journal ]) q.0)))
-        ];
+      ];
       failed_out = λ t w live. elim (eqb_tells k t) [
-          inl q ↦ true_false (sym w ∙ ap (λ b. elim b as (λ _. Bool) [ true ↦ false | false ↦ write_failed t v.journal ]) q.0)
+        | inl q ↦ true_false (sym w ∙ ap (λ b. elim b as (λ _. Bool) [ true ↦ false | false ↦ write_failed t v.journal ]) q.0)
         | inr q ↦ log_out pid mark v.journal t (v.failed_out t (sym (ap (λ b. elim b as (λ _. Bool) [ true ↦ false | false ↦ write_failed t v.journal ]) q.0) ∙ w) live)
-        ];
+      ];
       unseen = unseen_more s v.journal v.closed blocked (blocked ++ k ∷ []) last mark v.stands tt (λ z. at.accepted) v.unseen (λ j ne. among_more j ∙ (ap (λ b. among j blocked || (b || false)) (test_other k j ne) ∙ or_none (among j blocked)));
       settled = λ t a. elim (eqb_tells k t) [
-          inl q ↦ inr (inl (ap (λ b. elim b as (λ _. Bool) [ true ↦ true | false ↦ is_blocked t v.journal ]) q.0))
+        | inl q ↦ inr (inl (ap (λ b. elim b as (λ _. Bool) [ true ↦ true | false ↦ is_blocked t v.journal ]) q.0))
         | inr q ↦ settled_other pid mark v.journal t (plain_at pid s v.journal v.closed v.pid_is v.stands) (plain_at pid s v.journal v.closed v.pid_is v.stands) q.1 (v.settled t (sym (without_other k t todo q.1) ∙ a))
-        ];
+      ];
     }
   where
     or_last : (a : Bool) → (a || (true || false)) ≡ true
@@ -170,11 +170,11 @@ lost_out s journal closed k nz st live =
     by_out : (b : Bool) → is_out (rows_of k (log s.pid journal)) ≡ b → is_out (rows_of k (Rattle.mux_engine.proofs.Goes.rows_gone s.pid k (log s.pid journal) b)) ≡ true
     by_out true e = e
     by_out false e =
-      let r = gone_is s.pid k (log s.pid journal) st.plain in
-      own_out k (Rattle.mux_engine.proofs.Goes.gone_row s.pid k (log s.pid journal)) (log s.pid journal) r.client_is (ap (λ f. Rattle.mux_engine.proofs.Fits.puts_out f (Rattle.mux_engine.proofs.Goes.gone_row s.pid k (log s.pid journal)).item) r.fate_is ∙ ap (Rattle.mux_engine.proofs.Fits.puts_out Rattle.mux_history.specs.Rows.Goes) r.item_is)
+        let r = gone_is s.pid k (log s.pid journal) st.plain in
+        own_out k (Rattle.mux_engine.proofs.Goes.gone_row s.pid k (log s.pid journal)) (log s.pid journal) r.client_is (ap (λ f. Rattle.mux_engine.proofs.Fits.puts_out f (Rattle.mux_engine.proofs.Goes.gone_row s.pid k (log s.pid journal)).item) r.fate_is ∙ ap (Rattle.mux_engine.proofs.Fits.puts_out Rattle.mux_history.specs.Rows.Goes) r.item_is)
 
 pub next_write_fails : (pid : ℕ) (start told : Option (List Mark)) (streams blocked held : List ℕ) (listens : Bool) (last given : ℕ) (todo : List ℕ) (s : State) (v : Serving pid start told streams blocked held listens last given todo s) (k : ℕ)
-  → is_present s.clients k ≡ true → Next pid s v.journal streams blocked held last given (without k todo) (WriteFails k)
+    → is_present s.clients k ≡ true → Next pid s v.journal streams blocked held last given (without k todo) (WriteFails k)
 next_write_fails pid start told streams blocked held listens last given todo s v k here =
     let mark : Mark = WriteFails k in
     let at : AtStream pid s v.journal v.closed k = at_stream pid s v.journal v.closed k v.pid_is v.stands here in
@@ -187,24 +187,34 @@ next_write_fails pid start told streams blocked held listens last given todo s v
       held_is = v.held_is;
       blocked_is = λ t p. v.blocked_is t (sym (same_present s mark t tt) ∙ p);
       failed_out = λ t w live. elim (eqb_tells k t) [
-          inl q ↦ ap (λ i. is_out (rows_of i (log pid (mark ∷ v.journal)))) (sym q.1) ∙ (ap (λ p. is_out (rows_of k (log p (mark ∷ v.journal)))) (sym v.pid_is) ∙ lost_out s v.journal v.closed k at.nonzero v.stands live)
+        | inl q ↦ ap (λ i. is_out (rows_of i (log pid (mark ∷ v.journal)))) (sym q.1) ∙ (ap (λ p. is_out (rows_of k (log p (mark ∷ v.journal)))) (sym v.pid_is) ∙ lost_out s v.journal v.closed k at.nonzero v.stands live)
         | inr q ↦ log_out pid mark v.journal t (v.failed_out t (sym (ap (λ b. elim b as (λ _. Bool) [ true ↦ true | false ↦ write_failed t v.journal ]) q.0) ∙ w) live)
-        ];
+      ];
       unseen = unseen_more s v.journal v.closed blocked blocked last mark v.stands tt (λ z. at.accepted) v.unseen (λ j ne. refl);
       settled = λ t a. elim (eqb_tells k t) [
-          inl q ↦ inr (inr (ap (λ b. elim b as (λ _. Bool) [ true ↦ true | false ↦ write_failed t v.journal ]) q.0))
+        | inl q ↦ inr (inr (ap (λ b. elim b as (λ _. Bool) [ true ↦ true | false ↦ write_failed t v.journal ]) q.0))
         | inr q ↦ settled_other pid mark v.journal t (plain_at pid s v.journal v.closed v.pid_is v.stands) (plain_at pid (after s mark) (mark ∷ v.journal) v.closed (Rattle.mux_engine.proofs.Wires.after_pid s mark ∙ v.pid_is) st') q.1 (v.settled t (sym (without_other k t todo q.1) ∙ a))
-        ];
+      ];
     }
 
 -- ---- a stream for which nothing waits
 
 pub serve_empty : (pid : ℕ) (start told : Option (List Mark)) (streams blocked held : List ℕ) (listens : Bool) (last given : ℕ) (todo todo' : List ℕ) (s : State) → Serving pid start told streams blocked held listens last given todo s
-  → ((t : ℕ) (journal : List Mark) (closed : List ℕ) → s.pid ≡ pid → Stands s journal closed → ((t : ℕ) → is_present s.clients t ≡ true → among t blocked ≡ is_blocked t journal) → among t todo' ≡ false → (among t todo ≡ false) ⊎ IsSettled (setting pid) journal t)
-  → Serving pid start told streams blocked held listens last given todo' s
+    → ((t : ℕ) (journal : List Mark) (closed : List ℕ) → s.pid ≡ pid → Stands s journal closed → ((t : ℕ) → is_present s.clients t ≡ true → among t blocked ≡ is_blocked t journal) → among t todo' ≡ false → (among t todo ≡ false) ⊎ IsSettled (setting pid) journal t)
+    → Serving pid start told streams blocked held listens last given todo' s
 serve_empty pid start told streams blocked held listens last given todo todo' s v h = record {
-    journal = v.journal; closed = v.closed; pid_is = v.pid_is; tells = v.tells; stands = v.stands; kept = v.kept; waits = v.waits;
-    open_are = v.open_are; held_is = v.held_is; blocked_is = v.blocked_is; failed_out = v.failed_out; unseen = v.unseen;
-    settled = λ t a. elim (h t v.journal v.closed v.pid_is v.stands v.blocked_is a) [ inl b ↦ v.settled t b | inr d ↦ d ];
-    hears = v.hears;
-  }
+  journal = v.journal;
+  closed = v.closed;
+  pid_is = v.pid_is;
+  tells = v.tells;
+  stands = v.stands;
+  kept = v.kept;
+  waits = v.waits;
+  open_are = v.open_are;
+  held_is = v.held_is;
+  blocked_is = v.blocked_is;
+  failed_out = v.failed_out;
+  unseen = v.unseen;
+  settled = λ t a. elim (h t v.journal v.closed v.pid_is v.stands v.blocked_is a) [ inl b ↦ v.settled t b | inr d ↦ d ];
+  hears = v.hears;
+}

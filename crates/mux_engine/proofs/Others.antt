@@ -1,23 +1,23 @@
 -- A mark of one stream leaves the rows, and what is pending, of every other.
-use Rattle.std.proofs.Common.{◌≡◌, ◌≢◌, ℕ, Bool, true, false, not, ◌||◌, ◌&&◌, List, [], ◌∷◌, ◌++◌, length, drop, map, Option, Some, None, refl, sym, ap, ◌∙◌, subst, inl, inr, cond}
+use Rattle.std.proofs.Common.{◌≡◌, ◌≢◌, ℕ, Bool, true, false, ◌&&◌, List, [], ◌∷◌, ◌++◌, length, drop, map, Option, Some, None, refl, sym, ap, ◌∙◌, subst, inl, inr}
 use Rattle.std.specs.Prelude.{◌==◌}
 use Rattle.std.proofs.lemmas.Bool.Decides.{eqb_tells}
 use Rattle.mux_outside.specs.declared.mark.Mark.{Mark}
 use Rattle.mux_outside.specs.declared.mark.Mark.TheVariants.{Waits, Accepts, Gets, Ends, Frees, Fails, Takes, Holds, WriteFails}
 use Rattle.ssh_grammar.specs.Said.{Saying, Body, Payload, BadFraming, InProxy, parse, said}
 use Rattle.mux_history.specs.declared.why.Why.TheVariants as why
-use Rattle.mux_history.specs.Rows.{Row, rows_of, Item, Admit, Says, Gone, Took, ServerEnd, ServerCut, ServerFailed, Unserved, Fate}
+use Rattle.mux_history.specs.Rows.{Row, rows_of, Item, Admit, Says, Gone, Took, ServerFailed, Unserved, Fate}
 use Rattle.mux_history.specs.Pending.{pending, pending_up, pending_down}
 use Rattle.mux_history.specs.Said.{Outcome, silent, drops, said_payload}
 use Rattle.mux_history.specs.Controls.{greeted, body_asks, said_body}
 use Rattle.mux_history.specs.NotBuilt.{LaterControl, ServerSays, built, unbuilt, form_fate}
 use Rattle.mux_history.specs.Choices.{FromLists, pick_of, reply_at, replies_given}
-use Rattle.mux_history.specs.Log.{Setting, more_all, more_of, next_row, makes_next, treat, row_of, admits}
+use Rattle.mux_history.specs.Log.{more_all, more_of, next_row, makes_next, treat, row_of, admits}
 use Rattle.mux_history.specs.Journal.{built_items, bytes_of, said_item, server_end, new_heard, new_sayings}
 use Rattle.mux_history.proofs.LawfulItems.{client-of}
 use Rattle.mux_engine.specs.Stands.{setting, log, ArePlain}
 use Rattle.mux_engine.proofs.Plain.{nothing_up}
-use Rattle.mux_engine.proofs.Grows.{other_row, test_other}
+use Rattle.mux_engine.proofs.Grows.{other_row}
 
 -- the stream of a mark
 abbrev pub mark_stream : Mark → ℕ
@@ -61,7 +61,7 @@ says_of pid k (BadFraming f) rows = said_row (Says k (BadFraming f) None) k (dro
 says_of pid k (Body body) rows = by_flag (greeted (rows_of k rows) && body_asks body)
   where
     by_flag : (b : Bool) → (let item = elim b as (λ _. Item) [ true ↦ Says k (Body body) (Some (reply_at [] (replies_given rows))) | false ↦ Says k (Body body) None ] in
-       let row = treat (setting pid).policy pid (pick_of (FromLists [] []) rows (Says k (Body body) None)) rows item in built (setting pid).missing row (rows_of row.client rows)).client ≡ k
+        let row = treat (setting pid).policy pid (pick_of (FromLists [] []) rows (Says k (Body body) None)) rows item in built (setting pid).missing row (rows_of row.client rows)).client ≡ k
     by_flag true = said_row (Says k (Body body) (Some (reply_at [] (replies_given rows)))) k (said_body pid k (Some (reply_at [] (replies_given rows))) (greeted (rows_of k rows)) body) (rows_of k rows) rows
     by_flag false = said_row (Says k (Body body) None) k (said_body pid k None (greeted (rows_of k rows)) body) (rows_of k rows) rows
 
@@ -86,18 +86,18 @@ end_of_server pid (b ∷ rest) = (λ rows. refl, tt)
 
 lost_items : (pid k : ℕ) (item : Item) → AllOfClient pid 0 (item ∷ []) → AllOfClient pid k (elim (k == 0) as (λ _. List Item) [ true ↦ item ∷ [] | false ↦ Gone k ∷ [] ])
 lost_items pid k item o = elim (eqb_tells k 0) [
-    inl q ↦ subst (λ b. AllOfClient pid k (elim b as (λ _. List Item) [ true ↦ item ∷ [] | false ↦ Gone k ∷ [] ])) (sym q.0) (subst (λ j. AllOfClient pid j (item ∷ [])) (sym q.1) o)
+  | inl q ↦ subst (λ b. AllOfClient pid k (elim b as (λ _. List Item) [ true ↦ item ∷ [] | false ↦ Gone k ∷ [] ])) (sym q.0) (subst (λ j. AllOfClient pid j (item ∷ [])) (sym q.1) o)
   | inr q ↦ subst (λ b. AllOfClient pid k (elim b as (λ _. List Item) [ true ↦ item ∷ [] | false ↦ Gone k ∷ [] ])) (sym q.0) (gone_of pid k, tt)
-  ]
+]
 
 got_items : (pid k : ℕ) (bytes : List ℕ) (before : List Mark) → AllOfClient pid k (elim (k == 0) as (λ _. List Item) [
-    | true ↦ Unserved ∷ []
-    | false ↦ elim (k == 0) as (λ _. List Item) [ true ↦ new_heard (bytes_of 0 before) (bytes_of 0 before ++ bytes) | false ↦ new_sayings k (bytes_of k before) (bytes_of k before ++ bytes) ]
-  ])
+  | true ↦ Unserved ∷ []
+  | false ↦ elim (k == 0) as (λ _. List Item) [ true ↦ new_heard (bytes_of 0 before) (bytes_of 0 before ++ bytes) | false ↦ new_sayings k (bytes_of k before) (bytes_of k before ++ bytes) ]
+])
 got_items pid k bytes before = elim (eqb_tells k 0) [
-    inl q ↦ subst Items (sym q.0) (λ rows. sym q.1, tt)
+  | inl q ↦ subst Items (sym q.0) (λ rows. sym q.1, tt)
   | inr q ↦ subst Items (sym q.0) (all_says pid k (drop (length (said (bytes_of k before))) (said (bytes_of k before ++ bytes))))
-  ]
+]
   where
     Items : Bool → Type 0
     Items b = AllOfClient pid k (elim b as (λ _. List Item) [
@@ -118,9 +118,9 @@ log_other pid (WriteFails k) before t ne = all_other pid k t (built_items (setti
 
 pub pending_other : (pid : ℕ) (mark : Mark) (before : List Mark) (t : ℕ) → ArePlain (log pid before) → ArePlain (log pid (mark ∷ before)) → mark_stream mark ≢ t → pending t (log pid (mark ∷ before)) ≡ pending t (log pid before)
 pending_other pid mark before t p q ne = elim (eqb_tells t 0) [
-    inl z ↦ by_number true z.0 (log pid (mark ∷ before)) ∙ (nothing_up (log pid (mark ∷ before)) q ∙ (sym (nothing_up (log pid before) p) ∙ sym (by_number true z.0 (log pid before))))
+  | inl z ↦ by_number true z.0 (log pid (mark ∷ before)) ∙ (nothing_up (log pid (mark ∷ before)) q ∙ (sym (nothing_up (log pid before) p) ∙ sym (by_number true z.0 (log pid before))))
   | inr z ↦ by_number false z.0 (log pid (mark ∷ before)) ∙ (ap pending_down (log_other pid mark before t ne) ∙ sym (by_number false z.0 (log pid before)))
-  ]
+]
   where
     by_number : (b : Bool) → (t == 0) ≡ b → (rows : List Row) → pending t rows ≡ elim b as (λ _. List ℕ) [ true ↦ pending_up rows | false ↦ pending_down (rows_of t rows) ]
     by_number b e rows = ap (λ b. elim b as (λ _. List ℕ) [ true ↦ pending_up rows | false ↦ pending_down (rows_of t rows) ]) e

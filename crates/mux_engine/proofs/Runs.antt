@@ -1,5 +1,5 @@
 -- The start and the end of a run.
-use Rattle.std.proofs.Common.{◌≡◌, ◌≢◌, ◌≤◌, ◌<◌, ◌+◌, ℕ, Bool, true, false, List, [], ◌∷◌, ◌++◌, Option, Some, None, refl, sym, ap, ◌∙◌, subst, inl, inr, cond, arith}
+use Rattle.std.proofs.Common.{◌≡◌, ◌≤◌, ◌+◌, ℕ, Bool, true, false, List, [], ◌∷◌, Option, Some, None, refl, sym, ap, ◌∙◌, subst, inl, arith}
 use Rattle.std.specs.Prelude.{◌==◌, min, ◌^◌, ◌-◌}
 use Rattle.mux_outside.specs.Counts.{Rose}
 use Rattle.mux_outside.specs.declared.mark.Mark.{Mark}
@@ -8,14 +8,12 @@ use Rattle.mux_history.specs.declared.ended.Ended.{Ended}
 use Rattle.mux_history.specs.declared.ended.Ended.TheVariants as ended
 use Rattle.mux_history.specs.Pending.{pending}
 use Rattle.mux_history.specs.Solo.{end_of}
-use Rattle.mux_history.specs.Journal.{Tells}
-use Rattle.mux_history.specs.Promises.{IsSettled, EndsAs, waits_in}
+use Rattle.mux_history.specs.Promises.{EndsAs, waits_in}
 use Rattle.mux_engine.specs.State.{State}
 use Rattle.mux_engine.specs.Step.{numbers, new_state}
 use Rattle.mux_engine.specs.Events.{went_of}
-use Rattle.mux_engine.specs.declared.engine.Went.{Went}
 use Rattle.mux_engine.specs.declared.engine.Went.TheVariants.{On, Ended as Over}
-use Rattle.mux_engine.specs.Stands.{setting, log, Stands}
+use Rattle.mux_engine.specs.Stands.{log, Stands}
 use Rattle.mux_engine.specs.Serving.{Serving, Promised, Ran, IsRun}
 use Rattle.mux_engine.proofs.Moved.{true_false}
 use Rattle.mux_engine.proofs.Arms.{seen_same}
@@ -24,23 +22,23 @@ use Rattle.mux_engine.proofs.Turned.{no_marks}
 
 new_stands : (pid : ℕ) → Stands (new_state pid) [] []
 new_stands pid = record {
-    ended_is = refl;
-    listening_is = refl;
-    apart = tt;
-    waiting_is = refl;
-    leaving_are = refl;
-    served_are = refl;
-    clients = tt;
-    absent = λ k nz here out. refl;
-    closed_gone = λ k a. true_false (sym a);
-    closed_out = λ k a. true_false (sym a);
-    there = λ on k a here. true_false (sym a);
-    strange = λ k e. record { not_here = refl; not_closed_yet = refl; no_bytes = λ nz. refl };
-    silent = λ on. refl;
-    server_in = refl;
-    plain = tt;
-    known = λ k a. true_false (sym a);
-  }
+  ended_is = refl;
+  listening_is = refl;
+  apart = tt;
+  waiting_is = refl;
+  leaving_are = refl;
+  served_are = refl;
+  clients = tt;
+  absent = λ k nz here out. refl;
+  closed_gone = λ k a. true_false (sym a);
+  closed_out = λ k a. true_false (sym a);
+  there = λ on k a here. true_false (sym a);
+  strange = λ k e. record { not_here = refl; not_closed_yet = refl; no_bytes = λ nz. refl };
+  silent = λ on. refl;
+  server_in = refl;
+  plain = tt;
+  known = λ k a. true_false (sym a);
+}
 
 nothing_pending : (t : ℕ) → pending t [] ≡ []
 nothing_pending t = by_server (t == 0)
@@ -51,40 +49,40 @@ nothing_pending t = by_server (t == 0)
 
 starts_new : (pid : ℕ) (told : Option (List Mark)) (last : ℕ) → Serving pid told told (0 ∷ []) [] [] true last 0 [] (new_state pid)
 starts_new pid told last = record {
-    journal = [];
-    closed = [];
-    pid_is = refl;
-    tells = sym (no_marks told);
-    stands = new_stands pid;
-    kept = record { written = record { takes = tt; waits = tt }; open_streams = tt };
-    waits = refl;
-    open_are = refl;
-    held_is = refl;
-    blocked_is = λ t p. refl;
-    failed_out = λ t w live. true_false (sym w);
-    unseen = λ k lt. record { not_accepted = refl; never_blocked = refl; not_blocked = refl };
-    settled = λ t a. inl (nothing_pending t);
-    hears = λ h. refl;
-  }
+  journal = [];
+  closed = [];
+  pid_is = refl;
+  tells = sym (no_marks told);
+  stands = new_stands pid;
+  kept = record { written = record { takes = tt; waits = tt }; open_streams = tt };
+  waits = refl;
+  open_are = refl;
+  held_is = refl;
+  blocked_is = λ t p. refl;
+  failed_out = λ t w live. true_false (sym w);
+  unseen = λ k lt. record { not_accepted = refl; never_blocked = refl; not_blocked = refl };
+  settled = λ t a. inl (nothing_pending t);
+  hears = λ h. refl;
+}
 
 pub starts : (s : State) (told : Option (List Mark)) (streams blocked : List ℕ) (listens : Bool) (last : ℕ) → s ≡ new_state s.pid → streams ≡ 0 ∷ [] → blocked ≡ [] → listens ≡ true
-  → Serving s.pid told told streams blocked [] listens last 0 (numbers s.clients) s
+    → Serving s.pid told told streams blocked [] listens last 0 (numbers s.clients) s
 starts s told streams blocked listens last fresh a b d =
     todo_is s.pid told told streams blocked [] listens last 0 [] (numbers s.clients) s
-      (seen_same s.pid told told (0 ∷ []) streams [] blocked [] [] true listens last last 0 [] (new_state s.pid) s (starts_new s.pid told last) a b refl d refl fresh)
-      (sym (ap (λ (t : State). numbers t.clients) fresh))
+    (seen_same s.pid told told (0 ∷ []) streams [] blocked [] [] true listens last last 0 [] (new_state s.pid) s (starts_new s.pid told last) a b refl d refl fresh)
+    (sym (ap (λ (t : State). numbers t.clients) fresh))
 
 pub given_is : (pid : ℕ) (start told : Option (List Mark)) (streams blocked held : List ℕ) (listens : Bool) (last given given' : ℕ) (todo : List ℕ) (s : State) → Serving pid start told streams blocked held listens last given todo s → given ≡ given' → Serving pid start told streams blocked held listens last given' todo s
 given_is pid start told streams blocked held listens last given given' todo s v e = subst (λ x. Serving pid start told streams blocked held listens last x todo s) e v
 
 ends_at : (pid turns : ℕ) (start told : Option (List Mark)) (streams blocked held : List ℕ) (listens : Bool) (last given : ℕ) (s : State) (answer : Ended) (v : Serving pid start told streams blocked held listens last given [] s) → given ≤ turns → EndsAs turns v.journal s.ended answer → Ran pid turns start told answer
 ends_at pid turns start told streams blocked held listens last given s answer v le e = record {
-    journal = v.journal;
-    tells = v.tells;
-    kept = v.kept;
-    waits = let w : waits_in v.journal ≡ given = v.waits in omega arith;
-    ends = record { end = subst (λ o. EndsAs turns v.journal o answer) (v.stands.ended_is ∙ ap (λ p. end_of (log p v.journal)) v.pid_is) e; settled = λ t. v.settled t refl };
-  }
+  journal = v.journal;
+  tells = v.tells;
+  kept = v.kept;
+  waits = let w : waits_in v.journal ≡ given = v.waits in omega arith;
+  ends = record { end = subst (λ o. EndsAs turns v.journal o answer) (v.stands.ended_is ∙ ap (λ p. end_of (log p v.journal)) v.pid_is) e; settled = λ t. v.settled t refl };
+}
 
 -- the run ended for this cause
 pub ran_over : (pid turns : ℕ) (start told : Option (List Mark)) (streams blocked held : List ℕ) (listens : Bool) (last given : ℕ) (s : State) (cause : Ended) → Serving pid start told streams blocked held listens last given [] s → given ≤ turns → s.ended ≡ Some cause → Ran pid turns start told cause
@@ -110,15 +108,29 @@ no_later a b c le e = omega arith
 
 pub run_of : (May : HouseReply → Type 0) (pid turns : ℕ) (start told : Option (List Mark)) (answer : Ended) → Ran pid turns start told answer → IsRun May pid turns start told answer
 run_of May pid turns start told answer r = record {
-    journal = r.journal; picks = []; replies = []; tells = r.tells; given = tt;
-    written = r.kept.written; open_streams = r.kept.open_streams; waits = r.waits; ends = λ ne. r.ends;
-  }
+  journal = r.journal;
+  picks = [];
+  replies = [];
+  tells = r.tells;
+  given = tt;
+  written = r.kept.written;
+  open_streams = r.kept.open_streams;
+  waits = r.waits;
+  ends = λ ne. r.ends;
+}
 
 pub run_starved : (May : HouseReply → Type 0) (pid turns : ℕ) (start told : Option (List Mark)) → Promised pid start told turns → IsRun May pid turns start told ended.OutOfMemory
 run_starved May pid turns start told r = record {
-    journal = r.journal; picks = []; replies = []; tells = r.tells; given = tt;
-    written = r.kept.written; open_streams = r.kept.open_streams; waits = r.waits; ends = λ ne. absurd (ne refl);
-  }
+  journal = r.journal;
+  picks = [];
+  replies = [];
+  tells = r.tells;
+  given = tt;
+  written = r.kept.written;
+  open_streams = r.kept.open_streams;
+  waits = r.waits;
+  ends = λ ne. absurd (ne refl);
+}
 
 pub later_all : (a b c d : ℕ) → a ≤ b → c ≡ b → c ≤ d → a ≤ d
 later_all a b c d le e more = omega arith

@@ -11,14 +11,13 @@ use Rattle.mux_outside.specs.declared.mark.Mark.TheVariants.{Waits, Accepts, Get
 use Rattle.mux_outside.specs.declared.turn.Turn.{Turn}
 use Rattle.mux_outside.specs.declared.turn.Turn.TheVariants as turn
 use Rattle.mux_outside.specs.declared.turn.Want.TheVariants.{Read}
-use Rattle.mux_history.specs.declared.ended.Ended.{Ended}
 use Rattle.mux_history.specs.declared.ended.Ended.TheVariants as ended
 use Rattle.mux_engine.specs.State.{State}
 use Rattle.mux_engine.specs.Step.{numbers, after, over, changed, client_got, lost_client, added, refused, new_client, served_in}
 use Rattle.mux_engine.specs.Events.{Tells, IsNext}
 use Rattle.mux_engine.specs.declared.engine.Event.{Event}
 use Rattle.mux_engine.specs.Serving.{Serving, Promised}
-use Rattle.mux_engine.proofs.Wires.{serve_next, promised_of, Next}
+use Rattle.mux_engine.proofs.Wires.{serve_next, promised_of}
 use Rattle.mux_engine.proofs.Turns.{next_waits}
 use Rattle.mux_engine.proofs.Arms.{seen_same}
 use Rattle.mux_engine.proofs.Loops.{todo_is}
@@ -34,9 +33,9 @@ no_marks (Some m) = ap (λ (l : List Mark). Some l) (append-nil m)
 
 -- a wait was told
 waited : (pid : ℕ) (start told : Option (List Mark)) (streams blocked held : List ℕ) (hears : Bool) (last given : ℕ) (s : State) (v : Serving pid start told streams blocked held hears last given [] s) → s.leaving ≡ [] → s.ended ≡ None → hears ≡ s.listening
-  → Serving pid start (option_map (λ m. m ++ Waits s.waiting Read streams hears ∷ []) told) streams blocked held hears last (given + 1) [] s
+    → Serving pid start (option_map (λ m. m ++ Waits s.waiting Read streams hears ∷ []) told) streams blocked held hears last (given + 1) [] s
 waited pid start told streams blocked held hears last given s v none live hear = serve_next pid start told (option_map (λ m. m ++ Waits s.waiting Read streams hears ∷ []) told) streams streams blocked blocked held held hears last last given (given + 1) [] [] s (Waits s.waiting Read streams hears) v refl
-  (next_waits pid start told streams blocked held hears last given s v none live hear)
+    (next_waits pid start told streams blocked held hears last given s v none live hear)
 
 pub record Turned (pid : ℕ) (start now : Option (List Mark)) (streams blocked held : List ℕ) (hears : Bool) (last given : ℕ) (s : State) (e : Event) (before rose : ℕ) : Type 0 where
   pub mark : Mark
@@ -74,15 +73,15 @@ fail_on s k a b c d live f e = by_server (k == 0) f (sym (ap (λ t. (cond t s (c
     by_server false f e = absurd (let w : None ≡ Some ended.ServerFailed = sym live ∙ e in cc)
 
 pub turned : (pid : ℕ) (start told now : Option (List Mark)) (streams blocked held : List ℕ) (hears : Bool) (last given : ℕ) (s : State) (v : Serving pid start told streams blocked held hears last given [] s) → s.leaving ≡ [] → s.ended ≡ None → hears ≡ s.listening
-  → (t : Turn) (bytes : List ℕ) (e : Event) (a b c d : ℕ) → TurnFits t Read hears last streams blocked bytes → now ≡ option_map (λ m. m ++ wait_marks t s.waiting Read streams hears bytes) told → IsNext (Some e) t bytes → TurnFaults t a b c d
-  → Turned pid start now (open_after t streams) (blocked_after t blocked) held hears (last_after t last) (given + 1) s e a b
+    → (t : Turn) (bytes : List ℕ) (e : Event) (a b c d : ℕ) → TurnFits t Read hears last streams blocked bytes → now ≡ option_map (λ m. m ++ wait_marks t s.waiting Read streams hears bytes) told → IsNext (Some e) t bytes → TurnFaults t a b c d
+    → Turned pid start now (open_after t streams) (blocked_after t blocked) held hears (last_after t last) (given + 1) s e a b
 turned pid start told now streams blocked held hears last given s v none live hear (turn.Accepted k) bytes e a b c d fits n tells f =
     let w : Serving pid start (option_map (λ m. m ++ Waits s.waiting Read streams hears ∷ []) told) streams blocked held hears last (given + 1) [] s = waited pid start told streams blocked held hears last given s v none live hear in
     record {
       mark = Accepts k;
       tells = tells;
       serving = serve_next pid start (option_map (λ m. m ++ Waits s.waiting Read streams hears ∷ []) told) now streams (streams ++ k ∷ []) blocked blocked held held hears last k (given + 1) (given + 1) [] (numbers (after s (Accepts k)).clients) s (Accepts k) w
-        (n ∙ two_marks (Waits s.waiting Read streams hears) (Accepts k) told) (next_accepts pid start (option_map (λ m. m ++ Waits s.waiting Read streams hears ∷ []) told) streams blocked held hears last (given + 1) s w k fits.2 live);
+          (n ∙ two_marks (Waits s.waiting Read streams hears) (Accepts k) told) (next_accepts pid start (option_map (λ m. m ++ Waits s.waiting Read streams hears ∷ []) told) streams blocked held hears last (given + 1) s w k fits.2 live);
       failed = accept_on s k (Rose a b) live;
     }
 turned pid start told now streams blocked held hears last given s v none live hear (turn.Got k) bytes e a b c d fits n tells f =
@@ -91,7 +90,7 @@ turned pid start told now streams blocked held hears last given s v none live he
       mark = Gets k bytes;
       tells = tells;
       serving = serve_next pid start (option_map (λ m. m ++ Waits s.waiting Read streams hears ∷ []) told) now streams streams blocked blocked held held hears last last (given + 1) (given + 1) [] (numbers (after s (Gets k bytes)).clients) s (Gets k bytes) w
-        (n ∙ two_marks (Waits s.waiting Read streams hears) (Gets k bytes) told) (next_says pid start (option_map (λ m. m ++ Waits s.waiting Read streams hears ∷ []) told) streams blocked held hears last (given + 1) s w (Gets k bytes) tt fits.1);
+          (n ∙ two_marks (Waits s.waiting Read streams hears) (Gets k bytes) told) (next_says pid start (option_map (λ m. m ++ Waits s.waiting Read streams hears ∷ []) told) streams blocked held hears last (given + 1) s w (Gets k bytes) tt fits.1);
       failed = got_on s k bytes (Rose a b) live;
     }
 turned pid start told now streams blocked held hears last given s v none live hear (turn.End k) bytes e a b c d fits n tells f =
@@ -100,7 +99,7 @@ turned pid start told now streams blocked held hears last given s v none live he
       mark = Ends k;
       tells = tells;
       serving = serve_next pid start (option_map (λ m. m ++ Waits s.waiting Read streams hears ∷ []) told) now streams streams blocked blocked held held hears last last (given + 1) (given + 1) [] (numbers (after s (Ends k)).clients) s (Ends k) w
-        (n ∙ two_marks (Waits s.waiting Read streams hears) (Ends k) told) (next_says pid start (option_map (λ m. m ++ Waits s.waiting Read streams hears ∷ []) told) streams blocked held hears last (given + 1) s w (Ends k) tt fits.1);
+          (n ∙ two_marks (Waits s.waiting Read streams hears) (Ends k) told) (next_says pid start (option_map (λ m. m ++ Waits s.waiting Read streams hears ∷ []) told) streams blocked held hears last (given + 1) s w (Ends k) tt fits.1);
       failed = end_on s k (Rose a b) live;
     }
 turned pid start told now streams blocked held hears last given s v none live hear (turn.Failed k) bytes e a b c d fits n tells f =
@@ -109,26 +108,26 @@ turned pid start told now streams blocked held hears last given s v none live he
       mark = Fails k;
       tells = tells;
       serving = serve_next pid start (option_map (λ m. m ++ Waits s.waiting Read streams hears ∷ []) told) now streams streams blocked blocked held held hears last last (given + 1) (given + 1) [] (numbers (after s (Fails k)).clients) s (Fails k) w
-        (n ∙ two_marks (Waits s.waiting Read streams hears) (Fails k) told) (next_says pid start (option_map (λ m. m ++ Waits s.waiting Read streams hears ∷ []) told) streams blocked held hears last (given + 1) s w (Fails k) tt fits);
+          (n ∙ two_marks (Waits s.waiting Read streams hears) (Fails k) told) (next_says pid start (option_map (λ m. m ++ Waits s.waiting Read streams hears ∷ []) told) streams blocked held hears last (given + 1) s w (Fails k) tt fits);
       failed = fail_on s k a b c d live f;
     }
 turned pid start told now streams blocked held hears last given s v none live hear (turn.Writable k) bytes e a b c d fits n tells f = absurd tells
 turned pid start told now streams blocked held hears last given s v none live hear turn.NoMemory bytes e a b c d fits n tells f = absurd tells
 
 pub freed : (pid : ℕ) (start told now : Option (List Mark)) (streams blocked held : List ℕ) (hears : Bool) (last given : ℕ) (s : State) (v : Serving pid start told streams blocked held hears last given [] s) → s.leaving ≡ [] → s.ended ≡ None → hears ≡ s.listening
-  → (k : ℕ) → among k streams ≡ true → now ≡ option_map (λ m. m ++ (Waits s.waiting Read streams hears ∷ Frees k ∷ [])) told
-  → Serving pid start now streams (without k blocked) (without k held) hears last (given + 1) (numbers s.clients) s
+    → (k : ℕ) → among k streams ≡ true → now ≡ option_map (λ m. m ++ (Waits s.waiting Read streams hears ∷ Frees k ∷ [])) told
+    → Serving pid start now streams (without k blocked) (without k held) hears last (given + 1) (numbers s.clients) s
 freed pid start told now streams blocked held hears last given s v none live hear k here n =
     let w : Serving pid start (option_map (λ m. m ++ Waits s.waiting Read streams hears ∷ []) told) streams blocked held hears last (given + 1) [] s = waited pid start told streams blocked held hears last given s v none live hear in
     serve_next pid start (option_map (λ m. m ++ Waits s.waiting Read streams hears ∷ []) told) now streams streams blocked (without k blocked) held (without k held) hears last last (given + 1) (given + 1) [] (numbers s.clients) s (Frees k) w
-        (n ∙ two_marks (Waits s.waiting Read streams hears) (Frees k) told) (next_frees pid start (option_map (λ m. m ++ Waits s.waiting Read streams hears ∷ []) told) streams blocked held hears last (given + 1) s w k here)
+    (n ∙ two_marks (Waits s.waiting Read streams hears) (Frees k) told) (next_frees pid start (option_map (λ m. m ++ Waits s.waiting Read streams hears ∷ []) told) streams blocked held hears last (given + 1) s w k here)
 
 pub more_given : (pid : ℕ) (start now : Option (List Mark)) (given more : ℕ) → given ≤ more → Promised pid start now given → Promised pid start now more
 more_given pid start now given more le p = record { journal = p.journal; tells = p.tells; kept = p.kept; waits = let w : Rattle.mux_history.specs.Promises.waits_in p.journal ≤ given = p.waits in omega arith }
 
 -- a turn that tells nothing
 pub told_nothing : (pid : ℕ) (start told now : Option (List Mark)) (streams blocked held : List ℕ) (hears : Bool) (last given : ℕ) (s : State) (v : Serving pid start told streams blocked held hears last given [] s) → s.leaving ≡ [] → s.ended ≡ None → hears ≡ s.listening
-  → (t : Turn) (bytes : List ℕ) → TurnFits t Read hears last streams blocked bytes → now ≡ option_map (λ m. m ++ wait_marks t s.waiting Read streams hears bytes) told → IsNext None t bytes → Promised pid start now (given + 1)
+    → (t : Turn) (bytes : List ℕ) → TurnFits t Read hears last streams blocked bytes → now ≡ option_map (λ m. m ++ wait_marks t s.waiting Read streams hears bytes) told → IsNext None t bytes → Promised pid start now (given + 1)
 told_nothing pid start told now streams blocked held hears last given s v none live hear (turn.Writable k) bytes fits n tells =
     promised_of pid start now streams (without k blocked) (without k held) hears last (given + 1) (numbers s.clients) s (freed pid start told now streams blocked held hears last given s v none live hear k fits.0 n)
 told_nothing pid start told now streams blocked held hears last given s v none live hear turn.NoMemory bytes fits n tells =
@@ -149,7 +148,7 @@ on_ok (Err e) S X h f = h
 
 -- the same of a state that is as expected, with all clients to be offered what waits
 pub seen_turned : (pid : ℕ) (start told : Option (List Mark)) (streams streams' blocked blocked' held : List ℕ) (listens listens' : Bool) (last last' given : ℕ) (s s' : State) → Serving pid start told streams blocked held listens last given (numbers s.clients) s
-  → streams' ≡ streams → blocked' ≡ blocked → listens' ≡ listens → last' ≡ last → s' ≡ s → Serving pid start told streams' blocked' held listens' last' given (numbers s'.clients) s'
+    → streams' ≡ streams → blocked' ≡ blocked → listens' ≡ listens → last' ≡ last → s' ≡ s → Serving pid start told streams' blocked' held listens' last' given (numbers s'.clients) s'
 seen_turned pid start told streams streams' blocked blocked' held listens listens' last last' given s s' v a b d e f =
     seen_same pid start told streams streams' blocked blocked' held held listens listens' last last' given (numbers s'.clients) s s' (todo_is pid start told streams blocked held listens last given (numbers s.clients) (numbers s'.clients) s v (ap (λ (t : State). numbers t.clients) (sym f))) a b refl d e f
 

@@ -1,40 +1,32 @@
 -- A call of wait, and the turn that it gives.
-use Rattle.std.proofs.Common.{◌≡◌, ◌≢◌, ◌≤◌, ◌<◌, ◌+◌, ℕ, zero, suc, Bool, true, false, not, ◌||◌, ◌&&◌, List, [], ◌∷◌, ◌++◌, length, Option, Some, None, refl, sym, ap, ◌∙◌, subst, inl, inr, ◌⊎◌, cond, arith, append_assoc}
-use Rattle.std.specs.Prelude.{◌==◌, filter, is_some, All, IsTrue}
-use Rattle.std.specs.Option.{option_map}
-use Rattle.std.proofs.lemmas.Bool.{eq-eqb, eqb-true}
+use Rattle.std.proofs.Common.{◌≡◌, ◌≢◌, ◌+◌, ℕ, Bool, true, false, not, ◌||◌, List, [], ◌∷◌, ◌++◌, length, Option, Some, None, refl, sym, ap, ◌∙◌, subst, inl, inr, ◌⊎◌, cond, arith}
+use Rattle.std.specs.Prelude.{◌==◌, filter, All, IsTrue}
+use Rattle.std.proofs.lemmas.Bool.{eq-eqb}
 use Rattle.std.proofs.lemmas.Bool.Decides.{eqb_tells}
 use Rattle.std.proofs.lemmas.List.Elements.{All-nil, All-cons}
-use Rattle.mux_outside.specs.Streams.{among, without}
-use Rattle.mux_outside.specs.Wire.{TurnFits, wait_marks, open_after, blocked_after, last_after}
+use Rattle.mux_outside.specs.Streams.{among}
 use Rattle.mux_outside.specs.declared.mark.Mark.{Mark}
-use Rattle.mux_outside.specs.declared.mark.Mark.TheVariants.{Waits, Accepts, Gets, Ends, Frees, Fails, Takes, Holds, WriteFails}
-use Rattle.mux_outside.specs.declared.turn.Turn.{Turn}
-use Rattle.mux_outside.specs.declared.turn.Turn.TheVariants as turn
-use Rattle.mux_outside.specs.declared.turn.Want.{Want}
-use Rattle.mux_outside.specs.declared.turn.Want.TheVariants.{Read, WriteOnly}
+use Rattle.mux_outside.specs.declared.mark.Mark.TheVariants.{Waits}
+use Rattle.mux_outside.specs.declared.turn.Want.TheVariants.{Read}
 use Rattle.mux_history.specs.declared.why.Why.{Why}
 use Rattle.mux_history.specs.Rows.{Row, rows_of, is_out, losses, loss_by, Item, Gone, Fate, Goes, Refused, Drop, End}
 use Rattle.mux_history.specs.Pending.{pending}
 use Rattle.mux_history.specs.Log.{served}
 use Rattle.mux_history.specs.Journal.{is_blocked}
-use Rattle.mux_history.specs.Promises.{IsSettled, is_empty, has_output, write_failed, waits_in, listens}
+use Rattle.mux_history.specs.Promises.{is_empty, has_output, listens}
 use Rattle.mux_engine.specs.State.{ClientState, State}
-use Rattle.mux_engine.specs.Events.{Tells, IsNext}
-use Rattle.mux_engine.specs.declared.engine.Event.{Event}
-use Rattle.mux_engine.specs.Step.{is_lost, is_present, numbers, queue_in, waiting_in, served_in, after}
-use Rattle.mux_engine.specs.Stands.{setting, log, ArePlain, Stands, EachStands, not_closed, is_accepted}
-use Rattle.mux_engine.specs.Serving.{Serving, Promised, IsUnseen}
+use Rattle.mux_engine.specs.Step.{is_lost, is_present, numbers, queue_in, waiting_in, served_in}
+use Rattle.mux_engine.specs.Stands.{log, ArePlain, Stands, EachStands, not_closed}
+use Rattle.mux_engine.specs.Serving.{Serving, IsUnseen}
 use Rattle.mux_engine.proofs.Fits.{out_row, puts_out}
 use Rattle.mux_engine.proofs.Grows.{own_row, other_row, test_other, or_true}
 use Rattle.mux_engine.proofs.Moved.{true_false, lost_is}
 use Rattle.mux_engine.proofs.Goes.{open_here}
-use Rattle.mux_engine.proofs.GoesOn.{goes_on}
 use Rattle.mux_engine.proofs.Closes.{in_losses}
-use Rattle.mux_engine.proofs.Queues.{waits_among, queue_pending, zero_absent}
-use Rattle.mux_engine.proofs.Others.{mark_stream, server_pending}
-use Rattle.mux_engine.proofs.Wires.{among_numbers, arrival_numbers, after_numbers, NotArrival, Next, PromiseAt, settled_other, log_out, after_pid}
-use Rattle.mux_engine.proofs.Offers.{accepted_here, unseen_more, without_other, AtStream, at_stream}
+use Rattle.mux_engine.proofs.Queues.{waits_among}
+use Rattle.mux_engine.proofs.Others.{server_pending}
+use Rattle.mux_engine.proofs.Wires.{among_numbers, Next}
+use Rattle.mux_engine.proofs.Offers.{AtStream, at_stream}
 use Rattle.mux_engine.proofs.Loops.{waits_here}
 
 -- ---- nobody is lost where nobody leaves
@@ -59,9 +51,9 @@ more_losses k (l ∷ a) b h = by_own (l.0 == k) refl h (more_losses k a b)
 out_loss : (k : ℕ) (rows : List Row) → is_out (rows_of k rows) ≡ true → in_losses k (losses rows) ≡ true
 out_loss k [] h = true_false (sym h)
 out_loss k (row ∷ rows) h = more_losses k (losses rows) (loss_by row) (elim (eqb_tells row.client k) [
-    inl q ↦ by_row (puts_out row.fate row.item) refl q.1 (sym (ap is_out (own_row k row rows q.1) ∙ out_row row.item row.fate row (rows_of k rows) refl refl) ∙ h) (out_loss k rows)
+  | inl q ↦ by_row (puts_out row.fate row.item) refl q.1 (sym (ap is_out (own_row k row rows q.1) ∙ out_row row.item row.fate row (rows_of k rows) refl refl) ∙ h) (out_loss k rows)
   | inr q ↦ inl (out_loss k rows (sym (ap is_out (other_row row.client k row rows refl q.1)) ∙ h))
-  ])
+])
   where
     by_row : (b : Bool) → puts_out row.fate row.item ≡ b → row.client ≡ k → (puts_out row.fate row.item || is_out (rows_of k rows)) ≡ true → (is_out (rows_of k rows) ≡ true → in_losses k (losses rows) ≡ true) → (in_losses k (losses rows) ≡ true) ⊎ (in_losses k (loss_by row) ≡ true)
     by_row true e c h ih = inr (loss_in k row row.fate row.item refl refl c e)
@@ -70,9 +62,9 @@ out_loss k (row ∷ rows) h = more_losses k (losses rows) (loss_by row) (elim (e
 kept_loss : (k : ℕ) (closed : List ℕ) (ls : List (ℕ × Option Why)) → among k closed ≡ false → in_losses k ls ≡ true → in_losses k (filter (not_closed closed) ls) ≡ true
 kept_loss k closed [] c h = h
 kept_loss k closed (l ∷ ls) c h = elim (eqb_tells l.0 k) [
-    inl q ↦ ap (λ b. in_losses k (cond (not b) (l ∷ filter (not_closed closed) ls) (filter (not_closed closed) ls))) (ap (λ i. among i closed) q.1 ∙ c) ∙ ap (λ b. b || in_losses k (filter (not_closed closed) ls)) q.0
+  | inl q ↦ ap (λ b. in_losses k (cond (not b) (l ∷ filter (not_closed closed) ls) (filter (not_closed closed) ls))) (ap (λ i. among i closed) q.1 ∙ c) ∙ ap (λ b. b || in_losses k (filter (not_closed closed) ls)) q.0
   | inr q ↦ by_kept (not_closed closed l) (kept_loss k closed ls c (sym (ap (λ b. b || in_losses k ls) q.0) ∙ h))
-  ]
+]
   where
     by_kept : (b : Bool) → in_losses k (filter (not_closed closed) ls) ≡ true → in_losses k (cond b (l ∷ filter (not_closed closed) ls) (filter (not_closed closed) ls)) ≡ true
     by_kept true ih = ap (λ b. (l.0 == k) || b) ih ∙ or_true (l.0 == k)
@@ -122,17 +114,17 @@ waits_blocked pid start told streams blocked held listens last given s v none li
     let at : AtStream pid s v.journal v.closed t = at_stream pid s v.journal v.closed t v.pid_is v.stands here in
     let some : queue_in s.clients t ≢ [] = not_nothing (queue_in s.clients t) (sym (ap (among t) v.stands.waiting_is ∙ waits_among t s.clients v.stands.apart) ∙ a) in
     elim (v.settled t refl) [
-      inl e ↦ absurd (some (at.queue ∙ e))
-    | inr r ↦ elim r [ inl b ↦ b | inr f ↦ true_false (sym (v.failed_out t f live) ∙ (ap (λ p. is_out (rows_of t (log p v.journal))) (sym v.pid_is) ∙ none_lost s v.journal v.closed t v.stands none here)) ]
+      | inl e ↦ absurd (some (at.queue ∙ e))
+      | inr r ↦ elim r [ inl b ↦ b | inr f ↦ true_false (sym (v.failed_out t f live) ∙ (ap (λ p. is_out (rows_of t (log p v.journal))) (sym v.pid_is) ∙ none_lost s v.journal v.closed t v.stands none here)) ]
     ]
 
 pub waiting_blocked : (pid : ℕ) (start told : Option (List Mark)) (streams blocked held : List ℕ) (listens : Bool) (last given : ℕ) (s : State) → Serving pid start told streams blocked held listens last given [] s → s.leaving ≡ [] → s.ended ≡ None → All (λ t. IsTrue (among t blocked)) s.waiting
 waiting_blocked pid start told streams blocked held listens last given s v none live = all_of (λ t. IsTrue (among t blocked)) s.waiting
-  (λ t a. v.blocked_is t (waits_here s v.journal v.closed t v.stands a) ∙ waits_blocked pid start told streams blocked held listens last given s v none live t a)
+    (λ t a. v.blocked_is t (waits_here s v.journal v.closed t v.stands a) ∙ waits_blocked pid start told streams blocked held listens last given s v none live t a)
 
 pub waiting_open : (pid : ℕ) (start told : Option (List Mark)) (streams blocked held : List ℕ) (listens : Bool) (last given : ℕ) (todo : List ℕ) (s : State) → Serving pid start told streams blocked held listens last given todo s → All (λ t. IsTrue (among t streams)) s.waiting
 waiting_open pid start told streams blocked held listens last given todo s v = all_of (λ t. IsTrue (among t streams)) s.waiting
-  (λ t a. ap (among t) v.open_are ∙ (ap (λ b. (0 == t) || b) (among_numbers t s.clients ∙ waits_here s v.journal v.closed t v.stands a) ∙ or_true (0 == t)))
+    (λ t a. ap (among t) v.open_are ∙ (ap (λ b. (0 == t) || b) (among_numbers t s.clients ∙ waits_here s v.journal v.closed t v.stands a) ∙ or_true (0 == t)))
 
 pub server_open : (pid : ℕ) (start told : Option (List Mark)) (streams blocked held : List ℕ) (listens : Bool) (last given : ℕ) (todo : List ℕ) (s : State) → Serving pid start told streams blocked held listens last given todo s → IsTrue (among 0 streams)
 server_open pid start told streams blocked held listens last given todo s v = ap (among 0) v.open_are
@@ -141,7 +133,7 @@ plain_here : (pid : ℕ) (start told : Option (List Mark)) (streams blocked held
 plain_here pid start told streams blocked held listens last given todo s v = subst (λ p. ArePlain (log p v.journal)) v.pid_is v.stands.plain
 
 pub next_waits : (pid : ℕ) (start told : Option (List Mark)) (streams blocked held : List ℕ) (hears : Bool) (last given : ℕ) (s : State) (v : Serving pid start told streams blocked held hears last given [] s) → s.leaving ≡ [] → s.ended ≡ None → hears ≡ s.listening
-  → Next pid s v.journal streams blocked held last (given + 1) [] (Waits s.waiting Read streams hears)
+    → Next pid s v.journal streams blocked held last (given + 1) [] (Waits s.waiting Read streams hears)
 next_waits pid start told streams blocked held hears last given s v none live hear =
     let rows : List Row = log pid v.journal in
     let plain : ArePlain rows = plain_here pid start told streams blocked held hears last given [] s v in
@@ -153,7 +145,7 @@ next_waits pid start told streams blocked held hears last given s v none live he
         takes = tt;
         waits = record {
           waits_for = v.stands.waiting_is ∙ (waiting_filter (log s.pid v.journal) v.journal s.clients v.stands.plain v.stands.clients ∙ (ap (λ r. filter (has_output r) (numbers s.clients)) log_is
-            ∙ (sym (ap (λ b. cond b (0 ∷ filter (has_output rows) (numbers s.clients)) (filter (has_output rows) (numbers s.clients))) (ap (λ q. not (is_empty q)) nothing)) ∙ sym (ap (filter (has_output rows)) v.open_are))));
+              ∙ (sym (ap (λ b. cond b (0 ∷ filter (has_output rows) (numbers s.clients)) (filter (has_output rows) (numbers s.clients))) (ap (λ q. not (is_empty q)) nothing)) ∙ sym (ap (filter (has_output rows)) v.open_are))));
           blocked = all_of (λ t. IsTrue (is_blocked t v.journal)) s.waiting (waits_blocked pid start told streams blocked held hears last given s v none live);
           write_only = (λ e. absurd (cc), λ h. absurd (let n : length (pending 0 rows) ≡ 0 = ap length nothing in omega arith));
           settled = λ t. v.settled t refl;

@@ -1,35 +1,28 @@
 -- One mark more, between a wire and an engine that serves it.
-use Rattle.std.proofs.Common.{◌≡◌, ◌≢◌, ◌≤◌, ◌<◌, ◌+◌, ◌⊎◌, ℕ, Bool, true, false, not, ◌||◌, ◌&&◌, List, [], ◌∷◌, ◌++◌, length, take, drop, Option, Some, None, refl, sym, ap, ◌∙◌, subst, inl, inr, cond, append-nil, append_assoc, arith}
-use Rattle.std.specs.Prelude.{◌==◌, filter, is_some, All, IsTrue, reverse, nat_lt}
+use Rattle.std.proofs.Common.{◌≡◌, ◌≢◌, ◌≤◌, ◌<◌, ℕ, Bool, true, false, ◌||◌, List, [], ◌∷◌, ◌++◌, length, Option, Some, None, refl, sym, ap, ◌∙◌, inl, inr, cond, append_assoc, arith}
+use Rattle.std.specs.Prelude.{◌==◌, is_some, reverse, nat_lt}
 use Rattle.std.specs.Option.{option_map}
-use Rattle.std.proofs.lemmas.Bool.{eq-eqb, eqb-true}
-use Rattle.std.proofs.lemmas.Bool.Decides.{eqb_tells}
-use Rattle.std.proofs.lemmas.List.{reverse-append, take-append-drop}
-use Rattle.std.proofs.lemmas.List.Folds.{list_any-append}
-use Rattle.mux_outside.specs.Streams.{among, without}
+use Rattle.std.proofs.lemmas.List.{reverse-append}
+use Rattle.mux_outside.specs.Streams.{among}
 use Rattle.mux_outside.specs.declared.mark.Mark.{Mark}
 use Rattle.mux_outside.specs.declared.mark.Mark.TheVariants.{Waits, Accepts, Gets, Ends, Frees, Fails, Takes, Holds, WriteFails}
-use Rattle.mux_outside.specs.declared.turn.Want.{Want}
 use Rattle.mux_history.specs.declared.ended.Ended.{Ended}
 use Rattle.mux_history.specs.declared.ended.Ended.TheVariants as ended
 use Rattle.mux_history.specs.Rows.{Row, rows_of, is_out}
-use Rattle.mux_history.specs.Pending.{pending}
 use Rattle.mux_history.specs.Log.{more_all, more_of, makes_next, next_row}
 use Rattle.mux_history.specs.Journal.{Tells, is_blocked, built_items}
-use Rattle.mux_history.specs.Promises.{Written, OpenStreams, TakesFront, WaitsAt, OpenAt, Throughout, IsSettled, IsFront, write_failed, waits_in}
+use Rattle.mux_history.specs.Promises.{TakesFront, WaitsAt, OpenAt, IsSettled, write_failed, waits_in}
 use Rattle.mux_engine.specs.State.{ClientState, State}
-use Rattle.mux_engine.specs.Step.{is_present, numbers, at_client, changed, entered, added, refused, new_client, refused_client, over, after, stepped, taken, client_got, lost_client, client_took, queue_in, served_in}
-use Rattle.mux_engine.specs.Stands.{setting, log, ArePlain, Stands, IsAllowed, is_accepted, IsStrange}
+use Rattle.mux_engine.specs.Step.{is_present, numbers, at_client, changed, entered, added, refused, new_client, refused_client, over, after, stepped, client_got, lost_client, client_took, served_in}
+use Rattle.mux_engine.specs.Stands.{setting, log, ArePlain, Stands, IsAllowed}
 use Rattle.mux_engine.specs.Serving.{Kept, IsUnseen, Serving, Promised}
 use Rattle.mux_engine.proofs.Grows.{test_other}
 use Rattle.mux_engine.proofs.Sayings.{got_number}
-use Rattle.mux_engine.proofs.Listed.{KeepsNumber, present_at}
-use Rattle.mux_engine.proofs.Moved.{true_false}
+use Rattle.mux_engine.proofs.Listed.{KeepsNumber}
 use Rattle.mux_engine.proofs.Goes.{lost_number}
 use Rattle.mux_engine.proofs.GoesOn.{goes_on}
 use Rattle.mux_engine.proofs.Closes.{out_more}
-use Rattle.mux_engine.proofs.Ends.{present_more, present_new}
-use Rattle.mux_engine.proofs.Others.{mark_stream, log_other, pending_other, server_pending}
+use Rattle.mux_engine.proofs.Others.{mark_stream, pending_other}
 
 -- ---- what the wire told
 
@@ -222,9 +215,9 @@ failed_other (WriteFails k) journal t ne = ap (λ b. elim b as (λ _. Bool) [ tr
 
 pub settled_other : (pid : ℕ) (mark : Mark) (journal : List Mark) (t : ℕ) → ArePlain (log pid journal) → ArePlain (log pid (mark ∷ journal)) → mark_stream mark ≢ t → IsSettled (setting pid) journal t → IsSettled (setting pid) (mark ∷ journal) t
 settled_other pid mark journal t p q ne h = elim h [
-    inl e ↦ inl (pending_other pid mark journal t p q ne ∙ e)
+  | inl e ↦ inl (pending_other pid mark journal t p q ne ∙ e)
   | inr r ↦ elim r [ inl b ↦ inr (inl (blocked_other mark journal t ne ∙ b)) | inr f ↦ inr (inr (failed_other mark journal t ne ∙ f)) ]
-  ]
+]
 
 -- ---- one mark more
 
@@ -249,37 +242,37 @@ pub record Next (pid : ℕ) (s : State) (journal : List Mark) (streams blocked h
   pub settled : (t : ℕ) → among t todo ≡ false → IsSettled (setting pid) (mark ∷ journal) t
 
 pub stands_next : (pid : ℕ) (start told : Option (List Mark)) (streams blocked held : List ℕ) (listens : Bool) (last given : ℕ) (todo : List ℕ) (s : State) (mark : Mark) (v : Serving pid start told streams blocked held listens last given todo s)
-  → IsAllowed s v.journal mark → Stands (after s mark) (mark ∷ v.journal) v.closed
+    → IsAllowed s v.journal mark → Stands (after s mark) (mark ∷ v.journal) v.closed
 stands_next pid start told streams blocked held listens last given todo s mark v al = goes_on s mark v.journal v.closed v.stands al
 
 pub serve_next : (pid : ℕ) (start told now : Option (List Mark)) (streams streams' blocked blocked' held held' : List ℕ) (listens : Bool) (last last' given given' : ℕ) (todo todo' : List ℕ) (s : State) (mark : Mark) (v : Serving pid start told streams blocked held listens last given todo s)
-  → now ≡ option_map (λ m. m ++ mark ∷ []) told → Next pid s v.journal streams' blocked' held' last' given' todo' mark → Serving pid start now streams' blocked' held' listens last' given' todo' (after s mark)
+    → now ≡ option_map (λ m. m ++ mark ∷ []) told → Next pid s v.journal streams' blocked' held' last' given' todo' mark → Serving pid start now streams' blocked' held' listens last' given' todo' (after s mark)
 serve_next pid start told now streams streams' blocked blocked' held held' listens last last' given given' todo todo' s mark v e n = record {
-    journal = mark ∷ v.journal;
-    closed = v.closed;
-    pid_is = after_pid s mark ∙ v.pid_is;
-    tells = tells_more start told now v.journal (mark ∷ []) v.tells e;
-    stands = goes_on s mark v.journal v.closed v.stands n.allowed;
-    kept = kept_more pid v.journal mark v.kept n.promise;
-    waits = n.waits;
-    open_are = n.open_are;
-    held_is = n.held_is;
-    blocked_is = n.blocked_is;
-    failed_out = λ t w live. n.failed_out t w (after_live s mark live);
-    unseen = n.unseen;
-    settled = n.settled;
-    hears = λ h. v.hears (sym (after_listening s mark) ∙ h);
-  }
+  journal = mark ∷ v.journal;
+  closed = v.closed;
+  pid_is = after_pid s mark ∙ v.pid_is;
+  tells = tells_more start told now v.journal (mark ∷ []) v.tells e;
+  stands = goes_on s mark v.journal v.closed v.stands n.allowed;
+  kept = kept_more pid v.journal mark v.kept n.promise;
+  waits = n.waits;
+  open_are = n.open_are;
+  held_is = n.held_is;
+  blocked_is = n.blocked_is;
+  failed_out = λ t w live. n.failed_out t w (after_live s mark live);
+  unseen = n.unseen;
+  settled = n.settled;
+  hears = λ h. v.hears (sym (after_listening s mark) ∙ h);
+}
 
 -- with no memory left, what was promised stays
 pub promised_next : (pid : ℕ) (start told now : Option (List Mark)) (streams blocked held : List ℕ) (listens : Bool) (last given given' : ℕ) (todo : List ℕ) (s : State) (mark : Mark) (v : Serving pid start told streams blocked held listens last given todo s)
-  → now ≡ option_map (λ m. m ++ mark ∷ []) told → PromiseAt pid v.journal mark → waits_in (mark ∷ v.journal) ≤ given' → Promised pid start now given'
+    → now ≡ option_map (λ m. m ++ mark ∷ []) told → PromiseAt pid v.journal mark → waits_in (mark ∷ v.journal) ≤ given' → Promised pid start now given'
 promised_next pid start told now streams blocked held listens last given given' todo s mark v e p w = record {
-    journal = mark ∷ v.journal;
-    tells = tells_more start told now v.journal (mark ∷ []) v.tells e;
-    kept = kept_more pid v.journal mark v.kept p;
-    waits = w;
-  }
+  journal = mark ∷ v.journal;
+  tells = tells_more start told now v.journal (mark ∷ []) v.tells e;
+  kept = kept_more pid v.journal mark v.kept p;
+  waits = w;
+}
 
 pub promised_of : (pid : ℕ) (start told : Option (List Mark)) (streams blocked held : List ℕ) (listens : Bool) (last given : ℕ) (todo : List ℕ) (s : State) → Serving pid start told streams blocked held listens last given todo s → Promised pid start told given
 promised_of pid start told streams blocked held listens last given todo s v = record { journal = v.journal; tells = v.tells; kept = v.kept; waits = let w : waits_in v.journal ≡ given = v.waits in omega arith }

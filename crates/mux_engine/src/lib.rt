@@ -6,6 +6,8 @@ mod asked;
 mod client;
 mod engine;
 mod serving;
+#[cfg(test)]
+mod tests;
 
 pub use engine::{Engine, Event, Went};
 pub use serving::serve;

@@ -16,15 +16,21 @@ use ssh_fields::OutOfMemory;
 use std::alloc::Global;
 
 // Offers a client's stream what waits for it, once: whether it took some and can be offered the rest.
-fn offer_once<W: Wire, H: House>(engine: &mut Engine, wire: &mut W, house: &mut H, held: &mut Streams, stream: u64) -> Result<bool, OutOfMemory>
+fn offer_once<W: Wire, H: House>(
+    engine: &mut Engine,
+    wire: &mut W,
+    house: &mut H,
+    held: &mut Streams,
+    stream: u64,
+) -> Result<bool, OutOfMemory>
     requires served { IsServed (W.told wire.old) (W.streams wire.old) (W.blocked wire.old) held.old (W.listens wire.old) (W.last wire.old) engine.old }
     requires here { is_present engine.old.clients stream ≡ true }
     requires free { among stream (W.blocked wire.old) ≡ false }
     ensures serving { (pid : ℕ) (start : Option (List TheMark)) (given : ℕ) (todo : List ℕ) →
         Serving pid start (W.told wire.old) (W.streams wire.old) (W.blocked wire.old) held.old (W.listens wire.old) (W.last wire.old) given todo engine.old →
         MatchResult result
-            (λ more. Serving pid start (W.told wire.new) (W.streams wire.new) (W.blocked wire.new) held.new (W.listens wire.new) (W.last wire.new) given (if more then stream ∷ todo else without stream todo) engine.new)
-            (λ e. Promised pid start (W.told wire.new) given) }
+        (λ more. Serving pid start (W.told wire.new) (W.streams wire.new) (W.blocked wire.new) held.new (W.listens wire.new) (W.last wire.new) given (if more then stream ∷ todo else without stream todo) engine.new)
+        (λ e. Promised pid start (W.told wire.new) given) }
     ensures here { OnOk result (numbers engine.new.clients ≡ numbers engine.old.clients) }
     ensures less { IfOk result (λ more. more ≡ true → length (queue_in engine.new.clients stream) < length (queue_in engine.old.clients stream)) }
     ensures free { IfOk result (λ more. more ≡ true → among stream (W.blocked wire.new) ≡ false) }
@@ -53,14 +59,20 @@ fn offer_once<W: Wire, H: House>(engine: &mut Engine, wire: &mut W, house: &mut 
 }
 
 // Offers a client's stream what waits for it, until all is taken, or it takes no more for now, or it fails.
-fn offer<W: Wire, H: House>(engine: &mut Engine, wire: &mut W, house: &mut H, held: &mut Streams, stream: u64) -> Result<(), OutOfMemory>
+fn offer<W: Wire, H: House>(
+    engine: &mut Engine,
+    wire: &mut W,
+    house: &mut H,
+    held: &mut Streams,
+    stream: u64,
+) -> Result<(), OutOfMemory>
     requires served { IsServed (W.told wire.old) (W.streams wire.old) (W.blocked wire.old) held.old (W.listens wire.old) (W.last wire.old) engine.old }
     requires here { is_present engine.old.clients stream ≡ true }
     ensures serving { (pid : ℕ) (start : Option (List TheMark)) (given : ℕ) (todo : List ℕ) →
         Serving pid start (W.told wire.old) (W.streams wire.old) (W.blocked wire.old) held.old (W.listens wire.old) (W.last wire.old) given (stream ∷ todo) engine.old →
         MatchResult result
-            (λ done. Serving pid start (W.told wire.new) (W.streams wire.new) (W.blocked wire.new) held.new (W.listens wire.new) (W.last wire.new) given todo engine.new)
-            (λ e. Promised pid start (W.told wire.new) given) }
+        (λ done. Serving pid start (W.told wire.new) (W.streams wire.new) (W.blocked wire.new) held.new (W.listens wire.new) (W.last wire.new) given todo engine.new)
+        (λ e. Promised pid start (W.told wire.new) given) }
     ensures here { OnOk result (numbers engine.new.clients ≡ numbers engine.old.clients) }
     ensures ended { OnOk result (engine.new.ended ≡ engine.old.ended) }
     ensures faults { W.server_faults wire.new ≡ W.server_faults wire.old }
@@ -73,13 +85,19 @@ fn offer<W: Wire, H: House>(engine: &mut Engine, wire: &mut W, house: &mut H, he
 }
 
 // Offers each stream what waits for it.
-fn flush<W: Wire, H: House>(alloc: Global, engine: &mut Engine, wire: &mut W, house: &mut H, held: &mut Streams) -> Result<(), OutOfMemory>
+fn flush<W: Wire, H: House>(
+    alloc: Global,
+    engine: &mut Engine,
+    wire: &mut W,
+    house: &mut H,
+    held: &mut Streams,
+) -> Result<(), OutOfMemory>
     requires served { IsServedBut (W.told wire.old) (W.streams wire.old) (W.blocked wire.old) held.old (W.listens wire.old) (W.last wire.old) (numbers engine.old.clients) engine.old }
     ensures serving { (pid : ℕ) (start : Option (List TheMark)) (given : ℕ) →
         Serving pid start (W.told wire.old) (W.streams wire.old) (W.blocked wire.old) held.old (W.listens wire.old) (W.last wire.old) given (numbers engine.old.clients) engine.old →
         MatchResult result
-            (λ done. Serving pid start (W.told wire.new) (W.streams wire.new) (W.blocked wire.new) held.new (W.listens wire.new) (W.last wire.new) given [] engine.new)
-            (λ e. Promised pid start (W.told wire.new) given) }
+        (λ done. Serving pid start (W.told wire.new) (W.streams wire.new) (W.blocked wire.new) held.new (W.listens wire.new) (W.last wire.new) given [] engine.new)
+        (λ e. Promised pid start (W.told wire.new) given) }
     ensures ended { OnOk result (engine.new.ended ≡ engine.old.ended) }
     ensures faults { W.server_faults wire.new ≡ W.server_faults wire.old }
 {
@@ -122,13 +140,19 @@ fn hush<W: Wire>(engine: &Engine, wire: &mut W)
 }
 
 // Makes the wire ready for a turn: each stream is offered what waits for it, and the streams of lost clients are closed.
-fn settle<W: Wire, H: House>(alloc: Global, engine: &mut Engine, wire: &mut W, house: &mut H, held: &mut Streams) -> Result<(), OutOfMemory>
+fn settle<W: Wire, H: House>(
+    alloc: Global,
+    engine: &mut Engine,
+    wire: &mut W,
+    house: &mut H,
+    held: &mut Streams,
+) -> Result<(), OutOfMemory>
     requires served { IsServedBut (W.told wire.old) (W.streams wire.old) (W.blocked wire.old) held.old (W.listens wire.old) (W.last wire.old) (numbers engine.old.clients) engine.old }
     ensures serving { (pid : ℕ) (start : Option (List TheMark)) (given : ℕ) →
         Serving pid start (W.told wire.old) (W.streams wire.old) (W.blocked wire.old) held.old (W.listens wire.old) (W.last wire.old) given (numbers engine.old.clients) engine.old →
         MatchResult result
-            (λ done. Serving pid start (W.told wire.new) (W.streams wire.new) (W.blocked wire.new) held.new (W.listens wire.new) (W.last wire.new) given [] engine.new)
-            (λ e. Promised pid start (W.told wire.new) given) }
+        (λ done. Serving pid start (W.told wire.new) (W.streams wire.new) (W.blocked wire.new) held.new (W.listens wire.new) (W.last wire.new) given [] engine.new)
+        (λ e. Promised pid start (W.told wire.new) given) }
     ensures closed { OnOk result (engine.new.leaving ≡ []) }
     ensures hears { OnOk result (W.listens wire.new ≡ engine.new.listening) }
     ensures ended { OnOk result (engine.new.ended ≡ engine.old.ended) }
@@ -144,21 +168,33 @@ fn settle<W: Wire, H: House>(alloc: Global, engine: &mut Engine, wire: &mut W, h
 fn event_of_bytes<'a>(stream: u64, bytes: &'a [u8]) -> Event<'a>
     ensures { Tells result (Gets stream bytes.now) }
 {
-    if stream == 0 { Event::FromServer(bytes) } else { Event::FromClient(stream, bytes) }
+    if stream == 0 {
+        Event::FromServer(bytes)
+    } else {
+        Event::FromClient(stream, bytes)
+    }
 }
 
 // The event of a stream that gives no more.
 fn event_of_end<'a>(stream: u64) -> Event<'a>
     ensures { Tells result (Ends stream) }
 {
-    if stream == 0 { Event::ServerEnd } else { Event::ClientEnd(stream) }
+    if stream == 0 {
+        Event::ServerEnd
+    } else {
+        Event::ClientEnd(stream)
+    }
 }
 
 // The event of a stream that failed.
 fn event_of_fault<'a>(stream: u64) -> Event<'a>
     ensures { Tells result (Fails stream) }
 {
-    if stream == 0 { Event::ServerFailed } else { Event::ClientFailed(stream) }
+    if stream == 0 {
+        Event::ServerFailed
+    } else {
+        Event::ClientFailed(stream)
+    }
 }
 
 // The event that a turn tells, where it tells one.
@@ -176,7 +212,13 @@ fn event_of<'a>(turn: Turn, bytes: &'a [u8]) -> Option<Event<'a>>
 }
 
 // One turn: what the wire tells next goes into the engine.
-fn turn<W: Wire, H: House>(engine: &mut Engine, wire: &mut W, house: &mut H, held: &mut Streams, piece: &mut Piece) -> Result<Went, OutOfMemory>
+fn turn<W: Wire, H: House>(
+    engine: &mut Engine,
+    wire: &mut W,
+    house: &mut H,
+    held: &mut Streams,
+    piece: &mut Piece,
+) -> Result<Went, OutOfMemory>
     requires served { IsServedBut (W.told wire.old) (W.streams wire.old) (W.blocked wire.old) held.old (W.listens wire.old) (W.last wire.old) [] engine.old }
     requires closed { engine.old.leaving ≡ [] }
     requires on { engine.old.ended ≡ None }
@@ -184,8 +226,8 @@ fn turn<W: Wire, H: House>(engine: &mut Engine, wire: &mut W, house: &mut H, hel
     ensures serving { (pid : ℕ) (start : Option (List TheMark)) (given : ℕ) →
         Serving pid start (W.told wire.old) (W.streams wire.old) (W.blocked wire.old) held.old (W.listens wire.old) (W.last wire.old) given [] engine.old →
         MatchResult result
-            (λ went. Serving pid start (W.told wire.new) (W.streams wire.new) (W.blocked wire.new) held.new (W.listens wire.new) (W.last wire.new) (given + 1) (numbers engine.new.clients) engine.new)
-            (λ e. Promised pid start (W.told wire.new) (given + 1)) }
+        (λ went. Serving pid start (W.told wire.new) (W.streams wire.new) (W.blocked wire.new) held.new (W.listens wire.new) (W.last wire.new) (given + 1) (numbers engine.new.clients) engine.new)
+        (λ e. Promised pid start (W.told wire.new) (given + 1)) }
     ensures went { IfOk result (λ went. went ≡ went_of engine.new.ended) }
     ensures failed { OnOk result (engine.new.ended ≡ Some ServerFailed → Rose (W.server_faults wire.old) (W.server_faults wire.new)) }
     ensures later { W.server_faults wire.old ≤ W.server_faults wire.new }
@@ -204,14 +246,20 @@ fn turn<W: Wire, H: House>(engine: &mut Engine, wire: &mut W, house: &mut H, hel
 }
 
 // Serves a wire for so many turns: why it ended.
-fn run<W: Wire, H: House>(alloc: Global, engine: &mut Engine, wire: &mut W, house: &mut H, turns: u64) -> Result<Ended, OutOfMemory>
+fn run<W: Wire, H: House>(
+    alloc: Global,
+    engine: &mut Engine,
+    wire: &mut W,
+    house: &mut H,
+    turns: u64,
+) -> Result<Ended, OutOfMemory>
     requires served { IsServedBut (W.told wire.old) (W.streams wire.old) (W.blocked wire.old) [] (W.listens wire.old) (W.last wire.old) (numbers engine.old.clients) engine.old }
     requires on { engine.old.ended ≡ None }
     ensures ran { (pid : ℕ) (start : Option (List TheMark)) →
         Serving pid start (W.told wire.old) (W.streams wire.old) (W.blocked wire.old) [] (W.listens wire.old) (W.last wire.old) 0 (numbers engine.old.clients) engine.old →
         MatchResult result
-            (λ answer. Ran pid turns start (W.told wire.new) answer)
-            (λ e. Promised pid start (W.told wire.new) turns) }
+        (λ answer. Ran pid turns start (W.told wire.new) answer)
+        (λ e. Promised pid start (W.told wire.new) turns) }
     ensures failed { IfOk result (λ answer. answer ≡ ServerFailed → Rose (W.server_faults wire.old) (W.server_faults wire.new)) }
 {
     let mut piece = Piece::new(alloc)?;
@@ -232,7 +280,13 @@ fn run<W: Wire, H: House>(alloc: Global, engine: &mut Engine, wire: &mut W, hous
 
 /// Serves a wire with a new engine until the run ends, for so many turns at most: why it ended. What the wire tells of
 /// this run is written and kept open as it must be, and ends as it must.
-pub fn serve<W: Wire, H: House>(alloc: Global, engine: &mut Engine, wire: &mut W, house: &mut H, turns: u64) -> Ended
+pub fn serve<W: Wire, H: House>(
+    alloc: Global,
+    engine: &mut Engine,
+    wire: &mut W,
+    house: &mut H,
+    turns: u64,
+) -> Ended
     requires fresh { engine.old ≡ new_state engine.old.pid }
     requires server_alone { W.streams wire.old ≡ 0 ∷ [] }
     requires none_blocked { W.blocked wire.old ≡ [] }

@@ -1,31 +1,33 @@
-use Rattle.std.proofs.Common.{◌≡◌, ◌∷◌, ◌∙◌, ℕ, sym, ap, refl}
+use Rattle.std.proofs.Common.{◌∷◌, ◌∙◌, sym, ap, refl}
 use Rattle.mux_outside.specs.Streams.{among}
-use Rattle.mux_engine.specs.State.{State}
 use Rattle.mux_engine.proofs.Arms.{on_err}
 use Rattle.mux_engine.proofs.Loops.{held_back, wider, on_more, on_done, still_here}
 use Rattle.mux_engine.proofs.serving.offer.Goals as goal
 
 pub offer_once-requires-clause-served : goal.offer_once-requires-clause-served
 offer_once-requires-clause-served g c = let w = c.requires.served in record {
-    start = w.start; given = w.given; todo = c.args.stream ∷ w.todo; pid = w.pid;
-    serving = c.loop.invariant.serving w.pid w.start w.given w.todo (wider _ _ _ _ _ _ _ _ _ _ c.args.engine.now c.args.stream w.serving);
-  }
+  start = w.start;
+  given = w.given;
+  todo = c.args.stream ∷ w.todo;
+  pid = w.pid;
+  serving = c.loop.invariant.serving w.pid w.start w.given w.todo (wider _ _ _ _ _ _ _ _ _ _ c.args.engine.now c.args.stream w.serving);
+}
 
 pub offer_once-requires-clause-here : goal.offer_once-requires-clause-here
 offer_once-requires-clause-here g c = still_here c.args.engine.now c.loop.engine c.args.stream c.loop.invariant.numbers_are c.requires.here
 
 pub returns-in_err-offer_once-clause-serving : goal.returns-in_err-offer_once-clause-serving
 returns-in_err-offer_once-clause-serving g c pid start given todo v = on_err c.from_residual.result _ _ c.from_residual.ensures.0
-  (c.in_err-offer_once.ensures.serving pid start given (c.args.stream ∷ todo) (c.loop.invariant.serving pid start given todo v))
+    (c.in_err-offer_once.ensures.serving pid start given (c.args.stream ∷ todo) (c.loop.invariant.serving pid start given todo v))
 
 pub loop-preserved : goal.loop-preserved
 loop-preserved g c = record {
-    serving = λ pid start given todo v. on_more _ _ _ _ _ _ _ _ _ todo _ c.args.stream _ c.if-branch.true (c.in_ok-offer_once.ensures.serving pid start given (c.args.stream ∷ todo) (c.loop.invariant.serving pid start given todo v));
-    numbers_are = c.in_ok-offer_once.ensures.here ∙ c.loop.invariant.numbers_are;
-    free = c.in_ok-offer_once.ensures.free c.if-branch.true;
-    ended = c.in_ok-offer_once.ensures.ended ∙ c.loop.invariant.ended;
-    faults = c.offer_once.ensures.faults ∙ c.loop.invariant.faults;
-  }
+  serving = λ pid start given todo v. on_more _ _ _ _ _ _ _ _ _ todo _ c.args.stream _ c.if-branch.true (c.in_ok-offer_once.ensures.serving pid start given (c.args.stream ∷ todo) (c.loop.invariant.serving pid start given todo v));
+  numbers_are = c.in_ok-offer_once.ensures.here ∙ c.loop.invariant.numbers_are;
+  free = c.in_ok-offer_once.ensures.free c.if-branch.true;
+  ended = c.in_ok-offer_once.ensures.ended ∙ c.loop.invariant.ended;
+  faults = c.offer_once.ensures.faults ∙ c.loop.invariant.faults;
+}
 
 pub returns-clause-serving : goal.returns-clause-serving
 returns-clause-serving g c pid start given todo v = on_done _ _ _ _ _ _ _ _ _ todo _ c.args.stream _ c.if-branch.false (c.in_ok-offer_once.ensures.serving pid start given (c.args.stream ∷ todo) (c.loop.invariant.serving pid start given todo v))
@@ -35,9 +37,9 @@ returns-then-contains-clause-serving g c pid start given todo v = held_back _ _ 
 
 pub loop-init : goal.loop-init
 loop-init g c = let w = c.requires.served in record {
-    serving = λ pid start given todo v. v;
-    numbers_are = refl;
-    free = ap (among c.args.stream) (sym w.serving.held_is) ∙ sym c.if-contains.ensures;
-    ended = refl;
-    faults = refl;
-  }
+  serving = λ pid start given todo v. v;
+  numbers_are = refl;
+  free = ap (among c.args.stream) (sym w.serving.held_is) ∙ sym c.if-contains.ensures;
+  ended = refl;
+  faults = refl;
+}

@@ -1,5 +1,4 @@
-use Rattle.std.proofs.Common.{◌≡◌, ◌≤◌, ◌+◌, ◌∙◌, [], sym, ap, refl, ℕ, List, arith}
-use Rattle.mux_history.specs.declared.ended.Ended.{Ended}
+use Rattle.std.proofs.Common.{◌≡◌, ◌≤◌, ◌+◌, ◌∙◌, [], sym, refl, arith}
 use Rattle.mux_engine.specs.State.{State}
 use Rattle.mux_engine.specs.Step.{numbers}
 use Rattle.mux_engine.proofs.Arms.{on_err, seen_same, le_of}
@@ -9,69 +8,75 @@ use Rattle.mux_engine.proofs.serving.run.Goals as goal
 
 pub loop-init : goal.loop-init
 loop-init g c =
-  let s : State = c.args.engine.now in
-  record {
-    serving = λ pid start given v. given_is _ _ _ _ _ _ _ _ given (given + 0) (numbers s.clients) s
-      (seen_same _ _ _ _ _ _ _ [] c.new-held.result _ _ _ _ given (numbers s.clients) s s v refl refl c.new-held.ensures refl refl refl) (none_given given);
-    on = c.requires.on;
-    faults = le_of _ _ refl;
-  }
+    let s : State = c.args.engine.now in
+    record {
+      serving = λ pid start given v. given_is _ _ _ _ _ _ _ _ given (given + 0) (numbers s.clients) s
+          (seen_same _ _ _ _ _ _ _ [] c.new-held.result _ _ _ _ given (numbers s.clients) s s v refl refl c.new-held.ensures refl refl refl) (none_given given);
+      on = c.requires.on;
+      faults = le_of _ _ refl;
+    }
 
 pub settle-requires : goal.settle-requires
 settle-requires g c = let w = c.requires.served in record { served = record { start = w.start; given = w.given + c.loop.counter; pid = w.pid; serving = c.loop.invariant.serving w.pid w.start w.given w.serving } }
 
 pub returns-in_err-settle-clause-ran : goal.returns-in_err-settle-clause-ran
 returns-in_err-settle-clause-ran g c pid start v = on_err c.from_residual-in_err-settle.result _ _ c.from_residual-in_err-settle.ensures.0
-  (more_given pid start _ (0 + c.loop.counter) c.args.turns (omega arith) (c.in_err-settle.ensures.serving pid start (0 + c.loop.counter) (c.loop.invariant.serving pid start 0 v)))
+    (more_given pid start _ (0 + c.loop.counter) c.args.turns (omega arith) (c.in_err-settle.ensures.serving pid start (0 + c.loop.counter) (c.loop.invariant.serving pid start 0 v)))
 
 pub turn-requires-clause-served : goal.turn-requires-clause-served
 turn-requires-clause-served g c = let w = c.requires.served in record {
-    start = w.start; given = w.given + c.loop.counter; pid = w.pid;
-    serving = c.in_ok-settle.ensures.serving w.pid w.start (w.given + c.loop.counter) (c.loop.invariant.serving w.pid w.start w.given w.serving);
-  }
+  start = w.start;
+  given = w.given + c.loop.counter;
+  pid = w.pid;
+  serving = c.in_ok-settle.ensures.serving w.pid w.start (w.given + c.loop.counter) (c.loop.invariant.serving w.pid w.start w.given w.serving);
+}
 
 pub returns-in_err-turn-clause-ran : goal.returns-in_err-turn-clause-ran
 returns-in_err-turn-clause-ran g c pid start v = on_err c.from_residual-in_err-turn.result _ _ c.from_residual-in_err-turn.ensures.0
-  (more_given pid start _ (0 + c.loop.counter + 1) c.args.turns (omega arith)
+    (more_given pid start _ (0 + c.loop.counter + 1) c.args.turns (omega arith)
     (c.in_err-turn.ensures.serving pid start (0 + c.loop.counter) (c.in_ok-settle.ensures.serving pid start (0 + c.loop.counter) (c.loop.invariant.serving pid start 0 v))))
 
 pub flush-requires : goal.flush-requires
-flush-requires g c = let w = c.requires.served in record { served = record {
-    start = w.start; given = w.given + c.loop.counter + 1; pid = w.pid;
+flush-requires g c = let w = c.requires.served in record {
+  served = record {
+    start = w.start;
+    given = w.given + c.loop.counter + 1;
+    pid = w.pid;
     serving = c.in_ok-turn.ensures.serving w.pid w.start (w.given + c.loop.counter) (c.in_ok-settle.ensures.serving w.pid w.start (w.given + c.loop.counter) (c.loop.invariant.serving w.pid w.start w.given w.serving));
-  } }
+  };
+}
 
 pub returns-in_err-flush-in-Ended-clause-ran : goal.returns-in_err-flush-in-Ended-clause-ran
 returns-in_err-flush-in-Ended-clause-ran g c pid start v = on_err c.from_residual-in_err-flush-in-Ended.result _ _ c.from_residual-in_err-flush-in-Ended.ensures.0
-  (more_given pid start _ (0 + c.loop.counter + 1) c.args.turns (omega arith)
+    (more_given pid start _ (0 + c.loop.counter + 1) c.args.turns (omega arith)
     (c.in_err-flush-in-Ended.ensures.serving pid start (0 + c.loop.counter + 1)
-      (c.in_ok-turn.ensures.serving pid start (0 + c.loop.counter) (c.in_ok-settle.ensures.serving pid start (0 + c.loop.counter) (c.loop.invariant.serving pid start 0 v)))))
+    (c.in_ok-turn.ensures.serving pid start (0 + c.loop.counter) (c.in_ok-settle.ensures.serving pid start (0 + c.loop.counter) (c.loop.invariant.serving pid start 0 v)))))
 
 pub returns-in-Ended-clause-ran : goal.returns-in-Ended-clause-ran
 returns-in-Ended-clause-ran g c pid start v =
-  let le : 0 + c.loop.counter + 1 ≤ c.args.turns = omega arith in
-  ran_over pid c.args.turns start _ _ _ _ _ _ (0 + c.loop.counter + 1) _ c.in-Ended.cause
+    let le : 0 + c.loop.counter + 1 ≤ c.args.turns = omega arith in
+    ran_over pid c.args.turns start _ _ _ _ _ _ (0 + c.loop.counter + 1) _ c.in-Ended.cause
     (c.in_ok-flush-in-Ended.ensures.serving pid start (0 + c.loop.counter + 1)
-      (c.in_ok-turn.ensures.serving pid start (0 + c.loop.counter) (c.in_ok-settle.ensures.serving pid start (0 + c.loop.counter) (c.loop.invariant.serving pid start 0 v))))
+    (c.in_ok-turn.ensures.serving pid start (0 + c.loop.counter) (c.in_ok-settle.ensures.serving pid start (0 + c.loop.counter) (c.loop.invariant.serving pid start 0 v))))
     le (c.in_ok-flush-in-Ended.ensures.ended ∙ over_is _ c.in-Ended.cause (sym c.in-Ended.is ∙ c.in_ok-turn.ensures.went))
 
 pub loop-preserved : goal.loop-preserved
 loop-preserved g c = record {
-    serving = λ pid start given v. given_is _ _ _ _ _ _ _ _ (given + c.loop.counter + 1) (given + (c.loop.counter + 1)) _ _
+  serving = λ pid start given v. given_is _ _ _ _ _ _ _ _ (given + c.loop.counter + 1) (given + (c.loop.counter + 1)) _ _
       (c.in_ok-turn.ensures.serving pid start (given + c.loop.counter) (c.in_ok-settle.ensures.serving pid start (given + c.loop.counter) (c.loop.invariant.serving pid start given v))) (next_given given c.loop.counter);
-    on = on_is _ (sym c.in-On.is ∙ c.in_ok-turn.ensures.went);
-    faults = later_all _ _ _ _ c.loop.invariant.faults c.settle.ensures.faults c.turn.ensures.later;
-  }
+  on = on_is _ (sym c.in-On.is ∙ c.in_ok-turn.ensures.went);
+  faults = later_all _ _ _ _ c.loop.invariant.faults c.settle.ensures.faults c.turn.ensures.later;
+}
 
 pub flush-requires-2 : goal.flush-requires-2
 flush-requires-2 g c = let w = c.requires.served in record { served = record { start = w.start; given = w.given + c.loop.counter; pid = w.pid; serving = c.loop.invariant.serving w.pid w.start w.given w.serving } }
 
 pub returns-in_err-flush-clause-ran : goal.returns-in_err-flush-clause-ran
 returns-in_err-flush-clause-ran g c pid start v = on_err c.from_residual-in_err-flush.result _ _ c.from_residual-in_err-flush.ensures.0
-  (more_given pid start _ (0 + c.loop.counter) c.args.turns (omega arith) (c.in_err-flush.ensures.serving pid start (0 + c.loop.counter) (c.loop.invariant.serving pid start 0 v)))
+    (more_given pid start _ (0 + c.loop.counter) c.args.turns (omega arith) (c.in_err-flush.ensures.serving pid start (0 + c.loop.counter) (c.loop.invariant.serving pid start 0 v)))
 
 pub returns-clause-ran : goal.returns-clause-ran
 returns-clause-ran g c pid start v =
-  let all : 0 + c.loop.counter ≡ c.args.turns = omega arith in
-  ran_out pid c.args.turns start _ _ _ _ _ _ (0 + c.loop.counter) _
+    let all : 0 + c.loop.counter ≡ c.args.turns = omega arith in
+    ran_out pid c.args.turns start _ _ _ _ _ _ (0 + c.loop.counter) _
     (c.in_ok-flush.ensures.serving pid start (0 + c.loop.counter) (c.loop.invariant.serving pid start 0 v)) all (c.in_ok-flush.ensures.ended ∙ c.loop.invariant.on)
