@@ -68,7 +68,7 @@ stay-done : (c n : ℕ) (m : Gist) (fs : List Forwarding) → EachF is_done fs �
 stay-done c n m [] done = tt
 stay-done c n m (f ∷ fs) done = (elim (f.client == c) as (λ b. (elim b as (λ _. Forwarding) [ true ↦ replied n m f | false ↦ f ]).over ≡ true) [ true ↦ replied-done n m f done.0 | false ↦ done.0 ], stay-done c n m fs done.1)
 
-lost-out : (own : List Row) → is_lost own ≡ true → is_out own ≡ true
+pub lost-out : (own : List Row) → is_lost own ≡ true → is_out own ≡ true
 lost-out [] lost = cc
 lost-out (row ∷ own) lost = by_case (loses row) (is_refusal row.fate) lost (λ h. lost-out own h)
   where

@@ -42,7 +42,7 @@ length-filter test (x ∷ xs) = by_case (length-filter test xs) (test x) refl
     by_case ih false e = let l = ap length (filter-no test x xs e) in omega arith
 
 -- a row adds no more channels than it begins
-held-count : (row : Row) (own : List Row) → length (held_of (row ∷ own)) ≤ length (held_of own) + length (begun_by row.client row.up row.item)
+pub held-count : (row : Row) (own : List Row) → length (held_of (row ∷ own)) ≤ length (held_of own) + length (begun_by row.client row.up row.item)
 held-count row own =
     let a = ap length (held-step row own) in
     let b = length-filter is_held (map (after_farewell row) (filter is_held (map (after_item row) (held_of own) ++ begun_by row.client row.up row.item))) in
@@ -123,7 +123,7 @@ few-said policy before k pick p reply fw down fate le = by_case (read_gist p) re
 
 -- ---- what the server opens
 
-opened-down-not : (k : ℕ) (up : List (List ℕ)) (m : Gist) → ((what : Opens) (s w max : ℕ) → m ≡ Open what s w max → ⊥) → opened_down k up m ≡ []
+pub opened-down-not : (k : ℕ) (up : List (List ℕ)) (m : Gist) → ((what : Opens) (s w max : ℕ) → m ≡ Open what s w max → ⊥) → opened_down k up m ≡ []
 opened-down-not k up (Open what s w max) not = absurd (not what s w max refl)
 opened-down-not k [] (Transport number) not = refl
 opened-down-not k [] (Requests what want) not = refl
@@ -134,7 +134,7 @@ opened-down-not k [] (Within n act) not = refl
 opened-down-not k (q ∷ qs) m not = refl
 
 -- a lost client has no live forwarding left
-lost-offers : (policy : Policy) (pid : ℕ) (before : List Row) (k s : ℕ) (what : Opens) → ForEach (RowKnown policy pid) before → is_lost (rows_of k before) ≡ true → dest_open before s what ≡ ToClient k → ⊥
+pub lost-offers : (policy : Policy) (pid : ℕ) (before : List Row) (k s : ℕ) (what : Opens) → ForEach (RowKnown policy pid) before → is_lost (rows_of k before) ≡ true → dest_open before s what ≡ ToClient k → ⊥
 lost-offers policy pid before k s what each lost to =
     let o : Offered before s what k = offered before s what k to in
     let at : live_at (rows_of k before) o.address o.port ≡ Some o.forwarding = live-local k before o.address o.port o.forwarding o.live o.client in

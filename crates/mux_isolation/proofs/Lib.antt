@@ -9,6 +9,7 @@ pub mod Few
 pub mod Heard
 pub mod HeardAlone
 pub mod Logs
+pub mod Matters
 pub mod Mays
 pub mod Meets
 pub mod Named

@@ -1,13 +1,14 @@
 -- Laws over all runs: each holds of every right log of a lawful wire, whatever numbers are picked and whatever the
 -- house replies.
 use Rattle.std.specs.Prelude.{ℕ, ◌+◌, ◌≡◌, ◌≤◌, List, [], false, length}
-use Rattle.mux_history.specs.declared.limits.TheConstants.{MAX_CHANNELS, MAX_FORWARDINGS, MAX_GLOBAL_REQUESTS, MAX_QUEUE}
+use Rattle.mux_history.specs.declared.limits.TheConstants.{MAX_CHANNELS, MAX_CLIENTS, MAX_FORWARDINGS, MAX_GLOBAL_REQUESTS, MAX_QUEUE}
 use Rattle.mux_history.specs.Rows.{Row, rows_of}
 use Rattle.mux_history.specs.Pending.{waiting_down}
 use Rattle.mux_history.specs.Channels.{held_of}
 use Rattle.mux_history.specs.Requests.{asks, replies}
 use Rattle.mux_history.specs.Forwardings.{current}
 use Rattle.mux_history.specs.Farewell.{has_open_matters}
+use Rattle.mux_history.specs.Log.{open_matters}
 use Rattle.mux_history.specs.Right.{IsAdmitted}
 use Rattle.mux_history.specs.Kept.{AtEach, ForEach, Window, Permission, Asker, OwnWords, Unshared, Kept}
 use Rattle.mux_history.specs.Laws.{OverRight}
@@ -70,6 +71,13 @@ RequestsBounded rows = (k : ℕ) → length (asks (rows_of k rows)) ≤ length (
 
 abbrev pub RequestsAreFew : Type 0
 RequestsAreFew = OverRight (λ setting rows. AtEach RequestsBounded rows)
+
+-- at most 64 clients have open matters
+abbrev pub MattersBounded : List Row → Type 0
+MattersBounded rows = open_matters rows ≤ MAX_CLIENTS
+
+abbrev pub ClientsAreFew : Type 0
+ClientsAreFew = OverRight (λ setting rows. AtEach MattersBounded rows)
 
 -- every right log keeps all that a run promises of its rows
 abbrev pub AllIsKept : Type 0

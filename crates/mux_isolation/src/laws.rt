@@ -1,4 +1,4 @@
-ghost use Rattle.mux_isolation.specs.Laws.{Isolation, WindowsAreKept, PermissionsAreKept, AskersAreServed, MasterSaysLittle, NothingIsLeft, QueuesAreBounded, ChannelsAreFew, ForwardingsAreFew, RequestsAreFew, AllIsKept};
+ghost use Rattle.mux_isolation.specs.Laws.{Isolation, WindowsAreKept, PermissionsAreKept, AskersAreServed, MasterSaysLittle, NothingIsLeft, QueuesAreBounded, ChannelsAreFew, ForwardingsAreFew, RequestsAreFew, ClientsAreFew, AllIsKept};
 
 /// What an admitted client is told and what is sent for it is what an unshared connection gives from its
 /// own bytes and the server's messages for its channels, up to the numbers that stand for its own.
@@ -50,6 +50,11 @@ pub fn forwardings_are_few()
 /// At no row have more than 1,024 global requests of a client been sent without a reply.
 pub fn requests_are_few()
     ensures { RequestsAreFew }
+{}
+
+/// At no row do more than 64 clients have open matters.
+pub fn clients_are_few()
+    ensures { ClientsAreFew }
 {}
 
 /// Every right log keeps all that a run promises of its rows: windows, permissions, askers, numbers apart,
