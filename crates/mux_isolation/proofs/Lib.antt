@@ -3,8 +3,11 @@ pub mod AllRuns
 pub mod Allowed
 pub mod Alone
 pub mod Asked
+pub mod Begun
 pub mod Bounded
 pub mod Closed
+pub mod Closing
+pub mod Counts
 pub mod Few
 pub mod Heard
 pub mod HeardAlone

@@ -1,4 +1,6 @@
-ghost use Rattle.mux_isolation.specs.Laws.{Isolation, WindowsAreKept, PermissionsAreKept, AskersAreServed, MasterSaysLittle, NothingIsLeft, QueuesAreBounded, ChannelsAreFew, ForwardingsAreFew, RequestsAreFew, ClientsAreFew, AllIsKept};
+ghost use Rattle.mux_isolation.specs.Laws.{Isolation, WindowsAreKept, PermissionsAreKept, AskersAreServed};
+ghost use Rattle.mux_isolation.specs.Laws.{MasterSaysLittle, NothingIsLeft, AllIsKept};
+ghost use Rattle.mux_isolation.specs.Laws.{QueuesAreBounded, ChannelsAreFew, ForwardingsAreFew, RequestsAreFew, ClientsAreFew};
 
 /// What an admitted client is told and what is sent for it is what an unshared connection gives from its
 /// own bytes and the server's messages for its channels, up to the numbers that stand for its own.
