@@ -36,6 +36,7 @@ fn offer_once<W: Wire, H: House>(
     ensures free { IfOk result (λ more. more ≡ true → among stream (W.blocked wire.new) ≡ false) }
     ensures ended { OnOk result (engine.new.ended ≡ engine.old.ended) }
     ensures faults { W.server_faults wire.new ≡ W.server_faults wire.old }
+    ensures openings { W.openings wire.new ≡ W.openings wire.old }
 {
     let bytes = engine.queue_of(stream);
     if bytes.is_empty() {
@@ -76,6 +77,7 @@ fn offer<W: Wire, H: House>(
     ensures here { OnOk result (numbers engine.new.clients ≡ numbers engine.old.clients) }
     ensures ended { OnOk result (engine.new.ended ≡ engine.old.ended) }
     ensures faults { W.server_faults wire.new ≡ W.server_faults wire.old }
+    ensures openings { W.openings wire.new ≡ W.openings wire.old }
 {
     if held.contains(stream) {
         return Ok(());
@@ -100,6 +102,7 @@ fn flush<W: Wire, H: House>(
         (λ e. Promised pid start (W.told wire.new) given) }
     ensures ended { OnOk result (engine.new.ended ≡ engine.old.ended) }
     ensures faults { W.server_faults wire.new ≡ W.server_faults wire.old }
+    ensures openings { W.openings wire.new ≡ W.openings wire.old }
 {
     let waiting = Streams::copy(alloc, engine.waiting().as_slice())?;
     for stream in waiting.as_slice() {
@@ -116,6 +119,7 @@ fn close_lost<W: Wire>(engine: &mut Engine, wire: &mut W, held: &mut Streams)
     ensures closed { engine.new.leaving ≡ [] }
     ensures ended { engine.new.ended ≡ engine.old.ended }
     ensures faults { W.server_faults wire.new ≡ W.server_faults wire.old }
+    ensures openings { W.openings wire.new ≡ W.openings wire.old }
 {
     while let Some((client, _)) = engine.closing() {
         wire.close(client);
@@ -132,6 +136,7 @@ fn hush<W: Wire>(engine: &Engine, wire: &mut W)
         Serving pid start (W.told wire.new) (W.streams wire.new) (W.blocked wire.new) held (W.listens wire.new) (W.last wire.new) given [] engine.now }
     ensures hears { W.listens wire.new ≡ engine.now.listening }
     ensures faults { W.server_faults wire.new ≡ W.server_faults wire.old }
+    ensures openings { W.openings wire.new ≡ W.openings wire.old }
 {
     if engine.listening() {
         return;
@@ -157,6 +162,7 @@ fn settle<W: Wire, H: House>(
     ensures hears { OnOk result (W.listens wire.new ≡ engine.new.listening) }
     ensures ended { OnOk result (engine.new.ended ≡ engine.old.ended) }
     ensures faults { W.server_faults wire.new ≡ W.server_faults wire.old }
+    ensures openings { W.openings wire.new ≡ W.openings wire.old }
 {
     flush(alloc, engine, wire, house, held)?;
     close_lost(engine, wire, held);
@@ -231,6 +237,7 @@ fn turn<W: Wire, H: House>(
     ensures went { IfOk result (λ went. went ≡ went_of engine.new.ended) }
     ensures failed { OnOk result (engine.new.ended ≡ Some ServerFailed → Rose (W.server_faults wire.old) (W.server_faults wire.new)) }
     ensures later { W.server_faults wire.old ≤ W.server_faults wire.new }
+    ensures openings { W.openings wire.new ≡ W.openings wire.old }
 {
     let next = wire.wait(engine.waiting(), Want::Read, piece);
     match event_of(next, piece.as_bytes()) {
@@ -261,6 +268,7 @@ fn run<W: Wire, H: House>(
         (λ answer. Ran pid turns start (W.told wire.new) answer)
         (λ e. Promised pid start (W.told wire.new) turns) }
     ensures failed { IfOk result (λ answer. answer ≡ ServerFailed → Rose (W.server_faults wire.old) (W.server_faults wire.new)) }
+    ensures openings { W.openings wire.new ≡ W.openings wire.old }
 {
     let mut piece = Piece::new(alloc)?;
     let mut held = Streams::new(alloc);
@@ -293,6 +301,7 @@ pub fn serve<W: Wire, H: House>(
     requires listens { W.listens wire.old ≡ true }
     ensures kept { IsRun H.may engine.old.pid turns (W.told wire.old) (W.told wire.new) result }
     ensures failed { result ≡ ServerFailed → Rose (W.server_faults wire.old) (W.server_faults wire.new) }
+    ensures openings { W.openings wire.new ≡ W.openings wire.old }
 {
     match run(alloc, engine, wire, house, turns) {
         Ok(ended) => ended,

@@ -1,18 +1,22 @@
 -- From what a run came to, and the line that was written of it, to how it ended.
-use Rattle.std.proofs.Common.{◌≡◌, ◌≤◌, ◌⊎◌, inl, inr, ℕ, true, false, List, Option, refl, sym, subst, arith}
-use Rattle.std.specs.Bool.{OnFalse}
+use Rattle.std.proofs.Common.{◌≡◌, ◌≤◌, ◌⊎◌, inl, inr, ℕ, Bool, true, false, Some, None, List, Option, refl, sym, subst, arith}
+use Rattle.std.specs.Bool.{OnFalse, OnTrue}
 use Rattle.conf_rules.specs.declared.causes.Cause.TheVariants.{ReadFault, RunFault, NotBuilt}
 use Rattle.conf_rules.specs.declared.causes.ListError.TheVariants as list_errors
 use Rattle.conf_rules.specs.declared.causes.ResolveError.TheVariants.{At, OutOfMemory}
 use Rattle.conf_rules.specs.Diagnostics as ends
 use Rattle.conf_rules.specs.Diagnostics.{Ending}
-use Rattle.conf_rules.specs.Outcome.{Outcome}
+use Rattle.conf_rules.specs.Outcome.{Outcome, Ends, Writes, Opens, Drills}
+use Rattle.mux_outside.specs.declared.house.HouseReply.{HouseReply}
+use Rattle.mux_outside.specs.declared.mark.Mark.{Mark}
+use Rattle.mux_outside.specs.declared.mark.Opening.{Opening}
 use Rattle.ssh_mux_cli.specs.declared.status.Status.{Status}
 use Rattle.ssh_mux_cli.specs.declared.status.Status.TheVariants as statuses
 use Rattle.ssh_mux_cli.specs.Answers.{IsDue, is_silent, may_write}
 use Rattle.ssh_mux_cli.specs.Causes.{FilesCause, OutCause}
 use Rattle.ssh_mux_cli.specs.Err.{Reports, Ended}
 use Rattle.ssh_mux_cli.specs.Out.{OutTakes}
+use Rattle.ssh_mux_cli.specs.Sharing.{OpensOnce, Shares, WireCause}
 use Rattle.ssh_mux_cli.specs.Status.{status_of, refusal_status, listing_status}
 
 -- ---- an ending has a line
@@ -90,3 +94,29 @@ unraised status before now e c = c
 
 pub sink_after : (status : Status) (ending : Ending) (b n : Option (List ℕ)) (f f' before now : ℕ) → Reports status ending b n f f' → OutCause (status_of ending) before now → OutCause status before now
 sink_after status ending b n f f' before now r c = carried (λ s. OutCause s before now) status ending (reported status ending b n f f' r) (unraised (status_of ending) before now (loud ending) c) c
+
+-- ---- the wire
+
+unopened : (outcome : Option Outcome) (status : Status) (before now : Option (List Opening)) → OpensOnce outcome status before now → OpensOnce outcome statuses.Memory before now
+unopened (Some (Opens control transport opens listens)) statuses.Memory before now h = h
+unopened (Some (Opens control transport opens listens)) status before now h = inr h
+unopened (Some (Ends ending)) status before now h = h
+unopened (Some (Writes text)) status before now h = h
+unopened (Some (Drills seed clients messages)) status before now h = h
+unopened None status before now h = h
+
+pub opened_after : (outcome : Option Outcome) (status : Status) (ending : Ending) (b n : Option (List ℕ)) (f f' : ℕ) (before now : Option (List Opening)) → Reports status ending b n f f' → OpensOnce outcome (status_of ending) before now → OpensOnce outcome status before now
+opened_after outcome status ending b n f f' before now r h = carried (λ s. OpensOnce outcome s before now) status ending (reported status ending b n f f' r) (unopened outcome (status_of ending) before now h) h
+
+starved : (May : HouseReply → Type 0) (pid turns : ℕ) (start told : Option (List Mark)) (status : Status) → Shares May pid turns start told status → Shares May pid turns start told statuses.Memory
+starved May pid turns start told statuses.Open h = inl h
+starved May pid turns start told statuses.Memory h = h
+starved May pid turns start told status h = inr (record { answer = h.answer; has_status = inl refl; run = h.run })
+
+pub shared_after : (shares : Bool) (May : HouseReply → Type 0) (pid turns : ℕ) (start told : Option (List Mark)) (status : Status) (ending : Ending) (b n : Option (List ℕ)) (f f' : ℕ) → Reports status ending b n f f' → OnTrue shares (Shares May pid turns start told (status_of ending)) → OnTrue shares (Shares May pid turns start told status)
+shared_after true May pid turns start told status ending b n f f' r h = carried (λ s. Shares May pid turns start told s) status ending (reported status ending b n f f' r) (starved May pid turns start told (status_of ending) h) h
+shared_after false May pid turns start told status ending b n f f' r h = tt
+
+pub wire_after : (shares : Bool) (status : Status) (ending : Ending) (b n : Option (List ℕ)) (f f' s s' c c' : ℕ) → Reports status ending b n f f' → OnTrue shares (WireCause (status_of ending) s s' c c') → OnTrue shares (WireCause status s s' c c')
+wire_after true status ending b n f f' s s' c c' r h = carried (λ x. WireCause x s s' c c') status ending (reported status ending b n f f' r) tt h
+wire_after false status ending b n f f' s s' c c' r h = tt

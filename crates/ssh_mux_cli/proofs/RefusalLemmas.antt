@@ -8,9 +8,9 @@ use Rattle.conf_rules.specs.Diagnostics.{BadLine}
 use Rattle.conf_listing.specs.Answers.{Lists, file_answer, told_by}
 use Rattle.mux_outside.specs.declared.facts.Facts.{Facts}
 use Rattle.mux_outside.specs.declared.pairs.Pair.{Pair}
-use Rattle.ssh_mux_cli.specs.Answers.{IsDue, reads_files}
+use Rattle.ssh_mux_cli.specs.Answers.{IsDue}
 use Rattle.ssh_mux_cli.specs.Ending.{shown, refused_as}
-use Rattle.ssh_mux_cli.specs.Outcomes.{file_outcome, answer_outcome}
+use Rattle.ssh_mux_cli.specs.Outcomes.{file_outcome, answer_outcome, reads_files}
 
 -- a refusal is that of the file
 pub refused : (told : Option (List Pair)) (facts : Facts) (host file : Bytes) (e : ResolveError) → Lists (Err e) told facts file host → IsDue (file_outcome told facts host file) (shown (refused_as e))

@@ -2,40 +2,38 @@
 use Rattle.std.specs.Prelude.{◌≡◌, Bool, true, false, IsTrue, Option, Some, None, Result, Ok, Err}
 use Rattle.conf_rules.specs.declared.causes.Cause.TheVariants.{ReadFault, RunFault}
 use Rattle.conf_rules.specs.declared.causes.ResolveError.TheVariants.{At}
-use Rattle.conf_rules.specs.Diagnostics.{Ending, BadLine, NoMemory}
-use Rattle.conf_rules.specs.Outcome.{Outcome, Ends, Writes}
+use Rattle.conf_rules.specs.Diagnostics.{Ending, BadLine, NotServed, NotOpened, TransportFailed, ServerBroke, TurnsSpent, NoMemory}
+use Rattle.conf_rules.specs.Outcome.{Outcome, Ends, Opens}
 use Rattle.ssh_mux_cli.specs.declared.ending.Ending.{Ending as MeantEnding}
 use Rattle.ssh_mux_cli.specs.declared.status.Status.{Status}
 use Rattle.ssh_mux_cli.specs.declared.status.Status.TheVariants.{Done, Write, Memory}
 use Rattle.ssh_mux_cli.specs.Ending.{shown}
+use Rattle.ssh_mux_cli.specs.Outcomes.{reads_files, writes, succeeds}
 use Rattle.ssh_mux_cli.specs.Status.{status_of}
-
--- whether files are read
-abbrev pub reads_files : Option Outcome → Bool
-reads_files None = true
-reads_files (Some (Writes text)) = true
-reads_files (Some (Ends (BadLine e))) = true
-reads_files (Some other) = false
-
--- whether a listing is written
-abbrev pub writes : Option Outcome → Bool
-writes None = true
-writes (Some (Writes text)) = true
-writes (Some other) = false
 
 -- whether a configuration is refused
 abbrev pub is_refusal : Ending → Bool
 is_refusal (BadLine e) = true
 is_refusal other = false
 
--- The ending is that of the outcome. Want of memory is free, and a fault has its count; where files don't tell, it is
--- some refusal of the configuration.
+-- whether a master may end so: its sockets weren't opened, or it was served as far as its clients and the server say what is built
+abbrev pub ends_master : Ending → Bool
+ends_master NotOpened = true
+ends_master TransportFailed = true
+ends_master (ServerBroke index why) = true
+ends_master TurnsSpent = true
+ends_master NotServed = true
+ends_master other = false
+
+-- The ending is that of the outcome. Want of memory is free, and a fault has its count; where files don't tell, it is some
+-- refusal of the configuration.
 abbrev pub IsDue : Option Outcome → Ending → Type 0
 IsDue outcome NoMemory = Unit
 IsDue outcome (BadLine (At file line ReadFault)) = IsTrue (reads_files outcome)
 IsDue outcome (BadLine (At file line RunFault)) = IsTrue (reads_files outcome)
 IsDue None ending = IsTrue (is_refusal ending)
 IsDue (Some (Ends due)) ending = ending ≡ due
+IsDue (Some (Opens control transport opens listens)) ending = IsTrue (ends_master ending)
 IsDue (Some other) ending = ⊥
 
 -- whether a status has no line
@@ -44,9 +42,15 @@ is_silent Done = true
 is_silent Write = true
 is_silent other = false
 
+-- a status without a line
+abbrev pub IsWell : Option Outcome → Status → Type 0
+IsWell outcome Done = IsTrue (succeeds outcome)
+IsWell outcome Write = IsTrue (writes outcome)
+IsWell outcome other = ⊥
+
 -- how a run went before its line is written
 abbrev pub Comes : Option Outcome → Result Status MeantEnding → Type 0
-Comes outcome (Ok status) = IsTrue (writes outcome) × IsTrue (is_silent status)
+Comes outcome (Ok status) = IsWell outcome status
 Comes outcome (Err ending) = IsDue outcome (shown ending)
 
 -- its status then

@@ -2,6 +2,7 @@
 use Rattle.conf_rules.specs.declared.causes.ResolveError.{ResolveError}
 use Rattle.conf_rules.specs.declared.causes.ResolveError.TheVariants.{At, OutOfMemory}
 use Rattle.conf_rules.specs.Diagnostics as defined
+use Rattle.ssh_mux_cli.specs.Breaks.{break_text}
 use Rattle.ssh_mux_cli.specs.declared.ending.Ending.{Ending}
 use Rattle.ssh_mux_cli.specs.declared.ending.Ending.TheVariants as endings
 
@@ -12,6 +13,7 @@ shown (endings.BadLine file line cause) = defined.BadLine (At file line cause)
 shown endings.NotServed = defined.NotServed
 shown endings.NotOpened = defined.NotOpened
 shown endings.TransportFailed = defined.TransportFailed
+shown (endings.ServerBroke index why) = defined.ServerBroke index (break_text why)
 shown endings.TurnsSpent = defined.TurnsSpent
 shown endings.NoMemory = defined.NoMemory
 

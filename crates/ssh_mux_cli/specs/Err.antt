@@ -1,12 +1,12 @@
 -- What the standard error has taken.
-use Rattle.std.specs.Prelude.{◌≡◌, ℕ, List, ◌++◌, ◌⊎◌, IsTrue, Option, Some, None}
+use Rattle.std.specs.Prelude.{◌≡◌, ℕ, List, ◌++◌, ◌⊎◌, Option, Some, None}
 use Rattle.conf_rules.specs.Diagnostics.{Ending, line_of, NoMemory}
 use Rattle.conf_rules.specs.Outcome.{Outcome}
 use Rattle.mux_outside.specs.Counts.{Rose}
 use Rattle.mux_outside.specs.Sink.{TookPrefix}
 use Rattle.ssh_mux_cli.specs.declared.status.Status.{Status}
 use Rattle.ssh_mux_cli.specs.declared.status.Status.TheVariants.{Done, Write, Memory}
-use Rattle.ssh_mux_cli.specs.Answers.{IsDue, writes}
+use Rattle.ssh_mux_cli.specs.Answers.{IsDue, IsWell}
 use Rattle.ssh_mux_cli.specs.Status.{status_of}
 
 -- the whole line, or where the sink failed a prefix of it
@@ -39,10 +39,10 @@ pub record EndsBy (outcome : Option Outcome) (status : Status) (before now : Opt
   pub has_status : status ≡ status_of ending
   pub told : TookLine (line_of ending) before now faults faults'
 
--- How a run ended: without a word where a listing was handed over, with the line of its ending otherwise; of the line of want of
+-- How a run ended: without a word where it went well or `out` failed, with the line of its ending otherwise; of the line of want of
 -- memory some part may be written.
 abbrev pub Ended : Option Outcome → Status → Option (List ℕ) → Option (List ℕ) → ℕ → ℕ → Type 0
-Ended outcome Done before now faults faults' = IsTrue (writes outcome) × (now ≡ before)
-Ended outcome Write before now faults faults' = IsTrue (writes outcome) × (now ≡ before)
+Ended outcome Done before now faults faults' = IsWell outcome Done × (now ≡ before)
+Ended outcome Write before now faults faults' = IsWell outcome Write × (now ≡ before)
 Ended outcome Memory before now faults faults' = TookSome (line_of NoMemory) before now
 Ended outcome status before now faults faults' = EndsBy outcome status before now faults faults'

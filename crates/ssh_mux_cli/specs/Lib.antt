@@ -1,7 +1,10 @@
 pub mod Status
+pub mod Breaks
 pub mod Ending
 pub mod Outcomes
 pub mod Answers
 pub mod Causes
 pub mod Out
 pub mod Err
+pub mod Master
+pub mod Sharing

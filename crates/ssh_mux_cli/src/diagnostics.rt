@@ -1,8 +1,10 @@
 ghost use Rattle.std.specs.Prelude.{◌≡◌, ◌++◌, OnOk};
 ghost use Rattle.conf_rules.specs.Numbers.{digits_of};
+ghost use Rattle.ssh_mux_cli.specs.Breaks.{break_text};
 ghost use Rattle.conf_rules.specs.Diagnostics.{usage_text, lex_text, value_text, match_text, token_text, cause_text};
 
 use conf_rules::{Cause, LexError, MatchError, TokenError, Usage, ValueError};
+use mux_history::Break;
 use ssh_fields::{OutOfMemory, Text};
 use std::alloc::Global;
 
@@ -119,5 +121,41 @@ pub fn put_cause_text(out: &mut Text, cause: &Cause) -> Result<(), OutOfMemory>
         Cause::ReadFault => out.add(b"cannot read"),
         Cause::RunFault => out.add(b"cannot run"),
         Cause::NotBuilt => out.add(b"not built yet"),
+    }
+}
+
+/// A number between two texts.
+fn put_around(
+    alloc: Global,
+    out: &mut Text,
+    before: &[u8],
+    number: u32,
+    behind: &[u8],
+) -> Result<(), OutOfMemory>
+    ensures { OnOk result (out.new ≡ out.old ++ (before.now ++ (digits_of number ++ behind.now))) }
+{
+    out.add(before)?;
+    put_number(alloc, out, u64::from(number))?;
+    out.add(behind)
+}
+
+/// How the server broke the protocol.
+pub fn put_break_text(alloc: Global, out: &mut Text, why: &Break) -> Result<(), OutOfMemory>
+    ensures { OnOk result (out.new ≡ out.old ++ break_text why.now) }
+{
+    match why {
+        Break::Frame(_) => out.add(b"bad frame"),
+        Break::Cut { .. } => out.add(b"cut inside a frame"),
+        Break::Message(_) => out.add(b"unreadable"),
+        Break::NoAsker => out.add(b"a reply to nothing"),
+        Break::BadReply { .. } => out.add(b"bad reply"),
+        Break::NumberInUse { number } => put_around(alloc, out, b"number ", *number, b" in use"),
+        Break::NotPending { number } => {
+            put_around(alloc, out, b"number ", *number, b" is not being opened")
+        }
+        Break::NoChannel { number } => put_around(alloc, out, b"no channel ", *number, b""),
+        Break::Channel { number, .. } => {
+            put_around(alloc, out, b"channel ", *number, b" breaks its rules")
+        }
     }
 }

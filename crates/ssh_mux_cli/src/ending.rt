@@ -3,9 +3,10 @@ ghost use Rattle.conf_rules.specs.Diagnostics.{line_of, text_of, located, cause_
 ghost use Rattle.ssh_mux_cli.specs.Ending.{shown, refused_as};
 ghost use Rattle.ssh_mux_cli.specs.Status.{status_of};
 
-use crate::diagnostics::{put_cause_text, put_number, usage_text};
+use crate::diagnostics::{put_break_text, put_cause_text, put_number, usage_text};
 use crate::status::Status;
 use conf_rules::{Cause, ResolveError, UsageError};
+use mux_history::Break;
 use ssh_fields::{OutOfMemory, Text};
 use std::alloc::Global;
 
@@ -22,6 +23,8 @@ pub enum Ending {
     NotOpened,
     /// The connection to the server failed.
     TransportFailed,
+    /// The server broke the protocol, by its message with this number, counted from 1.
+    ServerBroke { index: u64, why: Break },
     /// All turns were taken.
     TurnsSpent,
     /// There was no memory.
@@ -57,6 +60,7 @@ impl Ending {
             Ending::BadLine { .. } => Status::Config,
             Ending::NotOpened => Status::Open,
             Ending::TransportFailed => Status::Transport,
+            Ending::ServerBroke { .. } => Status::Broke,
             Ending::TurnsSpent => Status::Spent,
             Ending::NoMemory => Status::Memory,
         }
@@ -95,6 +99,12 @@ impl Ending {
             }
             Ending::NotOpened => out.add(b"cannot open the sockets"),
             Ending::TransportFailed => out.add(b"the transport failed"),
+            Ending::ServerBroke { index, why } => {
+                out.add(b"server message ")?;
+                put_number(alloc, out, *index)?;
+                out.add(b": ")?;
+                put_break_text(alloc, out, why)
+            }
             Ending::TurnsSpent => out.add(b"turns are spent"),
             Ending::NoMemory => out.add(b"out of memory"),
         }

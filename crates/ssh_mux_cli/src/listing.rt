@@ -1,10 +1,10 @@
 ghost use Rattle.std.specs.Prelude.{◌≡◌, true, Some};
 ghost use Rattle.std.specs.Bool.{OnFalse};
 ghost use Rattle.conf_rules.specs.Outcome.{Writes};
-ghost use Rattle.ssh_mux_cli.specs.Answers.{Comes, so_far, may_write, reads_files};
+ghost use Rattle.ssh_mux_cli.specs.Answers.{Comes, so_far, may_write};
 ghost use Rattle.ssh_mux_cli.specs.Causes.{FilesCause, OutCause};
 ghost use Rattle.ssh_mux_cli.specs.Out.{OutTakes};
-ghost use Rattle.ssh_mux_cli.specs.Outcomes.{file_outcome, list_outcome};
+ghost use Rattle.ssh_mux_cli.specs.Outcomes.{file_outcome, list_outcome, reads_files};
 
 use crate::ending::{Ending, refused_as};
 use crate::status::Status;

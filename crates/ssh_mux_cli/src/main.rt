@@ -6,6 +6,7 @@ mod diagnostics;
 mod ending;
 mod listing;
 mod machine;
+mod master;
 mod report;
 mod run;
 mod standard;

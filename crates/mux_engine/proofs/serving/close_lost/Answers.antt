@@ -23,4 +23,5 @@ loop-client-preserved g c =
           c.close.ensures.told;
       ended = ap (λ (t : State). t.ended) c.closed.ensures.step ∙ c.loop-client.invariant.ended;
       faults = c.close.ensures.server ∙ c.loop-client.invariant.faults;
+      openings = c.close.ensures.openings ∙ c.loop-client.invariant.openings;
     }

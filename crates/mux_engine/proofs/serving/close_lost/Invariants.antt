@@ -9,6 +9,7 @@ invariant-loop-client g l = let W = g.W.Wire in record {
       → Serving pid start (W.told l.wire) (W.streams l.wire) (W.blocked l.wire) l.held (W.listens l.wire) (W.last l.wire) given [] l.engine;
   ended : l.engine.ended ≡ l.fn.engine.ended;
   faults : W.server_faults l.wire ≡ W.server_faults l.fn.wire;
+  openings : W.openings l.wire ≡ W.openings l.fn.wire;
 }
 
 abbrev pub decreases-loop-client : goal.decreases-loop-client

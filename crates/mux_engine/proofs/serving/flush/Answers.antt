@@ -16,6 +16,7 @@ loop-stream-init g c =
       here = λ t a. waits_here s w.serving.journal w.serving.closed t w.serving.stands (subst (λ (l : List ℕ). among t l ≡ true) items a);
       ended = Rattle.std.proofs.Common.refl;
       faults = Rattle.std.proofs.Common.refl;
+      openings = Rattle.std.proofs.Common.refl;
     }
 
 pub offer-requires-clause-served : goal.offer-requires-clause-served
@@ -47,4 +48,5 @@ loop-stream-preserved g c =
       here = c.loop-stream.invariant.here;
       ended = c.in_ok-offer.ensures.ended ∙ c.loop-stream.invariant.ended;
       faults = c.offer.ensures.faults ∙ c.loop-stream.invariant.faults;
+      openings = c.offer.ensures.openings ∙ c.loop-stream.invariant.openings;
     }

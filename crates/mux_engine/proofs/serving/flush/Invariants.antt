@@ -13,4 +13,5 @@ invariant-loop-stream g l = let W = g.W.Wire in record {
   here : (t : ℕ) → among t l.stream-items ≡ true → is_present l.fn.engine.clients t ≡ true;
   ended : l.engine.ended ≡ l.fn.engine.ended;
   faults : W.server_faults l.wire ≡ W.server_faults l.fn.wire;
+  openings : W.openings l.wire ≡ W.openings l.fn.wire;
 }

@@ -27,6 +27,7 @@ loop-preserved g c = record {
   free = c.in_ok-offer_once.ensures.free c.if-branch.true;
   ended = c.in_ok-offer_once.ensures.ended ∙ c.loop.invariant.ended;
   faults = c.offer_once.ensures.faults ∙ c.loop.invariant.faults;
+  openings = c.offer_once.ensures.openings ∙ c.loop.invariant.openings;
 }
 
 pub returns-clause-serving : goal.returns-clause-serving
@@ -42,4 +43,5 @@ loop-init g c = let w = c.requires.served in record {
   free = ap (among c.args.stream) (sym w.serving.held_is) ∙ sym c.if-contains.ensures;
   ended = refl;
   faults = refl;
+  openings = refl;
 }

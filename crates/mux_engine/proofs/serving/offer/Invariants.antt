@@ -13,6 +13,7 @@ invariant-loop g l = let W = g.W.Wire in record {
   free : among l.stream (W.blocked l.wire) ≡ false;
   ended : l.engine.ended ≡ l.fn.engine.ended;
   faults : W.server_faults l.wire ≡ W.server_faults l.fn.wire;
+  openings : W.openings l.wire ≡ W.openings l.fn.wire;
 }
 
 abbrev pub decreases-loop : goal.decreases-loop

@@ -14,6 +14,7 @@ loop-init g c =
           (seen_same _ _ _ _ _ _ _ [] c.new-held.result _ _ _ _ given (numbers s.clients) s s v refl refl c.new-held.ensures refl refl refl) (none_given given);
       on = c.requires.on;
       faults = le_of _ _ refl;
+      openings = refl;
     }
 
 pub settle-requires : goal.settle-requires
@@ -66,6 +67,7 @@ loop-preserved g c = record {
       (c.in_ok-turn.ensures.serving pid start (given + c.loop.counter) (c.in_ok-settle.ensures.serving pid start (given + c.loop.counter) (c.loop.invariant.serving pid start given v))) (next_given given c.loop.counter);
   on = on_is _ (sym c.in-On.is ∙ c.in_ok-turn.ensures.went);
   faults = later_all _ _ _ _ c.loop.invariant.faults c.settle.ensures.faults c.turn.ensures.later;
+  openings = c.turn.ensures.openings ∙ (c.settle.ensures.openings ∙ c.loop.invariant.openings);
 }
 
 pub flush-requires-2 : goal.flush-requires-2

@@ -10,4 +10,5 @@ invariant-loop g l = let W = g.W.Wire in record {
       → Serving pid start (W.told l.wire) (W.streams l.wire) (W.blocked l.wire) l.held (W.listens l.wire) (W.last l.wire) (given + l.counter) (numbers l.engine.clients) l.engine;
   on : l.engine.ended ≡ None;
   faults : W.server_faults l.fn.wire ≤ W.server_faults l.wire;
+  openings : W.openings l.wire ≡ W.openings l.fn.wire;
 }
