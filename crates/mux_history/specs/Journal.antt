@@ -3,9 +3,9 @@ use Rattle.std.specs.Prelude.{ℕ, ◌==◌, ◌≡◌, ◌<◌, ◌≤◌, List
 use Rattle.mux_outside.specs.declared.mark.Mark.{Mark}
 use Rattle.mux_outside.specs.declared.mark.Mark.TheVariants.{Waits, Accepts, Gets, Ends, Frees, Fails, Takes, Holds, WriteFails}
 use Rattle.ssh_fields.specs.Fields.{AreBytes}
-use Rattle.ssh_grammar.specs.Said.{Saying, Body, Payload, BadFraming, said, InProxy, parse}
+use Rattle.ssh_grammar.specs.Said.{Saying, Body, Payload, BadFraming, said, InControl, InProxy, parse}
 use Rattle.mux_history.specs.Rows.{Item, Admit, Says, Gone, Heard, BadServer, ServerEnd, ServerCut, ServerFailed, Took, Unserved, Row}
-use Rattle.mux_history.specs.NotBuilt.{Form, skips_server}
+use Rattle.mux_history.specs.NotBuilt.{Form, skips_server, skips_proxy, spoken}
 use Rattle.mux_history.specs.Log.{Setting, more_all}
 
 -- ---- what streams gave and took
@@ -91,11 +91,27 @@ abbrev pub server_gives : Mark → Bool
 server_gives (Gets stream bytes) = stream == 0
 server_gives _ = false
 
+-- what a client says by its new bytes, where a PROXY is not served
+abbrev pub new_spoken : ℕ → List ℕ → List ℕ → List Item
+new_spoken k before after =
+    map (said_item k) (drop (length (spoken InControl before).says) (spoken InControl after).says)
+
+-- the items of a mark then
+abbrev pub control_items : List Mark → Mark → List Item
+control_items before (Gets stream bytes) = elim (stream == 0) [
+  | true ↦ new_heard (bytes_of 0 before) (bytes_of 0 before ++ bytes)
+  | false ↦ new_spoken stream (bytes_of stream before) (bytes_of stream before ++ bytes)
+]
+control_items before mark = items_in before mark
+
 -- the items as far as they are read
 abbrev pub built_items : List Form → List Mark → Mark → List Item
 built_items missing before mark = elim (skips_server missing && server_gives mark) [
   | true ↦ Unserved ∷ []
-  | false ↦ items_in before mark
+  | false ↦ elim (skips_proxy missing) [
+    | true ↦ control_items before mark
+    | false ↦ items_in before mark
+  ]
 ]
 
 -- the rows of what was seen: each mark adds those of its items

@@ -10,6 +10,7 @@ pub mod Farewell
 pub mod Said
 pub mod Controls
 pub mod Heard
+pub mod Treat
 pub mod NotBuilt
 pub mod Choices
 pub mod Log

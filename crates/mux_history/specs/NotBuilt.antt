@@ -1,13 +1,10 @@
 -- The forms that are not built yet. This list shrinks with each part that is built, and goes with the last one: nothing
 -- else in the definitions knows of it, but for the item Unserved, which goes with the form ServerSays.
-use Rattle.std.specs.Prelude.{ℕ, ◌==◌, List, [], ◌∷◌, Option, Some, None, Result, Ok, Err, Bool, true, false, ◌&&◌, ◌||◌, nat_lt, length}
-use Rattle.ssh_fields.specs.Fields.{u32_at}
+use Rattle.std.specs.Prelude.{ℕ, List, [], ◌∷◌, Option, Some, None, Result, Ok, Err, Bool, true, false, ◌&&◌, ◌||◌, nat_lt, length, zero, suc, codes}
 use Rattle.ssh_grammar.specs.declared.fault.BadControl.{BadControl}
-use Rattle.ssh_grammar.specs.declared.fault.BadControl.TheVariants.{Unknown}
-use Rattle.ssh_grammar.specs.declared.numbers.TheConstants.{HELLO, ALIVE_CHECK}
-use Rattle.ssh_grammar.specs.Control.{Control, AliveCheck}
+use Rattle.ssh_grammar.specs.Control.{Control, Proxy, Failed}
 use Rattle.ssh_grammar.specs.ReadControl.{read_control}
-use Rattle.ssh_grammar.specs.Said.{Body, Payload, BadFraming}
+use Rattle.ssh_grammar.specs.Said.{Body, Payload, Mode, InProxy, InControl, Parsed, parse_front, first_in}
 use Rattle.mux_history.specs.declared.why.Why.TheVariants as why
 use Rattle.mux_history.specs.declared.ended.Ended.TheVariants as ended
 use Rattle.mux_history.specs.Gist.{Gist, Requests, reading}
@@ -15,13 +12,14 @@ use Rattle.mux_history.specs.Rows.{Row, any_of, loses, Item, Says, Unserved, Fat
 use Rattle.mux_history.specs.Channels.{is_held, held_of}
 use Rattle.mux_history.specs.Requests.{asks, replies}
 use Rattle.mux_history.specs.Forwardings.{current}
-use Rattle.mux_history.specs.Controls.{greeted}
+use Rattle.mux_history.specs.Said.{Outcome}
+use Rattle.mux_history.specs.Controls.{greeted, answers_with}
+use Rattle.mux_history.specs.Treat.{row_of}
 
 -- the forms, as far as they are not built
 pub data Form : Type 0 where
-  -- of a client in the control phase: a frame that is none, a hello or an alive check that does not read, and after the
-  -- hello all but the alive check; other types are not read
-  LaterControl : Form
+  -- a client's PROXY: it is refused, and control messages go on
+  ProxyMode : Form
   -- the bytes of the server
   ServerSays : Form
   -- a client's global request
@@ -29,33 +27,39 @@ pub data Form : Type 0 where
   -- the loss of a client that holds a channel, has an unanswered request or a forwarding
   LossOfMatters : Form
 
--- ---- the control phase
+-- ---- the proxy
 
--- after the hello
-abbrev pub later_fate : Control → Option Fate
-later_fate (AliveCheck id) = None
-later_fate _ = Some (Drop why.NotBuilt)
+-- why a PROXY is refused
+abbrev pub no_proxy : List ℕ
+no_proxy = codes "proxy mode is not served"
 
--- a first message that does not read, by its type
-abbrev pub first_fate : ℕ → BadControl → Option Fate
-first_fate kind (Unknown type id) = None
-first_fate kind _ = elim ((kind == HELLO) || (kind == ALIVE_CHECK)) [
-  | true ↦ Some (Drop why.NotBuilt)
-  | false ↦ Some (Drop (why.NoHello kind))
+-- what becomes of a PROXY, and of nothing else
+abbrev pub refuses_proxy : Result Control BadControl → Option Outcome
+refuses_proxy (Ok (Proxy id)) = Some (answers_with (Failed id no_proxy))
+refuses_proxy _ = None
+
+-- the same of what a client says; before the hello a PROXY drops its client as ever
+abbrev pub proxy_outcome : Item → List Row → Option Outcome
+proxy_outcome (Says k (Body body) given) own = elim (greeted own) [
+  | true ↦ refuses_proxy (read_control body)
+  | false ↦ None
 ]
+proxy_outcome _ own = None
 
--- a body, by whether its client has greeted
-abbrev pub body_fate : Bool → ℕ → Result Control BadControl → Option Fate
-body_fate true kind (Ok c) = later_fate c
-body_fate true kind (Err fault) = Some (Drop why.NotBuilt)
-body_fate false kind (Ok c) = None
-body_fate false kind (Err fault) = first_fate kind fault
+-- how the next bytes are read then: a PROXY changes nothing
+abbrev pub unproxied : Mode → Mode
+unproxied InProxy = InControl
+unproxied mode = mode
 
--- what a client says in the control phase
-abbrev pub control_fate : Item → List Row → Option Fate
-control_fate (Says k (Body body) given) own = body_fate (greeted own) (u32_at 0 body) (read_control body)
-control_fate (Says k (BadFraming fault) given) own = Some (Drop why.NotBuilt)
-control_fate _ own = None
+-- what is said by bytes; the first number bounds how many frames
+abbrev pub spoken_by : ℕ → Mode → List ℕ → Parsed
+spoken_by zero mode bytes = record { says = []; mode = mode; rest = bytes }
+spoken_by (suc n) mode bytes =
+    parse_front (λ next rest. spoken_by n (unproxied next) rest) mode bytes (first_in mode bytes)
+
+-- what is said by bytes from a mode on
+abbrev pub spoken : Mode → List ℕ → Parsed
+spoken mode bytes = spoken_by (length bytes) mode bytes
 
 -- ---- the other forms
 
@@ -86,28 +90,42 @@ leaves own =
 
 -- ---- a row as far as its form is built
 
--- what becomes of a row of a form, after its client's rows before it
-abbrev pub form_fate : Form → Row → List Row → Option Fate
-form_fate LaterControl row own = control_fate row.item own
-form_fate ServerSays row own = server_fate row.item
-form_fate GlobalRequest row own = fate_if (in_global row.item) (Drop why.NotBuilt)
-form_fate LossOfMatters row own = fate_if (loses row && leaves own) (End ended.NotBuilt)
+-- a row with another outcome, where there is one
+abbrev pub otherwise : Option Outcome → Row → List Row → Row
+otherwise None row own = row
+otherwise (Some o) row own = row_of row.item row.client o own
 
--- a row of a form that is not built has its item and a fate alone
+-- a row that has its item and a fate alone, where there is one
 abbrev pub unbuilt : Option Fate → Row → Row
 unbuilt None row = row
 unbuilt (Some fate) row = record row { up = []; farewell = []; down = []; fate = fate }
 
+-- what becomes of a row of a form, after its client's rows before it
+abbrev pub form_row : Form → Row → List Row → Row
+form_row ProxyMode row own = otherwise (proxy_outcome row.item own) row own
+form_row ServerSays row own = unbuilt (server_fate row.item) row
+form_row GlobalRequest row own = unbuilt (fate_if (in_global row.item) (Drop why.NotBuilt)) row
+form_row LossOfMatters row own = unbuilt (fate_if (loses row && leaves own) (End ended.NotBuilt)) row
+
 -- the forms are looked at one after another
 abbrev pub built : List Form → Row → List Row → Row
 built [] row own = row
-built (form ∷ forms) row own = built forms (unbuilt (form_fate form row own) row) own
+built (form ∷ forms) row own = built forms (form_row form row own) own
 
 -- the form of the server's bytes
 abbrev pub is_server_form : Form → Bool
 is_server_form ServerSays = true
 is_server_form _ = false
 
+-- the form of the proxy
+abbrev pub is_proxy_form : Form → Bool
+is_proxy_form ProxyMode = true
+is_proxy_form _ = false
+
 -- the server's bytes are not read yet
 abbrev pub skips_server : List Form → Bool
 skips_server forms = any_of is_server_form forms
+
+-- a PROXY is not served yet
+abbrev pub skips_proxy : List Form → Bool
+skips_proxy forms = any_of is_proxy_form forms

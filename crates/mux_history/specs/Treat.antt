@@ -1,0 +1,136 @@
+-- What each item does after the rows before it: the row that it makes.
+use Rattle.std.specs.Prelude.{ℕ, ◌+◌, List, [], ◌∷◌, ◌++◌, Option, Some, None, Bool, true, false, not, ◌&&◌, length, drop, filter, map, nat_lt, nat_le}
+use Rattle.mux_outside.specs.declared.house.HouseReply.{HouseReply}
+use Rattle.ssh_grammar.specs.declared.numbers.TheConstants.{VERSION}
+use Rattle.ssh_grammar.specs.Control.{Greets}
+use Rattle.ssh_grammar.specs.Frames.{frame_payload, frame_answer}
+use Rattle.ssh_grammar.specs.Said.{Saying, Body, Payload, BadFraming}
+use Rattle.mux_history.specs.declared.limits.TheConstants.{MAX_CLIENTS, MAX_QUEUE}
+use Rattle.mux_history.specs.declared.why.Why.{Why}
+use Rattle.mux_history.specs.declared.why.Why.TheVariants as why
+use Rattle.mux_history.specs.declared.broke.Break.TheVariants as broke
+use Rattle.mux_history.specs.declared.ended.Ended.TheVariants as ended
+use Rattle.mux_history.specs.Rows.{Row, rows_of, loses, is_lost, is_admit, is_out, Item, Admit, Says, Gone, Heard, BadServer, ServerEnd, ServerCut, ServerFailed, Took, RunEnd, Unserved, Fate, Goes, Refused, Drop, End}
+use Rattle.mux_history.specs.Pending.{waiting_down}
+use Rattle.mux_history.specs.Requests.{answers}
+use Rattle.mux_history.specs.Policy.{Policy}
+use Rattle.mux_history.specs.Farewell.{farewell, has_open_matters}
+use Rattle.mux_history.specs.Said.{Outcome, silent, tells, drops, said_payload}
+use Rattle.mux_history.specs.Controls.{greeted, said_body}
+use Rattle.mux_history.specs.Heard.{Dest, ToMaster, ToClient, Disconnects, Breaks, dest, heard_for, heard_master, finishes, broken}
+
+-- ---- a client's row: the answers that its requests and replies complete, the queue's bound, the farewell
+
+-- a row of what an item does, and nothing else
+abbrev pub bare : Item → ℕ → Outcome → Row
+bare item k o = record { item = item; client = k; up = o.sent; farewell = []; down = o.told; fate = o.ends }
+
+-- the answers that this row adds to those before it
+abbrev pub new_answers : Row → List Row → List (List ℕ)
+new_answers row own = map frame_payload (drop (length (answers own)) (answers (row ∷ own)))
+
+-- the run and the client go on
+abbrev pub goes : Fate → Bool
+goes Goes = true
+goes _ = false
+
+-- a row that goes on, of a client that is not lost, tells them after its own frames
+abbrev pub all_told : Row → List Row → List (List ℕ)
+all_told row own = elim (goes row.fate && not (is_lost own)) [
+  | true ↦ row.down ++ new_answers row own
+  | false ↦ row.down
+]
+
+-- the frames that fit into a queue in which so many bytes wait: the first that does not is left out with all after it
+abbrev pub fitting : ℕ → List (List ℕ) → List (List ℕ)
+fitting have [] = []
+fitting have (f ∷ fs) = elim (nat_le (have + length f) MAX_QUEUE) [
+  | true ↦ f ∷ fitting (have + length f) fs
+  | false ↦ []
+]
+
+-- the two lengths where one does not fit
+abbrev pub overflow : ℕ → List (List ℕ) → Option Why
+overflow have [] = None
+overflow have (f ∷ fs) = elim (nat_le (have + length f) MAX_QUEUE) [
+  | true ↦ overflow (have + length f) fs
+  | false ↦ Some (why.QueueFull have (length f))
+]
+
+-- then the client is dropped, unless the row ends the run or drops it already
+abbrev pub fate_with : Fate → Option Why → Fate
+fate_with (End cause) full = End cause
+fate_with (Drop cause) full = Drop cause
+fate_with ends None = ends
+fate_with ends (Some cause) = Drop cause
+
+-- a row with the frames that fit
+abbrev pub queued : List (List ℕ) → Row → List Row → Row
+queued frames row own =
+    record row { down = fitting (waiting_down own) frames; fate = fate_with row.fate (overflow (waiting_down own) frames) }
+
+-- a row that loses its client says farewell
+abbrev pub with_farewell : Row → List Row → Row
+with_farewell row own = elim (loses row) [ true ↦ record row { farewell = farewell row own } | false ↦ row ]
+
+-- the row of a client, from its rows so far and what its item does
+abbrev pub row_of : Item → ℕ → Outcome → List Row → Row
+row_of item k o own = let row = bare item k o in with_farewell (queued (all_told row own) row own) own
+
+-- ---- what each item does
+
+-- what a client says
+abbrev pub said_by_client : Policy → ℕ → ℕ → List Row → ℕ → Saying → Option HouseReply → Outcome
+said_by_client policy pid k own pick (Body body) given = said_body pid k given (greeted own) body
+said_by_client policy pid k own pick (Payload p) given = said_payload policy k own pick p
+said_by_client policy pid k own pick (BadFraming fault) given = drops (why.BadFrame fault)
+
+-- the clients that were let in, in order
+abbrev pub entered : List Row → List ℕ
+entered [] = []
+entered (row ∷ before) = entered before ++ elim (is_admit row) [ true ↦ row.client ∷ [] | false ↦ [] ]
+
+-- how many of these clients have open matters
+abbrev pub matters_of : List Row → List ℕ → ℕ
+matters_of rows [] = 0
+matters_of rows (k ∷ ks) = elim (has_open_matters (rows_of k rows)) [
+  | true ↦ matters_of rows ks + 1
+  | false ↦ matters_of rows ks
+]
+
+-- how many clients have open matters
+abbrev pub open_matters : List Row → ℕ
+open_matters rows = matters_of rows (entered rows)
+
+-- those of them that are not lost
+abbrev pub served : List Row → List ℕ
+served rows = filter (λ k. not (is_out (rows_of k rows))) (entered rows)
+
+-- the hello, where fewer than 64 clients have open matters
+abbrev pub admits : List Row → Outcome
+admits rows = elim (nat_lt (open_matters rows) MAX_CLIENTS) [
+  | true ↦ tells (frame_answer (Greets VERSION))
+  | false ↦ record { sent = []; told = []; ends = Refused }
+]
+
+-- the row of a payload of the server
+abbrev pub heard_row : List Row → List ℕ → Dest → Row
+heard_row rows p ToMaster = bare (Heard p) 0 (heard_master p)
+heard_row rows p (ToClient k) = row_of (Heard p) k (heard_for (rows_of k rows) p) (rows_of k rows)
+heard_row rows p Disconnects = bare (Heard p) 0 (finishes ended.Disconnected)
+heard_row rows p (Breaks cause) = bare (Heard p) 0 (broken rows cause)
+
+-- the row of an item after these rows, where `pick` is the next fresh number
+abbrev pub treat : Policy → ℕ → ℕ → List Row → Item → Row
+treat policy pid pick rows (Admit k) = row_of (Admit k) k (admits rows) (rows_of k rows)
+treat policy pid pick rows (Says k saying given) =
+    row_of (Says k saying given) k (said_by_client policy pid k (rows_of k rows) pick saying given) (rows_of k rows)
+treat policy pid pick rows (Gone k) = row_of (Gone k) k silent (rows_of k rows)
+treat policy pid pick rows (Heard p) = heard_row rows p (dest rows p)
+treat policy pid pick rows (BadServer fault) = bare (BadServer fault) 0 (broken rows (broke.Frame fault))
+treat policy pid pick rows ServerEnd = bare ServerEnd 0 (finishes ended.ServerEnd)
+treat policy pid pick rows (ServerCut left) = bare (ServerCut left) 0 (broken rows (broke.Cut left))
+treat policy pid pick rows ServerFailed = bare ServerFailed 0 (finishes ended.ServerFailed)
+treat policy pid pick rows (Took stream size) = bare (Took stream size) stream silent
+treat policy pid pick rows (RunEnd cause) = bare (RunEnd cause) 0 silent
+treat policy pid pick rows Unserved = bare Unserved 0 silent
