@@ -1,0 +1,49 @@
+-- What can stand at the front of bytes that are cut into frames (PROTOCOL.mux): less than a whole frame, or a fault.
+use Rattle.std.specs.Prelude.{◌≡◌, ◌≢◌, ◌⊎◌, ⊤, ℕ, ◌+◌, ◌≤◌, ◌<◌, List, [], ◌∷◌, length, take, drop, Some}
+use Rattle.ssh_fields.specs.Fields.{take_u32}
+use Rattle.ssh_grammar.specs.declared.fault.BadFrame.{BadFrame}
+use Rattle.ssh_grammar.specs.declared.fault.BadFrame.TheVariants as bad
+use Rattle.ssh_grammar.specs.declared.framing.Framing.{Framing}
+use Rattle.ssh_grammar.specs.declared.framing.Framing.TheVariants.{Control, Proxy}
+use Rattle.ssh_grammar.specs.declared.numbers.TheConstants.{LONGEST_FRAME}
+use Rattle.ssh_grammar.specs.Frames.{Front, Frame, More, Faulty, shortest}
+use Rattle.proxy_frames.specs.declared.next.Piece.{Piece}
+use Rattle.proxy_frames.specs.declared.next.Piece.TheVariants as piece
+
+-- a length field that is in range, and the bytes behind it
+pub record IsHeader (framing : Framing) (bytes : List ℕ) (n : ℕ) (behind : List ℕ) : Type 0 where
+  pub reads : take_u32 bytes ≡ Some (n, behind)
+  pub least : shortest framing ≤ n
+  pub most : n ≤ LONGEST_FRAME
+
+-- a padding length, where one stands there already, is 0
+abbrev pub HasNoPadding : Framing → List ℕ → Type 0
+HasNoPadding Control behind = ⊤
+HasNoPadding Proxy [] = ⊤
+HasNoPadding Proxy (b ∷ behind) = b ≡ 0
+
+-- a length field in range, no padding, and fewer bytes than the length says
+pub record IsUnfinished (framing : Framing) (bytes : List ℕ) (n : ℕ) (behind : List ℕ) : Type 0 where
+  pub header : IsHeader framing bytes n behind
+  pub padding : HasNoPadding framing behind
+  pub short : length behind < n
+
+-- a proper prefix of a frame: less than a length field, or a whole one and less than the rest of its frame
+abbrev pub IsPartial : Framing → List ℕ → Type 0
+IsPartial framing bytes = (length bytes < 4) ⊎ ((n : ℕ) × (behind : List ℕ) × IsUnfinished framing bytes n behind)
+
+-- a fault: a length field out of range, or a padding length behind one that is in range
+abbrev pub IsFault : Framing → List ℕ → BadFrame → Type 0
+IsFault framing bytes (bad.Long n) = (behind : List ℕ) × (take_u32 bytes ≡ Some (n, behind)) × (LONGEST_FRAME < n)
+IsFault framing bytes (bad.Short n) = (behind : List ℕ) × (take_u32 bytes ≡ Some (n, behind)) × (n < shortest framing)
+IsFault framing bytes (bad.Padding b) =
+    (n : ℕ) × (behind : List ℕ) × (framing ≡ Proxy) × (b ≢ 0) × IsHeader framing bytes n (b ∷ behind)
+
+-- ---- the front, found in place
+
+-- so many bytes of header and so many of content, less than a frame, or a fault
+abbrev pub IsPiece : List ℕ → Piece → Front → Type 0
+IsPiece bytes (piece.Frame header n) front =
+    (header + n ≤ length bytes) × (front ≡ Frame (take n (drop header bytes)) (drop n (drop header bytes)))
+IsPiece bytes piece.More front = front ≡ More
+IsPiece bytes (piece.Bad fault) front = front ≡ Faulty fault

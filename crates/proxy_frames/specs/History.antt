@@ -1,0 +1,112 @@
+-- What came to a framer and what it gave, and what it stands for.
+use Rattle.std.specs.Prelude.{◌≡◌, ℕ, List, [], ◌∷◌, ◌++◌, length, drop, Option, Some, None}
+use Rattle.std.specs.List.{AllByRecursion}
+use Rattle.ssh_grammar.specs.declared.fault.BadFrame.{BadFrame}
+use Rattle.ssh_grammar.specs.declared.framing.Framing.{Framing}
+use Rattle.ssh_grammar.specs.Frames.{Cut, cut, Faulty, first_frame}
+use Rattle.ssh_grammar.specs.IsFrame.{IsContent, joined}
+use Rattle.proxy_frames.specs.declared.next.Next.{Next}
+use Rattle.proxy_frames.specs.declared.next.Next.TheVariants as next
+use Rattle.proxy_frames.specs.State.{FramerState}
+
+-- since a framer began, or was switched: how it cuts, the bytes that came, first those that the switch left, the
+-- frames that were given, and the fault, once one was told
+pub record History : Type 0 where
+  pub framing : Framing
+  pub bytes : List ℕ
+  pub given : List (List ℕ)
+  pub told : Option BadFrame
+
+-- nothing came yet
+abbrev pub new_history : Framing → History
+new_history framing = record { framing = framing; bytes = []; given = []; told = None }
+
+-- all frames of the bytes that came, the bytes after the last one, and their fault
+abbrev pub cut_of : History → Cut
+cut_of h = cut h.framing h.bytes
+
+-- the frames that were not given yet
+abbrev pub to_come : History → List (List ℕ)
+to_come h = drop (length h.given) (cut_of h).frames
+
+-- the bytes after the frames that were given
+abbrev pub left : History → List ℕ
+left h = drop (length (joined h.framing h.given)) h.bytes
+
+-- ---- how it goes on
+
+-- more bytes came
+abbrev pub and_bytes : List ℕ → History → History
+and_bytes piece h = record { framing = h.framing; bytes = h.bytes ++ piece; given = h.given; told = h.told }
+
+-- one more frame was given
+abbrev pub and_frame : List ℕ → History → History
+and_frame content h = record { framing = h.framing; bytes = h.bytes; given = h.given ++ content ∷ []; told = h.told }
+
+-- a fault was told
+abbrev pub and_fault : BadFrame → History → History
+and_fault fault h = record { framing = h.framing; bytes = h.bytes; given = h.given; told = Some fault }
+
+-- from now on the bytes that are left are cut so; after a fault nothing is
+abbrev pub and_switch : Framing → History → History
+and_switch framing h = elim h.told [
+  | Some fault ↦ h
+  | None ↦ record { framing = framing; bytes = left h; given = []; told = None }
+]
+
+-- ---- what is next
+
+-- the next frame, and after the last one the fault, if there is one
+abbrev pub next_in : List (List ℕ) → Option BadFrame → Next
+next_in (content ∷ more) fault = next.Frame
+next_in [] (Some fault) = next.Bad fault
+next_in [] None = next.More
+
+-- the same, but a fault that was told is told again
+abbrev pub next_of : History → Next
+next_of h = elim h.told [ Some fault ↦ next.Bad fault | None ↦ next_in (to_come h) (cut_of h).fault ]
+
+-- the frame that it gives, if it is one
+abbrev pub first_of : List (List ℕ) → Option (List ℕ)
+first_of (content ∷ more) = Some content
+first_of [] = None
+
+abbrev pub frame_next : History → Option (List ℕ)
+frame_next h = elim h.told [ Some fault ↦ None | None ↦ first_of (to_come h) ]
+
+-- what came and what was given then
+abbrev pub and_next_in : List (List ℕ) → Option BadFrame → History → History
+and_next_in (content ∷ more) fault h = and_frame content h
+and_next_in [] (Some fault) h = and_fault fault h
+and_next_in [] None h = h
+
+abbrev pub and_next : History → History
+and_next h = elim h.told [ Some fault ↦ h | None ↦ and_next_in (to_come h) (cut_of h).fault h ]
+
+-- ---- what a framer stands for
+
+-- frames that were given, before a cut
+abbrev pub behind : List (List ℕ) → Cut → Cut
+behind given c = record { frames = given ++ c.frames; rest = c.rest; fault = c.fault }
+
+-- while no fault was told bytes are cut as the framer cuts; one that was told stands at the front of its rest
+abbrev pub HasTold : Option BadFrame → History → FramerState → Type 0
+HasTold None h f = f.framing ≡ h.framing
+HasTold (Some fault) h f = first_frame h.framing f.rest ≡ Faulty fault
+
+-- the frames that were given are the first ones of all the bytes that came, what is still to be cut stands in the
+-- framer's rest, and so does the fault
+pub record StandsFor (h : History) (f : FramerState) : Type 0 where
+  pub valid : AllByRecursion (IsContent h.framing) h.given
+  pub filled : h.bytes ≡ joined h.framing h.given ++ f.rest
+  pub frames : cut_of h ≡ behind h.given (cut h.framing f.rest)
+  pub fault : f.fault ≡ h.told
+  pub told : HasTold h.told h f
+
+-- of each history that it stood for before a call, a framer stands afterwards for what the history became
+abbrev pub GoesOn : FramerState → FramerState → (History → History) → Type 0
+GoesOn old new event = (h : History) → StandsFor h old → StandsFor (event h) new
+
+-- of each history that it stood for, this is what comes next
+abbrev pub IsNext : FramerState → Next → FramerState → Type 0
+IsNext old answer new = (h : History) → StandsFor h old → (answer ≡ next_of h) × (new.current ≡ frame_next h)

@@ -1,0 +1,24 @@
+-- What each call of a queue leaves.
+use Rattle.std.specs.Prelude.{ℕ, ◌+◌, ◌-◌, List, [], ◌++◌, length, drop}
+use Rattle.ssh_grammar.specs.Frames.{frame_payload}
+use Rattle.proxy_frames.specs.State.{QueueState}
+
+-- nothing waits, and no room lasts
+abbrev pub empty_queue : QueueState
+empty_queue = record { waiting = []; spare = 0 }
+
+-- more bytes at its end; the room that lasts stays
+abbrev pub with_bytes : List ℕ → QueueState → QueueState
+with_bytes bytes q = record { waiting = q.waiting ++ bytes; spare = q.spare }
+
+-- the bytes of the proxy frame of a payload
+abbrev pub frame_length : List ℕ → ℕ
+frame_length payload = length payload + 5
+
+-- the payload's proxy frame at its end, in the room that lasts
+abbrev pub with_reserved : List ℕ → QueueState → QueueState
+with_reserved payload q = record { waiting = q.waiting ++ frame_payload payload; spare = q.spare - frame_length payload }
+
+-- without its first bytes
+abbrev pub without_first : ℕ → QueueState → QueueState
+without_first n q = record { waiting = drop n q.waiting; spare = q.spare }

@@ -1,0 +1,57 @@
+-- What each call of a framer answers and leaves.
+use Rattle.std.specs.Prelude.{ℕ, List, [], ◌++◌, length, take, drop, Option, Some, None}
+use Rattle.ssh_grammar.specs.declared.fault.BadFrame.{BadFrame}
+use Rattle.ssh_grammar.specs.declared.framing.Framing.{Framing}
+use Rattle.ssh_grammar.specs.Frames.{Front, Frame, More, Faulty, first_frame}
+use Rattle.proxy_frames.specs.declared.next.Next.{Next}
+use Rattle.proxy_frames.specs.declared.next.Next.TheVariants as next
+use Rattle.proxy_frames.specs.State.{FramerState}
+
+-- a framer without a byte
+abbrev pub new_framer : Framing → FramerState
+new_framer framing = record { framing = framing; rest = []; current = None; fault = None }
+
+-- after more bytes
+abbrev pub pushed : List ℕ → FramerState → FramerState
+pushed piece f = record { framing = f.framing; rest = f.rest ++ piece; current = None; fault = f.fault }
+
+-- from now on cut so
+abbrev pub switched : Framing → FramerState → FramerState
+switched framing f = record { framing = framing; rest = f.rest; current = None; fault = f.fault }
+
+-- what comes next: the fault, once one was told, and else what stands at the front of the bytes that are not cut
+abbrev pub front_of : FramerState → Front
+front_of f = elim f.fault [ Some fault ↦ Faulty fault | None ↦ first_frame f.framing f.rest ]
+
+-- what is answered to it
+abbrev pub answer_to : Front → Next
+answer_to (Frame content rest) = next.Frame
+answer_to More = next.More
+answer_to (Faulty fault) = next.Bad fault
+
+-- and what it leaves: a frame is the current one, and a fault is noted
+abbrev pub after_front : Front → FramerState → FramerState
+after_front (Frame content rest) f = record { framing = f.framing; rest = rest; current = Some content; fault = f.fault }
+after_front More f = record { framing = f.framing; rest = f.rest; current = None; fault = f.fault }
+after_front (Faulty fault) f = record { framing = f.framing; rest = f.rest; current = None; fault = Some fault }
+
+-- ---- what is written in the current frame
+
+-- bytes with others written over their front
+abbrev pub over : List ℕ → List ℕ → List ℕ
+over written bytes = take (length bytes) (written ++ drop (length written) bytes)
+
+-- the frame, and nothing where there is none
+abbrev pub frame_of : FramerState → List ℕ
+frame_of f = elim f.current [ None ↦ [] | Some content ↦ content ]
+
+-- after a write over the current frame. As many bytes as the frame has are the frame then, and nothing else changes
+abbrev pub with_written : FramerState → List ℕ → FramerState
+with_written f written =
+    let all = over written (frame_of f ++ f.rest) in
+    record {
+      framing = f.framing;
+      rest = drop (length (frame_of f)) all;
+      current = Some (take (length (frame_of f)) all);
+      fault = f.fault;
+    }
