@@ -1,6 +1,7 @@
 pub mod State
 pub mod Answer
-pub mod Asks
+pub mod Heeded
+pub mod Decisions
 pub mod Step
 pub mod Events
 pub mod Stands

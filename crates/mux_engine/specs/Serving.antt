@@ -1,5 +1,5 @@
 -- What holds between an engine and its wire while it is served.
-use Rattle.std.specs.Prelude.{◌≡◌, ◌≢◌, ◌≤◌, ◌<◌, ℕ, Bool, true, false, List, [], ◌∷◌, Option, None}
+use Rattle.std.specs.Prelude.{◌≡◌, ◌≢◌, ◌≤◌, ◌<◌, ℕ, Bool, true, false, List, [], ◌∷◌, ◌++◌, length, Option, None}
 use Rattle.mux_outside.specs.Streams.{among}
 use Rattle.mux_outside.specs.declared.house.HouseReply.{HouseReply}
 use Rattle.mux_outside.specs.declared.mark.Mark.{Mark}
@@ -7,20 +7,20 @@ use Rattle.mux_history.specs.declared.ended.Ended.{Ended}
 use Rattle.mux_history.specs.declared.ended.Ended.TheVariants.{OutOfMemory}
 use Rattle.mux_history.specs.Rows.{rows_of, is_out}
 use Rattle.mux_history.specs.Policy.{Anything}
-use Rattle.mux_history.specs.NotBuilt.{LaterControl, ServerSays}
-use Rattle.mux_history.specs.Choices.{FromLists}
+use Rattle.mux_history.specs.NotBuilt.{ProxyMode, ServerSays}
+use Rattle.mux_history.specs.Choices.{FromLists, replies_given}
 use Rattle.mux_history.specs.Log.{Setting}
-use Rattle.mux_history.specs.Journal.{Tells, is_blocked}
+use Rattle.mux_history.specs.Journal.{Tells, is_blocked, log_of_journal}
 use Rattle.mux_history.specs.Promises.{Written, OpenStreams, Settled, IsSettled, ConnectionEnds, MayGive, waits_in, write_failed}
 use Rattle.mux_engine.specs.State.{State}
 use Rattle.mux_engine.specs.Step.{is_present, numbers}
-use Rattle.mux_engine.specs.Stands.{setting, log, Stands, is_accepted}
+use Rattle.mux_engine.specs.Stands.{setting, log, StandsFor, is_accepted}
 
 -- ---- a whole run
 
--- a run of a master that serves the hello and the alive check, with these choices
+-- a run of a master that serves the control phase, with these choices
 abbrev pub setting_with : List ℕ → List HouseReply → ℕ → Setting
-setting_with picks replies pid = record { policy = record { opens = Anything; listens = Anything }; pid = pid; choices = FromLists picks replies; missing = LaterControl ∷ ServerSays ∷ [] }
+setting_with picks replies pid = record { policy = record { opens = Anything; listens = Anything }; pid = pid; choices = FromLists picks replies; missing = ProxyMode ∷ ServerSays ∷ [] }
 
 -- how a run ends: as the journal says, and each stream was offered what waits for it
 pub record EndsRight (setting : Setting) (turns : ℕ) (journal : List Mark) (answer : Ended) : Type 0 where
@@ -28,7 +28,8 @@ pub record EndsRight (setting : Setting) (turns : ℕ) (journal : List Mark) (an
   pub settled : Settled setting journal
 
 -- there is a journal that is what the wire told in this run, where it tells; there are fresh numbers, and replies that
--- the house may give; for these all is written and kept open as it must be, and the run ends right, but for want of memory
+-- the house may give, one to each time that it was asked; for these all is written and kept open as it must be, and the
+-- run ends right, but for want of memory
 pub record IsRun (May : HouseReply → Type 0) (pid turns : ℕ) (start told : Option (List Mark)) (answer : Ended) : Type 0 where
   pub journal : List Mark
   pub picks : List ℕ
@@ -38,14 +39,21 @@ pub record IsRun (May : HouseReply → Type 0) (pid turns : ℕ) (start told : O
   pub written : Written (setting_with picks replies pid) journal
   pub open_streams : OpenStreams (setting_with picks replies pid) journal
   pub waits : waits_in journal ≤ turns
+  pub asked : answer ≢ OutOfMemory → replies_given (log_of_journal (setting_with picks replies pid) journal) ≡ length replies
   pub ends : answer ≢ OutOfMemory → EndsRight (setting_with picks replies pid) turns journal answer
 
 -- ---- while it goes on
 
+-- there are replies that the house may give: these come first, whatever it replies to later asks
+pub record Replied (May : HouseReply → Type 0) (P : List HouseReply → ℕ → Type 0) : Type 0 where
+  pub replies : List HouseReply
+  pub may : MayGive May replies
+  pub at : (later : List HouseReply) → P (replies ++ later) (length replies)
+
 -- what was promised of each mark
-pub record Kept (pid : ℕ) (journal : List Mark) : Type 0 where
-  pub written : Written (setting pid) journal
-  pub open_streams : OpenStreams (setting pid) journal
+pub record Kept (pid : ℕ) (replies : List HouseReply) (journal : List Mark) : Type 0 where
+  pub written : Written (setting pid replies) journal
+  pub open_streams : OpenStreams (setting pid replies) journal
 
 -- a client that did not come yet
 pub record IsUnseen (journal : List Mark) (blocked : List ℕ) (k : ℕ) : Type 0 where
@@ -53,23 +61,29 @@ pub record IsUnseen (journal : List Mark) (blocked : List ℕ) (k : ℕ) : Type 
   pub never_blocked : is_blocked k journal ≡ false
   pub not_blocked : among k blocked ≡ false
 
--- the engine stands for what the wire told since the start, in which `given` turns were asked for; the clients that are
--- here are those whose streams are open; the streams that are not in `todo` were offered what waits for them
-pub record Serving (pid : ℕ) (start told : Option (List Mark)) (streams blocked held : List ℕ) (listens : Bool) (last given : ℕ) (todo : List ℕ) (s : State) : Type 0 where
+-- with these replies, of which so many were drawn, the engine stands for what the wire told since the start, in which
+-- `given` turns were asked for; the clients that are here are those whose streams are open; the streams that are not in
+-- `todo` were offered what waits for them
+pub record ServingBy (replies : List HouseReply) (drawn : ℕ) (pid : ℕ) (start told : Option (List Mark)) (streams blocked held : List ℕ) (listens : Bool) (last given : ℕ) (todo : List ℕ) (s : State) : Type 0 where
   pub journal : List Mark
   pub closed : List ℕ
   pub pid_is : s.pid ≡ pid
   pub tells : Tells start told journal
-  pub stands : Stands s journal closed
-  pub kept : Kept pid journal
+  pub stands : StandsFor replies drawn s journal closed
+  pub kept : Kept pid replies journal
   pub waits : waits_in journal ≡ given
   pub open_are : streams ≡ 0 ∷ numbers s.clients
   pub held_is : held ≡ blocked
   pub blocked_is : (t : ℕ) → is_present s.clients t ≡ true → among t blocked ≡ is_blocked t journal
-  pub failed_out : (t : ℕ) → write_failed t journal ≡ true → s.ended ≡ None → is_out (rows_of t (log pid journal)) ≡ true
+  pub failed_out : (t : ℕ) → write_failed t journal ≡ true → s.ended ≡ None → is_out (rows_of t (log pid replies journal)) ≡ true
   pub unseen : (k : ℕ) → last < k → IsUnseen journal blocked k
-  pub settled : (t : ℕ) → among t todo ≡ false → IsSettled (setting pid) journal t
+  pub settled : (t : ℕ) → among t todo ≡ false → IsSettled (setting pid replies) journal t
   pub hears : s.listening ≡ true → listens ≡ true
+
+-- the same for the replies that the house gave
+abbrev pub Serving : (HouseReply → Type 0) → ℕ → Option (List Mark) → Option (List Mark) → List ℕ → List ℕ → List ℕ → Bool → ℕ → ℕ → List ℕ → State → Type 0
+Serving May pid start told streams blocked held listens last given todo s =
+    Replied May (λ replies drawn. ServingBy replies drawn pid start told streams blocked held listens last given todo s)
 
 -- the same, whatever came before
 pub record IsServed (told : Option (List Mark)) (streams blocked held : List ℕ) (listens : Bool) (last : ℕ) (s : State) : Type 0 where
@@ -77,26 +91,37 @@ pub record IsServed (told : Option (List Mark)) (streams blocked held : List ℕ
   pub given : ℕ
   pub todo : List ℕ
   pub pid : ℕ
-  pub serving : Serving pid start told streams blocked held listens last given todo s
+  pub replies : List HouseReply
+  pub drawn : ℕ
+  pub serving : ServingBy replies drawn pid start told streams blocked held listens last given todo s
 
 -- the same, with these streams still to be offered what waits for them
 pub record IsServedBut (told : Option (List Mark)) (streams blocked held : List ℕ) (listens : Bool) (last : ℕ) (todo : List ℕ) (s : State) : Type 0 where
   pub start : Option (List Mark)
   pub given : ℕ
   pub pid : ℕ
-  pub serving : Serving pid start told streams blocked held listens last given todo s
+  pub replies : List HouseReply
+  pub drawn : ℕ
+  pub serving : ServingBy replies drawn pid start told streams blocked held listens last given todo s
 
 -- what is left of it for want of memory
-pub record Promised (pid : ℕ) (start told : Option (List Mark)) (given : ℕ) : Type 0 where
+pub record PromisedBy (replies : List HouseReply) (pid : ℕ) (start told : Option (List Mark)) (given : ℕ) : Type 0 where
   pub journal : List Mark
   pub tells : Tells start told journal
-  pub kept : Kept pid journal
+  pub kept : Kept pid replies journal
   pub waits : waits_in journal ≤ given
 
+abbrev pub Promised : (HouseReply → Type 0) → ℕ → Option (List Mark) → Option (List Mark) → ℕ → Type 0
+Promised May pid start told given = Replied May (λ replies drawn. PromisedBy replies pid start told given)
+
 -- what is known of a run that ended
-pub record Ran (pid turns : ℕ) (start told : Option (List Mark)) (answer : Ended) : Type 0 where
+pub record RanBy (replies : List HouseReply) (drawn : ℕ) (pid turns : ℕ) (start told : Option (List Mark)) (answer : Ended) : Type 0 where
   pub journal : List Mark
   pub tells : Tells start told journal
-  pub kept : Kept pid journal
+  pub kept : Kept pid replies journal
   pub waits : waits_in journal ≤ turns
-  pub ends : EndsRight (setting pid) turns journal answer
+  pub asked : replies_given (log pid replies journal) ≡ drawn
+  pub ends : EndsRight (setting pid replies) turns journal answer
+
+abbrev pub Ran : (HouseReply → Type 0) → ℕ → ℕ → Option (List Mark) → Option (List Mark) → Ended → Type 0
+Ran May pid turns start told answer = Replied May (λ replies drawn. RanBy replies drawn pid turns start told answer)

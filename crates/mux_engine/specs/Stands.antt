@@ -1,6 +1,7 @@
 -- An engine stands for a journal, the newest mark first, and for the clients that were closed: one clause a part.
-use Rattle.std.specs.Prelude.{◌≡◌, ◌≢◌, ℕ, Bool, true, false, not, List, [], ◌∷◌, ◌==◌, filter, Option, Some, None, if◌then◌else◌}
-use Rattle.ssh_grammar.specs.Said.{parse, InControl, Payload}
+use Rattle.std.specs.Prelude.{◌≡◌, ◌≢◌, ℕ, Bool, true, false, not, List, [], ◌∷◌, ◌++◌, ◌==◌, length, filter, Option, Some, None, if◌then◌else◌}
+use Rattle.mux_outside.specs.declared.house.HouseReply.{HouseReply}
+use Rattle.ssh_grammar.specs.Said.{Mode, InControl, Stopped, Payload}
 use Rattle.mux_outside.specs.Streams.{among}
 use Rattle.mux_outside.specs.declared.mark.Mark.{Mark}
 use Rattle.mux_outside.specs.declared.mark.Mark.TheVariants.{Waits, Accepts, Gets, Ends, Frees, Fails, Takes, Holds, WriteFails}
@@ -9,39 +10,35 @@ use Rattle.mux_history.specs.Rows.{Row, rows_of, is_out, is_ended, losses, any_o
 use Rattle.mux_history.specs.Pending.{pending_down}
 use Rattle.mux_history.specs.Policy.{Anything}
 use Rattle.mux_history.specs.Controls.{greeted}
-use Rattle.mux_history.specs.NotBuilt.{LaterControl, ServerSays}
-use Rattle.mux_history.specs.Choices.{FromLists}
+use Rattle.mux_history.specs.NotBuilt.{ProxyMode, ServerSays, spoken}
+use Rattle.mux_history.specs.Choices.{FromLists, replies_given}
 use Rattle.mux_history.specs.Log.{Setting, served, entered}
 use Rattle.mux_history.specs.Solo.{end_of}
 use Rattle.mux_history.specs.Journal.{bytes_of, log_of_journal}
-use Rattle.mux_history.specs.Promises.{listens}
+use Rattle.mux_history.specs.Promises.{listens, MayGive}
 use Rattle.mux_engine.specs.declared.client.Standing.{Standing}
-use Rattle.mux_engine.specs.declared.client.Standing.TheVariants.{Awaited, Greeted, Lost}
+use Rattle.mux_engine.specs.declared.client.Standing.TheVariants.{Awaited, Greeted, Unread, Lost}
 use Rattle.mux_engine.specs.State.{ClientState, State}
-use Rattle.mux_engine.specs.Step.{is_lost, is_present, waiting_in, served_in}
+use Rattle.mux_engine.specs.Answer.{stands_by}
+use Rattle.mux_engine.specs.Step.{is_lost, is_read, is_greeted, is_present, waiting_in, served_in}
 
--- a run of a master that serves the hello and the alive check: nothing is chosen in it
-abbrev pub setting : ℕ → Setting
-setting pid = record { policy = record { opens = Anything; listens = Anything }; pid = pid; choices = FromLists [] []; missing = LaterControl ∷ ServerSays ∷ [] }
+-- a run of a master that refuses PROXY and reads nothing of the server: nothing is chosen in it but by the house
+abbrev pub setting : ℕ → List HouseReply → Setting
+setting pid replies = record { policy = record { opens = Anything; listens = Anything }; pid = pid; choices = FromLists [] replies; missing = ProxyMode ∷ ServerSays ∷ [] }
 
 -- its rows
-abbrev pub log : ℕ → List Mark → List Row
-log pid marks = log_of_journal (setting pid) marks
+abbrev pub log : ℕ → List HouseReply → List Mark → List Row
+log pid replies marks = log_of_journal (setting pid replies) marks
 
 -- ---- one client
 
-abbrev pub greet : Standing → Standing
-greet Awaited = Greeted
-greet Greeted = Greeted
-greet (Lost why) = Lost why
-
-abbrev pub is_greeted : Standing → Bool
-is_greeted Awaited = false
-is_greeted Greeted = true
-is_greeted (Lost why) = true
+-- a client that is lost stays so
+abbrev pub keep_lost : Standing → Standing → Standing
+keep_lost (Lost why) next = Lost why
+keep_lost _ next = next
 
 abbrev pub standing_by : Item → Standing → Standing
-standing_by (Says k saying given) s = greet s
+standing_by (Says k saying given) s = keep_lost s (stands_by saying)
 standing_by (Gone k) s = Lost None
 standing_by _ s = s
 
@@ -52,24 +49,31 @@ standing_of (row ∷ before) = elim row.fate [
   | Drop cause ↦ Lost (Some cause)
   | Refused ↦ Lost None
   | Goes ↦ standing_by row.item (standing_of before)
-  | End cause ↦ standing_of before
+  | End cause ↦ keep_lost (standing_of before) Unread
 ]
 
 -- a client stands for its own rows
-pub record ClientFits (own : List Row) (c : ClientState) : Type 0 where
-  pub standing_is : c.standing ≡ standing_of own
-  pub greeted_is : is_lost c.standing ≡ false → greeted own ≡ is_greeted c.standing
-  pub queue_is : c.queue ≡ pending_down own
+pub record ClientFits (own : List Row) (standing : Standing) (queue : List ℕ) : Type 0 where
+  pub standing_is : standing ≡ standing_of own
+  pub greeted_is : is_lost standing ≡ false → greeted own ≡ is_greeted standing
+  pub queue_is : queue ≡ pending_down own
+
+-- how the next bytes of a client are read
+abbrev pub IsReadIn : Standing → Mode → Type 0
+IsReadIn Awaited mode = mode ≡ InControl
+IsReadIn Greeted mode = mode ≡ InControl
+IsReadIn Unread mode = mode ≡ Stopped
+IsReadIn (Lost why) mode = Unit {0}
 
 -- and, while it is served, for its own bytes
 pub record ClientReads (bytes : List ℕ) (c : ClientState) : Type 0 where
-  pub mode_is : is_lost c.standing ≡ false → (parse InControl bytes).mode ≡ InControl
-  pub rest_is : is_lost c.standing ≡ false → c.rest ≡ (parse InControl bytes).rest
+  pub mode_is : IsReadIn c.standing (spoken InControl bytes).mode
+  pub rest_is : is_read c.standing ≡ true → c.rest ≡ (spoken InControl bytes).rest
 
 -- a client stands for its rows, and for its bytes while the run goes on
 pub record StandsAt (rows : List Row) (marks : List Mark) (c : ClientState) : Type 0 where
   pub nonzero : c.number ≢ 0
-  pub fits : ClientFits (rows_of c.number rows) c
+  pub fits : ClientFits (rows_of c.number rows) c.standing c.queue
   pub reads : is_ended rows ≡ false → ClientReads (bytes_of c.number marks) c
 
 abbrev pub EachStands : List Row → List Mark → List ClientState → Type 0
@@ -117,27 +121,35 @@ pub record IsStrange (s : State) (marks : List Mark) (closed : List ℕ) (k : �
   pub not_closed_yet : among k closed ≡ false
   pub no_bytes : k ≢ 0 → bytes_of k marks ≡ []
 
-pub record Stands (s : State) (marks : List Mark) (closed : List ℕ) : Type 0 where
-  pub ended_is : s.ended ≡ end_of (log s.pid marks)
-  pub listening_is : s.listening ≡ listens (log s.pid marks)
+-- with these replies of the house, of which so many were drawn
+pub record StandsFor (replies : List HouseReply) (drawn : ℕ) (s : State) (marks : List Mark) (closed : List ℕ) : Type 0 where
+  pub drawn_is : replies_given (log s.pid replies marks) ≡ drawn
+  pub ended_is : s.ended ≡ end_of (log s.pid replies marks)
+  pub listening_is : s.listening ≡ listens (log s.pid replies marks)
   pub apart : AreApart s.clients
   pub waiting_is : s.waiting ≡ waiting_in s.clients
-  pub leaving_are : s.leaving ≡ filter (not_closed closed) (losses (log s.pid marks))
-  pub served_are : served_in s.clients ≡ served (log s.pid marks)
-  pub clients : EachStands (log s.pid marks) marks s.clients
+  pub leaving_are : s.leaving ≡ filter (not_closed closed) (losses (log s.pid replies marks))
+  pub served_are : served_in s.clients ≡ served (log s.pid replies marks)
+  pub clients : EachStands (log s.pid replies marks) marks s.clients
   -- a client that is neither here nor closed has no rows
-  pub absent : (k : ℕ) → k ≢ 0 → is_present s.clients k ≡ false → among k closed ≡ false → rows_of k (log s.pid marks) ≡ []
+  pub absent : (k : ℕ) → k ≢ 0 → is_present s.clients k ≡ false → among k closed ≡ false → rows_of k (log s.pid replies marks) ≡ []
   pub closed_gone : (k : ℕ) → among k closed ≡ true → is_present s.clients k ≡ false
-  pub closed_out : (k : ℕ) → among k closed ≡ true → is_out (rows_of k (log s.pid marks)) ≡ true
+  pub closed_out : (k : ℕ) → among k closed ≡ true → is_out (rows_of k (log s.pid replies marks)) ≡ true
   -- while the run goes on, one that was accepted is here or closed
-  pub there : is_ended (log s.pid marks) ≡ false → (k : ℕ) → is_accepted k marks ≡ true → is_present s.clients k ≡ false → among k closed ≡ true
+  pub there : is_ended (log s.pid replies marks) ≡ false → (k : ℕ) → is_accepted k marks ≡ true → is_present s.clients k ≡ false → among k closed ≡ true
   -- and one that never was is neither, and said nothing
   pub strange : (k : ℕ) → is_accepted k marks ≡ false → IsStrange s marks closed k
   -- while the run goes on the server said nothing
-  pub silent : is_ended (log s.pid marks) ≡ false → bytes_of 0 marks ≡ []
-  pub server_in : is_out (rows_of 0 (log s.pid marks)) ≡ false
-  pub plain : ArePlain (log s.pid marks)
-  pub known : (k : ℕ) → among k (entered (log s.pid marks)) ≡ true → IsKnown (rows_of k (log s.pid marks))
+  pub silent : is_ended (log s.pid replies marks) ≡ false → bytes_of 0 marks ≡ []
+  pub server_in : is_out (rows_of 0 (log s.pid replies marks)) ≡ false
+  pub plain : ArePlain (log s.pid replies marks)
+  pub known : (k : ℕ) → among k (entered (log s.pid replies marks)) ≡ true → IsKnown (rows_of k (log s.pid replies marks))
+
+-- the house gave these replies to all that it was asked so far, and whatever it will reply to later asks, the engine
+-- stands for the marks and for the clients that were closed
+abbrev pub Stands : List HouseReply → State → List Mark → List ℕ → Type 0
+Stands given s marks closed =
+    (later : List HouseReply) → StandsFor (given ++ later) (length given) s marks closed
 
 -- ---- one step more
 
@@ -153,9 +165,23 @@ IsAllowed s marks (Frees k) = Unit {0}
 IsAllowed s marks (Holds k) = Unit {0}
 IsAllowed s marks (Waits waiting want streams listens) = Unit {0}
 
+-- the house gave some replies more, each of which it may give, and the engine stands for the journal with the mark
+pub record GoesBy (May : HouseReply → Type 0) (given : List HouseReply) (s : State) (marks : List Mark) (closed : List ℕ) : Type 0 where
+  pub more : List HouseReply
+  pub may : MayGive May more
+  pub stands : Stands (given ++ more) s marks closed
+
 -- from every journal that the engine stood for, it stands afterwards for that journal with the mark
-abbrev pub GoesOn : State → State → Mark → Type 0
-GoesOn old new mark = (marks : List Mark) (closed : List ℕ) → Stands old marks closed → IsAllowed old marks mark → Stands new (mark ∷ marks) closed
+abbrev pub GoesOn : (HouseReply → Type 0) → State → State → Mark → Type 0
+GoesOn May old new mark =
+    (given : List HouseReply) (marks : List Mark) (closed : List ℕ)
+    → Stands given old marks closed → IsAllowed old marks mark → GoesBy May given new (mark ∷ marks) closed
+
+-- the same where the house isn't asked
+abbrev pub GoesAlone : State → State → Mark → Type 0
+GoesAlone old new mark =
+    (given : List HouseReply) (marks : List Mark) (closed : List ℕ)
+    → Stands given old marks closed → IsAllowed old marks mark → Stands given new (mark ∷ marks) closed
 
 -- the client is the first of those that are lost and not closed
 abbrev pub IsFirst : ℕ → List (ℕ × Option Why) → Type 0
@@ -164,4 +190,6 @@ IsFirst k (l ∷ ls) = l.0 ≡ k
 
 -- and from every list of clients that were closed, for that list with the client
 abbrev pub Closes : State → State → ℕ → Type 0
-Closes old new k = (marks : List Mark) (closed : List ℕ) → Stands old marks closed → Stands new marks (k ∷ closed)
+Closes old new k =
+    (given : List HouseReply) (marks : List Mark) (closed : List ℕ)
+    → Stands given old marks closed → Stands given new marks (k ∷ closed)

@@ -1,71 +1,18 @@
 -- One step of an engine.
-use Rattle.std.specs.Prelude.{◌≡◌, ℕ, Bool, true, false, not, List, [], ◌∷◌, ◌++◌, length, drop, filter, if◌then◌else◌, ◌==◌, suc, Option, Some, None, is_some, nat_lt}
-use Rattle.ssh_grammar.specs.Said.{Saying, parse, InControl}
-use Rattle.mux_history.specs.Rows.{Fate, Goes, Refused, Drop, End}
-use Rattle.mux_history.specs.Pending.{joined}
-use Rattle.mux_history.specs.declared.why.Why.{Why}
-use Rattle.mux_history.specs.declared.ended.Ended.{Ended}
-use Rattle.mux_history.specs.declared.ended.Ended.TheVariants as ended
+use Rattle.std.specs.Prelude.{◌≡◌, ℕ, ◌&&◌, Bool, true, false, not, List, [], ◌∷◌, ◌++◌, length, filter, if◌then◌else◌, ◌==◌, suc, Option, Some, None, is_some, nat_lt}
+use Rattle.mux_outside.specs.declared.house.HouseReply.{HouseReply}
 use Rattle.mux_outside.specs.Streams.{without}
 use Rattle.mux_outside.specs.declared.mark.Mark.{Mark}
 use Rattle.mux_outside.specs.declared.mark.Mark.TheVariants.{Waits, Accepts, Gets, Ends, Frees, Fails, Takes, Holds, WriteFails}
+use Rattle.mux_history.specs.declared.why.Why.{Why}
+use Rattle.mux_history.specs.declared.ended.Ended.{Ended}
+use Rattle.mux_history.specs.declared.ended.Ended.TheVariants as ended
+use Rattle.mux_history.specs.Promises.{is_empty, MayGive}
+use Rattle.mux_engine.specs.declared.client.Heard.{Heard}
 use Rattle.mux_engine.specs.State.{ClientState, State}
-use Rattle.mux_history.specs.Said.{Outcome}
-use Rattle.mux_history.specs.Log.{fitting, overflow, fate_with}
-use Rattle.mux_history.specs.Promises.{is_empty}
-use Rattle.mux_engine.specs.Answer.{answer, hello}
 use Rattle.mux_engine.specs.declared.client.Standing.{Standing}
-use Rattle.mux_engine.specs.declared.client.Standing.TheVariants.{Awaited, Greeted, Lost}
-
-abbrev pub is_lost : Standing → Bool
-is_lost Awaited = false
-is_lost Greeted = false
-is_lost (Lost why) = true
-
--- ---- a client
-
-abbrev pub new_client : ℕ → ClientState
-new_client k = record { number = k; standing = Awaited; rest = []; queue = hello }
-
-abbrev pub refused_client : ℕ → ClientState
-refused_client k = record { number = k; standing = Lost None; rest = []; queue = [] }
-
--- how a client stands after a row
-abbrev pub standing_after : Fate → Standing
-standing_after Goes = Greeted
-standing_after Refused = Greeted
-standing_after (Drop why) = Lost (Some why)
-standing_after (End cause) = Greeted
-
--- a client after a row of an outcome: the frames that fit into its queue are added, and one that doesn't fit drops it
-abbrev pub client_told : ClientState → Outcome → ClientState
-client_told c o = record c { standing = standing_after (fate_with o.ends (overflow (length c.queue) o.told)); queue = c.queue ++ joined (fitting (length c.queue) o.told) }
-
-abbrev pub said_in : ℕ → Standing → Saying → ClientState → ClientState
-said_in pid Awaited x c = client_told c (answer pid c.number false x)
-said_in pid Greeted x c = client_told c (answer pid c.number true x)
-said_in pid (Lost why) x c = c
-
-abbrev pub client_said : ℕ → ClientState → Saying → ClientState
-client_said pid c x = said_in pid c.standing x c
-
-abbrev pub client_all : ℕ → List Saying → ClientState → ClientState
-client_all pid [] c = c
-client_all pid (x ∷ xs) c = client_all pid xs (client_said pid c x)
-
--- the bytes that are left are kept while the client is served
-abbrev pub with_rest : List ℕ → ClientState → ClientState
-with_rest rest c = record c { rest = if is_lost c.standing then [] else rest }
-
--- more bytes of a client
-abbrev pub client_got : ℕ → List ℕ → ClientState → ClientState
-client_got pid bytes c = if is_lost c.standing then c else with_rest (parse InControl (c.rest ++ bytes)).rest (client_all pid (parse InControl (c.rest ++ bytes)).says c)
-
-abbrev pub lost_client : ClientState → ClientState
-lost_client c = if is_lost c.standing then c else record c { standing = Lost None; rest = [] }
-
-abbrev pub client_took : ℕ → ClientState → ClientState
-client_took n c = record c { queue = drop n c.queue }
+use Rattle.mux_engine.specs.declared.client.Standing.TheVariants.{Lost}
+pub use Rattle.mux_engine.specs.Heeded.{is_lost, is_read, is_greeted, new_client, refused_client, standing_after, Heeded, unheard, end_in, heeded, client_said, asks_in, next_reply, later_replies, reply_if, left_if, client_all, count_if, asks_all, rest_if, after_heeded, client_hears, client_got, client_asks, lost_client, client_took}
 
 -- ---- the clients
 
@@ -104,15 +51,14 @@ abbrev pub numbers : List ClientState → List ℕ
 numbers [] = []
 numbers (c ∷ cs) = c.number ∷ numbers cs
 
+-- a client that is lost, with the cause
+abbrev pub loss_in : Standing → ℕ → List (ℕ × Option Why)
+loss_in (Lost why) k = (k, why) ∷ []
+loss_in _ k = []
+
 -- a client that is lost just now, with the cause
 abbrev pub loss_between : Standing → Standing → ℕ → List (ℕ × Option Why)
-loss_between Awaited Awaited k = []
-loss_between Awaited Greeted k = []
-loss_between Awaited (Lost why) k = (k, why) ∷ []
-loss_between Greeted Awaited k = []
-loss_between Greeted Greeted k = []
-loss_between Greeted (Lost why) k = (k, why) ∷ []
-loss_between (Lost why) s k = []
+loss_between before now k = if is_lost before then [] else loss_in now k
 
 abbrev pub loss_at : ℕ → (ClientState → ClientState) → List ClientState → List (ℕ × Option Why)
 loss_at k f cs = in_client [] (λ c. loss_between c.standing (f c).standing k) cs k
@@ -141,33 +87,67 @@ entered s k = if nat_lt (length (served_in s.clients)) 64 then added s (new_clie
 abbrev pub over : State → Ended → State
 over s cause = record s { ended = Some cause }
 
--- an event while the run goes on
-abbrev pub stepped : State → Mark → State
-stepped s (Accepts k) = entered s k
-stepped s (Gets k bytes) = if k == 0 then over s ended.NotBuilt else changed s k (client_got s.pid bytes)
-stepped s (Ends k) = if k == 0 then over s ended.ServerEnd else changed s k lost_client
-stepped s (Fails k) = if k == 0 then over s ended.ServerFailed else changed s k lost_client
-stepped s (WriteFails k) = if k == 0 then over s ended.ServerFailed else changed s k lost_client
-stepped s (Frees k) = s
-stepped s (Holds k) = s
-stepped s (Takes k bytes) = s
-stepped s (Waits waiting want streams listens) = s
+-- what a client's new bytes did to all
+abbrev pub stops_at : ℕ → (ClientState → Heeded) → List ClientState → Bool
+stops_at k hear cs = in_client false (λ c. (hear c).stops) cs k
+
+abbrev pub ended_at : ℕ → (ClientState → Heeded) → List ClientState → Option Ended
+ended_at k hear cs = in_client None (λ c. (hear c).ended) cs k
+
+-- more bytes of a client, with the replies of the house
+abbrev pub gained : State → ℕ → List HouseReply → List ℕ → State
+gained s k replies bytes = record (changed s k (client_got s.pid replies bytes)) {
+  listening = s.listening && not (stops_at k (client_hears s.pid replies bytes) s.clients);
+  ended = ended_at k (client_hears s.pid replies bytes) s.clients;
+}
+
+abbrev pub gained_asks : State → ℕ → List HouseReply → List ℕ → ℕ
+gained_asks s k replies bytes = in_client 0 (client_asks s.pid replies bytes) s.clients k
+
+-- an event while the run goes on, with the replies of the house
+abbrev pub stepped : State → List HouseReply → Mark → State
+stepped s replies (Accepts k) = entered s k
+stepped s replies (Gets k bytes) = if k == 0 then over s ended.NotBuilt else gained s k replies bytes
+stepped s replies (Ends k) = if k == 0 then over s ended.ServerEnd else changed s k lost_client
+stepped s replies (Fails k) = if k == 0 then over s ended.ServerFailed else changed s k lost_client
+stepped s replies (WriteFails k) = if k == 0 then over s ended.ServerFailed else changed s k lost_client
+stepped s replies (Frees k) = s
+stepped s replies (Holds k) = s
+stepped s replies (Takes k bytes) = s
+stepped s replies (Waits waiting want streams listens) = s
+
+-- how often the house is asked at a mark
+abbrev pub stepped_asks : State → List HouseReply → Mark → ℕ
+stepped_asks s replies (Gets k bytes) = if k == 0 then 0 else gained_asks s k replies bytes
+stepped_asks s replies mark = 0
 
 -- so many bytes that a stream took
 abbrev pub taken : State → ℕ → ℕ → State
 taken s k n = record s { clients = at_client k (client_took n) s.clients; waiting = if is_empty (queue_in (at_client k (client_took n) s.clients) k) then without k s.waiting else s.waiting }
 
 -- the state after a mark: at the end of the run nothing changes but what is taken
-abbrev pub after : State → Mark → State
-after s (Takes k bytes) = taken s k (length bytes)
-after s (Accepts k) = if is_some s.ended then s else stepped s (Accepts k)
-after s (Gets k bytes) = if is_some s.ended then s else stepped s (Gets k bytes)
-after s (Ends k) = if is_some s.ended then s else stepped s (Ends k)
-after s (Fails k) = if is_some s.ended then s else stepped s (Fails k)
-after s (WriteFails k) = if is_some s.ended then s else stepped s (WriteFails k)
-after s (Frees k) = s
-after s (Holds k) = s
-after s (Waits waiting want streams listens) = s
+abbrev pub after : State → List HouseReply → Mark → State
+after s replies (Takes k bytes) = taken s k (length bytes)
+after s replies (Accepts k) = if is_some s.ended then s else stepped s replies (Accepts k)
+after s replies (Gets k bytes) = if is_some s.ended then s else stepped s replies (Gets k bytes)
+after s replies (Ends k) = if is_some s.ended then s else stepped s replies (Ends k)
+after s replies (Fails k) = if is_some s.ended then s else stepped s replies (Fails k)
+after s replies (WriteFails k) = if is_some s.ended then s else stepped s replies (WriteFails k)
+after s replies (Frees k) = s
+after s replies (Holds k) = s
+after s replies (Waits waiting want streams listens) = s
+
+-- how often the house is asked at a mark
+abbrev pub asked_at : State → List HouseReply → Mark → ℕ
+asked_at s replies mark = if is_some s.ended then 0 else stepped_asks s replies mark
+
+-- the house was asked exactly so often, it may give what it gave, and the state is that after the mark, whatever it
+-- will reply to later asks
+pub record Steps (May : HouseReply → Type 0) (old new : State) (mark : Mark) : Type 0 where
+  pub given : List HouseReply
+  pub may : MayGive May given
+  pub asked : (later : List HouseReply) → asked_at old (given ++ later) mark ≡ length given
+  pub state : (later : List HouseReply) → new ≡ after old (given ++ later) mark
 
 -- a client whose stream was closed
 abbrev pub without_client : ℕ → List ClientState → List ClientState
@@ -191,3 +171,20 @@ SameClient k old new = in_client None (λ c. Some c) new.clients k ≡ in_client
 abbrev pub first_of : List (ℕ × Option Why) → Option (ℕ × Option Why)
 first_of [] = None
 first_of (l ∷ ls) = Some l
+
+-- one client's new bytes, among all clients: the same with what is lost by them
+pub record HearsAt (May : HouseReply → Type 0) (pid k : ℕ) (bytes : List ℕ) (old new : List ClientState) (leaving leaving' : List (ℕ × Option Why)) (heard : Heard) : Type 0 where
+  pub given : List HouseReply
+  pub may : MayGive May given
+  pub asked : (later : List HouseReply) → in_client 0 (client_asks pid (given ++ later) bytes) old k ≡ length given
+  pub clients : (later : List HouseReply) → new ≡ at_client k (client_got pid (given ++ later) bytes) old
+  pub lost : (later : List HouseReply) → leaving' ≡ leaving ++ loss_at k (client_got pid (given ++ later) bytes) old
+  pub stops : (later : List HouseReply) → heard.stops ≡ stops_at k (client_hears pid (given ++ later) bytes) old
+  pub ended : (later : List HouseReply) → heard.ended ≡ ended_at k (client_hears pid (given ++ later) bytes) old
+
+-- the same of the whole state
+pub record Gains (May : HouseReply → Type 0) (old new : State) (k : ℕ) (bytes : List ℕ) : Type 0 where
+  pub given : List HouseReply
+  pub may : MayGive May given
+  pub asked : (later : List HouseReply) → gained_asks old k (given ++ later) bytes ≡ length given
+  pub state : (later : List HouseReply) → new ≡ gained old k (given ++ later) bytes

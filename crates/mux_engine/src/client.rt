@@ -1,28 +1,22 @@
-ghost use Rattle.std.specs.Prelude.{◌≡◌, ◌≤◌, ◌<◌, ◌+◌, ◌++◌, [], ◌∷◌, length, List, ℕ, Bool, true, false, IsTrue, IfOk, OnOk, OnErr, Some, None, drop, ◌==◌, if◌then◌else◌};
-ghost use Rattle.ssh_grammar.specs.declared.fault.BadFrame.{BadFrame};
-ghost use Rattle.ssh_grammar.specs.Control.{Alive as SaysAlive};
-ghost use Rattle.ssh_grammar.specs.Frames.{frame_answer};
-ghost use Rattle.ssh_grammar.specs.Said.{Body, BadFraming, InControl, parse, first_in};
-ghost use Rattle.mux_history.specs.Said.{tells};
-ghost use Rattle.mux_engine.specs.Asks.{asked_outcome, IsPieceOf};
-ghost use Rattle.mux_engine.specs.declared.client.Standing.TheVariants.{Awaited, Greeted, Lost};
-ghost use Rattle.mux_engine.specs.Step.{new_client, refused_client, lost_client, client_told, client_said, client_all, client_took, client_got, is_lost};
+ghost use Rattle.std.specs.Prelude.{◌≡◌, ◌≤◌, ◌+◌, ◌++◌, [], length, List, ℕ, Bool, true, false, IfOk, OnOk, Some, None, drop, if◌then◌else◌};
+ghost use Rattle.ssh_grammar.specs.declared.framing.Framing.TheVariants as framing;
+ghost use Rattle.ssh_grammar.specs.Frames.{first_frame};
+ghost use Rattle.mux_history.specs.Promises.{MayGive};
+ghost use Rattle.mux_engine.specs.declared.client.Standing.TheVariants.{Lost};
+ghost use Rattle.mux_history.specs.Pending.{joined};
+ghost use Rattle.mux_history.specs.Log.{fitting, overflow};
+ghost use Rattle.mux_engine.specs.Decisions.{frames, full_of, Follows, SaysNext, Hears};
+ghost use Rattle.mux_engine.specs.Heeded.{is_lost, is_read, is_greeted, new_client, refused_client, lost_client, client_took};
 
-use crate::asked::{Asked, read};
-use mux_history::Why;
-use ssh_fields::{Cursor, OutOfMemory, put_u32};
-use ssh_grammar::numbers::{ALIVE_CHECK, LONGEST_FRAME, S_ALIVE, VERSION};
+use crate::decision::{Decision, Fate, decide_first, decide_later};
+use mux_history::limits::MAX_QUEUE;
+use mux_history::{Ended, Why};
+use mux_messages::hello;
+use mux_outside::House;
+use proxy_frames::{Framer, Framing, Next, Queue};
+use ssh_fields::{OutOfMemory, Small};
 use std::alloc::Global;
 use std::marker::Model;
-
-/// The most bytes that wait for a client.
-const LONGEST_QUEUE: usize = 33_554_432;
-
-/// How many bytes the answer to an alive check has.
-const ALIVE_LENGTH: usize = 16;
-
-/// The least length of a control message's body.
-const SHORTEST_BODY: u32 = 4;
 
 /// How a client stands with the master.
 #[derive(Clone, Copy, Debug, PartialEq, Eq)]
@@ -31,8 +25,19 @@ pub enum Standing {
     Awaited,
     /// It has said its hello.
     Greeted,
+    /// It asked for what descriptors are needed for, or ended the run: nothing that it says is read any more.
+    Unread,
     /// It is lost: dropped for this cause, or its stream ended or failed.
     Lost(Option<Why>),
+}
+
+/// What a client's bytes did beyond the client.
+#[derive(Clone, Copy, Debug, PartialEq, Eq)]
+pub struct Heard {
+    /// No client is to be accepted any more.
+    pub stops: bool,
+    /// How the run ended, if it did.
+    pub ended: Option<Ended>,
 }
 
 /// A client: what it said that isn't cut yet, and what waits for it.
@@ -40,16 +45,21 @@ pub enum Standing {
 pub struct Client {
     number: u64,
     standing: Standing,
-    rest: Vec<u8>,
-    queue: Vec<u8>,
+    framer: Framer,
+    queue: Queue,
 }
 
 impl Model for Client {
+    ghost use Rattle.std.specs.Prelude.{◌≡◌, true, None};
+    ghost use Rattle.ssh_grammar.specs.declared.framing.Framing.TheVariants as framing;
     ghost use Rattle.mux_engine.specs.State.{ClientState};
+    ghost use Rattle.mux_engine.specs.Heeded.{is_read, rest_if};
 
     ghost Value = { ClientState };
 
-    ghost view = { λ a. record { number = a.number; standing = a.standing; rest = a.rest.items; queue = a.queue.items } };
+    ghost view = { λ a. record { number = a.number; standing = a.standing; rest = rest_if (is_read a.standing) a.framer.rest; queue = a.queue.waiting } };
+
+    ghost invariant = { λ a. is_read a.standing ≡ true → (a.framer.framing ≡ framing.Control) × (a.framer.fault ≡ None) };
 }
 
 impl Client {
@@ -57,12 +67,12 @@ impl Client {
     pub fn new(alloc: Global, number: u64) -> Result<Client, OutOfMemory>
         ensures { IfOk result (λ client. client ≡ new_client number) }
     {
-        let mut queue = Vec::new(alloc);
-        queue.extend_from_slice(&[0, 0, 0, 8, 0, 0, 0, 1, 0, 0, 0, 4])?;
+        let mut queue = Queue::new(alloc);
+        queue.push_bytes(hello().as_bytes())?;
         Ok(Client {
             number,
             standing: Standing::Awaited,
-            rest: Vec::new(alloc),
+            framer: Framer::new(alloc, Framing::Control),
             queue,
         })
     }
@@ -74,8 +84,8 @@ impl Client {
         Client {
             number,
             standing: Standing::Lost(None),
-            rest: Vec::new(alloc),
-            queue: Vec::new(alloc),
+            framer: Framer::new(alloc, Framing::Control),
+            queue: Queue::new(alloc),
         }
     }
 
@@ -91,27 +101,31 @@ impl Client {
         self.standing
     }
 
+    /// The bytes that wait for it.
     pub fn queue(&self) -> &[u8]
         ensures { result.now ≡ self.now.queue }
     {
-        self.queue.as_slice()
+        self.queue.front()
     }
 
     /// How many bytes of what it said are not cut yet.
     pub fn rest_len(&self) -> usize
         ensures { result ≡ length self.now.rest }
     {
-        self.rest.len()
+        if self.is_read() { self.framer.rest_len() } else { 0 }
     }
 
     pub fn is_lost(&self) -> bool
         ensures { result ≡ is_lost self.now.standing }
     {
-        match self.standing {
-            Standing::Awaited => false,
-            Standing::Greeted => false,
-            Standing::Lost(_) => true,
-        }
+        matches!(self.standing, Standing::Lost(_))
+    }
+
+    // Whether what it says is read.
+    fn is_read(&self) -> bool
+        ensures { result ≡ is_read self.now.standing }
+    {
+        matches!(self.standing, Standing::Awaited | Standing::Greeted)
     }
 
     /// Its stream ended or failed.
@@ -120,7 +134,6 @@ impl Client {
     {
         if !self.is_lost() {
             self.standing = Standing::Lost(None);
-            self.rest.clear();
         }
     }
 
@@ -129,155 +142,99 @@ impl Client {
         requires { n ≤ length self.old.queue }
         ensures { self.new ≡ client_took n self.old }
     {
-        let _ = self.queue.drain(..n);
+        self.queue.took(n);
     }
 
-    fn drop_for(&mut self, why: Why)
-        ensures { self.new ≡ record self.old { standing = Lost (Some why) } }
+    // It is told a frame, where there is one and it fits into the queue; else the frame's length.
+    fn tell(&mut self, told: &Option<Small>) -> Result<Option<usize>, OutOfMemory>
+        ensures queue { OnOk result (self.new ≡ record self.old { queue = self.old.queue ++ joined (fitting (length self.old.queue) (frames told.now)) }) }
+        ensures full { IfOk result (λ unfit. overflow (length self.old.queue) (frames told.now) ≡ full_of (length self.old.queue) unfit) }
     {
-        self.standing = Standing::Lost(Some(why));
+        let Some(frame) = told else {
+            return Ok(None);
+        };
+        let want = frame.as_bytes().len();
+        if MAX_QUEUE - want < self.queue.len() {
+            return Ok(Some(want));
+        }
+        self.queue.push_bytes(frame.as_bytes())?;
+        Ok(None)
     }
 
-    // It is answered, where the answer fits into its queue; else it is dropped.
-    fn tell_alive(&mut self, id: u32, pid: u32) -> Result<(), OutOfMemory>
-        requires { self.old.standing ≡ Greeted }
-        ensures { OnOk result (self.new ≡ client_told self.old (tells (frame_answer (SaysAlive id pid)))) }
+    // It is told what was decided, and stands as was decided; one whose queue is full is dropped.
+    fn follow(&mut self, decision: &Decision, heard: &mut Heard) -> Result<(), OutOfMemory>
+        requires { is_read self.old.standing ≡ true }
+        ensures { OnOk result (Follows decision.now self.old heard.old self.new heard.new) }
     {
         let have = self.queue.len();
-        if have <= LONGEST_QUEUE - ALIVE_LENGTH {
-            put_alive(&mut self.queue, id, pid)
-        } else {
-            self.drop_for(Why::QueueFull {
-                have,
-                want: ALIVE_LENGTH,
-            });
-            Ok(())
-        }
-    }
-
-    // A control message that it said.
-    fn say(&mut self, pid: u32, body: &[u8]) -> Result<(), OutOfMemory>
-        ensures { OnOk result (self.new ≡ client_said pid self.old (Body body.now)) }
-    {
-        match self.standing {
-            Standing::Awaited => self.greet(read(body)),
-            Standing::Greeted => self.ask(pid, read(body))?,
-            Standing::Lost(_) => {}
-        }
+        let unfit = self.tell(&decision.told)?;
+        self.standing = match (decision.fate, unfit) {
+            (Fate::Ends(cause), _) => {
+                heard.ended = Some(cause);
+                Standing::Unread
+            }
+            (Fate::Drops(why), _) => Standing::Lost(Some(why)),
+            (_, Some(want)) => Standing::Lost(Some(Why::QueueFull { have, want })),
+            (Fate::Goes, None) => Standing::Greeted,
+            (Fate::Unreads, None) => Standing::Unread,
+            (Fate::Stops, None) => {
+                heard.stops = true;
+                Standing::Greeted
+            }
+        };
         Ok(())
     }
 
-    fn greet(&mut self, asked: Asked)
-        requires { self.old.standing ≡ Awaited }
-        ensures { (pid : ℕ) → self.new ≡ client_told self.old (asked_outcome pid self.old.number false asked) }
+    // What it says next: whether anything whole was there.
+    fn say_next<H: House>(
+        &mut self,
+        pid: u32,
+        heard: &mut Heard,
+        house: &mut H,
+    ) -> Result<bool, OutOfMemory>
+        requires { is_read self.old.standing ≡ true }
+        ensures { IfOk result (λ more. SaysNext H.may pid more (first_frame framing.Control self.old.rest) self.old heard.old self.new heard.new) }
     {
-        match asked {
-            Asked::Hello(VERSION) => self.standing = Standing::Greeted,
-            Asked::Hello(have) => self.drop_for(Why::Version { have }),
-            Asked::Alive(_) => self.drop_for(Why::NoHello { kind: ALIVE_CHECK }),
-            Asked::Other(kind) => self.drop_for(Why::NoHello { kind }),
-            Asked::Unreadable => self.drop_for(Why::NotBuilt),
-        }
-    }
-
-    fn ask(&mut self, pid: u32, asked: Asked) -> Result<(), OutOfMemory>
-        requires { self.old.standing ≡ Greeted }
-        ensures { OnOk result (self.new ≡ client_told self.old (asked_outcome pid self.old.number true asked)) }
-    {
-        match asked {
-            Asked::Alive(id) => self.tell_alive(id, pid),
-            _ => {
-                self.drop_for(Why::NotBuilt);
-                Ok(())
+        match self.framer.next() {
+            Next::More => Ok(false),
+            Next::Bad(fault) => {
+                self.standing = Standing::Lost(Some(Why::BadFrame(fault)));
+                Ok(true)
+            }
+            Next::Frame => {
+                let body = self.framer.content();
+                let decision = match self.standing {
+                    Standing::Greeted => decide_later(self.number, pid, body, house),
+                    _ => decide_first(body),
+                };
+                self.follow(&decision, heard)?;
+                Ok(true)
             }
         }
     }
 
-    // A frame that is none.
-    fn fault(&mut self)
-        ensures { (pid : ℕ) (fault : BadFrame) → self.new ≡ client_said pid self.old (BadFraming fault) }
+    /// Its stream gave bytes: what they did beyond it.
+    pub fn got<H: House>(
+        &mut self,
+        pid: u32,
+        bytes: &[u8],
+        house: &mut H,
+    ) -> Result<Heard, OutOfMemory>
+        ensures { IfOk result (λ heard. Hears H.may pid bytes.now self.old self.new heard) }
     {
-        if !self.is_lost() {
-            self.drop_for(Why::NotBuilt);
+        let mut heard = Heard {
+            stops: false,
+            ended: None,
+        };
+        if !self.is_read() {
+            return Ok(heard);
         }
-    }
-
-    // All frames at the front of the bytes, while it is served, and the bytes that are left.
-    fn say_all<'a>(&mut self, pid: u32, bytes: &'a [u8]) -> Result<&'a [u8], OutOfMemory>
-        ensures left { IfOk result (λ left. is_lost self.new.standing ≡ false → left.now ≡ (parse InControl bytes.now).rest) }
-        ensures said { OnOk result (self.new ≡ client_all pid (parse InControl bytes.now).says self.old) }
-    {
-        let mut rest = bytes;
-        while !self.is_lost() {
-            match front(rest) {
-                Piece::More => return Ok(rest),
-                Piece::Bad => {
-                    self.fault();
-                    return Ok(rest);
-                }
-                Piece::Frame(body, after) => {
-                    self.say(pid, body)?;
-                    rest = after;
-                }
+        self.framer.push(bytes)?;
+        while self.is_read() {
+            if !self.say_next(pid, &mut heard, house)? {
+                break;
             }
         }
-        Ok(rest)
+        Ok(heard)
     }
-
-    /// Its stream gave bytes.
-    pub fn got(&mut self, alloc: Global, pid: u32, bytes: &[u8]) -> Result<(), OutOfMemory>
-        ensures { OnOk result (self.new ≡ client_got pid bytes.now self.old) }
-    {
-        if self.is_lost() {
-            return Ok(());
-        }
-        let mut all = Vec::from_slice(alloc, self.rest.as_slice())?;
-        all.extend_from_slice(bytes)?;
-        let left = self.say_all(pid, &all)?;
-        if self.is_lost() {
-            self.rest.clear();
-        } else {
-            self.rest = Vec::from_slice(alloc, left)?;
-        }
-        Ok(())
-    }
-}
-
-/// The front of some bytes.
-#[derive(Clone, Copy)]
-pub enum Piece<'a> {
-    /// A proper prefix of a frame.
-    More,
-    /// No frame can begin so.
-    Bad,
-    /// A frame's body, and the bytes after it.
-    Frame(&'a [u8], &'a [u8]),
-}
-
-fn front(bytes: &[u8]) -> Piece<'_>
-    ensures { IsPieceOf result (first_in InControl bytes.now) }
-{
-    let mut fields = Cursor::new(bytes);
-    let Some(length) = fields.take_u32() else {
-        return Piece::More;
-    };
-    let rest = fields.rest();
-    if length < SHORTEST_BODY || LONGEST_FRAME < length {
-        Piece::Bad
-    } else if length as usize <= rest.len() {
-        let (body, after) = rest.split_at(length as usize);
-        Piece::Frame(body, after)
-    } else {
-        Piece::More
-    }
-}
-
-// The answer to an alive check, as a frame. An `Err` leaves a front of it.
-fn put_alive(queue: &mut Vec<u8>, id: u32, pid: u32) -> Result<(), OutOfMemory>
-    ensures { OnOk result (queue.new.items ≡ queue.old.items ++ frame_answer (SaysAlive id pid)) }
-{
-    put_u32(queue, 12)?;
-    put_u32(queue, S_ALIVE)?;
-    put_u32(queue, id)?;
-    put_u32(queue, pid)
 }

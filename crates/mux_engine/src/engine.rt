@@ -1,17 +1,18 @@
 ghost use Rattle.std.specs.Prelude.{◌≡◌, ◌≢◌, ◌≤◌, ◌<◌, ◌+◌, ◌++◌, [], ◌∷◌, length, List, ℕ, Bool, true, false, not, filter, IsTrue, IfOk, OnOk, OnErr, IsErr, Some, None, drop, ◌==◌, if◌then◌else◌, slice_get, is_some};
 ghost use Rattle.mux_outside.specs.Streams.{without};
 ghost use Rattle.mux_outside.specs.declared.mark.Mark.{Mark as TheMark};
-ghost use Rattle.mux_engine.specs.Step.{at_client, client_index, queue_in, rest_in, waiting_in, loss_between, loss_at, stepped, is_lost, changed, added, served_in, entered, over, after, taken, closed_by, client_got, client_took, lost_client, new_client, without_client, new_state, rest_length, SameClient, first_of};
+ghost use Rattle.mux_engine.specs.Step.{at_client, client_index, queue_in, rest_in, waiting_in, loss_between, loss_at, is_lost, changed, added, served_in, entered, over, taken, closed_by, Steps, Gains, HearsAt, client_took, lost_client, new_client, without_client, new_state, rest_length, SameClient, first_of};
 ghost use Rattle.mux_outside.specs.Streams.{among};
 ghost use Rattle.mux_outside.specs.declared.mark.Mark.TheVariants.{Takes};
 ghost use Rattle.mux_history.specs.Rows.{losses};
 ghost use Rattle.mux_history.specs.Pending.{pending};
 ghost use Rattle.mux_history.specs.Promises.{listens, has_output};
 ghost use Rattle.mux_engine.specs.Events.{Tells, went_of, client_of};
-ghost use Rattle.mux_engine.specs.Stands.{Stands, GoesOn, Closes, IsFirst, not_closed, log};
+ghost use Rattle.mux_outside.specs.declared.house.HouseReply.{HouseReply as TheReply};
+ghost use Rattle.mux_engine.specs.Stands.{Stands, GoesOn, GoesAlone, Closes, IsFirst, not_closed, log};
 ghost use Rattle.mux_history.specs.declared.why.Why.{Why as TheWhy};
 
-use crate::client::{Client, Standing};
+use crate::client::{Client, Heard, Standing};
 use mux_history::{Ended, Why};
 use mux_outside::{House, Streams};
 use ssh_fields::OutOfMemory;
@@ -142,25 +143,28 @@ fn note_loss(
     }
 }
 
-fn got_at(
-    alloc: Global,
+fn got_at<H: House>(
     clients: &mut [Client],
     leaving: &mut Vec<(u64, Option<Why>)>,
     number: u64,
     pid: u32,
     bytes: &[u8],
-) -> Result<(), OutOfMemory>
-    ensures clients { OnOk result (clients.new ≡ at_client number (client_got pid bytes.now) clients.old) }
-    ensures leaving { OnOk result (leaving.new.items ≡ leaving.old.items ++ loss_at number (client_got pid bytes.now) clients.old) }
+    house: &mut H,
+) -> Result<Heard, OutOfMemory>
+    ensures { IfOk result (λ heard. HearsAt H.may pid number bytes.now clients.old clients.new leaving.old.items leaving.new.items heard) }
 {
     let i = index_of(clients, number);
     if i < clients.len() {
         let client = &mut clients[i];
         let before = client.standing();
-        client.got(alloc, pid, bytes)?;
+        let heard = client.got(pid, bytes, house)?;
         note_loss(leaving, before, client.standing(), number)?;
+        return Ok(heard);
     }
-    Ok(())
+    Ok(Heard {
+        stops: false,
+        ended: None,
+    })
 }
 
 fn lose_at(
@@ -229,17 +233,25 @@ impl Engine {
         self.refresh()
     }
 
-    fn got(&mut self, client: u64, bytes: &[u8]) -> Result<(), OutOfMemory>
-        ensures { OnOk result (self.new ≡ changed self.old client (client_got self.old.pid bytes.now)) }
+    fn got<H: House>(
+        &mut self,
+        client: u64,
+        bytes: &[u8],
+        house: &mut H,
+    ) -> Result<(), OutOfMemory>
+        requires { self.old.ended ≡ None }
+        ensures { OnOk result (Gains H.may self.old self.new client bytes.now) }
     {
-        got_at(
-            self.alloc,
+        let heard = got_at(
             &mut self.clients,
             &mut self.leaving,
             client,
             self.pid,
             bytes,
+            house,
         )?;
+        self.listening &= !heard.stops;
+        self.ended = heard.ended;
         self.refresh()
     }
 
@@ -250,12 +262,13 @@ impl Engine {
         self.refresh()
     }
 
-    fn step(&mut self, e: Event<'_>) -> Result<(), OutOfMemory>
-        ensures { OnOk result ((mark : TheMark) → Tells e.entry mark → self.new ≡ stepped self.old mark) }
+    fn step<H: House>(&mut self, e: Event<'_>, house: &mut H) -> Result<(), OutOfMemory>
+        requires { self.old.ended ≡ None }
+        ensures { OnOk result ((mark : TheMark) → Tells e.entry mark → Steps H.may self.old self.new mark) }
     {
         match e {
             Event::Accepted(client) => self.enter(client),
-            Event::FromClient(client, bytes) => self.got(client, bytes),
+            Event::FromClient(client, bytes) => self.got(client, bytes, house),
             Event::ClientEnd(client) => self.lose(client),
             Event::ClientFailed(client) => self.lose(client),
             Event::FromServer(_) => self.end(Ended::NotBuilt),
@@ -271,12 +284,12 @@ impl Engine {
         Ok(())
     }
 
-    fn do_event(&mut self, e: Event<'_>) -> Result<Went, OutOfMemory>
-        ensures step { OnOk result ((mark : TheMark) → Tells e.entry mark → self.new ≡ after self.old mark) }
+    fn do_event<H: House>(&mut self, e: Event<'_>, house: &mut H) -> Result<Went, OutOfMemory>
+        ensures step { OnOk result ((mark : TheMark) → Tells e.entry mark → Steps H.may self.old self.new mark) }
         ensures went { IfOk result (λ went. went ≡ went_of self.new.ended) }
     {
         if self.ended.is_none() {
-            self.step(e)?;
+            self.step(e, house)?;
         }
         Ok(match self.ended {
             None => Went::On,
@@ -313,7 +326,7 @@ impl Engine {
     /// An engine that was told nothing yet; the process id is told to clients that check.
     pub fn new(alloc: Global, pid: u32) -> Result<Engine, OutOfMemory>
         ensures new { IfOk result (λ engine. engine ≡ new_state pid) }
-        ensures stands { IfOk result (λ engine. Stands engine [] []) }
+        ensures stands { IfOk result (λ engine. Stands [] engine [] []) }
     {
         Ok(Engine {
             alloc,
@@ -329,9 +342,9 @@ impl Engine {
 
     /// Takes in what happened at a stream. A client is accepted once, with a number from 1 on, and all other
     /// events of clients name one that was accepted. Once there was no memory there is none for any later event.
-    pub fn event<H: House>(&mut self, e: Event<'_>, _house: &mut H) -> Result<Went, OutOfMemory>
-        ensures stands { OnOk result ((mark : TheMark) → Tells e.entry mark → GoesOn self.old self.new mark) }
-        ensures step { OnOk result ((mark : TheMark) → Tells e.entry mark → self.new ≡ after self.old mark) }
+    pub fn event<H: House>(&mut self, e: Event<'_>, house: &mut H) -> Result<Went, OutOfMemory>
+        ensures stands { OnOk result ((mark : TheMark) → Tells e.entry mark → GoesOn H.may self.old self.new mark) }
+        ensures step { OnOk result ((mark : TheMark) → Tells e.entry mark → Steps H.may self.old self.new mark) }
         ensures others { OnOk result ((mark : TheMark) → Tells e.entry mark → (k : ℕ) → client_of e.entry ≢ k → SameClient k self.old self.new) }
         ensures went { IfOk result (λ went. went ≡ went_of self.new.ended) }
         ensures starved { self.old.starved ≡ true → IsErr result }
@@ -340,7 +353,7 @@ impl Engine {
         if self.starved {
             return Err(OutOfMemory);
         }
-        let went = self.do_event(e);
+        let went = self.do_event(e, house);
         if went.is_err() {
             self.starved = true;
         }
@@ -350,7 +363,7 @@ impl Engine {
     /// The bytes that wait for a stream.
     pub fn queue_of(&self, stream: u64) -> &[u8]
         ensures exact { result.now ≡ queue_in self.now.clients stream }
-        ensures waits { (marks : List TheMark) (closed : List ℕ) → Stands self.now marks closed → among stream closed ≡ false → result.now ≡ pending stream (log self.now.pid marks) }
+        ensures waits { (given : List TheReply) (marks : List TheMark) (closed : List ℕ) → Stands given self.now marks closed → among stream closed ≡ false → result.now ≡ pending stream (log self.now.pid given marks) }
     {
         self.do_queue_of(stream)
     }
@@ -358,7 +371,7 @@ impl Engine {
     /// So many bytes that wait for a stream were taken.
     pub fn took(&mut self, stream: u64, n: usize)
         requires { n ≤ length (queue_in self.old.clients stream) }
-        ensures stands { (bytes : List ℕ) → length bytes ≡ n → GoesOn self.old self.new (Takes stream bytes) }
+        ensures stands { (bytes : List ℕ) → length bytes ≡ n → GoesAlone self.old self.new (Takes stream bytes) }
         ensures step { self.new ≡ taken self.old stream n }
     {
         self.do_took(stream, n);
@@ -378,7 +391,7 @@ impl Engine {
     /// The streams for which bytes wait, in the order in which their clients came.
     pub fn waiting(&self) -> &Streams
         ensures exact { result.now ≡ self.now.waiting }
-        ensures waits { (marks : List TheMark) (closed : List ℕ) → Stands self.now marks closed → (t : ℕ) → among t closed ≡ false → among t result.now ≡ has_output (log self.now.pid marks) t }
+        ensures waits { (given : List TheReply) (marks : List TheMark) (closed : List ℕ) → Stands given self.now marks closed → (t : ℕ) → among t closed ≡ false → among t result.now ≡ has_output (log self.now.pid given marks) t }
     {
         &self.waiting
     }
@@ -386,7 +399,7 @@ impl Engine {
     /// Whether clients are to be accepted.
     pub fn listening(&self) -> bool
         ensures exact { result ≡ self.now.listening }
-        ensures stands { (marks : List TheMark) (closed : List ℕ) → Stands self.now marks closed → result ≡ listens (log self.now.pid marks) }
+        ensures stands { (given : List TheReply) (marks : List TheMark) (closed : List ℕ) → Stands given self.now marks closed → result ≡ listens (log self.now.pid given marks) }
     {
         self.listening
     }
@@ -395,7 +408,7 @@ impl Engine {
     /// dropped, if it was.
     pub fn closing(&self) -> Option<(u64, Option<Why>)>
         ensures exact { result ≡ first_of self.now.leaving }
-        ensures stands { (marks : List TheMark) (closed : List ℕ) → Stands self.now marks closed → result ≡ first_of (filter (not_closed closed) (losses (log self.now.pid marks))) }
+        ensures stands { (given : List TheReply) (marks : List TheMark) (closed : List ℕ) → Stands given self.now marks closed → result ≡ first_of (filter (not_closed closed) (losses (log self.now.pid given marks))) }
     {
         self.leaving.first().copied()
     }

@@ -2,8 +2,8 @@
 //! written waits in a queue for each stream, and `serve` drives both over a wire.
 #![tactic(auto)]
 
-mod asked;
 mod client;
+mod decision;
 mod engine;
 mod serving;
 #[cfg(test)]

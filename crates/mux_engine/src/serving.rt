@@ -7,7 +7,8 @@ ghost use Rattle.mux_history.specs.declared.ended.Ended.TheVariants.{ServerFaile
 ghost use Rattle.mux_engine.specs.Step.{is_present, numbers, queue_in, new_state};
 ghost use Rattle.mux_engine.specs.Events.{went_of, IsNext, Tells};
 ghost use Rattle.mux_outside.specs.declared.mark.Mark.TheVariants.{Gets, Ends, Fails};
-ghost use Rattle.mux_engine.specs.Serving.{IsRun, Serving, IsServed, IsServedBut, Promised, Ran};
+ghost use Rattle.mux_outside.specs.declared.house.HouseReply.{HouseReply as TheReply};
+ghost use Rattle.mux_engine.specs.Serving.{IsRun, Serving, ServingBy, IsServed, IsServedBut, Promised, PromisedBy, Ran};
 
 use crate::engine::{Engine, Event, Went};
 use mux_history::Ended;
@@ -26,11 +27,11 @@ fn offer_once<W: Wire, H: House>(
     requires served { IsServed (W.told wire.old) (W.streams wire.old) (W.blocked wire.old) held.old (W.listens wire.old) (W.last wire.old) engine.old }
     requires here { is_present engine.old.clients stream ≡ true }
     requires free { among stream (W.blocked wire.old) ≡ false }
-    ensures serving { (pid : ℕ) (start : Option (List TheMark)) (given : ℕ) (todo : List ℕ) →
-        Serving pid start (W.told wire.old) (W.streams wire.old) (W.blocked wire.old) held.old (W.listens wire.old) (W.last wire.old) given todo engine.old →
+    ensures serving { (replies : List TheReply) (drawn pid : ℕ) (start : Option (List TheMark)) (given : ℕ) (todo : List ℕ) →
+        ServingBy replies drawn pid start (W.told wire.old) (W.streams wire.old) (W.blocked wire.old) held.old (W.listens wire.old) (W.last wire.old) given todo engine.old →
         MatchResult result
-        (λ more. Serving pid start (W.told wire.new) (W.streams wire.new) (W.blocked wire.new) held.new (W.listens wire.new) (W.last wire.new) given (if more then stream ∷ todo else without stream todo) engine.new)
-        (λ e. Promised pid start (W.told wire.new) given) }
+        (λ more. ServingBy replies drawn pid start (W.told wire.new) (W.streams wire.new) (W.blocked wire.new) held.new (W.listens wire.new) (W.last wire.new) given (if more then stream ∷ todo else without stream todo) engine.new)
+        (λ e. PromisedBy replies pid start (W.told wire.new) given) }
     ensures here { OnOk result (numbers engine.new.clients ≡ numbers engine.old.clients) }
     ensures less { IfOk result (λ more. more ≡ true → length (queue_in engine.new.clients stream) < length (queue_in engine.old.clients stream)) }
     ensures free { IfOk result (λ more. more ≡ true → among stream (W.blocked wire.new) ≡ false) }
@@ -69,11 +70,11 @@ fn offer<W: Wire, H: House>(
 ) -> Result<(), OutOfMemory>
     requires served { IsServed (W.told wire.old) (W.streams wire.old) (W.blocked wire.old) held.old (W.listens wire.old) (W.last wire.old) engine.old }
     requires here { is_present engine.old.clients stream ≡ true }
-    ensures serving { (pid : ℕ) (start : Option (List TheMark)) (given : ℕ) (todo : List ℕ) →
-        Serving pid start (W.told wire.old) (W.streams wire.old) (W.blocked wire.old) held.old (W.listens wire.old) (W.last wire.old) given (stream ∷ todo) engine.old →
+    ensures serving { (replies : List TheReply) (drawn pid : ℕ) (start : Option (List TheMark)) (given : ℕ) (todo : List ℕ) →
+        ServingBy replies drawn pid start (W.told wire.old) (W.streams wire.old) (W.blocked wire.old) held.old (W.listens wire.old) (W.last wire.old) given (stream ∷ todo) engine.old →
         MatchResult result
-        (λ done. Serving pid start (W.told wire.new) (W.streams wire.new) (W.blocked wire.new) held.new (W.listens wire.new) (W.last wire.new) given todo engine.new)
-        (λ e. Promised pid start (W.told wire.new) given) }
+        (λ done. ServingBy replies drawn pid start (W.told wire.new) (W.streams wire.new) (W.blocked wire.new) held.new (W.listens wire.new) (W.last wire.new) given todo engine.new)
+        (λ e. PromisedBy replies pid start (W.told wire.new) given) }
     ensures here { OnOk result (numbers engine.new.clients ≡ numbers engine.old.clients) }
     ensures ended { OnOk result (engine.new.ended ≡ engine.old.ended) }
     ensures faults { W.server_faults wire.new ≡ W.server_faults wire.old }
@@ -95,11 +96,11 @@ fn flush<W: Wire, H: House>(
     held: &mut Streams,
 ) -> Result<(), OutOfMemory>
     requires served { IsServedBut (W.told wire.old) (W.streams wire.old) (W.blocked wire.old) held.old (W.listens wire.old) (W.last wire.old) (numbers engine.old.clients) engine.old }
-    ensures serving { (pid : ℕ) (start : Option (List TheMark)) (given : ℕ) →
-        Serving pid start (W.told wire.old) (W.streams wire.old) (W.blocked wire.old) held.old (W.listens wire.old) (W.last wire.old) given (numbers engine.old.clients) engine.old →
+    ensures serving { (replies : List TheReply) (drawn pid : ℕ) (start : Option (List TheMark)) (given : ℕ) →
+        ServingBy replies drawn pid start (W.told wire.old) (W.streams wire.old) (W.blocked wire.old) held.old (W.listens wire.old) (W.last wire.old) given (numbers engine.old.clients) engine.old →
         MatchResult result
-        (λ done. Serving pid start (W.told wire.new) (W.streams wire.new) (W.blocked wire.new) held.new (W.listens wire.new) (W.last wire.new) given [] engine.new)
-        (λ e. Promised pid start (W.told wire.new) given) }
+        (λ done. ServingBy replies drawn pid start (W.told wire.new) (W.streams wire.new) (W.blocked wire.new) held.new (W.listens wire.new) (W.last wire.new) given [] engine.new)
+        (λ e. PromisedBy replies pid start (W.told wire.new) given) }
     ensures ended { OnOk result (engine.new.ended ≡ engine.old.ended) }
     ensures faults { W.server_faults wire.new ≡ W.server_faults wire.old }
     ensures openings { W.openings wire.new ≡ W.openings wire.old }
@@ -113,9 +114,9 @@ fn flush<W: Wire, H: House>(
 
 // Closes the streams of the clients that are lost.
 fn close_lost<W: Wire>(engine: &mut Engine, wire: &mut W, held: &mut Streams)
-    ensures serving { (pid : ℕ) (start : Option (List TheMark)) (given : ℕ) →
-        Serving pid start (W.told wire.old) (W.streams wire.old) (W.blocked wire.old) held.old (W.listens wire.old) (W.last wire.old) given [] engine.old →
-        Serving pid start (W.told wire.new) (W.streams wire.new) (W.blocked wire.new) held.new (W.listens wire.new) (W.last wire.new) given [] engine.new }
+    ensures serving { (replies : List TheReply) (drawn pid : ℕ) (start : Option (List TheMark)) (given : ℕ) →
+        ServingBy replies drawn pid start (W.told wire.old) (W.streams wire.old) (W.blocked wire.old) held.old (W.listens wire.old) (W.last wire.old) given [] engine.old →
+        ServingBy replies drawn pid start (W.told wire.new) (W.streams wire.new) (W.blocked wire.new) held.new (W.listens wire.new) (W.last wire.new) given [] engine.new }
     ensures closed { engine.new.leaving ≡ [] }
     ensures ended { engine.new.ended ≡ engine.old.ended }
     ensures faults { W.server_faults wire.new ≡ W.server_faults wire.old }
@@ -131,9 +132,9 @@ fn close_lost<W: Wire>(engine: &mut Engine, wire: &mut W, held: &mut Streams)
 // Accepts no more clients where the engine wants none.
 fn hush<W: Wire>(engine: &Engine, wire: &mut W)
     requires served { IsServedBut (W.told wire.old) (W.streams wire.old) (W.blocked wire.old) (W.blocked wire.old) (W.listens wire.old) (W.last wire.old) [] engine.now }
-    ensures serving { (pid : ℕ) (start : Option (List TheMark)) (held : List ℕ) (given : ℕ) →
-        Serving pid start (W.told wire.old) (W.streams wire.old) (W.blocked wire.old) held (W.listens wire.old) (W.last wire.old) given [] engine.now →
-        Serving pid start (W.told wire.new) (W.streams wire.new) (W.blocked wire.new) held (W.listens wire.new) (W.last wire.new) given [] engine.now }
+    ensures serving { (replies : List TheReply) (drawn pid : ℕ) (start : Option (List TheMark)) (held : List ℕ) (given : ℕ) →
+        ServingBy replies drawn pid start (W.told wire.old) (W.streams wire.old) (W.blocked wire.old) held (W.listens wire.old) (W.last wire.old) given [] engine.now →
+        ServingBy replies drawn pid start (W.told wire.new) (W.streams wire.new) (W.blocked wire.new) held (W.listens wire.new) (W.last wire.new) given [] engine.now }
     ensures hears { W.listens wire.new ≡ engine.now.listening }
     ensures faults { W.server_faults wire.new ≡ W.server_faults wire.old }
     ensures openings { W.openings wire.new ≡ W.openings wire.old }
@@ -153,11 +154,11 @@ fn settle<W: Wire, H: House>(
     held: &mut Streams,
 ) -> Result<(), OutOfMemory>
     requires served { IsServedBut (W.told wire.old) (W.streams wire.old) (W.blocked wire.old) held.old (W.listens wire.old) (W.last wire.old) (numbers engine.old.clients) engine.old }
-    ensures serving { (pid : ℕ) (start : Option (List TheMark)) (given : ℕ) →
-        Serving pid start (W.told wire.old) (W.streams wire.old) (W.blocked wire.old) held.old (W.listens wire.old) (W.last wire.old) given (numbers engine.old.clients) engine.old →
+    ensures serving { (replies : List TheReply) (drawn pid : ℕ) (start : Option (List TheMark)) (given : ℕ) →
+        ServingBy replies drawn pid start (W.told wire.old) (W.streams wire.old) (W.blocked wire.old) held.old (W.listens wire.old) (W.last wire.old) given (numbers engine.old.clients) engine.old →
         MatchResult result
-        (λ done. Serving pid start (W.told wire.new) (W.streams wire.new) (W.blocked wire.new) held.new (W.listens wire.new) (W.last wire.new) given [] engine.new)
-        (λ e. Promised pid start (W.told wire.new) given) }
+        (λ done. ServingBy replies drawn pid start (W.told wire.new) (W.streams wire.new) (W.blocked wire.new) held.new (W.listens wire.new) (W.last wire.new) given [] engine.new)
+        (λ e. PromisedBy replies pid start (W.told wire.new) given) }
     ensures closed { OnOk result (engine.new.leaving ≡ []) }
     ensures hears { OnOk result (W.listens wire.new ≡ engine.new.listening) }
     ensures ended { OnOk result (engine.new.ended ≡ engine.old.ended) }
@@ -230,10 +231,10 @@ fn turn<W: Wire, H: House>(
     requires on { engine.old.ended ≡ None }
     requires hears { W.listens wire.old ≡ engine.old.listening }
     ensures serving { (pid : ℕ) (start : Option (List TheMark)) (given : ℕ) →
-        Serving pid start (W.told wire.old) (W.streams wire.old) (W.blocked wire.old) held.old (W.listens wire.old) (W.last wire.old) given [] engine.old →
+        Serving H.may pid start (W.told wire.old) (W.streams wire.old) (W.blocked wire.old) held.old (W.listens wire.old) (W.last wire.old) given [] engine.old →
         MatchResult result
-        (λ went. Serving pid start (W.told wire.new) (W.streams wire.new) (W.blocked wire.new) held.new (W.listens wire.new) (W.last wire.new) (given + 1) (numbers engine.new.clients) engine.new)
-        (λ e. Promised pid start (W.told wire.new) (given + 1)) }
+        (λ went. Serving H.may pid start (W.told wire.new) (W.streams wire.new) (W.blocked wire.new) held.new (W.listens wire.new) (W.last wire.new) (given + 1) (numbers engine.new.clients) engine.new)
+        (λ e. Promised H.may pid start (W.told wire.new) (given + 1)) }
     ensures went { IfOk result (λ went. went ≡ went_of engine.new.ended) }
     ensures failed { OnOk result (engine.new.ended ≡ Some ServerFailed → Rose (W.server_faults wire.old) (W.server_faults wire.new)) }
     ensures later { W.server_faults wire.old ≤ W.server_faults wire.new }
@@ -263,10 +264,10 @@ fn run<W: Wire, H: House>(
     requires served { IsServedBut (W.told wire.old) (W.streams wire.old) (W.blocked wire.old) [] (W.listens wire.old) (W.last wire.old) (numbers engine.old.clients) engine.old }
     requires on { engine.old.ended ≡ None }
     ensures ran { (pid : ℕ) (start : Option (List TheMark)) →
-        Serving pid start (W.told wire.old) (W.streams wire.old) (W.blocked wire.old) [] (W.listens wire.old) (W.last wire.old) 0 (numbers engine.old.clients) engine.old →
+        Serving H.may pid start (W.told wire.old) (W.streams wire.old) (W.blocked wire.old) [] (W.listens wire.old) (W.last wire.old) 0 (numbers engine.old.clients) engine.old →
         MatchResult result
-        (λ answer. Ran pid turns start (W.told wire.new) answer)
-        (λ e. Promised pid start (W.told wire.new) turns) }
+        (λ answer. Ran H.may pid turns start (W.told wire.new) answer)
+        (λ e. Promised H.may pid start (W.told wire.new) turns) }
     ensures failed { IfOk result (λ answer. answer ≡ ServerFailed → Rose (W.server_faults wire.old) (W.server_faults wire.new)) }
     ensures openings { W.openings wire.new ≡ W.openings wire.old }
 {
