@@ -13,7 +13,6 @@ pub mod Ends
 pub mod Comes
 pub mod GoesOn
 pub mod Closes
-pub mod Bodies
 pub mod Queues
 pub mod Others
 pub mod Wires

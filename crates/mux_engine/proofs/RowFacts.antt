@@ -4,7 +4,7 @@ use Rattle.mux_history.specs.Rows.{Row, loses, is_lost, Item, Fate}
 use Rattle.mux_history.specs.Pending.{waiting_down}
 use Rattle.mux_history.specs.Farewell.{farewell}
 use Rattle.mux_history.specs.Said.{Outcome}
-use Rattle.mux_history.specs.NotBuilt.{LaterControl, ServerSays, built, unbuilt, control_fate, server_fate}
+use Rattle.mux_history.specs.NotBuilt.{ProxyMode, ServerSays, built, otherwise, unbuilt, proxy_outcome, server_fate}
 use Rattle.mux_history.specs.Log.{bare, goes, all_told, fitting, overflow, fate_with, queued, with_farewell, row_of, new_answers}
 use Rattle.mux_engine.specs.Stands.{IsPlainItem, ArePlain}
 use Rattle.mux_engine.proofs.Plain.{no_farewell, nothing_answered}
@@ -44,22 +44,27 @@ row_is item k o own plain sent p =
       fate_is = r.fate_is ∙ ap (λ fs. fate_with o.ends (overflow (waiting_down own) fs)) told;
     }
 
--- what a form that is not built makes of it
-abbrev pub down_built : Option Fate → List (List ℕ) → List (List ℕ)
-down_built None down = down
-down_built (Some fate) down = []
+-- ---- forms that are not built
 
-abbrev pub fate_built : Option Fate → Fate → Fate
-fate_built None fate = fate
-fate_built (Some other) fate = other
+unbuilt_is : (o : Option Fate) (item : Item) (k : ℕ) (down : List (List ℕ)) (fate : Fate) (row : Row) → o ≡ None → RowIs item k down fate row → RowIs item k down fate (unbuilt o row)
+unbuilt_is o item k down fate row e r = subst (λ (f : Option Fate). RowIs item k down fate (unbuilt f row)) (sym e) r
 
-unbuilt_is : (o : Option Fate) (item : Item) (k : ℕ) (down : List (List ℕ)) (fate : Fate) (row : Row) → RowIs item k down fate row → RowIs item k (down_built o down) (fate_built o fate) (unbuilt o row)
-unbuilt_is None item k down fate row r = r
-unbuilt_is (Some other) item k down fate row r = record { item_is = r.item_is; client_is = r.client_is; up_is = refl; farewell_is = refl; down_is = refl; fate_is = refl }
+-- nothing of the row is of such a form
+pub built_is : (item : Item) (k : ℕ) (down : List (List ℕ)) (fate : Fate) (row : Row) (own : List Row) → RowIs item k down fate row → proxy_outcome item own ≡ None → server_fate item ≡ None
+    → RowIs item k down fate (built (ProxyMode ∷ ServerSays ∷ []) row own)
+built_is item k down fate row own r c s =
+    let other : proxy_outcome row.item own ≡ None = ap (λ i. proxy_outcome i own) r.item_is ∙ c in
+    let first : RowIs item k down fate (otherwise (proxy_outcome row.item own) row own) = subst (λ (o : Option Outcome). RowIs item k down fate (otherwise o row own)) (sym other) r in
+    unbuilt_is (server_fate (otherwise (proxy_outcome row.item own) row own).item) item k down fate (otherwise (proxy_outcome row.item own) row own) (ap server_fate first.item_is ∙ s) first
 
-pub built_is : (item : Item) (k : ℕ) (down : List (List ℕ)) (fate : Fate) (row : Row) (own : List Row) (o : Option Fate) → RowIs item k down fate row → control_fate item own ≡ o → server_fate item ≡ None
-    → RowIs item k (down_built o down) (fate_built o fate) (built (LaterControl ∷ ServerSays ∷ []) row own)
-built_is item k down fate row own o r c s =
-    let first : RowIs item k (down_built o down) (fate_built o fate) (unbuilt (control_fate row.item own) row) =
-    subst (λ (f : Option Fate). RowIs item k (down_built o down) (fate_built o fate) (unbuilt f row)) (sym (ap (λ i. control_fate i own) r.item_is ∙ c)) (unbuilt_is o item k down fate row r) in
-    subst (λ (f : Option Fate). RowIs item k (down_built o down) (fate_built o fate) (unbuilt f (unbuilt (control_fate row.item own) row))) (sym (ap server_fate first.item_is ∙ s)) first
+-- a PROXY that is refused has another outcome
+pub built_other : (item : Item) (k : ℕ) (row : Row) (own : List Row) (o : Outcome) → row.item ≡ item → row.client ≡ k → proxy_outcome item own ≡ Some o → server_fate item ≡ None → IsPlainItem item → o.sent ≡ [] → ArePlain own
+    → RowIs item k (fitting (waiting_down own) o.told) (fate_with o.ends (overflow (waiting_down own) o.told)) (built (ProxyMode ∷ ServerSays ∷ []) row own)
+built_other item k row own o i c e s plain sent p =
+    let down : List (List ℕ) = fitting (waiting_down own) o.told in
+    let fate : Fate = fate_with o.ends (overflow (waiting_down own) o.told) in
+    let other : proxy_outcome row.item own ≡ Some o = ap (λ x. proxy_outcome x own) i ∙ e in
+    let is : RowIs item k down fate (row_of row.item row.client o own) =
+    subst (λ (x : Item). RowIs item k down fate (row_of x row.client o own)) (sym i) (subst (λ (j : ℕ). RowIs item k down fate (row_of item j o own)) (sym c) (row_is item k o own plain sent p)) in
+    let first : RowIs item k down fate (otherwise (proxy_outcome row.item own) row own) = subst (λ (x : Option Outcome). RowIs item k down fate (otherwise x row own)) (sym other) is in
+    unbuilt_is (server_fate (otherwise (proxy_outcome row.item own) row own).item) item k down fate (otherwise (proxy_outcome row.item own) row own) (ap server_fate first.item_is ∙ s) first

@@ -1,32 +1,43 @@
 -- The rows of all that a client says by one more piece.
-use Rattle.std.proofs.Common.{◌≡◌, ◌≤◌, ◌-◌, ℕ, zero, suc, Bool, true, false, ◌&&◌, not, List, [], ◌∷◌, ◌++◌, length, drop, map, Option, None, refl, sym, ap, ◌∙◌, subst, arith, inl, inr, ◌⊎◌, cond}
+use Rattle.std.proofs.Common.{◌≡◌, ◌≤◌, ◌-◌, ◌+◌, ℕ, zero, suc, Bool, true, false, ◌&&◌, ◌||◌, not, List, [], ◌∷◌, ◌++◌, length, drop, map, Option, Some, None, refl, sym, ap, ◌∙◌, subst, arith, inl, inr, ◌⊎◌, cond, append-nil}
+use Rattle.std.specs.Prelude.{is_some}
+use Rattle.std.proofs.Math.Seq.{drop-append-length}
 use Rattle.mux_outside.specs.declared.house.HouseReply.{HouseReply}
+use Rattle.ssh_grammar.specs.declared.fault.BadFrame.{BadFrame}
 use Rattle.ssh_grammar.specs.Frames.{Front, Frame, More, Faulty}
-use Rattle.ssh_grammar.specs.Said.{Saying, Body, Payload, BadFraming, InControl, first_in, mode_after, Parsed, parse, said}
+use Rattle.ssh_grammar.specs.Said.{Saying, Body, Payload, BadFraming, Mode, InControl, InProxy, Stopped, first_in, after_body, Parsed, parse_front}
 use Rattle.ssh_grammar.proofs.Cuts.{IsShorter}
-use Rattle.ssh_grammar.proofs.Parses.{parse-at, parse-append, in-shorter}
+use Rattle.ssh_grammar.proofs.Parses.{in-shorter}
 use Rattle.mux_history.specs.declared.why.Why.{Why}
+use Rattle.mux_history.specs.declared.ended.Ended.{Ended}
 use Rattle.mux_history.specs.Rows.{Row, rows_of, is_out, is_ended, Item, Says, Fate, Goes, Refused, Drop, End}
-use Rattle.mux_history.specs.Pending.{waiting_down}
+use Rattle.mux_history.specs.Pending.{waiting_down, joined}
 use Rattle.mux_history.specs.Said.{Outcome}
 use Rattle.mux_history.specs.Controls.{greeted, body_stops}
+use Rattle.mux_history.specs.NotBuilt.{spoken, unproxied}
+use Rattle.mux_history.specs.Choices.{has_reply, replies_given}
 use Rattle.mux_history.specs.Log.{goes, fitting, overflow, fate_with, Setting, next_row, more_of, more_all, makes_next, makes_row, is_took}
 use Rattle.mux_history.specs.Journal.{said_item}
 use Rattle.mux_history.specs.Promises.{stops}
 use Rattle.mux_engine.specs.declared.client.Standing.{Standing}
-use Rattle.mux_engine.specs.declared.client.Standing.TheVariants.{Awaited, Greeted, Lost}
+use Rattle.mux_engine.specs.declared.client.Standing.TheVariants.{Awaited, Greeted, Unread, Lost}
 use Rattle.mux_engine.specs.State.{ClientState}
-use Rattle.mux_engine.specs.Answer.{answer}
-use Rattle.mux_engine.specs.Step.{is_lost, standing_after, client_told, client_said, client_all, client_got, with_rest, said_in, loss_between}
-use Rattle.mux_engine.specs.Stands.{setting, ArePlain, ClientFits, IsPlainItem, ClientReads}
-use Rattle.mux_engine.proofs.Says.{SaysRow, says_is, NoPayload, IsCalm, calm_answer, keeps, Drops, no_stop}
-use Rattle.mux_engine.proofs.Fits.{calm_with, says_fits, out_is}
-use Rattle.mux_engine.proofs.Grows.{Grows, grows_none, grows_on, grows_row, loss_of, GoesOrDrops, own_row}
+use Rattle.mux_engine.specs.Answer as say
+use Rattle.mux_engine.specs.Heeded.{is_lost, is_read, is_greeted, standing_after, Heeded, unheard, end_in, heeded, client_said, asks_in, next_reply, later_replies, reply_if, left_if, client_all, count_if, asks_all, rest_if, after_heeded, client_hears, client_got, client_asks}
+use Rattle.mux_engine.specs.Step.{loss_between, loss_in}
+use Rattle.mux_engine.specs.Stands.{setting, ArePlain, ClientFits, IsPlainItem, ClientReads, IsReadIn}
+use Rattle.mux_engine.proofs.Says.{SaysRow, says_is, given_to, NoPayload, NotRefused, fine_answer}
+use Rattle.mux_engine.proofs.Fits.{fine_with, says_fits, out_is}
+use Rattle.mux_engine.proofs.Grows.{Grows, grows_none, grows_on, grows_row, loss_of, own_row, end_by, ended_then}
+use Rattle.mux_engine.proofs.Spoken.{spoken-at, spoken-append}
 
 -- ---- items that make a row, and those that make none
 
 pub next_live : (rows : List Row) (item : Item) → is_ended rows ≡ false → makes_next rows item ≡ makes_row rows item
 next_live rows item live = ap (λ b. elim b as (λ _. Bool) [ true ↦ is_took item | false ↦ makes_row rows item ]) live
+
+next_over : (rows : List Row) (item : Item) → is_ended rows ≡ true → makes_next rows item ≡ is_took item
+next_over rows item over = ap (λ b. elim b as (λ _. Bool) [ true ↦ is_took item | false ↦ makes_row rows item ]) over
 
 pub more_yes : (s : Setting) (rows : List Row) (item : Item) → makes_next rows item ≡ true → more_of s rows item ≡ next_row s rows item ∷ rows
 more_yes s rows item e = ap (λ b. elim b as (λ _. List Row) [ false ↦ rows | true ↦ next_row s rows item ∷ rows ]) e
@@ -34,299 +45,339 @@ more_yes s rows item e = ap (λ b. elim b as (λ _. List Row) [ false ↦ rows |
 pub more_no : (s : Setting) (rows : List Row) (item : Item) → makes_next rows item ≡ false → more_of s rows item ≡ rows
 more_no s rows item e = ap (λ b. elim b as (λ _. List Row) [ false ↦ rows | true ↦ next_row s rows item ∷ rows ]) e
 
+-- ---- standings
+
+pub loss_same : (s : Standing) (k : ℕ) → loss_between s s k ≡ []
+loss_same Awaited k = refl
+loss_same Greeted k = refl
+loss_same Unread k = refl
+loss_same (Lost why) k = refl
+
+read_here : (s : Standing) → is_read s ≡ true → is_lost s ≡ false
+read_here Awaited e = refl
+read_here Greeted e = refl
+read_here Unread e = absurd (cc)
+read_here (Lost why) e = absurd (cc)
+
+lost_unread : (s : Standing) → is_lost s ≡ true → is_read s ≡ false
+lost_unread (Lost why) e = refl
+lost_unread Awaited e = absurd (cc)
+lost_unread Greeted e = absurd (cc)
+lost_unread Unread e = absurd (cc)
+
+pub loss_in_none : (s : Standing) (k : ℕ) → is_lost s ≡ false → loss_in s k ≡ []
+loss_in_none Awaited k e = refl
+loss_in_none Greeted k e = refl
+loss_in_none Unread k e = refl
+loss_in_none (Lost why) k e = absurd (cc)
+
+-- the loss of one that was not lost
+pub loss_of_here : (a b : Standing) (k : ℕ) → is_lost a ≡ false → loss_between a b k ≡ loss_in b k
+loss_of_here a b k e = ap (λ t. cond t [] (loss_in b k)) e
+
+loss_joins : (a b d : Standing) (k : ℕ) → is_lost a ≡ false → is_lost b ≡ false → loss_between a b k ++ loss_between b d k ≡ loss_between a d k
+loss_joins a b d k e f =
+    ap (λ l. l ++ loss_between b d k) (loss_of_here a b k e ∙ loss_in_none b k f)
+    ∙ (loss_of_here b d k f ∙ sym (loss_of_here a d k e))
+
 -- ---- one saying
 
-calm_goes : (f : Fate) → IsCalm f → GoesOrDrops f
-calm_goes Goes c = tt
-calm_goes (Drop why) c = tt
-calm_goes Refused c = absurd c
-calm_goes (End cause) c = absurd c
+and_false : (b : Bool) → (b && false) ≡ false
+and_false true = refl
+and_false false = refl
 
-says_stops : (pid k : ℕ) (x : Saying) (rows : List Row) (row : Row) → NoPayload x → SaysRow pid k x (rows_of k rows) row → stops row (rows_of row.client rows) ≡ false
-says_stops pid k (Payload p) rows row n s = absurd n
-says_stops pid k (BadFraming f) rows row n s = rw s.is.item_is (last (goes row.fate))
-  where
-    last : (b : Bool) → (b && false) ≡ false
-    last true = refl
-    last false = refl
-says_stops pid k (Body body) rows row n s =
-    let own : List Row = rows_of k rows in
-    let o : Outcome = answer pid k (greeted own) (Body body) in
-    let full : Option Why = overflow (waiting_down own) o.told in
-    ap (λ (i : Item). goes row.fate && elim i as (λ _. Bool) [ Says j saying given ↦ elim saying as (λ _. Bool) [ Body b ↦ greeted (rows_of row.client rows) && body_stops b | Payload p ↦ false | BadFraming f ↦ false ] | _ ↦ false ]) s.is.item_is
-    ∙ (ap (λ (f : Fate). goes f && (greeted (rows_of row.client rows) && body_stops body)) s.is.fate_is
-    ∙ (ap (λ (j : ℕ). goes (fate_with o.ends full) && (greeted (rows_of j rows) && body_stops body)) s.is.client_is
-    ∙ no_stop pid k (greeted own) body full))
-
-pub record Said (k : ℕ) (rows rows' : List Row) (old new : ClientState) : Type 0 where
-  pub fits : ClientFits (rows_of k rows') new
-  pub grows : Grows k rows rows' (loss_between old.standing new.standing k)
-  pub number : new.number ≡ old.number
-  pub stays : is_lost old.standing ≡ true → new ≡ old
-
-says_loss : (f : Fate) (k : ℕ) (x : Saying) (given : Option HouseReply) (s : Standing) → IsCalm f → is_lost s ≡ false → loss_of f (Says k x given) k ≡ loss_between s (standing_after f) k
-says_loss Goes k x given Awaited c l = refl
-says_loss Goes k x given Greeted c l = refl
-says_loss (Drop why) k x given Awaited c l = refl
-says_loss (Drop why) k x given Greeted c l = refl
-says_loss Goes k x given (Lost why) c l = absurd (cc)
-says_loss (Drop why) k x given (Lost w) c l = absurd (cc)
-says_loss Refused k x given s c l = absurd c
-says_loss (End cause) k x given s c l = absurd c
-
-said_standing : (pid k : ℕ) (x : Saying) (c : ClientState) (s : Standing) (g : Bool) → c.standing ≡ s → c.number ≡ k → is_lost s ≡ false → (is_lost s ≡ false → g ≡ Rattle.mux_engine.specs.Stands.is_greeted s)
-    → (said_in pid s x c).standing ≡ standing_after (fate_with (answer pid k g x).ends (overflow (length c.queue) (answer pid k g x).told))
-said_standing pid k x c Awaited g e n l h = ap (λ j. standing_after (fate_with (answer pid j false x).ends (overflow (length c.queue) (answer pid j false x).told))) n ∙ ap (λ b. standing_after (fate_with (answer pid k b x).ends (overflow (length c.queue) (answer pid k b x).told))) (sym (h refl))
-said_standing pid k x c Greeted g e n l h = ap (λ j. standing_after (fate_with (answer pid j true x).ends (overflow (length c.queue) (answer pid j true x).told))) n ∙ ap (λ b. standing_after (fate_with (answer pid k b x).ends (overflow (length c.queue) (answer pid k b x).told))) (sym (h refl))
-said_standing pid k x c (Lost why) g e n l h = absurd (cc)
-
-said_number : (pid : ℕ) (x : Saying) (c : ClientState) (s : Standing) → (said_in pid s x c).number ≡ c.number
-said_number pid x c Awaited = refl
-said_number pid x c Greeted = refl
-said_number pid x c (Lost why) = refl
-
-said_lost : (pid : ℕ) (x : Saying) (c : ClientState) (s : Standing) → is_lost s ≡ true → said_in pid s x c ≡ c
-said_lost pid x c Awaited e = absurd (cc)
-said_lost pid x c Greeted e = absurd (cc)
-said_lost pid x c (Lost why) e = refl
+says_stops : (k : ℕ) (x : Saying) (given : Option HouseReply) (row : Row) (own : List Row) (f : Fate) (g : Bool) → NoPayload x → row.item ≡ Says k x given → row.fate ≡ f → greeted own ≡ g → stops row own ≡ (goes f && (g && say.stops x))
+says_stops k (Payload p) given row own f g n i e h = absurd n
+says_stops k (BadFraming fault) given row own f g n i e h =
+    ap (λ (x : Item). goes row.fate && elim x as (λ _. Bool) [ Says j saying given ↦ elim saying as (λ _. Bool) [ Body b ↦ greeted own && body_stops b | Payload p ↦ false | BadFraming f ↦ false ] | _ ↦ false ]) i
+    ∙ (and_false (goes row.fate) ∙ (sym (and_false (goes f)) ∙ ap (λ b. goes f && b) (sym (and_false g))))
+says_stops k (Body body) given row own f g n i e h =
+    ap (λ (x : Item). goes row.fate && elim x as (λ _. Bool) [ Says j saying given ↦ elim saying as (λ _. Bool) [ Body b ↦ greeted own && body_stops b | Payload p ↦ false | BadFraming f ↦ false ] | _ ↦ false ]) i
+    ∙ (ap (λ (x : Fate). goes x && (greeted own && body_stops body)) e ∙ ap (λ b. goes f && (b && body_stops body)) h)
 
 plain_says : (k : ℕ) (x : Saying) (given : Option HouseReply) → NoPayload x → IsPlainItem (Says k x given)
 plain_says k (Body b) given h = tt
 plain_says k (BadFraming f) given h = tt
 plain_says k (Payload p) given h = absurd h
 
-abbrev pub next_rows : ℕ → List Row → ℕ → Saying → List Row
-next_rows pid rows k x = more_of (setting pid) rows (Says k x None)
+says_loss : (f : Fate) (k : ℕ) (x : Saying) (given : Option HouseReply) (s : Standing) → NotRefused f → is_lost s ≡ false → loss_of f (Says k x given) k ≡ loss_between s (standing_after f x s) k
+says_loss Goes k x given s c l = sym (loss_of_here s (say.stands_by x) k l ∙ loss_in_none (say.stands_by x) k (Rattle.mux_engine.proofs.Fits.stands_here x))
+says_loss (Drop why) k x given s c l = sym (loss_of_here s (Lost (Some why)) k l)
+says_loss Refused k x given s c l = absurd c
+says_loss (End cause) k x given s c l = sym (loss_of_here s Unread k l)
 
-loss_same : (s : Standing) (k : ℕ) → loss_between s s k ≡ []
-loss_same Awaited k = refl
-loss_same Greeted k = refl
-loss_same (Lost why) k = refl
+replies_said : (k : ℕ) (x : Saying) (b : Bool) (replies : List HouseReply) → has_reply (Says k x (reply_if b replies)) ≡ b
+replies_said k x true replies = refl
+replies_said k x false replies = refl
 
-says_one : (pid k : ℕ) (x : Saying) (rows : List Row) (c : ClientState) (lost : Bool) → is_lost c.standing ≡ lost → (lost ≡ false → NoPayload x) → c.number ≡ k → is_ended rows ≡ false → ArePlain rows → ClientFits (rows_of k rows) c
-    → Said k rows (next_rows pid rows k x) c (client_said pid c x)
-says_one pid k x rows c true e n number live plain fits =
-    let out : is_out (rows_of k rows) ≡ true = out_is (rows_of k rows) ∙ (ap is_lost (sym fits.standing_is) ∙ e) in
-    let same : client_said pid c x ≡ c = said_lost pid x c c.standing e in
-    subst (λ rows'. Said k rows rows' c (client_said pid c x)) (sym (more_no (setting pid) rows (Says k x None) (next_live rows (Says k x None) live ∙ ap not out)))
-    (subst (λ new. Said k rows rows c new) (sym same) record { fits = fits; grows = subst (Grows k rows rows) (sym (loss_same c.standing k)) (grows_none k rows); number = refl; stays = λ h. refl })
-says_one pid k x rows c false e n number live plain fits =
-    let own : List Row = rows_of k rows in
-    let out : is_out own ≡ false = out_is own ∙ (ap is_lost (sym fits.standing_is) ∙ e) in
-    let row : Row = next_row (setting pid) rows (Says k x None) in
-    let s : SaysRow pid k x own row = says_is pid k x rows (n refl) plain in
-    let o : Outcome = answer pid k (greeted own) x in
-    let f : Fate = fate_with o.ends (overflow (waiting_down own) o.told) in
-    let calm : IsCalm f = calm_with o.ends (overflow (waiting_down own) o.told) (calm_answer pid k (greeted own) x) in
-    let w : waiting_down own ≡ length c.queue = ap length (sym fits.queue_is) in
-    let stand : (client_said pid c x).standing ≡ standing_after f = said_standing pid k x c c.standing (greeted own) refl number e fits.greeted_is ∙ ap (λ m. standing_after (fate_with o.ends (overflow m o.told))) (sym w) in
-    let loss : loss_of f (Says k x s.given) k ≡ loss_between c.standing (client_said pid c x).standing k = says_loss f k x s.given c.standing calm e ∙ ap (λ z. loss_between c.standing z k) (sym stand) in
-    subst (λ rows'. Said k rows rows' c (client_said pid c x)) (sym (more_yes (setting pid) rows (Says k x None) (next_live rows (Says k x None) live ∙ ap not out))) record {
-      fits = subst (λ o. ClientFits o (client_said pid c x)) (sym (own_row k row rows s.is.client_is)) (says_fits pid k x own c row (λ g. calm_answer pid k g x) number e fits s);
-      grows = subst (Grows k rows (row ∷ rows)) loss (grows_row k (Says k x s.given) (fitting (waiting_down own) o.told) f row rows s.is (plain_says k x s.given (n refl)) tt (calm_goes f calm) (says_stops pid k x rows row (n refl) s));
-      number = said_number pid x c c.standing;
-      stays = λ h. absurd (let z : true ≡ false = sym h ∙ e in cc);
-    }
+-- ---- what is kept while a client is heard
 
--- ---- all of them: a payload comes only after its client was dropped
+-- of a client that stood so before these rows, and stands so after those
+pub record Heeds (k : ℕ) (rows rows' : List Row) (s : Standing) (h : Heeded) (n : ℕ) : Type 0 where
+  pub number : h.number ≡ k
+  pub fits : ClientFits (rows_of k rows') h.standing h.queue
+  pub grows : Grows k rows rows' (loss_between s h.standing k) h.stops h.ended n
+  pub live : is_ended rows' ≡ is_some h.ended
+  pub reading : is_read h.standing ≡ true → h.ended ≡ None
+  pub plain : ArePlain rows'
 
-abbrev pub Reached : ℕ → ClientState → List Saying → Type 0
-Reached pid c [] = Unit {0}
-Reached pid c (x ∷ xs) = (is_lost c.standing ≡ false → NoPayload x) × Reached pid (client_said pid c x) xs
+pub heeds_start : (k : ℕ) (rows : List Row) (c : ClientState) → c.number ≡ k → is_ended rows ≡ false → ArePlain rows → ClientFits (rows_of k rows) c.standing c.queue → Heeds k rows rows c.standing (unheard c) 0
+heeds_start k rows c number live plain fits = record {
+  number = number;
+  fits = fits;
+  grows = subst (λ l. Grows k rows rows l false None 0) (sym (loss_same c.standing k)) (grows_none k rows);
+  live = live;
+  reading = λ e. refl;
+  plain = plain;
+}
 
-loss_joins : (a b d : Standing) (k : ℕ) → (is_lost b ≡ true → d ≡ b) → (is_lost a ≡ true → b ≡ a) → loss_between a b k ++ loss_between b d k ≡ loss_between a d k
-loss_joins Awaited Awaited d k h j = refl
-loss_joins Awaited Greeted Awaited k h j = refl
-loss_joins Awaited Greeted Greeted k h j = refl
-loss_joins Awaited Greeted (Lost why) k h j = refl
-loss_joins Awaited (Lost why) d k h j = sym (ap (λ z. loss_between Awaited z k) (h refl))
-loss_joins Greeted Awaited Awaited k h j = refl
-loss_joins Greeted Awaited Greeted k h j = refl
-loss_joins Greeted Awaited (Lost why) k h j = refl
-loss_joins Greeted Greeted d k h j = refl
-loss_joins Greeted (Lost why) d k h j = sym (ap (λ z. loss_between Greeted z k) (h refl))
-loss_joins (Lost why) b d k h j = ap (λ z. loss_between z d k) (j refl)
+-- nothing is said by one that isn't read, but where it is lost or the run is over
+pub record IsReached (h : Heeded) (x : Saying) : Type 0 where
+  pub no_payload : is_read h.standing ≡ true → NoPayload x
+  pub out : is_read h.standing ≡ false → (is_lost h.standing ≡ true) ⊎ (is_some h.ended ≡ true)
 
-abbrev pub rows_after : ℕ → ℕ → List Row → List Saying → List Row
-rows_after pid k rows xs = more_all (setting pid) rows (map (said_item k) xs)
+end_then : (f : Fate) (before : Option Ended) → ended_then (end_by f) before ≡ end_in f before
+end_then Goes before = refl
+end_then (Drop why) before = refl
+end_then Refused before = refl
+end_then (End cause) before = refl
 
-pub says_all : (pid k : ℕ) (xs : List Saying) (rows : List Row) (c : ClientState) → Reached pid c xs → c.number ≡ k → is_ended rows ≡ false → ArePlain rows → ClientFits (rows_of k rows) c → Said k rows (rows_after pid k rows xs) c (client_all pid xs c)
-says_all pid k [] rows c r number live plain fits = record { fits = fits; grows = subst (Grows k rows rows) (sym (loss_same c.standing k)) (grows_none k rows); number = refl; stays = λ h. refl }
-says_all pid k (x ∷ xs) rows c r number live plain fits =
-    let one : Said k rows (next_rows pid rows k x) c (client_said pid c x) = says_one pid k x rows c (is_lost c.standing) refl r.0 number live plain fits in
-    let all : Said k (next_rows pid rows k x) (rows_after pid k (next_rows pid rows k x) xs) (client_said pid c x) (client_all pid xs (client_said pid c x)) =
-    says_all pid k xs (next_rows pid rows k x) (client_said pid c x) r.1 (one.number ∙ number) (one.grows.same_ended ∙ live) (one.grows.plain plain) one.fits in
-    record {
-      fits = all.fits;
-      grows = grows_on k rows (next_rows pid rows k x) (rows_after pid k (next_rows pid rows k x) xs) _ _ _ one.grows all.grows
-          (loss_joins c.standing (client_said pid c x).standing (client_all pid xs (client_said pid c x)).standing k (λ h. ap (λ (z : ClientState). z.standing) (all.stays h)) (λ h. ap (λ (z : ClientState). z.standing) (one.stays h)));
-      number = all.number ∙ one.number;
-      stays = λ h. all.stays (ap (λ (z : ClientState). is_lost z.standing) (one.stays h) ∙ h) ∙ one.stays h;
-    }
+ended_some : (f : Fate) (before : Option Ended) (b : Bool) → b ≡ is_some before → (is_some (end_by f) || b) ≡ is_some (end_in f before)
+ended_some Goes before b e = e
+ended_some (Drop why) before b e = e
+ended_some Refused before b e = e
+ended_some (End cause) before b e = refl
+
+reads_on : (f : Fate) (x : Saying) (s : Standing) (before : Option Ended) → before ≡ None → is_read (standing_after f x s) ≡ true → end_in f before ≡ None
+reads_on Goes x s before e r = e
+reads_on (Drop why) x s before e r = e
+reads_on Refused x s before e r = e
+reads_on (End cause) x s before e r = absurd (cc)
+
+abbrev pub next_rows : ℕ → List HouseReply → List Row → ℕ → Saying → List Row
+next_rows pid replies rows k x = more_of (setting pid replies) rows (Says k x None)
+
+asks_here : (h : Heeded) (x : Saying) (g b : Bool) → is_read h.standing ≡ b → b ≡ true → g ≡ is_greeted h.standing → asks_in h x ≡ (g && say.asks x)
+asks_here h x g b e t i = ap (λ (a : Bool). a && (is_greeted h.standing && say.asks x)) (e ∙ t) ∙ ap (λ a. a && say.asks x) (sym i)
+
+-- a client that is read
+says_read : (pid k : ℕ) (replies : List HouseReply) (x : Saying) (rows rows' : List Row) (s : Standing) (h : Heeded) (n : ℕ) → is_lost s ≡ false → is_read h.standing ≡ true → NoPayload x → Heeds k rows rows' s h n
+    → Heeds k rows (next_rows pid replies rows' k x) s (client_said pid (reply_if (asks_in h x) (drop (replies_given rows') replies)) x h) (n + count_if (asks_in h x))
+says_read pid k replies x rows rows' s h n unlost read no it =
+    let own : List Row = rows_of k rows' in
+    let here : is_lost h.standing ≡ false = read_here h.standing read in
+    let on : is_ended rows' ≡ false = it.live ∙ ap is_some (it.reading read) in
+    let out : is_out own ≡ false = out_is own ∙ (ap is_lost (sym it.fits.standing_is) ∙ here) in
+    let greets : greeted own ≡ is_greeted h.standing = it.fits.greeted_is here in
+    let given : Option HouseReply = given_to replies k rows' x in
+    let row : Row = next_row (setting pid replies) rows' (Says k x None) in
+    let r : SaysRow pid k given x own row = says_is pid k replies x rows' no it.plain in
+    let asked : asks_in h x ≡ (greeted own && say.asks x) = asks_here h x (greeted own) (is_read h.standing) refl read greets in
+    let o : Outcome = say.answer pid k given (greeted own) x in
+    let f : Fate = fate_with o.ends (overflow (length h.queue) o.told) in
+    let fine : NotRefused f = fine_with o.ends (overflow (length h.queue) o.told) (fine_answer pid k given (greeted own) x) in
+    let wait : waiting_down own ≡ length h.queue = ap length (sym it.fits.queue_is) in
+    let fate : row.fate ≡ f = r.is.fate_is ∙ ap (λ m. fate_with o.ends (overflow m o.told)) wait in
+    let rs : SaysRow pid k given x own row = r in
+    let new : Heeded = heeded x o h in
+    let said : client_said pid (reply_if (asks_in h x) (drop (replies_given rows') replies)) x h ≡ new =
+    ap (λ b. cond b (heeded x (say.answer pid h.number (reply_if (asks_in h x) (drop (replies_given rows') replies)) (is_greeted h.standing) x) h) h) read
+    ∙ (ap (λ (j : ℕ). heeded x (say.answer pid j (reply_if (asks_in h x) (drop (replies_given rows') replies)) (is_greeted h.standing) x) h) it.number
+    ∙ (ap (λ (b : Bool). heeded x (say.answer pid k (reply_if b (drop (replies_given rows') replies)) (is_greeted h.standing) x) h) asked
+    ∙ ap (λ (b : Bool). heeded x (say.answer pid k given b x) h) (sym greets))) in
+    let mine : rows_of row.client rows' ≡ own = ap (λ j. rows_of j rows') r.is.client_is in
+    let stop : stops row (rows_of row.client rows') ≡ (goes f && (is_greeted h.standing && say.stops x)) = says_stops k x given row (rows_of row.client rows') f (is_greeted h.standing) no r.is.item_is fate (ap greeted mine ∙ greets) in
+    let replied : has_reply (Says k x given) ≡ asks_in h x = replies_said k x (greeted own && say.asks x) (drop (replies_given rows') replies) ∙ sym asked in
+    let is' : Rattle.mux_engine.proofs.RowFacts.RowIs (Says k x given) k (fitting (waiting_down own) o.told) f row = record { item_is = r.is.item_is; client_is = r.is.client_is; up_is = r.is.up_is; farewell_is = r.is.farewell_is; down_is = r.is.down_is; fate_is = fate } in
+    let one = grows_row k (Says k x given) (fitting (waiting_down own) o.told) f row rows' (goes f && (is_greeted h.standing && say.stops x)) (asks_in h x) is' (plain_says k x given no) tt fine stop replied in
+    let two = subst (λ l. Grows k rows' (row ∷ rows') l (goes f && (is_greeted h.standing && say.stops x)) (end_by f) (count_if (asks_in h x))) (says_loss f k x given h.standing fine here) one in
+    let all = grows_on k rows rows' (row ∷ rows') (loss_between s h.standing k) (loss_between h.standing new.standing k) (loss_between s new.standing k) h.stops (goes f && (is_greeted h.standing && say.stops x)) h.ended (end_by f) n (count_if (asks_in h x)) it.grows two (loss_joins s h.standing new.standing k unlost here) in
+    subst (λ (l : List Row). Heeds k rows l s (client_said pid (reply_if (asks_in h x) (drop (replies_given rows') replies)) x h) (n + count_if (asks_in h x))) (sym (more_yes (setting pid replies) rows' (Says k x None) (next_live rows' (Says k x None) on ∙ ap not out)))
+    (subst (λ (z : Heeded). Heeds k rows (row ∷ rows') s z (n + count_if (asks_in h x))) (sym said) record {
+      number = it.number;
+      fits = subst (λ l. ClientFits l new.standing new.queue) (sym (own_row k row rows' r.is.client_is)) (says_fits k x given own h.standing h.queue o row here it.fits r.is);
+      grows = subst (λ (e : Option Ended). Grows k rows (row ∷ rows') (loss_between s new.standing k) new.stops e (n + count_if (asks_in h x))) (end_then f h.ended) all;
+      live = one.ended_is ∙ ended_some f h.ended (is_ended rows') it.live;
+      reading = reads_on f x h.standing h.ended (it.reading read);
+      plain = one.plain it.plain;
+    })
+
+-- one that isn't
+says_unread : (pid k : ℕ) (replies : List HouseReply) (x : Saying) (rows rows' : List Row) (s : Standing) (h : Heeded) (n : ℕ) → is_read h.standing ≡ false → (is_lost h.standing ≡ true) ⊎ (is_some h.ended ≡ true) → Heeds k rows rows' s h n
+    → Heeds k rows (next_rows pid replies rows' k x) s (client_said pid (reply_if (asks_in h x) (drop (replies_given rows') replies)) x h) (n + count_if (asks_in h x))
+says_unread pid k replies x rows rows' s h n unread out it =
+    let still : more_of (setting pid replies) rows' (Says k x None) ≡ rows' = more_no (setting pid replies) rows' (Says k x None) (none out) in
+    let said : client_said pid (reply_if (asks_in h x) (drop (replies_given rows') replies)) x h ≡ h =
+    ap (λ b. cond b (heeded x (say.answer pid h.number (reply_if (asks_in h x) (drop (replies_given rows') replies)) (is_greeted h.standing) x) h) h) unread in
+    let asked : asks_in h x ≡ false = ap (λ b. b && (is_greeted h.standing && say.asks x)) unread in
+    let count : n + count_if (asks_in h x) ≡ n = ap (λ b. n + count_if b) asked ∙ omega arith in
+    subst (λ (l : List Row). Heeds k rows l s (client_said pid (reply_if (asks_in h x) (drop (replies_given rows') replies)) x h) (n + count_if (asks_in h x))) (sym still)
+    (subst (λ (z : Heeded). Heeds k rows rows' s z (n + count_if (asks_in h x))) (sym said) (subst (λ m. Heeds k rows rows' s h m) (sym count) it))
+  where
+    none : (is_lost h.standing ≡ true) ⊎ (is_some h.ended ≡ true) → makes_next rows' (Says k x None) ≡ false
+    none (inl l) = by_ended (is_ended rows') refl
+      where
+        by_ended : (b : Bool) → is_ended rows' ≡ b → makes_next rows' (Says k x None) ≡ false
+        by_ended true e = next_over rows' (Says k x None) e
+        by_ended false e = next_live rows' (Says k x None) e ∙ ap not (out_is (rows_of k rows') ∙ (ap is_lost (sym it.fits.standing_is) ∙ l))
+    none (inr e) = next_over rows' (Says k x None) (it.live ∙ e)
+
+says_one : (pid k : ℕ) (replies : List HouseReply) (x : Saying) (rows rows' : List Row) (s : Standing) (h : Heeded) (n : ℕ) → is_lost s ≡ false → IsReached h x → Heeds k rows rows' s h n
+    → Heeds k rows (next_rows pid replies rows' k x) s (client_said pid (reply_if (asks_in h x) (drop (replies_given rows') replies)) x h) (n + count_if (asks_in h x))
+says_one pid k replies x rows rows' s h n unlost reached it = by_read (is_read h.standing) refl
+  where
+    by_read : (b : Bool) → is_read h.standing ≡ b → Heeds k rows (next_rows pid replies rows' k x) s (client_said pid (reply_if (asks_in h x) (drop (replies_given rows') replies)) x h) (n + count_if (asks_in h x))
+    by_read true e = says_read pid k replies x rows rows' s h n unlost e (reached.no_payload e) it
+    by_read false e = says_unread pid k replies x rows rows' s h n e (reached.out e) it
+
+-- ---- all of them
+
+-- what is said is reached, one after another
+abbrev pub Reached : ℕ → List HouseReply → Heeded → List Saying → Type 0
+Reached pid more h [] = Unit {0}
+Reached pid more h (x ∷ xs) = IsReached h x × Reached pid (left_if (asks_in h x) more) (client_said pid (reply_if (asks_in h x) more) x h) xs
+
+abbrev pub rows_after : ℕ → List HouseReply → ℕ → List Row → List Saying → List Row
+rows_after pid replies k rows xs = more_all (setting pid replies) rows (map (said_item k) xs)
+
+-- the replies that are left after a row
+drop_next : (n : ℕ) (replies : List HouseReply) → drop (n + 1) replies ≡ later_replies (drop n replies)
+drop_next n replies = ap (λ m. drop m replies) (Rattle.std.proofs.Common.add-one n) ∙ by_drop n replies
+  where
+    by_drop : (n : ℕ) (replies : List HouseReply) → drop (suc n) replies ≡ later_replies (drop n replies)
+    by_drop zero [] = refl
+    by_drop zero (r ∷ replies) = refl
+    by_drop (suc n) [] = refl
+    by_drop (suc n) (r ∷ replies) = by_drop n replies
+
+drop_left : (n m : ℕ) (b : Bool) (replies : List HouseReply) → m ≡ n + count_if b → drop m replies ≡ left_if b (drop n replies)
+drop_left n m true replies e = ap (λ i. drop i replies) e ∙ drop_next n replies
+drop_left n m false replies e = let same : m ≡ n = omega arith in ap (λ i. drop i replies) same
+
+pub says_all : (pid k : ℕ) (replies : List HouseReply) (xs : List Saying) (more : List HouseReply) (rows rows' : List Row) (s : Standing) (h : Heeded) (n : ℕ) → is_lost s ≡ false → more ≡ drop (replies_given rows') replies → Reached pid more h xs → Heeds k rows rows' s h n
+    → Heeds k rows (rows_after pid replies k rows' xs) s (client_all pid more xs h) (n + asks_all pid more xs h)
+says_all pid k replies [] more rows rows' s h n unlost e r it = let same : n + 0 ≡ n = omega arith in subst (λ m. Heeds k rows rows' s h m) (sym same) it
+says_all pid k replies (x ∷ xs) more rows rows' s h n unlost e r it =
+    let b : Bool = asks_in h x in
+    let h' : Heeded = client_said pid (reply_if b more) x h in
+    let rows'' : List Row = next_rows pid replies rows' k x in
+    let one : Heeds k rows rows'' s h' (n + count_if b) =
+    subst (λ (m : List HouseReply). Heeds k rows rows'' s (client_said pid (reply_if b m) x h) (n + count_if b)) (sym e) (says_one pid k replies x rows rows' s h n unlost r.0 it) in
+    let given : replies_given rows'' ≡ replies_given rows' + count_if b = let p : replies_given rows'' ≡ replies_given rows + (n + count_if b) = one.grows.draws in let q : replies_given rows' ≡ replies_given rows + n = it.grows.draws in omega arith in
+    let left : left_if b more ≡ drop (replies_given rows'') replies = ap (left_if b) e ∙ sym (drop_left (replies_given rows') (replies_given rows'') b replies given) in
+    let all = says_all pid k replies xs (left_if b more) rows rows'' s h' (n + count_if b) unlost left r.1 one in
+    let sum : n + count_if b + asks_all pid (left_if b more) xs h' ≡ n + (count_if b + asks_all pid (left_if b more) xs h') = omega arith in
+    subst (λ m. Heeds k rows (rows_after pid replies k rows'' xs) s (client_all pid (left_if b more) xs h') m) sum all
 
 -- ---- what is read of a piece
 
-lost_said : (pid : ℕ) (c : ClientState) (x : Saying) → is_lost c.standing ≡ true → client_said pid c x ≡ c
-lost_said pid c x e = said_lost pid x c c.standing e
+-- how a client that stands so is read: one that is lost in any way, and one that isn't read not at all, or the run is over
+abbrev pub ReadsAt : Standing → Option Ended → Mode → Type 0
+ReadsAt Awaited ended mode = mode ≡ InControl
+ReadsAt Greeted ended mode = mode ≡ InControl
+ReadsAt Unread ended mode = (mode ≡ Stopped) ⊎ (is_some ended ≡ true)
+ReadsAt (Lost why) ended mode = Unit {0}
 
-pub lost_all : (pid : ℕ) (xs : List Saying) (c : ClientState) → is_lost c.standing ≡ true → client_all pid xs c ≡ c
-lost_all pid [] c e = refl
-lost_all pid (x ∷ xs) c e = ap (client_all pid xs) (lost_said pid c x e) ∙ lost_all pid xs c e
+-- after what is said in the mode of control messages
+stands_read : (m : Mode) (ended : Option Ended) → ReadsAt (say.standing_in m) ended (unproxied m)
+stands_read InControl ended = refl
+stands_read InProxy ended = refl
+stands_read Stopped ended = inl refl
 
-lost_reached : (pid : ℕ) (xs : List Saying) (c : ClientState) → is_lost c.standing ≡ true → Reached pid c xs
-lost_reached pid [] c e = tt
-lost_reached pid (x ∷ xs) c e = (λ h. absurd (let z : true ≡ false = sym e ∙ h in cc), subst (λ d. Reached pid d xs) (sym (lost_said pid c x e)) (lost_reached pid xs c e))
+body_reads : (f : Fate) (body : List ℕ) (s : Standing) (before : Option Ended) → ReadsAt (standing_after f (Body body) s) (end_in f before) (unproxied (after_body body))
+body_reads Goes body s before = stands_read (after_body body) before
+body_reads (Drop why) body s before = tt
+body_reads Refused body s before = tt
+body_reads (End cause) body s before = inr refl
 
-drop_lost : (f : Fate) (full : Option Why) (cause : Why) → f ≡ Drop cause → is_lost (standing_after (fate_with f full)) ≡ true
-drop_lost f full cause e = ap (λ (g : Fate). is_lost (standing_after (fate_with g full))) e
+-- one that isn't read stays so, where it is reached at all
+said_same : (pid : ℕ) (given : Option HouseReply) (x : Saying) (h : Heeded) → is_read h.standing ≡ false → client_said pid given x h ≡ h
+said_same pid given x h e = ap (λ b. cond b (heeded x (say.answer pid h.number given (is_greeted h.standing) x) h) h) e
 
--- a body either leaves control messages behind it, or drops its client
-pub stays_or_drops : (pid : ℕ) (c : ClientState) (body : List ℕ) → (mode_after InControl body ≡ InControl) ⊎ (is_lost (client_said pid c (Body body)).standing ≡ true)
-stays_or_drops pid c body = by_standing c.standing refl
+said_read : (pid : ℕ) (given : Option HouseReply) (x : Saying) (h : Heeded) → is_read h.standing ≡ true → client_said pid given x h ≡ heeded x (say.answer pid h.number given (is_greeted h.standing) x) h
+said_read pid given x h e = ap (λ b. cond b (heeded x (say.answer pid h.number given (is_greeted h.standing) x) h) h) e
+
+-- in control a client that isn't read is lost, or the run is over
+out_in : (s : Standing) (ended : Option Ended) → ReadsAt s ended InControl → is_read s ≡ false → (is_lost s ≡ true) ⊎ (is_some ended ≡ true)
+out_in Awaited ended r e = absurd (cc)
+out_in Greeted ended r e = absurd (cc)
+out_in Unread ended (inl m) e = absurd (cc)
+out_in Unread ended (inr o) e = inr o
+out_in (Lost why) ended r e = inl refl
+
+-- and stays so in any mode
+out_reads : (s : Standing) (ended : Option Ended) (m : Mode) → (is_lost s ≡ true) ⊎ (is_some ended ≡ true) → is_read s ≡ false → ReadsAt s ended m
+out_reads Awaited ended m o e = absurd (cc)
+out_reads Greeted ended m o e = absurd (cc)
+out_reads Unread ended m (inl l) e = absurd (cc)
+out_reads Unread ended m (inr o) e = inr o
+out_reads (Lost why) ended m o e = tt
+
+pub record Reads (pid : ℕ) (more : List HouseReply) (h : Heeded) (p : Parsed) : Type 0 where
+  pub reached : Reached pid more h p.says
+  pub after : ReadsAt (client_all pid more p.says h).standing (client_all pid more p.says h).ended p.mode
+
+fault_reads : (pid : ℕ) (more : List HouseReply) (h : Heeded) (fault : BadFrame) (rest : List ℕ) → ReadsAt h.standing h.ended InControl → Reads pid more h (record { says = BadFraming fault ∷ []; mode = Stopped; rest = rest })
+fault_reads pid more h fault rest r = record {
+  reached = (record { no_payload = λ e. tt; out = out_in h.standing h.ended r }, tt);
+  after = by_read (is_read h.standing) refl;
+}
   where
-    by_keeps : (g : Bool) → ((mode_after InControl body ≡ InControl) ⊎ Drops (answer pid c.number g (Body body))) → (mode_after InControl body ≡ InControl) ⊎ (is_lost (client_told c (answer pid c.number g (Body body))).standing ≡ true)
-    by_keeps g (inl m) = inl m
-    by_keeps g (inr d) = inr (drop_lost (answer pid c.number g (Body body)).ends (overflow (length c.queue) (answer pid c.number g (Body body)).told) d.0 d.1)
+    x : Saying
+    x = BadFraming fault
 
-    by_standing : (s : Standing) → c.standing ≡ s → (mode_after InControl body ≡ InControl) ⊎ (is_lost (said_in pid s (Body body) c).standing ≡ true)
-    by_standing Awaited e = by_keeps false (keeps pid c.number false body)
-    by_standing Greeted e = by_keeps true (keeps pid c.number true body)
-    by_standing (Lost why) e = inr (ap is_lost e)
+    by_read : (b : Bool) → is_read h.standing ≡ b → ReadsAt (client_said pid (reply_if (asks_in h x) more) x h).standing (client_said pid (reply_if (asks_in h x) more) x h).ended Stopped
+    by_read true e = subst (λ (z : Heeded). ReadsAt z.standing z.ended Stopped) (sym (said_read pid (reply_if (asks_in h x) more) x h e)) tt
+    by_read false e = subst (λ (z : Heeded). ReadsAt z.standing z.ended Stopped) (sym (said_same pid (reply_if (asks_in h x) more) x h e)) (out_reads h.standing h.ended Stopped (out_in h.standing h.ended r e) e)
 
--- a frame at the front: what follows is read as control messages, or not at all
-pub frame_all : (pid : ℕ) (c : ClientState) (bytes body rest : List ℕ) → first_in InControl bytes ≡ Frame body rest
-    → client_all pid (parse InControl bytes).says c ≡ client_all pid (parse InControl rest).says (client_said pid c (Body body))
-frame_all pid c bytes body rest e = ap (λ (p : Parsed). client_all pid p.says c) (parse-at InControl bytes (Frame body rest) e) ∙ by_mode (stays_or_drops pid c body)
+body_next : (pid : ℕ) (given : Option HouseReply) (body : List ℕ) (h : Heeded) → ReadsAt h.standing h.ended InControl → ReadsAt (client_said pid given (Body body) h).standing (client_said pid given (Body body) h).ended (unproxied (after_body body))
+body_next pid given body h r = by_read (is_read h.standing) refl
   where
-    new : ClientState
-    new = client_said pid c (Body body)
+    by_read : (b : Bool) → is_read h.standing ≡ b → ReadsAt (client_said pid given (Body body) h).standing (client_said pid given (Body body) h).ended (unproxied (after_body body))
+    by_read true e =
+        let o : Outcome = say.answer pid h.number given (is_greeted h.standing) (Body body) in
+        subst (λ (z : Heeded). ReadsAt z.standing z.ended (unproxied (after_body body))) (sym (said_read pid given (Body body) h e))
+        (body_reads (fate_with o.ends (overflow (length h.queue) o.told)) body h.standing h.ended)
+    by_read false e = subst (λ (z : Heeded). ReadsAt z.standing z.ended (unproxied (after_body body))) (sym (said_same pid given (Body body) h e)) (out_reads h.standing h.ended (unproxied (after_body body)) (out_in h.standing h.ended r e) e)
 
-    by_mode : (mode_after InControl body ≡ InControl) ⊎ (is_lost new.standing ≡ true) → client_all pid (parse (mode_after InControl body) rest).says new ≡ client_all pid (parse InControl rest).says new
-    by_mode (inl m) = ap (λ mode. client_all pid (parse mode rest).says new) m
-    by_mode (inr d) = lost_all pid (parse (mode_after InControl body) rest).says new d ∙ sym (lost_all pid (parse InControl rest).says new d)
+-- a mode that is no proxy
+abbrev NoProxy : Mode → Type 0
+NoProxy InProxy = ⊥
+NoProxy mode = Unit {0}
 
--- and the same of what is left, where the client is still served
-frame_mode : (pid : ℕ) (c : ClientState) (bytes body rest : List ℕ) → first_in InControl bytes ≡ Frame body rest
-    → is_lost (client_all pid (parse InControl bytes).says c).standing ≡ false → mode_after InControl body ≡ InControl
-frame_mode pid c bytes body rest e here = by_mode (stays_or_drops pid c body)
-  where
-    new : ClientState
-    new = client_said pid c (Body body)
+no_proxy : (m : Mode) → NoProxy (unproxied m)
+no_proxy InControl = tt
+no_proxy InProxy = tt
+no_proxy Stopped = tt
 
-    by_mode : (mode_after InControl body ≡ InControl) ⊎ (is_lost new.standing ≡ true) → mode_after InControl body ≡ InControl
-    by_mode (inl m) = m
-    by_mode (inr d) =
-        let same : client_all pid (parse InControl bytes).says c ≡ new = frame_all pid c bytes body rest e ∙ lost_all pid (parse InControl rest).says new d in
-        absurd (let z : true ≡ false = sym d ∙ (sym (ap (λ (s : ClientState). is_lost s.standing) same) ∙ here) in cc)
-
-pub left_same : (pid : ℕ) (c : ClientState) (bytes body rest : List ℕ) → first_in InControl bytes ≡ Frame body rest
-    → is_lost (client_all pid (parse InControl bytes).says c).standing ≡ false → (parse InControl bytes).rest ≡ (parse InControl rest).rest
-left_same pid c bytes body rest e here = ap (λ (p : Parsed). p.rest) (parse-at InControl bytes (Frame body rest) e) ∙ ap (λ mode. (parse mode rest).rest) (frame_mode pid c bytes body rest e here)
-
-fault_lost : (pid : ℕ) (c : ClientState) (f : _) → is_lost (client_said pid c (BadFraming f)).standing ≡ true
-fault_lost pid c f = by_standing c.standing refl
-  where
-    by_standing : (s : Standing) → c.standing ≡ s → is_lost (said_in pid s (BadFraming f) c).standing ≡ true
-    by_standing Awaited e = refl
-    by_standing Greeted e = refl
-    by_standing (Lost why) e = ap is_lost e
-
-mode_by : (n : ℕ) (pid : ℕ) (c : ClientState) (bytes : List ℕ) → length bytes ≤ n → is_lost (client_all pid (parse InControl bytes).says c).standing ≡ false → (parse InControl bytes).mode ≡ InControl
-mode_by zero pid c [] h here = refl
-mode_by zero pid c (x ∷ bytes) h here = absurd (omega arith)
-mode_by (suc n) pid c bytes h here = by_first (first_in InControl bytes) refl (in-shorter InControl bytes) (λ body rest le l. mode_by n pid (client_said pid c (Body body)) rest le l)
-  where
-    by_first : (f : Front) → first_in InControl bytes ≡ f → IsShorter (length bytes - 4) f
-        → ((body rest : List ℕ) → length rest ≤ n → is_lost (client_all pid (parse InControl rest).says (client_said pid c (Body body))).standing ≡ false → (parse InControl rest).mode ≡ InControl)
-        → (parse InControl bytes).mode ≡ InControl
-    by_first (Frame body rest) e s ih =
-        ap (λ (p : Parsed). p.mode) (parse-at InControl bytes (Frame body rest) e)
-        ∙ (ap (λ mode. (parse mode rest).mode) (frame_mode pid c bytes body rest e here)
-        ∙ ih body rest (omega arith) (sym (ap (λ (s : ClientState). is_lost s.standing) (frame_all pid c bytes body rest e)) ∙ here))
-    by_first More e s ih = ap (λ (p : Parsed). p.mode) (parse-at InControl bytes More e)
-    by_first (Faulty f) e s ih =
-        absurd (let z : true ≡ false = sym (fault_lost pid c f) ∙ (sym (ap (λ (p : Parsed). is_lost (client_all pid p.says c).standing) (parse-at InControl bytes (Faulty f) e)) ∙ here) in cc)
-
--- a client that is still served is read as control messages
-pub mode_same : (pid : ℕ) (c : ClientState) (bytes : List ℕ) → is_lost (client_all pid (parse InControl bytes).says c).standing ≡ false → (parse InControl bytes).mode ≡ InControl
-mode_same pid c bytes here = mode_by (length bytes) pid c bytes (omega arith) here
-
-reached_by : (n : ℕ) (pid : ℕ) (c : ClientState) (bytes : List ℕ) → length bytes ≤ n → Reached pid c (parse InControl bytes).says
-reached_by zero pid c [] h = tt
-reached_by zero pid c (x ∷ bytes) h = absurd (omega arith)
-reached_by (suc n) pid c bytes h = by_first (first_in InControl bytes) refl (in-shorter InControl bytes) (λ body rest le. reached_by n pid (client_said pid c (Body body)) rest le)
+reads_by : (n : ℕ) (pid : ℕ) (more : List HouseReply) (h : Heeded) (mode : Mode) (bytes : List ℕ) → length bytes ≤ n → NoProxy mode → ReadsAt h.standing h.ended mode → Reads pid more h (spoken mode bytes)
+reads_by n pid more h InProxy bytes le no r = absurd no
+reads_by n pid more h Stopped bytes le no r = subst (Reads pid more h) (sym (spoken-at Stopped bytes More refl)) record { reached = tt; after = r }
+reads_by zero pid more h InControl [] le no r = record { reached = tt; after = r }
+reads_by zero pid more h InControl (b ∷ bytes) le no r = absurd (omega arith)
+reads_by (suc n) pid more h InControl bytes le no r = by_first (first_in InControl bytes) refl (in-shorter InControl bytes)
+    (λ more h mode rest le no r. reads_by n pid more h mode rest le no r)
   where
     by_first : (f : Front) → first_in InControl bytes ≡ f → IsShorter (length bytes - 4) f
-        → ((body rest : List ℕ) → length rest ≤ n → Reached pid (client_said pid c (Body body)) (parse InControl rest).says)
-        → Reached pid c (parse InControl bytes).says
+        → ((more : List HouseReply) (h : Heeded) (mode : Mode) (rest : List ℕ) → length rest ≤ n → NoProxy mode → ReadsAt h.standing h.ended mode → Reads pid more h (spoken mode rest))
+        → Reads pid more h (spoken InControl bytes)
     by_first (Frame body rest) e s ih =
-        let new : ClientState = client_said pid c (Body body) in
-        let by_mode : (mode_after InControl body ≡ InControl) ⊎ (is_lost new.standing ≡ true) → Reached pid new (parse (mode_after InControl body) rest).says = λ m. elim m as (λ _. Reached pid new (parse (mode_after InControl body) rest).says) [
-          | inl k ↦ subst (λ mode. Reached pid new (parse mode rest).says) (sym k) (ih body rest (omega arith))
-          | inr d ↦ lost_reached pid (parse (mode_after InControl body) rest).says new d
-        ] in
-        subst (λ (p : Parsed). Reached pid c p.says) (sym (parse-at InControl bytes (Frame body rest) e)) (λ h. tt, by_mode (stays_or_drops pid c body))
-    by_first More e s ih = subst (λ (p : Parsed). Reached pid c p.says) (sym (parse-at InControl bytes More e)) tt
-    by_first (Faulty f) e s ih = subst (λ (p : Parsed). Reached pid c p.says) (sym (parse-at InControl bytes (Faulty f) e)) (λ h. tt, tt)
+        let x : Saying = Body body in
+        let next : Reads pid (left_if (asks_in h x) more) (client_said pid (reply_if (asks_in h x) more) x h) (spoken (unproxied (after_body body)) rest) =
+        ih (left_if (asks_in h x) more) (client_said pid (reply_if (asks_in h x) more) x h) (unproxied (after_body body)) rest (omega arith) (no_proxy (after_body body)) (body_next pid (reply_if (asks_in h x) more) body h r) in
+        subst (Reads pid more h) (sym (spoken-at InControl bytes (Frame body rest) e)) record {
+          reached = (record { no_payload = λ t. tt; out = out_in h.standing h.ended r }, next.reached);
+          after = next.after;
+        }
+    by_first More e s ih = subst (Reads pid more h) (sym (spoken-at InControl bytes More e)) record { reached = tt; after = r }
+    by_first (Faulty f) e s ih = subst (Reads pid more h) (sym (spoken-at InControl bytes (Faulty f) e)) (fault_reads pid more h f bytes r)
 
-pub reached : (pid : ℕ) (c : ClientState) (bytes : List ℕ) → Reached pid c (parse InControl bytes).says
-reached pid c bytes = reached_by (length bytes) pid c bytes (omega arith)
-
--- what is new in what is said
-pub said_more : (a b : List ℕ) → drop (length (said a)) (said (a ++ b)) ≡ (parse (parse InControl a).mode ((parse InControl a).rest ++ b)).says
-said_more a b = ap (λ (p : Parsed). drop (length (said a)) p.says) (parse-append InControl a b) ∙ drop-append-length (said a) ((parse (parse InControl a).mode ((parse InControl a).rest ++ b)).says)
-  where
-    drop-append-length : (xs ys : List Saying) → drop (length xs) (xs ++ ys) ≡ ys
-    drop-append-length [] ys = refl
-    drop-append-length (x ∷ xs) ys = drop-append-length xs ys
+-- what a client that is read says by more bytes
+pub reads_on_from : (pid : ℕ) (more : List HouseReply) (h : Heeded) (bytes : List ℕ) → ReadsAt h.standing h.ended InControl → Reads pid more h (spoken InControl bytes)
+reads_on_from pid more h bytes r = reads_by (length bytes) pid more h InControl bytes (omega arith) tt r
 
 -- ---- a piece
 
-got_number_at : (pid : ℕ) (bytes : List ℕ) (c : ClientState) (b : Bool) → (cond b c (with_rest (parse InControl (c.rest ++ bytes)).rest (client_all pid (parse InControl (c.rest ++ bytes)).says c))).number ≡ c.number
-got_number_at pid bytes c true = refl
-got_number_at pid bytes c false = all_number pid (parse InControl (c.rest ++ bytes)).says c
-  where
-    all_number : (pid : ℕ) (xs : List Saying) (c : ClientState) → (client_all pid xs c).number ≡ c.number
-    all_number pid [] c = refl
-    all_number pid (x ∷ xs) c = all_number pid xs (client_said pid c x) ∙ said_number pid x c c.standing
-
-pub got_number : (pid : ℕ) (bytes : List ℕ) (c : ClientState) → (client_got pid bytes c).number ≡ c.number
-got_number pid bytes c = got_number_at pid bytes c (is_lost c.standing)
-
-abbrev pub piece_rows : ℕ → ℕ → List Row → List ℕ → List ℕ → List Row
-piece_rows pid k rows a bytes = rows_after pid k rows (drop (length (said a)) (said (a ++ bytes)))
-
-got_at : (pid k : ℕ) (bytes a : List ℕ) (rows : List Row) (c : ClientState) (b : Bool) → is_lost c.standing ≡ b → c.number ≡ k → is_ended rows ≡ false → ArePlain rows → ClientFits (rows_of k rows) c → ClientReads a c
-    → Said k rows (piece_rows pid k rows a bytes) c (cond b c (with_rest (parse InControl (c.rest ++ bytes)).rest (client_all pid (parse InControl (c.rest ++ bytes)).says c)))
-got_at pid k bytes a rows c true e number live plain fits reads =
-    let xs : List Saying = drop (length (said a)) (said (a ++ bytes)) in
-    let all : Said k rows (rows_after pid k rows xs) c (client_all pid xs c) = says_all pid k xs rows c (lost_reached pid xs c e) number live plain fits in
-    subst (λ (new : ClientState). Said k rows (rows_after pid k rows xs) c new) (all.stays e) all
-got_at pid k bytes a rows c false e number live plain fits reads =
-    let xs : List Saying = (parse InControl (c.rest ++ bytes)).says in
-    let same : drop (length (said a)) (said (a ++ bytes)) ≡ xs = said_more a bytes ∙ (ap (λ m. (parse m ((parse InControl a).rest ++ bytes)).says) (reads.mode_is e) ∙ ap (λ r. (parse InControl (r ++ bytes)).says) (sym (reads.rest_is e))) in
-    let all : Said k rows (rows_after pid k rows xs) c (client_all pid xs c) = says_all pid k xs rows c (reached pid c (c.rest ++ bytes)) number live plain fits in
-    subst (λ (ys : List Saying). Said k rows (rows_after pid k rows ys) c (with_rest (parse InControl (c.rest ++ bytes)).rest (client_all pid xs c))) (sym same)
-    record { fits = record { standing_is = all.fits.standing_is; greeted_is = all.fits.greeted_is; queue_is = all.fits.queue_is }; grows = all.grows; number = all.number; stays = λ h. absurd (let z : true ≡ false = sym h ∙ e in cc) }
-
--- more bytes of a client are the rows of what they say
-pub got : (pid k : ℕ) (bytes a : List ℕ) (rows : List Row) (c : ClientState) → c.number ≡ k → is_ended rows ≡ false → ArePlain rows → ClientFits (rows_of k rows) c → ClientReads a c → Said k rows (piece_rows pid k rows a bytes) c (client_got pid bytes c)
-got pid k bytes a rows c number live plain fits reads = got_at pid k bytes a rows c (is_lost c.standing) refl number live plain fits reads
-
-reads_at : (pid : ℕ) (bytes a : List ℕ) (c : ClientState) (b : Bool) → is_lost c.standing ≡ b → ClientReads a c → ClientReads (a ++ bytes) (cond b c (with_rest (parse InControl (c.rest ++ bytes)).rest (client_all pid (parse InControl (c.rest ++ bytes)).says c)))
-reads_at pid bytes a c true e reads = record { mode_is = λ h. absurd (let z : true ≡ false = sym e ∙ h in cc); rest_is = λ h. absurd (let z : true ≡ false = sym e ∙ h in cc) }
-reads_at pid bytes a c false e reads =
-    let p : Parsed = parse InControl (c.rest ++ bytes) in
-    let new : ClientState = client_all pid p.says c in
-    let mode : (parse InControl (a ++ bytes)).mode ≡ p.mode = ap (λ (q : Parsed). q.mode) (parse-append InControl a bytes) ∙ (ap (λ m. (parse m ((parse InControl a).rest ++ bytes)).mode) (reads.mode_is e) ∙ ap (λ r. (parse InControl (r ++ bytes)).mode) (sym (reads.rest_is e))) in
-    let rest : (parse InControl (a ++ bytes)).rest ≡ p.rest = ap (λ (q : Parsed). q.rest) (parse-append InControl a bytes) ∙ (ap (λ m. (parse m ((parse InControl a).rest ++ bytes)).rest) (reads.mode_is e) ∙ ap (λ r. (parse InControl (r ++ bytes)).rest) (sym (reads.rest_is e))) in
-    record {
-      mode_is = λ h. mode ∙ mode_same pid c (c.rest ++ bytes) h;
-      rest_is = λ h. ap (λ b. cond b nothing p.rest) h ∙ sym rest;
-    }
-  where
-    nothing : List ℕ
-    nothing = []
-
-pub got_reads : (pid : ℕ) (bytes a : List ℕ) (c : ClientState) → ClientReads a c → ClientReads (a ++ bytes) (client_got pid bytes c)
-got_reads pid bytes a c reads = reads_at pid bytes a c (is_lost c.standing) refl reads
+-- what is new in what is said
+pub spoken_more : (a b : List ℕ) → drop (length (spoken InControl a).says) (spoken InControl (a ++ b)).says ≡ (spoken (spoken InControl a).mode ((spoken InControl a).rest ++ b)).says
+spoken_more a b = ap (λ (p : Parsed). drop (length (spoken InControl a).says) p.says) (spoken-append InControl a b) ∙ drop-append-length (spoken InControl a).says ((spoken (spoken InControl a).mode ((spoken InControl a).rest ++ b)).says)
