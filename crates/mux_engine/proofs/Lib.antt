@@ -1,3 +1,4 @@
+pub mod Spoken
 pub mod Clients
 pub mod Plain
 pub mod RowFacts

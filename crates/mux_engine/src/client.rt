@@ -112,7 +112,11 @@ impl Client {
     pub fn rest_len(&self) -> usize
         ensures { result ≡ length self.now.rest }
     {
-        if self.is_read() { self.framer.rest_len() } else { 0 }
+        if self.is_read() {
+            self.framer.rest_len()
+        } else {
+            0
+        }
     }
 
     pub fn is_lost(&self) -> bool

@@ -96,13 +96,7 @@ pub fn decide_first(body: &[u8]) -> Decision
 }
 
 // The answer of the house; a port is no answer to a close.
-fn ask<H: House>(
-    house: &mut H,
-    client: u64,
-    opening: bool,
-    id: u32,
-    what: &FwdAsk<'_>,
-) -> Small
+fn ask<H: House>(house: &mut H, client: u64, opening: bool, id: u32, what: &FwdAsk<'_>) -> Small
     ensures { (given : TheReply) × (H.may given × (result ≡ frame_answer (house_answer opening id given))) }
 {
     match house.ask(client, opening, what) {

@@ -233,12 +233,7 @@ impl Engine {
         self.refresh()
     }
 
-    fn got<H: House>(
-        &mut self,
-        client: u64,
-        bytes: &[u8],
-        house: &mut H,
-    ) -> Result<(), OutOfMemory>
+    fn got<H: House>(&mut self, client: u64, bytes: &[u8], house: &mut H) -> Result<(), OutOfMemory>
         requires { self.old.ended ≡ None }
         ensures { OnOk result (Gains H.may self.old self.new client bytes.now) }
     {
