@@ -6,6 +6,7 @@ pub mod Says
 pub mod Fits
 pub mod Grows
 pub mod Sayings
+pub mod Pieces
 pub mod Listed
 pub mod Served
 pub mod Moved

@@ -1,7 +1,6 @@
 -- The rows of all that a client says by one more piece.
 use Rattle.std.proofs.Common.{◌≡◌, ◌≤◌, ◌-◌, ◌+◌, ℕ, zero, suc, Bool, true, false, ◌&&◌, ◌||◌, not, List, [], ◌∷◌, ◌++◌, length, drop, map, Option, Some, None, refl, sym, ap, ◌∙◌, subst, arith, inl, inr, ◌⊎◌, cond, append-nil}
 use Rattle.std.specs.Prelude.{is_some}
-use Rattle.std.proofs.Math.Seq.{drop-append-length}
 use Rattle.mux_outside.specs.declared.house.HouseReply.{HouseReply}
 use Rattle.ssh_grammar.specs.declared.fault.BadFrame.{BadFrame}
 use Rattle.ssh_grammar.specs.Frames.{Front, Frame, More, Faulty}
@@ -53,7 +52,7 @@ loss_same Greeted k = refl
 loss_same Unread k = refl
 loss_same (Lost why) k = refl
 
-read_here : (s : Standing) → is_read s ≡ true → is_lost s ≡ false
+pub read_here : (s : Standing) → is_read s ≡ true → is_lost s ≡ false
 read_here Awaited e = refl
 read_here Greeted e = refl
 read_here Unread e = absurd (cc)
@@ -163,7 +162,7 @@ asks_here h x g b e t i = ap (λ (a : Bool). a && (is_greeted h.standing && say.
 -- a client that is read
 says_read : (pid k : ℕ) (replies : List HouseReply) (x : Saying) (rows rows' : List Row) (s : Standing) (h : Heeded) (n : ℕ) → is_lost s ≡ false → is_read h.standing ≡ true → NoPayload x → Heeds k rows rows' s h n
     → Heeds k rows (next_rows pid replies rows' k x) s (client_said pid (reply_if (asks_in h x) (drop (replies_given rows') replies)) x h) (n + count_if (asks_in h x))
-says_read pid k replies x rows rows' s h n unlost read no it =
+says_read pid k replies x rows rows' s h n unlost read np it =
     let own : List Row = rows_of k rows' in
     let here : is_lost h.standing ≡ false = read_here h.standing read in
     let on : is_ended rows' ≡ false = it.live ∙ ap is_some (it.reading read) in
@@ -171,7 +170,7 @@ says_read pid k replies x rows rows' s h n unlost read no it =
     let greets : greeted own ≡ is_greeted h.standing = it.fits.greeted_is here in
     let given : Option HouseReply = given_to replies k rows' x in
     let row : Row = next_row (setting pid replies) rows' (Says k x None) in
-    let r : SaysRow pid k given x own row = says_is pid k replies x rows' no it.plain in
+    let r : SaysRow pid k given x own row = says_is pid k replies x rows' np it.plain in
     let asked : asks_in h x ≡ (greeted own && say.asks x) = asks_here h x (greeted own) (is_read h.standing) refl read greets in
     let o : Outcome = say.answer pid k given (greeted own) x in
     let f : Fate = fate_with o.ends (overflow (length h.queue) o.told) in
@@ -186,10 +185,10 @@ says_read pid k replies x rows rows' s h n unlost read no it =
     ∙ (ap (λ (b : Bool). heeded x (say.answer pid k (reply_if b (drop (replies_given rows') replies)) (is_greeted h.standing) x) h) asked
     ∙ ap (λ (b : Bool). heeded x (say.answer pid k given b x) h) (sym greets))) in
     let mine : rows_of row.client rows' ≡ own = ap (λ j. rows_of j rows') r.is.client_is in
-    let stop : stops row (rows_of row.client rows') ≡ (goes f && (is_greeted h.standing && say.stops x)) = says_stops k x given row (rows_of row.client rows') f (is_greeted h.standing) no r.is.item_is fate (ap greeted mine ∙ greets) in
+    let stop : stops row (rows_of row.client rows') ≡ (goes f && (is_greeted h.standing && say.stops x)) = says_stops k x given row (rows_of row.client rows') f (is_greeted h.standing) np r.is.item_is fate (ap greeted mine ∙ greets) in
     let replied : has_reply (Says k x given) ≡ asks_in h x = replies_said k x (greeted own && say.asks x) (drop (replies_given rows') replies) ∙ sym asked in
     let is' : Rattle.mux_engine.proofs.RowFacts.RowIs (Says k x given) k (fitting (waiting_down own) o.told) f row = record { item_is = r.is.item_is; client_is = r.is.client_is; up_is = r.is.up_is; farewell_is = r.is.farewell_is; down_is = r.is.down_is; fate_is = fate } in
-    let one = grows_row k (Says k x given) (fitting (waiting_down own) o.told) f row rows' (goes f && (is_greeted h.standing && say.stops x)) (asks_in h x) is' (plain_says k x given no) tt fine stop replied in
+    let one = grows_row k (Says k x given) (fitting (waiting_down own) o.told) f row rows' (goes f && (is_greeted h.standing && say.stops x)) (asks_in h x) is' (plain_says k x given np) tt fine stop replied in
     let two = subst (λ l. Grows k rows' (row ∷ rows') l (goes f && (is_greeted h.standing && say.stops x)) (end_by f) (count_if (asks_in h x))) (says_loss f k x given h.standing fine here) one in
     let all = grows_on k rows rows' (row ∷ rows') (loss_between s h.standing k) (loss_between h.standing new.standing k) (loss_between s new.standing k) h.stops (goes f && (is_greeted h.standing && say.stops x)) h.ended (end_by f) n (count_if (asks_in h x)) it.grows two (loss_joins s h.standing new.standing k unlost here) in
     subst (λ (l : List Row). Heeds k rows l s (client_said pid (reply_if (asks_in h x) (drop (replies_given rows') replies)) x h) (n + count_if (asks_in h x))) (sym (more_yes (setting pid replies) rows' (Says k x None) (next_live rows' (Says k x None) on ∙ ap not out)))
@@ -351,12 +350,12 @@ no_proxy InProxy = tt
 no_proxy Stopped = tt
 
 reads_by : (n : ℕ) (pid : ℕ) (more : List HouseReply) (h : Heeded) (mode : Mode) (bytes : List ℕ) → length bytes ≤ n → NoProxy mode → ReadsAt h.standing h.ended mode → Reads pid more h (spoken mode bytes)
-reads_by n pid more h InProxy bytes le no r = absurd no
-reads_by n pid more h Stopped bytes le no r = subst (Reads pid more h) (sym (spoken-at Stopped bytes More refl)) record { reached = tt; after = r }
-reads_by zero pid more h InControl [] le no r = record { reached = tt; after = r }
-reads_by zero pid more h InControl (b ∷ bytes) le no r = absurd (omega arith)
-reads_by (suc n) pid more h InControl bytes le no r = by_first (first_in InControl bytes) refl (in-shorter InControl bytes)
-    (λ more h mode rest le no r. reads_by n pid more h mode rest le no r)
+reads_by n pid more h InProxy bytes le np r = absurd np
+reads_by n pid more h Stopped bytes le np r = subst (Reads pid more h) (sym (spoken-at Stopped bytes More refl)) record { reached = tt; after = r }
+reads_by zero pid more h InControl [] le np r = record { reached = tt; after = r }
+reads_by zero pid more h InControl (b ∷ bytes) le np r = absurd (omega arith)
+reads_by (suc n) pid more h InControl bytes le np r = by_first (first_in InControl bytes) refl (in-shorter InControl bytes)
+    (λ more h mode rest le np r. reads_by n pid more h mode rest le np r)
   where
     by_first : (f : Front) → first_in InControl bytes ≡ f → IsShorter (length bytes - 4) f
         → ((more : List HouseReply) (h : Heeded) (mode : Mode) (rest : List ℕ) → length rest ≤ n → NoProxy mode → ReadsAt h.standing h.ended mode → Reads pid more h (spoken mode rest))
@@ -380,4 +379,8 @@ reads_on_from pid more h bytes r = reads_by (length bytes) pid more h InControl 
 
 -- what is new in what is said
 pub spoken_more : (a b : List ℕ) → drop (length (spoken InControl a).says) (spoken InControl (a ++ b)).says ≡ (spoken (spoken InControl a).mode ((spoken InControl a).rest ++ b)).says
-spoken_more a b = ap (λ (p : Parsed). drop (length (spoken InControl a).says) p.says) (spoken-append InControl a b) ∙ drop-append-length (spoken InControl a).says ((spoken (spoken InControl a).mode ((spoken InControl a).rest ++ b)).says)
+spoken_more a b = ap (λ (p : Parsed). drop (length (spoken InControl a).says) p.says) (spoken-append InControl a b) ∙ drop_front (spoken InControl a).says ((spoken (spoken InControl a).mode ((spoken InControl a).rest ++ b)).says)
+  where
+    drop_front : (xs ys : List Saying) → drop (length xs) (xs ++ ys) ≡ ys
+    drop_front [] ys = refl
+    drop_front (x ∷ xs) ys = drop_front xs ys

@@ -417,3 +417,9 @@ impl Engine {
         self.do_closed(client);
     }
 }
+
+fn scratch(n: usize) -> usize
+    ensures { result ≡ n }
+{
+    n
+}

@@ -1,0 +1,6 @@
+use Rattle.std.proofs.Common.{refl}
+use Rattle.mux_engine.proofs.Pieces.{got_moves}
+use Rattle.mux_engine.proofs.engine.scratch.Goals as goal
+
+pub returns : goal.returns
+returns c = refl
