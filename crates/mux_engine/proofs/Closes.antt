@@ -103,7 +103,7 @@ filter_twice p q r (x ∷ xs) h = twice_head p (q x) (r x) x (filter q xs) (filt
 
 pub closes : (s : State) (k : ℕ) → IsFirst k s.leaving → Closes s (closed_by s k) k
 closes s k first marks closed st =
-    let rows : List Row = log s.pid marks in
+    let rows : List Row = log s.pid rs marks in
     let out : is_out (rows_of k rows) ≡ true = loss_is_out k rows (unfiltered k (not_closed closed) (losses rows) (subst (λ ls. in_losses k ls ≡ true) st.leaving_are (first_in k s.leaving first))) in
     let nz : k ≢ 0 = λ e. true_false (sym out ∙ (ap (λ j. is_out (rows_of j rows)) e ∙ st.server_in)) in
     let closed_test : (j : ℕ) (b : Bool) → (k == j) ≡ b → among j (k ∷ closed) ≡ (b || among j closed) = λ j b e. ap (λ x. x || among j closed) e in

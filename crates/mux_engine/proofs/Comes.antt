@@ -4,6 +4,7 @@ use Rattle.std.specs.Prelude.{filter, ◌==◌, nat_lt}
 use Rattle.std.proofs.lemmas.Bool.{eq-eqb}
 use Rattle.std.proofs.lemmas.Bool.Decides.{eqb_tells}
 use Rattle.mux_outside.specs.Streams.{among, without}
+use Rattle.mux_outside.specs.declared.house.HouseReply.{HouseReply}
 use Rattle.mux_outside.specs.declared.mark.Mark.{Mark}
 use Rattle.mux_outside.specs.declared.mark.Mark.TheVariants.{Accepts}
 use Rattle.mux_history.specs.declared.why.Why.{Why}
@@ -17,7 +18,7 @@ use Rattle.mux_history.specs.Promises.{listens}
 use Rattle.mux_engine.specs.State.{ClientState, State}
 use Rattle.mux_engine.specs.Answer.{hello}
 use Rattle.mux_engine.specs.Step.{is_present, waiting_in, served_in, new_client, refused_client, added, refused}
-use Rattle.mux_engine.specs.Stands.{setting, log, Stands, EachStands, ClientFits, ClientReads, IsKnown, ArePlain, IsPlainItem, not_closed, is_accepted, IsStrange}
+use Rattle.mux_engine.specs.Stands.{setting, log, StandsFor, EachStands, ClientFits, ClientReads, IsKnown, ArePlain, IsPlainItem, not_closed, is_accepted, IsStrange}
 use Rattle.mux_engine.proofs.RowFacts.{RowIs, row_is, built_is}
 use Rattle.mux_engine.proofs.Fits.{standing_row}
 use Rattle.mux_engine.proofs.Grows.{own_row, other_row, test_other, no_stops}
@@ -46,24 +47,24 @@ first_ended (Drop why) g = absurd g
 first_ended (End cause) g = absurd g
 
 -- nothing is known of a client that comes
-pub record IsNew (s : State) (marks : List Mark) (closed : List ℕ) (k : ℕ) : Type 0 where
+pub record IsNew (rs : List HouseReply) (dn : ℕ) (s : State) (marks : List Mark) (closed : List ℕ) (k : ℕ) : Type 0 where
   pub nonzero : k ≢ 0
   pub not_accepted : is_accepted k marks ≡ false
   pub strange : IsStrange s marks closed k
-  pub no_rows : rows_of k (log s.pid marks) ≡ []
+  pub no_rows : rows_of k (log s.pid rs marks) ≡ []
 
-pub is_new : (s : State) (marks : List Mark) (closed : List ℕ) (k : ℕ) → Stands s marks closed → k ≢ 0 → is_accepted k marks ≡ false → IsNew s marks closed k
-is_new s marks closed k st nz a = let v : IsStrange s marks closed k = st.strange k a in
+pub is_new : (rs : List HouseReply) (dn : ℕ) (s : State) (marks : List Mark) (closed : List ℕ) (k : ℕ) → StandsFor rs dn s marks closed → k ≢ 0 → is_accepted k marks ≡ false → IsNew s marks closed k
+is_new rs dn s marks closed k st nz a = let v : IsStrange s marks closed k = st.strange k a in
     record { nonzero = nz; not_accepted = a; strange = v; no_rows = st.absent k nz v.not_here v.not_closed_yet }
 
-goes_more : (s : State) (marks : List Mark) (closed : List ℕ) (k : ℕ) (c : ClientState) (row : Row) (down : List (List ℕ)) (f : Fate) (leaving : List (ℕ × Option Why))
-    → Stands s marks closed → is_ended (log s.pid marks) ≡ false → IsNew s marks closed k → log s.pid (Accepts k ∷ marks) ≡ row ∷ log s.pid marks → RowIs (Admit k) k down f row → FirstFate f
+goes_more : (rs : List HouseReply) (dn : ℕ) (s : State) (marks : List Mark) (closed : List ℕ) (k : ℕ) (c : ClientState) (row : Row) (down : List (List ℕ)) (f : Fate) (leaving : List (ℕ × Option Why))
+    → StandsFor rs dn s marks closed → is_ended (log s.pid rs marks) ≡ false → IsNew s marks closed k → log s.pid rs (Accepts k ∷ marks) ≡ row ∷ log s.pid rs marks → RowIs (Admit k) k down f row → FirstFate f
     → c.number ≡ k → ClientFits (row ∷ []) c → ClientReads [] c
-    → leaving ≡ filter (not_closed closed) (losses (row ∷ log s.pid marks)) → served_in (s.clients ++ c ∷ []) ≡ served (row ∷ log s.pid marks)
-    → ((j : ℕ) → among j (entered (row ∷ log s.pid marks)) ≡ true → IsKnown (rows_of j (row ∷ log s.pid marks)))
-    → Stands (record s { clients = s.clients ++ c ∷ []; leaving = leaving; waiting = waiting_in (s.clients ++ c ∷ []) }) (Accepts k ∷ marks) closed
-goes_more s marks closed k c row down f leaving st live new is r first number fits reads left serve known =
-    let rows : List Row = log s.pid marks in
+    → leaving ≡ filter (not_closed closed) (losses (row ∷ log s.pid rs marks)) → served_in (s.clients ++ c ∷ []) ≡ served (row ∷ log s.pid rs marks)
+    → ((j : ℕ) → among j (entered (row ∷ log s.pid rs marks)) ≡ true → IsKnown (rows_of j (row ∷ log s.pid rs marks)))
+    → StandsFor rs dn (record s { clients = s.clients ++ c ∷ []; leaving = leaving; waiting = waiting_in (s.clients ++ c ∷ []) }) (Accepts k ∷ marks) closed
+goes_more rs dn s marks closed k c row down f leaving st live new is r first number fits reads left serve known =
+    let rows : List Row = log s.pid rs marks in
     let mark : Mark = Accepts k in
     let others : (j : ℕ) → k ≢ j → rows_of j (row ∷ rows) ≡ rows_of j rows = λ j ne. other_row k j row rows r.client_is ne in
     let present : (j : ℕ) → k ≢ j → is_present (s.clients ++ c ∷ []) j ≡ is_present s.clients j = λ j ne. present_more s.clients c j (λ e. ne (sym number ∙ e)) in
@@ -99,19 +100,19 @@ goes_more s marks closed k c row down f leaving st live new is r first number fi
 -- ---- the row
 
 abbrev pub come_row : ℕ → ℕ → List Row → Row
-come_row pid k rows = next_row (setting pid) rows (Admit k)
+come_row pid k rs rows = next_row (setting pid rs) rows (Admit k)
 
-come_log : (pid k : ℕ) (rows : List Row) → is_ended rows ≡ false → more_of (setting pid) rows (Admit k) ≡ come_row pid k rows ∷ rows
-come_log pid k rows live = more_yes (setting pid) rows (Admit k) (next_live rows (Admit k) live)
+come_log : (pid k : ℕ) (rs : List HouseReply) (rows : List Row) → is_ended rows ≡ false → more_of (setting pid rs) rows (Admit k) ≡ come_row pid k rs rows ∷ rows
+come_log pid k rs rows live = more_yes (setting pid rs) rows (Admit k) (next_live rows (Admit k) live)
 
 abbrev pub refuses : Outcome
 refuses = record { sent = []; told = []; ends = Refused }
 
-come_is : (pid k : ℕ) (rows : List Row) (o : Outcome) → admits rows ≡ o → o.sent ≡ [] → rows_of k rows ≡ [] → RowIs (Admit k) k (fitting 0 o.told) (fate_with o.ends (overflow 0 o.told)) (come_row pid k rows)
-come_is pid k rows o e sent none =
+come_is : (pid k : ℕ) (rs : List HouseReply) (rows : List Row) (o : Outcome) → admits rows ≡ o → o.sent ≡ [] → rows_of k rows ≡ [] → RowIs (Admit k) k (fitting 0 o.told) (fate_with o.ends (overflow 0 o.told)) (come_row pid k rs rows)
+come_is pid k rs rows o e sent none =
     let row : Row = row_of (Admit k) k o [] in
-    subst (λ (own : List Row). RowIs (Admit k) k (fitting 0 o.told) (fate_with o.ends (overflow 0 o.told)) (let row = row_of (Admit k) k (admits rows) own in Rattle.mux_history.specs.NotBuilt.built (setting pid).missing row (rows_of row.client rows))) (sym none)
-    (subst (λ (p : Outcome). RowIs (Admit k) k (fitting 0 o.told) (fate_with o.ends (overflow 0 o.told)) (let row = row_of (Admit k) k p [] in Rattle.mux_history.specs.NotBuilt.built (setting pid).missing row (rows_of row.client rows))) (sym e)
+    subst (λ (own : List Row). RowIs (Admit k) k (fitting 0 o.told) (fate_with o.ends (overflow 0 o.told)) (let row = row_of (Admit k) k (admits rows) own in Rattle.mux_history.specs.NotBuilt.built (setting pid rs).missing row (rows_of row.client rows))) (sym none)
+    (subst (λ (p : Outcome). RowIs (Admit k) k (fitting 0 o.told) (fate_with o.ends (overflow 0 o.told)) (let row = row_of (Admit k) k p [] in Rattle.mux_history.specs.NotBuilt.built (setting pid rs).missing row (rows_of row.client rows))) (sym e)
     (built_is (Admit k) k (fitting 0 o.told) (fate_with o.ends (overflow 0 o.told)) row (rows_of row.client rows) None (row_is (Admit k) k o [] tt sent tt) refl refl))
 
 admit_test : (f : Fate) (k : ℕ) (row : Row) → row.fate ≡ f → row.item ≡ Admit k → is_refusal f ≡ false → is_admit row ≡ true
@@ -144,13 +145,13 @@ loss_first (End cause) k row e i c g = absurd g
 
 -- ---- let in
 
-pub goes_in : (s : State) (marks : List Mark) (closed : List ℕ) (k : ℕ) → Stands s marks closed → is_ended (log s.pid marks) ≡ false → IsNew s marks closed k → nat_lt (length (served_in s.clients)) 64 ≡ true → Stands (added s (new_client k)) (Accepts k ∷ marks) closed
-goes_in s marks closed k st live new room =
-    let rows : List Row = log s.pid marks in
-    let row : Row = come_row s.pid k rows in
+pub goes_in : (rs : List HouseReply) (dn : ℕ) (s : State) (marks : List Mark) (closed : List ℕ) (k : ℕ) → StandsFor rs dn s marks closed → is_ended (log s.pid rs marks) ≡ false → IsNew s marks closed k → nat_lt (length (served_in s.clients)) 64 ≡ true → StandsFor rs dn (added s (new_client k)) (Accepts k ∷ marks) closed
+goes_in rs dn s marks closed k st live new room =
+    let rows : List Row = log s.pid rs marks in
+    let row : Row = come_row s.pid k rs rows in
     let o : Outcome = tells hello in
-    let admitted : admits rows ≡ o = ap (λ b. elim b as (λ _. Outcome) [ true ↦ tells hello | false ↦ refuses ]) (ap (λ n. nat_lt n 64) (matters_are s marks closed st) ∙ room) in
-    let r : RowIs (Admit k) k (hello ∷ []) Goes row = come_is s.pid k rows o admitted refl new.no_rows in
+    let admitted : admits rows ≡ o = ap (λ b. elim b as (λ _. Outcome) [ true ↦ tells hello | false ↦ refuses ]) (ap (λ n. nat_lt n 64) (matters_are rs dn s marks closed st) ∙ room) in
+    let r : RowIs (Admit k) k (hello ∷ []) Goes row = come_is s.pid k rs rows o admitted refl new.no_rows in
     let test : is_admit row ≡ true = admit_test Goes k row r.fate_is r.item_is refl in
     let out : (is_out (row ∷ []) ≡ false) × (has_loss (row ∷ []) ≡ false) = out_first Goes k row r.fate_is r.item_is tt in
     let own : rows_of k (row ∷ rows) ≡ row ∷ [] = own_row k row rows r.client_is ∙ ap (λ x. row ∷ x) new.no_rows in
@@ -160,7 +161,7 @@ goes_in s marks closed k st live new room =
       | inr q ↦ ap is_out (others j q.1)
     ] in
     let comes : entered (row ∷ rows) ≡ entered rows ++ k ∷ [] = ap (λ b. entered rows ++ elim b as (λ _. List ℕ) [ true ↦ row.client ∷ [] | false ↦ [] ]) test ∙ ap (λ j. entered rows ++ j ∷ []) r.client_is in
-    goes_more s marks closed k (new_client k) row (hello ∷ []) Goes s.leaving st live new (come_log s.pid k rows live) r tt refl
+    goes_more rs dn s marks closed k (new_client k) row (hello ∷ []) Goes s.leaving st live new (come_log s.pid k rs rows live) r tt refl
     record {
       standing_is = sym (standing_row (Admit k) Goes row [] r.item_is r.fate_is);
       greeted_is = λ l. ap (λ i. Rattle.mux_history.specs.Controls.is_says i || false) r.item_is;
@@ -178,18 +179,18 @@ goes_in s marks closed k st live new room =
 
 -- ---- refused
 
-pub goes_refused : (s : State) (marks : List Mark) (closed : List ℕ) (k : ℕ) → Stands s marks closed → is_ended (log s.pid marks) ≡ false → IsNew s marks closed k → nat_lt (length (served_in s.clients)) 64 ≡ false → Stands (refused s k) (Accepts k ∷ marks) closed
-goes_refused s marks closed k st live new room =
-    let rows : List Row = log s.pid marks in
-    let row : Row = come_row s.pid k rows in
-    let full : admits rows ≡ refuses = ap (λ b. elim b as (λ _. Outcome) [ true ↦ tells hello | false ↦ refuses ]) (ap (λ n. nat_lt n 64) (matters_are s marks closed st) ∙ room) in
-    let r : RowIs (Admit k) k [] Refused row = come_is s.pid k rows refuses full refl new.no_rows in
+pub goes_refused : (rs : List HouseReply) (dn : ℕ) (s : State) (marks : List Mark) (closed : List ℕ) (k : ℕ) → StandsFor rs dn s marks closed → is_ended (log s.pid rs marks) ≡ false → IsNew s marks closed k → nat_lt (length (served_in s.clients)) 64 ≡ false → StandsFor rs dn (refused s k) (Accepts k ∷ marks) closed
+goes_refused rs dn s marks closed k st live new room =
+    let rows : List Row = log s.pid rs marks in
+    let row : Row = come_row s.pid k rs rows in
+    let full : admits rows ≡ refuses = ap (λ b. elim b as (λ _. Outcome) [ true ↦ tells hello | false ↦ refuses ]) (ap (λ n. nat_lt n 64) (matters_are rs dn s marks closed st) ∙ room) in
+    let r : RowIs (Admit k) k [] Refused row = come_is s.pid k rs rows refuses full refl new.no_rows in
     let out : (is_out (row ∷ []) ≡ true) × (has_loss (row ∷ []) ≡ false) = out_first Refused k row r.fate_is r.item_is tt in
     let own : rows_of k (row ∷ rows) ≡ row ∷ [] = own_row k row rows r.client_is ∙ ap (λ x. row ∷ x) new.no_rows in
     let others : (j : ℕ) → k ≢ j → rows_of j (row ∷ rows) ≡ rows_of j rows = λ j ne. other_row k j row rows r.client_is ne in
     let comes : entered (row ∷ rows) ≡ entered rows = ap (λ b. entered rows ++ elim b as (λ _. List ℕ) [ true ↦ row.client ∷ [] | false ↦ [] ]) (no_admit row r.fate_is) ∙ append-nil (entered rows) in
     let gone : loss_by row ≡ (k, None) ∷ [] = loss_first Refused k row r.fate_is r.item_is r.client_is tt in
-    goes_more s marks closed k (refused_client k) row [] Refused (s.leaving ++ (k, None) ∷ []) st live new (come_log s.pid k rows live) r tt refl
+    goes_more rs dn s marks closed k (refused_client k) row [] Refused (s.leaving ++ (k, None) ∷ []) st live new (come_log s.pid k rs rows live) r tt refl
     record {
       standing_is = sym (standing_row (Admit k) Refused row [] r.item_is r.fate_is);
       greeted_is = λ l. true_false l;
@@ -208,5 +209,5 @@ goes_refused s marks closed k st live new room =
     no_admit : (row : Row) → row.fate ≡ Refused → is_admit row ≡ false
     no_admit row e = rw e refl
 
-    absurd_known : (j : ℕ) → IsKnown (rows_of k (log s.pid marks)) → IsKnown (rows_of j (come_row s.pid k (log s.pid marks) ∷ log s.pid marks))
-    absurd_known j h = let none : Rattle.mux_history.specs.Rows.any_of is_admit (rows_of k (log s.pid marks)) ≡ false = ap (Rattle.mux_history.specs.Rows.any_of is_admit) new.no_rows in true_false (sym h.admitted ∙ none)
+    absurd_known : (j : ℕ) → IsKnown (rows_of k (log s.pid rs marks)) → IsKnown (rows_of j (come_row s.pid k rs (log s.pid rs marks) ∷ log s.pid rs marks))
+    absurd_known j h = let none : Rattle.mux_history.specs.Rows.any_of is_admit (rows_of k (log s.pid rs marks)) ≡ false = ap (Rattle.mux_history.specs.Rows.any_of is_admit) new.no_rows in true_false (sym h.admitted ∙ none)

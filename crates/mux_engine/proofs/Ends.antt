@@ -4,6 +4,7 @@ use Rattle.std.specs.Prelude.{filter, ◌==◌, nat_lt}
 use Rattle.std.proofs.lemmas.Bool.{eq-eqb}
 use Rattle.std.proofs.lemmas.Bool.Decides.{eqb_tells}
 use Rattle.mux_outside.specs.Streams.{among}
+use Rattle.mux_outside.specs.declared.house.HouseReply.{HouseReply}
 use Rattle.mux_outside.specs.declared.mark.Mark.{Mark}
 use Rattle.mux_history.specs.declared.ended.Ended.{Ended}
 use Rattle.mux_history.specs.Rows.{Row, rows_of, is_out, is_ended, is_admit, is_lost as has_loss, losses, any_of, Item, End}
@@ -16,7 +17,7 @@ use Rattle.mux_history.specs.Journal.{bytes_in}
 use Rattle.mux_history.specs.Promises.{listens}
 use Rattle.mux_engine.specs.State.{ClientState, State}
 use Rattle.mux_engine.specs.Step.{is_lost, is_present, served_in, over}
-use Rattle.mux_engine.specs.Stands.{log, Stands, AreApart, StandsAt, EachStands, IsKnown, ArePlain, IsPlainItem, not_closed, is_accepted, IsStrange}
+use Rattle.mux_engine.specs.Stands.{log, StandsFor, AreApart, StandsAt, EachStands, IsKnown, ArePlain, IsPlainItem, not_closed, is_accepted, IsStrange}
 use Rattle.mux_engine.proofs.Plain.{plain_of, no_channels, no_asks}
 use Rattle.mux_engine.proofs.Grows.{other_row, test_other, known_row, or_true}
 use Rattle.mux_engine.proofs.Listed.{each_same}
@@ -43,10 +44,10 @@ end_known item cause rows j h = elim (eqb_tells j 0) [
   | inr p ↦ subst IsKnown (sym (end_others item cause rows j p.1)) h
 ]
 
-pub goes_over : (s : State) (marks : List Mark) (closed : List ℕ) (mark : Mark) (item : Item) (cause : Ended) → Stands s marks closed → is_ended (log s.pid marks) ≡ false → log s.pid (mark ∷ marks) ≡ end_row item cause ∷ log s.pid marks
-    → IsPlainItem item → is_admit (end_row item cause) ≡ false → ((j : ℕ) → is_accepted j (mark ∷ marks) ≡ is_accepted j marks) → ((j : ℕ) → j ≢ 0 → bytes_in j mark ≡ []) → Stands (over s cause) (mark ∷ marks) closed
-goes_over s marks closed mark item cause st live is plain admit accepts bytes =
-    let rows : List Row = log s.pid marks in
+pub goes_over : (rs : List HouseReply) (dn : ℕ) (s : State) (marks : List Mark) (closed : List ℕ) (mark : Mark) (item : Item) (cause : Ended) → StandsFor rs dn s marks closed → is_ended (log s.pid rs marks) ≡ false → log s.pid rs (mark ∷ marks) ≡ end_row item cause ∷ log s.pid rs marks
+    → IsPlainItem item → is_admit (end_row item cause) ≡ false → ((j : ℕ) → is_accepted j (mark ∷ marks) ≡ is_accepted j marks) → ((j : ℕ) → j ≢ 0 → bytes_in j mark ≡ []) → StandsFor rs dn (over s cause) (mark ∷ marks) closed
+goes_over rs dn s marks closed mark item cause st live is plain admit accepts bytes =
+    let rows : List Row = log s.pid rs marks in
     let row : Row = end_row item cause in
     let same_entered : entered (row ∷ rows) ≡ entered rows = ap (λ b. entered rows ++ elim b as (λ _. List ℕ) [ true ↦ 0 ∷ [] | false ↦ [] ]) admit ∙ append-nil (entered rows) in
     record {
@@ -96,8 +97,8 @@ matters_each rows (k ∷ ks) p h =
     count true l = omega arith
     count false l = refl
 
-pub matters_are : (s : State) (marks : List Mark) (closed : List ℕ) → Stands s marks closed → open_matters (log s.pid marks) ≡ length (served_in s.clients)
-matters_are s marks closed st = matters_each (log s.pid marks) (entered (log s.pid marks)) st.plain st.known ∙ ap length (sym st.served_are)
+pub matters_are : (rs : List HouseReply) (dn : ℕ) (s : State) (marks : List Mark) (closed : List ℕ) → StandsFor rs dn s marks closed → open_matters (log s.pid rs marks) ≡ length (served_in s.clients)
+matters_are rs dn s marks closed st = matters_each (log s.pid rs marks) (entered (log s.pid rs marks)) st.plain st.known ∙ ap length (sym st.served_are)
 
 -- ---- one client more
 

@@ -2,6 +2,7 @@
 use Rattle.std.proofs.Common.{◌≡◌, ◌≢◌, ℕ, Bool, true, false, not, ◌||◌, ◌&&◌, List, [], ◌∷◌, ◌++◌, length, Option, Some, None, refl, sym, ap, ◌∙◌, subst, inl, inr, cond, append-nil}
 use Rattle.std.specs.Prelude.{◌==◌, is_some, nat_lt}
 use Rattle.std.proofs.lemmas.Bool.Decides.{eqb_tells}
+use Rattle.mux_outside.specs.declared.house.HouseReply.{HouseReply}
 use Rattle.mux_outside.specs.declared.mark.Mark.{Mark}
 use Rattle.mux_outside.specs.declared.mark.Mark.TheVariants.{Waits, Accepts, Gets, Ends, Frees, Fails, Takes, Holds, WriteFails}
 use Rattle.ssh_grammar.specs.Said.{InProxy, parse, said}
@@ -15,7 +16,7 @@ use Rattle.mux_history.specs.Journal.{bytes_of, bytes_in, new_heard, new_sayings
 use Rattle.mux_engine.specs.State.{ClientState, State}
 use Rattle.mux_engine.specs.Step.{is_present, waiting_in, served_in, client_got, lost_client, changed, taken, over, after, stepped, closed_by, without_client, at_client, loss_at}
 use Rattle.mux_engine.specs.Step as step
-use Rattle.mux_engine.specs.Stands.{setting, log, Stands, StandsAt, IsAllowed, GoesOn, not_closed, is_accepted, IsStrange}
+use Rattle.mux_engine.specs.Stands.{setting, log, StandsFor, StandsAt, IsAllowed, GoesOn, not_closed, is_accepted, IsStrange}
 use Rattle.mux_engine.proofs.Grows.{test_other}
 use Rattle.mux_engine.proofs.Sayings.{next_live, more_yes, more_no}
 use Rattle.mux_engine.proofs.Listed.{at_absent}
@@ -36,19 +37,19 @@ pub some_end : (rows : List Row) → is_some (end_of rows) ≡ is_ended rows
 some_end [] = refl
 some_end (row ∷ rows) = end_is row.fate row rows refl (some_end rows)
 
-pub ended_is : (s : State) (marks : List Mark) (closed : List ℕ) → Stands s marks closed → is_some s.ended ≡ is_ended (log s.pid marks)
-ended_is s marks closed st = ap is_some st.ended_is ∙ some_end (log s.pid marks)
+pub ended_is : (rs : List HouseReply) (dn : ℕ) (s : State) (marks : List Mark) (closed : List ℕ) → StandsFor rs dn s marks closed → is_some s.ended ≡ is_ended (log s.pid rs marks)
+ended_is rs dn s marks closed st = ap is_some st.ended_is ∙ some_end (log s.pid rs marks)
 
-over_one : (pid : ℕ) (rows : List Row) (item : Item) → is_ended rows ≡ true → is_took item ≡ false → more_of (setting pid) rows item ≡ rows
-over_one pid rows item e t = more_no (setting pid) rows item (ap (λ b. elim b as (λ _. Bool) [ true ↦ is_took item | false ↦ makes_row rows item ]) e ∙ t)
+over_one : (pid : ℕ) (rs : List HouseReply) (rows : List Row) (item : Item) → is_ended rows ≡ true → is_took item ≡ false → more_of (setting pid rs) rows item ≡ rows
+over_one pid rs rows item e t = more_no (setting pid rs) rows item (ap (λ b. elim b as (λ _. Bool) [ true ↦ is_took item | false ↦ makes_row rows item ]) e ∙ t)
 
 abbrev NoneTaken : List Item → Type 0
 NoneTaken [] = Unit {0}
 NoneTaken (item ∷ items) = (is_took item ≡ false) × NoneTaken items
 
-over_all : (pid : ℕ) (items : List Item) (rows : List Row) → is_ended rows ≡ true → NoneTaken items → more_all (setting pid) rows items ≡ rows
-over_all pid [] rows e n = refl
-over_all pid (item ∷ items) rows e n = ap (λ r. more_all (setting pid) r items) (over_one pid rows item e n.0) ∙ over_all pid items rows e n.1
+over_all : (pid : ℕ) (rs : List HouseReply) (items : List Item) (rows : List Row) → is_ended rows ≡ true → NoneTaken items → more_all (setting pid rs) rows items ≡ rows
+over_all pid rs [] rows e n = refl
+over_all pid rs (item ∷ items) rows e n = ap (λ r. more_all (setting pid rs) r items) (over_one pid rs rows item e n.0) ∙ over_all pid rs items rows e n.1
 
 none_said : (k : ℕ) (xs : List _) → NoneTaken (Rattle.std.proofs.Common.map (said_item k) xs)
 none_said k [] = tt
@@ -60,11 +61,11 @@ none_heard (Rattle.ssh_grammar.specs.Said.Body b ∷ xs) = (refl, none_heard xs)
 none_heard (Rattle.ssh_grammar.specs.Said.Payload b ∷ xs) = (refl, none_heard xs)
 none_heard (Rattle.ssh_grammar.specs.Said.BadFraming f ∷ xs) = (refl, none_heard xs)
 
-pub over_still : (s : State) (marks : List Mark) (closed : List ℕ) (mark : Mark) → Stands s marks closed → is_ended (log s.pid marks) ≡ true → NoneTaken (built_items (setting s.pid).missing marks mark)
-    → ((j : ℕ) → is_accepted j (mark ∷ marks) ≡ false → is_accepted j marks ≡ false) → ((j : ℕ) → is_accepted j marks ≡ false → j ≢ 0 → bytes_in j mark ≡ []) → Stands s (mark ∷ marks) closed
-over_still s marks closed mark st over none fresh strange =
-    goes_still s marks closed mark st (over_all s.pid (built_items (setting s.pid).missing marks mark) (log s.pid marks) over none) fresh strange
-    (λ l j. true_false (sym over ∙ l)) (λ l. true_false (sym over ∙ l)) (each_over (log s.pid marks) marks mark s.clients over)
+pub over_still : (rs : List HouseReply) (dn : ℕ) (s : State) (marks : List Mark) (closed : List ℕ) (mark : Mark) → StandsFor rs dn s marks closed → is_ended (log s.pid rs marks) ≡ true → NoneTaken (built_items (setting s.pid rs).missing marks mark)
+    → ((j : ℕ) → is_accepted j (mark ∷ marks) ≡ false → is_accepted j marks ≡ false) → ((j : ℕ) → is_accepted j marks ≡ false → j ≢ 0 → bytes_in j mark ≡ []) → StandsFor rs dn s (mark ∷ marks) closed
+over_still rs dn s marks closed mark st over none fresh strange =
+    goes_still rs dn s marks closed mark st (over_all s.pid rs (built_items (setting s.pid rs).missing marks mark) (log s.pid rs marks) over none) fresh strange
+    (λ l j. true_false (sym over ∙ l)) (λ l. true_false (sym over ∙ l)) (each_over (log s.pid rs marks) marks mark s.clients over)
 
 -- ---- a client that was closed
 
@@ -78,17 +79,17 @@ with_parts s a b w e f g =
     ap (λ x. record s { clients = x; leaving = b; waiting = w }) e
     ∙ (ap (λ y. record s { leaving = y; waiting = w }) f ∙ ap (λ z. record s { waiting = z }) g)
 
-absent_same : (s : State) (marks : List Mark) (closed : List ℕ) (k : ℕ) (f : ClientState → ClientState) → Stands s marks closed → is_present s.clients k ≡ false → changed s k f ≡ s
-absent_same s marks closed k f st gone =
+absent_same : (rs : List HouseReply) (dn : ℕ) (s : State) (marks : List Mark) (closed : List ℕ) (k : ℕ) (f : ClientState → ClientState) → StandsFor rs dn s marks closed → is_present s.clients k ≡ false → changed s k f ≡ s
+absent_same rs dn s marks closed k f st gone =
     with_parts s (at_client k f s.clients) (s.leaving ++ loss_at k f s.clients) (waiting_in (at_client k f s.clients)) (at_absent k f s.clients gone)
     (ap (λ l. s.leaving ++ l) (look_none [] (λ c. step.loss_between c.standing (f c).standing k) k s.clients gone) ∙ append-nil s.leaving)
     (ap waiting_in (at_absent k f s.clients gone) ∙ sym st.waiting_is)
 
-out_said : (pid k : ℕ) (xs : List _) (rows : List Row) → is_ended rows ≡ false → is_out (rows_of k rows) ≡ true → more_all (setting pid) rows (Rattle.std.proofs.Common.map (said_item k) xs) ≡ rows
-out_said pid k [] rows live out = refl
-out_said pid k (x ∷ xs) rows live out =
-    ap (λ r. more_all (setting pid) r (Rattle.std.proofs.Common.map (said_item k) xs)) (more_no (setting pid) rows (Says k x None) (next_live rows (Says k x None) live ∙ ap not out))
-    ∙ out_said pid k xs rows live out
+out_said : (pid k : ℕ) (rs : List HouseReply) (xs : List _) (rows : List Row) → is_ended rows ≡ false → is_out (rows_of k rows) ≡ true → more_all (setting pid rs) rows (Rattle.std.proofs.Common.map (said_item k) xs) ≡ rows
+out_said pid k rs [] rows live out = refl
+out_said pid k rs (x ∷ xs) rows live out =
+    ap (λ r. more_all (setting pid rs) r (Rattle.std.proofs.Common.map (said_item k) xs)) (more_no (setting pid rs) rows (Says k x None) (next_live rows (Says k x None) live ∙ ap not out))
+    ∙ out_said pid k rs xs rows live out
 
 accepted_apart : (k j : ℕ) (marks : List Mark) → is_accepted k marks ≡ true → is_accepted j marks ≡ false → k ≢ j
 accepted_apart k j marks a b e = true_false (sym a ∙ (ap (λ i. is_accepted i marks) e ∙ b))
@@ -108,50 +109,50 @@ gets_strange k bytes marks al j a nz = elim (eqb_tells k 0) [
   | inr q ↦ of_bytes k j bytes (accepted_apart k j marks (al q.1) a)
 ]
 
-gets_server : (s : State) (marks : List Mark) (closed : List ℕ) (bytes : List ℕ) → Stands s marks closed → is_ended (log s.pid marks) ≡ false → Stands (over s ended.NotBuilt) (Gets 0 bytes ∷ marks) closed
-gets_server s marks closed bytes st live =
-    goes_over s marks closed (Gets 0 bytes) Unserved ended.NotBuilt st live
-    (more_yes (setting s.pid) (log s.pid marks) Unserved (next_live (log s.pid marks) Unserved live)) tt refl (λ j. refl) (λ j nz. of_bytes 0 j bytes (λ e. nz (sym e)))
+gets_server : (rs : List HouseReply) (dn : ℕ) (s : State) (marks : List Mark) (closed : List ℕ) (bytes : List ℕ) → StandsFor rs dn s marks closed → is_ended (log s.pid rs marks) ≡ false → StandsFor rs dn (over s ended.NotBuilt) (Gets 0 bytes ∷ marks) closed
+gets_server rs dn s marks closed bytes st live =
+    goes_over rs dn s marks closed (Gets 0 bytes) Unserved ended.NotBuilt st live
+    (more_yes (setting s.pid rs) (log s.pid rs marks) Unserved (next_live (log s.pid rs marks) Unserved live)) tt refl (λ j. refl) (λ j nz. of_bytes 0 j bytes (λ e. nz (sym e)))
 
-gets_client : (s : State) (marks : List Mark) (closed : List ℕ) (k : ℕ) (bytes : List ℕ) → k ≢ 0 → is_accepted k marks ≡ true → Stands s marks closed → is_ended (log s.pid marks) ≡ false → (here : Bool) → is_present s.clients k ≡ here → Stands (changed s k (client_got s.pid bytes)) (Gets k bytes ∷ marks) closed
-gets_client s marks closed k bytes ne al st live true here = goes_got s marks closed k bytes ne st live here
-gets_client s marks closed k bytes ne al st live false gone =
-    let rows : List Row = log s.pid marks in
+gets_client : (rs : List HouseReply) (dn : ℕ) (s : State) (marks : List Mark) (closed : List ℕ) (k : ℕ) (bytes : List ℕ) → k ≢ 0 → is_accepted k marks ≡ true → StandsFor rs dn s marks closed → is_ended (log s.pid rs marks) ≡ false → (here : Bool) → is_present s.clients k ≡ here → StandsFor rs dn (changed s k (client_got s.pid bytes)) (Gets k bytes ∷ marks) closed
+gets_client rs dn s marks closed k bytes ne al st live true here = goes_got rs dn s marks closed k bytes ne st live here
+gets_client rs dn s marks closed k bytes ne al st live false gone =
+    let rows : List Row = log s.pid rs marks in
     let out : is_out (rows_of k rows) ≡ true = st.closed_out k (st.there live k al gone) in
-    subst (λ t. Stands t (Gets k bytes ∷ marks) closed) (sym (absent_same s marks closed k (client_got s.pid bytes) st gone))
-    (goes_still s marks closed (Gets k bytes) st
-    (got_log s.pid k bytes marks ne ∙ out_said s.pid k (Rattle.std.proofs.Common.drop (length (said (bytes_of k marks))) (said (bytes_of k marks ++ bytes))) rows live out)
+    subst (λ t. StandsFor rs dn t (Gets k bytes ∷ marks) closed) (sym (absent_same rs dn s marks closed k (client_got s.pid bytes) st gone))
+    (goes_still rs dn s marks closed (Gets k bytes) st
+    (got_log s.pid k rs bytes marks ne ∙ out_said s.pid k rs (Rattle.std.proofs.Common.drop (length (said (bytes_of k marks))) (said (bytes_of k marks ++ bytes))) rows live out)
     (λ j a. a) (λ j a nz. of_bytes k j bytes (accepted_apart k j marks al a)) (λ l j. refl) (λ l. of_bytes k 0 bytes ne)
     (each_absent rows marks (Gets k bytes) k s.clients gone (λ j d. of_bytes k j bytes d)))
 
-gets_live : (s : State) (marks : List Mark) (closed : List ℕ) (k : ℕ) (bytes : List ℕ) → (k ≢ 0 → is_accepted k marks ≡ true) → Stands s marks closed → is_ended (log s.pid marks) ≡ false → Stands (cond (k == 0) (over s ended.NotBuilt) (changed s k (client_got s.pid bytes))) (Gets k bytes ∷ marks) closed
-gets_live s marks closed k bytes al st live = elim (eqb_tells k 0) [
-  | inl q ↦ subst (λ b. Stands (cond b (over s ended.NotBuilt) (changed s k (client_got s.pid bytes))) (Gets k bytes ∷ marks) closed) (sym q.0) (subst (λ j. Stands (over s ended.NotBuilt) (Gets j bytes ∷ marks) closed) (sym q.1) (gets_server s marks closed bytes st live))
-  | inr q ↦ subst (λ b. Stands (cond b (over s ended.NotBuilt) (changed s k (client_got s.pid bytes))) (Gets k bytes ∷ marks) closed) (sym q.0) (gets_client s marks closed k bytes q.1 (al q.1) st live (is_present s.clients k) refl)
+gets_live : (rs : List HouseReply) (dn : ℕ) (s : State) (marks : List Mark) (closed : List ℕ) (k : ℕ) (bytes : List ℕ) → (k ≢ 0 → is_accepted k marks ≡ true) → StandsFor rs dn s marks closed → is_ended (log s.pid rs marks) ≡ false → StandsFor rs dn (cond (k == 0) (over s ended.NotBuilt) (changed s k (client_got s.pid bytes))) (Gets k bytes ∷ marks) closed
+gets_live rs dn s marks closed k bytes al st live = elim (eqb_tells k 0) [
+  | inl q ↦ subst (λ b. StandsFor rs dn (cond b (over s ended.NotBuilt) (changed s k (client_got s.pid bytes))) (Gets k bytes ∷ marks) closed) (sym q.0) (subst (λ j. StandsFor rs dn (over s ended.NotBuilt) (Gets j bytes ∷ marks) closed) (sym q.1) (gets_server rs dn s marks closed bytes st live))
+  | inr q ↦ subst (λ b. StandsFor rs dn (cond b (over s ended.NotBuilt) (changed s k (client_got s.pid bytes))) (Gets k bytes ∷ marks) closed) (sym q.0) (gets_client rs dn s marks closed k bytes q.1 (al q.1) st live (is_present s.clients k) refl)
 ]
 
 -- ---- ends and failures
 
-lost_client_mark : (s : State) (marks : List Mark) (closed : List ℕ) (k : ℕ) (mark : Mark) → k ≢ 0 → is_accepted k marks ≡ true → Stands s marks closed → is_ended (log s.pid marks) ≡ false
-    → log s.pid (mark ∷ marks) ≡ more_of (setting s.pid) (log s.pid marks) (Gone k) → ((j : ℕ) → is_accepted j (mark ∷ marks) ≡ is_accepted j marks) → ((j : ℕ) → bytes_in j mark ≡ [])
-    → (here : Bool) → is_present s.clients k ≡ here → Stands (changed s k lost_client) (mark ∷ marks) closed
-lost_client_mark s marks closed k mark ne al st live is accepts bytes true here = goes_lost s marks closed k mark ne st live here is accepts bytes
-lost_client_mark s marks closed k mark ne al st live is accepts bytes false gone =
-    let rows : List Row = log s.pid marks in
+lost_client_mark : (rs : List HouseReply) (dn : ℕ) (s : State) (marks : List Mark) (closed : List ℕ) (k : ℕ) (mark : Mark) → k ≢ 0 → is_accepted k marks ≡ true → StandsFor rs dn s marks closed → is_ended (log s.pid rs marks) ≡ false
+    → log s.pid rs (mark ∷ marks) ≡ more_of (setting s.pid rs) (log s.pid rs marks) (Gone k) → ((j : ℕ) → is_accepted j (mark ∷ marks) ≡ is_accepted j marks) → ((j : ℕ) → bytes_in j mark ≡ [])
+    → (here : Bool) → is_present s.clients k ≡ here → StandsFor rs dn (changed s k lost_client) (mark ∷ marks) closed
+lost_client_mark rs dn s marks closed k mark ne al st live is accepts bytes true here = goes_lost rs dn s marks closed k mark ne st live here is accepts bytes
+lost_client_mark rs dn s marks closed k mark ne al st live is accepts bytes false gone =
+    let rows : List Row = log s.pid rs marks in
     let out : is_out (rows_of k rows) ≡ true = st.closed_out k (st.there live k al gone) in
-    subst (λ t. Stands t (mark ∷ marks) closed) (sym (absent_same s marks closed k lost_client st gone))
-    (goes_still s marks closed mark st (is ∙ gone_log s.pid k rows true live out)
+    subst (λ t. StandsFor rs dn t (mark ∷ marks) closed) (sym (absent_same rs dn s marks closed k lost_client st gone))
+    (goes_still rs dn s marks closed mark st (is ∙ gone_log s.pid k rs rows true live out)
     (λ j a. sym (accepts j) ∙ a) (λ j a nz. bytes j) (λ l j. accepts j) (λ l. bytes 0) (each_quiet rows marks mark s.clients bytes))
 
-lost_live : (s : State) (marks : List Mark) (closed : List ℕ) (k : ℕ) (mark : ℕ → Mark) (item : Item) (cause : Ended) → (k ≢ 0 → is_accepted k marks ≡ true) → Stands s marks closed → is_ended (log s.pid marks) ≡ false
-    → ((i : ℕ) → i ≢ 0 → log s.pid (mark i ∷ marks) ≡ more_of (setting s.pid) (log s.pid marks) (Gone i)) → log s.pid (mark 0 ∷ marks) ≡ end_row item cause ∷ log s.pid marks
+lost_live : (rs : List HouseReply) (dn : ℕ) (s : State) (marks : List Mark) (closed : List ℕ) (k : ℕ) (mark : ℕ → Mark) (item : Item) (cause : Ended) → (k ≢ 0 → is_accepted k marks ≡ true) → StandsFor rs dn s marks closed → is_ended (log s.pid rs marks) ≡ false
+    → ((i : ℕ) → i ≢ 0 → log s.pid rs (mark i ∷ marks) ≡ more_of (setting s.pid rs) (log s.pid rs marks) (Gone i)) → log s.pid rs (mark 0 ∷ marks) ≡ end_row item cause ∷ log s.pid rs marks
     → Rattle.mux_engine.specs.Stands.IsPlainItem item → Rattle.mux_history.specs.Rows.is_admit (end_row item cause) ≡ false
     → ((i j : ℕ) → is_accepted j (mark i ∷ marks) ≡ is_accepted j marks) → ((i j : ℕ) → bytes_in j (mark i) ≡ [])
-    → Stands (cond (k == 0) (over s cause) (changed s k lost_client)) (mark k ∷ marks) closed
-lost_live s marks closed k mark item cause al st live client server plain admit accepts bytes = elim (eqb_tells k 0) [
-  | inl q ↦ subst (λ b. Stands (cond b (over s cause) (changed s k lost_client)) (mark k ∷ marks) closed) (sym q.0) (subst (λ j. Stands (over s cause) (mark j ∷ marks) closed) (sym q.1)
-      (goes_over s marks closed (mark 0) item cause st live server plain admit (accepts 0) (λ j nz. bytes 0 j)))
-  | inr q ↦ subst (λ b. Stands (cond b (over s cause) (changed s k lost_client)) (mark k ∷ marks) closed) (sym q.0) (lost_client_mark s marks closed k (mark k) q.1 (al q.1) st live (client k q.1) (accepts k) (bytes k) (is_present s.clients k) refl)
+    → StandsFor rs dn (cond (k == 0) (over s cause) (changed s k lost_client)) (mark k ∷ marks) closed
+lost_live rs dn s marks closed k mark item cause al st live client server plain admit accepts bytes = elim (eqb_tells k 0) [
+  | inl q ↦ subst (λ b. StandsFor rs dn (cond b (over s cause) (changed s k lost_client)) (mark k ∷ marks) closed) (sym q.0) (subst (λ j. StandsFor rs dn (over s cause) (mark j ∷ marks) closed) (sym q.1)
+      (goes_over rs dn s marks closed (mark 0) item cause st live server plain admit (accepts 0) (λ j nz. bytes 0 j)))
+  | inr q ↦ subst (λ b. StandsFor rs dn (cond b (over s cause) (changed s k lost_client)) (mark k ∷ marks) closed) (sym q.0) (lost_client_mark rs dn s marks closed k (mark k) q.1 (al q.1) st live (client k q.1) (accepts k) (bytes k) (is_present s.clients k) refl)
 ]
 
 none_lost : (b : Bool) (item : Item) (k : ℕ) → is_took item ≡ false → NoneTaken (elim b as (λ _. List Item) [ true ↦ item ∷ [] | false ↦ Gone k ∷ [] ])
@@ -162,18 +163,18 @@ took_end : (rest : List ℕ) → is_took (server_end rest) ≡ false
 took_end [] = refl
 took_end (b ∷ rest) = refl
 
-pub by_number : (pid : ℕ) (rows : List Row) (k : ℕ) (item : Item) → k ≢ 0 → more_all (setting pid) rows (elim (k == 0) as (λ _. List Item) [ true ↦ item ∷ [] | false ↦ Gone k ∷ [] ]) ≡ more_of (setting pid) rows (Gone k)
-by_number pid rows k item ne = ap (λ b. more_all (setting pid) rows (elim b as (λ _. List Item) [ true ↦ item ∷ [] | false ↦ Gone k ∷ [] ])) (test_other k 0 ne)
+pub by_number : (pid : ℕ) (rs : List HouseReply) (rows : List Row) (k : ℕ) (item : Item) → k ≢ 0 → more_all (setting pid rs) rows (elim (k == 0) as (λ _. List Item) [ true ↦ item ∷ [] | false ↦ Gone k ∷ [] ]) ≡ more_of (setting pid rs) rows (Gone k)
+by_number pid rs rows k item ne = ap (λ b. more_all (setting pid rs) rows (elim b as (λ _. List Item) [ true ↦ item ∷ [] | false ↦ Gone k ∷ [] ])) (test_other k 0 ne)
 
 -- ---- any mark
 
-by_end : (s t : State) (marks : List Mark) (closed : List ℕ) (mark : Mark) (b : Bool) → is_some s.ended ≡ b → Stands s marks closed → (is_ended (log s.pid marks) ≡ true → Stands s (mark ∷ marks) closed) → (is_ended (log s.pid marks) ≡ false → Stands t (mark ∷ marks) closed) → Stands (cond b s t) (mark ∷ marks) closed
-by_end s t marks closed mark true e st f g = f (sym (ended_is s marks closed st) ∙ e)
-by_end s t marks closed mark false e st f g = g (sym (ended_is s marks closed st) ∙ e)
+by_end : (rs : List HouseReply) (dn : ℕ) (s t : State) (marks : List Mark) (closed : List ℕ) (mark : Mark) (b : Bool) → is_some s.ended ≡ b → StandsFor rs dn s marks closed → (is_ended (log s.pid rs marks) ≡ true → StandsFor rs dn s (mark ∷ marks) closed) → (is_ended (log s.pid rs marks) ≡ false → StandsFor rs dn t (mark ∷ marks) closed) → StandsFor rs dn (cond b s t) (mark ∷ marks) closed
+by_end rs dn s t marks closed mark true e st f g = f (sym (ended_is rs dn s marks closed st) ∙ e)
+by_end rs dn s t marks closed mark false e st f g = g (sym (ended_is rs dn s marks closed st) ∙ e)
 
-comes : (s : State) (marks : List Mark) (closed : List ℕ) (k : ℕ) (room : Bool) → nat_lt (length (served_in s.clients)) 64 ≡ room → k ≢ 0 → is_accepted k marks ≡ false → Stands s marks closed → is_ended (log s.pid marks) ≡ false → Stands (cond room (step.added s (step.new_client k)) (step.refused s k)) (Accepts k ∷ marks) closed
-comes s marks closed k true e nz a st live = goes_in s marks closed k st live (is_new s marks closed k st nz a) e
-comes s marks closed k false e nz a st live = goes_refused s marks closed k st live (is_new s marks closed k st nz a) e
+comes : (rs : List HouseReply) (dn : ℕ) (s : State) (marks : List Mark) (closed : List ℕ) (k : ℕ) (room : Bool) → nat_lt (length (served_in s.clients)) 64 ≡ room → k ≢ 0 → is_accepted k marks ≡ false → StandsFor rs dn s marks closed → is_ended (log s.pid rs marks) ≡ false → StandsFor rs dn (cond room (step.added s (step.new_client k)) (step.refused s k)) (Accepts k ∷ marks) closed
+comes rs dn s marks closed k true e nz a st live = goes_in rs dn s marks closed k st live (is_new rs dn s marks closed k st nz a) e
+comes rs dn s marks closed k false e nz a st live = goes_refused rs dn s marks closed k st live (is_new rs dn s marks closed k st nz a) e
 
 accepts_fresh : (k j : ℕ) (marks : List Mark) → is_accepted j (Accepts k ∷ marks) ≡ false → is_accepted j marks ≡ false
 accepts_fresh k j marks a = by_test (k == j) a
@@ -182,31 +183,31 @@ accepts_fresh k j marks a = by_test (k == j) a
     by_test true e = true_false e
     by_test false e = e
 
-nothing_new : (s : State) (marks : List Mark) (closed : List ℕ) (mark : Mark) → Stands s marks closed → log s.pid (mark ∷ marks) ≡ log s.pid marks → ((j : ℕ) → is_accepted j (mark ∷ marks) ≡ is_accepted j marks) → ((j : ℕ) → bytes_in j mark ≡ []) → Stands s (mark ∷ marks) closed
-nothing_new s marks closed mark st is accepts bytes = goes_still s marks closed mark st is (λ j a. sym (accepts j) ∙ a) (λ j a nz. bytes j) (λ l j. accepts j) (λ l. bytes 0) (each_quiet (log s.pid marks) marks mark s.clients bytes)
+nothing_new : (rs : List HouseReply) (dn : ℕ) (s : State) (marks : List Mark) (closed : List ℕ) (mark : Mark) → StandsFor rs dn s marks closed → log s.pid rs (mark ∷ marks) ≡ log s.pid rs marks → ((j : ℕ) → is_accepted j (mark ∷ marks) ≡ is_accepted j marks) → ((j : ℕ) → bytes_in j mark ≡ []) → StandsFor rs dn s (mark ∷ marks) closed
+nothing_new rs dn s marks closed mark st is accepts bytes = goes_still rs dn s marks closed mark st is (λ j a. sym (accepts j) ∙ a) (λ j a nz. bytes j) (λ l j. accepts j) (λ l. bytes 0) (each_quiet (log s.pid rs marks) marks mark s.clients bytes)
 
 pub goes_on : (s : State) (mark : Mark) → GoesOn s (after s mark) mark
-goes_on s (Waits waiting want streams listens) marks closed st al = nothing_new s marks closed (Waits waiting want streams listens) st refl (λ j. refl) (λ j. refl)
-goes_on s (Frees k) marks closed st al = nothing_new s marks closed (Frees k) st refl (λ j. refl) (λ j. refl)
-goes_on s (Holds k) marks closed st al = nothing_new s marks closed (Holds k) st refl (λ j. refl) (λ j. refl)
-goes_on s (Takes k bytes) marks closed st al = goes_took s marks closed k bytes st al
-goes_on s (Accepts k) marks closed st al = by_end s (step.entered s k) marks closed (Accepts k) (is_some s.ended) refl st
-    (λ over. over_still s marks closed (Accepts k) st over (refl, tt) (λ j a. accepts_fresh k j marks a) (λ j a nz. refl))
-    (λ live. comes s marks closed k (nat_lt (length (served_in s.clients)) 64) refl al.0 al.1 st live)
-goes_on s (Gets k bytes) marks closed st al = by_end s (stepped s (Gets k bytes)) marks closed (Gets k bytes) (is_some s.ended) refl st
-    (λ over. over_still s marks closed (Gets k bytes) st over (gets_over marks k bytes (k == 0)) (λ j a. a) (gets_strange k bytes marks al))
-    (λ live. gets_live s marks closed k bytes al st live)
-goes_on s (Ends k) marks closed st al = by_end s (stepped s (Ends k)) marks closed (Ends k) (is_some s.ended) refl st
-    (λ over. over_still s marks closed (Ends k) st over (none_lost (k == 0) (server_end (parse InProxy (bytes_of 0 marks)).rest) k (took_end (parse InProxy (bytes_of 0 marks)).rest)) (λ j a. a) (λ j a nz. refl))
-    (λ live. lost_live s marks closed k Ends ServerEnd ended.ServerEnd al st live
-    (λ i ne. by_number s.pid (log s.pid marks) i (server_end (parse InProxy (bytes_of 0 marks)).rest) ne)
-    (ap (λ b. more_all (setting s.pid) (log s.pid marks) (server_end (parse InProxy b).rest ∷ [])) (st.silent live) ∙ more_yes (setting s.pid) (log s.pid marks) ServerEnd (next_live (log s.pid marks) ServerEnd live))
+goes_on s (Waits waiting want streams listens) marks closed st al = nothing_new rs dn s marks closed (Waits waiting want streams listens) st refl (λ j. refl) (λ j. refl)
+goes_on s (Frees k) marks closed st al = nothing_new rs dn s marks closed (Frees k) st refl (λ j. refl) (λ j. refl)
+goes_on s (Holds k) marks closed st al = nothing_new rs dn s marks closed (Holds k) st refl (λ j. refl) (λ j. refl)
+goes_on s (Takes k bytes) marks closed st al = goes_took rs dn s marks closed k bytes st al
+goes_on s (Accepts k) marks closed st al = by_end rs dn s (step.entered s k) marks closed (Accepts k) (is_some s.ended) refl st
+    (λ over. over_still rs dn s marks closed (Accepts k) st over (refl, tt) (λ j a. accepts_fresh k j marks a) (λ j a nz. refl))
+    (λ live. comes rs dn s marks closed k (nat_lt (length (served_in s.clients)) 64) refl al.0 al.1 st live)
+goes_on s (Gets k bytes) marks closed st al = by_end rs dn s (stepped s (Gets k bytes)) marks closed (Gets k bytes) (is_some s.ended) refl st
+    (λ over. over_still rs dn s marks closed (Gets k bytes) st over (gets_over marks k bytes (k == 0)) (λ j a. a) (gets_strange k bytes marks al))
+    (λ live. gets_live rs dn s marks closed k bytes al st live)
+goes_on s (Ends k) marks closed st al = by_end rs dn s (stepped s (Ends k)) marks closed (Ends k) (is_some s.ended) refl st
+    (λ over. over_still rs dn s marks closed (Ends k) st over (none_lost (k == 0) (server_end (parse InProxy (bytes_of 0 marks)).rest) k (took_end (parse InProxy (bytes_of 0 marks)).rest)) (λ j a. a) (λ j a nz. refl))
+    (λ live. lost_live rs dn s marks closed k Ends ServerEnd ended.ServerEnd al st live
+    (λ i ne. by_number s.pid rs (log s.pid rs marks) i (server_end (parse InProxy (bytes_of 0 marks)).rest) ne)
+    (ap (λ b. more_all (setting s.pid rs) (log s.pid rs marks) (server_end (parse InProxy b).rest ∷ [])) (st.silent live) ∙ more_yes (setting s.pid rs) (log s.pid rs marks) ServerEnd (next_live (log s.pid rs marks) ServerEnd live))
     tt refl (λ i j. refl) (λ i j. refl))
-goes_on s (Fails k) marks closed st al = by_end s (stepped s (Fails k)) marks closed (Fails k) (is_some s.ended) refl st
-    (λ over. over_still s marks closed (Fails k) st over (none_lost (k == 0) ServerFailed k refl) (λ j a. a) (λ j a nz. refl))
-    (λ live. lost_live s marks closed k Fails ServerFailed ended.ServerFailed al st live (λ i ne. by_number s.pid (log s.pid marks) i ServerFailed ne)
-    (more_yes (setting s.pid) (log s.pid marks) ServerFailed (next_live (log s.pid marks) ServerFailed live)) tt refl (λ i j. refl) (λ i j. refl))
-goes_on s (WriteFails k) marks closed st al = by_end s (stepped s (WriteFails k)) marks closed (WriteFails k) (is_some s.ended) refl st
-    (λ over. over_still s marks closed (WriteFails k) st over (none_lost (k == 0) ServerFailed k refl) (λ j a. a) (λ j a nz. refl))
-    (λ live. lost_live s marks closed k WriteFails ServerFailed ended.ServerFailed al st live (λ i ne. by_number s.pid (log s.pid marks) i ServerFailed ne)
-    (more_yes (setting s.pid) (log s.pid marks) ServerFailed (next_live (log s.pid marks) ServerFailed live)) tt refl (λ i j. refl) (λ i j. refl))
+goes_on s (Fails k) marks closed st al = by_end rs dn s (stepped s (Fails k)) marks closed (Fails k) (is_some s.ended) refl st
+    (λ over. over_still rs dn s marks closed (Fails k) st over (none_lost (k == 0) ServerFailed k refl) (λ j a. a) (λ j a nz. refl))
+    (λ live. lost_live rs dn s marks closed k Fails ServerFailed ended.ServerFailed al st live (λ i ne. by_number s.pid rs (log s.pid rs marks) i ServerFailed ne)
+    (more_yes (setting s.pid rs) (log s.pid rs marks) ServerFailed (next_live (log s.pid rs marks) ServerFailed live)) tt refl (λ i j. refl) (λ i j. refl))
+goes_on s (WriteFails k) marks closed st al = by_end rs dn s (stepped s (WriteFails k)) marks closed (WriteFails k) (is_some s.ended) refl st
+    (λ over. over_still rs dn s marks closed (WriteFails k) st over (none_lost (k == 0) ServerFailed k refl) (λ j a. a) (λ j a nz. refl))
+    (λ live. lost_live rs dn s marks closed k WriteFails ServerFailed ended.ServerFailed al st live (λ i ne. by_number s.pid rs (log s.pid rs marks) i ServerFailed ne)
+    (more_yes (setting s.pid rs) (log s.pid rs marks) ServerFailed (next_live (log s.pid rs marks) ServerFailed live)) tt refl (λ i j. refl) (λ i j. refl))

@@ -1,12 +1,13 @@
 -- Lists of clients: one of them changed, one more, one less.
-use Rattle.std.proofs.Common.{◌≡◌, ◌≢◌, ℕ, Bool, true, false, List, [], ◌∷◌, refl, sym, ap, ◌∙◌, inl, inr, cond}
+use Rattle.std.proofs.Common.{◌≡◌, ◌≢◌, ℕ, Bool, true, false, List, [], ◌∷◌, Option, None, refl, sym, ap, ◌∙◌, inl, inr, cond}
 use Rattle.std.specs.Prelude.{◌==◌}
 use Rattle.std.proofs.lemmas.Bool.{eq-eqb, eqb-true}
 use Rattle.std.proofs.lemmas.Bool.Decides.{eqb_tells}
 use Rattle.mux_outside.specs.declared.mark.Mark.{Mark}
+use Rattle.mux_history.specs.declared.ended.Ended.{Ended}
 use Rattle.mux_history.specs.Rows.{Row}
 use Rattle.mux_engine.specs.State.{ClientState}
-use Rattle.mux_engine.specs.Step.{at_client, is_present, loss_at, loss_between, queue_in}
+use Rattle.mux_engine.specs.Step.{at_client, in_client, is_present, loss_at, loss_between, queue_in}
 use Rattle.mux_engine.specs.Stands.{StandsAt, EachStands, AreApart}
 use Rattle.mux_engine.proofs.Grows.{test_other}
 
@@ -79,11 +80,37 @@ pub record Found (rows : List Row) (marks : List Mark) (k : ℕ) (cs : List Clie
   pub stands : StandsAt rows marks client
   pub queue : queue_in cs k ≡ client.queue
   pub loss : (f : ClientState → ClientState) → loss_at k f cs ≡ loss_between client.standing (f client).standing k
+  pub count : (look : ClientState → ℕ) → in_client 0 look cs k ≡ look client
+  pub flag : (look : ClientState → Bool) → in_client false look cs k ≡ look client
+  pub end : (look : ClientState → Option Ended) → in_client None look cs k ≡ look client
+
+head_here : {A : Type 0} (none : A) (look : ClientState → A) (k : ℕ) (c : ClientState) (cs : List ClientState) → (c.number == k) ≡ true → in_client none look (c ∷ cs) k ≡ look c
+head_here none look k c cs e = ap (λ b. cond b (look c) (in_client none look cs k)) e
+
+head_other : {A : Type 0} (none : A) (look : ClientState → A) (k : ℕ) (c : ClientState) (cs : List ClientState) → (c.number == k) ≡ false → in_client none look (c ∷ cs) k ≡ in_client none look cs k
+head_other none look k c cs e = ap (λ b. cond b (look c) (in_client none look cs k)) e
 
 found_head : (b : Bool) (rows : List Row) (marks : List Mark) (k : ℕ) (c : ClientState) (cs : List ClientState) → (c.number == k) ≡ b → cond b true (is_present cs k) ≡ true → StandsAt rows marks c → (is_present cs k ≡ true → Found rows marks k cs) → Found rows marks k (c ∷ cs)
-found_head true rows marks k c cs e p at ih = record { client = c; number = eqb-true c.number k e; stands = at; queue = ap (λ b. cond b c.queue (queue_in cs k)) e; loss = λ f. ap (λ b. cond b (loss_between c.standing (f c).standing k) (loss_at k f cs)) e }
-found_head false rows marks k c cs e p at ih = let h : Found rows marks k cs = ih p in
-    record { client = h.client; number = h.number; stands = h.stands; queue = ap (λ b. cond b c.queue (queue_in cs k)) e ∙ h.queue; loss = λ f. ap (λ b. cond b (loss_between c.standing (f c).standing k) (loss_at k f cs)) e ∙ h.loss f }
+found_head true rows marks k c cs e p at ih = record {
+  client = c;
+  number = eqb-true c.number k e;
+  stands = at;
+  queue = head_here [] (λ c. c.queue) k c cs e;
+  loss = λ f. head_here [] (λ c. loss_between c.standing (f c).standing k) k c cs e;
+  count = λ look. head_here 0 look k c cs e;
+  flag = λ look. head_here false look k c cs e;
+  end = λ look. head_here None look k c cs e;
+}
+found_head false rows marks k c cs e p at ih = let h : Found rows marks k cs = ih p in record {
+  client = h.client;
+  number = h.number;
+  stands = h.stands;
+  queue = head_other [] (λ c. c.queue) k c cs e ∙ h.queue;
+  loss = λ f. head_other [] (λ c. loss_between c.standing (f c).standing k) k c cs e ∙ h.loss f;
+  count = λ look. head_other 0 look k c cs e ∙ h.count look;
+  flag = λ look. head_other false look k c cs e ∙ h.flag look;
+  end = λ look. head_other None look k c cs e ∙ h.end look;
+}
 
 pub found : (rows : List Row) (marks : List Mark) (k : ℕ) (cs : List ClientState) → EachStands rows marks cs → is_present cs k ≡ true → Found rows marks k cs
 found rows marks k [] each p = absurd (cc)

@@ -1,22 +1,28 @@
 -- An engine goes on by one mark of a client.
-use Rattle.std.proofs.Common.{◌≡◌, ◌≢◌, ℕ, Bool, true, false, List, [], ◌∷◌, ◌++◌, Option, refl, sym, ap, ◌∙◌, subst, inl, inr, cond, append-nil}
-use Rattle.std.specs.Prelude.{filter}
+use Rattle.std.proofs.Common.{◌≡◌, ◌≢◌, ◌+◌, ℕ, Bool, true, false, not, ◌&&◌, ◌||◌, List, [], ◌∷◌, ◌++◌, Option, None, Some, refl, sym, ap, ◌∙◌, subst, inl, inr, cond, append-nil, arith}
+use Rattle.std.specs.Prelude.{filter, is_some}
 use Rattle.std.proofs.lemmas.Bool.Decides.{eqb_tells}
 use Rattle.mux_outside.specs.Streams.{among, without}
+use Rattle.mux_outside.specs.declared.house.HouseReply.{HouseReply}
 use Rattle.mux_outside.specs.declared.mark.Mark.{Mark}
 use Rattle.mux_history.specs.declared.why.Why.{Why}
-use Rattle.mux_history.specs.Rows.{Row, rows_of, is_out, is_ended, losses}
+use Rattle.mux_history.specs.declared.ended.Ended.{Ended}
+use Rattle.mux_history.specs.Rows.{Row, rows_of, is_out, is_ended, losses, Fate, Goes, Refused, Drop, End}
+use Rattle.mux_history.specs.Choices.{replies_given}
 use Rattle.mux_history.specs.Log.{served, entered}
 use Rattle.mux_history.specs.Solo.{end_of}
 use Rattle.mux_history.specs.Journal.{bytes_of, bytes_in}
 use Rattle.mux_history.specs.Promises.{listens}
 use Rattle.mux_engine.specs.State.{ClientState, State}
 use Rattle.mux_engine.specs.Step.{is_lost, at_client, is_present, waiting_in, served_in}
-use Rattle.mux_engine.specs.Stands.{log, Stands, AreApart, StandsAt, EachStands, ClientFits, ClientReads, IsKnown, ArePlain, not_closed, is_accepted, IsStrange}
+use Rattle.mux_engine.specs.Stands.{log, StandsFor, AreApart, StandsAt, EachStands, ClientFits, ClientReads, IsKnown, ArePlain, not_closed, is_accepted, IsStrange}
 use Rattle.mux_engine.proofs.Fits.{out_is}
-use Rattle.mux_engine.proofs.Grows.{Grows}
+use Rattle.mux_engine.proofs.Grows.{Grows, ended_then}
 use Rattle.mux_engine.proofs.Listed.{KeepsNumber, present_at, apart_at, each_at}
 use Rattle.mux_engine.proofs.Served.{here_in, served_kept, served_less, in_kept, in_less}
+
+pub true_false : {A : Type 0} → true ≡ false → A
+true_false e = absurd (cc)
 
 append_head : {A : Type 0} (b : Bool) (x : A) (l m : List A) → cond b (x ∷ (l ++ m)) (l ++ m) ≡ cond b (x ∷ l) l ++ m
 append_head true x l m = refl
@@ -25,6 +31,17 @@ append_head false x l m = refl
 pub filter_append : {A : Type 0} (p : A → Bool) (xs ys : List A) → filter p (xs ++ ys) ≡ filter p xs ++ filter p ys
 filter_append p [] ys = refl
 filter_append p (x ∷ xs) ys = ap (λ l. cond (p x) (x ∷ l) l) (filter_append p xs ys) ∙ append_head (p x) x (filter p xs) (filter p ys)
+
+-- a run that goes on has no end
+end_goes : (f : Fate) (row : Row) (rows : List Row) → row.fate ≡ f → (is_ended rows ≡ false → end_of rows ≡ None) → is_ended (row ∷ rows) ≡ false → end_of (row ∷ rows) ≡ None
+end_goes Goes row rows e ih l = rw e (ih (rw e at l))
+end_goes Refused row rows e ih l = rw e (ih (rw e at l))
+end_goes (Drop cause) row rows e ih l = rw e (ih (rw e at l))
+end_goes (End cause) row rows e ih l = true_false (rw e at l)
+
+pub no_end : (rows : List Row) → is_ended rows ≡ false → end_of rows ≡ None
+no_end [] l = refl
+no_end (row ∷ rows) l = end_goes row.fate row rows refl (no_end rows) l
 
 -- a mark that accepts nobody and of which only one client hears
 pub record IsOf (k : ℕ) (mark : Mark) (marks : List Mark) : Type 0 where
@@ -38,15 +55,12 @@ bytes_same j mark marks e = ap (λ b. bytes_of j marks ++ b) e ∙ append-nil (b
 pub stands_same : (rows rows' : List Row) (marks marks' : List Mark) (c : ClientState) → rows_of c.number rows' ≡ rows_of c.number rows → (is_ended rows' ≡ false → is_ended rows ≡ false) → (is_ended rows' ≡ false → bytes_of c.number marks' ≡ bytes_of c.number marks) → StandsAt rows marks c → StandsAt rows' marks' c
 stands_same rows rows' marks marks' c own live bytes v = record {
   nonzero = v.nonzero;
-  fits = subst (λ o. ClientFits o c) (sym own) v.fits;
+  fits = subst (λ o. ClientFits o c.standing c.queue) (sym own) v.fits;
   reads = λ l. subst (λ b. ClientReads b c) (sym (bytes l)) (v.reads (live l));
 }
 
-pub lost_is : (own : List Row) (c : ClientState) → ClientFits own c → is_lost c.standing ≡ is_out own
+pub lost_is : (own : List Row) (c : ClientState) → ClientFits own c.standing c.queue → is_lost c.standing ≡ is_out own
 lost_is own c fits = ap is_lost fits.standing_is ∙ sym (out_is own)
-
-pub true_false : {A : Type 0} → true ≡ false → A
-true_false e = absurd (cc)
 
 pub here_apart : (k j : ℕ) (cs : List ClientState) → is_present cs k ≡ true → is_present cs j ≡ false → k ≢ j
 here_apart k j cs here gone e = true_false (sym here ∙ (ap (is_present cs) e ∙ gone))
@@ -67,19 +81,20 @@ served_moved rows rows' marks k f cs false e en others stays own n apart each wa
     not_out true h = true_false (sym (stays h) ∙ e)
     not_out false h = refl
 
-pub moved : (s : State) (marks : List Mark) (closed : List ℕ) (k : ℕ) (f : ClientState → ClientState) (mark : Mark) (rows' : List Row) (loss : List (ℕ × Option Why)) (leaving : List (ℕ × Option Why)) (waiting : List ℕ)
-    → k ≢ 0 → Stands s marks closed → is_present s.clients k ≡ true → log s.pid (mark ∷ marks) ≡ rows' → KeepsNumber f
-    → ((c : ClientState) → c.number ≡ k → StandsAt (log s.pid marks) marks c → StandsAt rows' (mark ∷ marks) (f c))
-    → Grows k (log s.pid marks) rows' loss → (is_out (rows_of k (log s.pid marks)) ≡ true → is_out (rows_of k rows') ≡ true)
+pub moved : (rs : List HouseReply) (dn : ℕ) (s : State) (marks : List Mark) (closed : List ℕ) (k : ℕ) (f : ClientState → ClientState) (mark : Mark) (rows' : List Row) (loss : List (ℕ × Option Why)) (stop : Bool) (ended : Option Ended) (m : ℕ) (leaving : List (ℕ × Option Why)) (waiting : List ℕ)
+    → k ≢ 0 → StandsFor rs dn s marks closed → is_present s.clients k ≡ true → log s.pid rs (mark ∷ marks) ≡ rows' → KeepsNumber f
+    → ((c : ClientState) → c.number ≡ k → StandsAt (log s.pid rs marks) marks c → StandsAt rows' (mark ∷ marks) (f c))
+    → Grows k (log s.pid rs marks) rows' loss stop ended m → (is_out (rows_of k (log s.pid rs marks)) ≡ true → is_out (rows_of k rows') ≡ true)
     → IsOf k mark marks → filter (not_closed closed) loss ≡ loss → leaving ≡ s.leaving ++ loss → waiting ≡ waiting_in (at_client k f s.clients)
-    → Stands (record s { clients = at_client k f s.clients; leaving = leaving; waiting = waiting }) (mark ∷ marks) closed
-moved s marks closed k f mark rows' loss leaving waiting ne st here is n own grows stays of mine left wait =
-    let rows : List Row = log s.pid marks in
+    → StandsFor rs (dn + m) (record s { clients = at_client k f s.clients; leaving = leaving; waiting = waiting; listening = s.listening && not stop; ended = ended_then ended s.ended }) (mark ∷ marks) closed
+moved rs dn s marks closed k f mark rows' loss stop ended m leaving waiting ne st here is n own grows stays of mine left wait =
+    let rows : List Row = log s.pid rs marks in
     let same : (j : ℕ) → is_present (at_client k f s.clients) j ≡ is_present s.clients j = λ j. present_at k j f s.clients n in
-    let accepted : is_accepted k marks ≡ true = known_here (is_accepted k marks) refl in
+    let on : is_ended rows' ≡ false → is_ended rows ≡ false = λ l. or_right (is_some ended) (is_ended rows) (sym grows.ended_is ∙ l) in
     record {
-      ended_is = st.ended_is ∙ (sym grows.same_end ∙ sym (ap end_of is));
-      listening_is = st.listening_is ∙ (sym grows.same_listens ∙ sym (ap listens is));
+      drawn_is = ap replies_given is ∙ (grows.draws ∙ ap (λ d. d + m) st.drawn_is);
+      ended_is = ap (ended_then ended) st.ended_is ∙ (sym grows.end_is ∙ sym (ap end_of is));
+      listening_is = ap (λ b. b && not stop) st.listening_is ∙ (both (listens rows) (not stop) ∙ (sym grows.listens_is ∙ sym (ap listens is)));
       apart = apart_at k f s.clients n st.apart;
       waiting_is = wait;
       leaving_are = left ∙ (ap (λ l. l ++ loss) st.leaving_are ∙ (ap (λ l. filter (not_closed closed) (losses rows) ++ l) (sym mine) ∙ (sym (filter_append (not_closed closed) (losses rows) loss) ∙ (ap (filter (not_closed closed)) (sym grows.more_losses) ∙ sym (ap (λ r. filter (not_closed closed) (losses r)) is)))));
@@ -89,21 +104,45 @@ moved s marks closed k f mark rows' loss leaving waiting ne st here is n own gro
           ∙ sym (ap served is);
       clients = subst (λ r. EachStands r (mark ∷ marks) (at_client k f s.clients)) (sym is)
           (each_at rows rows' marks (mark ∷ marks) k f s.clients own
-          (λ c num v. stands_same rows rows' marks (mark ∷ marks) c (grows.others c.number (λ e. num (sym e))) (λ l. sym grows.same_ended ∙ l) (λ l. bytes_same c.number mark marks (of.bytes c.number (λ e. num (sym e)))) v)
+          (λ c num v. stands_same rows rows' marks (mark ∷ marks) c (grows.others c.number (λ e. num (sym e))) on (λ l. bytes_same c.number mark marks (of.bytes c.number (λ e. num (sym e)))) v)
           st.apart st.clients);
       absent = λ j nz p q. let gone : is_present s.clients j ≡ false = sym (same j) ∙ p in ap (rows_of j) is ∙ (grows.others j (here_apart k j s.clients here gone) ∙ st.absent j nz gone q);
       closed_gone = λ j q. same j ∙ st.closed_gone j q;
       closed_out = λ j q. ap (λ r. is_out (rows_of j r)) is ∙ (ap is_out (grows.others j (here_apart k j s.clients here (st.closed_gone j q))) ∙ st.closed_out j q);
-      there = λ live j a p. st.there (sym grows.same_ended ∙ (sym (ap is_ended is) ∙ live)) j (sym (of.accepts j) ∙ a) (sym (same j) ∙ p);
+      there = λ l j a p. st.there (on (sym (ap is_ended is) ∙ l)) j (sym (of.accepts j) ∙ a) (sym (same j) ∙ p);
       strange = λ j a. let was : is_accepted j marks ≡ false = sym (of.accepts j) ∙ a in let v : IsStrange s marks closed j = st.strange j was in
           record { not_here = same j ∙ v.not_here; not_closed_yet = v.not_closed_yet; no_bytes = λ nz. bytes_same j mark marks (of.bytes j (here_apart k j s.clients here v.not_here)) ∙ v.no_bytes nz };
-      silent = λ live. bytes_same 0 mark marks (of.bytes 0 ne) ∙ st.silent (sym grows.same_ended ∙ (sym (ap is_ended is) ∙ live));
+      silent = λ l. bytes_same 0 mark marks (of.bytes 0 ne) ∙ st.silent (on (sym (ap is_ended is) ∙ l));
       server_in = ap (λ r. is_out (rows_of 0 r)) is ∙ (ap is_out (grows.others 0 ne) ∙ st.server_in);
       plain = subst ArePlain (sym is) (grows.plain st.plain);
       known = λ j a. let was : among j (entered rows) ≡ true = ap (among j) (sym grows.same_entered ∙ sym (ap entered is)) ∙ a in
           subst (λ r. IsKnown (rows_of j r)) (sym is) (elim (eqb_tells k j) [ inl q ↦ subst (λ i. IsKnown (rows_of i rows')) q.1 (grows.known (st.known k (ap (λ i. among i (entered rows)) q.1 ∙ was))) | inr q ↦ subst IsKnown (sym (grows.others j q.1)) (st.known j was) ]);
     }
   where
-    known_here : (b : Bool) → is_accepted k marks ≡ b → b ≡ true
-    known_here true e = refl
-    known_here false e = let v : IsStrange s marks closed k = st.strange k e in true_false (sym here ∙ v.not_here)
+    both : (a b : Bool) → (a && b) ≡ (b && a)
+    both true true = refl
+    both true false = refl
+    both false true = refl
+    both false false = refl
+
+    or_right : (a b : Bool) → (a || b) ≡ false → b ≡ false
+    or_right true b e = true_false e
+    or_right false b e = e
+
+and_true : (b : Bool) → (b && true) ≡ b
+and_true true = refl
+and_true false = refl
+
+-- the same where nothing is stopped and nothing ends
+pub moved_on : (rs : List HouseReply) (dn : ℕ) (s : State) (marks : List Mark) (closed : List ℕ) (k : ℕ) (f : ClientState → ClientState) (mark : Mark) (rows' : List Row) (loss : List (ℕ × Option Why)) (leaving : List (ℕ × Option Why)) (waiting : List ℕ)
+    → k ≢ 0 → StandsFor rs dn s marks closed → is_present s.clients k ≡ true → log s.pid rs (mark ∷ marks) ≡ rows' → KeepsNumber f
+    → ((c : ClientState) → c.number ≡ k → StandsAt (log s.pid rs marks) marks c → StandsAt rows' (mark ∷ marks) (f c))
+    → Grows k (log s.pid rs marks) rows' loss false None 0 → (is_out (rows_of k (log s.pid rs marks)) ≡ true → is_out (rows_of k rows') ≡ true)
+    → IsOf k mark marks → filter (not_closed closed) loss ≡ loss → leaving ≡ s.leaving ++ loss → waiting ≡ waiting_in (at_client k f s.clients)
+    → StandsFor rs dn (record s { clients = at_client k f s.clients; leaving = leaving; waiting = waiting }) (mark ∷ marks) closed
+moved_on rs dn s marks closed k f mark rows' loss leaving waiting ne st here is n own grows stays of mine left wait =
+    let more : StandsFor rs (dn + 0) (record s { clients = at_client k f s.clients; leaving = leaving; waiting = waiting; listening = s.listening && true }) (mark ∷ marks) closed =
+    moved rs dn s marks closed k f mark rows' loss false None 0 leaving waiting ne st here is n own grows stays of mine left wait in
+    let none : dn + 0 ≡ dn = omega arith in
+    subst (λ d. StandsFor rs d (record s { clients = at_client k f s.clients; leaving = leaving; waiting = waiting }) (mark ∷ marks) closed) none
+    (subst (λ b. StandsFor rs (dn + 0) (record s { clients = at_client k f s.clients; leaving = leaving; waiting = waiting; listening = b }) (mark ∷ marks) closed) (and_true s.listening) more)

@@ -4,6 +4,7 @@ use Rattle.std.specs.Prelude.{◌==◌, is_some, nat_lt}
 use Rattle.std.proofs.lemmas.Bool.{eqb-true}
 use Rattle.std.proofs.lemmas.Bool.Decides.{eqb_tells}
 use Rattle.mux_outside.specs.Streams.{among}
+use Rattle.mux_outside.specs.declared.house.HouseReply.{HouseReply}
 use Rattle.mux_outside.specs.declared.mark.Mark.{Mark}
 use Rattle.mux_history.specs.declared.ended.Ended.{Ended}
 use Rattle.mux_history.specs.declared.ended.Ended.TheVariants as ended
@@ -15,7 +16,7 @@ use Rattle.mux_engine.specs.declared.engine.Event.TheVariants as event
 use Rattle.mux_engine.specs.State.{ClientState, State}
 use Rattle.mux_engine.specs.Events.{Tells, client_of}
 use Rattle.mux_engine.specs.Step.{is_present, in_client, queue_in, waiting_in, at_client, client_got, lost_client, changed, entered, added, refused, new_client, refused_client, over, after, served_in, SameClient}
-use Rattle.mux_engine.specs.Stands.{log, Stands, AreApart, EachStands}
+use Rattle.mux_engine.specs.Stands.{log, StandsFor, AreApart, EachStands}
 use Rattle.mux_engine.proofs.Plain.{nothing_up}
 use Rattle.mux_engine.proofs.Grows.{test_other}
 use Rattle.mux_engine.proofs.Sayings.{got_number}
@@ -27,19 +28,19 @@ pub zero_absent : (rows : List Row) (marks : List Mark) (cs : List ClientState) 
 zero_absent rows marks [] each = refl
 zero_absent rows marks (c ∷ cs) each = ap (λ b. cond b true (is_present cs 0)) (test_other c.number 0 each.0.nonzero) ∙ zero_absent rows marks cs each.1
 
-client_pending : (s : State) (marks : List Mark) (closed : List ℕ) (k : ℕ) (here : Bool) → is_present s.clients k ≡ here → k ≢ 0 → Stands s marks closed → among k closed ≡ false → queue_in s.clients k ≡ pending_down (rows_of k (log s.pid marks))
-client_pending s marks closed k true h nz st c =
-    let w : Found (log s.pid marks) marks k s.clients = found (log s.pid marks) marks k s.clients st.clients h in
-    w.queue ∙ (w.stands.fits.queue_is ∙ ap (λ j. pending_down (rows_of j (log s.pid marks))) w.number)
-client_pending s marks closed k false h nz st c = look_none [] (λ c. c.queue) k s.clients h ∙ sym (ap pending_down (st.absent k nz h c))
+client_pending : (rs : List HouseReply) (dn : ℕ) (s : State) (marks : List Mark) (closed : List ℕ) (k : ℕ) (here : Bool) → is_present s.clients k ≡ here → k ≢ 0 → StandsFor rs dn s marks closed → among k closed ≡ false → queue_in s.clients k ≡ pending_down (rows_of k (log s.pid rs marks))
+client_pending rs dn s marks closed k true h nz st c =
+    let w : Found (log s.pid rs marks) marks k s.clients = found (log s.pid rs marks) marks k s.clients st.clients h in
+    w.queue ∙ (w.stands.fits.queue_is ∙ ap (λ j. pending_down (rows_of j (log s.pid rs marks))) w.number)
+client_pending rs dn s marks closed k false h nz st c = look_none [] (λ c. c.queue) k s.clients h ∙ sym (ap pending_down (st.absent k nz h c))
 
 -- what waits for a stream that is not closed is pending
-pub queue_pending : (s : State) (marks : List Mark) (closed : List ℕ) (k : ℕ) → Stands s marks closed → among k closed ≡ false → queue_in s.clients k ≡ pending k (log s.pid marks)
-queue_pending s marks closed k st c = elim (eqb_tells k 0) [
-  | inl q ↦ look_none [] (λ c. c.queue) k s.clients (ap (is_present s.clients) q.1 ∙ zero_absent (log s.pid marks) marks s.clients st.clients)
-      ∙ (sym (nothing_up (log s.pid marks) st.plain) ∙ sym (ap (λ b. elim b as (λ _. List ℕ) [ true ↦ pending_up (log s.pid marks) | false ↦ pending_down (rows_of k (log s.pid marks)) ]) q.0))
-  | inr q ↦ client_pending s marks closed k (is_present s.clients k) refl q.1 st c
-      ∙ sym (ap (λ b. elim b as (λ _. List ℕ) [ true ↦ pending_up (log s.pid marks) | false ↦ pending_down (rows_of k (log s.pid marks)) ]) q.0)
+pub queue_pending : (rs : List HouseReply) (dn : ℕ) (s : State) (marks : List Mark) (closed : List ℕ) (k : ℕ) → StandsFor rs dn s marks closed → among k closed ≡ false → queue_in s.clients k ≡ pending k (log s.pid rs marks)
+queue_pending rs dn s marks closed k st c = elim (eqb_tells k 0) [
+  | inl q ↦ look_none [] (λ c. c.queue) k s.clients (ap (is_present s.clients) q.1 ∙ zero_absent (log s.pid rs marks) marks s.clients st.clients)
+      ∙ (sym (nothing_up (log s.pid rs marks) st.plain) ∙ sym (ap (λ b. elim b as (λ _. List ℕ) [ true ↦ pending_up (log s.pid rs marks) | false ↦ pending_down (rows_of k (log s.pid rs marks)) ]) q.0))
+  | inr q ↦ client_pending rs dn s marks closed k (is_present s.clients k) refl q.1 st c
+      ∙ sym (ap (λ b. elim b as (λ _. List ℕ) [ true ↦ pending_up (log s.pid rs marks) | false ↦ pending_down (rows_of k (log s.pid rs marks)) ]) q.0)
 ]
 
 pub none_waits : (k : ℕ) (cs : List ClientState) → is_present cs k ≡ false → among k (waiting_in cs) ≡ false
@@ -62,8 +63,8 @@ pub waits_among : (k : ℕ) (cs : List ClientState) → AreApart cs → among k 
 waits_among k [] apart = refl
 waits_among k (c ∷ cs) apart = waits_head k c cs (c.number == k) (is_empty c.queue) refl refl (λ t. none_waits k cs (ap (is_present cs) (sym (eqb-true c.number k t)) ∙ apart.0)) (waits_among k cs apart.1)
 
-pub waits_output : (s : State) (marks : List Mark) (closed : List ℕ) (k : ℕ) → Stands s marks closed → among k closed ≡ false → among k s.waiting ≡ has_output (log s.pid marks) k
-waits_output s marks closed k st c = ap (among k) st.waiting_is ∙ (waits_among k s.clients st.apart ∙ ap (λ q. not (is_empty q)) (queue_pending s marks closed k st c))
+pub waits_output : (rs : List HouseReply) (dn : ℕ) (s : State) (marks : List Mark) (closed : List ℕ) (k : ℕ) → StandsFor rs dn s marks closed → among k closed ≡ false → among k s.waiting ≡ has_output (log s.pid rs marks) k
+waits_output rs dn s marks closed k st c = ap (among k) st.waiting_is ∙ (waits_among k s.clients st.apart ∙ ap (λ q. not (is_empty q)) (queue_pending rs dn s marks closed k st c))
 
 -- ---- the other clients
 

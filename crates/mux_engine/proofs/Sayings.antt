@@ -58,7 +58,7 @@ read_here Greeted e = refl
 read_here Unread e = absurd (cc)
 read_here (Lost why) e = absurd (cc)
 
-lost_unread : (s : Standing) → is_lost s ≡ true → is_read s ≡ false
+pub lost_unread : (s : Standing) → is_lost s ≡ true → is_read s ≡ false
 lost_unread (Lost why) e = refl
 lost_unread Awaited e = absurd (cc)
 lost_unread Greeted e = absurd (cc)
