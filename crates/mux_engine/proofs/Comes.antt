@@ -1,5 +1,5 @@
 -- A client comes: it is let in, or refused.
-use Rattle.std.proofs.Common.{◌≡◌, ◌≢◌, ℕ, Bool, true, false, not, ◌||◌, ◌&&◌, List, [], ◌∷◌, ◌++◌, length, Option, Some, None, refl, sym, ap, ◌∙◌, subst, inl, inr, cond, append-nil, arith}
+use Rattle.std.proofs.Common.{◌≡◌, ◌≢◌, ◌+◌, ℕ, Bool, true, false, not, ◌||◌, ◌&&◌, List, [], ◌∷◌, ◌++◌, length, Option, Some, None, refl, sym, ap, ◌∙◌, subst, inl, inr, cond, append-nil, arith}
 use Rattle.std.specs.Prelude.{filter, ◌==◌, nat_lt}
 use Rattle.std.proofs.lemmas.Bool.{eq-eqb}
 use Rattle.std.proofs.lemmas.Bool.Decides.{eqb_tells}
@@ -10,6 +10,7 @@ use Rattle.mux_outside.specs.declared.mark.Mark.TheVariants.{Accepts}
 use Rattle.mux_history.specs.declared.why.Why.{Why}
 use Rattle.mux_history.specs.Rows.{Row, rows_of, is_out, is_ended, is_end, is_admit, is_lost as has_loss, is_refusal, loses, losses, loss_by, Item, Admit, Fate, Goes, Refused, Drop, End}
 use Rattle.mux_history.specs.Said.{Outcome, tells}
+use Rattle.mux_history.specs.Choices.{has_reply, replies_given}
 use Rattle.mux_history.specs.Pending.{pending_down}
 use Rattle.mux_history.specs.Log.{served, entered, admits, more_of, next_row, row_of, fitting, overflow, fate_with}
 use Rattle.mux_history.specs.Solo.{end_of}
@@ -47,19 +48,19 @@ first_ended (Drop why) g = absurd g
 first_ended (End cause) g = absurd g
 
 -- nothing is known of a client that comes
-pub record IsNew (rs : List HouseReply) (dn : ℕ) (s : State) (marks : List Mark) (closed : List ℕ) (k : ℕ) : Type 0 where
+pub record IsNew (rs : List HouseReply) (s : State) (marks : List Mark) (closed : List ℕ) (k : ℕ) : Type 0 where
   pub nonzero : k ≢ 0
   pub not_accepted : is_accepted k marks ≡ false
   pub strange : IsStrange s marks closed k
   pub no_rows : rows_of k (log s.pid rs marks) ≡ []
 
-pub is_new : (rs : List HouseReply) (dn : ℕ) (s : State) (marks : List Mark) (closed : List ℕ) (k : ℕ) → StandsFor rs dn s marks closed → k ≢ 0 → is_accepted k marks ≡ false → IsNew s marks closed k
+pub is_new : (rs : List HouseReply) (dn : ℕ) (s : State) (marks : List Mark) (closed : List ℕ) (k : ℕ) → StandsFor rs dn s marks closed → k ≢ 0 → is_accepted k marks ≡ false → IsNew rs s marks closed k
 is_new rs dn s marks closed k st nz a = let v : IsStrange s marks closed k = st.strange k a in
     record { nonzero = nz; not_accepted = a; strange = v; no_rows = st.absent k nz v.not_here v.not_closed_yet }
 
 goes_more : (rs : List HouseReply) (dn : ℕ) (s : State) (marks : List Mark) (closed : List ℕ) (k : ℕ) (c : ClientState) (row : Row) (down : List (List ℕ)) (f : Fate) (leaving : List (ℕ × Option Why))
-    → StandsFor rs dn s marks closed → is_ended (log s.pid rs marks) ≡ false → IsNew s marks closed k → log s.pid rs (Accepts k ∷ marks) ≡ row ∷ log s.pid rs marks → RowIs (Admit k) k down f row → FirstFate f
-    → c.number ≡ k → ClientFits (row ∷ []) c → ClientReads [] c
+    → StandsFor rs dn s marks closed → is_ended (log s.pid rs marks) ≡ false → IsNew rs s marks closed k → log s.pid rs (Accepts k ∷ marks) ≡ row ∷ log s.pid rs marks → RowIs (Admit k) k down f row → FirstFate f
+    → c.number ≡ k → ClientFits (row ∷ []) c.standing c.queue → ClientReads [] c
     → leaving ≡ filter (not_closed closed) (losses (row ∷ log s.pid rs marks)) → served_in (s.clients ++ c ∷ []) ≡ served (row ∷ log s.pid rs marks)
     → ((j : ℕ) → among j (entered (row ∷ log s.pid rs marks)) ≡ true → IsKnown (rows_of j (row ∷ log s.pid rs marks)))
     → StandsFor rs dn (record s { clients = s.clients ++ c ∷ []; leaving = leaving; waiting = waiting_in (s.clients ++ c ∷ []) }) (Accepts k ∷ marks) closed
@@ -72,6 +73,7 @@ goes_more rs dn s marks closed k c row down f leaving st live new is r first num
     let apart_from : (j : ℕ) → is_accepted j (mark ∷ marks) ≡ false → k ≢ j = λ j a e. true_false (sym (ap (λ b. cond b true (is_accepted j marks)) (eq-eqb k j e)) ∙ a) in
     let before : (j : ℕ) → k ≢ j → is_accepted j (mark ∷ marks) ≡ is_accepted j marks = λ j ne. ap (λ b. cond b true (is_accepted j marks)) (test_other k j ne) in
     record {
+      drawn_is = ap replies_given is ∙ (ap (λ (i : Item). elim (has_reply i) as (λ _. ℕ) [ true ↦ replies_given rows + 1 | false ↦ replies_given rows ]) r.item_is ∙ st.drawn_is);
       ended_is = st.ended_is ∙ (sym (first_end f row rows r.fate_is first) ∙ sym (ap end_of is));
       listening_is = st.listening_is ∙ (sym (ap (λ b. not b && listens rows) (no_stops (Admit k) row (rows_of row.client rows) r.item_is tt)) ∙ sym (ap listens is));
       apart = apart_more s.clients c (ap (is_present s.clients) number ∙ new.strange.not_here) st.apart;
@@ -82,7 +84,7 @@ goes_more rs dn s marks closed k c row down f leaving st live new is r first num
           (each_other rows (row ∷ rows) marks (mark ∷ marks) k s.clients (λ d num v. stands_same rows (row ∷ rows) marks (mark ∷ marks) d (others d.number (λ e. num (sym e))) (λ l. live) (λ l. append-nil (bytes_of d.number marks)) v) new.strange.not_here st.clients)
           record {
             nonzero = λ z. new.nonzero (sym number ∙ z);
-            fits = subst (λ o. ClientFits o c) (sym (ap (λ j. rows_of j (row ∷ rows)) number ∙ (own_row k row rows r.client_is ∙ ap (λ o. row ∷ o) new.no_rows))) fits;
+            fits = subst (λ o. ClientFits o c.standing c.queue) (sym (ap (λ j. rows_of j (row ∷ rows)) number ∙ (own_row k row rows r.client_is ∙ ap (λ o. row ∷ o) new.no_rows))) fits;
             reads = λ l. subst (λ b. ClientReads b c) (sym (ap (λ j. bytes_of j marks ++ []) number ∙ (append-nil (bytes_of k marks) ∙ new.strange.no_bytes new.nonzero))) reads;
           });
       absent = λ j nz p q. let ne : k ≢ j = λ e. true_false (sym here ∙ (ap (is_present (s.clients ++ c ∷ [])) e ∙ p)) in ap (rows_of j) is ∙ (others j ne ∙ st.absent j nz (sym (present j ne) ∙ p) q);
@@ -99,7 +101,7 @@ goes_more rs dn s marks closed k c row down f leaving st live new is r first num
 
 -- ---- the row
 
-abbrev pub come_row : ℕ → ℕ → List Row → Row
+abbrev pub come_row : ℕ → ℕ → List HouseReply → List Row → Row
 come_row pid k rs rows = next_row (setting pid rs) rows (Admit k)
 
 come_log : (pid k : ℕ) (rs : List HouseReply) (rows : List Row) → is_ended rows ≡ false → more_of (setting pid rs) rows (Admit k) ≡ come_row pid k rs rows ∷ rows
@@ -113,7 +115,7 @@ come_is pid k rs rows o e sent none =
     let row : Row = row_of (Admit k) k o [] in
     subst (λ (own : List Row). RowIs (Admit k) k (fitting 0 o.told) (fate_with o.ends (overflow 0 o.told)) (let row = row_of (Admit k) k (admits rows) own in Rattle.mux_history.specs.NotBuilt.built (setting pid rs).missing row (rows_of row.client rows))) (sym none)
     (subst (λ (p : Outcome). RowIs (Admit k) k (fitting 0 o.told) (fate_with o.ends (overflow 0 o.told)) (let row = row_of (Admit k) k p [] in Rattle.mux_history.specs.NotBuilt.built (setting pid rs).missing row (rows_of row.client rows))) (sym e)
-    (built_is (Admit k) k (fitting 0 o.told) (fate_with o.ends (overflow 0 o.told)) row (rows_of row.client rows) None (row_is (Admit k) k o [] tt sent tt) refl refl))
+    (built_is (Admit k) k (fitting 0 o.told) (fate_with o.ends (overflow 0 o.told)) row (rows_of row.client rows) (row_is (Admit k) k o [] tt sent tt) refl refl))
 
 admit_test : (f : Fate) (k : ℕ) (row : Row) → row.fate ≡ f → row.item ≡ Admit k → is_refusal f ≡ false → is_admit row ≡ true
 admit_test Refused k row e i n = absurd (cc)
@@ -145,7 +147,7 @@ loss_first (End cause) k row e i c g = absurd g
 
 -- ---- let in
 
-pub goes_in : (rs : List HouseReply) (dn : ℕ) (s : State) (marks : List Mark) (closed : List ℕ) (k : ℕ) → StandsFor rs dn s marks closed → is_ended (log s.pid rs marks) ≡ false → IsNew s marks closed k → nat_lt (length (served_in s.clients)) 64 ≡ true → StandsFor rs dn (added s (new_client k)) (Accepts k ∷ marks) closed
+pub goes_in : (rs : List HouseReply) (dn : ℕ) (s : State) (marks : List Mark) (closed : List ℕ) (k : ℕ) → StandsFor rs dn s marks closed → is_ended (log s.pid rs marks) ≡ false → IsNew rs s marks closed k → nat_lt (length (served_in s.clients)) 64 ≡ true → StandsFor rs dn (added s (new_client k)) (Accepts k ∷ marks) closed
 goes_in rs dn s marks closed k st live new room =
     let rows : List Row = log s.pid rs marks in
     let row : Row = come_row s.pid k rs rows in
@@ -167,7 +169,7 @@ goes_in rs dn s marks closed k st live new room =
       greeted_is = λ l. ap (λ i. Rattle.mux_history.specs.Controls.is_says i || false) r.item_is;
       queue_is = sym (append-nil hello) ∙ (ap (λ d. Rattle.mux_history.specs.Pending.joined d) (sym r.down_is) ∙ sym (ap (λ i. Rattle.std.proofs.Common.drop (Rattle.mux_history.specs.Pending.took_by i) (Rattle.mux_history.specs.Pending.joined row.down)) r.item_is));
     }
-    record { mode_is = λ h. refl; rest_is = λ h. refl }
+    record { mode_is = refl; rest_is = λ h. refl }
     (st.leaving_are ∙ (ap (filter (not_closed closed)) (sym (append-nil (losses rows))) ∙ ap (λ l. filter (not_closed closed) (losses rows ++ l)) (sym (loss_first Goes k row r.fate_is r.item_is r.client_is tt))))
     (served_more s.clients (new_client k) ∙ (ap (λ l. l ++ k ∷ []) (st.served_are ∙ sym (served_kept rows (row ∷ rows) (entered rows) same_out))
     ∙ (ap (λ b. filter (here_in (row ∷ rows)) (entered rows) ++ cond (not b) (k ∷ []) []) (sym (ap is_out own ∙ out.0))
@@ -179,7 +181,7 @@ goes_in rs dn s marks closed k st live new room =
 
 -- ---- refused
 
-pub goes_refused : (rs : List HouseReply) (dn : ℕ) (s : State) (marks : List Mark) (closed : List ℕ) (k : ℕ) → StandsFor rs dn s marks closed → is_ended (log s.pid rs marks) ≡ false → IsNew s marks closed k → nat_lt (length (served_in s.clients)) 64 ≡ false → StandsFor rs dn (refused s k) (Accepts k ∷ marks) closed
+pub goes_refused : (rs : List HouseReply) (dn : ℕ) (s : State) (marks : List Mark) (closed : List ℕ) (k : ℕ) → StandsFor rs dn s marks closed → is_ended (log s.pid rs marks) ≡ false → IsNew rs s marks closed k → nat_lt (length (served_in s.clients)) 64 ≡ false → StandsFor rs dn (refused s k) (Accepts k ∷ marks) closed
 goes_refused rs dn s marks closed k st live new room =
     let rows : List Row = log s.pid rs marks in
     let row : Row = come_row s.pid k rs rows in
@@ -196,7 +198,7 @@ goes_refused rs dn s marks closed k st live new room =
       greeted_is = λ l. true_false l;
       queue_is = ap (λ d. Rattle.mux_history.specs.Pending.joined d) (sym r.down_is) ∙ sym (ap (λ i. Rattle.std.proofs.Common.drop (Rattle.mux_history.specs.Pending.took_by i) (Rattle.mux_history.specs.Pending.joined row.down)) r.item_is);
     }
-    record { mode_is = λ h. refl; rest_is = λ h. refl }
+    record { mode_is = tt; rest_is = λ h. true_false (sym h) }
     (ap (λ l. l ++ (k, None) ∷ []) st.leaving_are ∙ (ap (λ b. filter (not_closed closed) (losses rows) ++ cond (not b) ((k, None) ∷ []) []) (sym new.strange.not_closed_yet)
     ∙ (sym (filter_append (not_closed closed) (losses rows) ((k, None) ∷ [])) ∙ ap (λ l. filter (not_closed closed) (losses rows ++ l)) (sym gone))))
     (served_more s.clients (refused_client k) ∙ (append-nil (served_in s.clients) ∙ (sym (absent_served k s.clients new.strange.not_here) ∙ (ap (without k) st.served_are

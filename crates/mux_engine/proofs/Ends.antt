@@ -10,6 +10,7 @@ use Rattle.mux_history.specs.declared.ended.Ended.{Ended}
 use Rattle.mux_history.specs.Rows.{Row, rows_of, is_out, is_ended, is_admit, is_lost as has_loss, losses, any_of, Item, End}
 use Rattle.mux_history.specs.Channels.{is_held, held_of}
 use Rattle.mux_history.specs.Requests.{asks, replies}
+use Rattle.mux_history.specs.Choices.{has_reply, replies_given}
 use Rattle.mux_history.specs.Farewell.{has_open_matters}
 use Rattle.mux_history.specs.Log.{served, entered, open_matters, matters_of}
 use Rattle.mux_history.specs.Solo.{end_of}
@@ -45,12 +46,13 @@ end_known item cause rows j h = elim (eqb_tells j 0) [
 ]
 
 pub goes_over : (rs : List HouseReply) (dn : ℕ) (s : State) (marks : List Mark) (closed : List ℕ) (mark : Mark) (item : Item) (cause : Ended) → StandsFor rs dn s marks closed → is_ended (log s.pid rs marks) ≡ false → log s.pid rs (mark ∷ marks) ≡ end_row item cause ∷ log s.pid rs marks
-    → IsPlainItem item → is_admit (end_row item cause) ≡ false → ((j : ℕ) → is_accepted j (mark ∷ marks) ≡ is_accepted j marks) → ((j : ℕ) → j ≢ 0 → bytes_in j mark ≡ []) → StandsFor rs dn (over s cause) (mark ∷ marks) closed
-goes_over rs dn s marks closed mark item cause st live is plain admit accepts bytes =
+    → IsPlainItem item → has_reply item ≡ false → is_admit (end_row item cause) ≡ false → ((j : ℕ) → is_accepted j (mark ∷ marks) ≡ is_accepted j marks) → ((j : ℕ) → j ≢ 0 → bytes_in j mark ≡ []) → StandsFor rs dn (over s cause) (mark ∷ marks) closed
+goes_over rs dn s marks closed mark item cause st live is plain unasked admit accepts bytes =
     let rows : List Row = log s.pid rs marks in
     let row : Row = end_row item cause in
     let same_entered : entered (row ∷ rows) ≡ entered rows = ap (λ b. entered rows ++ elim b as (λ _. List ℕ) [ true ↦ 0 ∷ [] | false ↦ [] ]) admit ∙ append-nil (entered rows) in
     record {
+      drawn_is = ap replies_given is ∙ (ap (λ b. elim b as (λ _. ℕ) [ true ↦ replies_given rows + 1 | false ↦ replies_given rows ]) unasked ∙ st.drawn_is);
       ended_is = sym (ap end_of is);
       listening_is = st.listening_is ∙ sym (ap listens is);
       apart = st.apart;
