@@ -1,16 +1,18 @@
 -- An engine goes on with a client closed.
-use Rattle.std.proofs.Common.{◌≡◌, ◌≢◌, ℕ, Bool, true, false, not, ◌||◌, ◌&&◌, List, [], ◌∷◌, ◌++◌, Option, refl, sym, ap, ◌∙◌, subst, inl, inr, ◌⊎◌, cond}
+use Rattle.std.proofs.Common.{◌≡◌, ◌≢◌, ℕ, Bool, true, false, not, ◌||◌, ◌&&◌, List, [], ◌∷◌, ◌++◌, length, Option, refl, sym, ap, ◌∙◌, subst, inl, inr, ◌⊎◌, cond}
 use Rattle.std.specs.Prelude.{filter, ◌==◌}
 use Rattle.std.specs.List.{list_any}
 use Rattle.std.proofs.lemmas.Bool.{eq-eqb}
 use Rattle.std.proofs.lemmas.Bool.Decides.{eqb_tells}
 use Rattle.std.proofs.lemmas.List.Folds.{list_any-append}
 use Rattle.mux_outside.specs.Streams.{among, without}
+use Rattle.mux_outside.specs.declared.house.HouseReply.{HouseReply}
+use Rattle.mux_outside.specs.declared.mark.Mark.{Mark}
 use Rattle.mux_history.specs.declared.why.Why.{Why}
 use Rattle.mux_history.specs.Rows.{Row, rows_of, is_out, losses, loss_by, Item, Gone, Fate, Goes, Refused, Drop, End}
 use Rattle.mux_engine.specs.State.{State}
 use Rattle.mux_engine.specs.Step.{is_present, closed_by, without_client}
-use Rattle.mux_engine.specs.Stands.{log, IsStrange, IsFirst, Closes, not_closed, is_accepted}
+use Rattle.mux_engine.specs.Stands.{log, StandsFor, IsStrange, IsFirst, Closes, not_closed, is_accepted}
 use Rattle.mux_engine.proofs.Fits.{out_row, puts_out}
 use Rattle.mux_engine.proofs.Grows.{own_row, other_row, test_other, or_true}
 use Rattle.mux_engine.proofs.Served.{apart_less, each_less, waiting_less, lost_less, present_less, gone_less}
@@ -101,13 +103,14 @@ filter_twice : {A : Type 0} (p q r : A → Bool) (xs : List A) → ((x : A) → 
 filter_twice p q r [] h = refl
 filter_twice p q r (x ∷ xs) h = twice_head p (q x) (r x) x (filter q xs) (filter r xs) (h x) (filter_twice p q r xs h)
 
-pub closes : (s : State) (k : ℕ) → IsFirst k s.leaving → Closes s (closed_by s k) k
-closes s k first marks closed st =
+closes_by : (rs : List HouseReply) (dn : ℕ) (s : State) (k : ℕ) → IsFirst k s.leaving → (marks : List Mark) (closed : List ℕ) → StandsFor rs dn s marks closed → StandsFor rs dn (closed_by s k) marks (k ∷ closed)
+closes_by rs dn s k first marks closed st =
     let rows : List Row = log s.pid rs marks in
     let out : is_out (rows_of k rows) ≡ true = loss_is_out k rows (unfiltered k (not_closed closed) (losses rows) (subst (λ ls. in_losses k ls ≡ true) st.leaving_are (first_in k s.leaving first))) in
     let nz : k ≢ 0 = λ e. true_false (sym out ∙ (ap (λ j. is_out (rows_of j rows)) e ∙ st.server_in)) in
     let closed_test : (j : ℕ) (b : Bool) → (k == j) ≡ b → among j (k ∷ closed) ≡ (b || among j closed) = λ j b e. ap (λ x. x || among j closed) e in
     record {
+      drawn_is = st.drawn_is;
       ended_is = st.ended_is;
       listening_is = st.listening_is;
       apart = apart_less k s.clients st.apart;
@@ -140,3 +143,6 @@ closes s k first marks closed st =
       plain = st.plain;
       known = st.known;
     }
+
+pub closes : (s : State) (k : ℕ) → IsFirst k s.leaving → Closes s (closed_by s k) k
+closes s k first given marks closed st later = closes_by (given ++ later) (length given) s k first marks closed (st later)

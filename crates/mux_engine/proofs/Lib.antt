@@ -14,6 +14,7 @@ pub mod Goes
 pub mod Ends
 pub mod Comes
 pub mod GoesOn
+pub mod Drawn
 pub mod Closes
 pub mod Queues
 pub mod Others

@@ -15,11 +15,11 @@ use Rattle.mux_engine.specs.declared.engine.Event.{Event}
 use Rattle.mux_engine.specs.declared.engine.Event.TheVariants as event
 use Rattle.mux_engine.specs.State.{ClientState, State}
 use Rattle.mux_engine.specs.Events.{Tells, client_of}
-use Rattle.mux_engine.specs.Step.{is_present, in_client, queue_in, waiting_in, at_client, client_got, lost_client, changed, entered, added, refused, new_client, refused_client, over, after, served_in, SameClient}
+use Rattle.mux_engine.specs.Step.{is_present, in_client, queue_in, waiting_in, at_client, client_got, lost_client, changed, gained, Steps, entered, added, refused, new_client, refused_client, over, after, served_in, SameClient}
 use Rattle.mux_engine.specs.Stands.{log, StandsFor, AreApart, EachStands}
 use Rattle.mux_engine.proofs.Plain.{nothing_up}
 use Rattle.mux_engine.proofs.Grows.{test_other}
-use Rattle.mux_engine.proofs.Sayings.{got_number}
+use Rattle.mux_engine.proofs.Pieces.{got_number}
 use Rattle.mux_engine.proofs.Listed.{KeepsNumber, found, Found, not_here}
 use Rattle.mux_engine.proofs.Goes.{lost_number}
 use Rattle.mux_engine.proofs.GoesOn.{look_none}
@@ -98,23 +98,26 @@ same_lost : (s : State) (cause : Ended) (k j : ℕ) → k ≢ j → SameClient j
 same_lost s cause k j ne = same_if j s _ (is_some s.ended) (same_either j s (over s cause) (changed s k lost_client) (k == 0) refl (same_changed s k j lost_client ne lost_number))
 
 -- an event of one client leaves every other client as it was
-pub same_after : (s : State) (e : Event) (mark : Mark) (j : ℕ) → Tells e mark → client_of e ≢ j → SameClient j s (after s mark)
-same_after s (event.Accepted k) mark j t ne = subst (λ m. SameClient j s (after s m)) (sym t)
+pub same_after : (s : State) (replies : List HouseReply) (e : Event) (mark : Mark) (j : ℕ) → Tells e mark → client_of e ≢ j → SameClient j s (after s replies mark)
+same_after s replies (event.Accepted k) mark j t ne = subst (λ m. SameClient j s (after s replies m)) (sym t)
     (same_if j s (entered s k) (is_some s.ended) (same_either j s (added s (new_client k)) (refused s k) (nat_lt (length (served_in s.clients)) 64) (look_more None (λ c. Some c) j (new_client k) s.clients ne) (look_more None (λ c. Some c) j (refused_client k) s.clients ne)))
-same_after s (event.FromClient k bytes) mark j t ne = subst (λ m. SameClient j s (after s m)) (sym t.1)
-    (same_if j s _ (is_some s.ended) (same_either j s (over s ended.NotBuilt) (changed s k (client_got s.pid bytes.now)) (k == 0) refl (same_changed s k j (client_got s.pid bytes.now) ne (got_number s.pid bytes.now))))
-same_after s (event.ClientEnd k) mark j t ne = subst (λ m. SameClient j s (after s m)) (sym t.1) (same_lost s ended.ServerEnd k j ne)
-same_after s (event.ClientFailed k) mark j t ne = elim t.1 [
-  | inl m ↦ subst (λ m. SameClient j s (after s m)) (sym m) (same_lost s ended.ServerFailed k j ne)
-  | inr m ↦ subst (λ m. SameClient j s (after s m)) (sym m) (same_lost s ended.ServerFailed k j ne)
+same_after s replies (event.FromClient k bytes) mark j t ne = subst (λ m. SameClient j s (after s replies m)) (sym t.1)
+    (same_if j s _ (is_some s.ended) (same_either j s (over s ended.NotBuilt) (gained s k replies bytes.now) (k == 0) refl (same_changed s k j (client_got s.pid replies bytes.now) ne (got_number s.pid replies bytes.now))))
+same_after s replies (event.ClientEnd k) mark j t ne = subst (λ m. SameClient j s (after s replies m)) (sym t.1) (same_lost s ended.ServerEnd k j ne)
+same_after s replies (event.ClientFailed k) mark j t ne = elim t.1 [
+  | inl m ↦ subst (λ m. SameClient j s (after s replies m)) (sym m) (same_lost s ended.ServerFailed k j ne)
+  | inr m ↦ subst (λ m. SameClient j s (after s replies m)) (sym m) (same_lost s ended.ServerFailed k j ne)
 ]
-same_after s (event.FromServer bytes) mark j t ne = subst (λ m. SameClient j s (after s m)) (sym t) (same_if j s (over s ended.NotBuilt) (is_some s.ended) refl)
-same_after s event.ServerEnd mark j t ne = subst (λ m. SameClient j s (after s m)) (sym t) (same_if j s (over s ended.ServerEnd) (is_some s.ended) refl)
-same_after s event.ServerFailed mark j t ne = elim t [
-  | inl m ↦ subst (λ m. SameClient j s (after s m)) (sym m) (same_if j s (over s ended.ServerFailed) (is_some s.ended) refl)
-  | inr m ↦ subst (λ m. SameClient j s (after s m)) (sym m) (same_if j s (over s ended.ServerFailed) (is_some s.ended) refl)
+same_after s replies (event.FromServer bytes) mark j t ne = subst (λ m. SameClient j s (after s replies m)) (sym t) (same_if j s (over s ended.NotBuilt) (is_some s.ended) refl)
+same_after s replies event.ServerEnd mark j t ne = subst (λ m. SameClient j s (after s replies m)) (sym t) (same_if j s (over s ended.ServerEnd) (is_some s.ended) refl)
+same_after s replies event.ServerFailed mark j t ne = elim t [
+  | inl m ↦ subst (λ m. SameClient j s (after s replies m)) (sym m) (same_if j s (over s ended.ServerFailed) (is_some s.ended) refl)
+  | inr m ↦ subst (λ m. SameClient j s (after s replies m)) (sym m) (same_if j s (over s ended.ServerFailed) (is_some s.ended) refl)
 ]
 
 pub on_ok : {T E P Q : Type 0} (r : Result T E) → (P → Q) → OnOk r P → OnOk r Q
 on_ok (Ok x) f p = f p
 on_ok (Err e) f p = tt
+
+pub same_steps : (May : HouseReply → Type 0) (old new : State) (e : Event) (mark : Mark) (j : ℕ) → Tells e mark → client_of e ≢ j → Steps May old new mark → SameClient j old new
+same_steps May old new e mark j t ne steps = subst (SameClient j old) (sym (steps.state [])) (same_after old (steps.given ++ []) e mark j t ne)

@@ -1,5 +1,9 @@
 use Rattle.std.proofs.Common.{refl}
 use Rattle.mux_engine.proofs.GoesOn.{goes_on}
+use Rattle.mux_engine.proofs.Drawn.{now}
+use Rattle.mux_engine.proofs.Closes.{closes}
+use Rattle.mux_engine.proofs.Queues.{same_steps}
+use Rattle.mux_engine.proofs.Others.{log_other}
 use Rattle.mux_engine.proofs.engine.scratch.Goals as goal
 
 pub returns : goal.returns
