@@ -7,26 +7,27 @@ use Rattle.std.proofs.lemmas.Bool.Decides.{eqb_tells}
 use Rattle.mux_outside.specs.Counts.{Rose}
 use Rattle.mux_outside.specs.Streams.{among, without}
 use Rattle.mux_outside.specs.Wire.{StreamFault}
+use Rattle.mux_outside.specs.declared.house.HouseReply.{HouseReply}
 use Rattle.mux_outside.specs.declared.mark.Mark.{Mark}
 use Rattle.mux_outside.specs.declared.mark.Mark.TheVariants.{WriteFails}
 use Rattle.mux_history.specs.declared.ended.Ended.TheVariants as ended
 use Rattle.mux_engine.specs.State.{ClientState, State}
 use Rattle.mux_engine.specs.Step.{is_present, numbers, queue_in, at_client, client_took, taken, over, changed, lost_client, after}
-use Rattle.mux_engine.specs.Stands.{setting, Stands}
-use Rattle.mux_engine.specs.Serving.{Serving}
+use Rattle.mux_engine.specs.Stands.{setting, StandsFor}
+use Rattle.mux_engine.specs.Serving.{ServingBy}
 use Rattle.mux_engine.proofs.Grows.{test_other, or_true}
 use Rattle.mux_engine.proofs.Wires.{among_numbers, numbers_at}
 use Rattle.mux_engine.proofs.Offers.{serve_empty, without_other, AtStream, at_stream, nonzero_here}
 
-pub seen_same : (pid : ℕ) (start told : Option (List Mark)) (streams streams' blocked blocked' held held' : List ℕ) (listens listens' : Bool) (last last' given : ℕ) (todo : List ℕ) (s s' : State) → Serving pid start told streams blocked held listens last given todo s
-    → streams' ≡ streams → blocked' ≡ blocked → held' ≡ held → listens' ≡ listens → last' ≡ last → s' ≡ s → Serving pid start told streams' blocked' held' listens' last' given todo s'
-seen_same pid start told streams streams' blocked blocked' held held' listens listens' last last' given todo s s' v a b c d e f =
-    subst (λ x. Serving pid start told x blocked' held' listens' last' given todo s') (sym a)
-    (subst (λ x. Serving pid start told streams x held' listens' last' given todo s') (sym b)
-    (subst (λ x. Serving pid start told streams blocked x listens' last' given todo s') (sym c)
-    (subst (λ x. Serving pid start told streams blocked held x last' given todo s') (sym d)
-    (subst (λ x. Serving pid start told streams blocked held listens x given todo s') (sym e)
-    (subst (λ x. Serving pid start told streams blocked held listens last given todo x) (sym f) v)))))
+pub seen_same : (rs : List HouseReply) (dn pid : ℕ) (start told : Option (List Mark)) (streams streams' blocked blocked' held held' : List ℕ) (listens listens' : Bool) (last last' given : ℕ) (todo : List ℕ) (s s' : State) → ServingBy rs dn pid start told streams blocked held listens last given todo s
+    → streams' ≡ streams → blocked' ≡ blocked → held' ≡ held → listens' ≡ listens → last' ≡ last → s' ≡ s → ServingBy rs dn pid start told streams' blocked' held' listens' last' given todo s'
+seen_same rs dn pid start told streams streams' blocked blocked' held held' listens listens' last last' given todo s s' v a b c d e f =
+    subst (λ x. ServingBy rs dn pid start told x blocked' held' listens' last' given todo s') (sym a)
+    (subst (λ x. ServingBy rs dn pid start told streams x held' listens' last' given todo s') (sym b)
+    (subst (λ x. ServingBy rs dn pid start told streams blocked x listens' last' given todo s') (sym c)
+    (subst (λ x. ServingBy rs dn pid start told streams blocked held x last' given todo s') (sym d)
+    (subst (λ x. ServingBy rs dn pid start told streams blocked held listens x given todo s') (sym e)
+    (subst (λ x. ServingBy rs dn pid start told streams blocked held listens last given todo x) (sym f) v)))))
 
 pub le_of : (a b : ℕ) → a ≡ b → a ≤ b
 le_of a b e = omega arith
@@ -49,7 +50,7 @@ took_less s s' k n e here one fits =
 pub took_numbers : (s s' : State) (k n : ℕ) → s' ≡ taken s k n → numbers s'.clients ≡ numbers s.clients
 took_numbers s s' k n e = ap (λ (t : State). numbers t.clients) e ∙ numbers_at k (client_took n) s.clients (λ c. refl)
 
-pub failed_ended : (s : State) (k : ℕ) → k ≢ 0 → (after s (WriteFails k)).ended ≡ s.ended
+pub failed_ended : (s : State) (k : ℕ) → k ≢ 0 → (after s (drop dn rs) (WriteFails k)).ended ≡ s.ended
 failed_ended s k nz = ap (λ b. (cond (is_some s.ended) s (cond b (over s ended.ServerFailed) (changed s k lost_client))).ended) (test_other k 0 nz) ∙ by_end (is_some s.ended)
   where
     by_end : (b : Bool) → (cond b s (changed s k lost_client)).ended ≡ s.ended
@@ -64,19 +65,19 @@ client_fault k a b c d nz f = by_test (k == 0) (test_other k 0 nz) f
     by_test true e f = absurd (cc)
     by_test false e f = f.0
 
-pub here_open : (pid : ℕ) (start told : Option (List Mark)) (streams blocked held : List ℕ) (listens : Bool) (last given : ℕ) (todo : List ℕ) (s : State) (k : ℕ) → Serving pid start told streams blocked held listens last given todo s → is_present s.clients k ≡ true → among k streams ≡ true
-here_open pid start told streams blocked held listens last given todo s k v here = ap (among k) v.open_are ∙ (ap (λ b. (0 == k) || b) (among_numbers k s.clients ∙ here) ∙ or_true (0 == k))
+pub here_open : (rs : List HouseReply) (dn pid : ℕ) (start told : Option (List Mark)) (streams blocked held : List ℕ) (listens : Bool) (last given : ℕ) (todo : List ℕ) (s : State) (k : ℕ) → ServingBy rs dn pid start told streams blocked held listens last given todo s → is_present s.clients k ≡ true → among k streams ≡ true
+here_open rs dn pid start told streams blocked held listens last given todo s k v here = ap (among k) v.open_are ∙ (ap (λ b. (0 == k) || b) (among_numbers k s.clients ∙ here) ∙ or_true (0 == k))
 
-pub here_nonzero : (pid : ℕ) (start told : Option (List Mark)) (streams blocked held : List ℕ) (listens : Bool) (last given : ℕ) (todo : List ℕ) (s : State) (k : ℕ) → Serving pid start told streams blocked held listens last given todo s → is_present s.clients k ≡ true → k ≢ 0
-here_nonzero pid start told streams blocked held listens last given todo s k v here = nonzero_here s v.journal v.closed k v.stands here
+pub here_nonzero : (rs : List HouseReply) (dn pid : ℕ) (start told : Option (List Mark)) (streams blocked held : List ℕ) (listens : Bool) (last given : ℕ) (todo : List ℕ) (s : State) (k : ℕ) → ServingBy rs dn pid start told streams blocked held listens last given todo s → is_present s.clients k ≡ true → k ≢ 0
+here_nonzero rs dn pid start told streams blocked held listens last given todo s k v here = nonzero_here rs dn s v.journal v.closed k v.stands here
 
 -- a stream for which nothing waits is settled
-pub nothing_left : (pid : ℕ) (start told : Option (List Mark)) (streams blocked held : List ℕ) (listens : Bool) (last given : ℕ) (todo : List ℕ) (s : State) (k : ℕ) → Serving pid start told streams blocked held listens last given todo s → is_present s.clients k ≡ true → queue_in s.clients k ≡ []
-    → Serving pid start told streams blocked held listens last given (without k todo) s
-nothing_left pid start told streams blocked held listens last given todo s k v here none =
-    serve_empty pid start told streams blocked held listens last given todo (without k todo) s v
+pub nothing_left : (rs : List HouseReply) (dn pid : ℕ) (start told : Option (List Mark)) (streams blocked held : List ℕ) (listens : Bool) (last given : ℕ) (todo : List ℕ) (s : State) (k : ℕ) → ServingBy rs dn pid start told streams blocked held listens last given todo s → is_present s.clients k ≡ true → queue_in s.clients k ≡ []
+    → ServingBy rs dn pid start told streams blocked held listens last given (without k todo) s
+nothing_left rs dn pid start told streams blocked held listens last given todo s k v here none =
+    serve_empty rs dn pid start told streams blocked held listens last given todo (without k todo) s v
     (λ t journal closed e st b a. elim (eqb_tells k t) [
-      | inl q ↦ inr (inl (let at : AtStream pid s journal closed k = at_stream pid s journal closed k e st here in ap (λ i. Rattle.mux_history.specs.Pending.pending i (Rattle.mux_engine.specs.Stands.log pid journal)) (sym q.1) ∙ (sym at.queue ∙ none)))
+      | inl q ↦ inr (inl (let at : AtStream rs dn pid s journal closed k = at_stream rs dn pid s journal closed k e st here in ap (λ i. Rattle.mux_history.specs.Pending.pending i (Rattle.mux_engine.specs.Stands.log pid rs journal)) (sym q.1) ∙ (sym at.queue ∙ none)))
       | inr q ↦ inl (sym (without_other k t todo q.1) ∙ a)
     ])
 

@@ -5,14 +5,15 @@ use Rattle.std.proofs.lemmas.Bool.{eq-eqb}
 use Rattle.std.proofs.lemmas.Bool.Decides.{eqb_tells}
 use Rattle.std.proofs.lemmas.List.Folds.{list_any-append}
 use Rattle.mux_outside.specs.Streams.{among, without}
+use Rattle.mux_outside.specs.declared.house.HouseReply.{HouseReply}
 use Rattle.mux_outside.specs.declared.mark.Mark.{Mark}
 use Rattle.mux_outside.specs.declared.mark.Mark.TheVariants.{Waits, Accepts, Gets, Ends, Frees, Fails, Takes, Holds, WriteFails}
 use Rattle.mux_history.specs.Journal.{is_blocked}
 use Rattle.mux_history.specs.Promises.{IsSettled, write_failed, waits_in}
 use Rattle.mux_engine.specs.State.{State}
 use Rattle.mux_engine.specs.Step.{is_present, numbers, after}
-use Rattle.mux_engine.specs.Stands.{setting, log, Stands, is_accepted}
-use Rattle.mux_engine.specs.Serving.{Serving, IsUnseen}
+use Rattle.mux_engine.specs.Stands.{setting, log, StandsFor, is_accepted}
+use Rattle.mux_engine.specs.Serving.{ServingBy, IsUnseen}
 use Rattle.mux_engine.proofs.Grows.{test_other}
 use Rattle.mux_engine.proofs.Moved.{true_false}
 use Rattle.mux_engine.proofs.GoesOn.{goes_on}
@@ -22,18 +23,18 @@ use Rattle.mux_engine.proofs.Offers.{accepted_here, unseen_more, without_other, 
 use Rattle.mux_engine.proofs.Loops.{none_without}
 
 -- a stream that is open is the server's or that of a client that is here
-pub stream_here : (pid : ℕ) (start told : Option (List Mark)) (streams blocked held : List ℕ) (listens : Bool) (last given : ℕ) (todo : List ℕ) (s : State) (k : ℕ) → Serving pid start told streams blocked held listens last given todo s → among k streams ≡ true → k ≢ 0 → is_present s.clients k ≡ true
-stream_here pid start told streams blocked held listens last given todo s k v found nz =
+pub stream_here : (rs : List HouseReply) (dn pid : ℕ) (start told : Option (List Mark)) (streams blocked held : List ℕ) (listens : Bool) (last given : ℕ) (todo : List ℕ) (s : State) (k : ℕ) → ServingBy rs dn pid start told streams blocked held listens last given todo s → among k streams ≡ true → k ≢ 0 → is_present s.clients k ≡ true
+stream_here rs dn pid start told streams blocked held listens last given todo s k v found nz =
     sym (among_numbers k s.clients) ∙ (sym (ap (λ b. b || among k (numbers s.clients)) (test_other 0 k (λ e. nz (sym e)))) ∙ (sym (ap (among k) v.open_are) ∙ found))
 
 -- whoever has no stream that is named by the mark is settled as before
-rest_settled : (pid : ℕ) (start told : Option (List Mark)) (streams blocked held : List ℕ) (listens : Bool) (last given : ℕ) (s : State) (v : Serving pid start told streams blocked held listens last given [] s) (mark : Mark)
-    → Stands (after s mark) (mark ∷ v.journal) v.closed → (after s mark).pid ≡ pid → (mark_stream mark ≢ 0 → among (mark_stream mark) (numbers (after s mark).clients) ≡ true)
-    → (t : ℕ) → among t (numbers (after s mark).clients) ≡ false → IsSettled (setting pid) (mark ∷ v.journal) t
-rest_settled pid start told streams blocked held listens last given s v mark st same here t a = elim (eqb_tells t 0) [
-  | inl z ↦ inl (ap (λ i. Rattle.mux_history.specs.Pending.pending i (log pid (mark ∷ v.journal))) z.1 ∙ server_pending (log pid (mark ∷ v.journal)) (plain_at pid (after s mark) (mark ∷ v.journal) v.closed same st))
-  | inr z ↦ settled_other pid mark v.journal t (plain_at pid s v.journal v.closed v.pid_is v.stands) (plain_at pid (after s mark) (mark ∷ v.journal) v.closed same st)
-      (λ e. true_false (sym (ap (λ i. among i (numbers (after s mark).clients)) (sym e) ∙ here (λ w. z.1 (sym e ∙ w))) ∙ a))
+rest_settled : (rs : List HouseReply) (dn pid : ℕ) (start told : Option (List Mark)) (streams blocked held : List ℕ) (listens : Bool) (last given : ℕ) (s : State) (v : ServingBy rs dn pid start told streams blocked held listens last given [] s) (mark : Mark)
+    → StandsFor rs dn (after s (drop dn rs) mark) (mark ∷ v.journal) v.closed → (after s (drop dn rs) mark).pid ≡ pid → (mark_stream mark ≢ 0 → among (mark_stream mark) (numbers (after s (drop dn rs) mark).clients) ≡ true)
+    → (t : ℕ) → among t (numbers (after s (drop dn rs) mark).clients) ≡ false → IsSettled (setting pid rs) (mark ∷ v.journal) t
+rest_settled rs dn pid start told streams blocked held listens last given s v mark st same here t a = elim (eqb_tells t 0) [
+  | inl z ↦ inl (ap (λ i. Rattle.mux_history.specs.Pending.pending i (log pid rs (mark ∷ v.journal))) z.1 ∙ server_pending (log pid rs (mark ∷ v.journal)) (plain_at rs pid (after s (drop dn rs) mark) (mark ∷ v.journal) v.closed same st))
+  | inr z ↦ settled_other rs pid mark v.journal t (plain_at rs pid s v.journal v.closed v.pid_is v.stands) (plain_at rs pid (after s (drop dn rs) mark) (mark ∷ v.journal) v.closed same st)
+      (λ e. true_false (sym (ap (λ i. among i (numbers (after s (drop dn rs) mark).clients)) (sym e) ∙ here (λ w. z.1 (sym e ∙ w))) ∙ a))
       (v.settled t refl)
 ]
 
@@ -51,7 +52,7 @@ OfStream (WriteFails k) = ⊥
 
 record Says (s : State) (journal : List Mark) (mark : Mark) : Type 0 where
   pub allowed : Rattle.mux_engine.specs.Stands.IsAllowed s journal mark
-  pub promise : (pid : ℕ) → PromiseAt pid journal mark
+  pub promise : (pid : ℕ) → PromiseAt rs pid journal mark
   pub waits : waits_in (mark ∷ journal) ≡ waits_in journal
   pub comes : NotArrival mark
   pub blocked : (t : ℕ) → is_blocked t (mark ∷ journal) ≡ is_blocked t journal
@@ -68,33 +69,33 @@ says_mark s journal (Takes k bytes) o acc = absurd o
 says_mark s journal (Holds k) o acc = absurd o
 says_mark s journal (WriteFails k) o acc = absurd o
 
-pub next_says : (pid : ℕ) (start told : Option (List Mark)) (streams blocked held : List ℕ) (hears : Bool) (last given : ℕ) (s : State) (v : Serving pid start told streams blocked held hears last given [] s) (mark : Mark)
-    → OfStream mark → among (mark_stream mark) streams ≡ true → Next pid s v.journal streams blocked held last given (numbers (after s mark).clients) mark
-next_says pid start told streams blocked held hears last given s v mark o found =
-    let acc : mark_stream mark ≢ 0 → is_accepted (mark_stream mark) v.journal ≡ true = λ nz. accepted_here s v.journal v.closed (mark_stream mark) v.stands (stream_here pid start told streams blocked held hears last given [] s (mark_stream mark) v found nz) in
+pub next_says : (rs : List HouseReply) (dn pid : ℕ) (start told : Option (List Mark)) (streams blocked held : List ℕ) (hears : Bool) (last given : ℕ) (s : State) (v : ServingBy rs dn pid start told streams blocked held hears last given [] s) (mark : Mark)
+    → OfStream mark → among (mark_stream mark) streams ≡ true → Next rs dn pid s v.journal streams blocked held last given (numbers (after s (drop dn rs) mark).clients) mark
+next_says rs dn pid start told streams blocked held hears last given s v mark o found =
+    let acc : mark_stream mark ≢ 0 → is_accepted (mark_stream mark) v.journal ≡ true = λ nz. accepted_here rs dn s v.journal v.closed (mark_stream mark) v.stands (stream_here rs dn pid start told streams blocked held hears last given [] s (mark_stream mark) v found nz) in
     let m : Says s v.journal mark = says_mark s v.journal mark o acc in
     record {
       allowed = m.allowed;
       promise = m.promise pid;
       waits = m.waits ∙ v.waits;
-      open_are = v.open_are ∙ ap (λ l. 0 ∷ l) (sym (after_numbers s mark m.comes));
+      open_are = v.open_are ∙ ap (λ l. 0 ∷ l) (sym (after_numbers s (drop dn rs) mark m.comes));
       held_is = v.held_is;
       blocked_is = λ t p. v.blocked_is t (sym (same_present s mark t m.comes) ∙ p) ∙ sym (m.blocked t);
-      failed_out = λ t w live. log_out pid mark v.journal t (v.failed_out t (sym (m.failed t) ∙ w) live);
-      unseen = unseen_more s v.journal v.closed blocked blocked last mark v.stands m.comes acc v.unseen (λ j ne. refl);
-      settled = rest_settled pid start told streams blocked held hears last given s v mark (goes_on s mark v.journal v.closed v.stands m.allowed) (Rattle.mux_engine.proofs.Wires.after_pid s mark ∙ v.pid_is)
-          (λ nz. ap (among (mark_stream mark)) (after_numbers s mark m.comes) ∙ (among_numbers (mark_stream mark) s.clients ∙ stream_here pid start told streams blocked held hears last given [] s (mark_stream mark) v found nz));
+      failed_out = λ t w live. log_out pid rs mark v.journal t (v.failed_out t (sym (m.failed t) ∙ w) live);
+      unseen = unseen_more rs dn s v.journal v.closed blocked blocked last mark v.stands m.comes acc v.unseen (λ j ne. refl);
+      settled = rest_settled rs dn pid start told streams blocked held hears last given s v mark (goes_on rs dn s mark v.journal v.closed v.stands m.allowed) (Rattle.mux_engine.proofs.Wires.after_pid s (drop dn rs) mark ∙ v.pid_is)
+          (λ nz. ap (among (mark_stream mark)) (after_numbers s (drop dn rs) mark m.comes) ∙ (among_numbers (mark_stream mark) s.clients ∙ stream_here rs dn pid start told streams blocked held hears last given [] s (mark_stream mark) v found nz));
     }
 
 -- a client comes
-pub next_accepts : (pid : ℕ) (start told : Option (List Mark)) (streams blocked held : List ℕ) (hears : Bool) (last given : ℕ) (s : State) (v : Serving pid start told streams blocked held hears last given [] s) (k : ℕ)
-    → k ≡ last + 1 → s.ended ≡ None → Next pid s v.journal (streams ++ k ∷ []) blocked held k given (numbers (after s (Accepts k)).clients) (Accepts k)
-next_accepts pid start told streams blocked held hears last given s v k e live =
+pub next_accepts : (rs : List HouseReply) (dn pid : ℕ) (start told : Option (List Mark)) (streams blocked held : List ℕ) (hears : Bool) (last given : ℕ) (s : State) (v : ServingBy rs dn pid start told streams blocked held hears last given [] s) (k : ℕ)
+    → k ≡ last + 1 → s.ended ≡ None → Next rs dn pid s v.journal (streams ++ k ∷ []) blocked held k given (numbers (after s (drop dn rs) (Accepts k)).clients) (Accepts k)
+next_accepts rs dn pid start told streams blocked held hears last given s v k e live =
     let mark : Mark = Accepts k in
     let new : last < k = omega arith in
     let u : IsUnseen v.journal blocked k = v.unseen k new in
     let nz : k ≢ 0 = λ z. absurd (omega arith) in
-    let more : numbers (after s mark).clients ≡ numbers s.clients ++ k ∷ [] = arrival_numbers s k live in
+    let more : numbers (after s (drop dn rs) mark).clients ≡ numbers s.clients ++ k ∷ [] = arrival_numbers s k live in
     let among_more : (t : ℕ) → among t (numbers s.clients ++ k ∷ []) ≡ (among t (numbers s.clients) || ((k == t) || false)) = λ t. list_any-append (λ (i : ℕ). i == t) (numbers s.clients) (k ∷ []) in
     record {
       allowed = (nz, u.not_accepted);
@@ -104,12 +105,12 @@ next_accepts pid start told streams blocked held hears last given s v k e live =
       held_is = v.held_is;
       blocked_is = λ t p. elim (eqb_tells k t) [
         | inl q ↦ ap (λ i. among i blocked) (sym q.1) ∙ (u.not_blocked ∙ (sym u.never_blocked ∙ ap (λ i. is_blocked i v.journal) q.1))
-        | inr q ↦ v.blocked_is t (sym (among_numbers t s.clients) ∙ (sym (or_none (among t (numbers s.clients))) ∙ (sym (ap (λ b. among t (numbers s.clients) || (b || false)) q.0) ∙ (sym (among_more t) ∙ (sym (ap (among t) more) ∙ (among_numbers t (after s mark).clients ∙ p))))))
+        | inr q ↦ v.blocked_is t (sym (among_numbers t s.clients) ∙ (sym (or_none (among t (numbers s.clients))) ∙ (sym (ap (λ b. among t (numbers s.clients) || (b || false)) q.0) ∙ (sym (among_more t) ∙ (sym (ap (among t) more) ∙ (among_numbers t (after s (drop dn rs) mark).clients ∙ p))))))
       ];
-      failed_out = λ t w l. log_out pid mark v.journal t (v.failed_out t w l);
+      failed_out = λ t w l. log_out pid rs mark v.journal t (v.failed_out t w l);
       unseen = λ j lt. let w : IsUnseen v.journal blocked j = v.unseen j (omega arith) in
           record { not_accepted = ap (λ b. cond b true (is_accepted j v.journal)) (test_other k j (λ q. absurd (omega arith))) ∙ w.not_accepted; never_blocked = w.never_blocked; not_blocked = w.not_blocked };
-      settled = rest_settled pid start told streams blocked held hears last given s v mark (goes_on s mark v.journal v.closed v.stands (nz, u.not_accepted)) (Rattle.mux_engine.proofs.Wires.after_pid s mark ∙ v.pid_is)
+      settled = rest_settled rs dn pid start told streams blocked held hears last given s v mark (goes_on rs dn s mark v.journal v.closed v.stands (nz, u.not_accepted)) (Rattle.mux_engine.proofs.Wires.after_pid s (drop dn rs) mark ∙ v.pid_is)
           (λ z. ap (among k) more ∙ (among_more k ∙ (ap (λ b. among k (numbers s.clients) || (b || false)) (eq-eqb k k refl) ∙ or_last (among k (numbers s.clients)))));
     }
   where
@@ -122,11 +123,11 @@ next_accepts pid start told streams blocked held hears last given s v k e live =
     or_none false = refl
 
 -- a stream takes bytes again
-pub next_frees : (pid : ℕ) (start told : Option (List Mark)) (streams blocked held : List ℕ) (hears : Bool) (last given : ℕ) (s : State) (v : Serving pid start told streams blocked held hears last given [] s) (k : ℕ)
-    → among k streams ≡ true → Next pid s v.journal streams (without k blocked) (without k held) last given (numbers s.clients) (Frees k)
-next_frees pid start told streams blocked held hears last given s v k found =
+pub next_frees : (rs : List HouseReply) (dn pid : ℕ) (start told : Option (List Mark)) (streams blocked held : List ℕ) (hears : Bool) (last given : ℕ) (s : State) (v : ServingBy rs dn pid start told streams blocked held hears last given [] s) (k : ℕ)
+    → among k streams ≡ true → Next rs dn pid s v.journal streams (without k blocked) (without k held) last given (numbers s.clients) (Frees k)
+next_frees rs dn pid start told streams blocked held hears last given s v k found =
     let mark : Mark = Frees k in
-    let here : k ≢ 0 → is_present s.clients k ≡ true = λ nz. stream_here pid start told streams blocked held hears last given [] s k v found nz in
+    let here : k ≢ 0 → is_present s.clients k ≡ true = λ nz. stream_here rs dn pid start told streams blocked held hears last given [] s k v found nz in
     record {
       allowed = tt;
       promise = record { takes = tt; waits = tt; open_streams = tt };
@@ -137,7 +138,7 @@ next_frees pid start told streams blocked held hears last given s v k found =
         | inl q ↦ ap (λ i. among i (without k blocked)) (sym q.1) ∙ (none_without k blocked ∙ sym (ap (λ b. elim b as (λ _. Bool) [ true ↦ false | false ↦ is_blocked t v.journal ]) q.0))
         | inr q ↦ without_other k t blocked q.1 ∙ (v.blocked_is t p ∙ sym (ap (λ b. elim b as (λ _. Bool) [ true ↦ false | false ↦ is_blocked t v.journal ]) q.0))
       ];
-      failed_out = λ t w l. log_out pid mark v.journal t (v.failed_out t w l);
-      unseen = unseen_more s v.journal v.closed blocked (without k blocked) last mark v.stands tt (λ nz. accepted_here s v.journal v.closed k v.stands (here nz)) v.unseen (λ j ne. without_other k j blocked ne);
-      settled = rest_settled pid start told streams blocked held hears last given s v mark (goes_on s mark v.journal v.closed v.stands tt) v.pid_is (λ nz. among_numbers k s.clients ∙ here nz);
+      failed_out = λ t w l. log_out pid rs mark v.journal t (v.failed_out t w l);
+      unseen = unseen_more rs dn s v.journal v.closed blocked (without k blocked) last mark v.stands tt (λ nz. accepted_here rs dn s v.journal v.closed k v.stands (here nz)) v.unseen (λ j ne. without_other k j blocked ne);
+      settled = rest_settled rs dn pid start told streams blocked held hears last given s v mark (goes_on rs dn s mark v.journal v.closed v.stands tt) v.pid_is (λ nz. among_numbers k s.clients ∙ here nz);
     }

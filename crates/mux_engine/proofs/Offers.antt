@@ -6,6 +6,7 @@ use Rattle.std.proofs.lemmas.Bool.Decides.{eqb_tells}
 use Rattle.std.proofs.lemmas.List.{take-append-drop}
 use Rattle.std.proofs.lemmas.List.Folds.{list_any-append}
 use Rattle.mux_outside.specs.Streams.{among, without}
+use Rattle.mux_outside.specs.declared.house.HouseReply.{HouseReply}
 use Rattle.mux_outside.specs.declared.mark.Mark.{Mark}
 use Rattle.mux_outside.specs.declared.mark.Mark.TheVariants.{Waits, Accepts, Gets, Ends, Frees, Fails, Takes, Holds, WriteFails}
 use Rattle.mux_history.specs.Rows.{Row, rows_of, is_out, is_ended, Gone, ServerFailed}
@@ -14,8 +15,8 @@ use Rattle.mux_history.specs.Journal.{is_blocked}
 use Rattle.mux_history.specs.Promises.{IsSettled, write_failed}
 use Rattle.mux_engine.specs.State.{State}
 use Rattle.mux_engine.specs.Step.{is_present, queue_in, after}
-use Rattle.mux_engine.specs.Stands.{setting, log, ArePlain, Stands, is_accepted, IsStrange}
-use Rattle.mux_engine.specs.Serving.{IsUnseen, Serving}
+use Rattle.mux_engine.specs.Stands.{setting, log, ArePlain, StandsFor, is_accepted, IsStrange}
+use Rattle.mux_engine.specs.Serving.{IsUnseen, ServingBy}
 use Rattle.mux_engine.proofs.Grows.{test_other}
 use Rattle.mux_engine.proofs.Moved.{true_false}
 use Rattle.mux_engine.proofs.Goes.{open_here, gone_is, gone_log}
@@ -25,18 +26,18 @@ use Rattle.mux_engine.proofs.Queues.{zero_absent, queue_pending}
 use Rattle.mux_engine.proofs.Others.{mark_stream}
 use Rattle.mux_engine.proofs.Wires.{NotArrival, among_numbers, after_numbers, Next, PromiseAt, settled_other, log_out}
 
-pub nonzero_here : (s : State) (marks : List Mark) (closed : List ℕ) (k : ℕ) → Stands s marks closed → is_present s.clients k ≡ true → k ≢ 0
-nonzero_here s marks closed k st here e = true_false (sym here ∙ (ap (is_present s.clients) e ∙ zero_absent (log s.pid marks) marks s.clients st.clients))
+pub nonzero_here : (rs : List HouseReply) (dn : ℕ) (s : State) (marks : List Mark) (closed : List ℕ) (k : ℕ) → StandsFor rs dn s marks closed → is_present s.clients k ≡ true → k ≢ 0
+nonzero_here rs dn s marks closed k st here e = true_false (sym here ∙ (ap (is_present s.clients) e ∙ zero_absent (log s.pid rs marks) marks s.clients st.clients))
 
-pub accepted_here : (s : State) (marks : List Mark) (closed : List ℕ) (k : ℕ) → Stands s marks closed → is_present s.clients k ≡ true → is_accepted k marks ≡ true
-accepted_here s marks closed k st here = by_accepted (is_accepted k marks) refl
+pub accepted_here : (rs : List HouseReply) (dn : ℕ) (s : State) (marks : List Mark) (closed : List ℕ) (k : ℕ) → StandsFor rs dn s marks closed → is_present s.clients k ≡ true → is_accepted k marks ≡ true
+accepted_here rs dn s marks closed k st here = by_accepted (is_accepted k marks) refl
   where
     by_accepted : (b : Bool) → is_accepted k marks ≡ b → b ≡ true
     by_accepted true e = refl
     by_accepted false e = let v : IsStrange s marks closed k = st.strange k e in true_false (sym here ∙ v.not_here)
 
-pub same_present : (s : State) (mark : Mark) (t : ℕ) → NotArrival mark → is_present (after s mark).clients t ≡ is_present s.clients t
-same_present s mark t n = sym (among_numbers t (after s mark).clients) ∙ (ap (among t) (after_numbers s mark n) ∙ among_numbers t s.clients)
+pub same_present : (s : State) (mark : Mark) (t : ℕ) → NotArrival mark → is_present (after s (drop dn rs) mark).clients t ≡ is_present s.clients t
+same_present s mark t n = sym (among_numbers t (after s (drop dn rs) mark).clients) ∙ (ap (among t) (after_numbers s (drop dn rs) mark n) ∙ among_numbers t s.clients)
 
 accepted_same : (mark : Mark) (journal : List Mark) (k : ℕ) → NotArrival mark → is_accepted k (mark ∷ journal) ≡ is_accepted k journal
 accepted_same (Accepts j) journal k n = absurd n
@@ -53,9 +54,9 @@ blocked_apart : (mark : Mark) (journal : List Mark) (t : ℕ) → mark_stream ma
 blocked_apart mark journal t ne = Rattle.mux_engine.proofs.Wires.blocked_other mark journal t ne
 
 -- a client that did not come yet has no part in a mark
-pub unseen_more : (s : State) (journal : List Mark) (closed blocked blocked' : List ℕ) (last : ℕ) (mark : Mark) → Stands s journal closed → NotArrival mark → (mark_stream mark ≢ 0 → is_accepted (mark_stream mark) journal ≡ true)
+pub unseen_more : (rs : List HouseReply) (dn : ℕ) (s : State) (journal : List Mark) (closed blocked blocked' : List ℕ) (last : ℕ) (mark : Mark) → StandsFor rs dn s journal closed → NotArrival mark → (mark_stream mark ≢ 0 → is_accepted (mark_stream mark) journal ≡ true)
     → ((j : ℕ) → last < j → IsUnseen journal blocked j) → ((j : ℕ) → mark_stream mark ≢ j → among j blocked' ≡ among j blocked) → (j : ℕ) → last < j → IsUnseen (mark ∷ journal) blocked' j
-unseen_more s journal closed blocked blocked' last mark st n acc unseen same j lt =
+unseen_more rs dn s journal closed blocked blocked' last mark st n acc unseen same j lt =
     let u : IsUnseen journal blocked j = unseen j lt in
     let apart : mark_stream mark ≢ j = λ e. by_zero e (eqb_tells (mark_stream mark) 0) in
     record { not_accepted = accepted_same mark journal j n ∙ u.not_accepted; never_blocked = blocked_apart mark journal j apart ∙ u.never_blocked; not_blocked = same j apart ∙ u.not_blocked }
@@ -64,8 +65,8 @@ unseen_more s journal closed blocked blocked' last mark st n acc unseen same j l
     by_zero e (inl z) = let zero_is : j ≡ 0 = sym e ∙ z.1 in omega arith
     by_zero e (inr z) = let u : IsUnseen journal blocked j = unseen j lt in true_false (sym (acc z.1) ∙ (ap (λ i. is_accepted i journal) e ∙ u.not_accepted))
 
-pub plain_at : (pid : ℕ) (s : State) (journal : List Mark) (closed : List ℕ) → s.pid ≡ pid → Stands s journal closed → ArePlain (log pid journal)
-plain_at pid s journal closed e st = subst (λ p. ArePlain (log p journal)) e st.plain
+pub plain_at : (rs : List HouseReply) (pid : ℕ) (rs : List HouseReply) (dn : ℕ) (s : State) (journal : List Mark) (closed : List ℕ) → s.pid ≡ pid → StandsFor rs dn s journal closed → ArePlain (log pid rs journal)
+plain_at rs pid s journal closed e st = subst (λ p. ArePlain (log p rs journal)) e st.plain
 
 pub without_other : (k t : ℕ) (todo : List ℕ) → k ≢ t → among t (without k todo) ≡ among t todo
 without_other k t [] ne = refl
@@ -84,50 +85,50 @@ apart_or_left k t todo a = elim (eqb_tells k t) [
 same_number : (k : ℕ) → (k == k) ≡ true
 same_number k = eq-eqb k k refl
 
-pub record AtStream (pid : ℕ) (s : State) (journal : List Mark) (closed : List ℕ) (k : ℕ) : Type 0 where
+pub record AtStream (rs : List HouseReply) (dn pid : ℕ) (rs : List HouseReply) (dn : ℕ) (s : State) (journal : List Mark) (closed : List ℕ) (k : ℕ) : Type 0 where
   pub nonzero : k ≢ 0
   pub accepted : is_accepted k journal ≡ true
-  pub queue : queue_in s.clients k ≡ pending k (log pid journal)
+  pub queue : queue_in s.clients k ≡ pending k (log pid rs journal)
 
-pub at_stream : (pid : ℕ) (s : State) (journal : List Mark) (closed : List ℕ) (k : ℕ) → s.pid ≡ pid → Stands s journal closed → is_present s.clients k ≡ true → AtStream pid s journal closed k
-at_stream pid s journal closed k e st here = record {
-  nonzero = nonzero_here s journal closed k st here;
-  accepted = accepted_here s journal closed k st here;
-  queue = queue_pending s journal closed k st (open_here s journal closed k st here) ∙ ap (λ p. pending k (log p journal)) e;
+pub at_stream : (rs : List HouseReply) (dn pid : ℕ) (rs : List HouseReply) (dn : ℕ) (s : State) (journal : List Mark) (closed : List ℕ) (k : ℕ) → s.pid ≡ pid → StandsFor rs dn s journal closed → is_present s.clients k ≡ true → AtStream rs dn pid s journal closed k
+at_stream rs dn pid s journal closed k e st here = record {
+  nonzero = nonzero_here rs dn s journal closed k st here;
+  accepted = accepted_here rs dn s journal closed k st here;
+  queue = queue_pending rs dn s journal closed k st (open_here rs dn s journal closed k st here) ∙ ap (λ p. pending k (log p rs journal)) e;
 }
 
 -- ---- bytes that were taken
 
-pub next_takes : (pid : ℕ) (start told : Option (List Mark)) (streams blocked held : List ℕ) (listens : Bool) (last given : ℕ) (todo : List ℕ) (s : State) (v : Serving pid start told streams blocked held listens last given todo s) (k n : ℕ)
-    → is_present s.clients k ≡ true → Next pid s v.journal streams blocked held last given (k ∷ todo) (Takes k (take n (queue_in s.clients k)))
-next_takes pid start told streams blocked held listens last given todo s v k n here =
+pub next_takes : (rs : List HouseReply) (dn pid : ℕ) (start told : Option (List Mark)) (streams blocked held : List ℕ) (listens : Bool) (last given : ℕ) (todo : List ℕ) (s : State) (v : ServingBy rs dn pid start told streams blocked held listens last given todo s) (k n : ℕ)
+    → is_present s.clients k ≡ true → Next rs dn pid s v.journal streams blocked held last given (k ∷ todo) (Takes k (take n (queue_in s.clients k)))
+next_takes rs dn pid start told streams blocked held listens last given todo s v k n here =
     let bytes : List ℕ = queue_in s.clients k in
     let mark : Mark = Takes k (take n bytes) in
-    let at : AtStream pid s v.journal v.closed k = at_stream pid s v.journal v.closed k v.pid_is v.stands here in
-    let st' : Stands (after s mark) (mark ∷ v.journal) v.closed = Rattle.mux_engine.proofs.GoesOn.goes_on s mark v.journal v.closed v.stands here in
+    let at : AtStream rs dn pid s v.journal v.closed k = at_stream rs dn pid s v.journal v.closed k v.pid_is v.stands here in
+    let st' : StandsFor rs dn (after s (drop dn rs) mark) (mark ∷ v.journal) v.closed = Rattle.mux_engine.proofs.GoesOn.goes_on s mark v.journal v.closed v.stands here in
     record {
       allowed = here;
       promise = record { takes = (drop n bytes, sym at.queue ∙ sym (take-append-drop n bytes)); waits = tt; open_streams = tt };
       waits = v.waits;
-      open_are = v.open_are ∙ ap (λ l. 0 ∷ l) (sym (after_numbers s mark tt));
+      open_are = v.open_are ∙ ap (λ l. 0 ∷ l) (sym (after_numbers s (drop dn rs) mark tt));
       held_is = v.held_is;
       blocked_is = λ t p. v.blocked_is t (sym (same_present s mark t tt) ∙ p);
       failed_out = λ t w live. elim (eqb_tells k t) [
         | inl q ↦ true_false (sym w ∙ ap (λ b. elim b as (λ _. Bool) [ true ↦ false | false ↦ write_failed t v.journal ]) q.0)
-        | inr q ↦ log_out pid mark v.journal t (v.failed_out t (sym (ap (λ b. elim b as (λ _. Bool) [ true ↦ false | false ↦ write_failed t v.journal ]) q.0) ∙ w) live)
+        | inr q ↦ log_out pid rs mark v.journal t (v.failed_out t (sym (ap (λ b. elim b as (λ _. Bool) [ true ↦ false | false ↦ write_failed t v.journal ]) q.0) ∙ w) live)
       ];
-      unseen = unseen_more s v.journal v.closed blocked blocked last mark v.stands tt (λ z. at.accepted) v.unseen (λ j ne. refl);
+      unseen = unseen_more rs dn s v.journal v.closed blocked blocked last mark v.stands tt (λ z. at.accepted) v.unseen (λ j ne. refl);
       settled = λ t a. let q : (k ≢ t) × (among t todo ≡ false) = apart_or_left k t todo a in
-          settled_other pid mark v.journal t (plain_at pid s v.journal v.closed v.pid_is v.stands) (plain_at pid (after s mark) (mark ∷ v.journal) v.closed v.pid_is st') q.0 (v.settled t q.1);
+          settled_other rs pid mark v.journal t (plain_at rs pid s v.journal v.closed v.pid_is v.stands) (plain_at rs pid (after s (drop dn rs) mark) (mark ∷ v.journal) v.closed v.pid_is st') q.0 (v.settled t q.1);
     }
 
 -- ---- a stream that is blocked now
 
-pub next_holds : (pid : ℕ) (start told : Option (List Mark)) (streams blocked held : List ℕ) (listens : Bool) (last given : ℕ) (todo : List ℕ) (s : State) (v : Serving pid start told streams blocked held listens last given todo s) (k : ℕ)
-    → is_present s.clients k ≡ true → Next pid s v.journal streams (blocked ++ k ∷ []) (held ++ k ∷ []) last given (without k todo) (Holds k)
-next_holds pid start told streams blocked held listens last given todo s v k here =
+pub next_holds : (rs : List HouseReply) (dn pid : ℕ) (start told : Option (List Mark)) (streams blocked held : List ℕ) (listens : Bool) (last given : ℕ) (todo : List ℕ) (s : State) (v : ServingBy rs dn pid start told streams blocked held listens last given todo s) (k : ℕ)
+    → is_present s.clients k ≡ true → Next rs dn pid s v.journal streams (blocked ++ k ∷ []) (held ++ k ∷ []) last given (without k todo) (Holds k)
+next_holds rs dn pid start told streams blocked held listens last given todo s v k here =
     let mark : Mark = Holds k in
-    let at : AtStream pid s v.journal v.closed k = at_stream pid s v.journal v.closed k v.pid_is v.stands here in
+    let at : AtStream rs dn pid s v.journal v.closed k = at_stream rs dn pid s v.journal v.closed k v.pid_is v.stands here in
     let among_more : (t : ℕ) → among t (blocked ++ k ∷ []) ≡ (among t blocked || ((k == t) || false)) = λ t. list_any-append (λ (i : ℕ). i == t) blocked (k ∷ []) in
     record {
       allowed = tt;
@@ -141,12 +142,12 @@ next_holds pid start told streams blocked held listens last given todo s v k her
       ];
       failed_out = λ t w live. elim (eqb_tells k t) [
         | inl q ↦ true_false (sym w ∙ ap (λ b. elim b as (λ _. Bool) [ true ↦ false | false ↦ write_failed t v.journal ]) q.0)
-        | inr q ↦ log_out pid mark v.journal t (v.failed_out t (sym (ap (λ b. elim b as (λ _. Bool) [ true ↦ false | false ↦ write_failed t v.journal ]) q.0) ∙ w) live)
+        | inr q ↦ log_out pid rs mark v.journal t (v.failed_out t (sym (ap (λ b. elim b as (λ _. Bool) [ true ↦ false | false ↦ write_failed t v.journal ]) q.0) ∙ w) live)
       ];
-      unseen = unseen_more s v.journal v.closed blocked (blocked ++ k ∷ []) last mark v.stands tt (λ z. at.accepted) v.unseen (λ j ne. among_more j ∙ (ap (λ b. among j blocked || (b || false)) (test_other k j ne) ∙ or_none (among j blocked)));
+      unseen = unseen_more rs dn s v.journal v.closed blocked (blocked ++ k ∷ []) last mark v.stands tt (λ z. at.accepted) v.unseen (λ j ne. among_more j ∙ (ap (λ b. among j blocked || (b || false)) (test_other k j ne) ∙ or_none (among j blocked)));
       settled = λ t a. elim (eqb_tells k t) [
         | inl q ↦ inr (inl (ap (λ b. elim b as (λ _. Bool) [ true ↦ true | false ↦ is_blocked t v.journal ]) q.0))
-        | inr q ↦ settled_other pid mark v.journal t (plain_at pid s v.journal v.closed v.pid_is v.stands) (plain_at pid s v.journal v.closed v.pid_is v.stands) q.1 (v.settled t (sym (without_other k t todo q.1) ∙ a))
+        | inr q ↦ settled_other rs pid mark v.journal t (plain_at rs pid s v.journal v.closed v.pid_is v.stands) (plain_at rs pid s v.journal v.closed v.pid_is v.stands) q.1 (v.settled t (sym (without_other k t todo q.1) ∙ a))
       ];
     }
   where
@@ -160,49 +161,49 @@ next_holds pid start told streams blocked held listens last given todo s v k her
 
 -- ---- a stream that failed
 
-lost_out : (s : State) (journal : List Mark) (closed : List ℕ) (k : ℕ) → k ≢ 0 → Stands s journal closed → s.ended ≡ None → is_out (rows_of k (log s.pid (WriteFails k ∷ journal))) ≡ true
-lost_out s journal closed k nz st live =
-    let rows : List Row = log s.pid journal in
-    let on : is_ended rows ≡ false = sym (ended_is s journal closed st) ∙ ap is_some live in
+lost_out : (rs : List HouseReply) (dn : ℕ) (s : State) (journal : List Mark) (closed : List ℕ) (k : ℕ) → k ≢ 0 → StandsFor rs dn s journal closed → s.ended ≡ None → is_out (rows_of k (log s.pid rs (WriteFails k ∷ journal))) ≡ true
+lost_out rs dn s journal closed k nz st live =
+    let rows : List Row = log s.pid rs journal in
+    let on : is_ended rows ≡ false = sym (ended_is rs dn s journal closed st) ∙ ap is_some live in
     let out : Bool = is_out (rows_of k rows) in
-    ap (λ r. is_out (rows_of k r)) (by_number s.pid rows k ServerFailed nz ∙ gone_log s.pid k rows out on refl) ∙ by_out out refl
+    ap (λ r. is_out (rows_of k r)) (by_number s.pid rs rows k ServerFailed nz ∙ gone_log s.pid k rs rows out on refl) ∙ by_out out refl
   where
-    by_out : (b : Bool) → is_out (rows_of k (log s.pid journal)) ≡ b → is_out (rows_of k (Rattle.mux_engine.proofs.Goes.rows_gone s.pid k (log s.pid journal) b)) ≡ true
+    by_out : (b : Bool) → is_out (rows_of k (log s.pid rs journal)) ≡ b → is_out (rows_of k (Rattle.mux_engine.proofs.Goes.rows_gone s.pid k rs (log s.pid rs journal) b)) ≡ true
     by_out true e = e
     by_out false e =
-        let r = gone_is s.pid k (log s.pid journal) st.plain in
-        own_out k (Rattle.mux_engine.proofs.Goes.gone_row s.pid k (log s.pid journal)) (log s.pid journal) r.client_is (ap (λ f. Rattle.mux_engine.proofs.Fits.puts_out f (Rattle.mux_engine.proofs.Goes.gone_row s.pid k (log s.pid journal)).item) r.fate_is ∙ ap (Rattle.mux_engine.proofs.Fits.puts_out Rattle.mux_history.specs.Rows.Goes) r.item_is)
+        let r = gone_is s.pid k rs (log s.pid rs journal) st.plain in
+        own_out k (Rattle.mux_engine.proofs.Goes.gone_row s.pid k rs (log s.pid rs journal)) (log s.pid rs journal) r.client_is (ap (λ f. Rattle.mux_engine.proofs.Fits.puts_out f (Rattle.mux_engine.proofs.Goes.gone_row s.pid k rs (log s.pid rs journal)).item) r.fate_is ∙ ap (Rattle.mux_engine.proofs.Fits.puts_out Rattle.mux_history.specs.Rows.Goes) r.item_is)
 
-pub next_write_fails : (pid : ℕ) (start told : Option (List Mark)) (streams blocked held : List ℕ) (listens : Bool) (last given : ℕ) (todo : List ℕ) (s : State) (v : Serving pid start told streams blocked held listens last given todo s) (k : ℕ)
-    → is_present s.clients k ≡ true → Next pid s v.journal streams blocked held last given (without k todo) (WriteFails k)
-next_write_fails pid start told streams blocked held listens last given todo s v k here =
+pub next_write_fails : (rs : List HouseReply) (dn pid : ℕ) (start told : Option (List Mark)) (streams blocked held : List ℕ) (listens : Bool) (last given : ℕ) (todo : List ℕ) (s : State) (v : ServingBy rs dn pid start told streams blocked held listens last given todo s) (k : ℕ)
+    → is_present s.clients k ≡ true → Next rs dn pid s v.journal streams blocked held last given (without k todo) (WriteFails k)
+next_write_fails rs dn pid start told streams blocked held listens last given todo s v k here =
     let mark : Mark = WriteFails k in
-    let at : AtStream pid s v.journal v.closed k = at_stream pid s v.journal v.closed k v.pid_is v.stands here in
-    let st' : Stands (after s mark) (mark ∷ v.journal) v.closed = Rattle.mux_engine.proofs.GoesOn.goes_on s mark v.journal v.closed v.stands (λ z. at.accepted) in
+    let at : AtStream rs dn pid s v.journal v.closed k = at_stream rs dn pid s v.journal v.closed k v.pid_is v.stands here in
+    let st' : StandsFor rs dn (after s (drop dn rs) mark) (mark ∷ v.journal) v.closed = Rattle.mux_engine.proofs.GoesOn.goes_on s mark v.journal v.closed v.stands (λ z. at.accepted) in
     record {
       allowed = λ z. at.accepted;
       promise = record { takes = tt; waits = tt; open_streams = tt };
       waits = v.waits;
-      open_are = v.open_are ∙ ap (λ l. 0 ∷ l) (sym (after_numbers s mark tt));
+      open_are = v.open_are ∙ ap (λ l. 0 ∷ l) (sym (after_numbers s (drop dn rs) mark tt));
       held_is = v.held_is;
       blocked_is = λ t p. v.blocked_is t (sym (same_present s mark t tt) ∙ p);
       failed_out = λ t w live. elim (eqb_tells k t) [
-        | inl q ↦ ap (λ i. is_out (rows_of i (log pid (mark ∷ v.journal)))) (sym q.1) ∙ (ap (λ p. is_out (rows_of k (log p (mark ∷ v.journal)))) (sym v.pid_is) ∙ lost_out s v.journal v.closed k at.nonzero v.stands live)
-        | inr q ↦ log_out pid mark v.journal t (v.failed_out t (sym (ap (λ b. elim b as (λ _. Bool) [ true ↦ true | false ↦ write_failed t v.journal ]) q.0) ∙ w) live)
+        | inl q ↦ ap (λ i. is_out (rows_of i (log pid rs (mark ∷ v.journal)))) (sym q.1) ∙ (ap (λ p. is_out (rows_of k (log p rs (mark ∷ v.journal)))) (sym v.pid_is) ∙ lost_out rs dn s v.journal v.closed k at.nonzero v.stands live)
+        | inr q ↦ log_out pid rs mark v.journal t (v.failed_out t (sym (ap (λ b. elim b as (λ _. Bool) [ true ↦ true | false ↦ write_failed t v.journal ]) q.0) ∙ w) live)
       ];
-      unseen = unseen_more s v.journal v.closed blocked blocked last mark v.stands tt (λ z. at.accepted) v.unseen (λ j ne. refl);
+      unseen = unseen_more rs dn s v.journal v.closed blocked blocked last mark v.stands tt (λ z. at.accepted) v.unseen (λ j ne. refl);
       settled = λ t a. elim (eqb_tells k t) [
         | inl q ↦ inr (inr (ap (λ b. elim b as (λ _. Bool) [ true ↦ true | false ↦ write_failed t v.journal ]) q.0))
-        | inr q ↦ settled_other pid mark v.journal t (plain_at pid s v.journal v.closed v.pid_is v.stands) (plain_at pid (after s mark) (mark ∷ v.journal) v.closed (Rattle.mux_engine.proofs.Wires.after_pid s mark ∙ v.pid_is) st') q.1 (v.settled t (sym (without_other k t todo q.1) ∙ a))
+        | inr q ↦ settled_other rs pid mark v.journal t (plain_at rs pid s v.journal v.closed v.pid_is v.stands) (plain_at rs pid (after s (drop dn rs) mark) (mark ∷ v.journal) v.closed (Rattle.mux_engine.proofs.Wires.after_pid s (drop dn rs) mark ∙ v.pid_is) st') q.1 (v.settled t (sym (without_other k t todo q.1) ∙ a))
       ];
     }
 
 -- ---- a stream for which nothing waits
 
-pub serve_empty : (pid : ℕ) (start told : Option (List Mark)) (streams blocked held : List ℕ) (listens : Bool) (last given : ℕ) (todo todo' : List ℕ) (s : State) → Serving pid start told streams blocked held listens last given todo s
-    → ((t : ℕ) (journal : List Mark) (closed : List ℕ) → s.pid ≡ pid → Stands s journal closed → ((t : ℕ) → is_present s.clients t ≡ true → among t blocked ≡ is_blocked t journal) → among t todo' ≡ false → (among t todo ≡ false) ⊎ IsSettled (setting pid) journal t)
-    → Serving pid start told streams blocked held listens last given todo' s
-serve_empty pid start told streams blocked held listens last given todo todo' s v h = record {
+pub serve_empty : (rs : List HouseReply) (dn pid : ℕ) (start told : Option (List Mark)) (streams blocked held : List ℕ) (listens : Bool) (last given : ℕ) (todo todo' : List ℕ) (s : State) → ServingBy rs dn pid start told streams blocked held listens last given todo s
+    → ((t : ℕ) (journal : List Mark) (closed : List ℕ) → s.pid ≡ pid → StandsFor rs dn s journal closed → ((t : ℕ) → is_present s.clients t ≡ true → among t blocked ≡ is_blocked t journal) → among t todo' ≡ false → (among t todo ≡ false) ⊎ IsSettled (setting pid rs) journal t)
+    → ServingBy rs dn pid start told streams blocked held listens last given todo' s
+serve_empty rs dn pid start told streams blocked held listens last given todo todo' s v h = record {
   journal = v.journal;
   closed = v.closed;
   pid_is = v.pid_is;

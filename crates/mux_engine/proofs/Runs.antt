@@ -13,14 +13,14 @@ use Rattle.mux_engine.specs.State.{State}
 use Rattle.mux_engine.specs.Step.{numbers, new_state}
 use Rattle.mux_engine.specs.Events.{went_of}
 use Rattle.mux_engine.specs.declared.engine.Went.TheVariants.{On, Ended as Over}
-use Rattle.mux_engine.specs.Stands.{log, Stands}
-use Rattle.mux_engine.specs.Serving.{Serving, Promised, Ran, IsRun}
+use Rattle.mux_engine.specs.Stands.{log, StandsFor}
+use Rattle.mux_engine.specs.Serving.{ServingBy, PromisedBy, RanBy, IsRun}
 use Rattle.mux_engine.proofs.Moved.{true_false}
 use Rattle.mux_engine.proofs.Arms.{seen_same}
 use Rattle.mux_engine.proofs.Loops.{todo_is}
 use Rattle.mux_engine.proofs.Turned.{no_marks}
 
-new_stands : (pid : ℕ) → Stands (new_state pid) [] []
+new_stands : (pid : ℕ) → StandsFor rs dn (new_state pid) [] []
 new_stands pid = record {
   ended_is = refl;
   listening_is = refl;
@@ -47,8 +47,8 @@ nothing_pending t = by_server (t == 0)
     by_server true = refl
     by_server false = refl
 
-starts_new : (pid : ℕ) (told : Option (List Mark)) (last : ℕ) → Serving pid told told (0 ∷ []) [] [] true last 0 [] (new_state pid)
-starts_new pid told last = record {
+starts_new : (pid : ℕ) (told : Option (List Mark)) (last : ℕ) → ServingBy rs dn pid told told (0 ∷ []) [] [] true last 0 [] (new_state pid)
+starts_new rs dn pid told last = record {
   journal = [];
   closed = [];
   pid_is = refl;
@@ -66,31 +66,31 @@ starts_new pid told last = record {
 }
 
 pub starts : (s : State) (told : Option (List Mark)) (streams blocked : List ℕ) (listens : Bool) (last : ℕ) → s ≡ new_state s.pid → streams ≡ 0 ∷ [] → blocked ≡ [] → listens ≡ true
-    → Serving s.pid told told streams blocked [] listens last 0 (numbers s.clients) s
+    → ServingBy rs dn s.pid told told streams blocked [] listens last 0 (numbers s.clients) s
 starts s told streams blocked listens last fresh a b d =
-    todo_is s.pid told told streams blocked [] listens last 0 [] (numbers s.clients) s
-    (seen_same s.pid told told (0 ∷ []) streams [] blocked [] [] true listens last last 0 [] (new_state s.pid) s (starts_new s.pid told last) a b refl d refl fresh)
+    todo_is rs dn s.pid told told streams blocked [] listens last 0 [] (numbers s.clients) s
+    (seen_same rs dn s.pid told told (0 ∷ []) streams [] blocked [] [] true listens last last 0 [] (new_state s.pid) s (starts_new rs dn s.pid told last) a b refl d refl fresh)
     (sym (ap (λ (t : State). numbers t.clients) fresh))
 
-pub given_is : (pid : ℕ) (start told : Option (List Mark)) (streams blocked held : List ℕ) (listens : Bool) (last given given' : ℕ) (todo : List ℕ) (s : State) → Serving pid start told streams blocked held listens last given todo s → given ≡ given' → Serving pid start told streams blocked held listens last given' todo s
-given_is pid start told streams blocked held listens last given given' todo s v e = subst (λ x. Serving pid start told streams blocked held listens last x todo s) e v
+pub given_is : (rs : List HouseReply) (dn pid : ℕ) (start told : Option (List Mark)) (streams blocked held : List ℕ) (listens : Bool) (last given given' : ℕ) (todo : List ℕ) (s : State) → ServingBy rs dn pid start told streams blocked held listens last given todo s → given ≡ given' → ServingBy rs dn pid start told streams blocked held listens last given' todo s
+given_is rs dn pid start told streams blocked held listens last given given' todo s v e = subst (λ x. ServingBy rs dn pid start told streams blocked held listens last x todo s) e v
 
-ends_at : (pid turns : ℕ) (start told : Option (List Mark)) (streams blocked held : List ℕ) (listens : Bool) (last given : ℕ) (s : State) (answer : Ended) (v : Serving pid start told streams blocked held listens last given [] s) → given ≤ turns → EndsAs turns v.journal s.ended answer → Ran pid turns start told answer
-ends_at pid turns start told streams blocked held listens last given s answer v le e = record {
+ends_at : (rs : List HouseReply) (dn pid turns : ℕ) (start told : Option (List Mark)) (streams blocked held : List ℕ) (listens : Bool) (last given : ℕ) (s : State) (answer : Ended) (v : ServingBy rs dn pid start told streams blocked held listens last given [] s) → given ≤ turns → EndsAs turns v.journal s.ended answer → RanBy rs dn pid turns start told answer
+ends_at rs dn pid turns start told streams blocked held listens last given s answer v le e = record {
   journal = v.journal;
   tells = v.tells;
   kept = v.kept;
   waits = let w : waits_in v.journal ≡ given = v.waits in omega arith;
-  ends = record { end = subst (λ o. EndsAs turns v.journal o answer) (v.stands.ended_is ∙ ap (λ p. end_of (log p v.journal)) v.pid_is) e; settled = λ t. v.settled t refl };
+  ends = record { end = subst (λ o. EndsAs turns v.journal o answer) (v.stands.ended_is ∙ ap (λ p. end_of (log p rs v.journal)) v.pid_is) e; settled = λ t. v.settled t refl };
 }
 
 -- the run ended for this cause
-pub ran_over : (pid turns : ℕ) (start told : Option (List Mark)) (streams blocked held : List ℕ) (listens : Bool) (last given : ℕ) (s : State) (cause : Ended) → Serving pid start told streams blocked held listens last given [] s → given ≤ turns → s.ended ≡ Some cause → Ran pid turns start told cause
-ran_over pid turns start told streams blocked held listens last given s cause v le e = ends_at pid turns start told streams blocked held listens last given s cause v le (subst (λ o. EndsAs turns v.journal o cause) (sym e) refl)
+pub ran_over : (rs : List HouseReply) (dn pid turns : ℕ) (start told : Option (List Mark)) (streams blocked held : List ℕ) (listens : Bool) (last given : ℕ) (s : State) (cause : Ended) → ServingBy rs dn pid start told streams blocked held listens last given [] s → given ≤ turns → s.ended ≡ Some cause → RanBy rs dn pid turns start told cause
+ran_over rs dn pid turns start told streams blocked held listens last given s cause v le e = ends_at rs dn pid turns start told streams blocked held listens last given s cause v le (subst (λ o. EndsAs turns v.journal o cause) (sym e) refl)
 
 -- all turns were given
-pub ran_out : (pid turns : ℕ) (start told : Option (List Mark)) (streams blocked held : List ℕ) (listens : Bool) (last given : ℕ) (s : State) → Serving pid start told streams blocked held listens last given [] s → given ≡ turns → s.ended ≡ None → Ran pid turns start told ended.Spent
-ran_out pid turns start told streams blocked held listens last given s v same e = ends_at pid turns start told streams blocked held listens last given s ended.Spent v (omega arith) (subst (λ o. EndsAs turns v.journal o ended.Spent) (sym e) (refl, v.waits ∙ same))
+pub ran_out : (rs : List HouseReply) (dn pid turns : ℕ) (start told : Option (List Mark)) (streams blocked held : List ℕ) (listens : Bool) (last given : ℕ) (s : State) → ServingBy rs dn pid start told streams blocked held listens last given [] s → given ≡ turns → s.ended ≡ None → RanBy rs dn pid turns start told ended.Spent
+ran_out rs dn pid turns start told streams blocked held listens last given s v same e = ends_at rs dn pid turns start told streams blocked held listens last given s ended.Spent v (omega arith) (subst (λ o. EndsAs turns v.journal o ended.Spent) (sym e) (refl, v.waits ∙ same))
 
 pub over_is : (o : Option Ended) (cause : Ended) → Over cause ≡ went_of o → o ≡ Some cause
 over_is None cause e = absurd (cc)
@@ -106,7 +106,7 @@ rose_more a b c le r = record { later = let w : b ≤ c = r.later in omega arith
 pub no_later : (a b c : ℕ) → a ≤ b → c ≡ b → a ≤ c
 no_later a b c le e = omega arith
 
-pub run_of : (May : HouseReply → Type 0) (pid turns : ℕ) (start told : Option (List Mark)) (answer : Ended) → Ran pid turns start told answer → IsRun May pid turns start told answer
+pub run_of : (May : HouseReply → Type 0) (rs : List HouseReply) (dn pid turns : ℕ) (start told : Option (List Mark)) (answer : Ended) → RanBy rs dn pid turns start told answer → IsRun May pid turns start told answer
 run_of May pid turns start told answer r = record {
   journal = r.journal;
   picks = [];
@@ -119,7 +119,7 @@ run_of May pid turns start told answer r = record {
   ends = λ ne. r.ends;
 }
 
-pub run_starved : (May : HouseReply → Type 0) (pid turns : ℕ) (start told : Option (List Mark)) → Promised pid start told turns → IsRun May pid turns start told ended.OutOfMemory
+pub run_starved : (May : HouseReply → Type 0) (rs : List HouseReply) (dn pid turns : ℕ) (start told : Option (List Mark)) → PromisedBy rs pid start told turns → IsRun May pid turns start told ended.OutOfMemory
 run_starved May pid turns start told r = record {
   journal = r.journal;
   picks = [];

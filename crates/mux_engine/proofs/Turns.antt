@@ -5,6 +5,7 @@ use Rattle.std.proofs.lemmas.Bool.{eq-eqb}
 use Rattle.std.proofs.lemmas.Bool.Decides.{eqb_tells}
 use Rattle.std.proofs.lemmas.List.Elements.{All-nil, All-cons}
 use Rattle.mux_outside.specs.Streams.{among}
+use Rattle.mux_outside.specs.declared.house.HouseReply.{HouseReply}
 use Rattle.mux_outside.specs.declared.mark.Mark.{Mark}
 use Rattle.mux_outside.specs.declared.mark.Mark.TheVariants.{Waits}
 use Rattle.mux_outside.specs.declared.turn.Want.TheVariants.{Read}
@@ -16,8 +17,8 @@ use Rattle.mux_history.specs.Journal.{is_blocked}
 use Rattle.mux_history.specs.Promises.{is_empty, has_output, listens}
 use Rattle.mux_engine.specs.State.{ClientState, State}
 use Rattle.mux_engine.specs.Step.{is_lost, is_present, numbers, queue_in, waiting_in, served_in}
-use Rattle.mux_engine.specs.Stands.{log, ArePlain, Stands, EachStands, not_closed}
-use Rattle.mux_engine.specs.Serving.{Serving, IsUnseen}
+use Rattle.mux_engine.specs.Stands.{log, ArePlain, StandsFor, EachStands, not_closed}
+use Rattle.mux_engine.specs.Serving.{ServingBy, IsUnseen}
 use Rattle.mux_engine.proofs.Fits.{out_row, puts_out}
 use Rattle.mux_engine.proofs.Grows.{own_row, other_row, test_other, or_true}
 use Rattle.mux_engine.proofs.Moved.{true_false, lost_is}
@@ -70,12 +71,12 @@ kept_loss k closed (l ∷ ls) c h = elim (eqb_tells l.0 k) [
     by_kept true ih = ap (λ b. (l.0 == k) || b) ih ∙ or_true (l.0 == k)
     by_kept false ih = ih
 
-pub none_lost : (s : State) (marks : List Mark) (closed : List ℕ) (k : ℕ) → Stands s marks closed → s.leaving ≡ [] → is_present s.clients k ≡ true → is_out (rows_of k (log s.pid marks)) ≡ false
-none_lost s marks closed k st none here = by_out (is_out (rows_of k (log s.pid marks))) refl
+pub none_lost : (rs : List HouseReply) (dn : ℕ) (s : State) (marks : List Mark) (closed : List ℕ) (k : ℕ) → StandsFor rs dn s marks closed → s.leaving ≡ [] → is_present s.clients k ≡ true → is_out (rows_of k (log s.pid rs marks)) ≡ false
+none_lost rs dn s marks closed k st none here = by_out (is_out (rows_of k (log s.pid rs marks))) refl
   where
-    by_out : (b : Bool) → is_out (rows_of k (log s.pid marks)) ≡ b → b ≡ false
+    by_out : (b : Bool) → is_out (rows_of k (log s.pid rs marks)) ≡ b → b ≡ false
     by_out false e = refl
-    by_out true e = true_false (sym (kept_loss k closed (losses (log s.pid marks)) (open_here s marks closed k st here) (out_loss k (log s.pid marks) e)) ∙ ap (in_losses k) (sym st.leaving_are ∙ none))
+    by_out true e = true_false (sym (kept_loss k closed (losses (log s.pid rs marks)) (open_here rs dn s marks closed k st here) (out_loss k (log s.pid rs marks) e)) ∙ ap (in_losses k) (sym st.leaving_are ∙ none))
 
 all_served : (rows : List Row) (marks : List Mark) (cs : List ClientState) → EachStands rows marks cs → ((k : ℕ) → is_present cs k ≡ true → is_out (rows_of k rows) ≡ false) → numbers cs ≡ served_in cs
 all_served rows marks [] each h = refl
@@ -108,50 +109,50 @@ not_nothing : (q : List ℕ) → not (is_empty q) ≡ true → q ≢ []
 not_nothing q e z = true_false (sym e ∙ ap (λ x. not (is_empty x)) z)
 
 -- each stream that waits is blocked
-waits_blocked : (pid : ℕ) (start told : Option (List Mark)) (streams blocked held : List ℕ) (listens : Bool) (last given : ℕ) (s : State) (v : Serving pid start told streams blocked held listens last given [] s) → s.leaving ≡ [] → s.ended ≡ None → (t : ℕ) → among t s.waiting ≡ true → is_blocked t v.journal ≡ true
-waits_blocked pid start told streams blocked held listens last given s v none live t a =
-    let here : is_present s.clients t ≡ true = waits_here s v.journal v.closed t v.stands a in
-    let at : AtStream pid s v.journal v.closed t = at_stream pid s v.journal v.closed t v.pid_is v.stands here in
+waits_blocked : (rs : List HouseReply) (dn pid : ℕ) (start told : Option (List Mark)) (streams blocked held : List ℕ) (listens : Bool) (last given : ℕ) (s : State) (v : ServingBy rs dn pid start told streams blocked held listens last given [] s) → s.leaving ≡ [] → s.ended ≡ None → (t : ℕ) → among t s.waiting ≡ true → is_blocked t v.journal ≡ true
+waits_blocked rs dn pid start told streams blocked held listens last given s v none live t a =
+    let here : is_present s.clients t ≡ true = waits_here rs dn s v.journal v.closed t v.stands a in
+    let at : AtStream rs dn pid s v.journal v.closed t = at_stream rs dn pid s v.journal v.closed t v.pid_is v.stands here in
     let some : queue_in s.clients t ≢ [] = not_nothing (queue_in s.clients t) (sym (ap (among t) v.stands.waiting_is ∙ waits_among t s.clients v.stands.apart) ∙ a) in
     elim (v.settled t refl) [
       | inl e ↦ absurd (some (at.queue ∙ e))
-      | inr r ↦ elim r [ inl b ↦ b | inr f ↦ true_false (sym (v.failed_out t f live) ∙ (ap (λ p. is_out (rows_of t (log p v.journal))) (sym v.pid_is) ∙ none_lost s v.journal v.closed t v.stands none here)) ]
+      | inr r ↦ elim r [ inl b ↦ b | inr f ↦ true_false (sym (v.failed_out t f live) ∙ (ap (λ p. is_out (rows_of t (log p rs v.journal))) (sym v.pid_is) ∙ none_lost rs dn s v.journal v.closed t v.stands none here)) ]
     ]
 
-pub waiting_blocked : (pid : ℕ) (start told : Option (List Mark)) (streams blocked held : List ℕ) (listens : Bool) (last given : ℕ) (s : State) → Serving pid start told streams blocked held listens last given [] s → s.leaving ≡ [] → s.ended ≡ None → All (λ t. IsTrue (among t blocked)) s.waiting
-waiting_blocked pid start told streams blocked held listens last given s v none live = all_of (λ t. IsTrue (among t blocked)) s.waiting
-    (λ t a. v.blocked_is t (waits_here s v.journal v.closed t v.stands a) ∙ waits_blocked pid start told streams blocked held listens last given s v none live t a)
+pub waiting_blocked : (rs : List HouseReply) (dn pid : ℕ) (start told : Option (List Mark)) (streams blocked held : List ℕ) (listens : Bool) (last given : ℕ) (s : State) → ServingBy rs dn pid start told streams blocked held listens last given [] s → s.leaving ≡ [] → s.ended ≡ None → All (λ t. IsTrue (among t blocked)) s.waiting
+waiting_blocked rs dn pid start told streams blocked held listens last given s v none live = all_of (λ t. IsTrue (among t blocked)) s.waiting
+    (λ t a. v.blocked_is t (waits_here rs dn s v.journal v.closed t v.stands a) ∙ waits_blocked rs dn pid start told streams blocked held listens last given s v none live t a)
 
-pub waiting_open : (pid : ℕ) (start told : Option (List Mark)) (streams blocked held : List ℕ) (listens : Bool) (last given : ℕ) (todo : List ℕ) (s : State) → Serving pid start told streams blocked held listens last given todo s → All (λ t. IsTrue (among t streams)) s.waiting
-waiting_open pid start told streams blocked held listens last given todo s v = all_of (λ t. IsTrue (among t streams)) s.waiting
-    (λ t a. ap (among t) v.open_are ∙ (ap (λ b. (0 == t) || b) (among_numbers t s.clients ∙ waits_here s v.journal v.closed t v.stands a) ∙ or_true (0 == t)))
+pub waiting_open : (rs : List HouseReply) (dn pid : ℕ) (start told : Option (List Mark)) (streams blocked held : List ℕ) (listens : Bool) (last given : ℕ) (todo : List ℕ) (s : State) → ServingBy rs dn pid start told streams blocked held listens last given todo s → All (λ t. IsTrue (among t streams)) s.waiting
+waiting_open rs dn pid start told streams blocked held listens last given todo s v = all_of (λ t. IsTrue (among t streams)) s.waiting
+    (λ t a. ap (among t) v.open_are ∙ (ap (λ b. (0 == t) || b) (among_numbers t s.clients ∙ waits_here rs dn s v.journal v.closed t v.stands a) ∙ or_true (0 == t)))
 
-pub server_open : (pid : ℕ) (start told : Option (List Mark)) (streams blocked held : List ℕ) (listens : Bool) (last given : ℕ) (todo : List ℕ) (s : State) → Serving pid start told streams blocked held listens last given todo s → IsTrue (among 0 streams)
-server_open pid start told streams blocked held listens last given todo s v = ap (among 0) v.open_are
+pub server_open : (rs : List HouseReply) (dn pid : ℕ) (start told : Option (List Mark)) (streams blocked held : List ℕ) (listens : Bool) (last given : ℕ) (todo : List ℕ) (s : State) → ServingBy rs dn pid start told streams blocked held listens last given todo s → IsTrue (among 0 streams)
+server_open rs dn pid start told streams blocked held listens last given todo s v = ap (among 0) v.open_are
 
-plain_here : (pid : ℕ) (start told : Option (List Mark)) (streams blocked held : List ℕ) (listens : Bool) (last given : ℕ) (todo : List ℕ) (s : State) (v : Serving pid start told streams blocked held listens last given todo s) → ArePlain (log pid v.journal)
-plain_here pid start told streams blocked held listens last given todo s v = subst (λ p. ArePlain (log p v.journal)) v.pid_is v.stands.plain
+plain_here : (rs : List HouseReply) (dn pid : ℕ) (start told : Option (List Mark)) (streams blocked held : List ℕ) (listens : Bool) (last given : ℕ) (todo : List ℕ) (s : State) (v : ServingBy rs dn pid start told streams blocked held listens last given todo s) → ArePlain (log pid rs v.journal)
+plain_here rs dn pid start told streams blocked held listens last given todo s v = subst (λ p. ArePlain (log p rs v.journal)) v.pid_is v.stands.plain
 
-pub next_waits : (pid : ℕ) (start told : Option (List Mark)) (streams blocked held : List ℕ) (hears : Bool) (last given : ℕ) (s : State) (v : Serving pid start told streams blocked held hears last given [] s) → s.leaving ≡ [] → s.ended ≡ None → hears ≡ s.listening
-    → Next pid s v.journal streams blocked held last (given + 1) [] (Waits s.waiting Read streams hears)
-next_waits pid start told streams blocked held hears last given s v none live hear =
-    let rows : List Row = log pid v.journal in
-    let plain : ArePlain rows = plain_here pid start told streams blocked held hears last given [] s v in
-    let log_is : log s.pid v.journal ≡ rows = ap (λ p. log p v.journal) v.pid_is in
+pub next_waits : (rs : List HouseReply) (dn pid : ℕ) (start told : Option (List Mark)) (streams blocked held : List ℕ) (hears : Bool) (last given : ℕ) (s : State) (v : ServingBy rs dn pid start told streams blocked held hears last given [] s) → s.leaving ≡ [] → s.ended ≡ None → hears ≡ s.listening
+    → Next rs dn pid s v.journal streams blocked held last (given + 1) [] (Waits s.waiting Read streams hears)
+next_waits rs dn pid start told streams blocked held hears last given s v none live hear =
+    let rows : List Row = log pid rs v.journal in
+    let plain : ArePlain rows = plain_here rs dn pid start told streams blocked held hears last given [] s v in
+    let log_is : log s.pid rs v.journal ≡ rows = ap (λ p. log p rs v.journal) v.pid_is in
     let nothing : pending 0 rows ≡ [] = server_pending rows plain in
     record {
       allowed = tt;
       promise = record {
         takes = tt;
         waits = record {
-          waits_for = v.stands.waiting_is ∙ (waiting_filter (log s.pid v.journal) v.journal s.clients v.stands.plain v.stands.clients ∙ (ap (λ r. filter (has_output r) (numbers s.clients)) log_is
+          waits_for = v.stands.waiting_is ∙ (waiting_filter (log s.pid rs v.journal) v.journal s.clients v.stands.plain v.stands.clients ∙ (ap (λ r. filter (has_output r) (numbers s.clients)) log_is
               ∙ (sym (ap (λ b. cond b (0 ∷ filter (has_output rows) (numbers s.clients)) (filter (has_output rows) (numbers s.clients))) (ap (λ q. not (is_empty q)) nothing)) ∙ sym (ap (filter (has_output rows)) v.open_are))));
-          blocked = all_of (λ t. IsTrue (is_blocked t v.journal)) s.waiting (waits_blocked pid start told streams blocked held hears last given s v none live);
+          blocked = all_of (λ t. IsTrue (is_blocked t v.journal)) s.waiting (waits_blocked rs dn pid start told streams blocked held hears last given s v none live);
           write_only = (λ e. absurd (cc), λ h. absurd (let n : length (pending 0 rows) ≡ 0 = ap length nothing in omega arith));
           settled = λ t. v.settled t refl;
         };
         open_streams = record {
-          open_streams = v.open_are ∙ ap (λ l. 0 ∷ l) (all_served (log s.pid v.journal) v.journal s.clients v.stands.clients (λ k p. none_lost s v.journal v.closed k v.stands none p) ∙ (v.stands.served_are ∙ ap served log_is));
+          open_streams = v.open_are ∙ ap (λ l. 0 ∷ l) (all_served (log s.pid rs v.journal) v.journal s.clients v.stands.clients (λ k p. none_lost rs dn s v.journal v.closed k v.stands none p) ∙ (v.stands.served_are ∙ ap served log_is));
           listening = hear ∙ (v.stands.listening_is ∙ ap listens log_is);
         };
       };

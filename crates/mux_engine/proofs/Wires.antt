@@ -1,9 +1,10 @@
 -- One mark more, between a wire and an engine that serves it.
-use Rattle.std.proofs.Common.{◌≡◌, ◌≢◌, ◌≤◌, ◌<◌, ℕ, Bool, true, false, ◌||◌, List, [], ◌∷◌, ◌++◌, length, Option, Some, None, refl, sym, ap, ◌∙◌, inl, inr, cond, append_assoc, arith}
+use Rattle.std.proofs.Common.{◌≡◌, ◌≢◌, ◌≤◌, ◌<◌, ◌+◌, ℕ, Bool, true, false, not, ◌&&◌, ◌||◌, List, [], ◌∷◌, ◌++◌, length, drop, Option, Some, None, refl, sym, ap, ◌∙◌, subst, inl, inr, cond, append_assoc, arith}
 use Rattle.std.specs.Prelude.{◌==◌, is_some, reverse, nat_lt}
 use Rattle.std.specs.Option.{option_map}
 use Rattle.std.proofs.lemmas.List.{reverse-append}
 use Rattle.mux_outside.specs.Streams.{among}
+use Rattle.mux_outside.specs.declared.house.HouseReply.{HouseReply}
 use Rattle.mux_outside.specs.declared.mark.Mark.{Mark}
 use Rattle.mux_outside.specs.declared.mark.Mark.TheVariants.{Waits, Accepts, Gets, Ends, Frees, Fails, Takes, Holds, WriteFails}
 use Rattle.mux_history.specs.declared.ended.Ended.{Ended}
@@ -13,11 +14,11 @@ use Rattle.mux_history.specs.Log.{more_all, more_of, makes_next, next_row}
 use Rattle.mux_history.specs.Journal.{Tells, is_blocked, built_items}
 use Rattle.mux_history.specs.Promises.{TakesFront, WaitsAt, OpenAt, IsSettled, write_failed, waits_in}
 use Rattle.mux_engine.specs.State.{ClientState, State}
-use Rattle.mux_engine.specs.Step.{is_present, numbers, at_client, changed, entered, added, refused, new_client, refused_client, over, after, stepped, client_got, lost_client, client_took, served_in}
-use Rattle.mux_engine.specs.Stands.{setting, log, ArePlain, Stands, IsAllowed}
-use Rattle.mux_engine.specs.Serving.{Kept, IsUnseen, Serving, Promised}
+use Rattle.mux_engine.specs.Step.{is_present, numbers, at_client, changed, entered, added, refused, new_client, refused_client, over, after, asked_at, stepped, gained, stops_at, client_got, client_hears, lost_client, client_took, served_in}
+use Rattle.mux_engine.specs.Stands.{setting, log, ArePlain, StandsFor, IsAllowed}
+use Rattle.mux_engine.specs.Serving.{Kept, IsUnseen, ServingBy, PromisedBy}
 use Rattle.mux_engine.proofs.Grows.{test_other}
-use Rattle.mux_engine.proofs.Sayings.{got_number}
+use Rattle.mux_engine.proofs.Pieces.{got_number}
 use Rattle.mux_engine.proofs.Listed.{KeepsNumber}
 use Rattle.mux_engine.proofs.Goes.{lost_number}
 use Rattle.mux_engine.proofs.GoesOn.{goes_on}
@@ -39,36 +40,36 @@ tells_more start told now journal ms h e = e ∙ (ap (option_map (λ m. m ++ ms)
 
 -- ---- what a mark leaves of a state
 
-pub after_pid : (s : State) (mark : Mark) → (after s mark).pid ≡ s.pid
-after_pid s (Waits waiting want streams listens) = refl
-after_pid s (Frees k) = refl
-after_pid s (Holds k) = refl
-after_pid s (Takes k bytes) = refl
-after_pid s (Accepts k) = by_end (is_some s.ended) (nat_lt (length (served_in s.clients)) 64)
+pub after_pid : (s : State) (more : List HouseReply) (mark : Mark) → (after s more mark).pid ≡ s.pid
+after_pid s more (Waits waiting want streams listens) = refl
+after_pid s more (Frees k) = refl
+after_pid s more (Holds k) = refl
+after_pid s more (Takes k bytes) = refl
+after_pid s more (Accepts k) = by_end (is_some s.ended) (nat_lt (length (served_in s.clients)) 64)
   where
     by_end : (b c : Bool) → (cond b s (cond c (added s (new_client k)) (refused s k))).pid ≡ s.pid
     by_end true c = refl
     by_end false true = refl
     by_end false false = refl
-after_pid s (Gets k bytes) = by_end (is_some s.ended) (k == 0)
+after_pid s more (Gets k bytes) = by_end (is_some s.ended) (k == 0)
   where
-    by_end : (b c : Bool) → (cond b s (cond c (over s ended.NotBuilt) (changed s k (client_got s.pid bytes)))).pid ≡ s.pid
+    by_end : (b c : Bool) → (cond b s (cond c (over s ended.NotBuilt) (gained s k more bytes))).pid ≡ s.pid
     by_end true c = refl
     by_end false true = refl
     by_end false false = refl
-after_pid s (Ends k) = by_end (is_some s.ended) (k == 0)
+after_pid s more (Ends k) = by_end (is_some s.ended) (k == 0)
   where
     by_end : (b c : Bool) → (cond b s (cond c (over s ended.ServerEnd) (changed s k lost_client))).pid ≡ s.pid
     by_end true c = refl
     by_end false true = refl
     by_end false false = refl
-after_pid s (Fails k) = by_end (is_some s.ended) (k == 0)
+after_pid s more (Fails k) = by_end (is_some s.ended) (k == 0)
   where
     by_end : (b c : Bool) → (cond b s (cond c (over s ended.ServerFailed) (changed s k lost_client))).pid ≡ s.pid
     by_end true c = refl
     by_end false true = refl
     by_end false false = refl
-after_pid s (WriteFails k) = by_end (is_some s.ended) (k == 0)
+after_pid s more (WriteFails k) = by_end (is_some s.ended) (k == 0)
   where
     by_end : (b c : Bool) → (cond b s (cond c (over s ended.ServerFailed) (changed s k lost_client))).pid ≡ s.pid
     by_end true c = refl
@@ -114,22 +115,27 @@ same_numbers s cause k f n true c = refl
 same_numbers s cause k f n false true = refl
 same_numbers s cause k f n false false = numbers_at k f s.clients n
 
-pub after_numbers : (s : State) (mark : Mark) → NotArrival mark → numbers (after s mark).clients ≡ numbers s.clients
-after_numbers s (Accepts k) n = absurd n
-after_numbers s (Waits waiting want streams listens) n = refl
-after_numbers s (Frees k) n = refl
-after_numbers s (Holds k) n = refl
-after_numbers s (Takes k bytes) n = numbers_at k (client_took (length bytes)) s.clients (λ c. refl)
-after_numbers s (Gets k bytes) n = same_numbers s ended.NotBuilt k (client_got s.pid bytes) (got_number s.pid bytes) (is_some s.ended) (k == 0)
-after_numbers s (Ends k) n = same_numbers s ended.ServerEnd k lost_client lost_number (is_some s.ended) (k == 0)
-after_numbers s (Fails k) n = same_numbers s ended.ServerFailed k lost_client lost_number (is_some s.ended) (k == 0)
-after_numbers s (WriteFails k) n = same_numbers s ended.ServerFailed k lost_client lost_number (is_some s.ended) (k == 0)
+pub after_numbers : (s : State) (more : List HouseReply) (mark : Mark) → NotArrival mark → numbers (after s more mark).clients ≡ numbers s.clients
+after_numbers s more (Accepts k) n = absurd n
+after_numbers s more (Waits waiting want streams listens) n = refl
+after_numbers s more (Frees k) n = refl
+after_numbers s more (Holds k) n = refl
+after_numbers s more (Takes k bytes) n = numbers_at k (client_took (length bytes)) s.clients (λ c. refl)
+after_numbers s more (Gets k bytes) n = by_end (is_some s.ended) (k == 0)
+  where
+    by_end : (b c : Bool) → numbers (cond b s (cond c (over s ended.NotBuilt) (gained s k more bytes))).clients ≡ numbers s.clients
+    by_end true c = refl
+    by_end false true = refl
+    by_end false false = numbers_at k (client_got s.pid more bytes) s.clients (got_number s.pid more bytes)
+after_numbers s more (Ends k) n = same_numbers s ended.ServerEnd k lost_client lost_number (is_some s.ended) (k == 0)
+after_numbers s more (Fails k) n = same_numbers s ended.ServerFailed k lost_client lost_number (is_some s.ended) (k == 0)
+after_numbers s more (WriteFails k) n = same_numbers s ended.ServerFailed k lost_client lost_number (is_some s.ended) (k == 0)
 
 none_is : (o : Option Ended) → o ≡ None → is_some o ≡ false
 none_is o e = ap is_some e
 
-pub arrival_numbers : (s : State) (k : ℕ) → s.ended ≡ None → numbers (after s (Accepts k)).clients ≡ numbers s.clients ++ k ∷ []
-arrival_numbers s k live = ap (λ b. numbers (cond b s (entered s k)).clients) (none_is s.ended live) ∙ by_room (nat_lt (length (served_in s.clients)) 64)
+pub arrival_numbers : (s : State) (more : List HouseReply) (k : ℕ) → s.ended ≡ None → numbers (after s more (Accepts k)).clients ≡ numbers s.clients ++ k ∷ []
+arrival_numbers s more k live = ap (λ b. numbers (cond b s (entered s k)).clients) (none_is s.ended live) ∙ by_room (nat_lt (length (served_in s.clients)) 64)
   where
     by_room : (c : Bool) → numbers (cond c (added s (new_client k)) (refused s k)).clients ≡ numbers s.clients ++ k ∷ []
     by_room true = numbers_more s.clients (new_client k)
@@ -142,21 +148,55 @@ same_listening s cause k f true c = refl
 same_listening s cause k f false true = refl
 same_listening s cause k f false false = refl
 
-pub after_listening : (s : State) (mark : Mark) → (after s mark).listening ≡ s.listening
-after_listening s (Waits waiting want streams listens) = refl
-after_listening s (Frees k) = refl
-after_listening s (Holds k) = refl
-after_listening s (Takes k bytes) = refl
-after_listening s (Accepts k) = by_end (is_some s.ended) (nat_lt (length (served_in s.clients)) 64)
+-- where clients are accepted, they were accepted before
+pub after_hears : (s : State) (more : List HouseReply) (mark : Mark) → (after s more mark).listening ≡ true → s.listening ≡ true
+after_hears s more (Waits waiting want streams listens) h = h
+after_hears s more (Frees k) h = h
+after_hears s more (Holds k) h = h
+after_hears s more (Takes k bytes) h = h
+after_hears s more (Accepts k) h = sym (by_end (is_some s.ended) (nat_lt (length (served_in s.clients)) 64)) ∙ h
   where
     by_end : (b c : Bool) → (cond b s (cond c (added s (new_client k)) (refused s k))).listening ≡ s.listening
     by_end true c = refl
     by_end false true = refl
     by_end false false = refl
-after_listening s (Gets k bytes) = same_listening s ended.NotBuilt k (client_got s.pid bytes) (is_some s.ended) (k == 0)
-after_listening s (Ends k) = same_listening s ended.ServerEnd k lost_client (is_some s.ended) (k == 0)
-after_listening s (Fails k) = same_listening s ended.ServerFailed k lost_client (is_some s.ended) (k == 0)
-after_listening s (WriteFails k) = same_listening s ended.ServerFailed k lost_client (is_some s.ended) (k == 0)
+after_hears s more (Gets k bytes) h = by_end (is_some s.ended) (k == 0) h
+  where
+    both : (a b : Bool) → (a && b) ≡ true → a ≡ true
+    both true b e = refl
+    both false b e = e
+
+    by_end : (b c : Bool) → (cond b s (cond c (over s ended.NotBuilt) (gained s k more bytes))).listening ≡ true → s.listening ≡ true
+    by_end true c h = h
+    by_end false true h = h
+    by_end false false h = both s.listening (not (stops_at k (client_hears s.pid more bytes) s.clients)) h
+after_hears s more (Ends k) h = sym (same_listening s ended.ServerEnd k lost_client (is_some s.ended) (k == 0)) ∙ h
+after_hears s more (Fails k) h = sym (same_listening s ended.ServerFailed k lost_client (is_some s.ended) (k == 0)) ∙ h
+after_hears s more (WriteFails k) h = sym (same_listening s ended.ServerFailed k lost_client (is_some s.ended) (k == 0)) ∙ h
+
+-- ---- marks at which the house isn't asked
+
+abbrev pub IsQuiet : Mark → Type 0
+IsQuiet (Gets k bytes) = ⊥
+IsQuiet mark = Unit {0}
+
+abbrev none : ℕ
+none = 0
+
+no_more : (dn : ℕ) (b : Bool) → dn + cond b none none ≡ dn
+no_more dn true = omega arith
+no_more dn false = omega arith
+
+pub quiet : (dn : ℕ) (s : State) (more : List HouseReply) (mark : Mark) → IsQuiet mark → dn + asked_at s more mark ≡ dn
+quiet dn s more (Gets k bytes) q = absurd q
+quiet dn s more (Waits waiting want streams listens) q = no_more dn (is_some s.ended)
+quiet dn s more (Accepts k) q = no_more dn (is_some s.ended)
+quiet dn s more (Ends k) q = no_more dn (is_some s.ended)
+quiet dn s more (Frees k) q = no_more dn (is_some s.ended)
+quiet dn s more (Fails k) q = no_more dn (is_some s.ended)
+quiet dn s more (Takes k bytes) q = no_more dn (is_some s.ended)
+quiet dn s more (Holds k) q = no_more dn (is_some s.ended)
+quiet dn s more (WriteFails k) q = no_more dn (is_some s.ended)
 
 live_head : (s t : State) (o : Option Ended) → s.ended ≡ o → (cond (is_some o) s t).ended ≡ None → s.ended ≡ None
 live_head s t None e h = e
@@ -166,28 +206,28 @@ live_by : (s t : State) → (cond (is_some s.ended) s t).ended ≡ None → s.en
 live_by s t h = live_head s t s.ended refl h
 
 -- a run that goes on went on before
-pub after_live : (s : State) (mark : Mark) → (after s mark).ended ≡ None → s.ended ≡ None
-after_live s (Waits waiting want streams listens) h = h
-after_live s (Frees k) h = h
-after_live s (Holds k) h = h
-after_live s (Takes k bytes) h = h
-after_live s (Accepts k) h = live_by s (entered s k) h
-after_live s (Gets k bytes) h = live_by s (stepped s (Gets k bytes)) h
-after_live s (Ends k) h = live_by s (stepped s (Ends k)) h
-after_live s (Fails k) h = live_by s (stepped s (Fails k)) h
-after_live s (WriteFails k) h = live_by s (stepped s (WriteFails k)) h
+pub after_live : (s : State) (more : List HouseReply) (mark : Mark) → (after s more mark).ended ≡ None → s.ended ≡ None
+after_live s more (Waits waiting want streams listens) h = h
+after_live s more (Frees k) h = h
+after_live s more (Holds k) h = h
+after_live s more (Takes k bytes) h = h
+after_live s more (Accepts k) h = live_by s (entered s k) h
+after_live s more (Gets k bytes) h = live_by s (stepped s more (Gets k bytes)) h
+after_live s more (Ends k) h = live_by s (stepped s more (Ends k)) h
+after_live s more (Fails k) h = live_by s (stepped s more (Fails k)) h
+after_live s more (WriteFails k) h = live_by s (stepped s more (WriteFails k)) h
 
-more_out : (pid t : ℕ) (items : List _) (rows : List Row) → is_out (rows_of t rows) ≡ true → is_out (rows_of t (more_all (setting pid) rows items)) ≡ true
-more_out pid t [] rows h = h
-more_out pid t (item ∷ items) rows h = more_out pid t items (more_of (setting pid) rows item) (by_made (makes_next rows item))
+more_out : (pid : ℕ) (rs : List HouseReply) (t : ℕ) (items : List _) (rows : List Row) → is_out (rows_of t rows) ≡ true → is_out (rows_of t (more_all (setting pid rs) rows items)) ≡ true
+more_out pid rs t [] rows h = h
+more_out pid rs t (item ∷ items) rows h = more_out pid rs t items (more_of (setting pid rs) rows item) (by_made (makes_next rows item))
   where
-    by_made : (b : Bool) → is_out (rows_of t (elim b as (λ _. List Row) [ false ↦ rows | true ↦ next_row (setting pid) rows item ∷ rows ])) ≡ true
-    by_made true = out_more t (next_row (setting pid) rows item) rows h
+    by_made : (b : Bool) → is_out (rows_of t (elim b as (λ _. List Row) [ false ↦ rows | true ↦ next_row (setting pid rs) rows item ∷ rows ])) ≡ true
+    by_made true = out_more t (next_row (setting pid rs) rows item) rows h
     by_made false = h
 
 -- a client that is out stays out
-pub log_out : (pid : ℕ) (mark : Mark) (before : List Mark) (t : ℕ) → is_out (rows_of t (log pid before)) ≡ true → is_out (rows_of t (log pid (mark ∷ before))) ≡ true
-log_out pid mark before t h = more_out pid t (built_items (setting pid).missing before mark) (log pid before) h
+pub log_out : (pid : ℕ) (rs : List HouseReply) (mark : Mark) (before : List Mark) (t : ℕ) → is_out (rows_of t (log pid rs before)) ≡ true → is_out (rows_of t (log pid rs (mark ∷ before))) ≡ true
+log_out pid rs mark before t h = more_out pid rs t (built_items (setting pid rs).missing before mark) (log pid rs before) h
 
 -- ---- what is settled
 
@@ -213,66 +253,73 @@ failed_other (Takes k bytes) journal t ne = ap (λ b. elim b as (λ _. Bool) [ t
 failed_other (Holds k) journal t ne = ap (λ b. elim b as (λ _. Bool) [ true ↦ false | false ↦ write_failed t journal ]) (test_other k t ne)
 failed_other (WriteFails k) journal t ne = ap (λ b. elim b as (λ _. Bool) [ true ↦ true | false ↦ write_failed t journal ]) (test_other k t ne)
 
-pub settled_other : (pid : ℕ) (mark : Mark) (journal : List Mark) (t : ℕ) → ArePlain (log pid journal) → ArePlain (log pid (mark ∷ journal)) → mark_stream mark ≢ t → IsSettled (setting pid) journal t → IsSettled (setting pid) (mark ∷ journal) t
-settled_other pid mark journal t p q ne h = elim h [
-  | inl e ↦ inl (pending_other pid mark journal t p q ne ∙ e)
+pub settled_other : (rs : List HouseReply) (pid : ℕ) (mark : Mark) (journal : List Mark) (t : ℕ) → ArePlain (log pid rs journal) → ArePlain (log pid rs (mark ∷ journal)) → mark_stream mark ≢ t → IsSettled (setting pid rs) journal t → IsSettled (setting pid rs) (mark ∷ journal) t
+settled_other rs pid mark journal t p q ne h = elim h [
+  | inl e ↦ inl (pending_other pid rs mark journal t p q ne ∙ e)
   | inr r ↦ elim r [ inl b ↦ inr (inl (blocked_other mark journal t ne ∙ b)) | inr f ↦ inr (inr (failed_other mark journal t ne ∙ f)) ]
 ]
 
 -- ---- one mark more
 
-pub record PromiseAt (pid : ℕ) (before : List Mark) (mark : Mark) : Type 0 where
-  pub takes : TakesFront (setting pid) before mark
-  pub waits : WaitsAt (setting pid) before mark
-  pub open_streams : OpenAt (setting pid) before mark
+pub record PromiseAt (rs : List HouseReply) (pid : ℕ) (before : List Mark) (mark : Mark) : Type 0 where
+  pub takes : TakesFront (setting pid rs) before mark
+  pub waits : WaitsAt (setting pid rs) before mark
+  pub open_streams : OpenAt (setting pid rs) before mark
 
-pub kept_more : (pid : ℕ) (journal : List Mark) (mark : Mark) → Kept pid journal → PromiseAt pid journal mark → Kept pid (mark ∷ journal)
-kept_more pid journal mark k p = record { written = record { takes = (p.takes, k.written.takes); waits = (p.waits, k.written.waits) }; open_streams = (p.open_streams, k.open_streams) }
+pub kept_more : (rs : List HouseReply) (pid : ℕ) (journal : List Mark) (mark : Mark) → Kept pid rs journal → PromiseAt rs pid journal mark → Kept pid rs (mark ∷ journal)
+kept_more rs pid journal mark k p = record { written = record { takes = (p.takes, k.written.takes); waits = (p.waits, k.written.waits) }; open_streams = (p.open_streams, k.open_streams) }
 
 -- what is to be shown of a mark
-pub record Next (pid : ℕ) (s : State) (journal : List Mark) (streams blocked held : List ℕ) (last given : ℕ) (todo : List ℕ) (mark : Mark) : Type 0 where
+pub record Next (rs : List HouseReply) (dn pid : ℕ) (s : State) (journal : List Mark) (streams blocked held : List ℕ) (last given : ℕ) (todo : List ℕ) (mark : Mark) : Type 0 where
   pub allowed : IsAllowed s journal mark
-  pub promise : PromiseAt pid journal mark
+  pub promise : PromiseAt rs pid journal mark
   pub waits : waits_in (mark ∷ journal) ≡ given
-  pub open_are : streams ≡ 0 ∷ numbers (after s mark).clients
+  pub open_are : streams ≡ 0 ∷ numbers (after s (drop dn rs) mark).clients
   pub held_is : held ≡ blocked
-  pub blocked_is : (t : ℕ) → is_present (after s mark).clients t ≡ true → among t blocked ≡ is_blocked t (mark ∷ journal)
-  pub failed_out : (t : ℕ) → write_failed t (mark ∷ journal) ≡ true → s.ended ≡ None → is_out (rows_of t (log pid (mark ∷ journal))) ≡ true
+  pub blocked_is : (t : ℕ) → is_present (after s (drop dn rs) mark).clients t ≡ true → among t blocked ≡ is_blocked t (mark ∷ journal)
+  pub failed_out : (t : ℕ) → write_failed t (mark ∷ journal) ≡ true → s.ended ≡ None → is_out (rows_of t (log pid rs (mark ∷ journal))) ≡ true
   pub unseen : (k : ℕ) → last < k → IsUnseen (mark ∷ journal) blocked k
-  pub settled : (t : ℕ) → among t todo ≡ false → IsSettled (setting pid) (mark ∷ journal) t
+  pub settled : (t : ℕ) → among t todo ≡ false → IsSettled (setting pid rs) (mark ∷ journal) t
 
-pub stands_next : (pid : ℕ) (start told : Option (List Mark)) (streams blocked held : List ℕ) (listens : Bool) (last given : ℕ) (todo : List ℕ) (s : State) (mark : Mark) (v : Serving pid start told streams blocked held listens last given todo s)
-    → IsAllowed s v.journal mark → Stands (after s mark) (mark ∷ v.journal) v.closed
-stands_next pid start told streams blocked held listens last given todo s mark v al = goes_on s mark v.journal v.closed v.stands al
+pub stands_next : (rs : List HouseReply) (dn pid : ℕ) (start told : Option (List Mark)) (streams blocked held : List ℕ) (listens : Bool) (last given : ℕ) (todo : List ℕ) (s : State) (mark : Mark) (v : ServingBy rs dn pid start told streams blocked held listens last given todo s)
+    → IsQuiet mark → IsAllowed s v.journal mark → StandsFor rs dn (after s (drop dn rs) mark) (mark ∷ v.journal) v.closed
+stands_next rs dn pid start told streams blocked held listens last given todo s mark v q al =
+    subst (λ x. StandsFor rs x (after s (drop dn rs) mark) (mark ∷ v.journal) v.closed) (quiet dn s (drop dn rs) mark q) (goes_on rs dn s mark v.journal v.closed v.stands al)
 
-pub serve_next : (pid : ℕ) (start told now : Option (List Mark)) (streams streams' blocked blocked' held held' : List ℕ) (listens : Bool) (last last' given given' : ℕ) (todo todo' : List ℕ) (s : State) (mark : Mark) (v : Serving pid start told streams blocked held listens last given todo s)
-    → now ≡ option_map (λ m. m ++ mark ∷ []) told → Next pid s v.journal streams' blocked' held' last' given' todo' mark → Serving pid start now streams' blocked' held' listens last' given' todo' (after s mark)
-serve_next pid start told now streams streams' blocked blocked' held held' listens last last' given given' todo todo' s mark v e n = record {
+-- with the replies of the house that the mark draws
+pub serve_more : (rs : List HouseReply) (dn dn' pid : ℕ) (start told now : Option (List Mark)) (streams streams' blocked blocked' held held' : List ℕ) (listens : Bool) (last last' given given' : ℕ) (todo todo' : List ℕ) (s : State) (mark : Mark) (v : ServingBy rs dn pid start told streams blocked held listens last given todo s)
+    → dn + asked_at s (drop dn rs) mark ≡ dn' → now ≡ option_map (λ m. m ++ mark ∷ []) told → Next rs dn pid s v.journal streams' blocked' held' last' given' todo' mark → ServingBy rs dn' pid start now streams' blocked' held' listens last' given' todo' (after s (drop dn rs) mark)
+serve_more rs dn dn' pid start told now streams streams' blocked blocked' held held' listens last last' given given' todo todo' s mark v d e n = record {
   journal = mark ∷ v.journal;
   closed = v.closed;
-  pid_is = after_pid s mark ∙ v.pid_is;
+  pid_is = after_pid s (drop dn rs) mark ∙ v.pid_is;
   tells = tells_more start told now v.journal (mark ∷ []) v.tells e;
-  stands = goes_on s mark v.journal v.closed v.stands n.allowed;
-  kept = kept_more pid v.journal mark v.kept n.promise;
+  stands = subst (λ x. StandsFor rs x (after s (drop dn rs) mark) (mark ∷ v.journal) v.closed) d (goes_on rs dn s mark v.journal v.closed v.stands n.allowed);
+  kept = kept_more rs pid v.journal mark v.kept n.promise;
   waits = n.waits;
   open_are = n.open_are;
   held_is = n.held_is;
   blocked_is = n.blocked_is;
-  failed_out = λ t w live. n.failed_out t w (after_live s mark live);
+  failed_out = λ t w live. n.failed_out t w (after_live s (drop dn rs) mark live);
   unseen = n.unseen;
   settled = n.settled;
-  hears = λ h. v.hears (sym (after_listening s mark) ∙ h);
+  hears = λ h. v.hears (after_hears s (drop dn rs) mark h);
 }
 
+pub serve_next : (rs : List HouseReply) (dn pid : ℕ) (start told now : Option (List Mark)) (streams streams' blocked blocked' held held' : List ℕ) (listens : Bool) (last last' given given' : ℕ) (todo todo' : List ℕ) (s : State) (mark : Mark) (v : ServingBy rs dn pid start told streams blocked held listens last given todo s)
+    → IsQuiet mark → now ≡ option_map (λ m. m ++ mark ∷ []) told → Next rs dn pid s v.journal streams' blocked' held' last' given' todo' mark → ServingBy rs dn pid start now streams' blocked' held' listens last' given' todo' (after s (drop dn rs) mark)
+serve_next rs dn pid start told now streams streams' blocked blocked' held held' listens last last' given given' todo todo' s mark v q e n =
+    serve_more rs dn dn pid start told now streams streams' blocked blocked' held held' listens last last' given given' todo todo' s mark v (quiet dn s (drop dn rs) mark q) e n
+
 -- with no memory left, what was promised stays
-pub promised_next : (pid : ℕ) (start told now : Option (List Mark)) (streams blocked held : List ℕ) (listens : Bool) (last given given' : ℕ) (todo : List ℕ) (s : State) (mark : Mark) (v : Serving pid start told streams blocked held listens last given todo s)
-    → now ≡ option_map (λ m. m ++ mark ∷ []) told → PromiseAt pid v.journal mark → waits_in (mark ∷ v.journal) ≤ given' → Promised pid start now given'
-promised_next pid start told now streams blocked held listens last given given' todo s mark v e p w = record {
+pub promised_next : (rs : List HouseReply) (dn pid : ℕ) (start told now : Option (List Mark)) (streams blocked held : List ℕ) (listens : Bool) (last given given' : ℕ) (todo : List ℕ) (s : State) (mark : Mark) (v : ServingBy rs dn pid start told streams blocked held listens last given todo s)
+    → now ≡ option_map (λ m. m ++ mark ∷ []) told → PromiseAt rs pid v.journal mark → waits_in (mark ∷ v.journal) ≤ given' → PromisedBy rs pid start now given'
+promised_next rs dn pid start told now streams blocked held listens last given given' todo s mark v e p w = record {
   journal = mark ∷ v.journal;
   tells = tells_more start told now v.journal (mark ∷ []) v.tells e;
-  kept = kept_more pid v.journal mark v.kept p;
+  kept = kept_more rs pid v.journal mark v.kept p;
   waits = w;
 }
 
-pub promised_of : (pid : ℕ) (start told : Option (List Mark)) (streams blocked held : List ℕ) (listens : Bool) (last given : ℕ) (todo : List ℕ) (s : State) → Serving pid start told streams blocked held listens last given todo s → Promised pid start told given
-promised_of pid start told streams blocked held listens last given todo s v = record { journal = v.journal; tells = v.tells; kept = v.kept; waits = let w : waits_in v.journal ≡ given = v.waits in omega arith }
+pub promised_of : (rs : List HouseReply) (dn pid : ℕ) (start told : Option (List Mark)) (streams blocked held : List ℕ) (listens : Bool) (last given : ℕ) (todo : List ℕ) (s : State) → ServingBy rs dn pid start told streams blocked held listens last given todo s → PromisedBy rs pid start told given
+promised_of rs dn pid start told streams blocked held listens last given todo s v = record { journal = v.journal; tells = v.tells; kept = v.kept; waits = let w : waits_in v.journal ≡ given = v.waits in omega arith }
