@@ -32,8 +32,8 @@ rest_settled : (rs : List HouseReply) (dn pid : ℕ) (start told : Option (List 
     → StandsFor rs dn (after s (drop dn rs) mark) (mark ∷ v.journal) v.closed → (after s (drop dn rs) mark).pid ≡ pid → (mark_stream mark ≢ 0 → among (mark_stream mark) (numbers (after s (drop dn rs) mark).clients) ≡ true)
     → (t : ℕ) → among t (numbers (after s (drop dn rs) mark).clients) ≡ false → IsSettled (setting pid rs) (mark ∷ v.journal) t
 rest_settled rs dn pid start told streams blocked held listens last given s v mark st same here t a = elim (eqb_tells t 0) [
-  | inl z ↦ inl (ap (λ i. Rattle.mux_history.specs.Pending.pending i (log pid rs (mark ∷ v.journal))) z.1 ∙ server_pending (log pid rs (mark ∷ v.journal)) (plain_at rs pid (after s (drop dn rs) mark) (mark ∷ v.journal) v.closed same st))
-  | inr z ↦ settled_other rs pid mark v.journal t (plain_at rs pid s v.journal v.closed v.pid_is v.stands) (plain_at rs pid (after s (drop dn rs) mark) (mark ∷ v.journal) v.closed same st)
+  | inl z ↦ inl (ap (λ i. Rattle.mux_history.specs.Pending.pending i (log pid rs (mark ∷ v.journal))) z.1 ∙ server_pending (log pid rs (mark ∷ v.journal)) (plain_at rs dn pid (after s (drop dn rs) mark) (mark ∷ v.journal) v.closed same st))
+  | inr z ↦ settled_other rs pid mark v.journal t (plain_at rs dn pid s v.journal v.closed v.pid_is v.stands) (plain_at rs dn pid (after s (drop dn rs) mark) (mark ∷ v.journal) v.closed same st)
       (λ e. true_false (sym (ap (λ i. among i (numbers (after s (drop dn rs) mark).clients)) (sym e) ∙ here (λ w. z.1 (sym e ∙ w))) ∙ a))
       (v.settled t refl)
 ]

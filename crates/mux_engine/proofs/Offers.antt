@@ -24,7 +24,7 @@ use Rattle.mux_engine.proofs.GoesOn.{ended_is, by_number}
 use Rattle.mux_engine.proofs.Closes.{own_out}
 use Rattle.mux_engine.proofs.Queues.{zero_absent, queue_pending}
 use Rattle.mux_engine.proofs.Others.{mark_stream}
-use Rattle.mux_engine.proofs.Wires.{NotArrival, among_numbers, after_numbers, Next, PromiseAt, settled_other, log_out}
+use Rattle.mux_engine.proofs.Wires.{NotArrival, among_numbers, after_numbers, Next, PromiseAt, settled_other, log_out, stands_next}
 
 pub nonzero_here : (rs : List HouseReply) (dn : ℕ) (s : State) (marks : List Mark) (closed : List ℕ) (k : ℕ) → StandsFor rs dn s marks closed → is_present s.clients k ≡ true → k ≢ 0
 nonzero_here rs dn s marks closed k st here e = true_false (sym here ∙ (ap (is_present s.clients) e ∙ zero_absent (log s.pid rs marks) marks s.clients st.clients))
@@ -36,8 +36,8 @@ accepted_here rs dn s marks closed k st here = by_accepted (is_accepted k marks)
     by_accepted true e = refl
     by_accepted false e = let v : IsStrange s marks closed k = st.strange k e in true_false (sym here ∙ v.not_here)
 
-pub same_present : (s : State) (mark : Mark) (t : ℕ) → NotArrival mark → is_present (after s (drop dn rs) mark).clients t ≡ is_present s.clients t
-same_present s mark t n = sym (among_numbers t (after s (drop dn rs) mark).clients) ∙ (ap (among t) (after_numbers s (drop dn rs) mark n) ∙ among_numbers t s.clients)
+pub same_present : (s : State) (more : List HouseReply) (mark : Mark) (t : ℕ) → NotArrival mark → is_present (after s more mark).clients t ≡ is_present s.clients t
+same_present s more mark t n = sym (among_numbers t (after s more mark).clients) ∙ (ap (among t) (after_numbers s more mark n) ∙ among_numbers t s.clients)
 
 accepted_same : (mark : Mark) (journal : List Mark) (k : ℕ) → NotArrival mark → is_accepted k (mark ∷ journal) ≡ is_accepted k journal
 accepted_same (Accepts j) journal k n = absurd n
@@ -65,8 +65,8 @@ unseen_more rs dn s journal closed blocked blocked' last mark st n acc unseen sa
     by_zero e (inl z) = let zero_is : j ≡ 0 = sym e ∙ z.1 in omega arith
     by_zero e (inr z) = let u : IsUnseen journal blocked j = unseen j lt in true_false (sym (acc z.1) ∙ (ap (λ i. is_accepted i journal) e ∙ u.not_accepted))
 
-pub plain_at : (rs : List HouseReply) (pid : ℕ) (rs : List HouseReply) (dn : ℕ) (s : State) (journal : List Mark) (closed : List ℕ) → s.pid ≡ pid → StandsFor rs dn s journal closed → ArePlain (log pid rs journal)
-plain_at rs pid s journal closed e st = subst (λ p. ArePlain (log p rs journal)) e st.plain
+pub plain_at : (rs : List HouseReply) (dn pid : ℕ) (s : State) (journal : List Mark) (closed : List ℕ) → s.pid ≡ pid → StandsFor rs dn s journal closed → ArePlain (log pid rs journal)
+plain_at rs dn pid s journal closed e st = subst (λ p. ArePlain (log p rs journal)) e st.plain
 
 pub without_other : (k t : ℕ) (todo : List ℕ) → k ≢ t → among t (without k todo) ≡ among t todo
 without_other k t [] ne = refl
@@ -85,12 +85,12 @@ apart_or_left k t todo a = elim (eqb_tells k t) [
 same_number : (k : ℕ) → (k == k) ≡ true
 same_number k = eq-eqb k k refl
 
-pub record AtStream (rs : List HouseReply) (dn pid : ℕ) (rs : List HouseReply) (dn : ℕ) (s : State) (journal : List Mark) (closed : List ℕ) (k : ℕ) : Type 0 where
+pub record AtStream (rs : List HouseReply) (dn pid : ℕ) (s : State) (journal : List Mark) (closed : List ℕ) (k : ℕ) : Type 0 where
   pub nonzero : k ≢ 0
   pub accepted : is_accepted k journal ≡ true
   pub queue : queue_in s.clients k ≡ pending k (log pid rs journal)
 
-pub at_stream : (rs : List HouseReply) (dn pid : ℕ) (rs : List HouseReply) (dn : ℕ) (s : State) (journal : List Mark) (closed : List ℕ) (k : ℕ) → s.pid ≡ pid → StandsFor rs dn s journal closed → is_present s.clients k ≡ true → AtStream rs dn pid s journal closed k
+pub at_stream : (rs : List HouseReply) (dn pid : ℕ) (s : State) (journal : List Mark) (closed : List ℕ) (k : ℕ) → s.pid ≡ pid → StandsFor rs dn s journal closed → is_present s.clients k ≡ true → AtStream rs dn pid s journal closed k
 at_stream rs dn pid s journal closed k e st here = record {
   nonzero = nonzero_here rs dn s journal closed k st here;
   accepted = accepted_here rs dn s journal closed k st here;
@@ -105,21 +105,21 @@ next_takes rs dn pid start told streams blocked held listens last given todo s v
     let bytes : List ℕ = queue_in s.clients k in
     let mark : Mark = Takes k (take n bytes) in
     let at : AtStream rs dn pid s v.journal v.closed k = at_stream rs dn pid s v.journal v.closed k v.pid_is v.stands here in
-    let st' : StandsFor rs dn (after s (drop dn rs) mark) (mark ∷ v.journal) v.closed = Rattle.mux_engine.proofs.GoesOn.goes_on s mark v.journal v.closed v.stands here in
+    let st' : StandsFor rs dn (after s (drop dn rs) mark) (mark ∷ v.journal) v.closed = stands_next rs dn pid start told streams blocked held listens last given todo s mark v tt here in
     record {
       allowed = here;
       promise = record { takes = (drop n bytes, sym at.queue ∙ sym (take-append-drop n bytes)); waits = tt; open_streams = tt };
       waits = v.waits;
       open_are = v.open_are ∙ ap (λ l. 0 ∷ l) (sym (after_numbers s (drop dn rs) mark tt));
       held_is = v.held_is;
-      blocked_is = λ t p. v.blocked_is t (sym (same_present s mark t tt) ∙ p);
+      blocked_is = λ t p. v.blocked_is t (sym (same_present s (drop dn rs) mark t tt) ∙ p);
       failed_out = λ t w live. elim (eqb_tells k t) [
         | inl q ↦ true_false (sym w ∙ ap (λ b. elim b as (λ _. Bool) [ true ↦ false | false ↦ write_failed t v.journal ]) q.0)
         | inr q ↦ log_out pid rs mark v.journal t (v.failed_out t (sym (ap (λ b. elim b as (λ _. Bool) [ true ↦ false | false ↦ write_failed t v.journal ]) q.0) ∙ w) live)
       ];
       unseen = unseen_more rs dn s v.journal v.closed blocked blocked last mark v.stands tt (λ z. at.accepted) v.unseen (λ j ne. refl);
       settled = λ t a. let q : (k ≢ t) × (among t todo ≡ false) = apart_or_left k t todo a in
-          settled_other rs pid mark v.journal t (plain_at rs pid s v.journal v.closed v.pid_is v.stands) (plain_at rs pid (after s (drop dn rs) mark) (mark ∷ v.journal) v.closed v.pid_is st') q.0 (v.settled t q.1);
+          settled_other rs pid mark v.journal t (plain_at rs dn pid s v.journal v.closed v.pid_is v.stands) (plain_at rs dn pid (after s (drop dn rs) mark) (mark ∷ v.journal) v.closed v.pid_is st') q.0 (v.settled t q.1);
     }
 
 -- ---- a stream that is blocked now
@@ -147,7 +147,7 @@ next_holds rs dn pid start told streams blocked held listens last given todo s v
       unseen = unseen_more rs dn s v.journal v.closed blocked (blocked ++ k ∷ []) last mark v.stands tt (λ z. at.accepted) v.unseen (λ j ne. among_more j ∙ (ap (λ b. among j blocked || (b || false)) (test_other k j ne) ∙ or_none (among j blocked)));
       settled = λ t a. elim (eqb_tells k t) [
         | inl q ↦ inr (inl (ap (λ b. elim b as (λ _. Bool) [ true ↦ true | false ↦ is_blocked t v.journal ]) q.0))
-        | inr q ↦ settled_other rs pid mark v.journal t (plain_at rs pid s v.journal v.closed v.pid_is v.stands) (plain_at rs pid s v.journal v.closed v.pid_is v.stands) q.1 (v.settled t (sym (without_other k t todo q.1) ∙ a))
+        | inr q ↦ settled_other rs pid mark v.journal t (plain_at rs dn pid s v.journal v.closed v.pid_is v.stands) (plain_at rs dn pid s v.journal v.closed v.pid_is v.stands) q.1 (v.settled t (sym (without_other k t todo q.1) ∙ a))
       ];
     }
   where
@@ -179,14 +179,14 @@ pub next_write_fails : (rs : List HouseReply) (dn pid : ℕ) (start told : Optio
 next_write_fails rs dn pid start told streams blocked held listens last given todo s v k here =
     let mark : Mark = WriteFails k in
     let at : AtStream rs dn pid s v.journal v.closed k = at_stream rs dn pid s v.journal v.closed k v.pid_is v.stands here in
-    let st' : StandsFor rs dn (after s (drop dn rs) mark) (mark ∷ v.journal) v.closed = Rattle.mux_engine.proofs.GoesOn.goes_on s mark v.journal v.closed v.stands (λ z. at.accepted) in
+    let st' : StandsFor rs dn (after s (drop dn rs) mark) (mark ∷ v.journal) v.closed = stands_next rs dn pid start told streams blocked held listens last given todo s mark v tt (λ z. at.accepted) in
     record {
       allowed = λ z. at.accepted;
       promise = record { takes = tt; waits = tt; open_streams = tt };
       waits = v.waits;
       open_are = v.open_are ∙ ap (λ l. 0 ∷ l) (sym (after_numbers s (drop dn rs) mark tt));
       held_is = v.held_is;
-      blocked_is = λ t p. v.blocked_is t (sym (same_present s mark t tt) ∙ p);
+      blocked_is = λ t p. v.blocked_is t (sym (same_present s (drop dn rs) mark t tt) ∙ p);
       failed_out = λ t w live. elim (eqb_tells k t) [
         | inl q ↦ ap (λ i. is_out (rows_of i (log pid rs (mark ∷ v.journal)))) (sym q.1) ∙ (ap (λ p. is_out (rows_of k (log p rs (mark ∷ v.journal)))) (sym v.pid_is) ∙ lost_out rs dn s v.journal v.closed k at.nonzero v.stands live)
         | inr q ↦ log_out pid rs mark v.journal t (v.failed_out t (sym (ap (λ b. elim b as (λ _. Bool) [ true ↦ true | false ↦ write_failed t v.journal ]) q.0) ∙ w) live)
@@ -194,7 +194,7 @@ next_write_fails rs dn pid start told streams blocked held listens last given to
       unseen = unseen_more rs dn s v.journal v.closed blocked blocked last mark v.stands tt (λ z. at.accepted) v.unseen (λ j ne. refl);
       settled = λ t a. elim (eqb_tells k t) [
         | inl q ↦ inr (inr (ap (λ b. elim b as (λ _. Bool) [ true ↦ true | false ↦ write_failed t v.journal ]) q.0))
-        | inr q ↦ settled_other rs pid mark v.journal t (plain_at rs pid s v.journal v.closed v.pid_is v.stands) (plain_at rs pid (after s (drop dn rs) mark) (mark ∷ v.journal) v.closed (Rattle.mux_engine.proofs.Wires.after_pid s (drop dn rs) mark ∙ v.pid_is) st') q.1 (v.settled t (sym (without_other k t todo q.1) ∙ a))
+        | inr q ↦ settled_other rs pid mark v.journal t (plain_at rs dn pid s v.journal v.closed v.pid_is v.stands) (plain_at rs dn pid (after s (drop dn rs) mark) (mark ∷ v.journal) v.closed (Rattle.mux_engine.proofs.Wires.after_pid s (drop dn rs) mark ∙ v.pid_is) st') q.1 (v.settled t (sym (without_other k t todo q.1) ∙ a))
       ];
     }
 

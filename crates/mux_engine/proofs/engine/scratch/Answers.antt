@@ -2,6 +2,7 @@ use Rattle.std.proofs.Common.{refl}
 use Rattle.mux_engine.proofs.GoesOn.{goes_on}
 use Rattle.mux_engine.proofs.Drawn.{now}
 use Rattle.mux_engine.proofs.Wires.{serve_next}
+use Rattle.mux_engine.proofs.Offers.{serve_empty}
 use Rattle.mux_engine.proofs.Closes.{closes}
 use Rattle.mux_engine.proofs.Queues.{same_steps}
 use Rattle.mux_engine.proofs.Others.{log_other}
