@@ -1,4 +1,6 @@
 pub mod Spoken
+pub mod Decided
+pub mod Nexts
 pub mod Clients
 pub mod Plain
 pub mod RowFacts
