@@ -1,12 +1,11 @@
 -- What is decided of a request that asks the house.
-use Rattle.std.proofs.Common.{◌≡◌, ℕ, Bool, true, false, List, [], ◌∷◌, Option, Some, None, Ok, Err, refl, sym, ap, ◌∙◌, subst}
+use Rattle.std.proofs.Common.{◌≡◌, ℕ, Bool, true, false, List, Some, Ok, Err, refl, sym, ap, ◌∙◌, subst}
 use Rattle.mux_outside.specs.declared.house.HouseReply.{HouseReply}
 use Rattle.ssh_grammar.specs.Control.{Control, ForwardAsk, OpenForward, CloseForward}
 use Rattle.ssh_grammar.specs.ReadControl.{Reading, read_control}
 use Rattle.ssh_grammar.specs.Frames.{frame_answer}
 use Rattle.ssh_grammar.specs.Said.{after_control, InControl}
 use Rattle.mux_history.specs.Controls.{house_answer, asks_house, is_stop}
-use Rattle.mux_history.specs.Promises.{MayGive}
 use Rattle.mux_messages.specs.declared.control.Control.{Control as Message}
 use Rattle.mux_messages.specs.Control.{Skipped, control_of}
 use Rattle.mux_engine.specs.declared.decision.Decision.{Decision}

@@ -1,6 +1,7 @@
 pub mod Spoken
 pub mod Decided
 pub mod Nexts
+pub mod Hearing
 pub mod Clients
 pub mod Plain
 pub mod RowFacts

@@ -1,12 +1,11 @@
 -- What a client says next, by what was decided of it.
-use Rattle.std.proofs.Common.{◌≡◌, ◌&&◌, ℕ, Bool, true, false, List, [], ◌∷◌, Option, Some, None, if◌then◌else◌, refl, sym, ap, ◌∙◌, subst}
+use Rattle.std.proofs.Common.{◌≡◌, ◌&&◌, ℕ, Bool, true, List, Option, Some, None, if◌then◌else◌, refl, sym, ap, ◌∙◌, subst}
 use Rattle.mux_outside.specs.declared.house.HouseReply.{HouseReply}
 use Rattle.ssh_grammar.specs.Frames.{Front, Frame, More, Faulty, first_frame}
 use Rattle.ssh_grammar.specs.declared.fault.BadFrame.{BadFrame}
 use Rattle.ssh_grammar.specs.declared.framing.Framing.{Framing}
 use Rattle.ssh_grammar.specs.declared.framing.Framing.TheVariants as framing
 use Rattle.ssh_grammar.specs.Said.{Body}
-use Rattle.proxy_frames.specs.declared.next.Next.{Next}
 use Rattle.proxy_frames.specs.declared.next.Next.TheVariants as next
 use Rattle.proxy_frames.specs.State.{FramerState}
 use Rattle.proxy_frames.specs.Steps.{front_of, answer_to, after_front}
@@ -19,7 +18,7 @@ use Rattle.mux_engine.specs.declared.client.Standing.{Standing}
 use Rattle.mux_engine.specs.declared.client.Standing.TheVariants.{Awaited, Greeted, Unread, Lost}
 use Rattle.mux_engine.specs.State.{ClientState}
 use Rattle.mux_engine.specs.Answer.{answer}
-use Rattle.mux_engine.specs.Heeded.{Heeded, heeded, client_said, is_read, is_greeted, rest_if}
+use Rattle.mux_engine.specs.Heeded.{heeded, is_read, is_greeted, rest_if}
 use Rattle.mux_engine.specs.Decisions.{reply_list, Decides, heeded_by, Follows, SaysBody, SaysNext}
 
 -- the front was a frame where one is the current one then
