@@ -1,5 +1,6 @@
 -- One client's new bytes, among all clients.
-use Rattle.std.proofs.Common.{◌≡◌, ◌+◌, ◌<◌, ◌≤◌, ◌&&◌, ℕ, Bool, true, false, not, List, [], ◌∷◌, ◌++◌, length, get_or, set, Option, None, refl, sym, ap, ◌∙◌, append-nil}
+use Rattle.std.proofs.Common.{◌≡◌, ◌+◌, ◌<◌, ◌≤◌, ◌&&◌, ℕ, Bool, true, false, not, List, [], ◌∷◌, ◌++◌, length, take, drop, get_or, set, Option, None, refl, sym, ap, ◌∙◌, subst, arith, append-nil}
+use Rattle.std.proofs.lemmas.List.{take_at}
 use Rattle.mux_outside.specs.declared.house.HouseReply.{HouseReply}
 use Rattle.mux_history.specs.declared.why.Why.{Why}
 use Rattle.mux_history.specs.declared.ended.Ended.{Ended}
@@ -38,7 +39,6 @@ hears_nowhere May pid k bytes old leaving le = record {
   ended = λ later. sym (look_absent None (λ c. (client_hears pid later bytes c).ended) k old le);
 }
 
-
 pub gains_by : (May : HouseReply → Type 0) (s new : State) (k : ℕ) (bytes : List ℕ) (cs : List ClientState) (leaving : List (ℕ × Option Why)) (heard : Heard) (listening : Bool)
     → HearsAt May s.pid k bytes s.clients cs s.leaving leaving heard → listening ≡ (s.listening && not heard.stops)
     → new ≡ record s { clients = cs; leaving = leaving; waiting = waiting_in cs; listening = listening; ended = heard.ended } → Gains May s new k bytes
@@ -53,3 +53,20 @@ gains_by May s new k bytes cs leaving heard listening h e is = record {
       ∙ (ap (λ (x : Bool). record (gained s k (h.given ++ later) bytes) { listening = x; ended = heard.ended }) (e ∙ ap (λ (x : Bool). s.listening && not x) (h.stops later))
       ∙ ap (λ (x : Option Ended). record (gained s k (h.given ++ later) bytes) { ended = x }) (h.ended later))));
 }
+
+-- ---- with the parts of an engine
+
+-- what is written over a whole list is the list then
+whole_written : (n : ℕ) (new old : List ClientState) → n ≡ length old → length new ≡ length old → take n (new ++ drop (length new) old) ≡ new
+whole_written n new old e same = take_at new (drop (length new) old) n (same ∙ sym e)
+
+-- the state of an engine whose clients were written over
+pub gains_written : (May : HouseReply → Type 0) (s now new : State) (k n : ℕ) (bytes : List ℕ) (lent cs : List ClientState) (leaving : List (ℕ × Option Why)) (heard : Heard)
+    → s ≡ now → lent ≡ s.clients → n ≡ length s.clients → length cs ≡ length lent → HearsAt May s.pid k bytes lent cs s.leaving leaving heard
+    → new ≡ record s { clients = take n (cs ++ drop (length cs) s.clients); leaving = leaving; waiting = waiting_in (take n (cs ++ drop (length cs) s.clients)); listening = s.listening && not heard.stops; ended = heard.ended }
+    → Gains May now new k bytes
+gains_written May s now new k n bytes lent cs leaving heard view lends all same h is =
+    let whole : take n (cs ++ drop (length cs) s.clients) ≡ cs = whole_written n cs s.clients all (same ∙ ap length lends) in
+    subst (λ (x : State). Gains May x new k bytes) view
+    (gains_by May s new k bytes cs leaving heard (s.listening && not heard.stops) (subst (λ (x : List ClientState). HearsAt May s.pid k bytes x cs s.leaving leaving heard) lends h) refl
+    (is ∙ ap (λ (x : List ClientState). record s { clients = x; leaving = leaving; waiting = waiting_in x; listening = s.listening && not heard.stops; ended = heard.ended }) whole))
