@@ -1,4 +1,8 @@
 pub mod Spoken
+pub mod Decided
+pub mod Nexts
+pub mod Hearing
+pub mod HearsThere
 pub mod Clients
 pub mod Plain
 pub mod RowFacts

@@ -6,7 +6,7 @@ ghost use Rattle.mux_engine.specs.declared.client.Standing.TheVariants.{Lost};
 ghost use Rattle.mux_history.specs.Pending.{joined};
 ghost use Rattle.mux_history.specs.Log.{fitting, overflow};
 ghost use Rattle.mux_engine.specs.Decisions.{frames, full_of, Follows, SaysNext, Hears};
-ghost use Rattle.mux_engine.specs.Heeded.{is_lost, is_read, is_greeted, new_client, refused_client, lost_client, client_took};
+ghost use Rattle.mux_engine.specs.Heeded.{is_lost, is_read, is_greeted, new_client, refused_client, lost_client, client_took, rest_if};
 
 use crate::decision::{Decision, Fate, decide_first, decide_later};
 use mux_history::limits::MAX_QUEUE;
@@ -60,6 +60,17 @@ impl Model for Client {
     ghost view = { λ a. record { number = a.number; standing = a.standing; rest = rest_if (is_read a.standing) a.framer.rest; queue = a.queue.waiting } };
 
     ghost invariant = { λ a. is_read a.standing ≡ true → (a.framer.framing ≡ framing.Control) × (a.framer.fault ≡ None) };
+}
+
+// How a client stands for which a frame of this length was too much, or else as here.
+fn stands_unless(unfit: Option<usize>, have: usize, standing: Standing) -> Standing
+    ensures fits { unfit ≡ None → result ≡ standing }
+    ensures unfit { (want : ℕ) → unfit ≡ Some want → result ≡ Lost (full_of have unfit) }
+{
+    match unfit {
+        None => standing,
+        Some(want) => Standing::Lost(Some(Why::QueueFull { have, want })),
+    }
 }
 
 impl Client {
@@ -168,22 +179,22 @@ impl Client {
     // It is told what was decided, and stands as was decided; one whose queue is full is dropped.
     fn follow(&mut self, decision: &Decision, heard: &mut Heard) -> Result<(), OutOfMemory>
         requires { is_read self.old.standing ≡ true }
-        ensures { OnOk result (Follows decision.now self.old heard.old self.new heard.new) }
+        ensures follows { OnOk result (Follows decision.now self.old heard.old self.new heard.new) }
+        ensures rest { OnOk result (self.new.rest ≡ rest_if (is_read self.new.standing) self.old.rest) }
     {
         let have = self.queue.len();
         let unfit = self.tell(&decision.told)?;
-        self.standing = match (decision.fate, unfit) {
-            (Fate::Ends(cause), _) => {
+        self.standing = match decision.fate {
+            Fate::Ends(cause) => {
                 heard.ended = Some(cause);
                 Standing::Unread
             }
-            (Fate::Drops(why), _) => Standing::Lost(Some(why)),
-            (_, Some(want)) => Standing::Lost(Some(Why::QueueFull { have, want })),
-            (Fate::Goes, None) => Standing::Greeted,
-            (Fate::Unreads, None) => Standing::Unread,
-            (Fate::Stops, None) => {
-                heard.stops = true;
-                Standing::Greeted
+            Fate::Drops(why) => Standing::Lost(Some(why)),
+            Fate::Goes => stands_unless(unfit, have, Standing::Greeted),
+            Fate::Unreads => stands_unless(unfit, have, Standing::Unread),
+            Fate::Stops => {
+                heard.stops |= unfit.is_none();
+                stands_unless(unfit, have, Standing::Greeted)
             }
         };
         Ok(())
@@ -208,8 +219,8 @@ impl Client {
             Next::Frame => {
                 let body = self.framer.content();
                 let decision = match self.standing {
-                    Standing::Greeted => decide_later(self.number, pid, body, house),
-                    _ => decide_first(body),
+                    Standing::Awaited => decide_first(body),
+                    _ => decide_later(self.number, pid, body, house),
                 };
                 self.follow(&decision, heard)?;
                 Ok(true)
