@@ -50,8 +50,8 @@ took_less s s' k n e here one fits =
 pub took_numbers : (s s' : State) (k n : ℕ) → s' ≡ taken s k n → numbers s'.clients ≡ numbers s.clients
 took_numbers s s' k n e = ap (λ (t : State). numbers t.clients) e ∙ numbers_at k (client_took n) s.clients (λ c. refl)
 
-pub failed_ended : (s : State) (k : ℕ) → k ≢ 0 → (after s (drop dn rs) (WriteFails k)).ended ≡ s.ended
-failed_ended s k nz = ap (λ b. (cond (is_some s.ended) s (cond b (over s ended.ServerFailed) (changed s k lost_client))).ended) (test_other k 0 nz) ∙ by_end (is_some s.ended)
+pub failed_ended : (s : State) (more : List HouseReply) (k : ℕ) → k ≢ 0 → (after s more (WriteFails k)).ended ≡ s.ended
+failed_ended s more k nz = ap (λ b. (cond (is_some s.ended) s (cond b (over s ended.ServerFailed) (changed s k lost_client))).ended) (test_other k 0 nz) ∙ by_end (is_some s.ended)
   where
     by_end : (b : Bool) → (cond b s (changed s k lost_client)).ended ≡ s.ended
     by_end true = refl

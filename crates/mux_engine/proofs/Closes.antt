@@ -103,7 +103,7 @@ filter_twice : {A : Type 0} (p q r : A → Bool) (xs : List A) → ((x : A) → 
 filter_twice p q r [] h = refl
 filter_twice p q r (x ∷ xs) h = twice_head p (q x) (r x) x (filter q xs) (filter r xs) (h x) (filter_twice p q r xs h)
 
-closes_by : (rs : List HouseReply) (dn : ℕ) (s : State) (k : ℕ) → IsFirst k s.leaving → (marks : List Mark) (closed : List ℕ) → StandsFor rs dn s marks closed → StandsFor rs dn (closed_by s k) marks (k ∷ closed)
+pub closes_by : (rs : List HouseReply) (dn : ℕ) (s : State) (k : ℕ) → IsFirst k s.leaving → (marks : List Mark) (closed : List ℕ) → StandsFor rs dn s marks closed → StandsFor rs dn (closed_by s k) marks (k ∷ closed)
 closes_by rs dn s k first marks closed st =
     let rows : List Row = log s.pid rs marks in
     let out : is_out (rows_of k rows) ≡ true = loss_is_out k rows (unfiltered k (not_closed closed) (losses rows) (subst (λ ls. in_losses k ls ≡ true) st.leaving_are (first_in k s.leaving first))) in

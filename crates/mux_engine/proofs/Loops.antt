@@ -17,7 +17,7 @@ use Rattle.mux_engine.specs.Serving.{ServingBy, IsUnseen}
 use Rattle.mux_engine.proofs.Grows.{test_other, or_true}
 use Rattle.mux_engine.proofs.Moved.{true_false}
 use Rattle.mux_engine.proofs.Served.{gone_less, present_less}
-use Rattle.mux_engine.proofs.Closes.{closes, in_losses, first_in, unfiltered, loss_is_out}
+use Rattle.mux_engine.proofs.Closes.{closes_by, in_losses, first_in, unfiltered, loss_is_out}
 use Rattle.mux_engine.proofs.Queues.{waits_among, none_waits}
 use Rattle.mux_engine.proofs.Wires.{among_numbers}
 use Rattle.mux_engine.proofs.Offers.{serve_empty, without_other, AtStream, at_stream}
@@ -130,7 +130,7 @@ serve_closed rs dn pid start told streams blocked held listens last given todo s
       closed = k ∷ v.closed;
       pid_is = v.pid_is;
       tells = v.tells;
-      stands = closes s k first v.journal v.closed v.stands;
+      stands = closes_by rs dn s k first v.journal v.closed v.stands;
       kept = v.kept;
       waits = v.waits;
       open_are = ap (without k) v.open_are ∙ (ap (λ b. cond (not b) (0 ∷ without k (numbers s.clients)) (without k (numbers s.clients))) (test_other 0 k (λ e. nz (sym e))) ∙ ap (λ l. 0 ∷ l) (without_numbers k s.clients));

@@ -1,5 +1,5 @@
 -- What a turn makes of what holds while a wire is served.
-use Rattle.std.proofs.Common.{◌≡◌, ◌≢◌, ◌<◌, ◌+◌, ℕ, Bool, true, false, ◌||◌, List, [], ◌∷◌, ◌++◌, Option, None, refl, sym, ap, ◌∙◌, inl, inr, cond, arith}
+use Rattle.std.proofs.Common.{drop, ◌≡◌, ◌≢◌, ◌<◌, ◌+◌, ℕ, Bool, true, false, ◌||◌, List, [], ◌∷◌, ◌++◌, Option, None, refl, sym, ap, ◌∙◌, inl, inr, cond, arith}
 use Rattle.std.specs.Prelude.{◌==◌}
 use Rattle.std.proofs.lemmas.Bool.{eq-eqb}
 use Rattle.std.proofs.lemmas.Bool.Decides.{eqb_tells}
@@ -11,7 +11,7 @@ use Rattle.mux_outside.specs.declared.mark.Mark.TheVariants.{Waits, Accepts, Get
 use Rattle.mux_history.specs.Journal.{is_blocked}
 use Rattle.mux_history.specs.Promises.{IsSettled, write_failed, waits_in}
 use Rattle.mux_engine.specs.State.{State}
-use Rattle.mux_engine.specs.Step.{is_present, numbers, after}
+use Rattle.mux_engine.specs.Step.{is_present, numbers, after, asked_at}
 use Rattle.mux_engine.specs.Stands.{setting, log, StandsFor, is_accepted}
 use Rattle.mux_engine.specs.Serving.{ServingBy, IsUnseen}
 use Rattle.mux_engine.proofs.Grows.{test_other}
@@ -29,11 +29,11 @@ stream_here rs dn pid start told streams blocked held listens last given todo s 
 
 -- whoever has no stream that is named by the mark is settled as before
 rest_settled : (rs : List HouseReply) (dn pid : ℕ) (start told : Option (List Mark)) (streams blocked held : List ℕ) (listens : Bool) (last given : ℕ) (s : State) (v : ServingBy rs dn pid start told streams blocked held listens last given [] s) (mark : Mark)
-    → StandsFor rs dn (after s (drop dn rs) mark) (mark ∷ v.journal) v.closed → (after s (drop dn rs) mark).pid ≡ pid → (mark_stream mark ≢ 0 → among (mark_stream mark) (numbers (after s (drop dn rs) mark).clients) ≡ true)
+    → (dn' : ℕ) → StandsFor rs dn' (after s (drop dn rs) mark) (mark ∷ v.journal) v.closed → (after s (drop dn rs) mark).pid ≡ pid → (mark_stream mark ≢ 0 → among (mark_stream mark) (numbers (after s (drop dn rs) mark).clients) ≡ true)
     → (t : ℕ) → among t (numbers (after s (drop dn rs) mark).clients) ≡ false → IsSettled (setting pid rs) (mark ∷ v.journal) t
-rest_settled rs dn pid start told streams blocked held listens last given s v mark st same here t a = elim (eqb_tells t 0) [
-  | inl z ↦ inl (ap (λ i. Rattle.mux_history.specs.Pending.pending i (log pid rs (mark ∷ v.journal))) z.1 ∙ server_pending (log pid rs (mark ∷ v.journal)) (plain_at rs dn pid (after s (drop dn rs) mark) (mark ∷ v.journal) v.closed same st))
-  | inr z ↦ settled_other rs pid mark v.journal t (plain_at rs dn pid s v.journal v.closed v.pid_is v.stands) (plain_at rs dn pid (after s (drop dn rs) mark) (mark ∷ v.journal) v.closed same st)
+rest_settled rs dn pid start told streams blocked held listens last given s v mark dn' st same here t a = elim (eqb_tells t 0) [
+  | inl z ↦ inl (ap (λ i. Rattle.mux_history.specs.Pending.pending i (log pid rs (mark ∷ v.journal))) z.1 ∙ server_pending (log pid rs (mark ∷ v.journal)) (plain_at rs dn' pid (after s (drop dn rs) mark) (mark ∷ v.journal) v.closed same st))
+  | inr z ↦ settled_other rs pid mark v.journal t (plain_at rs dn pid s v.journal v.closed v.pid_is v.stands) (plain_at rs dn' pid (after s (drop dn rs) mark) (mark ∷ v.journal) v.closed same st)
       (λ e. true_false (sym (ap (λ i. among i (numbers (after s (drop dn rs) mark).clients)) (sym e) ∙ here (λ w. z.1 (sym e ∙ w))) ∙ a))
       (v.settled t refl)
 ]
@@ -52,16 +52,16 @@ OfStream (WriteFails k) = ⊥
 
 record Says (s : State) (journal : List Mark) (mark : Mark) : Type 0 where
   pub allowed : Rattle.mux_engine.specs.Stands.IsAllowed s journal mark
-  pub promise : (pid : ℕ) → PromiseAt rs pid journal mark
+  pub promise : (rs : List HouseReply) (pid : ℕ) → PromiseAt rs pid journal mark
   pub waits : waits_in (mark ∷ journal) ≡ waits_in journal
   pub comes : NotArrival mark
   pub blocked : (t : ℕ) → is_blocked t (mark ∷ journal) ≡ is_blocked t journal
   pub failed : (t : ℕ) → write_failed t (mark ∷ journal) ≡ write_failed t journal
 
 says_mark : (s : State) (journal : List Mark) (mark : Mark) → OfStream mark → (mark_stream mark ≢ 0 → is_accepted (mark_stream mark) journal ≡ true) → Says s journal mark
-says_mark s journal (Gets k bytes) o acc = record { allowed = acc; promise = λ pid. record { takes = tt; waits = tt; open_streams = tt }; waits = refl; comes = tt; blocked = λ t. refl; failed = λ t. refl }
-says_mark s journal (Ends k) o acc = record { allowed = acc; promise = λ pid. record { takes = tt; waits = tt; open_streams = tt }; waits = refl; comes = tt; blocked = λ t. refl; failed = λ t. refl }
-says_mark s journal (Fails k) o acc = record { allowed = acc; promise = λ pid. record { takes = tt; waits = tt; open_streams = tt }; waits = refl; comes = tt; blocked = λ t. refl; failed = λ t. refl }
+says_mark s journal (Gets k bytes) o acc = record { allowed = acc; promise = λ rs pid. record { takes = tt; waits = tt; open_streams = tt }; waits = refl; comes = tt; blocked = λ t. refl; failed = λ t. refl }
+says_mark s journal (Ends k) o acc = record { allowed = acc; promise = λ rs pid. record { takes = tt; waits = tt; open_streams = tt }; waits = refl; comes = tt; blocked = λ t. refl; failed = λ t. refl }
+says_mark s journal (Fails k) o acc = record { allowed = acc; promise = λ rs pid. record { takes = tt; waits = tt; open_streams = tt }; waits = refl; comes = tt; blocked = λ t. refl; failed = λ t. refl }
 says_mark s journal (Waits waiting want streams listens) o acc = absurd o
 says_mark s journal (Accepts k) o acc = absurd o
 says_mark s journal (Frees k) o acc = absurd o
@@ -76,14 +76,14 @@ next_says rs dn pid start told streams blocked held hears last given s v mark o 
     let m : Says s v.journal mark = says_mark s v.journal mark o acc in
     record {
       allowed = m.allowed;
-      promise = m.promise pid;
+      promise = m.promise rs pid;
       waits = m.waits ∙ v.waits;
       open_are = v.open_are ∙ ap (λ l. 0 ∷ l) (sym (after_numbers s (drop dn rs) mark m.comes));
       held_is = v.held_is;
-      blocked_is = λ t p. v.blocked_is t (sym (same_present s mark t m.comes) ∙ p) ∙ sym (m.blocked t);
+      blocked_is = λ t p. v.blocked_is t (sym (same_present s (drop dn rs) mark t m.comes) ∙ p) ∙ sym (m.blocked t);
       failed_out = λ t w live. log_out pid rs mark v.journal t (v.failed_out t (sym (m.failed t) ∙ w) live);
       unseen = unseen_more rs dn s v.journal v.closed blocked blocked last mark v.stands m.comes acc v.unseen (λ j ne. refl);
-      settled = rest_settled rs dn pid start told streams blocked held hears last given s v mark (goes_on rs dn s mark v.journal v.closed v.stands m.allowed) (Rattle.mux_engine.proofs.Wires.after_pid s (drop dn rs) mark ∙ v.pid_is)
+      settled = rest_settled rs dn pid start told streams blocked held hears last given s v mark (dn + asked_at s (drop dn rs) mark) (goes_on rs dn s mark v.journal v.closed v.stands m.allowed) (Rattle.mux_engine.proofs.Wires.after_pid s (drop dn rs) mark ∙ v.pid_is)
           (λ nz. ap (among (mark_stream mark)) (after_numbers s (drop dn rs) mark m.comes) ∙ (among_numbers (mark_stream mark) s.clients ∙ stream_here rs dn pid start told streams blocked held hears last given [] s (mark_stream mark) v found nz));
     }
 
@@ -95,7 +95,7 @@ next_accepts rs dn pid start told streams blocked held hears last given s v k e 
     let new : last < k = omega arith in
     let u : IsUnseen v.journal blocked k = v.unseen k new in
     let nz : k ≢ 0 = λ z. absurd (omega arith) in
-    let more : numbers (after s (drop dn rs) mark).clients ≡ numbers s.clients ++ k ∷ [] = arrival_numbers s k live in
+    let more : numbers (after s (drop dn rs) mark).clients ≡ numbers s.clients ++ k ∷ [] = arrival_numbers s (drop dn rs) k live in
     let among_more : (t : ℕ) → among t (numbers s.clients ++ k ∷ []) ≡ (among t (numbers s.clients) || ((k == t) || false)) = λ t. list_any-append (λ (i : ℕ). i == t) (numbers s.clients) (k ∷ []) in
     record {
       allowed = (nz, u.not_accepted);
@@ -110,7 +110,7 @@ next_accepts rs dn pid start told streams blocked held hears last given s v k e 
       failed_out = λ t w l. log_out pid rs mark v.journal t (v.failed_out t w l);
       unseen = λ j lt. let w : IsUnseen v.journal blocked j = v.unseen j (omega arith) in
           record { not_accepted = ap (λ b. cond b true (is_accepted j v.journal)) (test_other k j (λ q. absurd (omega arith))) ∙ w.not_accepted; never_blocked = w.never_blocked; not_blocked = w.not_blocked };
-      settled = rest_settled rs dn pid start told streams blocked held hears last given s v mark (goes_on rs dn s mark v.journal v.closed v.stands (nz, u.not_accepted)) (Rattle.mux_engine.proofs.Wires.after_pid s (drop dn rs) mark ∙ v.pid_is)
+      settled = rest_settled rs dn pid start told streams blocked held hears last given s v mark (dn + asked_at s (drop dn rs) mark) (goes_on rs dn s mark v.journal v.closed v.stands (nz, u.not_accepted)) (Rattle.mux_engine.proofs.Wires.after_pid s (drop dn rs) mark ∙ v.pid_is)
           (λ z. ap (among k) more ∙ (among_more k ∙ (ap (λ b. among k (numbers s.clients) || (b || false)) (eq-eqb k k refl) ∙ or_last (among k (numbers s.clients)))));
     }
   where
@@ -140,5 +140,5 @@ next_frees rs dn pid start told streams blocked held hears last given s v k foun
       ];
       failed_out = λ t w l. log_out pid rs mark v.journal t (v.failed_out t w l);
       unseen = unseen_more rs dn s v.journal v.closed blocked (without k blocked) last mark v.stands tt (λ nz. accepted_here rs dn s v.journal v.closed k v.stands (here nz)) v.unseen (λ j ne. without_other k j blocked ne);
-      settled = rest_settled rs dn pid start told streams blocked held hears last given s v mark (goes_on rs dn s mark v.journal v.closed v.stands tt) v.pid_is (λ nz. among_numbers k s.clients ∙ here nz);
+      settled = rest_settled rs dn pid start told streams blocked held hears last given s v mark (dn + asked_at s (drop dn rs) mark) (goes_on rs dn s mark v.journal v.closed v.stands tt) v.pid_is (λ nz. among_numbers k s.clients ∙ here nz);
     }

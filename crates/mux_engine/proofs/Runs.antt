@@ -1,11 +1,12 @@
 -- The start and the end of a run.
-use Rattle.std.proofs.Common.{◌≡◌, ◌≤◌, ◌+◌, ℕ, Bool, true, false, List, [], ◌∷◌, Option, Some, None, refl, sym, ap, ◌∙◌, subst, inl, arith}
+use Rattle.std.proofs.Common.{◌≡◌, ◌≤◌, ◌+◌, ℕ, Bool, true, false, List, [], ◌∷◌, ◌++◌, length, Option, Some, None, refl, sym, ap, ◌∙◌, subst, inl, arith, append-nil}
 use Rattle.std.specs.Prelude.{◌==◌, min, ◌^◌, ◌-◌}
 use Rattle.mux_outside.specs.Counts.{Rose}
 use Rattle.mux_outside.specs.declared.mark.Mark.{Mark}
 use Rattle.mux_outside.specs.declared.house.HouseReply.{HouseReply}
 use Rattle.mux_history.specs.declared.ended.Ended.{Ended}
 use Rattle.mux_history.specs.declared.ended.Ended.TheVariants as ended
+use Rattle.mux_history.specs.Choices.{replies_given}
 use Rattle.mux_history.specs.Pending.{pending}
 use Rattle.mux_history.specs.Solo.{end_of}
 use Rattle.mux_history.specs.Promises.{EndsAs, waits_in}
@@ -14,14 +15,15 @@ use Rattle.mux_engine.specs.Step.{numbers, new_state}
 use Rattle.mux_engine.specs.Events.{went_of}
 use Rattle.mux_engine.specs.declared.engine.Went.TheVariants.{On, Ended as Over}
 use Rattle.mux_engine.specs.Stands.{log, StandsFor}
-use Rattle.mux_engine.specs.Serving.{ServingBy, PromisedBy, RanBy, IsRun}
+use Rattle.mux_engine.specs.Serving.{ServingBy, Promised, PromisedBy, Ran, RanBy, IsRun}
 use Rattle.mux_engine.proofs.Moved.{true_false}
 use Rattle.mux_engine.proofs.Arms.{seen_same}
 use Rattle.mux_engine.proofs.Loops.{todo_is}
 use Rattle.mux_engine.proofs.Turned.{no_marks}
 
-new_stands : (pid : ℕ) → StandsFor rs dn (new_state pid) [] []
-new_stands pid = record {
+new_stands : (rs : List HouseReply) (pid : ℕ) → StandsFor rs 0 (new_state pid) [] []
+new_stands rs pid = record {
+  drawn_is = refl;
   ended_is = refl;
   listening_is = refl;
   apart = tt;
@@ -47,13 +49,13 @@ nothing_pending t = by_server (t == 0)
     by_server true = refl
     by_server false = refl
 
-starts_new : (pid : ℕ) (told : Option (List Mark)) (last : ℕ) → ServingBy rs dn pid told told (0 ∷ []) [] [] true last 0 [] (new_state pid)
-starts_new rs dn pid told last = record {
+starts_new : (rs : List HouseReply) (pid : ℕ) (told : Option (List Mark)) (last : ℕ) → ServingBy rs 0 pid told told (0 ∷ []) [] [] true last 0 [] (new_state pid)
+starts_new rs pid told last = record {
   journal = [];
   closed = [];
   pid_is = refl;
   tells = sym (no_marks told);
-  stands = new_stands pid;
+  stands = new_stands rs pid;
   kept = record { written = record { takes = tt; waits = tt }; open_streams = tt };
   waits = refl;
   open_are = refl;
@@ -65,11 +67,11 @@ starts_new rs dn pid told last = record {
   hears = λ h. refl;
 }
 
-pub starts : (s : State) (told : Option (List Mark)) (streams blocked : List ℕ) (listens : Bool) (last : ℕ) → s ≡ new_state s.pid → streams ≡ 0 ∷ [] → blocked ≡ [] → listens ≡ true
-    → ServingBy rs dn s.pid told told streams blocked [] listens last 0 (numbers s.clients) s
-starts s told streams blocked listens last fresh a b d =
-    todo_is rs dn s.pid told told streams blocked [] listens last 0 [] (numbers s.clients) s
-    (seen_same rs dn s.pid told told (0 ∷ []) streams [] blocked [] [] true listens last last 0 [] (new_state s.pid) s (starts_new rs dn s.pid told last) a b refl d refl fresh)
+pub starts : (rs : List HouseReply) (s : State) (told : Option (List Mark)) (streams blocked : List ℕ) (listens : Bool) (last : ℕ) → s ≡ new_state s.pid → streams ≡ 0 ∷ [] → blocked ≡ [] → listens ≡ true
+    → ServingBy rs 0 s.pid told told streams blocked [] listens last 0 (numbers s.clients) s
+starts rs s told streams blocked listens last fresh a b d =
+    todo_is rs 0 s.pid told told streams blocked [] listens last 0 [] (numbers s.clients) s
+    (seen_same rs 0 s.pid told told (0 ∷ []) streams [] blocked [] [] true listens last last 0 [] (new_state s.pid) s (starts_new rs s.pid told last) a b refl d refl fresh)
     (sym (ap (λ (t : State). numbers t.clients) fresh))
 
 pub given_is : (rs : List HouseReply) (dn pid : ℕ) (start told : Option (List Mark)) (streams blocked held : List ℕ) (listens : Bool) (last given given' : ℕ) (todo : List ℕ) (s : State) → ServingBy rs dn pid start told streams blocked held listens last given todo s → given ≡ given' → ServingBy rs dn pid start told streams blocked held listens last given' todo s
@@ -81,6 +83,7 @@ ends_at rs dn pid turns start told streams blocked held listens last given s ans
   tells = v.tells;
   kept = v.kept;
   waits = let w : waits_in v.journal ≡ given = v.waits in omega arith;
+  asked = ap (λ p. replies_given (log p rs v.journal)) (sym v.pid_is) ∙ v.stands.drawn_is;
   ends = record { end = subst (λ o. EndsAs turns v.journal o answer) (v.stands.ended_is ∙ ap (λ p. end_of (log p rs v.journal)) v.pid_is) e; settled = λ t. v.settled t refl };
 }
 
@@ -106,31 +109,41 @@ rose_more a b c le r = record { later = let w : b ≤ c = r.later in omega arith
 pub no_later : (a b c : ℕ) → a ≤ b → c ≡ b → a ≤ c
 no_later a b c le e = omega arith
 
-pub run_of : (May : HouseReply → Type 0) (rs : List HouseReply) (dn pid turns : ℕ) (start told : Option (List Mark)) (answer : Ended) → RanBy rs dn pid turns start told answer → IsRun May pid turns start told answer
-run_of May pid turns start told answer r = record {
-  journal = r.journal;
-  picks = [];
-  replies = [];
-  tells = r.tells;
-  given = tt;
-  written = r.kept.written;
-  open_streams = r.kept.open_streams;
-  waits = r.waits;
-  ends = λ ne. r.ends;
-}
+-- nothing comes later
+pub last : (P : List HouseReply → ℕ → Type 0) (replies : List HouseReply) → P (replies ++ []) (length replies) → P replies (length replies)
+last P replies p = subst (λ (l : List HouseReply). P l (length replies)) (append-nil replies) p
 
-pub run_starved : (May : HouseReply → Type 0) (rs : List HouseReply) (dn pid turns : ℕ) (start told : Option (List Mark)) → PromisedBy rs pid start told turns → IsRun May pid turns start told ended.OutOfMemory
-run_starved May pid turns start told r = record {
-  journal = r.journal;
-  picks = [];
-  replies = [];
-  tells = r.tells;
-  given = tt;
-  written = r.kept.written;
-  open_streams = r.kept.open_streams;
-  waits = r.waits;
-  ends = λ ne. absurd (ne refl);
-}
+pub run_of : (May : HouseReply → Type 0) (pid turns : ℕ) (start told : Option (List Mark)) (answer : Ended) → Ran May pid turns start told answer → IsRun May pid turns start told answer
+run_of May pid turns start told answer ran =
+    let r : RanBy ran.replies (length ran.replies) pid turns start told answer = last (λ rs dn. RanBy rs dn pid turns start told answer) ran.replies (ran.at []) in
+    record {
+      journal = r.journal;
+      picks = [];
+      replies = ran.replies;
+      tells = r.tells;
+      given = ran.may;
+      written = r.kept.written;
+      open_streams = r.kept.open_streams;
+      waits = r.waits;
+      asked = λ ne. r.asked;
+      ends = λ ne. r.ends;
+    }
+
+pub run_starved : (May : HouseReply → Type 0) (pid turns : ℕ) (start told : Option (List Mark)) → Promised May pid start told turns → IsRun May pid turns start told ended.OutOfMemory
+run_starved May pid turns start told ran =
+    let r : PromisedBy ran.replies pid start told turns = last (λ rs dn. PromisedBy rs pid start told turns) ran.replies (ran.at []) in
+    record {
+      journal = r.journal;
+      picks = [];
+      replies = ran.replies;
+      tells = r.tells;
+      given = ran.may;
+      written = r.kept.written;
+      open_streams = r.kept.open_streams;
+      waits = r.waits;
+      asked = λ ne. absurd (ne refl);
+      ends = λ ne. absurd (ne refl);
+    }
 
 pub later_all : (a b c d : ℕ) → a ≤ b → c ≡ b → c ≤ d → a ≤ d
 later_all a b c d le e more = omega arith

@@ -1,6 +1,6 @@
 -- What a whole turn makes of what holds while a wire is served.
-use Rattle.std.proofs.Common.{◌≡◌, ◌≢◌, ◌≤◌, ◌<◌, ◌+◌, ℕ, Bool, true, false, List, [], ◌∷◌, ◌++◌, Option, Some, None, refl, sym, ap, ◌∙◌, subst, cond, arith, append_assoc, append-nil}
-use Rattle.std.specs.Prelude.{◌==◌, is_some, Result, Ok, Err, OnOk, MatchResult}
+use Rattle.std.proofs.Common.{◌≡◌, ◌≢◌, ◌≤◌, ◌<◌, ◌+◌, ℕ, Bool, true, false, List, [], ◌∷◌, ◌++◌, length, drop, Option, Some, None, refl, sym, ap, ◌∙◌, subst, cond, arith, append_assoc, append-nil}
+use Rattle.std.specs.Prelude.{◌==◌, is_some, nat_lt, Result, Ok, Err, OnOk, MatchResult}
 use Rattle.std.specs.Bool.{MatchBool}
 use Rattle.std.specs.Option.{option_map}
 use Rattle.mux_outside.specs.Counts.{Rose}
@@ -12,17 +12,34 @@ use Rattle.mux_outside.specs.declared.mark.Mark.TheVariants.{Waits, Accepts, Get
 use Rattle.mux_outside.specs.declared.turn.Turn.{Turn}
 use Rattle.mux_outside.specs.declared.turn.Turn.TheVariants as turn
 use Rattle.mux_outside.specs.declared.turn.Want.TheVariants.{Read}
+use Rattle.ssh_grammar.specs.declared.numbers.TheConstants.{VERSION}
+use Rattle.ssh_grammar.specs.declared.fault.BadControl.{BadControl}
+use Rattle.ssh_grammar.specs.declared.fault.BadControl.TheVariants.{Unknown}
+use Rattle.ssh_grammar.specs.Control.{Control, Hello, OpenForward, CloseForward}
+use Rattle.ssh_grammar.specs.ReadControl.{read_control}
+use Rattle.ssh_grammar.specs.Said.{Saying, Body, Payload, BadFraming, InControl}
+use Rattle.mux_history.specs.declared.why.Why.{Why}
+use Rattle.mux_history.specs.declared.why.Why.TheVariants as why
+use Rattle.mux_history.specs.declared.ended.Ended.{Ended}
 use Rattle.mux_history.specs.declared.ended.Ended.TheVariants as ended
-use Rattle.mux_engine.specs.State.{State}
-use Rattle.mux_engine.specs.Step.{numbers, after, over, changed, client_got, lost_client, added, refused, new_client, served_in}
+use Rattle.mux_history.specs.Rows.{Fate, Goes, Refused, Drop, End}
+use Rattle.mux_history.specs.Said.{Outcome, silent, drops}
+use Rattle.mux_history.specs.Controls.{answers_ask}
+use Rattle.mux_history.specs.NotBuilt.{spoken}
+use Rattle.mux_history.specs.Log.{fate_with, overflow}
+use Rattle.mux_engine.specs.State.{ClientState, State}
+use Rattle.mux_engine.specs.Answer.{answer, reading_answer}
+use Rattle.mux_engine.specs.Heeded.{Heeded, unheard, heeded, end_in, client_said, client_all, client_hears, asks_in, left_if, reply_if, is_read, is_greeted}
+use Rattle.mux_engine.specs.Step.{numbers, after, asked_at, over, changed, gained, ended_at, lost_client, added, refused, new_client, served_in}
 use Rattle.mux_engine.specs.Events.{Tells, IsNext}
 use Rattle.mux_engine.specs.declared.engine.Event.{Event}
 use Rattle.mux_engine.specs.Serving.{ServingBy, PromisedBy}
-use Rattle.mux_engine.proofs.Wires.{serve_next, promised_of}
+use Rattle.mux_engine.proofs.Others.{mark_stream}
+use Rattle.mux_engine.proofs.Wires.{serve_more, serve_next, promised_of}
 use Rattle.mux_engine.proofs.Turns.{next_waits}
 use Rattle.mux_engine.proofs.Arms.{seen_same}
 use Rattle.mux_engine.proofs.Loops.{todo_is}
-use Rattle.mux_engine.proofs.Marks.{next_says, next_accepts, next_frees}
+use Rattle.mux_engine.proofs.Marks.{OfStream, next_says, next_accepts, next_frees}
 
 two_marks : (a b : Mark) (told : Option (List Mark)) → option_map (λ m. m ++ (a ∷ b ∷ [])) told ≡ option_map (λ m. m ++ b ∷ []) (option_map (λ m. m ++ a ∷ []) told)
 two_marks a b None = refl
@@ -35,92 +52,177 @@ no_marks (Some m) = ap (λ (l : List Mark). Some l) (append-nil m)
 -- a wait was told
 waited : (rs : List HouseReply) (dn pid : ℕ) (start told : Option (List Mark)) (streams blocked held : List ℕ) (hears : Bool) (last given : ℕ) (s : State) (v : ServingBy rs dn pid start told streams blocked held hears last given [] s) → s.leaving ≡ [] → s.ended ≡ None → hears ≡ s.listening
     → ServingBy rs dn pid start (option_map (λ m. m ++ Waits s.waiting Read streams hears ∷ []) told) streams blocked held hears last (given + 1) [] s
-waited rs dn pid start told streams blocked held hears last given s v none live hear = serve_next rs dn pid start told (option_map (λ m. m ++ Waits s.waiting Read streams hears ∷ []) told) streams streams blocked blocked held held hears last last given (given + 1) [] [] s (Waits s.waiting Read streams hears) v refl
+waited rs dn pid start told streams blocked held hears last given s v none live hear = serve_next rs dn pid start told (option_map (λ m. m ++ Waits s.waiting Read streams hears ∷ []) told) streams streams blocked blocked held held hears last last given (given + 1) [] [] s (Waits s.waiting Read streams hears) v tt refl
     (next_waits rs dn pid start told streams blocked held hears last given s v none live hear)
 
-pub record Turned (rs : List HouseReply) (dn pid : ℕ) (start now : Option (List Mark)) (streams blocked held : List ℕ) (hears : Bool) (last given : ℕ) (s : State) (e : Event) (before rose : ℕ) : Type 0 where
+-- what a turn that tells an event makes of whatever held before it
+pub record Turned (pid : ℕ) (start told now : Option (List Mark)) (streams blocked held streams' blocked' : List ℕ) (hears : Bool) (last last' given : ℕ) (s : State) (e : Event) (before rose : ℕ) : Type 0 where
   pub mark : Mark
   pub tells : Tells e mark
-  pub serving : ServingBy rs dn pid start now streams blocked held hears last given (numbers (after s (drop dn rs) mark).clients) (after s (drop dn rs) mark)
-  pub failed : (after s (drop dn rs) mark).ended ≡ Some ended.ServerFailed → Rose before rose
+  pub serving : (rs : List HouseReply) (dn : ℕ) → ServingBy rs dn pid start told streams blocked held hears last given [] s
+      → ServingBy rs (dn + asked_at s (drop dn rs) mark) pid start now streams' blocked' held hears last' (given + 1) (numbers (after s (drop dn rs) mark).clients) (after s (drop dn rs) mark)
+  pub failed : (more : List HouseReply) → (after s more mark).ended ≡ Some ended.ServerFailed → Rose before rose
 
-got_on : (s : State) (k : ℕ) (bytes : List ℕ) (X : Type 0) → s.ended ≡ None → (after s (drop dn rs) (Gets k bytes)).ended ≡ Some ended.ServerFailed → X
-got_on s k bytes X live e = by_server (k == 0) (sym (ap (λ b. (cond b s (cond (k == 0) (over s ended.NotBuilt) (changed s k (client_got s.pid bytes)))).ended) (ap is_some live)) ∙ e)
+-- ---- no client's bytes make the server fail
+
+abbrev NoFault : Option Ended → Type 0
+NoFault (Some ended.ServerFailed) = ⊥
+NoFault e = Unit {0}
+
+abbrev FateFine : Fate → Type 0
+FateFine (End cause) = NoFault (Some cause)
+FateFine fate = Unit {0}
+
+fine_version : (v : ℕ) (b : Bool) → FateFine (elim b as (λ _. Outcome) [ true ↦ silent | false ↦ drops (why.Version v) ]).ends
+fine_version v true = tt
+fine_version v false = tt
+
+fine_ask : (opening : Bool) (id : ℕ) (given : Option HouseReply) → FateFine (answers_ask opening id given).ends
+fine_ask opening id None = tt
+fine_ask opening id (Some reply) = tt
+
+fine_reading : (pid k : ℕ) (given : Option HouseReply) (g : Bool) (r : Result Control BadControl) → FateFine (reading_answer pid k given g r).ends
+fine_reading pid k given true (Ok (OpenForward id what)) = fine_ask true id given
+fine_reading pid k given true (Ok (CloseForward id what)) = fine_ask false id given
+fine_reading pid k given true (Ok c) = tt
+fine_reading pid k given true (Err (Unknown kind None)) = tt
+fine_reading pid k given true (Err (Unknown kind (Some id))) = tt
+fine_reading pid k given true (Err f) = tt
+fine_reading pid k given false (Ok (Hello v es)) = fine_version v (v == VERSION)
+fine_reading pid k given false (Ok c) = tt
+fine_reading pid k given false (Err (Unknown kind id)) = tt
+fine_reading pid k given false (Err f) = tt
+
+fine_answer : (pid k : ℕ) (given : Option HouseReply) (g : Bool) (x : Saying) → FateFine (answer pid k given g x).ends
+fine_answer pid k given g (Body body) = fine_reading pid k given g (read_control body)
+fine_answer pid k given g (Payload p) = tt
+fine_answer pid k given g (BadFraming f) = tt
+
+fine_with : (f : Fate) (o : Option Why) → FateFine f → FateFine (fate_with f o)
+fine_with Goes None c = tt
+fine_with Goes (Some why) c = tt
+fine_with (Drop why) o c = tt
+fine_with Refused None c = tt
+fine_with Refused (Some why) c = tt
+fine_with (End cause) o c = c
+
+fine_end : (f : Fate) (before : Option Ended) → FateFine f → NoFault before → NoFault (end_in f before)
+fine_end Goes before c n = n
+fine_end (Drop why) before c n = n
+fine_end Refused before c n = n
+fine_end (End cause) before c n = c
+
+fine_said : (pid : ℕ) (given : Option HouseReply) (x : Saying) (h : Heeded) → NoFault h.ended → NoFault (client_said pid given x h).ended
+fine_said pid given x h n = by_read (is_read h.standing)
   where
-    by_server : (b : Bool) → (cond b (over s ended.NotBuilt) (changed s k (client_got s.pid bytes))).ended ≡ Some ended.ServerFailed → X
-    by_server true e = absurd (cc)
-    by_server false e = absurd (let w : None ≡ Some ended.ServerFailed = sym live ∙ e in cc)
+    o : Outcome
+    o = answer pid h.number given (is_greeted h.standing) x
 
-end_on : (s : State) (k : ℕ) (X : Type 0) → s.ended ≡ None → (after s (drop dn rs) (Ends k)).ended ≡ Some ended.ServerFailed → X
-end_on s k X live e = by_server (k == 0) (sym (ap (λ b. (cond b s (cond (k == 0) (over s ended.ServerEnd) (changed s k lost_client))).ended) (ap is_some live)) ∙ e)
+    by_read : (b : Bool) → NoFault (cond b (heeded x o h) h).ended
+    by_read true = fine_end (fate_with o.ends (overflow (length h.queue) o.told)) h.ended (fine_with o.ends (overflow (length h.queue) o.told) (fine_answer pid h.number given (is_greeted h.standing) x)) n
+    by_read false = n
+
+fine_all : (pid : ℕ) (xs : List Saying) (more : List HouseReply) (h : Heeded) → NoFault h.ended → NoFault (client_all pid more xs h).ended
+fine_all pid [] more h n = n
+fine_all pid (x ∷ xs) more h n = fine_all pid xs (left_if (asks_in h x) more) (client_said pid (reply_if (asks_in h x) more) x h) (fine_said pid (reply_if (asks_in h x) more) x h n)
+
+fine_hears : (pid : ℕ) (more : List HouseReply) (bytes : List ℕ) (c : ClientState) → NoFault (client_hears pid more bytes c).ended
+fine_hears pid more bytes c = by_read (is_read c.standing)
+  where
+    by_read : (b : Bool) → NoFault (cond b (client_all pid more (spoken InControl (c.rest ++ bytes)).says (unheard c)) (unheard c)).ended
+    by_read true = fine_all pid (spoken InControl (c.rest ++ bytes)).says more (unheard c) tt
+    by_read false = tt
+
+fine_look : (hear : ClientState → Heeded) (k : ℕ) (cs : List ClientState) → ((c : ClientState) → NoFault (hear c).ended) → NoFault (ended_at k hear cs)
+fine_look hear k [] h = tt
+fine_look hear k (c ∷ cs) h = by_number (c.number == k) (fine_look hear k cs h)
+  where
+    by_number : (b : Bool) → NoFault (ended_at k hear cs) → NoFault (cond b (hear c).ended (ended_at k hear cs))
+    by_number true n = h c
+    by_number false n = n
+
+no_fault : (o : Option Ended) (X : Type 0) → NoFault o → o ≡ Some ended.ServerFailed → X
+no_fault o X n e = absurd (subst NoFault e n)
+
+-- ---- each turn
+
+got_on : (s : State) (more : List HouseReply) (k : ℕ) (bytes : List ℕ) (X : Type 0) → s.ended ≡ None → (after s more (Gets k bytes)).ended ≡ Some ended.ServerFailed → X
+got_on s more k bytes X live e = by_server (k == 0) (sym (ap (λ b. (cond b s (cond (k == 0) (over s ended.NotBuilt) (gained s k more bytes))).ended) (ap is_some live)) ∙ e)
+  where
+    by_server : (b : Bool) → (cond b (over s ended.NotBuilt) (gained s k more bytes)).ended ≡ Some ended.ServerFailed → X
+    by_server true e = absurd (cc)
+    by_server false e = no_fault (ended_at k (client_hears s.pid more bytes) s.clients) X (fine_look (client_hears s.pid more bytes) k s.clients (λ c. fine_hears s.pid more bytes c)) e
+
+end_on : (s : State) (more : List HouseReply) (k : ℕ) (X : Type 0) → s.ended ≡ None → (after s more (Ends k)).ended ≡ Some ended.ServerFailed → X
+end_on s more k X live e = by_server (k == 0) (sym (ap (λ b. (cond b s (cond (k == 0) (over s ended.ServerEnd) (changed s k lost_client))).ended) (ap is_some live)) ∙ e)
   where
     by_server : (b : Bool) → (cond b (over s ended.ServerEnd) (changed s k lost_client)).ended ≡ Some ended.ServerFailed → X
     by_server true e = absurd (cc)
     by_server false e = absurd (let w : None ≡ Some ended.ServerFailed = sym live ∙ e in cc)
 
-accept_on : (s : State) (k : ℕ) (X : Type 0) → s.ended ≡ None → (after s (drop dn rs) (Accepts k)).ended ≡ Some ended.ServerFailed → X
-accept_on s k X live e = absurd (let w : None ≡ Some ended.ServerFailed = sym live ∙ (sym (same (is_some s.ended) (Rattle.std.specs.Prelude.nat_lt (Rattle.std.proofs.Common.length (served_in s.clients)) 64)) ∙ e) in cc)
+accept_on : (s : State) (more : List HouseReply) (k : ℕ) (X : Type 0) → s.ended ≡ None → (after s more (Accepts k)).ended ≡ Some ended.ServerFailed → X
+accept_on s more k X live e = absurd (let w : None ≡ Some ended.ServerFailed = sym live ∙ (sym (same (is_some s.ended) (nat_lt (length (served_in s.clients)) 64)) ∙ e) in cc)
   where
     same : (b c : Bool) → (cond b s (cond c (added s (new_client k)) (refused s k))).ended ≡ s.ended
     same true c = refl
     same false true = refl
     same false false = refl
 
-fail_on : (s : State) (k : ℕ) (a b c d : ℕ) → s.ended ≡ None → StreamFault k a b c d → (after s (drop dn rs) (Fails k)).ended ≡ Some ended.ServerFailed → Rose a b
-fail_on s k a b c d live f e = by_server (k == 0) f (sym (ap (λ t. (cond t s (cond (k == 0) (over s ended.ServerFailed) (changed s k lost_client))).ended) (ap is_some live)) ∙ e)
+fail_on : (s : State) (more : List HouseReply) (k : ℕ) (a b c d : ℕ) → s.ended ≡ None → StreamFault k a b c d → (after s more (Fails k)).ended ≡ Some ended.ServerFailed → Rose a b
+fail_on s more k a b c d live f e = by_server (k == 0) f (sym (ap (λ t. (cond t s (cond (k == 0) (over s ended.ServerFailed) (changed s k lost_client))).ended) (ap is_some live)) ∙ e)
   where
     by_server : (t : Bool) → MatchBool t (Rose a b × (d ≡ c)) ((b ≡ a) × Rose c d) → (cond t (over s ended.ServerFailed) (changed s k lost_client)).ended ≡ Some ended.ServerFailed → Rose a b
     by_server true f e = f.0
     by_server false f e = absurd (let w : None ≡ Some ended.ServerFailed = sym live ∙ e in cc)
 
-pub turned : (rs : List HouseReply) (dn pid : ℕ) (start told now : Option (List Mark)) (streams blocked held : List ℕ) (hears : Bool) (last given : ℕ) (s : State) (v : ServingBy rs dn pid start told streams blocked held hears last given [] s) → s.leaving ≡ [] → s.ended ≡ None → hears ≡ s.listening
+says_mark : (rs : List HouseReply) (dn pid : ℕ) (start told now : Option (List Mark)) (streams blocked held : List ℕ) (hears : Bool) (last given : ℕ) (s : State) (v : ServingBy rs dn pid start told streams blocked held hears last given [] s) → s.leaving ≡ [] → s.ended ≡ None → hears ≡ s.listening
+    → (mark : Mark) → now ≡ option_map (λ m. m ++ (Waits s.waiting Read streams hears ∷ mark ∷ [])) told → OfStream mark → among (mark_stream mark) streams ≡ true
+    → ServingBy rs (dn + asked_at s (drop dn rs) mark) pid start now streams blocked held hears last (given + 1) (numbers (after s (drop dn rs) mark).clients) (after s (drop dn rs) mark)
+says_mark rs dn pid start told now streams blocked held hears last given s v none live hear mark n o found =
+    let waits : Option (List Mark) = option_map (λ m. m ++ Waits s.waiting Read streams hears ∷ []) told in
+    let w : ServingBy rs dn pid start waits streams blocked held hears last (given + 1) [] s = waited rs dn pid start told streams blocked held hears last given s v none live hear in
+    serve_more rs dn (dn + asked_at s (drop dn rs) mark) pid start waits now streams streams blocked blocked held held hears last last (given + 1) (given + 1) [] (numbers (after s (drop dn rs) mark).clients) s mark w refl
+    (n ∙ two_marks (Waits s.waiting Read streams hears) mark told) (next_says rs dn pid start waits streams blocked held hears last (given + 1) s w mark o found)
+
+pub turned : (pid : ℕ) (start told now : Option (List Mark)) (streams blocked held : List ℕ) (hears : Bool) (last given : ℕ) (s : State) → s.leaving ≡ [] → s.ended ≡ None → hears ≡ s.listening
     → (t : Turn) (bytes : List ℕ) (e : Event) (a b c d : ℕ) → TurnFits t Read hears last streams blocked bytes → now ≡ option_map (λ m. m ++ wait_marks t s.waiting Read streams hears bytes) told → IsNext (Some e) t bytes → TurnFaults t a b c d
-    → Turned rs dn pid start now (open_after t streams) (blocked_after t blocked) held hears (last_after t last) (given + 1) s e a b
-turned rs dn pid start told now streams blocked held hears last given s v none live hear (turn.Accepted k) bytes e a b c d fits n tells f =
-    let w : ServingBy rs dn pid start (option_map (λ m. m ++ Waits s.waiting Read streams hears ∷ []) told) streams blocked held hears last (given + 1) [] s = waited rs dn pid start told streams blocked held hears last given s v none live hear in
-    record {
-      mark = Accepts k;
-      tells = tells;
-      serving = serve_next rs dn pid start (option_map (λ m. m ++ Waits s.waiting Read streams hears ∷ []) told) now streams (streams ++ k ∷ []) blocked blocked held held hears last k (given + 1) (given + 1) [] (numbers (after s (drop dn rs) (Accepts k)).clients) s (Accepts k) w
-          (n ∙ two_marks (Waits s.waiting Read streams hears) (Accepts k) told) (next_accepts rs dn pid start (option_map (λ m. m ++ Waits s.waiting Read streams hears ∷ []) told) streams blocked held hears last (given + 1) s w k fits.2 live);
-      failed = accept_on s k (Rose a b) live;
-    }
-turned rs dn pid start told now streams blocked held hears last given s v none live hear (turn.Got k) bytes e a b c d fits n tells f =
-    let w : ServingBy rs dn pid start (option_map (λ m. m ++ Waits s.waiting Read streams hears ∷ []) told) streams blocked held hears last (given + 1) [] s = waited rs dn pid start told streams blocked held hears last given s v none live hear in
-    record {
-      mark = Gets k bytes;
-      tells = tells;
-      serving = serve_next rs dn pid start (option_map (λ m. m ++ Waits s.waiting Read streams hears ∷ []) told) now streams streams blocked blocked held held hears last last (given + 1) (given + 1) [] (numbers (after s (drop dn rs) (Gets k bytes)).clients) s (Gets k bytes) w
-          (n ∙ two_marks (Waits s.waiting Read streams hears) (Gets k bytes) told) (next_says rs dn pid start (option_map (λ m. m ++ Waits s.waiting Read streams hears ∷ []) told) streams blocked held hears last (given + 1) s w (Gets k bytes) tt fits.1);
-      failed = got_on s k bytes (Rose a b) live;
-    }
-turned rs dn pid start told now streams blocked held hears last given s v none live hear (turn.End k) bytes e a b c d fits n tells f =
-    let w : ServingBy rs dn pid start (option_map (λ m. m ++ Waits s.waiting Read streams hears ∷ []) told) streams blocked held hears last (given + 1) [] s = waited rs dn pid start told streams blocked held hears last given s v none live hear in
-    record {
-      mark = Ends k;
-      tells = tells;
-      serving = serve_next rs dn pid start (option_map (λ m. m ++ Waits s.waiting Read streams hears ∷ []) told) now streams streams blocked blocked held held hears last last (given + 1) (given + 1) [] (numbers (after s (drop dn rs) (Ends k)).clients) s (Ends k) w
-          (n ∙ two_marks (Waits s.waiting Read streams hears) (Ends k) told) (next_says rs dn pid start (option_map (λ m. m ++ Waits s.waiting Read streams hears ∷ []) told) streams blocked held hears last (given + 1) s w (Ends k) tt fits.1);
-      failed = end_on s k (Rose a b) live;
-    }
-turned rs dn pid start told now streams blocked held hears last given s v none live hear (turn.Failed k) bytes e a b c d fits n tells f =
-    let w : ServingBy rs dn pid start (option_map (λ m. m ++ Waits s.waiting Read streams hears ∷ []) told) streams blocked held hears last (given + 1) [] s = waited rs dn pid start told streams blocked held hears last given s v none live hear in
-    record {
-      mark = Fails k;
-      tells = tells;
-      serving = serve_next rs dn pid start (option_map (λ m. m ++ Waits s.waiting Read streams hears ∷ []) told) now streams streams blocked blocked held held hears last last (given + 1) (given + 1) [] (numbers (after s (drop dn rs) (Fails k)).clients) s (Fails k) w
-          (n ∙ two_marks (Waits s.waiting Read streams hears) (Fails k) told) (next_says rs dn pid start (option_map (λ m. m ++ Waits s.waiting Read streams hears ∷ []) told) streams blocked held hears last (given + 1) s w (Fails k) tt fits);
-      failed = fail_on s k a b c d live f;
-    }
-turned rs dn pid start told now streams blocked held hears last given s v none live hear (turn.Writable k) bytes e a b c d fits n tells f = absurd tells
-turned rs dn pid start told now streams blocked held hears last given s v none live hear turn.NoMemory bytes e a b c d fits n tells f = absurd tells
+    → Turned pid start told now streams blocked held (open_after t streams) (blocked_after t blocked) hears last (last_after t last) given s e a b
+turned pid start told now streams blocked held hears last given s none live hear (turn.Accepted k) bytes e a b c d fits n tells f = record {
+  mark = Accepts k;
+  tells = tells;
+  serving = λ rs dn v. let waits : Option (List Mark) = option_map (λ m. m ++ Waits s.waiting Read streams hears ∷ []) told in
+      let w : ServingBy rs dn pid start waits streams blocked held hears last (given + 1) [] s = waited rs dn pid start told streams blocked held hears last given s v none live hear in
+      serve_more rs dn (dn + asked_at s (drop dn rs) (Accepts k)) pid start waits now streams (streams ++ k ∷ []) blocked blocked held held hears last k (given + 1) (given + 1) [] (numbers (after s (drop dn rs) (Accepts k)).clients) s (Accepts k) w refl
+      (n ∙ two_marks (Waits s.waiting Read streams hears) (Accepts k) told) (next_accepts rs dn pid start waits streams blocked held hears last (given + 1) s w k fits.2 live);
+  failed = λ more. accept_on s more k (Rose a b) live;
+}
+turned pid start told now streams blocked held hears last given s none live hear (turn.Got k) bytes e a b c d fits n tells f = record {
+  mark = Gets k bytes;
+  tells = tells;
+  serving = λ rs dn v. says_mark rs dn pid start told now streams blocked held hears last given s v none live hear (Gets k bytes) n tt fits.1;
+  failed = λ more. got_on s more k bytes (Rose a b) live;
+}
+turned pid start told now streams blocked held hears last given s none live hear (turn.End k) bytes e a b c d fits n tells f = record {
+  mark = Ends k;
+  tells = tells;
+  serving = λ rs dn v. says_mark rs dn pid start told now streams blocked held hears last given s v none live hear (Ends k) n tt fits.1;
+  failed = λ more. end_on s more k (Rose a b) live;
+}
+turned pid start told now streams blocked held hears last given s none live hear (turn.Failed k) bytes e a b c d fits n tells f = record {
+  mark = Fails k;
+  tells = tells;
+  serving = λ rs dn v. says_mark rs dn pid start told now streams blocked held hears last given s v none live hear (Fails k) n tt fits;
+  failed = λ more. fail_on s more k a b c d live f;
+}
+turned pid start told now streams blocked held hears last given s none live hear (turn.Writable k) bytes e a b c d fits n tells f = absurd tells
+turned pid start told now streams blocked held hears last given s none live hear turn.NoMemory bytes e a b c d fits n tells f = absurd tells
 
 pub freed : (rs : List HouseReply) (dn pid : ℕ) (start told now : Option (List Mark)) (streams blocked held : List ℕ) (hears : Bool) (last given : ℕ) (s : State) (v : ServingBy rs dn pid start told streams blocked held hears last given [] s) → s.leaving ≡ [] → s.ended ≡ None → hears ≡ s.listening
     → (k : ℕ) → among k streams ≡ true → now ≡ option_map (λ m. m ++ (Waits s.waiting Read streams hears ∷ Frees k ∷ [])) told
     → ServingBy rs dn pid start now streams (without k blocked) (without k held) hears last (given + 1) (numbers s.clients) s
 freed rs dn pid start told now streams blocked held hears last given s v none live hear k here n =
     let w : ServingBy rs dn pid start (option_map (λ m. m ++ Waits s.waiting Read streams hears ∷ []) told) streams blocked held hears last (given + 1) [] s = waited rs dn pid start told streams blocked held hears last given s v none live hear in
-    serve_next rs dn pid start (option_map (λ m. m ++ Waits s.waiting Read streams hears ∷ []) told) now streams streams blocked (without k blocked) held (without k held) hears last last (given + 1) (given + 1) [] (numbers s.clients) s (Frees k) w
+    serve_next rs dn pid start (option_map (λ m. m ++ Waits s.waiting Read streams hears ∷ []) told) now streams streams blocked (without k blocked) held (without k held) hears last last (given + 1) (given + 1) [] (numbers s.clients) s (Frees k) w tt
     (n ∙ two_marks (Waits s.waiting Read streams hears) (Frees k) told) (next_frees rs dn pid start (option_map (λ m. m ++ Waits s.waiting Read streams hears ∷ []) told) streams blocked held hears last (given + 1) s w k here)
 
 pub more_given : (rs : List HouseReply) (dn pid : ℕ) (start now : Option (List Mark)) (given more : ℕ) → given ≤ more → PromisedBy rs pid start now given → PromisedBy rs pid start now more
