@@ -12,7 +12,7 @@ use Rattle.mux_outside.specs.declared.mark.Mark.{Mark}
 use Rattle.mux_outside.specs.declared.mark.Mark.TheVariants.{WriteFails}
 use Rattle.mux_history.specs.declared.ended.Ended.TheVariants as ended
 use Rattle.mux_engine.specs.State.{ClientState, State}
-use Rattle.mux_engine.specs.Step.{is_present, numbers, queue_in, at_client, client_took, taken, over, changed, lost_client, after}
+use Rattle.mux_engine.specs.Step.{is_present, numbers, queue_in, at_client, client_took, taken, over, changed, lost_client, after, Steps}
 use Rattle.mux_engine.specs.Stands.{setting, StandsFor}
 use Rattle.mux_engine.specs.Serving.{ServingBy}
 use Rattle.mux_engine.proofs.Grows.{test_other, or_true}
@@ -56,6 +56,10 @@ failed_ended s more k nz = ap (λ b. (cond (is_some s.ended) s (cond b (over s e
     by_end : (b : Bool) → (cond b s (changed s k lost_client)).ended ≡ s.ended
     by_end true = refl
     by_end false = refl
+
+-- a stream that failed draws no reply
+pub failed_state : {May : HouseReply → Type 0} (s s' : State) (k : ℕ) (more : List HouseReply) → Steps May s s' (WriteFails k) → s' ≡ after s more (WriteFails k)
+failed_state s s' k more steps = steps.state []
 
 -- where a client's stream failed, the server's count stays
 pub client_fault : (k a b c d : ℕ) → k ≢ 0 → StreamFault k a b c d → b ≡ a

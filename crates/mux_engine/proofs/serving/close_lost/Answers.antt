@@ -17,8 +17,8 @@ loop-client-preserved g c =
     let s : State = c.loop-client.engine in
     let first : IsFirst k s.leaving = first_is k c.in-Some.field-0-1 s.leaving (sym c.in-Some.ensures.exact) in
     record {
-      serving = λ pid start given v. told_is _ _ _ _ _ _ _ _ _ _ _ _
-          (seen_same _ _ _ _ _ _ _ _ _ _ _ _ _ _ _ (closed_by s k) c.closed.new.self (serve_closed _ _ _ _ _ _ _ _ _ _ s k (c.loop-client.invariant.serving pid start given v) first)
+      serving = λ rs dn pid start given v. told_is _ _ _ _ _ _ _ _ _ _ _ _ _ _
+          (seen_same _ _ _ _ _ _ _ _ _ _ _ _ _ _ _ _ _ (closed_by s k) c.closed.new.self (serve_closed _ _ _ _ _ _ _ _ _ _ _ _ s k (c.loop-client.invariant.serving rs dn pid start given v) first)
           c.close.ensures.streams c.close.ensures.blocked c.remove.ensures c.close.ensures.listens c.close.ensures.last c.closed.ensures.step)
           c.close.ensures.told;
       ended = ap (λ (t : State). t.ended) c.closed.ensures.step ∙ c.loop-client.invariant.ended;

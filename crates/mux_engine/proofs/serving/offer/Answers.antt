@@ -10,19 +10,21 @@ offer_once-requires-clause-served g c = let w = c.requires.served in record {
   given = w.given;
   todo = c.args.stream ∷ w.todo;
   pid = w.pid;
-  serving = c.loop.invariant.serving w.pid w.start w.given w.todo (wider _ _ _ _ _ _ _ _ _ _ c.args.engine.now c.args.stream w.serving);
+  replies = w.replies;
+  drawn = w.drawn;
+  serving = c.loop.invariant.serving w.replies w.drawn w.pid w.start w.given w.todo (wider _ _ _ _ _ _ _ _ _ _ _ _ c.args.engine.now c.args.stream w.serving);
 }
 
 pub offer_once-requires-clause-here : goal.offer_once-requires-clause-here
 offer_once-requires-clause-here g c = still_here c.args.engine.now c.loop.engine c.args.stream c.loop.invariant.numbers_are c.requires.here
 
 pub returns-in_err-offer_once-clause-serving : goal.returns-in_err-offer_once-clause-serving
-returns-in_err-offer_once-clause-serving g c pid start given todo v = on_err c.from_residual.result _ _ c.from_residual.ensures.0
-    (c.in_err-offer_once.ensures.serving pid start given (c.args.stream ∷ todo) (c.loop.invariant.serving pid start given todo v))
+returns-in_err-offer_once-clause-serving g c rs dn pid start given todo v = on_err c.from_residual.result _ _ c.from_residual.ensures.0
+    (c.in_err-offer_once.ensures.serving rs dn pid start given (c.args.stream ∷ todo) (c.loop.invariant.serving rs dn pid start given todo v))
 
 pub loop-preserved : goal.loop-preserved
 loop-preserved g c = record {
-  serving = λ pid start given todo v. on_more _ _ _ _ _ _ _ _ _ todo _ c.args.stream _ c.if-branch.true (c.in_ok-offer_once.ensures.serving pid start given (c.args.stream ∷ todo) (c.loop.invariant.serving pid start given todo v));
+  serving = λ rs dn pid start given todo v. on_more _ _ _ _ _ _ _ _ _ _ _ todo _ c.args.stream _ c.if-branch.true (c.in_ok-offer_once.ensures.serving rs dn pid start given (c.args.stream ∷ todo) (c.loop.invariant.serving rs dn pid start given todo v));
   numbers_are = c.in_ok-offer_once.ensures.here ∙ c.loop.invariant.numbers_are;
   free = c.in_ok-offer_once.ensures.free c.if-branch.true;
   ended = c.in_ok-offer_once.ensures.ended ∙ c.loop.invariant.ended;
@@ -31,14 +33,14 @@ loop-preserved g c = record {
 }
 
 pub returns-clause-serving : goal.returns-clause-serving
-returns-clause-serving g c pid start given todo v = on_done _ _ _ _ _ _ _ _ _ todo _ c.args.stream _ c.if-branch.false (c.in_ok-offer_once.ensures.serving pid start given (c.args.stream ∷ todo) (c.loop.invariant.serving pid start given todo v))
+returns-clause-serving g c rs dn pid start given todo v = on_done _ _ _ _ _ _ _ _ _ _ _ todo _ c.args.stream _ c.if-branch.false (c.in_ok-offer_once.ensures.serving rs dn pid start given (c.args.stream ∷ todo) (c.loop.invariant.serving rs dn pid start given todo v))
 
 pub returns-then-contains-clause-serving : goal.returns-then-contains-clause-serving
-returns-then-contains-clause-serving g c pid start given todo v = held_back _ _ _ _ _ _ _ _ _ todo c.args.engine.now c.args.stream v c.requires.here (sym c.if-contains.ensures)
+returns-then-contains-clause-serving g c rs dn pid start given todo v = held_back _ _ _ _ _ _ _ _ _ _ _ todo c.args.engine.now c.args.stream v c.requires.here (sym c.if-contains.ensures)
 
 pub loop-init : goal.loop-init
 loop-init g c = let w = c.requires.served in record {
-  serving = λ pid start given todo v. v;
+  serving = λ rs dn pid start given todo v. v;
   numbers_are = refl;
   free = ap (among c.args.stream) (sym w.serving.held_is) ∙ sym c.if-contains.ensures;
   ended = refl;
