@@ -21,7 +21,7 @@ use Rattle.mux_engine.proofs.Arms.{seen_same}
 use Rattle.mux_engine.proofs.Loops.{todo_is}
 use Rattle.mux_engine.proofs.Turned.{no_marks}
 
-new_stands : (rs : List HouseReply) (pid : ℕ) → StandsFor rs 0 (new_state pid) [] []
+pub new_stands : (rs : List HouseReply) (pid : ℕ) → StandsFor rs 0 (new_state pid) [] []
 new_stands rs pid = record {
   drawn_is = refl;
   ended_is = refl;

@@ -308,6 +308,12 @@ impl Engine {
         }
     }
 
+    fn do_closing(&self) -> Option<(u64, Option<Why>)>
+        ensures { result ≡ first_of self.now.leaving }
+    {
+        self.leaving.first().copied()
+    }
+
     fn do_closed(&mut self, client: u64)
         ensures { self.new ≡ closed_by self.old client }
     {
@@ -405,7 +411,7 @@ impl Engine {
         ensures exact { result ≡ first_of self.now.leaving }
         ensures stands { (given : List TheReply) (marks : List TheMark) (closed : List ℕ) → Stands given self.now marks closed → result ≡ first_of (filter (not_closed closed) (losses (log self.now.pid given marks))) }
     {
-        self.leaving.first().copied()
+        self.do_closing()
     }
 
     /// The stream of the client that `closing` shows was closed: nothing waits for it any more.
@@ -416,10 +422,4 @@ impl Engine {
     {
         self.do_closed(client);
     }
-}
-
-fn scratch(n: usize) -> usize
-    ensures { result ≡ n }
-{
-    n
 }
