@@ -15,7 +15,7 @@ use Rattle.mux_engine.specs.Step.{numbers, new_state}
 use Rattle.mux_engine.specs.Events.{went_of}
 use Rattle.mux_engine.specs.declared.engine.Went.TheVariants.{On, Ended as Over}
 use Rattle.mux_engine.specs.Stands.{log, StandsFor}
-use Rattle.mux_engine.specs.Serving.{ServingBy, Promised, PromisedBy, Ran, RanBy, IsRun}
+use Rattle.mux_engine.specs.Serving.{Serving, ServingBy, IsServedBut, Promised, PromisedBy, Ran, RanBy, IsRun}
 use Rattle.mux_engine.proofs.Moved.{true_false}
 use Rattle.mux_engine.proofs.Arms.{seen_same}
 use Rattle.mux_engine.proofs.Loops.{todo_is}
@@ -144,6 +144,14 @@ run_starved May pid turns start told ran =
       asked = λ ne. absurd (ne refl);
       ends = λ ne. absurd (ne refl);
     }
+
+-- what a step needs of it
+pub served_but : (May : HouseReply → Type 0) (pid : ℕ) (start told : Option (List Mark)) (streams blocked held : List ℕ) (listens : Bool) (last given : ℕ) (todo : List ℕ) (s : State) → Serving May pid start told streams blocked held listens last given todo s → IsServedBut told streams blocked held listens last todo s
+served_but May pid start told streams blocked held listens last given todo s v = record { start = start; given = given; pid = pid; replies = v.replies ++ []; drawn = length v.replies; serving = v.at [] }
+
+pub starting : (May : HouseReply → Type 0) (s : State) (told : Option (List Mark)) (streams blocked : List ℕ) (listens : Bool) (last : ℕ) → s ≡ new_state s.pid → streams ≡ 0 ∷ [] → blocked ≡ [] → listens ≡ true
+    → Serving May s.pid told told streams blocked [] listens last 0 (numbers s.clients) s
+starting May s told streams blocked listens last fresh a b d = record { replies = []; may = tt; at = λ later. starts later s told streams blocked listens last fresh a b d }
 
 pub later_all : (a b c d : ℕ) → a ≤ b → c ≡ b → c ≤ d → a ≤ d
 later_all a b c d le e more = omega arith

@@ -30,10 +30,11 @@ use Rattle.mux_history.specs.Log.{fate_with, overflow}
 use Rattle.mux_engine.specs.State.{ClientState, State}
 use Rattle.mux_engine.specs.Answer.{answer, reading_answer}
 use Rattle.mux_engine.specs.Heeded.{Heeded, unheard, heeded, end_in, client_said, client_all, client_hears, asks_in, left_if, reply_if, is_read, is_greeted}
-use Rattle.mux_engine.specs.Step.{numbers, after, asked_at, over, changed, gained, ended_at, lost_client, added, refused, new_client, served_in}
+use Rattle.mux_engine.specs.Step.{numbers, Steps, after, asked_at, over, changed, gained, ended_at, lost_client, added, refused, new_client, served_in}
 use Rattle.mux_engine.specs.Events.{Tells, IsNext}
 use Rattle.mux_engine.specs.declared.engine.Event.{Event}
-use Rattle.mux_engine.specs.Serving.{ServingBy, PromisedBy}
+use Rattle.mux_engine.specs.Serving.{Serving, ServingBy, Promised, PromisedBy}
+use Rattle.mux_engine.proofs.Drawn.{through, through_mark}
 use Rattle.mux_engine.proofs.Others.{mark_stream}
 use Rattle.mux_engine.proofs.Wires.{serve_more, serve_next, promised_of}
 use Rattle.mux_engine.proofs.Turns.{next_waits}
@@ -216,6 +217,24 @@ turned pid start told now streams blocked held hears last given s none live hear
 }
 turned pid start told now streams blocked held hears last given s none live hear (turn.Writable k) bytes e a b c d fits n tells f = absurd tells
 turned pid start told now streams blocked held hears last given s none live hear turn.NoMemory bytes e a b c d fits n tells f = absurd tells
+
+-- it goes on with what the house replies at its mark
+pub turned_serving : (May : HouseReply → Type 0) (pid : ℕ) (start told now : Option (List Mark)) (streams blocked held streams' blocked' : List ℕ) (hears : Bool) (last last' given : ℕ) (s new : State) (e : Event) (a b : ℕ)
+    → (t : Turned pid start told now streams blocked held streams' blocked' hears last last' given s e a b) → Serving May pid start told streams blocked held hears last given [] s → Steps May s new t.mark
+    → Serving May pid start now streams' blocked' held hears last' (given + 1) (numbers new.clients) new
+turned_serving May pid start told now streams blocked held streams' blocked' hears last last' given s new e a b t v steps =
+    through_mark (λ rs dn. ServingBy rs dn pid start told streams blocked held hears last given [] s) (λ rs dn x. ServingBy rs dn pid start now streams' blocked' held hears last' (given + 1) (numbers x.clients) x) s new t.mark t.serving steps v
+
+pub turned_promised : (May : HouseReply → Type 0) (pid : ℕ) (start told now : Option (List Mark)) (streams blocked held streams' blocked' : List ℕ) (hears : Bool) (last last' given : ℕ) (s : State) (e : Event) (a b : ℕ)
+    → Turned pid start told now streams blocked held streams' blocked' hears last last' given s e a b → Serving May pid start told streams blocked held hears last given [] s → Promised May pid start now (given + 1)
+turned_promised May pid start told now streams blocked held streams' blocked' hears last last' given s e a b t =
+    through (λ rs dn. ServingBy rs dn pid start told streams blocked held hears last given [] s) (λ rs dn. PromisedBy rs pid start now (given + 1))
+    (λ rs dn w. promised_of rs (dn + asked_at s (drop dn rs) t.mark) pid start now streams' blocked' held hears last' (given + 1) (numbers (after s (drop dn rs) t.mark).clients) (after s (drop dn rs) t.mark) (t.serving rs dn w))
+
+pub turned_failed : (May : HouseReply → Type 0) (pid : ℕ) (start told now : Option (List Mark)) (streams blocked held streams' blocked' : List ℕ) (hears : Bool) (last last' given : ℕ) (s new : State) (e : Event) (a b : ℕ)
+    → (t : Turned pid start told now streams blocked held streams' blocked' hears last last' given s e a b) → Steps May s new t.mark → new.ended ≡ Some ended.ServerFailed → Rose a b
+turned_failed May pid start told now streams blocked held streams' blocked' hears last last' given s new e a b t steps over =
+    t.failed (steps.given ++ []) (sym (ap (λ (x : State). x.ended) (steps.state [])) ∙ over)
 
 pub freed : (rs : List HouseReply) (dn pid : ℕ) (start told now : Option (List Mark)) (streams blocked held : List ℕ) (hears : Bool) (last given : ℕ) (s : State) (v : ServingBy rs dn pid start told streams blocked held hears last given [] s) → s.leaving ≡ [] → s.ended ≡ None → hears ≡ s.listening
     → (k : ℕ) → among k streams ≡ true → now ≡ option_map (λ m. m ++ (Waits s.waiting Read streams hears ∷ Frees k ∷ [])) told

@@ -104,6 +104,13 @@ pub record IsServedBut (told : Option (List Mark)) (streams blocked held : List 
   pub drawn : ℕ
   pub serving : ServingBy replies drawn pid start told streams blocked held listens last given todo s
 
+-- the same for the replies that the house gave, with all clients still to be offered what waits for them
+pub record IsRunning (May : HouseReply → Type 0) (told : Option (List Mark)) (streams blocked held : List ℕ) (listens : Bool) (last : ℕ) (s : State) : Type 0 where
+  pub start : Option (List Mark)
+  pub given : ℕ
+  pub pid : ℕ
+  pub serving : Serving May pid start told streams blocked held listens last given (numbers s.clients) s
+
 -- what is left of it for want of memory
 pub record PromisedBy (replies : List HouseReply) (pid : ℕ) (start told : Option (List Mark)) (given : ℕ) : Type 0 where
   pub journal : List Mark

@@ -8,7 +8,7 @@ ghost use Rattle.mux_engine.specs.Step.{is_present, numbers, queue_in, new_state
 ghost use Rattle.mux_engine.specs.Events.{went_of, IsNext, Tells};
 ghost use Rattle.mux_outside.specs.declared.mark.Mark.TheVariants.{Gets, Ends, Fails};
 ghost use Rattle.mux_outside.specs.declared.house.HouseReply.{HouseReply as TheReply};
-ghost use Rattle.mux_engine.specs.Serving.{IsRun, Serving, ServingBy, IsServed, IsServedBut, Promised, PromisedBy, Ran};
+ghost use Rattle.mux_engine.specs.Serving.{IsRun, IsRunning, Serving, ServingBy, IsServed, IsServedBut, Promised, PromisedBy, Ran};
 
 use crate::engine::{Engine, Event, Went};
 use mux_history::Ended;
@@ -131,7 +131,7 @@ fn close_lost<W: Wire>(engine: &mut Engine, wire: &mut W, held: &mut Streams)
 
 // Accepts no more clients where the engine wants none.
 fn hush<W: Wire>(engine: &Engine, wire: &mut W)
-    requires served { IsServedBut (W.told wire.old) (W.streams wire.old) (W.blocked wire.old) (W.blocked wire.old) (W.listens wire.old) (W.last wire.old) [] engine.now }
+    requires hears { engine.now.listening ≡ true → W.listens wire.old ≡ true }
     ensures serving { (replies : List TheReply) (drawn pid : ℕ) (start : Option (List TheMark)) (held : List ℕ) (given : ℕ) →
         ServingBy replies drawn pid start (W.told wire.old) (W.streams wire.old) (W.blocked wire.old) held (W.listens wire.old) (W.last wire.old) given [] engine.now →
         ServingBy replies drawn pid start (W.told wire.new) (W.streams wire.new) (W.blocked wire.new) held (W.listens wire.new) (W.last wire.new) given [] engine.now }
@@ -261,7 +261,7 @@ fn run<W: Wire, H: House>(
     house: &mut H,
     turns: u64,
 ) -> Result<Ended, OutOfMemory>
-    requires served { IsServedBut (W.told wire.old) (W.streams wire.old) (W.blocked wire.old) [] (W.listens wire.old) (W.last wire.old) (numbers engine.old.clients) engine.old }
+    requires running { IsRunning H.may (W.told wire.old) (W.streams wire.old) (W.blocked wire.old) [] (W.listens wire.old) (W.last wire.old) engine.old }
     requires on { engine.old.ended ≡ None }
     ensures ran { (pid : ℕ) (start : Option (List TheMark)) →
         Serving H.may pid start (W.told wire.old) (W.streams wire.old) (W.blocked wire.old) [] (W.listens wire.old) (W.last wire.old) 0 (numbers engine.old.clients) engine.old →

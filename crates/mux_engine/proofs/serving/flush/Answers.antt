@@ -13,7 +13,7 @@ loop-stream-init g c =
     record {
       serving = λ rs dn pid start given v. todo_is _ _ _ _ _ _ _ _ _ _ _ _ _ s (only_waiting _ _ _ _ _ _ _ _ _ _ _ s v) (sym items);
       numbers_are = Rattle.std.proofs.Common.refl;
-      here = λ t a. waits_here s w.serving.journal w.serving.closed t w.serving.stands (subst (λ (l : List ℕ). among t l ≡ true) items a);
+      here = λ t a. waits_here w.replies w.drawn s w.serving.journal w.serving.closed t w.serving.stands (subst (λ (l : List ℕ). among t l ≡ true) items a);
       ended = Rattle.std.proofs.Common.refl;
       faults = Rattle.std.proofs.Common.refl;
       openings = Rattle.std.proofs.Common.refl;

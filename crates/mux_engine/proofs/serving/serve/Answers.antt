@@ -1,21 +1,21 @@
 use Rattle.mux_engine.specs.State.{State}
-use Rattle.mux_engine.proofs.Runs.{starts, run_of, run_starved}
+use Rattle.mux_engine.proofs.Runs.{starting, run_of, run_starved}
 use Rattle.mux_engine.proofs.serving.serve.Goals as goal
 
-pub run-requires-clause-served : goal.run-requires-clause-served
-run-requires-clause-served g c = let s : State = c.args.engine.now in record {
+pub run-requires-clause-running : goal.run-requires-clause-running
+run-requires-clause-running g c = let s : State = c.args.engine.now in record {
   start = g.W.Wire.told c.args.wire.now;
   given = 0;
   pid = s.pid;
-  serving = starts s (g.W.Wire.told c.args.wire.now) _ _ _ _ c.requires.fresh c.requires.server_alone c.requires.none_blocked c.requires.listens;
+  serving = starting g.H.House.may s (g.W.Wire.told c.args.wire.now) _ _ _ _ c.requires.fresh c.requires.server_alone c.requires.none_blocked c.requires.listens;
 }
 
 pub returns-in-Ok-clause-kept : goal.returns-in-Ok-clause-kept
 returns-in-Ok-clause-kept g c = let s : State = c.args.engine.now in
     run_of g.H.House.may s.pid c.args.turns (g.W.Wire.told c.args.wire.now) _ _
-    (c.in-Ok.ensures.ran s.pid (g.W.Wire.told c.args.wire.now) (starts s (g.W.Wire.told c.args.wire.now) _ _ _ _ c.requires.fresh c.requires.server_alone c.requires.none_blocked c.requires.listens))
+    (c.in-Ok.ensures.ran s.pid (g.W.Wire.told c.args.wire.now) (starting g.H.House.may s (g.W.Wire.told c.args.wire.now) _ _ _ _ c.requires.fresh c.requires.server_alone c.requires.none_blocked c.requires.listens))
 
 pub returns-in-Err-clause-kept : goal.returns-in-Err-clause-kept
 returns-in-Err-clause-kept g c = let s : State = c.args.engine.now in
     run_starved g.H.House.may s.pid c.args.turns (g.W.Wire.told c.args.wire.now) _
-    (c.in-Err.ensures.ran s.pid (g.W.Wire.told c.args.wire.now) (starts s (g.W.Wire.told c.args.wire.now) _ _ _ _ c.requires.fresh c.requires.server_alone c.requires.none_blocked c.requires.listens))
+    (c.in-Err.ensures.ran s.pid (g.W.Wire.told c.args.wire.now) (starting g.H.House.may s (g.W.Wire.told c.args.wire.now) _ _ _ _ c.requires.fresh c.requires.server_alone c.requires.none_blocked c.requires.listens))
