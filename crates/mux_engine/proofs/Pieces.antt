@@ -1,9 +1,9 @@
 -- A piece of a client's bytes, in rows.
-use Rattle.std.proofs.Common.{◌≡◌, ◌+◌, ℕ, Bool, true, false, not, List, [], ◌∷◌, ◌++◌, length, drop, Option, Some, None, refl, sym, ap, ◌∙◌, subst, arith, inl, inr, cond}
+use Rattle.std.proofs.Common.{◌≡◌, ◌+◌, ℕ, Bool, true, false, not, List, [], ◌∷◌, ◌++◌, length, drop, Option, None, refl, sym, ap, ◌∙◌, subst, arith, inl, inr, cond}
 use Rattle.std.specs.Prelude.{is_some}
 use Rattle.mux_outside.specs.declared.house.HouseReply.{HouseReply}
 use Rattle.ssh_grammar.specs.Frames.{More}
-use Rattle.ssh_grammar.specs.Said.{Saying, Mode, InControl, InProxy, Stopped, Parsed}
+use Rattle.ssh_grammar.specs.Said.{Saying, Mode, InControl, Stopped, Parsed}
 use Rattle.mux_history.specs.declared.ended.Ended.{Ended}
 use Rattle.mux_history.specs.Rows.{Row, rows_of, is_out, is_ended, Says}
 use Rattle.mux_history.specs.NotBuilt.{spoken}

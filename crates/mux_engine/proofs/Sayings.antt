@@ -4,13 +4,12 @@ use Rattle.std.specs.Prelude.{is_some}
 use Rattle.mux_outside.specs.declared.house.HouseReply.{HouseReply}
 use Rattle.ssh_grammar.specs.declared.fault.BadFrame.{BadFrame}
 use Rattle.ssh_grammar.specs.Frames.{Front, Frame, More, Faulty}
-use Rattle.ssh_grammar.specs.Said.{Saying, Body, Payload, BadFraming, Mode, InControl, InProxy, Stopped, first_in, after_body, Parsed, parse_front}
+use Rattle.ssh_grammar.specs.Said.{Saying, Body, Payload, BadFraming, Mode, InControl, InProxy, Stopped, first_in, after_body, Parsed}
 use Rattle.ssh_grammar.proofs.Cuts.{IsShorter}
 use Rattle.ssh_grammar.proofs.Parses.{in-shorter}
-use Rattle.mux_history.specs.declared.why.Why.{Why}
 use Rattle.mux_history.specs.declared.ended.Ended.{Ended}
 use Rattle.mux_history.specs.Rows.{Row, rows_of, is_out, is_ended, Item, Says, Fate, Goes, Refused, Drop, End}
-use Rattle.mux_history.specs.Pending.{waiting_down, joined}
+use Rattle.mux_history.specs.Pending.{waiting_down}
 use Rattle.mux_history.specs.Said.{Outcome}
 use Rattle.mux_history.specs.Controls.{greeted, body_stops}
 use Rattle.mux_history.specs.NotBuilt.{spoken, unproxied}
@@ -22,9 +21,9 @@ use Rattle.mux_engine.specs.declared.client.Standing.{Standing}
 use Rattle.mux_engine.specs.declared.client.Standing.TheVariants.{Awaited, Greeted, Unread, Lost}
 use Rattle.mux_engine.specs.State.{ClientState}
 use Rattle.mux_engine.specs.Answer as say
-use Rattle.mux_engine.specs.Heeded.{is_lost, is_read, is_greeted, standing_after, Heeded, unheard, end_in, heeded, client_said, asks_in, next_reply, later_replies, reply_if, left_if, client_all, count_if, asks_all, rest_if, after_heeded, client_hears, client_got, client_asks}
+use Rattle.mux_engine.specs.Heeded.{is_lost, is_read, is_greeted, standing_after, Heeded, unheard, end_in, heeded, client_said, asks_in, later_replies, reply_if, left_if, client_all, count_if, asks_all}
 use Rattle.mux_engine.specs.Step.{loss_between, loss_in}
-use Rattle.mux_engine.specs.Stands.{setting, ArePlain, ClientFits, IsPlainItem, ClientReads, IsReadIn}
+use Rattle.mux_engine.specs.Stands.{setting, ArePlain, ClientFits, IsPlainItem}
 use Rattle.mux_engine.proofs.Says.{SaysRow, says_is, given_to, NoPayload, NotRefused, fine_answer}
 use Rattle.mux_engine.proofs.Fits.{fine_with, says_fits, out_is}
 use Rattle.mux_engine.proofs.Grows.{Grows, grows_none, grows_on, grows_row, loss_of, own_row, end_by, ended_then}

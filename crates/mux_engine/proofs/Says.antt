@@ -10,7 +10,7 @@ use Rattle.ssh_grammar.specs.Control.{Control, Hello, OpenForward, CloseForward,
 use Rattle.ssh_grammar.specs.ReadControl.{read_control}
 use Rattle.ssh_grammar.specs.Said.{Saying, Body, Payload, BadFraming}
 use Rattle.mux_history.specs.declared.why.Why.TheVariants as why
-use Rattle.mux_history.specs.Rows.{Row, rows_of, Item, Says, Fate, Goes, Refused, Drop, End}
+use Rattle.mux_history.specs.Rows.{Row, rows_of, Item, Says, Fate, Refused, Drop}
 use Rattle.mux_history.specs.Pending.{waiting_down}
 use Rattle.mux_history.specs.Said.{Outcome, silent, drops}
 use Rattle.mux_history.specs.Controls.{greeted, body_asks, said_body, said_first, said_later, answers_ask}

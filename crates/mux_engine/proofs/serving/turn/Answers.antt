@@ -11,7 +11,7 @@ use Rattle.mux_engine.specs.Events.{IsNext}
 use Rattle.mux_engine.specs.Serving.{ServingBy}
 use Rattle.mux_engine.proofs.Drawn.{through}
 use Rattle.mux_engine.proofs.Turns.{waiting_blocked, waiting_open}
-use Rattle.mux_engine.proofs.Turned.{turned, turned_serving, turned_promised, turned_failed, freed, either_way, on_ok, seen_turned}
+use Rattle.mux_engine.proofs.Turned.{turned, turned_serving, turned_promised, turned_failed, freed, either_way, on_ok}
 use Rattle.mux_engine.proofs.Arms.{seen_same}
 use Rattle.mux_engine.proofs.serving.turn.Goals as goal
 
