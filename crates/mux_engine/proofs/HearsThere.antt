@@ -1,5 +1,5 @@
 -- One client's new bytes, among all clients.
-use Rattle.std.proofs.Common.{◌≡◌, ◌+◌, ◌<◌, ◌≤◌, ◌&&◌, ℕ, Bool, true, false, not, List, [], ◌∷◌, ◌++◌, length, take, drop, get_or, set, Option, None, refl, sym, ap, ◌∙◌, subst, arith, append-nil}
+use Rattle.std.proofs.Common.{◌≡◌, ◌<◌, ◌≤◌, ◌&&◌, ℕ, Bool, false, not, List, [], ◌++◌, length, take, drop, get_or, set, Option, None, refl, sym, ap, ◌∙◌, subst, append-nil}
 use Rattle.std.proofs.lemmas.List.{take_at}
 use Rattle.mux_outside.specs.declared.house.HouseReply.{HouseReply}
 use Rattle.mux_history.specs.declared.why.Why.{Why}
@@ -8,7 +8,7 @@ use Rattle.mux_engine.specs.declared.client.Standing.{Standing}
 use Rattle.mux_engine.specs.declared.client.Heard.{Heard}
 use Rattle.mux_engine.specs.State.{ClientState, State}
 use Rattle.mux_engine.specs.Decisions.{Hears}
-use Rattle.mux_engine.specs.Step.{at_client, client_index, in_client, loss_between, loss_at, client_got, client_hears, client_asks, HearsAt, Gains, gained, waiting_in, stops_at, ended_at}
+use Rattle.mux_engine.specs.Step.{at_client, client_index, loss_between, client_got, client_hears, client_asks, HearsAt, Gains, gained, waiting_in}
 use Rattle.mux_engine.proofs.Clients.{at_client_set, at_client_absent, look_at, look_absent, loss_found, no_loss}
 
 -- the client is there

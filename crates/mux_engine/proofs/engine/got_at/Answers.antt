@@ -1,4 +1,4 @@
-use Rattle.std.proofs.Common.{refl, arith}
+use Rattle.std.proofs.Common.{arith}
 use Rattle.mux_engine.proofs.HearsThere.{hears_there, hears_nowhere}
 use Rattle.mux_engine.proofs.engine.got_at.Goals as goal
 

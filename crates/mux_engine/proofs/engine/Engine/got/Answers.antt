@@ -1,5 +1,4 @@
 use Rattle.std.proofs.lemmas.Result.{on_ok_weaker}
-use Rattle.mux_engine.specs.State.{State}
 use Rattle.mux_engine.proofs.HearsThere.{gains_written}
 use Rattle.mux_engine.proofs.engine.Engine.got.Goals as goal
 
