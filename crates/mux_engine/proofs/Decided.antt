@@ -1,5 +1,5 @@
 -- What is decided of a request that asks the house.
-use Rattle.std.proofs.Common.{◌≡◌, ℕ, Bool, true, false, List, Some, Ok, Err, refl, sym, ap, ◌∙◌, subst}
+use Rattle.std.proofs.Common.{◌≡◌, ℕ, Bool, true, false, List, Some, None, Ok, Err, refl, sym, ap, ◌∙◌, subst}
 use Rattle.mux_outside.specs.declared.house.HouseReply.{HouseReply}
 use Rattle.ssh_grammar.specs.Control.{Control, ForwardAsk, OpenForward, CloseForward}
 use Rattle.ssh_grammar.specs.ReadControl.{Reading, read_control}
@@ -36,7 +36,7 @@ asks_by pid k body r given frame e asks stops mode answers = record {
 decided_by : (May : HouseReply → Type 0) (pid k id : ℕ) (opening : Bool) (body : List ℕ) (r : Control) (given : HouseReply) (frame : List ℕ) (d : Decision) → May given
     → frame ≡ frame_answer (house_answer opening id given) → d ≡ record { told = Some frame; fate = Goes }
     → Decides pid k true body (Some given) (record { told = Some (frame_answer (house_answer opening id given)); fate = Goes })
-    → DecidesBy May pid k body d
+    → DecidesBy May pid k true body d
 decided_by May pid k id opening body r given frame d may f e decides = record {
   given = Some given;
   may = (may, tt);
@@ -44,13 +44,21 @@ decided_by May pid k id opening body r given frame d may f e decides = record {
 }
 
 pub decides_open : (May : HouseReply → Type 0) (pid k id : ℕ) (body : List ℕ) (what : ForwardAsk) (given : HouseReply) (frame : List ℕ) (d : Decision) → May given
-    → read_control body ≡ Ok (OpenForward id what) → frame ≡ frame_answer (house_answer true id given) → d ≡ record { told = Some frame; fate = Goes } → DecidesBy May pid k body d
+    → read_control body ≡ Ok (OpenForward id what) → frame ≡ frame_answer (house_answer true id given) → d ≡ record { told = Some frame; fate = Goes } → DecidesBy May pid k true body d
 decides_open May pid k id body what given frame d may e f g =
     decided_by May pid k id true body (OpenForward id what) given frame d may f g
     (asks_by pid k body (OpenForward id what) given (frame_answer (house_answer true id given)) e refl refl refl refl)
 
 pub decides_close : (May : HouseReply → Type 0) (pid k id : ℕ) (body : List ℕ) (what : ForwardAsk) (given : HouseReply) (frame : List ℕ) (d : Decision) → May given
-    → read_control body ≡ Ok (CloseForward id what) → frame ≡ frame_answer (house_answer false id given) → d ≡ record { told = Some frame; fate = Goes } → DecidesBy May pid k body d
+    → read_control body ≡ Ok (CloseForward id what) → frame ≡ frame_answer (house_answer false id given) → d ≡ record { told = Some frame; fate = Goes } → DecidesBy May pid k true body d
 decides_close May pid k id body what given frame d may e f g =
     decided_by May pid k id false body (CloseForward id what) given frame d may f g
     (asks_by pid k body (CloseForward id what) given (frame_answer (house_answer false id given)) e refl refl refl refl)
+
+-- the house is not asked before the hello
+pub decides_first : (May : HouseReply → Type 0) (pid k : ℕ) (greeted : Bool) (body : List ℕ) (d : Decision) → greeted ≡ false → ((pid k : ℕ) → Decides pid k false body None d) → DecidesBy May pid k greeted body d
+decides_first May pid k greeted body d e decides = record {
+  given = None;
+  may = tt;
+  decides = subst (λ (b : Bool). Decides pid k b body None d) (sym e) (decides pid k);
+}

@@ -115,9 +115,6 @@ said_stands : (pid : ℕ) (given : Option HouseReply) (x : Saying) (h h' : Heede
 said_stands pid given x h h' read said =
     said ∙ ap (λ (b : Bool). if b then heeded x (answer pid h.number given (is_greeted h.standing) x) h else h) read
 
-abbrev stands_in : Heeded → Standing
-stands_in h = h.standing
-
 body_goes : (pid : ℕ) (given : Option HouseReply) (body : List ℕ) (h h' : Heeded) → is_read h.standing ≡ true → h' ≡ client_said pid given (Body body) h → is_read h'.standing ≡ true → unproxied (after_body body) ≡ InControl
 body_goes pid given body h h' read said on =
     body_read _ body h.standing (sym (ap (λ (y : Heeded). is_read y.standing) (said_stands pid given (Body body) h h' read said)) ∙ on)

@@ -1,5 +1,5 @@
 -- What a client says next, by what was decided of it.
-use Rattle.std.proofs.Common.{◌≡◌, ◌&&◌, ℕ, Bool, true, List, Option, Some, None, if◌then◌else◌, refl, sym, ap, ◌∙◌, subst}
+use Rattle.std.proofs.Common.{◌≡◌, ◌&&◌, ℕ, Bool, true, List, Option, Some, None, if◌then◌else◌, sym, ap, ◌∙◌, subst}
 use Rattle.mux_outside.specs.declared.house.HouseReply.{HouseReply}
 use Rattle.ssh_grammar.specs.Frames.{Front, Frame, More, Faulty, first_frame}
 use Rattle.ssh_grammar.specs.declared.fault.BadFrame.{BadFrame}
@@ -15,11 +15,10 @@ use Rattle.mux_history.specs.Promises.{MayGive}
 use Rattle.mux_engine.specs.declared.client.Heard.{Heard}
 use Rattle.mux_engine.specs.declared.decision.Decision.{Decision}
 use Rattle.mux_engine.specs.declared.client.Standing.{Standing}
-use Rattle.mux_engine.specs.declared.client.Standing.TheVariants.{Awaited, Greeted, Unread, Lost}
 use Rattle.mux_engine.specs.State.{ClientState}
 use Rattle.mux_engine.specs.Answer.{answer}
 use Rattle.mux_engine.specs.Heeded.{heeded, is_read, is_greeted, rest_if}
-use Rattle.mux_engine.specs.Decisions.{reply_list, Decides, heeded_by, Follows, SaysBody, SaysNext}
+use Rattle.mux_engine.specs.Decisions.{reply_list, Decides, DecidesBy, heeded_by, Follows, SaysBody, SaysNext}
 
 -- the front was a frame where one is the current one then
 pub front_was : (fr : Front) (f f' : FramerState) (body : List ℕ) → next.Frame ≡ answer_to fr → f' ≡ after_front fr f → f'.current ≡ Some body → fr ≡ Frame body f'.rest
@@ -55,32 +54,22 @@ front_in f control well =
     ∙ ap (λ (m : Framing). first_frame m f.rest) control
 
 -- a client of which a frame was cut follows what was decided of it
-pub says_decided : (May : HouseReply → Type 0) (pid k : ℕ) (s : Standing) (f f' : FramerState) (q body : List ℕ) (now old : ClientState) (given : Option HouseReply) (heard : Heard) (new : ClientState) (heard' : Heard) (d d' : Decision)
+pub says_decided : (May : HouseReply → Type 0) (pid k : ℕ) (s : Standing) (f f' : FramerState) (q body : List ℕ) (now : ClientState) (greeted : Bool) (heard : Heard) (new : ClientState) (heard' : Heard) (d : Decision)
     → client_of k s f q ≡ now → is_read now.standing ≡ true → (is_read s ≡ true → (f.framing ≡ framing.Control) × (f.fault ≡ None))
     → next.Frame ≡ answer_to (front_of f) → f' ≡ after_front (front_of f) f → f'.current ≡ Some body
-    → MayGive May (reply_list given) → Decides pid k (is_greeted s) body given d
-    → old ≡ client_of k s f' q → d' ≡ d → Follows d' old heard new heard' → new.rest ≡ rest_if (is_read new.standing) old.rest
+    → greeted ≡ is_greeted now.standing → DecidesBy May pid k greeted body d
+    → Follows d (client_of k s f' q) heard new heard' → new.rest ≡ rest_if (is_read new.standing) (client_of k s f' q).rest
     → SaysNext May pid true (first_frame framing.Control now.rest) now heard new heard'
-says_decided May pid k s f f' q body now old given heard new heard' d d' view read whole told after current may decides was same follows left =
+says_decided May pid k s f f' q body now greeted heard new heard' d view read whole told after current awaits by follows left =
     let reads : is_read s ≡ true = ap (λ (x : ClientState). is_read x.standing) view ∙ read in
     let front : first_frame framing.Control f.rest ≡ Frame body f'.rest =
     sym (front_in f (whole reads).0 (whole reads).1) ∙ front_was (front_of f) f f' body told after current in
     let here : first_frame framing.Control (client_of k s f q).rest ≡ Frame body f'.rest =
     ap (λ (b : Bool). first_frame framing.Control (rest_if b f.rest)) reads ∙ front in
-    let follows' : Follows d (client_of k s f q) heard new heard' =
-    subst (λ (x : Decision). Follows x (client_of k s f q) heard new heard') same (subst (λ (x : ClientState). Follows d' x heard new heard') was follows) in
+    let decides : Decides pid k (is_greeted s) body by.given d =
+    subst (λ (b : Bool). Decides pid k b body by.given d) (awaits ∙ sym (ap (λ (x : ClientState). is_greeted x.standing) view)) by.decides in
     let left' : new.rest ≡ rest_if (is_read new.standing) f'.rest =
-    left ∙ (ap (λ (x : ClientState). rest_if (is_read new.standing) x.rest) was ∙ ap (λ (b : Bool). rest_if (is_read new.standing) (rest_if b f'.rest)) reads) in
+    left ∙ ap (λ (b : Bool). rest_if (is_read new.standing) (rest_if b f'.rest)) reads in
     subst (λ (x : ClientState). SaysNext May pid true (first_frame framing.Control x.rest) x heard new heard') view
     (subst (λ (x : Front). SaysNext May pid true x (client_of k s f q) heard new heard') (sym here)
-    (says_body May pid given body f'.rest (client_of k s f q) heard new heard' d reads may decides follows' left'))
-
--- one that is read and not awaited has greeted
-pub greeted_here : (s : Standing) → is_read s ≡ true → (s ≡ Awaited → ⊥) → is_greeted s ≡ true
-greeted_here Awaited read other = absurd (other refl)
-greeted_here Greeted read other = refl
-greeted_here Unread read other = refl
-greeted_here (Lost why) read other = refl
-
-pub decides_at : (pid k : ℕ) (s : Standing) (g : Bool) (body : List ℕ) (given : Option HouseReply) (d : Decision) → is_greeted s ≡ g → Decides pid k g body given d → Decides pid k (is_greeted s) body given d
-decides_at pid k s g body given d e decides = subst (λ (b : Bool). Decides pid k b body given d) (sym e) decides
+    (says_body May pid by.given body f'.rest (client_of k s f q) heard new heard' d reads by.may decides follows left'))

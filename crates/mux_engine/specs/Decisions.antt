@@ -68,10 +68,10 @@ pub record Decides (pid k : ℕ) (greeted : Bool) (body : List ℕ) (given : Opt
   pub stands : StandsAs d.fate (stands_by (Body body))
 
 -- the same with some reply that the house may give
-pub record DecidesBy (May : HouseReply → Type 0) (pid k : ℕ) (body : List ℕ) (d : Decision) : Type 0 where
+pub record DecidesBy (May : HouseReply → Type 0) (pid k : ℕ) (greeted : Bool) (body : List ℕ) (d : Decision) : Type 0 where
   pub given : Option HouseReply
   pub may : MayGive May (reply_list given)
-  pub decides : Decides pid k true body given d
+  pub decides : Decides pid k greeted body given d
 
 -- ---- a client that is heard
 

@@ -8,7 +8,7 @@ ghost use Rattle.mux_history.specs.Log.{fitting, overflow};
 ghost use Rattle.mux_engine.specs.Decisions.{frames, full_of, Follows, SaysNext, Hears};
 ghost use Rattle.mux_engine.specs.Heeded.{is_lost, is_read, is_greeted, new_client, refused_client, lost_client, client_took, rest_if};
 
-use crate::decision::{Decision, Fate, decide_first, decide_later};
+use crate::decision::{Decision, Fate, decide};
 use mux_history::limits::MAX_QUEUE;
 use mux_history::{Ended, Why};
 use mux_messages::hello;
@@ -143,6 +143,13 @@ impl Client {
         matches!(self.standing, Standing::Awaited | Standing::Greeted)
     }
 
+    // Whether it has said its hello.
+    fn is_greeted(&self) -> bool
+        ensures { result ≡ is_greeted self.now.standing }
+    {
+        !matches!(self.standing, Standing::Awaited)
+    }
+
     /// Its stream ended or failed.
     pub fn lose(&mut self)
         ensures { self.new ≡ lost_client self.old }
@@ -210,6 +217,7 @@ impl Client {
         requires { is_read self.old.standing ≡ true }
         ensures { IfOk result (λ more. SaysNext H.may pid more (first_frame framing.Control self.old.rest) self.old heard.old self.new heard.new) }
     {
+        let greeted = self.is_greeted();
         match self.framer.next() {
             Next::More => Ok(false),
             Next::Bad(fault) => {
@@ -218,10 +226,7 @@ impl Client {
             }
             Next::Frame => {
                 let body = self.framer.content();
-                let decision = match self.standing {
-                    Standing::Awaited => decide_first(body),
-                    _ => decide_later(self.number, pid, body, house),
-                };
+                let decision = decide(self.number, pid, greeted, body, house);
                 self.follow(&decision, heard)?;
                 Ok(true)
             }

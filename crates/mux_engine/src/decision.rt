@@ -80,8 +80,8 @@ fn type_of(control: &Control<'_>) -> u32
     }
 }
 
-/// What becomes of the first control message: all but a HELLO with version 4 drops the client.
-pub fn decide_first(body: &[u8]) -> Decision
+// What becomes of the first control message: all but a HELLO with version 4 drops the client.
+fn decide_first(body: &[u8]) -> Decision
     ensures { (pid k : ℕ) → Decides pid k false body.now None result }
 {
     Decision::silent(match read_control(body) {
@@ -106,9 +106,9 @@ fn ask<H: House>(house: &mut H, client: u64, opening: bool, id: u32, what: &FwdA
     }
 }
 
-/// What becomes of a control message after the HELLO.
-pub fn decide_later<H: House>(client: u64, pid: u32, body: &[u8], house: &mut H) -> Decision
-    ensures { DecidesBy H.may pid client body.now result }
+// What becomes of a control message after the HELLO.
+fn decide_later<H: House>(client: u64, pid: u32, body: &[u8], house: &mut H) -> Decision
+    ensures { DecidesBy H.may pid client true body.now result }
 {
     match read_control(body) {
         Ok(Control::Hello { .. }) => Decision::silent(Fate::Drops(Why::SecondHello)),
@@ -132,4 +132,21 @@ pub fn decide_later<H: House>(client: u64, pid: u32, body: &[u8], house: &mut H)
         }
         Err(fault) => Decision::silent(Fate::Drops(Why::BadControl(fault))),
     }
+}
+
+/// What becomes of a control message, the first one or one after the HELLO.
+#[tactic(auto, using(crate::proofs::Decided::decides_first))]
+pub fn decide<H: House>(
+    client: u64,
+    pid: u32,
+    greeted: bool,
+    body: &[u8],
+    house: &mut H,
+) -> Decision
+    ensures { DecidesBy H.may pid client greeted body.now result }
+{
+    if greeted {
+        return decide_later(client, pid, body, house);
+    }
+    decide_first(body)
 }
