@@ -116,7 +116,7 @@ forwarded_at row request reply fs = elim row.item [
   | _ ↦ fs
 ]
 
-on-forwarded : (row : Row) (a r : ℕ) (fs : List Forwarding) → filter is_on (forwarded_at row a r fs) ≡ filter is_on (forwarded_at row a r (filter is_on fs))
+pub on-forwarded : (row : Row) (a r : ℕ) (fs : List Forwarding) → filter is_on (forwarded_at row a r fs) ≡ filter is_on (forwarded_at row a r (filter is_on fs))
 on-forwarded row a r fs = by_item row.item
   where
     by_reading : (x : Result Gist Bad) (g : Gist → List Forwarding → List Forwarding) → ((m : Gist) → filter is_on (g m fs) ≡ filter is_on (g m (filter is_on fs))) → filter is_on (elim x as (λ _. List Forwarding) [ Err e ↦ fs | Ok m ↦ g m fs ]) ≡ filter is_on (elim x as (λ _. List Forwarding) [ Err e ↦ filter is_on fs | Ok m ↦ g m (filter is_on fs) ])
@@ -132,7 +132,7 @@ on-forwarded row a r fs = by_item row.item
     by_item (Heard p) = by_reading (read_gist p) (λ m. map (of_client row.client (replied r m))) (λ m. on-map (of_client row.client (replied r m)) (of-client-stays row.client (replied r m) (replied-stays r m)) fs)
     by_item item = sym (on-twice fs)
 
-on-dropped : (row : Row) (xs ys : List Forwarding) → filter is_on xs ≡ filter is_on ys → filter is_on (dropped row xs) ≡ filter is_on (dropped row ys)
+pub on-dropped : (row : Row) (xs ys : List Forwarding) → filter is_on xs ≡ filter is_on ys → filter is_on (dropped row xs) ≡ filter is_on (dropped row ys)
 on-dropped row xs ys same = by_case (loses row)
   where
     ends : Forwarding → Forwarding

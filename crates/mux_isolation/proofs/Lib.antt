@@ -25,3 +25,8 @@ pub mod Solos
 pub mod Told
 pub mod Treats
 pub mod Unshared
+pub mod ViewChannels
+pub mod ViewHeard
+pub mod ViewRows
+pub mod ViewSaid
+pub mod Views
