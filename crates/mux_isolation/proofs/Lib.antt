@@ -1,3 +1,4 @@
+pub mod AddsLittle
 pub mod Alike
 pub mod AllRuns
 pub mod Allowed
@@ -8,6 +9,7 @@ pub mod Bounded
 pub mod Closed
 pub mod Closing
 pub mod Counts
+pub mod Farewells
 pub mod Few
 pub mod Heard
 pub mod HeardAlone
@@ -21,12 +23,16 @@ pub mod Offers
 pub mod OwnSayings
 pub mod Replied
 pub mod Rows
+pub mod Shorts
+pub mod Sizes
 pub mod Solos
 pub mod Told
 pub mod Treats
 pub mod Unshared
+pub mod Ups
 pub mod ViewChannels
 pub mod ViewHeard
 pub mod ViewRows
 pub mod ViewSaid
 pub mod Views
+pub mod Weights

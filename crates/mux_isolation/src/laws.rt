@@ -2,6 +2,7 @@ ghost use Rattle.mux_isolation.specs.Laws.{Isolation, WindowsAreKept, Permission
 ghost use Rattle.mux_isolation.specs.Laws.{MasterSaysLittle, NothingIsLeft, AllIsKept};
 ghost use Rattle.mux_isolation.specs.Laws.{QueuesAreBounded, ChannelsAreFew, ForwardingsAreFew, RequestsAreFew, ClientsAreFew};
 ghost use Rattle.mux_isolation.specs.Laws.{ViewsShowRooms, IdleRowsLeaveViews, CutsKeepViews, RowsFollowViews};
+ghost use Rattle.mux_isolation.specs.Bounds.{RowsAddLittle};
 
 /// What an admitted client is told and what is sent for it is what an unshared connection gives from its
 /// own bytes and the server's messages for its channels, up to the numbers that stand for its own.
@@ -85,4 +86,9 @@ pub fn cuts_keep_views()
 /// and what is seen of it before.
 pub fn rows_follow_views()
     ensures { RowsFollowViews }
+{}
+
+/// A row adds at most 290,180 bytes to what waits for the server: one payload, and one farewell.
+pub fn rows_add_little()
+    ensures { RowsAddLittle }
 {}
