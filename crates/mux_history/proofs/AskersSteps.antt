@@ -28,7 +28,7 @@ first-of xs zero = refl
 first-of [] (suc n) = refl
 first-of (x ∷ xs) (suc n) = first-of xs n
 
-goes-on : (row : Row) (before : List Row) → length (replies before) ≤ length (asks before) → unreplied (row ∷ before) ≡ next_unreplied row (unreplied before)
+pub goes-on : (row : Row) (before : List Row) → length (replies before) ≤ length (asks before) → unreplied (row ∷ before) ≡ next_unreplied row (unreplied before)
 goes-on row before le =
     ap (λ n. drop n (asks before ++ new)) (length-append (replies before) (reply_in row.item))
     ∙ (sym (drop-drop (length (reply_in row.item)) (length (replies before)) (asks before ++ new))
@@ -62,7 +62,7 @@ drop-filter test (x ∷ xs) (suc n) = by_case (drop-filter test xs n) (test x) r
     by_case ih true e = ih ∙ sym (ap (λ ys. drop (length ys) (filter test (x ∷ xs))) (filter-yes test x (take n xs) e) ∙ ap (drop (length (x ∷ filter test (take n xs)))) (filter-yes test x xs e))
     by_case ih false e = ih ∙ sym (ap (λ ys. drop (length ys) (filter test (x ∷ xs))) (filter-no test x (take n xs) e) ∙ ap (drop (length (filter test (take n xs)))) (filter-no test x xs e))
 
-of-each : (rows : List Row) → (is_ended rows ≡ false → Orderly rows) → UnrepliedOfEach rows
+pub of-each : (rows : List Row) → (is_ended rows ≡ false → Orderly rows) → UnrepliedOfEach rows
 of-each rows orderly going k =
     let known : Orderly rows = orderly going in
     ap (λ n. drop n (asks (rows_of k rows))) (known.each k)

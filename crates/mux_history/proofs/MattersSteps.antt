@@ -18,11 +18,11 @@ use Rattle.mux_history.proofs.RightLogs.{LogKnown, RowKnown}
 
 -- ---- a client is let in once
 
-abbrev admits_one : Item → Bool
+abbrev pub admits_one : Item → Bool
 admits_one (Admit j) = true
 admits_one item = false
 
-admit-item : (row : Row) → is_admit row ≡ true → admits_one row.item ≡ true
+pub admit-item : (row : Row) → is_admit row ≡ true → admits_one row.item ≡ true
 admit-item row admitted = by_item row.item row.fate admitted
   where
     by_item : (i : Item) (fate : Fate) → is_admit (record row { item = i; fate = fate }) ≡ true → admits_one i ≡ true
@@ -69,22 +69,22 @@ none-in policy pid k (row ∷ before) each none = by_case (none-in policy pid k 
     by_case ih true e = ap (any_of is_admit) (filter-yes (λ (r : Row). r.client == k) row before e) ∙ (ap (λ b. b || any_of is_admit (rows_of k before)) (not_in e (is_admit row) refl) ∙ ih)
     by_case ih false e = ap (any_of is_admit) (filter-no (λ (r : Row). r.client == k) row before e) ∙ ih
 
-once-in : (policy : Policy) (pid : ℕ) (before : List Row) (row : Row) → RowKnown policy pid before row → ForEach (RowKnown policy pid) before → is_admit row ≡ true → any_of is_admit (rows_of row.client before) ≡ false
+pub once-in : (policy : Policy) (pid : ℕ) (before : List Row) (row : Row) → RowKnown policy pid before row → ForEach (RowKnown policy pid) before → is_admit row ≡ true → any_of is_admit (rows_of row.client before) ≡ false
 once-in policy pid before row known each admitted = none-in policy pid row.client before each (lets-in policy pid before row known admitted).new
 
 -- ---- how often a client entered
 
-abbrev add_if : Bool → ℕ → ℕ
+abbrev pub add_if : Bool → ℕ → ℕ
 add_if b n = elim b [ true ↦ n + 1 | false ↦ n ]
 
-abbrev part : Bool → ℕ → ℕ
+abbrev pub part : Bool → ℕ → ℕ
 part b n = elim b [ true ↦ n | false ↦ 0 ]
 
-abbrev count : ℕ → List ℕ → ℕ
+abbrev pub count : ℕ → List ℕ → ℕ
 count k [] = 0
 count k (j ∷ js) = add_if (j == k) (count k js)
 
-count-append : (k : ℕ) (js : List ℕ) (i : ℕ) → count k (js ++ i ∷ []) ≡ add_if (i == k) (count k js)
+pub count-append : (k : ℕ) (js : List ℕ) (i : ℕ) → count k (js ++ i ∷ []) ≡ add_if (i == k) (count k js)
 count-append k [] i = refl
 count-append k (j ∷ js) i = ap (add_if (j == k)) (count-append k js i) ∙ swap (j == k) (i == k) (count k js)
   where
@@ -97,7 +97,7 @@ count-append k (j ∷ js) i = ap (add_if (j == k)) (count-append k js i) ∙ swa
 differ : (a b : ℕ) → (a == b) ≡ false → (b == a) ≡ false
 differ a b e = grind (arith, nat_tests)
 
-entered-once : (policy : Policy) (pid : ℕ) (rows : List Row) → ForEach (RowKnown policy pid) rows → (k : ℕ) → count k (entered rows) ≡ one_if (any_of is_admit (rows_of k rows))
+pub entered-once : (policy : Policy) (pid : ℕ) (rows : List Row) → ForEach (RowKnown policy pid) rows → (k : ℕ) → count k (entered rows) ≡ one_if (any_of is_admit (rows_of k rows))
 entered-once policy pid [] each k = refl
 entered-once policy pid (row ∷ before) each k = by_case (entered-once policy pid before each.1 k) (is_admit row) refl (row.client == k) refl
   where
@@ -129,17 +129,17 @@ entered-once policy pid (row ∷ before) each k = by_case (entered-once policy p
 
 -- ---- the sum over those who entered
 
-move-same : (m n c : ℕ) (a b : Bool) → n + part a c ≡ m + part b c → add_if b n + part a (c + 1) ≡ add_if a m + part b (c + 1)
+pub move-same : (m n c : ℕ) (a b : Bool) → n + part a c ≡ m + part b c → add_if b n + part a (c + 1) ≡ add_if a m + part b (c + 1)
 move-same m n c true true e = omega (arith, e)
 move-same m n c true false e = omega (arith, e)
 move-same m n c false true e = omega (arith, e)
 move-same m n c false false e = omega (arith, e)
 
-move-other : (m n x y : ℕ) (d : Bool) → n + x ≡ m + y → add_if d n + x ≡ add_if d m + y
+pub move-other : (m n x y : ℕ) (d : Bool) → n + x ≡ m + y → add_if d n + x ≡ add_if d m + y
 move-other m n x y true e = omega (arith, e)
 move-other m n x y false e = omega (arith, e)
 
-abbrev Moved : (m n c : ℕ) (a b p q t : Bool) → Type 0
+abbrev pub Moved : (m n c : ℕ) (a b p q t : Bool) → Type 0
 Moved m n c a b p q t = add_if p n + part a (add_if t c) ≡ add_if q m + part b (add_if t c)
 
 -- only the matters of the row's client change

@@ -1,13 +1,12 @@
 -- A row adds little to what waits for the server.
-use Rattle.std.proofs.Common.{◌≡◌, ℕ, ◌+◌, ◌≤◌, List, [], ◌∷◌, ◌++◌, length, length-append, length-drop, true, false, Bool, arith}
-use Rattle.ssh_grammar.specs.Frames.{frame_payload}
+use Rattle.std.proofs.Common.{ℕ, ◌+◌, ◌≤◌, List, [], ◌∷◌, ◌++◌, length, length-append, length-drop, true, false, Bool, arith}
 use Rattle.ssh_grammar.specs.Said.{BadFraming, Body, Payload}
 use Rattle.mux_history.specs.Kept.{ForEach}
-use Rattle.mux_history.specs.Pending.{given_by, pending, pending_up, took_up}
+use Rattle.mux_history.specs.Pending.{given_by, pending_up, took_up}
 use Rattle.mux_history.specs.Policy.{Policy}
 use Rattle.mux_history.specs.Rows.{Heard, Item, Row, Says, loses, sent_by}
 use Rattle.mux_isolation.specs.Bounds.{AddsLittle, weight}
-use Rattle.mux_history.proofs.RightLogs.{LogKnown, RowKnown}
+use Rattle.mux_history.proofs.RightLogs.{RowKnown}
 use Rattle.mux_isolation.proofs.Farewells.{LeavesLittle, if_lost, leaves-little}
 use Rattle.mux_isolation.proofs.Sizes.{SmallItem}
 use Rattle.mux_isolation.proofs.Ups.{brought, row-brings}

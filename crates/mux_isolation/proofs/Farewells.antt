@@ -1,12 +1,9 @@
 -- A row that loses its client says a farewell of at most 28,032 bytes; another says none.
-use Rattle.std.proofs.Common.{◌≡◌, ℕ, ◌+◌, ◌≤◌, List, [], ◌∷◌, length, true, false, Bool, refl, ◌∙◌, ap, arith, sym, subst}
-use Rattle.std.specs.Prelude.{◌==◌, filter, flat_map}
-use Rattle.ssh_grammar.specs.Said.{BadFraming, Body, Payload}
-use Rattle.mux_history.specs.declared.why.Why.TheVariants as why
+use Rattle.std.proofs.Common.{◌≡◌, ℕ, ◌+◌, ◌≤◌, List, [], ◌∷◌, length, true, false, Bool, refl, ap, arith, subst}
+use Rattle.std.specs.Prelude.{filter, flat_map}
 use Rattle.mux_history.specs.Channels.{begun_by, held_of}
-use Rattle.mux_history.specs.Controls.{greeted, said_body}
 use Rattle.mux_history.specs.Farewell.{farewell, leave_channel, leave_forwarding}
-use Rattle.mux_history.specs.Forwardings.{current, forwarded, forwardings_of}
+use Rattle.mux_history.specs.Forwardings.{forwarded, forwardings_of}
 use Rattle.mux_history.specs.Heard.{Breaks, Dest, Disconnects, ToClient, ToMaster, dest, heard_for}
 use Rattle.mux_history.specs.Kept.{ForEach}
 use Rattle.mux_history.specs.Log.{admits, all_told, bare, heard_row, queued, row_of, said_by_client, treat}
@@ -82,6 +79,9 @@ bounds-of policy pid before row known each few fits = record {
   forwardings = subst (λ (own : List Row). count (forwarded row own (forwardings_of (rows_of row.client before))) ≤ 64) (rows-twice row.client before) (fits (fits-held before (fits-rows policy pid before each) row.client));
   short = forwarded-short row (rows_of row.client before) (forwardings_of (rows_of row.client before)) (asked-short policy pid before row known (forwardings-short policy pid before each)) (owned-short row.client before (forwardings-short policy pid before each));
 }
+
+pub row-bounds : (policy : Policy) (pid : ℕ) (before : List Row) (row : Row) → RowKnown policy pid before row → ForEach (RowKnown policy pid) before → Bounds (rows_of row.client before) row
+row-bounds policy pid before row known each = bounds-of policy pid before row known each (few-rows policy pid (row ∷ before) (known, each)).0 (fits-rows policy pid (row ∷ before) (known, each)).0
 
 -- what each row leaves behind
 abbrev pub LeavesLittle : List Row → Row → Type 0

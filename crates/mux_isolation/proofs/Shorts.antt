@@ -1,5 +1,5 @@
 -- The addresses of forwardings and of requests for them have at most 255 bytes.
-use Rattle.std.proofs.Common.{◌≡◌, ℕ, ◌+◌, ◌≤◌, List, [], ◌∷◌, ◌++◌, map, length, true, false, Bool, refl, ◌∙◌, ap, arith, sym, subst, Option, Some, None, Ok, Err}
+use Rattle.std.proofs.Common.{◌≡◌, ℕ, ◌≤◌, List, [], ◌∷◌, ◌++◌, map, length, true, false, Bool, refl, ◌∙◌, ap, arith, sym, subst, Option, Some, None, Ok, Err}
 use Rattle.std.specs.Prelude.{◌==◌, ◌&&◌, ◌||◌, not, filter, is_none, nat_le, nat_lt, bytes_eq, Result}
 use Rattle.std.proofs.lemmas.Bool.Decides.{nat_tests}
 use Rattle.std.proofs.lemmas.Slice.Eq.{bytes_eq-Decides}
@@ -219,7 +219,7 @@ abbrev pub EachAsk : (Ask → Type 0) → List Ask → Type 0
 EachAsk P [] = Unit {0}
 EachAsk P (a ∷ asked) = P a × EachAsk P asked
 
-each-asks : (P : Ask → Type 0) (xs ys : List Ask) → EachAsk P xs → EachAsk P ys → EachAsk P (xs ++ ys)
+pub each-asks : (P : Ask → Type 0) (xs ys : List Ask) → EachAsk P xs → EachAsk P ys → EachAsk P (xs ++ ys)
 each-asks P [] ys a b = b
 each-asks P (x ∷ xs) ys a b = (a.0, each-asks P xs ys a.1 b)
 

@@ -1,7 +1,6 @@
 -- What a row sends for its item: a payload of the client as long as it was said, or one message of the master.
-use Rattle.std.proofs.Common.{◌≡◌, ℕ, zero, suc, ◌+◌, ◌≤◌, List, [], ◌∷◌, ◌++◌, length, true, false, Bool, refl, ◌∙◌, ap, arith, sym, subst, Option, Some, None, Ok, Err, inl, inr}
-use Rattle.std.specs.Prelude.{◌==◌, ◌⊎◌, filter, nat_lt, slice_get, IfSome, Result}
-use Rattle.mux_outside.specs.declared.house.HouseReply.{HouseReply}
+use Rattle.std.proofs.Common.{◌≡◌, ℕ, zero, suc, ◌+◌, ◌≤◌, List, [], ◌∷◌, length, true, false, Bool, refl, ap, arith, sym, subst, Option, Some, None, Ok, Err, inl, inr}
+use Rattle.std.specs.Prelude.{filter, nat_lt, slice_get, IfSome, Result}
 use Rattle.ssh_fields.specs.Fields.{AreBytes}
 use Rattle.ssh_fields.proofs.Fields.{length-with_u32}
 use Rattle.ssh_grammar.specs.Frames.{frame_payload}
@@ -22,15 +21,14 @@ use Rattle.mux_history.specs.Kept.{ForEach}
 use Rattle.mux_history.specs.Log.{admits, heard_row, row_of, treat}
 use Rattle.mux_history.specs.Policy.{Policy}
 use Rattle.mux_history.specs.Requests.{Ask, asker, asks, replies}
-use Rattle.mux_history.specs.Rows.{Admit, Fate, Gone, Heard, Item, Row, Says, is_lost, rows_of}
+use Rattle.mux_history.specs.Rows.{Admit, Gone, Heard, Item, Row, Says, is_lost, rows_of}
 use Rattle.mux_history.specs.Said.{Outcome, drops, said_gist, said_payload, sends, silent, tells}
 use Rattle.mux_isolation.specs.Bounds.{weight}
 use Rattle.mux_history.proofs.Askers.{asks-local, asks_for}
 use Rattle.mux_history.proofs.Finds.{filter-no, filter-yes}
 use Rattle.mux_history.proofs.KeepsApart.{LawfulItem}
-use Rattle.mux_history.proofs.Nexts.{by-next}
 use Rattle.mux_history.proofs.RightLogs.{RowKnown}
-use Rattle.mux_history.proofs.Sends.{Sent, admits-sent, as_row, body-sent, row-parts, sent-by}
+use Rattle.mux_history.proofs.Sends.{Sent, admits-sent, body-sent, row-parts, sent-by}
 use Rattle.mux_isolation.proofs.Shorts.{AskShort, EachAsk, IsBrief, asks-brief}
 use Rattle.mux_isolation.proofs.Weights.{cancel-weight, close-weight, failure-weight, weight-one}
 

@@ -1,9 +1,8 @@
 -- How many bytes the master's own messages are as frames.
-use Rattle.std.proofs.Common.{◌≡◌, ℕ, ◌+◌, ◌*◌, ◌≤◌, List, [], ◌∷◌, ◌++◌, map, length, length-append, true, false, Bool, refl, ◌∙◌, ap, arith, sym, Option, Some, None}
-use Rattle.std.specs.Prelude.{filter, flat_map, is_none, codes}
+use Rattle.std.proofs.Common.{◌≡◌, ℕ, ◌+◌, ◌*◌, ◌≤◌, List, [], ◌∷◌, ◌++◌, map, length, length-append, true, false, Bool, arith, Option, Some, None}
+use Rattle.std.specs.Prelude.{flat_map, is_none}
 use Rattle.ssh_fields.specs.Fields.{str, u32}
 use Rattle.ssh_grammar.specs.Frames.{frame_payload}
-use Rattle.ssh_grammar.specs.Messages.{cancel_name}
 use Rattle.ssh_grammar.specs.SpellMessage.{cancel_forward, client_is_gone, close, open_failure}
 use Rattle.ssh_grammar.specs.declared.numbers.TheConstants.{CONNECT_FAILED}
 use Rattle.ssh_grammar.specs.declared.side.Side.TheVariants.{Up}

@@ -2,7 +2,7 @@ ghost use Rattle.mux_isolation.specs.Laws.{Isolation, WindowsAreKept, Permission
 ghost use Rattle.mux_isolation.specs.Laws.{MasterSaysLittle, NothingIsLeft, AllIsKept};
 ghost use Rattle.mux_isolation.specs.Laws.{QueuesAreBounded, ChannelsAreFew, ForwardingsAreFew, RequestsAreFew, ClientsAreFew};
 ghost use Rattle.mux_isolation.specs.Laws.{ViewsShowRooms, IdleRowsLeaveViews, CutsKeepViews, RowsFollowViews};
-ghost use Rattle.mux_isolation.specs.Bounds.{RowsAddLittle};
+ghost use Rattle.mux_isolation.specs.Bounds.{RowsAddLittle, MarksAddLittle, ServerQueueIsBounded};
 
 /// What an admitted client is told and what is sent for it is what an unshared connection gives from its
 /// own bytes and the server's messages for its channels, up to the numbers that stand for its own.
@@ -91,4 +91,15 @@ pub fn rows_follow_views()
 /// A row adds at most 290,180 bytes to what waits for the server: one payload, and one farewell.
 pub fn rows_add_little()
     ensures { RowsAddLittle }
+{}
+
+/// The rows of one mark of at most 65,536 bytes add at most 3,981,321 bytes to what waits for the server.
+pub fn marks_add_little()
+    ensures { MarksAddLittle }
+{}
+
+/// Where bytes are read and clients accepted only while less than 4,194,304 bytes wait for the server, less
+/// than 8,388,608 bytes wait for it ever.
+pub fn server_queue_is_bounded()
+    ensures { ServerQueueIsBounded }
 {}
