@@ -2,7 +2,9 @@ pub mod Accounts
 pub mod Answered
 pub mod Apart
 pub mod Askers
+pub mod AskersSteps
 pub mod Bools
+pub mod CurrentSteps
 pub mod Dests
 pub mod Finds
 pub mod ForwardsLocal
@@ -16,8 +18,10 @@ pub mod Legal
 pub mod Local
 pub mod Locality
 pub mod Marks
+pub mod MattersSteps
 pub mod Nexts
 pub mod OwnRows
+pub mod PendingSteps
 pub mod Picks
 pub mod Quiets
 pub mod Readings

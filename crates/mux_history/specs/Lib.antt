@@ -25,5 +25,6 @@ pub mod WorkedForwards
 pub mod WorkedLosses
 pub mod Settings
 pub mod Laws
+pub mod Steps
 pub mod WorkedLimits
 pub mod WorkedPolicy

@@ -2,6 +2,7 @@
 //! the law.
 
 ghost use Rattle.mux_history.specs.Laws.{OthersStay, LookUpsAreLocal, Locality, HeldGoesOn, AnswersOnlyGrow, AccountsGoOn, WrittenAddsUp, JournalsGiveRightLogs, NumbersAreApart, PicksAreTaken, RoomsNeverFall, OneIndexServes};
+ghost use Rattle.mux_history.specs.Steps.{CurrentGoesOn, MattersGoOn, AskersGoOn, UnrepliedAreLocal, PendingGoesOn, TakesLeaveTheRest};
 
 /// A row of another client leaves a client's rows as they were.
 pub fn others_stay()
@@ -61,4 +62,37 @@ pub fn rooms_never_fall()
 /// A look-up among a client's channels by the server's number is the one among all channels.
 pub fn one_index_serves()
     ensures { OneIndexServes }
+{}
+
+/// The forwardings that are asked or live go on by one row: of the client's rows nothing but the places
+/// of its next request and of its next reply is looked at.
+pub fn current_goes_on()
+    ensures { CurrentGoesOn }
+{}
+
+/// How many clients have open matters goes on by one row: it changes where the matters of the row's
+/// client open or close.
+pub fn matters_go_on()
+    ensures { MattersGoOn }
+{}
+
+/// The requests without a reply go on by one row: one that is sent joins at the end, a reply takes the
+/// first.
+pub fn askers_go_on()
+    ensures { AskersGoOn }
+{}
+
+/// While the run goes on, a client's requests without a reply are those of all that are its own.
+pub fn unreplied_are_local()
+    ensures { UnrepliedAreLocal }
+{}
+
+/// What waits for each stream goes on by one row, which adds behind and takes from the front.
+pub fn pending_goes_on()
+    ensures { PendingGoesOn }
+{}
+
+/// A take leaves its stream the rest of what waited, and the others what they had.
+pub fn takes_leave_the_rest()
+    ensures { TakesLeaveTheRest }
 {}

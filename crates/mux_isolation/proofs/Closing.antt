@@ -64,7 +64,7 @@ live-begins policy pid pick before (Gone k) each makes = row-parts (Begins befor
 live-begins policy pid pick before (Heard p) each makes = dest-begins policy pid before p each (dest before p) refl
 live-begins policy pid pick before item each makes = λ lost. (refl, refl)
 
-known-begins : (policy : Policy) (pid : ℕ) (before : List Row) (row : Row) → ForEach (RowKnown policy pid) before → RowKnown policy pid before row → Begins before row
+pub known-begins : (policy : Policy) (pid : ℕ) (before : List Row) (row : Row) → ForEach (RowKnown policy pid) before → RowKnown policy pid before row → Begins before row
 known-begins policy pid before row each known =
     subst (Begins before) known.is
     (by-next before known.item known.may

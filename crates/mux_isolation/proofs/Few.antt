@@ -30,7 +30,7 @@ use Rattle.mux_history.proofs.Sends.{as_row, row-parts}
 use Rattle.mux_isolation.proofs.Begun.{held-count, lost-offers, opened-down-not}
 
 -- what a row begins fits
-abbrev Few : List Row → Row → Type 0
+abbrev pub Few : List Row → Row → Type 0
 Few before row = length (held_of (rows_of row.client before)) ≤ 256 → length (held_of (rows_of row.client before)) + length (begun_by row.client row.up row.item) ≤ 256
 
 few-none : (before : List Row) (row : Row) → begun_by row.client row.up row.item ≡ [] → Few before row
@@ -148,11 +148,11 @@ few-treat policy pid pick before (Gone k) each = few-row before (Gone k) k silen
 few-treat policy pid pick before (Heard p) each = few-dest policy pid before p each (dest before p) refl
 few-treat policy pid pick before item each = few-none before (treat policy pid pick before item) refl
 
-few-rows : (policy : Policy) (pid : ℕ) (rows : List Row) → ForEach (RowKnown policy pid) rows → ForEach Few rows
+pub few-rows : (policy : Policy) (pid : ℕ) (rows : List Row) → ForEach (RowKnown policy pid) rows → ForEach Few rows
 few-rows policy pid [] each = tt
 few-rows policy pid (row ∷ before) each = (subst (Few before) each.0.is (few-treat policy pid each.0.pick before each.0.item each.1), few-rows policy pid before each.1)
 
-few-held : (rows : List Row) → ForEach Few rows → ChannelsBounded rows
+pub few-held : (rows : List Row) → ForEach Few rows → ChannelsBounded rows
 few-held [] each k = omega arith
 few-held (row ∷ before) each k = by_case (few-held before each.1 k) (row.client == k) refl
   where

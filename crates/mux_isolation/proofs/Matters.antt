@@ -19,7 +19,7 @@ use Rattle.mux_isolation.proofs.Closing.{closed-next, or-true}
 
 -- ---- how many
 
-abbrev LetIn : List Row → List ℕ → Type 0
+abbrev pub LetIn : List Row → List ℕ → Type 0
 LetIn rows [] = Unit {0}
 LetIn rows (k ∷ ks) = (any_of is_admit (rows_of k rows) ≡ true) × LetIn rows ks
 
@@ -47,7 +47,7 @@ matters-one rows (k ∷ ks) c = by_case (has_open_matters (rows_of k rows)) (mat
 
 -- ---- who is let in
 
-still-in : (row : Row) (before : List Row) (k : ℕ) → any_of is_admit (rows_of k before) ≡ true → any_of is_admit (rows_of k (row ∷ before)) ≡ true
+pub still-in : (row : Row) (before : List Row) (k : ℕ) → any_of is_admit (rows_of k before) ≡ true → any_of is_admit (rows_of k (row ∷ before)) ≡ true
 still-in row before k admitted = by_case (row.client == k) refl
   where
     by_case : (b : Bool) → (row.client == k) ≡ b → any_of is_admit (rows_of k (row ∷ before)) ≡ true
@@ -65,7 +65,7 @@ let-append rows (x ∷ xs) ys a b = (a.0, let-append rows xs ys a.1 b)
 same-number : (k : ℕ) → (k == k) ≡ true
 same-number k = grind (arith, nat_tests)
 
-let-entered : (rows : List Row) → LetIn rows (entered rows)
+pub let-entered : (rows : List Row) → LetIn rows (entered rows)
 let-entered [] = tt
 let-entered (row ∷ before) = let-append (row ∷ before) (entered before) (elim (is_admit row) as (λ _. List ℕ) [ true ↦ row.client ∷ [] | false ↦ [] ]) (let-next row before (entered before) (let-entered before)) (by_case (is_admit row) refl)
   where

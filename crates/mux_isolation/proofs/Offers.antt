@@ -29,7 +29,7 @@ use Rattle.mux_isolation.proofs.Counts.{count, count-add, count-dropped, count-f
 -- ---- a row
 
 -- what a row makes of its client's forwardings stays within the limit
-abbrev Fits : List Row → Row → Type 0
+abbrev pub Fits : List Row → Row → Type 0
 Fits before row =
     length (current (rows_of row.client before)) ≤ 64 → count (forwarded row (rows_of row.client (rows_of row.client before)) (forwardings_of (rows_of row.client before))) ≤ 64
 
@@ -111,11 +111,11 @@ fits-treat policy pid pick before (Gone k) = fits-row before (Gone k) k silent (
 fits-treat policy pid pick before (Heard p) = fits-dest before p (dest before p)
 fits-treat policy pid pick before item = λ le. le
 
-fits-rows : (policy : Policy) (pid : ℕ) (rows : List Row) → ForEach (RowKnown policy pid) rows → ForEach Fits rows
+pub fits-rows : (policy : Policy) (pid : ℕ) (rows : List Row) → ForEach (RowKnown policy pid) rows → ForEach Fits rows
 fits-rows policy pid [] each = tt
 fits-rows policy pid (row ∷ before) each = (subst (Fits before) each.0.is (fits-treat policy pid each.0.pick before each.0.item), fits-rows policy pid before each.1)
 
-fits-held : (rows : List Row) → ForEach Fits rows → ForwardingsBounded rows
+pub fits-held : (rows : List Row) → ForEach Fits rows → ForwardingsBounded rows
 fits-held [] each k = omega arith
 fits-held (row ∷ before) each k = by_case (fits-held before each.1 k) (row.client == k) refl
   where

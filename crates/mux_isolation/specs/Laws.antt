@@ -1,17 +1,22 @@
 -- Laws over all runs: each holds of every right log of a lawful wire, whatever numbers are picked and whatever the
 -- house replies.
-use Rattle.std.specs.Prelude.{ℕ, ◌+◌, ◌≡◌, ◌≤◌, List, [], false, length}
+use Rattle.std.specs.Prelude.{ℕ, ◌+◌, ◌==◌, ◌≡◌, ◌≤◌, List, [], ◌∷◌, false, length}
 use Rattle.mux_history.specs.declared.limits.TheConstants.{MAX_CHANNELS, MAX_CLIENTS, MAX_FORWARDINGS, MAX_GLOBAL_REQUESTS, MAX_QUEUE}
-use Rattle.mux_history.specs.Rows.{Row, rows_of}
+use Rattle.mux_history.specs.Policy.{Policy}
+use Rattle.mux_history.specs.Rows.{Row, rows_of, Item, Admit, Heard}
 use Rattle.mux_history.specs.Pending.{waiting_down}
-use Rattle.mux_history.specs.Channels.{held_of}
+use Rattle.ssh_grammar.specs.declared.side.Side.{Side}
+use Rattle.mux_history.specs.Channels.{Channel, held_of}
+use Rattle.mux_history.specs.Ledger.{room, unanswered}
 use Rattle.mux_history.specs.Requests.{asks, replies}
 use Rattle.mux_history.specs.Forwardings.{current}
 use Rattle.mux_history.specs.Farewell.{has_open_matters}
-use Rattle.mux_history.specs.Log.{open_matters}
+use Rattle.mux_history.specs.Heard.{ToClient, dest}
+use Rattle.mux_history.specs.Log.{admits, makes_row, open_matters, treat}
 use Rattle.mux_history.specs.Right.{IsAdmitted}
 use Rattle.mux_history.specs.Kept.{AtEach, ForEach, Window, Permission, Asker, OwnWords, Unshared, Kept}
-use Rattle.mux_history.specs.Laws.{OverRight}
+use Rattle.mux_history.specs.Laws.{IsOf, OverRight}
+use Rattle.mux_isolation.specs.View.{room_in, unanswered_in, view_of, way_of}
 
 -- each admitted client sees what it would see alone, up to the numbers that stand for its own
 abbrev pub Isolation : Type 0
@@ -82,3 +87,44 @@ ClientsAreFew = OverRight (λ setting rows. AtEach MattersBounded rows)
 -- every right log keeps all that a run promises of its rows
 abbrev pub AllIsKept : Type 0
 AllIsKept = OverRight Kept
+
+-- ---- the view of a client
+
+-- what is seen of a channel's direction shows its room and how many of its requests have no reply
+pub record WayShows (way : Side) (x : Channel) : Type 0 where
+  pub room : room_in (way_of way x) ≡ room way x
+  pub unanswered : unanswered_in (way_of way x) ≡ unanswered way x
+
+-- of every channel
+abbrev pub ViewsShowRooms : Type 0
+ViewsShowRooms = (way : Side) (x : Channel) → WayShows way x
+
+-- a row of another client, or of nobody, leaves the view as it was, whatever it does
+abbrev pub IdleRowsLeaveViews : Type 0
+IdleRowsLeaveViews =
+    (k : ℕ) (row : Row) (before : List Row) → (row.client == k) ≡ false → view_of k (row ∷ before) ≡ view_of k before
+
+-- a log that is cut to the client's rows shows the same of it
+abbrev pub CutsKeepViews : Type 0
+CutsKeepViews = (k : ℕ) (rows : List Row) → view_of k (rows_of k rows) ≡ view_of k rows
+
+-- two rows are the same, and so are the views after them
+pub record SameStep (k : ℕ) (rows others : List Row) (row other : Row) : Type 0 where
+  pub gives : row ≡ other
+  pub view : view_of k (row ∷ rows) ≡ view_of k (other ∷ others)
+
+-- two logs do the same with what concerns the client: with what it says, its end, and what it takes; with a payload that
+-- goes to it in both; with its admission, where both let it in or both refuse it. Which of its items make rows, and whether its
+-- matters are open, is the same in both
+pub record StepsAlike (policy : Policy) (pid pick k : ℕ) (rows others : List Row) : Type 0 where
+  pub own : (item : Item) → IsOf k item → SameStep k rows others (treat policy pid pick rows item) (treat policy pid pick others item)
+  pub heard : (p : List ℕ) → dest rows p ≡ ToClient k → dest others p ≡ ToClient k → SameStep k rows others (treat policy pid pick rows (Heard p)) (treat policy pid pick others (Heard p))
+  pub let_in : admits rows ≡ admits others → SameStep k rows others (treat policy pid pick rows (Admit k)) (treat policy pid pick others (Admit k))
+  pub makes : (item : Item) → IsOf k item → makes_row rows item ≡ makes_row others item
+  pub matters : has_open_matters (rows_of k rows) ≡ has_open_matters (rows_of k others)
+
+-- where two logs show the same of a client: what its row gives, and its view after it, is known from its item, its pick and
+-- its view before it
+abbrev pub RowsFollowViews : Type 0
+RowsFollowViews =
+    (policy : Policy) (pid pick k : ℕ) (rows others : List Row) → view_of k rows ≡ view_of k others → StepsAlike policy pid pick k rows others

@@ -1,6 +1,8 @@
 ghost use Rattle.mux_isolation.specs.Laws.{Isolation, WindowsAreKept, PermissionsAreKept, AskersAreServed};
 ghost use Rattle.mux_isolation.specs.Laws.{MasterSaysLittle, NothingIsLeft, AllIsKept};
 ghost use Rattle.mux_isolation.specs.Laws.{QueuesAreBounded, ChannelsAreFew, ForwardingsAreFew, RequestsAreFew, ClientsAreFew};
+ghost use Rattle.mux_isolation.specs.Laws.{ViewsShowRooms, IdleRowsLeaveViews, CutsKeepViews, RowsFollowViews};
+ghost use Rattle.mux_isolation.specs.Bounds.{RowsAddLittle, MarksAddLittle, ServerQueueIsBounded};
 
 /// What an admitted client is told and what is sent for it is what an unshared connection gives from its
 /// own bytes and the server's messages for its channels, up to the numbers that stand for its own.
@@ -63,4 +65,41 @@ pub fn clients_are_few()
 /// and the unshared connection of each admitted client.
 pub fn all_is_kept()
     ensures { AllIsKept }
+{}
+
+/// What is seen of a channel shows the rooms of both directions and how many requests have no reply.
+pub fn views_show_rooms()
+    ensures { ViewsShowRooms }
+{}
+
+/// A row of another client leaves what is seen of a client as it was, whatever it does.
+pub fn idle_rows_leave_views()
+    ensures { IdleRowsLeaveViews }
+{}
+
+/// What is seen of a client in a log is what is seen of it in its own rows.
+pub fn cuts_keep_views()
+    ensures { CutsKeepViews }
+{}
+
+/// What a client's row gives, and what is seen of the client after it, is known from its item, its pick
+/// and what is seen of it before.
+pub fn rows_follow_views()
+    ensures { RowsFollowViews }
+{}
+
+/// A row adds at most 290,180 bytes to what waits for the server: one payload, and one farewell.
+pub fn rows_add_little()
+    ensures { RowsAddLittle }
+{}
+
+/// The rows of one mark of at most 65,536 bytes add at most 3,981,321 bytes to what waits for the server.
+pub fn marks_add_little()
+    ensures { MarksAddLittle }
+{}
+
+/// Where bytes are read and clients accepted only while less than 4,194,304 bytes wait for the server, less
+/// than 8,388,608 bytes wait for it ever.
+pub fn server_queue_is_bounded()
+    ensures { ServerQueueIsBounded }
 {}

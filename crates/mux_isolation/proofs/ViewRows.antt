@@ -1,0 +1,126 @@
+-- What a client's row gives, and what is seen after it, where the same is seen before it.
+use Rattle.std.proofs.Common.{◌≡◌, ℕ, zero, suc, ◌+◌, List, [], ◌∷◌, ◌++◌, map, length, drop, length-append, true, false, Bool, refl, ◌∙◌, ap, arith, sym}
+use Rattle.std.specs.Prelude.{◌-◌, ◌||◌, ◌&&◌, not, filter, flat_map}
+use Rattle.std.proofs.lemmas.List.{drop-drop}
+use Rattle.std.proofs.Math.Seq.{drop-append_seam}
+use Rattle.ssh_grammar.specs.Frames.{frame_payload}
+use Rattle.ssh_grammar.specs.SpellMessage.{request_failure}
+use Rattle.mux_history.specs.Channels.{held_of}
+use Rattle.mux_history.specs.Controls.{is_says}
+use Rattle.mux_history.specs.Farewell.{farewell, leave_channel, leave_forwarding}
+use Rattle.mux_history.specs.Forwardings.{Forwarding, current, dropped, forwarded, forwardings_of}
+use Rattle.mux_history.specs.Log.{all_told, bare, fate_with, fitting, goes, new_answers, overflow, queued, row_of, with_farewell}
+use Rattle.mux_history.specs.Pending.{joined, took_by}
+use Rattle.mux_history.specs.Requests.{Ask, answers, answers_to, asks, asks_of, is_sent, replies, reply_in, sent_flags, wanted, wanted_by}
+use Rattle.mux_history.specs.Rows.{Item, Row, is_admit, is_lost, is_refusal, loses, rows_of}
+use Rattle.mux_history.specs.Said.{Outcome}
+use Rattle.mux_isolation.specs.View.{ChannelView, View, Waiting, left_of}
+use Rattle.mux_history.proofs.CurrentSteps.{current-step, forwarded_at, is_on, on-forwarded}
+use Rattle.mux_isolation.proofs.ViewChannels.{channels-step, leaves-same, next_channels}
+use Rattle.mux_isolation.proofs.ViewSaid.{channels, own_view, waiting}
+
+-- ---- answers
+
+-- more requests and more replies go on from what was left
+answers-left : (flags more : List Bool) (heard later : List (List ℕ)) → answers_to (flags ++ more) (heard ++ later) ≡ answers_to flags heard ++ answers_to ((left_of flags heard).requests ++ more) ((left_of flags heard).early ++ later)
+answers-left [] more heard later = refl
+answers-left (false ∷ flags) more heard later = ap (λ xs. request_failure ∷ xs) (answers-left flags more heard later)
+answers-left (true ∷ flags) more [] later = refl
+answers-left (true ∷ flags) more (p ∷ heard) later = ap (λ xs. p ∷ xs) (answers-left flags more heard later)
+
+left-more : (flags more : List Bool) (heard later : List (List ℕ)) → left_of (flags ++ more) (heard ++ later) ≡ left_of ((left_of flags heard).requests ++ more) ((left_of flags heard).early ++ later)
+left-more [] more heard later = refl
+left-more (false ∷ flags) more heard later = left-more flags more heard later
+left-more (true ∷ flags) more [] later = refl
+left-more (true ∷ flags) more (p ∷ heard) later = left-more flags more heard later
+
+abbrev answers_after : Row → Waiting → List (List ℕ)
+answers_after row w = map frame_payload (answers_to (w.requests ++ sent_flags (is_sent row) (wanted_by row)) (w.early ++ reply_in row.item))
+
+new-answers : (row : Row) (own : List Row) → new_answers row own ≡ answers_after row (left_of (wanted own) (replies own))
+new-answers row own = ap (map frame_payload) (
+    ap (drop (length (answers own))) (answers-left (wanted own) (sent_flags (is_sent row) (wanted_by row)) (replies own) (reply_in row.item))
+    ∙ drop-append_seam (answers own) (answers_to ((left_of (wanted own) (replies own)).requests ++ sent_flags (is_sent row) (wanted_by row)) ((left_of (wanted own) (replies own)).early ++ reply_in row.item)))
+
+-- ---- the row
+
+module _ (own others : List Row) (same : own_view own ≡ own_view others) where
+  told-same : (row : Row) → all_told row own ≡ all_told row others
+  told-same row =
+      ap (λ b. elim (goes row.fate && not b) as (λ _. List (List ℕ)) [ true ↦ row.down ++ new_answers row own | false ↦ row.down ]) (ap (λ (v : View). v.lost) same)
+      ∙ ap (λ (new : List (List ℕ)). elim (goes row.fate && not (is_lost others)) as (λ _. List (List ℕ)) [ true ↦ row.down ++ new | false ↦ row.down ])
+      (new-answers row own ∙ (ap (answers_after row) (waiting own others same) ∙ sym (new-answers row others)))
+
+  queued-same : (frames : List (List ℕ)) (row : Row) → queued frames row own ≡ queued frames row others
+  queued-same frames row = ap (λ n. record row { down = fitting n frames; fate = fate_with row.fate (overflow n frames) }) (ap (λ (v : View). length v.pending) same)
+
+  cancels-same : (row : Row) → filter is_on (forwarded row own (forwardings_of own)) ≡ filter is_on (forwarded row others (forwardings_of others))
+  cancels-same row =
+      on-forwarded row (length (asks own)) (length (replies own)) (forwardings_of own)
+      ∙ (ap (λ (v : View). filter is_on (forwarded_at row v.requests v.replied v.forwardings)) same
+      ∙ sym (on-forwarded row (length (asks others)) (length (replies others)) (forwardings_of others)))
+
+  farewell-same : (row : Row) → farewell row own ≡ farewell row others
+  farewell-same row =
+      ap (λ xs. xs ++ flat_map leave_forwarding (filter is_on (forwarded row own (forwardings_of own)))) (leaves-same row own others (channels own others same))
+      ∙ ap (λ fs. flat_map leave_channel (held_of (row ∷ others)) ++ flat_map leave_forwarding fs) (cancels-same row)
+
+  leaving-same : (row : Row) → with_farewell row own ≡ with_farewell row others
+  leaving-same row = ap (λ fw. elim (loses row) as (λ _. Row) [ true ↦ record row { farewell = fw } | false ↦ row ]) (farewell-same row)
+
+  pub row-alike : (item : Item) (k : ℕ) (o : Outcome) → row_of item k o own ≡ row_of item k o others
+  row-alike item k o =
+      ap (λ frames. with_farewell (queued frames (bare item k o) own) own) (told-same (bare item k o))
+      ∙ (ap (λ row. with_farewell row own) (queued-same (all_told (bare item k o) others) (bare item k o))
+      ∙ leaving-same (queued (all_told (bare item k o) others) (bare item k o) others))
+
+-- ---- the view after it
+
+drop-append : (xs ys : List Ask) (n : ℕ) → drop n (xs ++ ys) ≡ drop n xs ++ drop (n - length xs) ys
+drop-append [] ys zero = refl
+drop-append [] ys (suc n) = let e : suc n ≡ suc n - 0 = omega arith in ap (λ i. drop i ys) e
+drop-append (x ∷ xs) ys zero = let e : 0 ≡ 0 - length (x ∷ xs) = omega arith in ap (λ i. (x ∷ xs) ++ drop i ys) e
+drop-append (x ∷ xs) ys (suc n) = let e : n - length xs ≡ suc n - length (x ∷ xs) = omega arith in drop-append xs ys n ∙ ap (λ i. drop n xs ++ drop i ys) e
+
+-- what is seen of a client after a row
+abbrev pub next_view : Row → View → View
+next_view row v = record {
+  admitted = is_admit row || v.admitted;
+  has_greeted = is_says row.item || v.has_greeted;
+  lost = loses row || v.lost;
+  out = (loses row || is_refusal row.fate) || v.out;
+  channels = next_channels row v.channels;
+  requests = v.requests + length (asks_of row.client (is_sent row) (wanted_by row));
+  replied = v.replied + length (reply_in row.item);
+  unreplied = drop (length (reply_in row.item)) (v.unreplied ++ drop (v.replied - v.requests) (asks_of row.client (is_sent row) (wanted_by row)));
+  waiting = left_of (v.waiting.requests ++ sent_flags (is_sent row) (wanted_by row)) (v.waiting.early ++ reply_in row.item);
+  forwardings = filter is_on (dropped row (forwarded_at row v.requests v.replied v.forwardings));
+  pending = drop (took_by row.item) (v.pending ++ joined row.down);
+}
+
+pub view-step : (row : Row) (own : List Row) → rows_of row.client own ≡ own → own_view (row ∷ own) ≡ next_view row (own_view own)
+view-step row own all =
+    ap (λ x. with_parts x (length (asks (row ∷ own))) (length (replies (row ∷ own))) (drop (length (replies (row ∷ own))) (asks (row ∷ own))) (left_of (wanted (row ∷ own)) (replies (row ∷ own))) (current (row ∷ own))) (channels-step row own)
+    ∙ (ap (λ x. with_parts (next_channels row v.channels) x (length (replies (row ∷ own))) (drop (length (replies (row ∷ own))) (asks (row ∷ own))) (left_of (wanted (row ∷ own)) (replies (row ∷ own))) (current (row ∷ own))) (length-append (asks own) new)
+    ∙ (ap (λ x. with_parts (next_channels row v.channels) (v.requests + length new) x (drop (length (replies (row ∷ own))) (asks (row ∷ own))) (left_of (wanted (row ∷ own)) (replies (row ∷ own))) (current (row ∷ own))) (length-append (replies own) (reply_in row.item))
+    ∙ (ap (λ x. with_parts (next_channels row v.channels) (v.requests + length new) (v.replied + length (reply_in row.item)) x (left_of (wanted (row ∷ own)) (replies (row ∷ own))) (current (row ∷ own))) unreplied-next
+    ∙ (ap (λ x. with_parts (next_channels row v.channels) (v.requests + length new) (v.replied + length (reply_in row.item)) (drop (length (reply_in row.item)) (v.unreplied ++ drop (v.replied - v.requests) new)) x (current (row ∷ own))) (left-more (wanted own) (sent_flags (is_sent row) (wanted_by row)) (replies own) (reply_in row.item))
+    ∙ ap (λ x. with_parts (next_channels row v.channels) (v.requests + length new) (v.replied + length (reply_in row.item)) (drop (length (reply_in row.item)) (v.unreplied ++ drop (v.replied - v.requests) new)) (left_of (v.waiting.requests ++ sent_flags (is_sent row) (wanted_by row)) (v.waiting.early ++ reply_in row.item)) x) current-next))))
+  where
+    v : View
+    v = own_view own
+
+    new : List Ask
+    new = asks_of row.client (is_sent row) (wanted_by row)
+
+    with_parts : List ChannelView → ℕ → ℕ → List Ask → Waiting → List Forwarding → View
+    with_parts vs a r us w fs = record (own_view (row ∷ own)) { channels = vs; requests = a; replied = r; unreplied = us; waiting = w; forwardings = fs }
+
+    unreplied-next : drop (length (replies (row ∷ own))) (asks (row ∷ own)) ≡ drop (length (reply_in row.item)) (drop (length (replies own)) (asks own) ++ drop (length (replies own) - length (asks own)) new)
+    unreplied-next =
+        ap (λ n. drop n (asks own ++ new)) (length-append (replies own) (reply_in row.item))
+        ∙ (sym (drop-drop (length (reply_in row.item)) (length (replies own)) (asks own ++ new))
+        ∙ ap (drop (length (reply_in row.item))) (drop-append (asks own) new (length (replies own))))
+
+    current-next : current (row ∷ own) ≡ filter is_on (dropped row (forwarded_at row (length (asks own)) (length (replies own)) (current own)))
+    current-next = (current-step row own).goes_on ∙ ap (λ rs. filter is_on (dropped row (forwarded row rs (current own)))) all

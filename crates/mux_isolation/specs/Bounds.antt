@@ -1,0 +1,112 @@
+-- How much may wait for the server.
+use Rattle.std.specs.Prelude.{ℕ, ◌+◌, ◌*◌, ◌==◌, ◌||◌, ◌≡◌, ◌<◌, ◌≤◌, List, [], ◌∷◌, Bool, true, false, IsTrue, map, length}
+use Rattle.mux_outside.specs.declared.house.HouseReply.{HouseReply}
+use Rattle.mux_outside.specs.declared.mark.Mark.{Mark}
+use Rattle.mux_outside.specs.declared.mark.Mark.TheVariants.{Accepts, Gets, Ends, Fails, WriteFails}
+use Rattle.ssh_grammar.specs.declared.numbers.TheConstants.{LONGEST_FRAME}
+use Rattle.ssh_grammar.specs.Frames.{frame_payload}
+use Rattle.mux_history.specs.declared.limits.TheConstants.{MAX_CHANNELS, MAX_CLIENTS, MAX_FORWARDINGS, READING_STOPS_AT}
+use Rattle.mux_history.specs.Rows.{Row, sent_by}
+use Rattle.mux_history.specs.Pending.{joined, pending}
+use Rattle.mux_history.specs.Policy.{Policy}
+use Rattle.mux_history.specs.Log.{Setting}
+use Rattle.mux_history.specs.Journal.{IsLawful, log_of_journal}
+use Rattle.mux_history.specs.Promises.{Throughout}
+use Rattle.mux_history.specs.Right.{AreFresh}
+use Rattle.mux_history.specs.Settings.{by_lists}
+use Rattle.mux_history.specs.Kept.{ForEach}
+use Rattle.mux_history.specs.Laws.{OverRight}
+
+-- how many bytes payloads are as frames
+abbrev pub weight : List (List ℕ) → ℕ
+weight payloads = length (joined (map frame_payload payloads))
+
+-- the frame of a failed open, which a farewell has for a channel at most
+abbrev pub longest_leave : ℕ
+longest_leave = 36
+
+-- the frame of a cancel of an address of 255 bytes, which a farewell has for a forwarding at most
+abbrev pub longest_cancel : ℕ
+longest_cancel = 294
+
+-- a farewell: 28,032 bytes
+abbrev pub longest_farewell : ℕ
+longest_farewell = MAX_CHANNELS * longest_leave + MAX_FORWARDINGS * longest_cancel
+
+-- a row: the longest frame of a payload, with its length in front, and a farewell: 290,180 bytes
+abbrev pub longest_row : ℕ
+longest_row = LONGEST_FRAME + 4 + longest_farewell
+
+-- ---- one row
+
+-- a row sends no more, and no more is added to what waits for the server
+pub record AddsLittle (before : List Row) (row : Row) : Type 0 where
+  pub sent : weight (sent_by row) ≤ longest_row
+  pub waits : length (pending 0 (row ∷ before)) ≤ length (pending 0 before) + weight (sent_by row)
+
+-- at every row of every right log
+abbrev pub RowsAddLittle : Type 0
+RowsAddLittle = OverRight (λ setting rows. ForEach AddsLittle rows)
+
+-- ---- one mark
+
+-- the stream is the server's, or that of a client that was accepted
+abbrev pub is_known : ℕ → List Mark → Bool
+is_known t [] = t == 0
+is_known t (Accepts k ∷ before) = (k == t) || is_known t before
+is_known t (mark ∷ before) = is_known t before
+
+-- so is the stream that a mark names
+abbrev pub NamesKnown : List Mark → Mark → Type 0
+NamesKnown before (Gets stream bytes) = IsTrue (is_known stream before)
+NamesKnown before (Ends stream) = IsTrue (is_known stream before)
+NamesKnown before (Fails stream) = IsTrue (is_known stream before)
+NamesKnown before (WriteFails stream) = IsTrue (is_known stream before)
+NamesKnown before mark = Unit {0}
+
+-- what waits for the server
+abbrev pub waiting_up : Setting → List Mark → ℕ
+waiting_up setting marks = length (pending 0 (log_of_journal setting marks))
+
+-- the longest piece that a stream gives at once
+abbrev pub longest_piece : ℕ
+longest_piece = 65536
+
+-- a mark: for each of 64 clients a farewell, and a cancel for each of 64 requests that are answered late; besides
+-- these thrice the bytes that were read, those of a frame that wasn't whole among them: 3,981,321 bytes
+abbrev pub longest_mark : ℕ
+longest_mark = MAX_CLIENTS * (longest_farewell + MAX_FORWARDINGS * longest_cancel) + 3 * (LONGEST_FRAME + 3 + longest_piece)
+
+-- of a fact of the setting and of a journal that a wire can give, whose picks were fresh
+abbrev pub OverKnown : (Setting → List Mark → Type 0) → Type 0
+OverKnown P =
+    (policy : Policy) (pid : ℕ) (picks : List ℕ) (given : List HouseReply) (marks : List Mark) → IsLawful marks → Throughout NamesKnown marks → AreFresh (log_of_journal (by_lists policy pid picks given) marks) → P (by_lists policy pid picks given) marks
+
+-- the rows of the newest mark add no more
+abbrev pub AddsAtOnce : Setting → List Mark → Type 0
+AddsAtOnce setting [] = waiting_up setting [] ≡ 0
+AddsAtOnce setting (mark ∷ before) = waiting_up setting (mark ∷ before) ≤ waiting_up setting before + longest_mark
+
+abbrev pub MarksAddLittle : Type 0
+MarksAddLittle = OverKnown AddsAtOnce
+
+-- ---- all marks
+
+-- bytes that are read, and clients that are accepted
+abbrev pub reads : Mark → Bool
+reads (Accepts k) = true
+reads (Gets stream bytes) = true
+reads mark = false
+
+-- come only while less than 4,194,304 bytes wait for the server
+abbrev pub ReadsWithRoom : Setting → List Mark → Mark → Type 0
+ReadsWithRoom setting before mark = reads mark ≡ true → waiting_up setting before < READING_STOPS_AT
+
+-- then less than 8,388,608 bytes wait for it ever: no more than where reading stops, and one mark
+pub record StaysBelow (setting : Setting) (marks : List Mark) : Type 0 where
+  pub within : waiting_up setting marks ≤ READING_STOPS_AT + longest_mark
+  pub below : waiting_up setting marks < 8388608
+
+abbrev pub ServerQueueIsBounded : Type 0
+ServerQueueIsBounded =
+    OverKnown (λ setting marks. Throughout (ReadsWithRoom setting) marks → StaysBelow setting marks)
