@@ -1,2 +1,5 @@
 pub mod Fronts
 pub mod Written
+pub mod Stands
+pub mod Goes
+pub mod Tells

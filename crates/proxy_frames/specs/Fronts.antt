@@ -1,5 +1,5 @@
 -- What can stand at the front of bytes that are cut into frames (PROTOCOL.mux): less than a whole frame, or a fault.
-use Rattle.std.specs.Prelude.{◌≡◌, ◌≢◌, ◌⊎◌, ⊤, ℕ, ◌+◌, ◌≤◌, ◌<◌, List, [], ◌∷◌, length, take, drop, Some}
+use Rattle.std.specs.Prelude.{◌≡◌, ◌≢◌, ◌⊎◌, ⊤, ℕ, ◌+◌, ◌≤◌, ◌<◌, List, [], ◌∷◌, length, take, drop, Some, None}
 use Rattle.ssh_fields.specs.Fields.{take_u32}
 use Rattle.ssh_grammar.specs.declared.fault.BadFrame.{BadFrame}
 use Rattle.ssh_grammar.specs.declared.fault.BadFrame.TheVariants as bad
@@ -9,6 +9,7 @@ use Rattle.ssh_grammar.specs.declared.numbers.TheConstants.{LONGEST_FRAME}
 use Rattle.ssh_grammar.specs.Frames.{Front, Frame, More, Faulty, shortest}
 use Rattle.proxy_frames.specs.declared.next.Piece.{Piece}
 use Rattle.proxy_frames.specs.declared.next.Piece.TheVariants as piece
+use Rattle.proxy_frames.specs.State.{FramerState}
 
 -- a length field that is in range, and the bytes behind it
 pub record IsHeader (framing : Framing) (bytes : List ℕ) (n : ℕ) (behind : List ℕ) : Type 0 where
@@ -38,6 +39,16 @@ IsFault framing bytes (bad.Long n) = (behind : List ℕ) × (take_u32 bytes ≡ 
 IsFault framing bytes (bad.Short n) = (behind : List ℕ) × (take_u32 bytes ≡ Some (n, behind)) × (n < shortest framing)
 IsFault framing bytes (bad.Padding b) =
     (n : ℕ) × (behind : List ℕ) × (framing ≡ Proxy) × (b ≢ 0) × IsHeader framing bytes n (b ∷ behind)
+
+-- ---- what a framer is answered
+
+-- no fault was told, and less than a whole frame is there
+abbrev pub WantsMore : FramerState → Type 0
+WantsMore f = (f.fault ≡ None) × IsPartial f.framing f.rest
+
+-- the fault was told already, or none was and it stands there
+abbrev pub HasFault : FramerState → BadFrame → Type 0
+HasFault f fault = (f.fault ≡ Some fault) ⊎ ((f.fault ≡ None) × IsFault f.framing f.rest fault)
 
 -- ---- the front, found in place
 

@@ -8,6 +8,7 @@ use Rattle.ssh_grammar.specs.IsFrame.{IsContent, joined}
 use Rattle.proxy_frames.specs.declared.next.Next.{Next}
 use Rattle.proxy_frames.specs.declared.next.Next.TheVariants as next
 use Rattle.proxy_frames.specs.State.{FramerState}
+use Rattle.proxy_frames.specs.Steps.{once_told}
 
 -- since a framer began, or was switched: how it cuts, the bytes that came, first those that the switch left, the
 -- frames that were given, and the fault, once one was told
@@ -49,10 +50,7 @@ and_fault fault h = record { framing = h.framing; bytes = h.bytes; given = h.giv
 
 -- from now on the bytes that are left are cut so; after a fault nothing is
 abbrev pub and_switch : Framing → History → History
-and_switch framing h = elim h.told [
-  | Some fault ↦ h
-  | None ↦ record { framing = framing; bytes = left h; given = []; told = None }
-]
+and_switch framing h = once_told h.told (λ _. h) (record { framing = framing; bytes = left h; given = []; told = None })
 
 -- ---- what is next
 
@@ -64,7 +62,7 @@ next_in [] None = next.More
 
 -- the same, but a fault that was told is told again
 abbrev pub next_of : History → Next
-next_of h = elim h.told [ Some fault ↦ next.Bad fault | None ↦ next_in (to_come h) (cut_of h).fault ]
+next_of h = once_told h.told next.Bad (next_in (to_come h) (cut_of h).fault)
 
 -- the frame that it gives, if it is one
 abbrev pub first_of : List (List ℕ) → Option (List ℕ)
@@ -72,7 +70,7 @@ first_of (content ∷ more) = Some content
 first_of [] = None
 
 abbrev pub frame_next : History → Option (List ℕ)
-frame_next h = elim h.told [ Some fault ↦ None | None ↦ first_of (to_come h) ]
+frame_next h = once_told h.told (λ _. None) (first_of (to_come h))
 
 -- what came and what was given then
 abbrev pub and_next_in : List (List ℕ) → Option BadFrame → History → History
@@ -81,7 +79,7 @@ and_next_in [] (Some fault) h = and_fault fault h
 and_next_in [] None h = h
 
 abbrev pub and_next : History → History
-and_next h = elim h.told [ Some fault ↦ h | None ↦ and_next_in (to_come h) (cut_of h).fault h ]
+and_next h = once_told h.told (λ _. h) (and_next_in (to_come h) (cut_of h).fault h)
 
 -- ---- what a framer stands for
 

@@ -19,9 +19,14 @@ pushed piece f = record { framing = f.framing; rest = f.rest ++ piece; current =
 abbrev pub switched : Framing → FramerState → FramerState
 switched framing f = record { framing = framing; rest = f.rest; current = None; fault = f.fault }
 
--- what comes next: the fault, once one was told, and else what stands at the front of the bytes that are not cut
+-- one value once a fault was told, and another one before
+abbrev pub once_told : {A : Type 0} → Option BadFrame → (BadFrame → A) → A → A
+once_told (Some fault) after before = after fault
+once_told None after before = before
+
+-- what comes next: the fault, once one was told, and before what stands at the front of the bytes that are not cut
 abbrev pub front_of : FramerState → Front
-front_of f = elim f.fault [ Some fault ↦ Faulty fault | None ↦ first_frame f.framing f.rest ]
+front_of f = once_told f.fault Faulty (first_frame f.framing f.rest)
 
 -- what is answered to it
 abbrev pub answer_to : Front → Next

@@ -3,7 +3,7 @@ ghost use Rattle.std.specs.Borrow.{Lends, Array, sem, u8};
 ghost use Rattle.ssh_grammar.specs.declared.fault.BadFrame.{BadFrame};
 ghost use Rattle.proxy_frames.specs.contracts.framer.Framer.{the_row};
 ghost use Rattle.proxy_frames.specs.Steps.{new_framer, pushed, switched, front_of, answer_to, after_front, with_written};
-ghost use Rattle.proxy_frames.specs.Fronts.{IsPartial, IsFault};
+ghost use Rattle.proxy_frames.specs.Fronts.{WantsMore, HasFault};
 ghost use Rattle.proxy_frames.specs.History.{StandsFor, GoesOn, IsNext, new_history, and_bytes, and_switch, and_next};
 
 use crate::next::{Next, Piece, front};
@@ -39,6 +39,7 @@ impl Framer {
     /// A framer without a byte.
     pub fn new(alloc: Global, kind: Framing) -> Framer
         ensures exact { result ≡ new_framer kind }
+        ensures stands { StandsFor (new_history kind) result }
     {
         Framer {
             framing: kind,
@@ -52,6 +53,7 @@ impl Framer {
     /// More bytes of the stream. An `Err` changes nothing.
     pub fn push(&mut self, piece: &[u8]) -> Result<(), OutOfMemory>
         ensures ok { OnOk result (self.new ≡ pushed piece.now self.old) }
+        ensures stands { OnOk result (GoesOn self.old self.new (and_bytes piece.now)) }
         ensures unchanged { OnErr result (self.new ≡ self.old) }
     {
         self.bytes.reserve(piece.len())?;
@@ -69,6 +71,14 @@ impl Framer {
     pub fn next(&mut self) -> Next
         ensures answer { result ≡ answer_to (front_of self.old) }
         ensures exact { self.new ≡ after_front (front_of self.old) self.old }
+
+        // More is wanted, and a fault told, exactly where it stands there.
+        ensures more { (result ≡ Next.More) ↔ WantsMore self.old }
+        ensures fault { (fault : BadFrame) → (result ≡ Next.Bad fault) ↔ HasFault self.old fault }
+
+        // Over all that came and was given.
+        ensures given { IsNext self.old result self.new }
+        ensures stands { GoesOn self.old self.new and_next }
     {
         self.current = None;
         if let Some(fault) = self.fault {
@@ -91,6 +101,7 @@ impl Framer {
     /// From now on cuts so. The bytes that weren't cut yet are kept.
     pub fn switch(&mut self, kind: Framing)
         ensures exact { self.new ≡ switched kind self.old }
+        ensures stands { GoesOn self.old self.new (and_switch kind) }
     {
         self.framing = kind;
         self.current = None;
