@@ -3,3 +3,4 @@ pub mod Written
 pub mod Stands
 pub mod Goes
 pub mod Tells
+pub mod Runs

@@ -1,5 +1,5 @@
 -- When more is wanted, and when a fault is told.
-use Rattle.std.proofs.Common.{arith, rules, ◌≡◌, ℕ, ◌-◌, List, length, take, drop, refl, sym, ◌∙◌, ap, subst, Option, Some, None, inl, inr}
+use Rattle.std.proofs.Common.{arith, rules, ◌≡◌, ℕ, ◌-◌, List, ◌++◌, length, take, drop, refl, sym, ◌∙◌, ap, subst, Option, Some, None, inl, inr}
 use Rattle.std.specs.Prelude.{◌↔◌, ◌⊎◌}
 use Rattle.std.proofs.lemmas.Grind.{common_steps}
 use Rattle.std.proofs.lemmas.List.{take_rest}
@@ -7,12 +7,13 @@ use Rattle.ssh_fields.specs.Fields.{AreBytes}
 use Rattle.ssh_grammar.specs.declared.fault.BadFrame.{BadFrame}
 use Rattle.ssh_grammar.specs.declared.framing.Framing.{Framing}
 use Rattle.ssh_grammar.specs.Frames.{Front, Frame, More, Faulty, first_frame}
+use Rattle.ssh_grammar.proofs.Cuts.{Extends, first-extends}
 use Rattle.proxy_frames.specs.declared.next.Next.{Next}
 use Rattle.proxy_frames.specs.declared.next.Next.TheVariants as next
 use Rattle.proxy_frames.specs.State.{FramerState}
 use Rattle.proxy_frames.specs.Steps.{once_told, front_of, answer_to}
 use Rattle.proxy_frames.specs.Fronts.{IsPartial, IsFault, WantsMore, HasFault}
-use Rattle.proxy_frames.specs.Laws.{MoreIsPartial, FaultsAreTold}
+use Rattle.proxy_frames.specs.Laws.{MoreIsPartial, FaultsAreTold, FaultsStay}
 
 -- ---- at the front of bytes
 
@@ -21,6 +22,11 @@ more-partial framing bytes = search rules
 
 pub fault-told : FaultsAreTold
 fault-told framing bytes fault = search rules
+
+pub fault-stays : FaultsStay
+fault-stays framing bytes more fault is =
+    let there : first_frame framing bytes ≡ Faulty fault = (fault-told framing bytes fault).1 is in
+    (fault-told framing (bytes ++ more) fault).0 (subst (λ (front : Front). Extends more front (first_frame framing (bytes ++ more))) there (first-extends framing bytes more))
 
 -- ---- at a framer
 

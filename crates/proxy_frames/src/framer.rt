@@ -72,7 +72,8 @@ impl Framer {
         ensures answer { result ≡ answer_to (front_of self.old) }
         ensures exact { self.new ≡ after_front (front_of self.old) self.old }
 
-        // More is wanted, and a fault told, exactly where it stands there.
+        // There is a current frame, more is wanted, or a fault is told, exactly where it stands there.
+        ensures current { (result ≡ Next.Frame) ↔ IsSome self.new.current }
         ensures more { (result ≡ Next.More) ↔ WantsMore self.old }
         ensures fault { (fault : BadFrame) → (result ≡ Next.Bad fault) ↔ HasFault self.old fault }
 

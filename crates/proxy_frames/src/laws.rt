@@ -1,14 +1,24 @@
 //! What holds of framers over all bytes: each function's contract is the law.
 
-ghost use Rattle.proxy_frames.specs.Laws.{MoreIsPartial, FaultsAreTold, WritingChangesTheFrame};
+ghost use Rattle.proxy_frames.specs.Laws.{PiecesGiveTheCut, AnyPiecesGiveTheSame, AnyTimeGivesTheSame, MoreIsPartial, FaultsAreTold, FaultsStay, WritingChangesTheFrame, WritingKeepsTheHistory};
+
+/// The frames of a stream, its rest and its fault don't depend on the pieces in which it came, nor on when
+/// its frames were taken.
+pub fn pieces_of_a_stream()
+    ensures cut { PiecesGiveTheCut }
+    ensures same { AnyPiecesGiveTheSame }
+    ensures any_time { AnyTimeGivesTheSame }
+{}
 
 /// What stands at the front of bytes where no whole frame does.
 pub fn fronts_of_a_stream()
     ensures more { MoreIsPartial }
     ensures fault { FaultsAreTold }
+    ensures stays { FaultsStay }
 {}
 
 /// What is written in a frame stays in the frame.
 pub fn writing_in_a_frame()
     ensures own { WritingChangesTheFrame }
+    ensures stands { WritingKeepsTheHistory }
 {}
