@@ -1,10 +1,10 @@
 -- A framer goes on to stand for what its history became.
-use Rattle.std.proofs.Common.{◌≡◌, ℕ, List, [], ◌∷◌, ◌++◌, length, drop, refl, sym, ◌∙◌, ap, subst, Option, Some, None, append_assoc}
+use Rattle.std.proofs.Common.{◌≡◌, ℕ, List, [], ◌∷◌, ◌++◌, refl, sym, ◌∙◌, ap, subst, Option, Some, None, append_assoc}
 use Rattle.ssh_fields.specs.Fields.{AreBytes}
 use Rattle.ssh_grammar.specs.declared.fault.BadFrame.{BadFrame}
 use Rattle.ssh_grammar.specs.declared.framing.Framing.{Framing}
 use Rattle.ssh_grammar.specs.Frames.{Cut, cut, frame, Front, Frame, More, Faulty, first_frame}
-use Rattle.ssh_grammar.specs.IsFrame.{IsContent, joined}
+use Rattle.ssh_grammar.specs.IsFrame.{joined}
 use Rattle.ssh_grammar.proofs.Cuts.{Extends, first-extends, cut-at}
 use Rattle.ssh_grammar.proofs.Frames.{IsFirst, first-is}
 use Rattle.proxy_frames.specs.declared.next.Next.{Next}

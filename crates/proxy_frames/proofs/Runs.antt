@@ -1,6 +1,6 @@
 -- Frames that are taken as pieces come are those of the whole stream.
 use Rattle.std.proofs.Common.{arith, ◌≡◌, ℕ, zero, suc, ◌+◌, ◌-◌, ◌<◌, ◌≤◌, List, [], ◌∷◌, ◌++◌, length, refl, sym, ◌∙◌, ap, subst, Option, Some, None, append_assoc}
-use Rattle.std.proofs.lemmas.List.{append-nil, append_cancel_left}
+use Rattle.std.proofs.lemmas.List.{append-nil}
 use Rattle.ssh_grammar.specs.declared.fault.BadFrame.{BadFrame}
 use Rattle.ssh_grammar.specs.declared.framing.Framing.{Framing}
 use Rattle.ssh_grammar.specs.Frames.{Cut, cut, with_frame, Front, Frame, More, Faulty, first_frame}
@@ -8,9 +8,9 @@ use Rattle.ssh_grammar.specs.Laws.{cut_then}
 use Rattle.ssh_grammar.proofs.Cuts.{IsShorter, first-shorter, Extends, first-extends, cut-at, cut-append}
 use Rattle.proxy_frames.specs.State.{FramerState}
 use Rattle.proxy_frames.specs.Steps.{new_framer, pushed, once_told, front_of, after_front}
-use Rattle.proxy_frames.specs.Runs.{Taken, and_taken, taken_front, taken_by, taken, taken_of, stream_of, cut_taken}
-use Rattle.proxy_frames.specs.History.{History, StandsFor, cut_of, to_come}
-use Rattle.proxy_frames.specs.Laws.{PiecesGiveTheCut, AnyPiecesGiveTheSame, AreAlike, AnyTimeGivesTheSame}
+use Rattle.proxy_frames.specs.Runs.{Taken, taken_front, taken_by, taken, taken_of, stream_of, cut_taken}
+use Rattle.proxy_frames.specs.History.{cut_of, to_come}
+use Rattle.proxy_frames.specs.Laws.{PiecesGiveTheCut, AnyPiecesGiveTheSame, AnyTimeGivesTheSame}
 use Rattle.proxy_frames.proofs.Stands.{to_come-is, fault-is}
 
 -- ---- all frames that are there

@@ -1,8 +1,7 @@
 -- What a framer stands for, by what was given and what is left.
-use Rattle.std.proofs.Common.{◌≡◌, ℕ, List, [], ◌∷◌, ◌++◌, length, drop, refl, sym, ◌∙◌, ap, Option, Some, None, append_assoc}
+use Rattle.std.proofs.Common.{◌≡◌, ℕ, List, [], ◌∷◌, ◌++◌, length, drop, refl, sym, ◌∙◌, ap, append_assoc}
 use Rattle.std.specs.List.{AllByRecursion}
 use Rattle.std.proofs.lemmas.List.{drop_at, append-nil}
-use Rattle.ssh_grammar.specs.declared.fault.BadFrame.{BadFrame}
 use Rattle.ssh_grammar.specs.declared.framing.Framing.{Framing}
 use Rattle.ssh_grammar.specs.Frames.{Cut, cut, frame, with_frame}
 use Rattle.ssh_grammar.specs.IsFrame.{IsContent, joined}

@@ -1,18 +1,16 @@
 -- When more is wanted, and when a fault is told.
-use Rattle.std.proofs.Common.{arith, rules, ◌≡◌, ℕ, ◌-◌, List, ◌++◌, length, take, drop, refl, sym, ◌∙◌, ap, subst, Option, Some, None, inl, inr}
-use Rattle.std.specs.Prelude.{◌↔◌, ◌⊎◌}
-use Rattle.std.proofs.lemmas.Grind.{common_steps}
+use Rattle.std.proofs.Common.{rules, ◌≡◌, ℕ, ◌-◌, List, ◌++◌, length, take, drop, refl, sym, ◌∙◌, ap, subst, Option, Some, None, inl, inr}
+use Rattle.std.specs.Prelude.{◌↔◌}
 use Rattle.std.proofs.lemmas.List.{take_rest}
 use Rattle.ssh_fields.specs.Fields.{AreBytes}
 use Rattle.ssh_grammar.specs.declared.fault.BadFrame.{BadFrame}
-use Rattle.ssh_grammar.specs.declared.framing.Framing.{Framing}
 use Rattle.ssh_grammar.specs.Frames.{Front, Frame, More, Faulty, first_frame}
 use Rattle.ssh_grammar.proofs.Cuts.{Extends, first-extends}
 use Rattle.proxy_frames.specs.declared.next.Next.{Next}
 use Rattle.proxy_frames.specs.declared.next.Next.TheVariants as next
 use Rattle.proxy_frames.specs.State.{FramerState}
 use Rattle.proxy_frames.specs.Steps.{once_told, front_of, answer_to}
-use Rattle.proxy_frames.specs.Fronts.{IsPartial, IsFault, WantsMore, HasFault}
+use Rattle.proxy_frames.specs.Fronts.{WantsMore, HasFault}
 use Rattle.proxy_frames.specs.Laws.{MoreIsPartial, FaultsAreTold, FaultsStay}
 
 -- ---- at the front of bytes

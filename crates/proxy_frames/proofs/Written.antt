@@ -1,7 +1,7 @@
 -- A write over the current frame, in the bytes that are kept.
-use Rattle.std.proofs.Common.{◌≡◌, ℕ, zero, suc, ◌-◌, ◌+◌, ◌≤◌, List, [], ◌∷◌, ◌++◌, length, take, drop, slice_range, refl, sym, ◌∙◌, ap, arith, Option, Some, None, true, false, length-take, length-take-le, length-append, length-drop}
+use Rattle.std.proofs.Common.{◌≡◌, ℕ, zero, suc, ◌-◌, ◌+◌, ◌≤◌, List, [], ◌∷◌, ◌++◌, length, take, drop, slice_range, sym, ◌∙◌, ap, arith, Option, Some, None, true, false, length-take-le, length-append, length-drop}
 use Rattle.std.specs.Prelude.{IsSome, unwrap_or}
-use Rattle.std.proofs.lemmas.List.{take-append-le, take-append-drop, drop_at, drop-drop, take_at, take_all}
+use Rattle.std.proofs.lemmas.List.{take-append-le, take-append-drop, drop_at, drop-drop}
 use Rattle.ssh_grammar.specs.declared.fault.BadFrame.{BadFrame}
 use Rattle.ssh_grammar.specs.declared.framing.Framing.{Framing}
 use Rattle.proxy_frames.specs.State.{FramerState, current_from, IsWithin}

@@ -1,12 +1,15 @@
 -- What holds of framers over all bytes, however these were cut into pieces.
-use Rattle.std.specs.Prelude.{◌≡◌, ◌↔◌, ℕ, List, [], ◌++◌, length, Some}
+use Rattle.std.specs.Prelude.{◌≡◌, ◌↔◌, ℕ, List, ◌++◌, length, Some}
+use Rattle.std.specs.List.{AllByRecursion}
+use Rattle.ssh_fields.specs.Fields.{AreBytes}
 use Rattle.ssh_grammar.specs.declared.fault.BadFrame.{BadFrame}
 use Rattle.ssh_grammar.specs.declared.framing.Framing.{Framing}
 use Rattle.ssh_grammar.specs.Frames.{More, Faulty, first_frame, cut}
+use Rattle.ssh_grammar.specs.IsFrame.{IsContent, joined}
 use Rattle.proxy_frames.specs.State.{FramerState}
 use Rattle.proxy_frames.specs.Steps.{new_framer, with_written}
-use Rattle.proxy_frames.specs.Fronts.{IsPartial, IsFault}
-use Rattle.proxy_frames.specs.History.{History, StandsFor, to_come}
+use Rattle.proxy_frames.specs.Fronts.{IsPartial, IsPrefix, IsFault}
+use Rattle.proxy_frames.specs.History.{History, StandsFor, to_come, behind}
 use Rattle.proxy_frames.specs.Runs.{taken_of, cut_taken, stream_of}
 
 -- ---- in any pieces
@@ -42,6 +45,13 @@ AnyTimeGivesTheSame =
 abbrev pub MoreIsPartial : Type 0
 MoreIsPartial = (framing : Framing) (bytes : List ℕ) → (first_frame framing bytes ≡ More) ↔ IsPartial framing bytes
 
+-- that is a proper prefix of a frame in which no fault is seen yet
+abbrev pub MoreIsPrefix : Type 0
+MoreIsPrefix =
+    (framing : Framing) (bytes : List ℕ) → AreBytes bytes
+    → (first_frame framing bytes ≡ More)
+    ↔ (IsPrefix framing bytes × ((fault : BadFrame) → IsFault framing bytes fault → ⊥))
+
 -- a fault is told exactly where one stands there
 abbrev pub FaultsAreTold : Type 0
 FaultsAreTold =
@@ -53,6 +63,14 @@ abbrev pub FaultsStay : Type 0
 FaultsStay =
     (framing : Framing) (bytes more : List ℕ) (fault : BadFrame)
     → IsFault framing bytes fault → IsFault framing (bytes ++ more) fault
+
+-- ---- from a queue to a framer
+
+-- frames that were queued are cut one by one, and then what follows them
+abbrev pub QueuedFramesAreCut : Type 0
+QueuedFramesAreCut =
+    (framing : Framing) (contents : List (List ℕ)) (rest : List ℕ) → AllByRecursion (IsContent framing) contents
+    → cut framing (joined framing contents ++ rest) ≡ behind contents (cut framing rest)
 
 -- ---- in a frame
 

@@ -1,4 +1,4 @@
-ghost use Rattle.std.specs.Prelude.{◌≡◌, ◌↔◌, List, ℕ, length, IsSome, Some, None, OnOk, OnErr};
+ghost use Rattle.std.specs.Prelude.{◌≡◌, ◌↔◌, ◌+◌, ◌<◌, List, ℕ, length, IsSome, Some, None, OnOk, OnErr};
 ghost use Rattle.std.specs.Borrow.{Lends, Array, sem, u8};
 ghost use Rattle.ssh_grammar.specs.declared.fault.BadFrame.{BadFrame};
 ghost use Rattle.proxy_frames.specs.contracts.framer.Framer.{the_row};
@@ -8,6 +8,7 @@ ghost use Rattle.proxy_frames.specs.History.{StandsFor, GoesOn, IsNext, new_hist
 
 use crate::next::{Next, Piece, front};
 use ssh_fields::OutOfMemory;
+use ssh_grammar::numbers::LONGEST_FRAME;
 use ssh_grammar::{BadFrame, Framing};
 use std::alloc::Global;
 use std::marker::Model;
@@ -75,6 +76,7 @@ impl Framer {
         // There is a current frame, more is wanted, or a fault is told, exactly where it stands there.
         ensures current { (result ≡ Next.Frame) ↔ IsSome self.new.current }
         ensures more { (result ≡ Next.More) ↔ WantsMore self.old }
+        ensures short { result ≡ Next.More → length self.new.rest < LONGEST_FRAME + 4 }
         ensures fault { (fault : BadFrame) → (result ≡ Next.Bad fault) ↔ HasFault self.old fault }
 
         // Over all that came and was given.

@@ -1,6 +1,6 @@
 //! What holds of framers over all bytes: each function's contract is the law.
 
-ghost use Rattle.proxy_frames.specs.Laws.{PiecesGiveTheCut, AnyPiecesGiveTheSame, AnyTimeGivesTheSame, MoreIsPartial, FaultsAreTold, FaultsStay, WritingChangesTheFrame, WritingKeepsTheHistory};
+ghost use Rattle.proxy_frames.specs.Laws.{PiecesGiveTheCut, AnyPiecesGiveTheSame, AnyTimeGivesTheSame, MoreIsPartial, MoreIsPrefix, FaultsAreTold, FaultsStay, QueuedFramesAreCut, WritingChangesTheFrame, WritingKeepsTheHistory};
 
 /// The frames of a stream, its rest and its fault don't depend on the pieces in which it came, nor on when
 /// its frames were taken.
@@ -13,8 +13,14 @@ pub fn pieces_of_a_stream()
 /// What stands at the front of bytes where no whole frame does.
 pub fn fronts_of_a_stream()
     ensures more { MoreIsPartial }
+    ensures prefix { MoreIsPrefix }
     ensures fault { FaultsAreTold }
     ensures stays { FaultsStay }
+{}
+
+/// What a queue writes as frames, a framer gives as frames.
+pub fn frames_that_were_queued()
+    ensures cut { QueuedFramesAreCut }
 {}
 
 /// What is written in a frame stays in the frame.

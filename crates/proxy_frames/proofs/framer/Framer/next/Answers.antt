@@ -1,4 +1,4 @@
-use Rattle.std.proofs.Common.{arith, rules, ap}
+use Rattle.std.proofs.Common.{arith, ap}
 use Rattle.std.proofs.lemmas.Grind.{common_steps}
 use Rattle.proxy_frames.specs.State.{FramerState}
 use Rattle.proxy_frames.proofs.Goes.{next-stands}
