@@ -1,11 +1,15 @@
 -- What a framer stands for, by what was given and what is left.
-use Rattle.std.proofs.Common.{◌≡◌, ℕ, List, [], ◌∷◌, ◌++◌, length, drop, refl, sym, ◌∙◌, ap, append_assoc}
+use Rattle.std.proofs.Common.{◌≡◌, ℕ, List, [], ◌∷◌, ◌++◌, length, drop, refl, sym, ◌∙◌, ap, subst, append_assoc}
 use Rattle.std.specs.List.{AllByRecursion}
 use Rattle.std.proofs.lemmas.List.{drop_at, append-nil}
 use Rattle.ssh_grammar.specs.declared.framing.Framing.{Framing}
+use Rattle.ssh_grammar.specs.declared.framing.Framing.TheVariants as kind
 use Rattle.ssh_grammar.specs.Frames.{Cut, cut, frame, with_frame}
 use Rattle.ssh_grammar.specs.IsFrame.{IsContent, joined}
+use Rattle.ssh_grammar.specs.Said.{said}
 use Rattle.ssh_grammar.proofs.Frames.{cut-frame}
+use Rattle.ssh_grammar.proofs.Said.{proxy_is_said}
+use Rattle.proxy_frames.specs.Laws.{NothingIsLost, SwitchedIsSaid}
 use Rattle.proxy_frames.specs.State.{FramerState}
 use Rattle.proxy_frames.specs.History.{History, StandsFor, HasTold, behind, cut_of, left, to_come}
 
@@ -46,3 +50,24 @@ valid-and framing (x ∷ given) content valid is = (valid.0, valid-and framing g
 pub joined-and : (framing : Framing) (given : List (List ℕ)) (content : List ℕ) → joined framing (given ++ content ∷ []) ≡ joined framing given ++ frame framing content
 joined-and framing [] content = append-nil (frame framing content)
 joined-and framing (x ∷ given) content = ap (λ l. frame framing x ++ l) (joined-and framing given content) ∙ sym (append_assoc (frame framing x) (joined framing given) (frame framing content))
+
+-- ---- through a switch
+
+valid-but_last : (framing : Framing) (given : List (List ℕ)) (content : List ℕ) → AllByRecursion (IsContent framing) (given ++ content ∷ []) → AllByRecursion (IsContent framing) given × IsContent framing content
+valid-but_last framing [] content valid = (tt, valid.0)
+valid-but_last framing (x ∷ given) content valid =
+    let others : AllByRecursion (IsContent framing) given × IsContent framing content = valid-but_last framing given content valid.1 in
+    ((valid.0, others.0), others.1)
+
+pub nothing-lost : NothingIsLost
+nothing-lost h f st = st.filled ∙ ap (λ l. joined h.framing h.given ++ l) (sym (left-is h f st))
+
+pub switched-said : SwitchedIsSaid
+switched-said h f bodies last more st cuts given keep begins =
+    let valid : AllByRecursion (IsContent kind.Control) bodies × IsContent kind.Control last =
+    valid-but_last kind.Control bodies last (subst (AllByRecursion (IsContent kind.Control)) given (subst (λ k. AllByRecursion (IsContent k) h.given) cuts st.valid)) in
+    let filled : h.bytes ≡ (joined kind.Control bodies ++ frame kind.Control last) ++ left h =
+    nothing-lost h f st ∙ (ap (λ k. joined k h.given ++ left h) cuts ∙ (ap (λ l. joined kind.Control l ++ left h) given ∙ ap (λ l. l ++ left h) (joined-and kind.Control bodies last))) in
+    let whole : h.bytes ++ more ≡ joined kind.Control bodies ++ (frame kind.Control last ++ (left h ++ more)) =
+    ap (λ b. b ++ more) filled ∙ (append_assoc (joined kind.Control bodies ++ frame kind.Control last) (left h) more ∙ append_assoc (joined kind.Control bodies) (frame kind.Control last) (left h ++ more)) in
+    ap said whole ∙ proxy_is_said bodies last (left h ++ more) valid.0 keep valid.1 begins

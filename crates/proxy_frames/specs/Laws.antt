@@ -1,15 +1,18 @@
 -- What holds of framers over all bytes, however these were cut into pieces.
-use Rattle.std.specs.Prelude.{◌≡◌, ◌↔◌, ℕ, List, ◌++◌, length, Some}
+use Rattle.std.specs.Prelude.{◌≡◌, ◌↔◌, ℕ, List, ◌∷◌, [], ◌++◌, length, map, Some}
 use Rattle.std.specs.List.{AllByRecursion}
 use Rattle.ssh_fields.specs.Fields.{AreBytes}
 use Rattle.ssh_grammar.specs.declared.fault.BadFrame.{BadFrame}
 use Rattle.ssh_grammar.specs.declared.framing.Framing.{Framing}
+use Rattle.ssh_grammar.specs.declared.framing.Framing.TheVariants as framing
 use Rattle.ssh_grammar.specs.Frames.{More, Faulty, first_frame, cut}
 use Rattle.ssh_grammar.specs.IsFrame.{IsContent, joined}
+use Rattle.ssh_grammar.specs.Said.{InProxy, Body, Payload, after_body, said}
+use Rattle.ssh_grammar.specs.Laws.{KeepControl, says}
 use Rattle.proxy_frames.specs.State.{FramerState}
 use Rattle.proxy_frames.specs.Steps.{new_framer, with_written}
 use Rattle.proxy_frames.specs.Fronts.{IsPartial, IsPrefix, IsFault}
-use Rattle.proxy_frames.specs.History.{History, StandsFor, to_come, behind}
+use Rattle.proxy_frames.specs.History.{History, StandsFor, to_come, left, behind}
 use Rattle.proxy_frames.specs.Runs.{taken_of, cut_taken, stream_of}
 
 -- ---- in any pieces
@@ -38,6 +41,21 @@ abbrev pub AnyTimeGivesTheSame : Type 0
 AnyTimeGivesTheSame =
     (h i : History) (f g : FramerState) → StandsFor h f → StandsFor i g
     → h.framing ≡ i.framing → h.bytes ≡ i.bytes → AreAlike h i f g
+
+-- ---- through a switch
+
+-- what is left at a switch is all that follows the frames that were given
+abbrev pub NothingIsLost : Type 0
+NothingIsLost =
+    (h : History) (f : FramerState) → StandsFor h f → h.bytes ≡ joined h.framing h.given ++ left h
+
+-- where the last control message given begins the proxy, all bytes say the messages given, and then the payloads and
+-- the fault of what is left and of what comes after the switch
+abbrev pub SwitchedIsSaid : Type 0
+SwitchedIsSaid =
+    (h : History) (f : FramerState) (bodies : List (List ℕ)) (last more : List ℕ) → StandsFor h f
+    → h.framing ≡ framing.Control → h.given ≡ bodies ++ last ∷ [] → KeepControl bodies → after_body last ≡ InProxy
+    → said (h.bytes ++ more) ≡ map Body bodies ++ (Body last ∷ says framing.Proxy Payload (left h ++ more))
 
 -- ---- at the front
 

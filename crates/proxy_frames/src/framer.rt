@@ -1,4 +1,4 @@
-ghost use Rattle.std.specs.Prelude.{◌≡◌, ◌↔◌, ◌+◌, ◌<◌, List, ℕ, length, IsSome, Some, None, OnOk, OnErr};
+ghost use Rattle.std.specs.Prelude.{◌≡◌, ◌↔◌, ◌+◌, ◌<◌, length, IsSome, Some, OnOk, OnErr};
 ghost use Rattle.std.specs.Borrow.{Lends, Array, sem, u8};
 ghost use Rattle.ssh_grammar.specs.declared.fault.BadFrame.{BadFrame};
 ghost use Rattle.proxy_frames.specs.contracts.framer.Framer.{the_row};
@@ -13,7 +13,8 @@ use ssh_grammar::{BadFrame, Framing};
 use std::alloc::Global;
 use std::marker::Model;
 
-/// A stream that comes in pieces and is cut into frames. Each frame is given once, and lent where it lies.
+/// A stream that comes in pieces and is cut into frames. Each frame is given once, and lent where it
+/// lies.
 #[derive(Drop)]
 pub struct Framer {
     framing: Framing,
@@ -26,12 +27,12 @@ pub struct Framer {
 }
 
 impl Model for Framer {
-    ghost use Rattle.std.specs.Prelude.{ℕ, ◌≤◌, length, drop};
-    ghost use Rattle.proxy_frames.specs.State.{FramerState, current_from, IsWithin};
+    ghost use Rattle.std.specs.Prelude.{◌≤◌, length};
+    ghost use Rattle.proxy_frames.specs.State.{FramerState, kept_state, IsWithin};
 
     ghost Value = { FramerState };
 
-    ghost view = { λ a. record { framing = a.framing; rest = drop a.at a.bytes.items; current = current_from a.current a.at a.bytes.items; fault = a.fault } };
+    ghost view = { λ a. kept_state a.framing a.fault a.current a.at a.bytes.items };
 
     ghost invariant = { λ a. IsWithin a.current a.at × (a.at ≤ length a.bytes.items) };
 }
@@ -68,12 +69,13 @@ impl Framer {
         Ok(())
     }
 
-    /// Cuts the next frame, which is the current one then. Where a fault is answered, nothing else is from then on.
+    /// Cuts the next frame, which is the current one then. Where a fault is answered, nothing else is
+    /// from then on.
     pub fn next(&mut self) -> Next
         ensures answer { result ≡ answer_to (front_of self.old) }
         ensures exact { self.new ≡ after_front (front_of self.old) self.old }
 
-        // There is a current frame, more is wanted, or a fault is told, exactly where it stands there.
+        // A frame, too little of one, or a fault stands there.
         ensures current { (result ≡ Next.Frame) ↔ IsSome self.new.current }
         ensures more { (result ≡ Next.More) ↔ WantsMore self.old }
         ensures short { result ≡ Next.More → length self.new.rest < LONGEST_FRAME + 4 }
@@ -110,10 +112,12 @@ impl Framer {
         self.current = None;
     }
 
-    /// The current frame, to be written in. What is written there, byte for byte, changes nothing else.
+    /// The current frame, to be written in. What is written there, byte for byte, changes nothing
+    /// else.
     pub fn frame(&mut self) -> &mut [u8]
         requires { IsSome self.old.current }
-        ensures* writes_back { sem 𝓛 (Lends the_row (Array u8 0) self.entry result (with_written self.old)) }
+        ensures* writes_back { sem 𝓛
+            (Lends the_row (Array u8 0) self.entry result (with_written self.old)) }
         ensures value { self.old.current ≡ Some result.now }
     {
         let start = self.current.unwrap_or(self.at);

@@ -1,6 +1,6 @@
-ghost use Rattle.std.specs.Prelude.{◌≡◌, ◌+◌, ◌≤◌, length, take, drop, Some};
-ghost use Rattle.ssh_fields.specs.Fields.{AreBytes, take_u32};
-ghost use Rattle.ssh_grammar.specs.Frames.{first_frame, cut_content, cut_rest, shortest};
+ghost use Rattle.std.specs.Prelude.{◌≡◌, ◌≤◌, length, drop};
+ghost use Rattle.ssh_fields.specs.Fields.{AreBytes};
+ghost use Rattle.ssh_grammar.specs.Frames.{first_frame, cut_content, shortest};
 ghost use Rattle.proxy_frames.specs.Fronts.{IsPiece};
 
 use ssh_fields::Cursor;
