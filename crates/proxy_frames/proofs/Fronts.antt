@@ -1,6 +1,6 @@
 -- The front of bytes, by what their first four say.
-use Rattle.std.proofs.Common.{◌≡◌, ℕ, ◌-◌, ◌≤◌, List, [], ◌∷◌, length, take, drop, true, false, refl, sym, ◌∙◌, ap, subst, arith, Some, None}
-use Rattle.std.specs.Prelude.{nat_le, nat_lt, nat_eq, zero, suc}
+use Rattle.std.proofs.Common.{◌≡◌, ℕ, ◌-◌, ◌≤◌, List, [], ◌∷◌, length, drop, true, false, sym, ◌∙◌, ap, subst, arith, Some, None}
+use Rattle.std.specs.Prelude.{nat_lt, nat_eq}
 use Rattle.std.proofs.lemmas.List.{drop-drop}
 use Rattle.ssh_fields.specs.Fields.{take_u8, take_u32}
 use Rattle.ssh_fields.proofs.Fields.{value_and_rest}

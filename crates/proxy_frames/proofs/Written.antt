@@ -1,10 +1,10 @@
 -- A write over the current frame, in the bytes that are kept.
-use Rattle.std.proofs.Common.{◌≡◌, ℕ, zero, suc, ◌-◌, ◌+◌, ◌≤◌, List, [], ◌∷◌, ◌++◌, length, take, drop, slice_range, refl, sym, ◌∙◌, ap, arith, Option, Some, None, true, false, length-take, length-take-le, length-append, length-drop}
+use Rattle.std.proofs.Common.{◌≡◌, ℕ, zero, suc, ◌-◌, ◌+◌, ◌≤◌, List, [], ◌∷◌, ◌++◌, length, take, drop, slice_range, sym, ◌∙◌, ap, arith, Option, Some, None, true, false, length-take-le, length-append, length-drop}
 use Rattle.std.specs.Prelude.{IsSome, unwrap_or}
-use Rattle.std.proofs.lemmas.List.{take-append-le, take-append-drop, drop_at, drop-drop, take_at, take_all}
+use Rattle.std.proofs.lemmas.List.{take-append-le, take-append-drop, drop_at, drop-drop}
 use Rattle.ssh_grammar.specs.declared.fault.BadFrame.{BadFrame}
 use Rattle.ssh_grammar.specs.declared.framing.Framing.{Framing}
-use Rattle.proxy_frames.specs.State.{FramerState, current_from, IsWithin}
+use Rattle.proxy_frames.specs.State.{kept_state, current_from, IsWithin}
 use Rattle.proxy_frames.specs.Steps.{over, with_written}
 
 -- what is written at a place leaves the bytes before it
@@ -29,10 +29,6 @@ part-written xs written more s h = ap (drop s) (over-at xs written more s h) ∙
 
 part_len : (xs : List ℕ) (s e : ℕ) → s ≤ e → e ≤ length xs → length (slice_range xs s e) ≡ e - s
 part_len xs s e h k = length-take-le (e - s) (drop s xs) (omega (arith, length-drop s xs))
-
--- the state of a framer, by the bytes that it keeps
-abbrev pub kept_state : Framing → Option BadFrame → Option ℕ → ℕ → List ℕ → FramerState
-kept_state framing fault current at bytes = record { framing = framing; rest = drop at bytes; current = current_from current at bytes; fault = fault }
 
 -- the state after the write is that of the written bytes
 pub state-written : (framing : Framing) (fault : Option BadFrame) (xs written more : List ℕ) (current : Option ℕ) (start at : ℕ)

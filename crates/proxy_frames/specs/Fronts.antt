@@ -1,14 +1,15 @@
 -- What can stand at the front of bytes that are cut into frames (PROTOCOL.mux): less than a whole frame, or a fault.
-use Rattle.std.specs.Prelude.{◌≡◌, ◌≢◌, ◌⊎◌, ⊤, ℕ, ◌+◌, ◌≤◌, ◌<◌, List, [], ◌∷◌, length, take, drop, Some}
+use Rattle.std.specs.Prelude.{◌≡◌, ◌≢◌, ◌⊎◌, ⊤, ℕ, ◌+◌, ◌^◌, ◌≤◌, ◌<◌, List, [], ◌∷◌, ◌++◌, length, take, drop, Some, None}
 use Rattle.ssh_fields.specs.Fields.{take_u32}
 use Rattle.ssh_grammar.specs.declared.fault.BadFrame.{BadFrame}
 use Rattle.ssh_grammar.specs.declared.fault.BadFrame.TheVariants as bad
 use Rattle.ssh_grammar.specs.declared.framing.Framing.{Framing}
 use Rattle.ssh_grammar.specs.declared.framing.Framing.TheVariants.{Control, Proxy}
 use Rattle.ssh_grammar.specs.declared.numbers.TheConstants.{LONGEST_FRAME}
-use Rattle.ssh_grammar.specs.Frames.{Front, Frame, More, Faulty, shortest}
+use Rattle.ssh_grammar.specs.Frames.{Front, Frame, More, Faulty, shortest, frame}
 use Rattle.proxy_frames.specs.declared.next.Piece.{Piece}
 use Rattle.proxy_frames.specs.declared.next.Piece.TheVariants as piece
+use Rattle.proxy_frames.specs.State.{FramerState}
 
 -- a length field that is in range, and the bytes behind it
 pub record IsHeader (framing : Framing) (bytes : List ℕ) (n : ℕ) (behind : List ℕ) : Type 0 where
@@ -28,9 +29,17 @@ pub record IsUnfinished (framing : Framing) (bytes : List ℕ) (n : ℕ) (behind
   pub padding : HasNoPadding framing behind
   pub short : length behind < n
 
--- a proper prefix of a frame: less than a length field, or a whole one and less than the rest of its frame
+-- less than a whole frame: less than a length field, or a whole one and less than the rest of its frame
 abbrev pub IsPartial : Framing → List ℕ → Type 0
 IsPartial framing bytes = (length bytes < 4) ⊎ ((n : ℕ) × (behind : List ℕ) × IsUnfinished framing bytes n behind)
+
+-- a proper prefix of a frame, whatever length its field says
+pub record IsPrefix (framing : Framing) (bytes : List ℕ) : Type 0 where
+  pub content : List ℕ
+  pub tail : List ℕ
+  pub fits : length (frame framing content) < 2 ^ 32 + 4
+  pub whole : bytes ++ tail ≡ frame framing content
+  pub proper : tail ≢ []
 
 -- a fault: a length field out of range, or a padding length behind one that is in range
 abbrev pub IsFault : Framing → List ℕ → BadFrame → Type 0
@@ -38,6 +47,16 @@ IsFault framing bytes (bad.Long n) = (behind : List ℕ) × (take_u32 bytes ≡ 
 IsFault framing bytes (bad.Short n) = (behind : List ℕ) × (take_u32 bytes ≡ Some (n, behind)) × (n < shortest framing)
 IsFault framing bytes (bad.Padding b) =
     (n : ℕ) × (behind : List ℕ) × (framing ≡ Proxy) × (b ≢ 0) × IsHeader framing bytes n (b ∷ behind)
+
+-- ---- what a framer is answered
+
+-- no fault was told, and less than a whole frame is there
+abbrev pub WantsMore : FramerState → Type 0
+WantsMore f = (f.fault ≡ None) × IsPartial f.framing f.rest
+
+-- the fault was told already, or none was and it stands there
+abbrev pub HasFault : FramerState → BadFrame → Type 0
+HasFault f fault = (f.fault ≡ Some fault) ⊎ ((f.fault ≡ None) × IsFault f.framing f.rest fault)
 
 -- ---- the front, found in place
 

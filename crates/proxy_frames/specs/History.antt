@@ -8,9 +8,10 @@ use Rattle.ssh_grammar.specs.IsFrame.{IsContent, joined}
 use Rattle.proxy_frames.specs.declared.next.Next.{Next}
 use Rattle.proxy_frames.specs.declared.next.Next.TheVariants as next
 use Rattle.proxy_frames.specs.State.{FramerState}
+use Rattle.proxy_frames.specs.Steps.{once_told}
 
--- since a framer began, or was switched: how it cuts, the bytes that came, first those that the switch left, the
--- frames that were given, and the fault, once one was told
+-- since a framer began, or was switched: how it cuts, the bytes that came, first those that the switch
+-- left, the frames that were given, and the fault, once one was told
 pub record History : Type 0 where
   pub framing : Framing
   pub bytes : List ℕ
@@ -37,22 +38,20 @@ left h = drop (length (joined h.framing h.given)) h.bytes
 
 -- more bytes came
 abbrev pub and_bytes : List ℕ → History → History
-and_bytes piece h = record { framing = h.framing; bytes = h.bytes ++ piece; given = h.given; told = h.told }
+and_bytes piece h = record h { bytes = h.bytes ++ piece }
 
 -- one more frame was given
 abbrev pub and_frame : List ℕ → History → History
-and_frame content h = record { framing = h.framing; bytes = h.bytes; given = h.given ++ content ∷ []; told = h.told }
+and_frame content h = record h { given = h.given ++ content ∷ [] }
 
 -- a fault was told
 abbrev pub and_fault : BadFrame → History → History
-and_fault fault h = record { framing = h.framing; bytes = h.bytes; given = h.given; told = Some fault }
+and_fault fault h = record h { told = Some fault }
 
 -- from now on the bytes that are left are cut so; after a fault nothing is
 abbrev pub and_switch : Framing → History → History
-and_switch framing h = elim h.told [
-  | Some fault ↦ h
-  | None ↦ record { framing = framing; bytes = left h; given = []; told = None }
-]
+and_switch framing h =
+    once_told h.told (λ _. h) (record { framing = framing; bytes = left h; given = []; told = None })
 
 -- ---- what is next
 
@@ -64,7 +63,7 @@ next_in [] None = next.More
 
 -- the same, but a fault that was told is told again
 abbrev pub next_of : History → Next
-next_of h = elim h.told [ Some fault ↦ next.Bad fault | None ↦ next_in (to_come h) (cut_of h).fault ]
+next_of h = once_told h.told next.Bad (next_in (to_come h) (cut_of h).fault)
 
 -- the frame that it gives, if it is one
 abbrev pub first_of : List (List ℕ) → Option (List ℕ)
@@ -72,7 +71,7 @@ first_of (content ∷ more) = Some content
 first_of [] = None
 
 abbrev pub frame_next : History → Option (List ℕ)
-frame_next h = elim h.told [ Some fault ↦ None | None ↦ first_of (to_come h) ]
+frame_next h = once_told h.told (λ _. None) (first_of (to_come h))
 
 -- what came and what was given then
 abbrev pub and_next_in : List (List ℕ) → Option BadFrame → History → History
@@ -81,7 +80,7 @@ and_next_in [] (Some fault) h = and_fault fault h
 and_next_in [] None h = h
 
 abbrev pub and_next : History → History
-and_next h = elim h.told [ Some fault ↦ h | None ↦ and_next_in (to_come h) (cut_of h).fault h ]
+and_next h = once_told h.told (λ _. h) (and_next_in (to_come h) (cut_of h).fault h)
 
 -- ---- what a framer stands for
 
@@ -89,13 +88,14 @@ and_next h = elim h.told [ Some fault ↦ h | None ↦ and_next_in (to_come h) (
 abbrev pub behind : List (List ℕ) → Cut → Cut
 behind given c = record { frames = given ++ c.frames; rest = c.rest; fault = c.fault }
 
--- while no fault was told bytes are cut as the framer cuts; one that was told stands at the front of its rest
+-- while no fault was told the framer cuts as the history does; one that was told stands at the front of
+-- its rest
 abbrev pub HasTold : Option BadFrame → History → FramerState → Type 0
 HasTold None h f = f.framing ≡ h.framing
 HasTold (Some fault) h f = first_frame h.framing f.rest ≡ Faulty fault
 
--- the frames that were given are the first ones of all the bytes that came, what is still to be cut stands in the
--- framer's rest, and so does the fault
+-- the frames that were given are the first ones of all the bytes that came; the others, the bytes after the
+-- last one and the fault are those of the framer's rest
 pub record StandsFor (h : History) (f : FramerState) : Type 0 where
   pub valid : AllByRecursion (IsContent h.framing) h.given
   pub filled : h.bytes ≡ joined h.framing h.given ++ f.rest
@@ -109,4 +109,5 @@ GoesOn old new event = (h : History) → StandsFor h old → StandsFor (event h)
 
 -- of each history that it stood for, this is what comes next
 abbrev pub IsNext : FramerState → Next → FramerState → Type 0
-IsNext old answer new = (h : History) → StandsFor h old → (answer ≡ next_of h) × (new.current ≡ frame_next h)
+IsNext old answer new =
+    (h : History) → StandsFor h old → (answer ≡ next_of h) × (new.current ≡ frame_next h)

@@ -1,37 +1,105 @@
 -- What holds of framers over all bytes, however these were cut into pieces.
-use Rattle.std.specs.Prelude.{◌≡◌, ◌↔◌, ℕ, List, [], length, Some}
+use Rattle.std.specs.Prelude.{◌≡◌, ◌↔◌, ℕ, List, ◌∷◌, [], ◌++◌, length, map, Some}
+use Rattle.std.specs.List.{AllByRecursion}
+use Rattle.ssh_fields.specs.Fields.{AreBytes}
 use Rattle.ssh_grammar.specs.declared.fault.BadFrame.{BadFrame}
 use Rattle.ssh_grammar.specs.declared.framing.Framing.{Framing}
+use Rattle.ssh_grammar.specs.declared.framing.Framing.TheVariants as framing
 use Rattle.ssh_grammar.specs.Frames.{More, Faulty, first_frame, cut}
+use Rattle.ssh_grammar.specs.IsFrame.{IsContent, joined}
+use Rattle.ssh_grammar.specs.Said.{InProxy, Body, Payload, after_body, said}
+use Rattle.ssh_grammar.specs.Laws.{KeepControl, says}
 use Rattle.proxy_frames.specs.State.{FramerState}
-use Rattle.proxy_frames.specs.Steps.{with_written}
-use Rattle.proxy_frames.specs.Fronts.{IsPartial, IsFault}
-use Rattle.proxy_frames.specs.History.{History, StandsFor, to_come}
+use Rattle.proxy_frames.specs.Steps.{new_framer, with_written}
+use Rattle.proxy_frames.specs.Fronts.{IsPartial, IsPrefix, IsFault}
+use Rattle.proxy_frames.specs.History.{History, StandsFor, to_come, left, behind}
+use Rattle.proxy_frames.specs.Runs.{taken_of, cut_taken, stream_of}
 
--- two framers that cut alike and to which the same bytes came, in whatever pieces: once all frames were given, the
--- frames given, the rest and the fault are the same
-pub record AreAlike (h i : History) (f g : FramerState) : Type 0 where
-  pub given : h.given ≡ i.given
-  pub rest : f.rest ≡ g.rest
-  pub fault : (cut h.framing f.rest).fault ≡ (cut i.framing g.rest).fault
+-- ---- in any pieces
 
+-- where all frames are taken as they come, these, the rest and the fault are those of the whole stream
+abbrev pub PiecesGiveTheCut : Type 0
+PiecesGiveTheCut =
+    (framing : Framing) (pieces : List (List ℕ))
+    → cut_taken (taken_of (new_framer framing) pieces) ≡ cut framing (stream_of pieces)
+
+-- so two cuttings of the same bytes give the same
 abbrev pub AnyPiecesGiveTheSame : Type 0
 AnyPiecesGiveTheSame =
+    (framing : Framing) (pieces others : List (List ℕ)) → stream_of pieces ≡ stream_of others
+    → cut_taken (taken_of (new_framer framing) pieces) ≡ cut_taken (taken_of (new_framer framing) others)
+
+-- whenever frames are taken: the frames given and those to come, the rest and the fault behind them
+pub record AreAlike (h i : History) (f g : FramerState) : Type 0 where
+  pub frames : h.given ++ to_come h ≡ i.given ++ to_come i
+  pub rest : (cut h.framing f.rest).rest ≡ (cut i.framing g.rest).rest
+  pub fault : (cut h.framing f.rest).fault ≡ (cut i.framing g.rest).fault
+
+-- of two framers that cut alike and to which the same bytes came, in whatever pieces and with whatever frames taken
+-- between them, these are the same
+abbrev pub AnyTimeGivesTheSame : Type 0
+AnyTimeGivesTheSame =
     (h i : History) (f g : FramerState) → StandsFor h f → StandsFor i g
-    → h.framing ≡ i.framing → h.bytes ≡ i.bytes → to_come h ≡ [] → to_come i ≡ []
-    → AreAlike h i f g
+    → h.framing ≡ i.framing → h.bytes ≡ i.bytes → AreAlike h i f g
+
+-- ---- through a switch
+
+-- what is left at a switch is all that follows the frames that were given
+abbrev pub NothingIsLost : Type 0
+NothingIsLost =
+    (h : History) (f : FramerState) → StandsFor h f → h.bytes ≡ joined h.framing h.given ++ left h
+
+-- where the last control message given begins the proxy, all bytes say the messages given, and then the payloads and
+-- the fault of what is left and of what comes after the switch
+abbrev pub SwitchedIsSaid : Type 0
+SwitchedIsSaid =
+    (h : History) (f : FramerState) (bodies : List (List ℕ)) (last more : List ℕ) → StandsFor h f
+    → h.framing ≡ framing.Control → h.given ≡ bodies ++ last ∷ [] → KeepControl bodies → after_body last ≡ InProxy
+    → said (h.bytes ++ more) ≡ map Body bodies ++ (Body last ∷ says framing.Proxy Payload (left h ++ more))
+
+-- ---- at the front
 
 -- more is wanted exactly where less than a whole frame is there
 abbrev pub MoreIsPartial : Type 0
 MoreIsPartial = (framing : Framing) (bytes : List ℕ) → (first_frame framing bytes ≡ More) ↔ IsPartial framing bytes
 
--- a fault is told exactly where one stands there, and bytes that follow don't matter
+-- that is a proper prefix of a frame in which no fault is seen yet
+abbrev pub MoreIsPrefix : Type 0
+MoreIsPrefix =
+    (framing : Framing) (bytes : List ℕ) → AreBytes bytes
+    → (first_frame framing bytes ≡ More)
+    ↔ (IsPrefix framing bytes × ((fault : BadFrame) → IsFault framing bytes fault → ⊥))
+
+-- a fault is told exactly where one stands there
 abbrev pub FaultsAreTold : Type 0
 FaultsAreTold =
-    (framing : Framing) (bytes : List ℕ) (fault : BadFrame) → (first_frame framing bytes ≡ Faulty fault) ↔ IsFault framing bytes fault
+    (framing : Framing) (bytes : List ℕ) (fault : BadFrame)
+    → (first_frame framing bytes ≡ Faulty fault) ↔ IsFault framing bytes fault
 
--- what is written in a frame, byte for byte, changes nothing else
+-- and stays there, whatever bytes follow
+abbrev pub FaultsStay : Type 0
+FaultsStay =
+    (framing : Framing) (bytes more : List ℕ) (fault : BadFrame)
+    → IsFault framing bytes fault → IsFault framing (bytes ++ more) fault
+
+-- ---- from a queue to a framer
+
+-- frames that were queued are cut one by one, and then what follows them
+abbrev pub QueuedFramesAreCut : Type 0
+QueuedFramesAreCut =
+    (framing : Framing) (contents : List (List ℕ)) (rest : List ℕ) → AllByRecursion (IsContent framing) contents
+    → cut framing (joined framing contents ++ rest) ≡ behind contents (cut framing rest)
+
+-- ---- in a frame
+
+-- what is written there, byte for byte, changes nothing else
 abbrev pub WritingChangesTheFrame : Type 0
 WritingChangesTheFrame =
     (f : FramerState) (content written : List ℕ) → f.current ≡ Some content → length written ≡ length content
     → with_written f written ≡ record f { current = Some written }
+
+-- and the framer stands for what it stood for
+abbrev pub WritingKeepsTheHistory : Type 0
+WritingKeepsTheHistory =
+    (h : History) (f : FramerState) (content written : List ℕ) → f.current ≡ Some content → length written ≡ length content
+    → StandsFor h f → StandsFor h (with_written f written)

@@ -9,16 +9,17 @@ empty_queue = record { waiting = []; spare = 0 }
 
 -- more bytes at its end; the room that lasts stays
 abbrev pub with_bytes : List ℕ → QueueState → QueueState
-with_bytes bytes q = record { waiting = q.waiting ++ bytes; spare = q.spare }
+with_bytes bytes q = record q { waiting = q.waiting ++ bytes }
 
--- the bytes of the proxy frame of a payload
+-- how many bytes the proxy frame of a payload has
 abbrev pub frame_length : List ℕ → ℕ
 frame_length payload = length payload + 5
 
 -- the payload's proxy frame at its end, in the room that lasts
 abbrev pub with_reserved : List ℕ → QueueState → QueueState
-with_reserved payload q = record { waiting = q.waiting ++ frame_payload payload; spare = q.spare - frame_length payload }
+with_reserved payload q =
+    record { waiting = q.waiting ++ frame_payload payload; spare = q.spare - frame_length payload }
 
 -- without its first bytes
 abbrev pub without_first : ℕ → QueueState → QueueState
-without_first n q = record { waiting = drop n q.waiting; spare = q.spare }
+without_first n q = record q { waiting = drop n q.waiting }

@@ -13,15 +13,20 @@ new_framer framing = record { framing = framing; rest = []; current = None; faul
 
 -- after more bytes
 abbrev pub pushed : List ℕ → FramerState → FramerState
-pushed piece f = record { framing = f.framing; rest = f.rest ++ piece; current = None; fault = f.fault }
+pushed piece f = record f { rest = f.rest ++ piece; current = None }
 
 -- from now on cut so
 abbrev pub switched : Framing → FramerState → FramerState
-switched framing f = record { framing = framing; rest = f.rest; current = None; fault = f.fault }
+switched framing f = record f { framing = framing; current = None }
 
--- what comes next: the fault, once one was told, and else what stands at the front of the bytes that are not cut
+-- one value once a fault was told, and another one before
+abbrev pub once_told : {A : Type 0} → Option BadFrame → (BadFrame → A) → A → A
+once_told (Some fault) after before = after fault
+once_told None after before = before
+
+-- what comes next: the fault, once one was told, and before that what stands at the front of the rest
 abbrev pub front_of : FramerState → Front
-front_of f = elim f.fault [ Some fault ↦ Faulty fault | None ↦ first_frame f.framing f.rest ]
+front_of f = once_told f.fault Faulty (first_frame f.framing f.rest)
 
 -- what is answered to it
 abbrev pub answer_to : Front → Next
@@ -31,9 +36,9 @@ answer_to (Faulty fault) = next.Bad fault
 
 -- and what it leaves: a frame is the current one, and a fault is noted
 abbrev pub after_front : Front → FramerState → FramerState
-after_front (Frame content rest) f = record { framing = f.framing; rest = rest; current = Some content; fault = f.fault }
-after_front More f = record { framing = f.framing; rest = f.rest; current = None; fault = f.fault }
-after_front (Faulty fault) f = record { framing = f.framing; rest = f.rest; current = None; fault = Some fault }
+after_front (Frame content rest) f = record f { rest = rest; current = Some content }
+after_front More f = record f { current = None }
+after_front (Faulty fault) f = record f { current = None; fault = Some fault }
 
 -- ---- what is written in the current frame
 
@@ -45,13 +50,9 @@ over written bytes = take (length bytes) (written ++ drop (length written) bytes
 abbrev pub frame_of : FramerState → List ℕ
 frame_of f = elim f.current [ None ↦ [] | Some content ↦ content ]
 
--- after a write over the current frame. As many bytes as the frame has are the frame then, and nothing else changes
+-- after a write over the current frame. As many bytes as it has are the frame then, and nothing else
+-- changes
 abbrev pub with_written : FramerState → List ℕ → FramerState
 with_written f written =
     let all = over written (frame_of f ++ f.rest) in
-    record {
-      framing = f.framing;
-      rest = drop (length (frame_of f)) all;
-      current = Some (take (length (frame_of f)) all);
-      fault = f.fault;
-    }
+    record f { rest = drop (length (frame_of f)) all; current = Some (take (length (frame_of f)) all) }

@@ -1,18 +1,20 @@
-ghost use Rattle.std.specs.Prelude.{◌≡◌, ◌↔◌, List, ℕ, length, IsSome, Some, None, OnOk, OnErr};
+ghost use Rattle.std.specs.Prelude.{◌≡◌, ◌↔◌, ◌+◌, ◌<◌, length, IsSome, Some, OnOk, OnErr};
 ghost use Rattle.std.specs.Borrow.{Lends, Array, sem, u8};
 ghost use Rattle.ssh_grammar.specs.declared.fault.BadFrame.{BadFrame};
 ghost use Rattle.proxy_frames.specs.contracts.framer.Framer.{the_row};
 ghost use Rattle.proxy_frames.specs.Steps.{new_framer, pushed, switched, front_of, answer_to, after_front, with_written};
-ghost use Rattle.proxy_frames.specs.Fronts.{IsPartial, IsFault};
+ghost use Rattle.proxy_frames.specs.Fronts.{WantsMore, HasFault};
 ghost use Rattle.proxy_frames.specs.History.{StandsFor, GoesOn, IsNext, new_history, and_bytes, and_switch, and_next};
 
 use crate::next::{Next, Piece, front};
 use ssh_fields::OutOfMemory;
+use ssh_grammar::numbers::LONGEST_FRAME;
 use ssh_grammar::{BadFrame, Framing};
 use std::alloc::Global;
 use std::marker::Model;
 
-/// A stream that comes in pieces and is cut into frames. Each frame is given once, and lent where it lies.
+/// A stream that comes in pieces and is cut into frames. Each frame is given once, and lent where it
+/// lies.
 #[derive(Drop)]
 pub struct Framer {
     framing: Framing,
@@ -25,12 +27,12 @@ pub struct Framer {
 }
 
 impl Model for Framer {
-    ghost use Rattle.std.specs.Prelude.{ℕ, ◌≤◌, length, drop};
-    ghost use Rattle.proxy_frames.specs.State.{FramerState, current_from, IsWithin};
+    ghost use Rattle.std.specs.Prelude.{◌≤◌, length};
+    ghost use Rattle.proxy_frames.specs.State.{FramerState, kept_state, IsWithin};
 
     ghost Value = { FramerState };
 
-    ghost view = { λ a. record { framing = a.framing; rest = drop a.at a.bytes.items; current = current_from a.current a.at a.bytes.items; fault = a.fault } };
+    ghost view = { λ a. kept_state a.framing a.fault a.current a.at a.bytes.items };
 
     ghost invariant = { λ a. IsWithin a.current a.at × (a.at ≤ length a.bytes.items) };
 }
@@ -39,6 +41,7 @@ impl Framer {
     /// A framer without a byte.
     pub fn new(alloc: Global, kind: Framing) -> Framer
         ensures exact { result ≡ new_framer kind }
+        ensures stands { StandsFor (new_history kind) result }
     {
         Framer {
             framing: kind,
@@ -52,6 +55,7 @@ impl Framer {
     /// More bytes of the stream. An `Err` changes nothing.
     pub fn push(&mut self, piece: &[u8]) -> Result<(), OutOfMemory>
         ensures ok { OnOk result (self.new ≡ pushed piece.now self.old) }
+        ensures stands { OnOk result (GoesOn self.old self.new (and_bytes piece.now)) }
         ensures unchanged { OnErr result (self.new ≡ self.old) }
     {
         self.bytes.reserve(piece.len())?;
@@ -65,10 +69,21 @@ impl Framer {
         Ok(())
     }
 
-    /// Cuts the next frame, which is the current one then. Where a fault is answered, nothing else is from then on.
+    /// Cuts the next frame, which is the current one then. Where a fault is answered, nothing else is
+    /// from then on.
     pub fn next(&mut self) -> Next
         ensures answer { result ≡ answer_to (front_of self.old) }
         ensures exact { self.new ≡ after_front (front_of self.old) self.old }
+
+        // A frame, too little of one, or a fault stands there.
+        ensures current { (result ≡ Next.Frame) ↔ IsSome self.new.current }
+        ensures more { (result ≡ Next.More) ↔ WantsMore self.old }
+        ensures short { result ≡ Next.More → length self.new.rest < LONGEST_FRAME + 4 }
+        ensures fault { (fault : BadFrame) → (result ≡ Next.Bad fault) ↔ HasFault self.old fault }
+
+        // Over all that came and was given.
+        ensures given { IsNext self.old result self.new }
+        ensures stands { GoesOn self.old self.new and_next }
     {
         self.current = None;
         if let Some(fault) = self.fault {
@@ -91,15 +106,18 @@ impl Framer {
     /// From now on cuts so. The bytes that weren't cut yet are kept.
     pub fn switch(&mut self, kind: Framing)
         ensures exact { self.new ≡ switched kind self.old }
+        ensures stands { GoesOn self.old self.new (and_switch kind) }
     {
         self.framing = kind;
         self.current = None;
     }
 
-    /// The current frame, to be written in. What is written there, byte for byte, changes nothing else.
+    /// The current frame, to be written in. What is written there, byte for byte, changes nothing
+    /// else.
     pub fn frame(&mut self) -> &mut [u8]
         requires { IsSome self.old.current }
-        ensures* writes_back { sem 𝓛 (Lends the_row (Array u8 0) self.entry result (with_written self.old)) }
+        ensures* writes_back { sem 𝓛
+            (Lends the_row (Array u8 0) self.entry result (with_written self.old)) }
         ensures value { self.old.current ≡ Some result.now }
     {
         let start = self.current.unwrap_or(self.at);

@@ -1,6 +1,6 @@
-ghost use Rattle.std.specs.Prelude.{◌≡◌, ◌+◌, ◌≤◌, length, take, drop, Some};
-ghost use Rattle.ssh_fields.specs.Fields.{take_u32};
-ghost use Rattle.ssh_grammar.specs.Frames.{first_frame, cut_content, cut_rest, shortest};
+ghost use Rattle.std.specs.Prelude.{◌≡◌, ◌≤◌, length, drop};
+ghost use Rattle.ssh_fields.specs.Fields.{AreBytes};
+ghost use Rattle.ssh_grammar.specs.Frames.{first_frame, cut_content, shortest};
 ghost use Rattle.proxy_frames.specs.Fronts.{IsPiece};
 
 use ssh_fields::Cursor;
@@ -57,7 +57,8 @@ fn content(header: usize, size: usize, bytes: &[u8]) -> Piece
 
 /// The front of some bytes, by their length field.
 pub fn front(framing: Framing, bytes: &[u8]) -> Piece
-    ensures { IsPiece bytes.now result (first_frame framing bytes.now) }
+    ensures piece { IsPiece bytes.now result (first_frame framing bytes.now) }
+    ensures bytes { AreBytes bytes.now }
 {
     let mut fields = Cursor::new(bytes);
     let Some(length) = fields.take_u32() else {

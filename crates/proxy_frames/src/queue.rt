@@ -1,4 +1,4 @@
-ghost use Rattle.std.specs.Prelude.{◌≡◌, ℕ, ◌+◌, ◌≤◌, ◌++◌, ◌==◌, [], length, max, OnOk, OnErr, vec_capacity, vec_len};
+ghost use Rattle.std.specs.Prelude.{◌≡◌, ◌+◌, ◌≤◌, ◌++◌, ◌==◌, length, max, OnOk, OnErr, vec_capacity, vec_len};
 ghost use Rattle.ssh_grammar.specs.declared.framing.Framing.TheVariants.{Proxy};
 ghost use Rattle.ssh_grammar.specs.Frames.{frame_payload};
 ghost use Rattle.ssh_grammar.specs.IsFrame.{IsContent};
@@ -22,14 +22,15 @@ pub struct Queue {
 }
 
 impl Model for Queue {
-    ghost use Rattle.std.specs.Prelude.{ℕ, ◌+◌, ◌≤◌, length, drop, vec_capacity};
+    ghost use Rattle.std.specs.Prelude.{◌+◌, ◌≤◌, length, drop, vec_capacity};
     ghost use Rattle.proxy_frames.specs.State.{QueueState};
 
     ghost Value = { QueueState };
 
     ghost view = { λ a. record { waiting = drop a.gone a.bytes.items; spare = a.spare } };
 
-    ghost invariant = { λ a. (a.gone ≤ length a.bytes.items) × (length a.bytes.items + a.spare ≤ vec_capacity a.bytes) };
+    ghost invariant = { λ a. (a.gone ≤ length a.bytes.items)
+        × (length a.bytes.items + a.spare ≤ vec_capacity a.bytes) };
 }
 
 impl Queue {
@@ -55,7 +56,8 @@ impl Queue {
         Ok(())
     }
 
-    /// Adds the proxy frame of a payload at the end. The room that lasts stays. An `Err` changes nothing.
+    /// Adds the proxy frame of a payload at the end. The room that lasts stays. An `Err` changes
+    /// nothing.
     pub fn push_payload(&mut self, payload: &[u8]) -> Result<(), OutOfMemory>
         requires { IsContent Proxy payload.now }
         ensures ok { OnOk result (self.new ≡ with_bytes (frame_payload payload.now) self.old) }

@@ -4,12 +4,12 @@ use Rattle.ssh_fields.specs.Fields.{take_u32}
 use Rattle.proxy_frames.proofs.Fronts.{front-control, front-proxy}
 use Rattle.proxy_frames.proofs.next.front.Goals as goal
 
-pub returns-in-Control : goal.returns-in-Control
-returns-in-Control c =
+pub returns-in-Control-clause-piece : goal.returns-in-Control-clause-piece
+returns-in-Control-clause-piece c =
     let reads : take_u32 c.args.bytes.now ≡ Some (c.in-Some.length, c.take_u32.new.self) = ap take_u32 (sym c.new-fields.ensures) ∙ c.in-Some.ensures.ok in
     front-control c.args.framing c.args.bytes.now c.in-Some.length c.take_u32.new.self c.content.result reads c.in-Control.is (omega (arith, c.least.ensures)) (omega arith) c.content.ensures
 
-pub returns-in-Some-eq0 : goal.returns-in-Some-eq0
-returns-in-Some-eq0 c =
+pub returns-in-Some-eq0-clause-piece : goal.returns-in-Some-eq0-clause-piece
+returns-in-Some-eq0-clause-piece c =
     let reads : take_u32 c.args.bytes.now ≡ Some (c.in-Some.length, c.take_u32.new.self) = ap take_u32 (sym c.new-fields.ensures) ∙ c.in-Some.ensures.ok in
     front-proxy c.args.framing c.args.bytes.now c.in-Some.length c.take_u32.new.self c.in-Some-eq0.field-0 c.take_u8.new.self c.content-in-Some-eq0.result reads c.in-Proxy.is (omega (arith, c.least.ensures)) (omega arith) c.in-Some-eq0.ensures.ok c.in-Some-eq0.field-0-test c.content-in-Some-eq0.ensures

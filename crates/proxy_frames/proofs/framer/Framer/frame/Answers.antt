@@ -1,9 +1,9 @@
 -- The current frame is lent, and a write in it is a write over the bytes that are kept.
-use Rattle.std.proofs.Common.{rules, ◌≡◌, ◌∙◌, ap, sym, subst, refl, length, take, drop, ◌++◌, Some}
+use Rattle.std.proofs.Common.{◌∙◌, ap, sym, subst, refl, length, take, drop, ◌++◌, Some}
 use Rattle.std.specs.Prelude.{IsSome}
-use Rattle.proxy_frames.specs.State.{FramerState, current_from}
+use Rattle.proxy_frames.specs.State.{FramerState, current_from, kept_state}
 use Rattle.proxy_frames.specs.Steps.{with_written}
-use Rattle.proxy_frames.proofs.Written.{state-written, written_at, kept_state, frame-at}
+use Rattle.proxy_frames.proofs.Written.{state-written, frame-at}
 use Rattle.proxy_frames.proofs.framer.Framer.frame.Goals as goal
 
 pub returns : goal.returns
