@@ -2,7 +2,8 @@
 use Rattle.std.specs.Prelude.{◌≡◌, Bool, true, false, IsTrue, Option, Some, None, Result, Ok, Err}
 use Rattle.conf_rules.specs.declared.causes.Cause.TheVariants.{ReadFault, RunFault}
 use Rattle.conf_rules.specs.declared.causes.ResolveError.TheVariants.{At}
-use Rattle.conf_rules.specs.Diagnostics.{Ending, BadLine, NotServed, NotOpened, TransportFailed, ServerBroke, TurnsSpent, NoMemory}
+use Rattle.conf_rules.specs.Diagnostics.{Ending, BadLine, NotServed, NotOpened}
+use Rattle.conf_rules.specs.Diagnostics.{TransportFailed, ServerBroke, TurnsSpent, NoMemory}
 use Rattle.conf_rules.specs.Outcome.{Outcome, Ends, Opens}
 use Rattle.ssh_mux_cli.specs.declared.ending.Ending.{Ending as MeantEnding}
 use Rattle.ssh_mux_cli.specs.declared.status.Status.{Status}
@@ -16,7 +17,8 @@ abbrev pub is_refusal : Ending → Bool
 is_refusal (BadLine e) = true
 is_refusal other = false
 
--- whether a master may end so: its sockets weren't opened, or it was served as far as its clients and the server say what is built
+-- whether a master may end so: its sockets weren't opened, or it was served as far as its clients
+-- and the server say what is built
 abbrev pub ends_master : Ending → Bool
 ends_master NotOpened = true
 ends_master TransportFailed = true
@@ -25,8 +27,8 @@ ends_master TurnsSpent = true
 ends_master NotServed = true
 ends_master other = false
 
--- The ending is that of the outcome. Want of memory is free, and a fault has its count; where files don't tell, it is some
--- refusal of the configuration.
+-- The ending is that of the outcome. Want of memory is free, and a fault has its count; where files
+-- don't tell, it is some refusal of the configuration.
 abbrev pub IsDue : Option Outcome → Ending → Type 0
 IsDue outcome NoMemory = Unit
 IsDue outcome (BadLine (At file line ReadFault)) = IsTrue (reads_files outcome)

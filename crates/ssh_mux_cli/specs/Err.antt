@@ -14,7 +14,8 @@ abbrev pub TookLine : List ℕ → Option (List ℕ) → Option (List ℕ) → �
 TookLine line None None faults faults' = Unit
 TookLine line None (Some now) faults faults' = ⊥
 TookLine line (Some before) None faults faults' = ⊥
-TookLine line (Some before) (Some now) faults faults' = (now ≡ before ++ line) ⊎ (TookPrefix before now line × Rose faults faults')
+TookLine line (Some before) (Some now) faults faults' =
+    (now ≡ before ++ line) ⊎ (TookPrefix before now line × Rose faults faults')
 
 -- some of the line, or nothing
 abbrev pub TookSome : List ℕ → Option (List ℕ) → Option (List ℕ) → Type 0
@@ -23,24 +24,29 @@ TookSome line None (Some now) = ⊥
 TookSome line (Some before) None = ⊥
 TookSome line (Some before) (Some now) = TookPrefix before now line
 
--- a line was handed over; where there was no memory for it, that is the status, and nothing was taken
+-- a line was handed over; where there was no memory for it, that is the status, and nothing was
+-- taken
 abbrev pub PutsLine : Status → Status → List ℕ → Option (List ℕ) → Option (List ℕ) → ℕ → ℕ → Type 0
-PutsLine result status line before now faults faults' = ((result ≡ status) × TookLine line before now faults faults') ⊎ ((result ≡ Memory) × (now ≡ before))
+PutsLine result status line before now faults faults' =
+    ((result ≡ status) × TookLine line before now faults faults')
+    ⊎ ((result ≡ Memory) × (now ≡ before))
 
 -- the line of an ending was handed over, or that of want of memory
 abbrev pub Reports : Status → Ending → Option (List ℕ) → Option (List ℕ) → ℕ → ℕ → Type 0
 Reports Memory ending before now faults faults' = TookSome (line_of NoMemory) before now
-Reports result ending before now faults faults' = (result ≡ status_of ending) × TookLine (line_of ending) before now faults faults'
+Reports result ending before now faults faults' =
+    (result ≡ status_of ending) × TookLine (line_of ending) before now faults faults'
 
 -- the run ended by an ending that is due, whose line was handed over
-pub record EndsBy (outcome : Option Outcome) (status : Status) (before now : Option (List ℕ)) (faults faults' : ℕ) : Type 0 where
+pub record EndsBy (outcome : Option Outcome) (status : Status) (before now : Option (List ℕ))
+    (faults faults' : ℕ) : Type 0 where
   pub ending : Ending
   pub is_due : IsDue outcome ending
   pub has_status : status ≡ status_of ending
   pub told : TookLine (line_of ending) before now faults faults'
 
--- How a run ended: without a word where it went well or `out` failed, with the line of its ending otherwise; of the line of want of
--- memory some part may be written.
+-- How a run ended: without a word where it went well or `out` failed, with the line of its ending
+-- otherwise; of the line of want of memory some part may be written.
 abbrev pub Ended : Option Outcome → Status → Option (List ℕ) → Option (List ℕ) → ℕ → ℕ → Type 0
 Ended outcome Done before now faults faults' = IsWell outcome Done × (now ≡ before)
 Ended outcome Write before now faults faults' = IsWell outcome Write × (now ≡ before)

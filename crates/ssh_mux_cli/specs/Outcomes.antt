@@ -8,7 +8,8 @@ use Rattle.conf_rules.specs.declared.command.Command.TheVariants as commands
 use Rattle.conf_rules.specs.declared.causes.ResolveError.{ResolveError}
 use Rattle.conf_rules.specs.Texts.{Bytes}
 use Rattle.conf_rules.specs.Diagnostics.{Ending, BadWords, BadLine, NotServed, NoMemory}
-use Rattle.conf_rules.specs.Outcome.{Outcome, Ends, Writes, Opens, Machine, command_outcome as defined_outcome}
+use Rattle.conf_rules.specs.Outcome.{Outcome, Ends, Writes, Opens, Machine}
+use Rattle.conf_rules.specs.Outcome.{command_outcome as defined_outcome}
 use Rattle.conf_words.specs.declared.reader.WordsError.{WordsError}
 use Rattle.conf_words.specs.declared.reader.WordsError.TheVariants as words_errors
 use Rattle.conf_words.specs.Reading.{served_reading}
@@ -31,7 +32,8 @@ answer_outcome (Err e) = Ends (BadLine e)
 -- the listing of one file for a host, which is known where files tell what they have
 abbrev pub file_outcome : Option (List Pair) → Facts → Bytes → Bytes → Option Outcome
 file_outcome None facts host file = None
-file_outcome (Some files) facts host file = Some (answer_outcome (file_answer (told_by files facts file host) file))
+file_outcome (Some files) facts host file =
+    Some (answer_outcome (file_answer (told_by files facts file host) file))
 
 -- a listing is served of one file
 abbrev pub from_outcome : Option (List Pair) → Facts → Bytes → ConfigFrom → Option Outcome
@@ -39,19 +41,26 @@ from_outcome files facts host (File file) = file_outcome files facts host file
 from_outcome files facts host from = Some (Ends NotServed)
 
 -- without lines of the words
-abbrev pub list_outcome : Option (List Pair) → Facts → Bytes → ConfigFrom → List AskedLine → Option Outcome
+abbrev pub list_outcome :
+    Option (List Pair) → Facts → Bytes → ConfigFrom → List AskedLine → Option Outcome
 list_outcome files facts host from [] = from_outcome files facts host from
 list_outcome files facts host from (line ∷ lines) = Some (Ends NotServed)
 
 -- the machine, as far as it is told: a master that is served looks at no file
 abbrev pub machine : Option (List Pair) → Facts → Machine
-machine None facts = record { content = λ path. None; names = λ path. []; facts = known facts; status = λ command. 127 }
-machine (Some files) facts = record { content = content_at files; names = names_in files; facts = known facts; status = λ command. 127 }
+machine None facts =
+    record
+    { content = λ path. None; names = λ path. []; facts = known facts; status = λ command. 127 }
+machine (Some files) facts =
+    record
+    { content = content_at files; names = names_in files; facts = known facts; status = λ command. 127 }
 
 -- what comes of a command; a drill isn't served
 abbrev pub command_outcome : Option (List Pair) → Facts → Command → Option Outcome
-command_outcome files facts (commands.List asked) = list_outcome files facts asked.original asked.from asked.lines
-command_outcome files facts (commands.Master asked transport opens listens) = Some (defined_outcome (machine files facts) (commands.Master asked transport opens listens))
+command_outcome files facts (commands.List asked) =
+    list_outcome files facts asked.original asked.from asked.lines
+command_outcome files facts (commands.Master asked transport opens listens) =
+    Some (defined_outcome (machine files facts) (commands.Master asked transport opens listens))
 command_outcome files facts (commands.Drill seed clients messages) = Some (Ends NotServed)
 
 -- what comes of words that were read

@@ -11,22 +11,27 @@ use Rattle.mux_outside.specs.declared.mark.Mark.{Mark}
 use Rattle.mux_outside.specs.declared.mark.Opening.{Opening}
 use Rattle.mux_outside.specs.Wire.{SomeFault}
 use Rattle.ssh_mux_cli.specs.declared.status.Status.{Status}
-use Rattle.ssh_mux_cli.specs.declared.status.Status.TheVariants.{Done, Open, Transport, Broke, Spent, Memory, NotBuilt}
+use Rattle.ssh_mux_cli.specs.declared.status.Status.TheVariants.{Done, Open, Transport, Broke}
+use Rattle.ssh_mux_cli.specs.declared.status.Status.TheVariants.{Spent, Memory, NotBuilt}
 
 -- ---- the opening
 
 -- one opening more
 abbrev pub opened : Bytes → Bytes → Option (List Opening) → Option (List Opening)
-opened control transport before = option_map (λ os. os ++ record { control = control; transport = transport } ∷ []) before
+opened control transport before =
+    option_map (λ os. os ++ record { control = control; transport = transport } ∷ []) before
 
 -- the wire was opened once, with this control path and transport, but for want of memory
 abbrev pub OpensAt : Bytes → Bytes → Status → Option (List Opening) → Option (List Opening) → Type 0
-OpensAt control transport Memory before now = (now ≡ before) ⊎ (now ≡ opened control transport before)
+OpensAt control transport Memory before now =
+    (now ≡ before) ⊎ (now ≡ opened control transport before)
 OpensAt control transport status before now = now ≡ opened control transport before
 
 -- the same of an outcome: only a master opens the wire
-abbrev pub OpensOnce : Option Outcome → Status → Option (List Opening) → Option (List Opening) → Type 0
-OpensOnce (Some (Opens control transport opens listens)) status before now = OpensAt control transport status before now
+abbrev pub OpensOnce :
+    Option Outcome → Status → Option (List Opening) → Option (List Opening) → Type 0
+OpensOnce (Some (Opens control transport opens listens)) status before now =
+    OpensAt control transport status before now
 OpensOnce outcome status before now = now ≡ before
 
 -- ---- the run
@@ -42,14 +47,17 @@ end_status ends.Spent = Spent
 end_status ends.OutOfMemory = Memory
 end_status ends.NotBuilt = NotBuilt
 
--- a run that keeps its promises, with an end that has this status; want of memory may come behind it, for the line of that status
-pub record IsShared (May : HouseReply → Type 0) (pid turns : ℕ) (start told : Option (List Mark)) (status : Status) : Type 0 where
+-- a run that keeps its promises, with an end that has this status; want of memory may come behind
+-- it, for the line of that status
+pub record IsShared (May : HouseReply → Type 0) (pid turns : ℕ) (start told : Option (List Mark))
+    (status : Status) : Type 0 where
   pub answer : Ended
   pub has_status : (status ≡ Memory) ⊎ (status ≡ end_status answer)
   pub run : IsRun May pid turns start told answer
 
 -- where the sockets weren't opened nothing is served
-abbrev pub Shares : (HouseReply → Type 0) → ℕ → ℕ → Option (List Mark) → Option (List Mark) → Status → Type 0
+abbrev pub Shares :
+    (HouseReply → Type 0) → ℕ → ℕ → Option (List Mark) → Option (List Mark) → Status → Type 0
 Shares May pid turns start told Open = told ≡ start
 Shares May pid turns start told Memory = (told ≡ start) ⊎ IsShared May pid turns start told Memory
 Shares May pid turns start told status = IsShared May pid turns start told status
@@ -61,7 +69,8 @@ pid_of (Some pid) = pid
 
 -- ---- causes
 
--- the sockets weren't opened only where a count rose, and the transport failed only where the server's did
+-- the sockets weren't opened only where a count rose, and the transport failed only where the
+-- server's did
 abbrev pub WireCause : Status → ℕ → ℕ → ℕ → ℕ → Type 0
 WireCause Open server server' client client' = SomeFault server server' client client'
 WireCause Transport server server' client client' = Rose server server'

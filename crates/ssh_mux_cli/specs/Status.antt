@@ -5,9 +5,13 @@ use Rattle.conf_rules.specs.declared.causes.ListError.{ListError}
 use Rattle.conf_rules.specs.declared.causes.ListError.TheVariants as list_errors
 use Rattle.conf_rules.specs.declared.causes.ResolveError.{ResolveError}
 use Rattle.conf_rules.specs.declared.causes.ResolveError.TheVariants as resolve_errors
-use Rattle.conf_rules.specs.Diagnostics.{Ending, BadWords, BadLine, BadListing, NoControlPath, NotServed, NotOpened, TransportFailed, ServerBroke, TurnsSpent, NoMemory}
+use Rattle.conf_rules.specs.Diagnostics.{Ending, BadWords, BadLine, BadListing, NoControlPath}
+use Rattle.conf_rules.specs.Diagnostics.{NotServed, NotOpened, TransportFailed, ServerBroke}
+use Rattle.conf_rules.specs.Diagnostics.{TurnsSpent, NoMemory}
 use Rattle.ssh_mux_cli.specs.declared.status.Status.{Status}
-use Rattle.ssh_mux_cli.specs.declared.status.Status.TheVariants.{Done, Usage, Config, Outside, Write, Open, Transport, Broke, Spent, Memory, NotBuilt}
+use Rattle.ssh_mux_cli.specs.declared.status.Status.TheVariants.{Done, Usage, Config, Outside}
+use Rattle.ssh_mux_cli.specs.declared.status.Status.TheVariants.{Write, Open, Transport, Broke}
+use Rattle.ssh_mux_cli.specs.declared.status.Status.TheVariants.{Spent, Memory, NotBuilt}
 
 -- what the program's caller sees: 255, as of ssh itself, where words or configuration are refused
 abbrev pub code_of : Status → ℕ

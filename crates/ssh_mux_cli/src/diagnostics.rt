@@ -1,7 +1,8 @@
 ghost use Rattle.std.specs.Prelude.{◌≡◌, ◌++◌, OnOk};
 ghost use Rattle.conf_rules.specs.Numbers.{digits_of};
 ghost use Rattle.ssh_mux_cli.specs.Breaks.{break_text};
-ghost use Rattle.conf_rules.specs.Diagnostics.{usage_text, lex_text, value_text, match_text, token_text, cause_text};
+ghost use Rattle.conf_rules.specs.Diagnostics.{usage_text, lex_text, value_text, match_text};
+ghost use Rattle.conf_rules.specs.Diagnostics.{token_text, cause_text};
 
 use conf_rules::{Cause, LexError, MatchError, TokenError, Usage, ValueError};
 use mux_history::Break;

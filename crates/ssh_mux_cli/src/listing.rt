@@ -22,10 +22,14 @@ pub fn list<F: Files, S: Sink>(
     files: &mut F,
     out: &mut S,
 ) -> Result<Status, Ending>
-    ensures exact { Comes (list_outcome (F.told files.old) facts.now asked.now.original asked.now.from asked.now.lines) result }
-    ensures out { OutTakes (so_far result) (list_outcome (F.told files.old) facts.now asked.now.original asked.now.from asked.now.lines) (S.told out.old) (S.told out.new) }
+    ensures exact { Comes (list_outcome (F.told files.old) facts.now
+        asked.now.original asked.now.from asked.now.lines) result }
+    ensures out { OutTakes (so_far result) (list_outcome (F.told files.old) facts.now
+        asked.now.original asked.now.from asked.now.lines)
+        (S.told out.old) (S.told out.new) }
     ensures unwritten { OnFalse (may_write (so_far result)) (out.new ≡ out.old) }
-    ensures unread { OnFalse (reads_files (list_outcome (F.told files.old) facts.now asked.now.original asked.now.from asked.now.lines)) (files.new ≡ files.old) }
+    ensures unread { OnFalse (reads_files (list_outcome (F.told files.old) facts.now
+        asked.now.original asked.now.from asked.now.lines)) (files.new ≡ files.old) }
     ensures files_cause { FilesCause (so_far result) (F.faults files.old) (F.faults files.new) }
     ensures out_cause { OutCause (so_far result) (S.faults out.old) (S.faults out.new) }
 {
@@ -48,9 +52,12 @@ fn list_one<F: Files, S: Sink>(
     out: &mut S,
 ) -> Result<Status, Ending>
     ensures exact { Comes (file_outcome (F.told files.old) facts.now host.now file.now) result }
-    ensures out { OutTakes (so_far result) (file_outcome (F.told files.old) facts.now host.now file.now) (S.told out.old) (S.told out.new) }
+    ensures out { OutTakes (so_far result)
+        (file_outcome (F.told files.old) facts.now host.now file.now)
+        (S.told out.old) (S.told out.new) }
     ensures unwritten { OnFalse (may_write (so_far result)) (out.new ≡ out.old) }
-    ensures reads { reads_files (file_outcome (F.told files.old) facts.now host.now file.now) ≡ true }
+    ensures reads { reads_files (file_outcome (F.told files.old) facts.now host.now file.now)
+        ≡ true }
     ensures files_cause { FilesCause (so_far result) (F.faults files.old) (F.faults files.new) }
     ensures out_cause { OutCause (so_far result) (S.faults out.old) (S.faults out.new) }
 {
@@ -63,7 +70,8 @@ fn list_one<F: Files, S: Sink>(
 // Hands a listing over, whole.
 fn hand_over<S: Sink>(out: &mut S, text: &[u8]) -> Result<Status, Ending>
     ensures exact { Comes (Some (Writes text.now)) result }
-    ensures out { OutTakes (so_far result) (Some (Writes text.now)) (S.told out.old) (S.told out.new) }
+    ensures out { OutTakes (so_far result) (Some (Writes text.now))
+        (S.told out.old) (S.told out.new) }
     ensures tried { may_write (so_far result) ≡ true }
     ensures cause { OutCause (so_far result) (S.faults out.old) (S.faults out.new) }
 {

@@ -27,8 +27,8 @@ fn only_word(lines: &AskedLines) -> Option<&Text>
     }
 }
 
-/// Shares a connection as the words ask: `-M`. The wire is opened at the control path, which is the only line of the words, and
-/// is served for so many turns at most.
+/// Shares a connection as the words ask: `-M`. The wire is opened at the control path, which is
+/// the only line of the words, and is served for so many turns at most.
 pub fn share<W: Wire, H: House>(
     alloc: Global,
     asked: &Asked,
@@ -40,9 +40,12 @@ pub fn share<W: Wire, H: House>(
 ) -> Result<Status, Ending>
     requires { is_some (only_word asked.now.lines) ≡ true }
     ensures ends { EndsMaster result }
-    ensures opened { OpensAt (or_text [] (only_word asked.now.lines)) transport.now (so_far result) (W.openings wire.old) (W.openings wire.new) }
-    ensures served { Shares H.may (pid_of pid) turns (W.told wire.old) (W.told wire.new) (so_far result) }
-    ensures cause { WireCause (so_far result) (W.server_faults wire.old) (W.server_faults wire.new) (W.client_faults wire.old) (W.client_faults wire.new) }
+    ensures opened { OpensAt (or_text [] (only_word asked.now.lines)) transport.now (so_far result)
+        (W.openings wire.old) (W.openings wire.new) }
+    ensures served { Shares H.may (pid_of pid) turns
+        (W.told wire.old) (W.told wire.new) (so_far result) }
+    ensures cause { WireCause (so_far result) (W.server_faults wire.old) (W.server_faults wire.new)
+        (W.client_faults wire.old) (W.client_faults wire.new) }
 {
     match only_word(&asked.lines) {
         Some(control) => open_and_serve(
@@ -69,9 +72,12 @@ fn open_and_serve<W: Wire, H: House>(
     turns: u64,
 ) -> Result<Status, Ending>
     ensures ends { EndsMaster result }
-    ensures opened { OpensAt control.now transport.now (so_far result) (W.openings wire.old) (W.openings wire.new) }
-    ensures served { Shares H.may pid turns (W.told wire.old) (W.told wire.new) (so_far result) }
-    ensures cause { WireCause (so_far result) (W.server_faults wire.old) (W.server_faults wire.new) (W.client_faults wire.old) (W.client_faults wire.new) }
+    ensures opened { OpensAt control.now transport.now (so_far result)
+        (W.openings wire.old) (W.openings wire.new) }
+    ensures served { Shares H.may pid turns
+        (W.told wire.old) (W.told wire.new) (so_far result) }
+    ensures cause { WireCause (so_far result) (W.server_faults wire.old) (W.server_faults wire.new)
+        (W.client_faults wire.old) (W.client_faults wire.new) }
 {
     match wire.open(control.as_bytes(), transport.as_bytes()) {
         Ok(()) => serve_open(alloc, pid, wire, house, turns),
@@ -93,8 +99,10 @@ fn serve_open<W: Wire, H: House>(
     requires listens { W.listens wire.old ≡ true }
     ensures ends { EndsMaster result }
     ensures openings { W.openings wire.new ≡ W.openings wire.old }
-    ensures served { Shares H.may pid turns (W.told wire.old) (W.told wire.new) (so_far result) }
-    ensures cause { WireCause (so_far result) (W.server_faults wire.old) (W.server_faults wire.new) (W.client_faults wire.old) (W.client_faults wire.new) }
+    ensures served { Shares H.may pid turns
+        (W.told wire.old) (W.told wire.new) (so_far result) }
+    ensures cause { WireCause (so_far result) (W.server_faults wire.old) (W.server_faults wire.new)
+        (W.client_faults wire.old) (W.client_faults wire.new) }
 {
     match Engine::new(alloc, pid) {
         Ok(mut engine) => ending_of(serve(alloc, &mut engine, wire, house, turns)),

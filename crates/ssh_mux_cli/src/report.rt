@@ -11,9 +11,11 @@ use std::alloc::Global;
 /// The line of want of memory.
 const NO_MEMORY: &[u8] = b"ssh-mux: out of memory\n";
 
-/// Tells how the run ended, in one line, and its status. Want of memory for the line is the status then.
+/// Tells how the run ended, in one line, and its status. Want of memory for the line is the
+/// status then.
 pub fn report<S: Sink>(alloc: Global, err: &mut S, ending: &Ending) -> Status
-    ensures { Reports result (shown ending.now) (S.told err.old) (S.told err.new) (S.faults err.old) (S.faults err.new) }
+    ensures { Reports result (shown ending.now)
+        (S.told err.old) (S.told err.new) (S.faults err.old) (S.faults err.new) }
 {
     match ending.line(alloc) {
         Ok(line) => put_line(err, line.as_bytes(), ending.status()),
@@ -23,7 +25,8 @@ pub fn report<S: Sink>(alloc: Global, err: &mut S, ending: &Ending) -> Status
 
 // Hands a line over, whole.
 fn put_line<S: Sink>(err: &mut S, line: &[u8], status: Status) -> Status
-    ensures { PutsLine result status line.now (S.told err.old) (S.told err.new) (S.faults err.old) (S.faults err.new) }
+    ensures { PutsLine result status line.now
+        (S.told err.old) (S.told err.new) (S.faults err.old) (S.faults err.new) }
 {
     match err.put(line) {
         Err(FileError::OutOfMemory) => Status::Memory,

@@ -20,10 +20,10 @@ use std::alloc::Global;
 
 /// Does what the words ask for, over the outside that is handed in, and tells how it ended.
 ///
-/// `words` are the program's words without its name. The listing of `-G` goes to `out` in one `put`,
-/// once it is complete. `-M` opens the wire and serves it for at most `turns` turns. A status other
-/// than that of success or of a failed `out` has its one line, which goes to `err` in one `put`;
-/// where there is no memory for it the status is that of want of memory.
+/// `words` are the program's words without its name. The listing of `-G` goes to `out` in one
+/// `put`, once it is complete. `-M` opens the wire and serves it for at most `turns` turns. A status
+/// other than that of success or of a failed `out` has its one line, which goes to `err` in one
+/// `put`; where there is no memory for it the status is that of want of memory.
 pub fn run<W: Wire, F: Files, R: Runner, S: Sink, H: House>(
     alloc: Global,
     words: &Texts,

@@ -1,3 +1,6 @@
+mod lines;
+mod sharing;
+
 use crate::run::run;
 use crate::status::Status;
 use mux_outside::{
@@ -156,6 +159,22 @@ fn a_listing_is_written_or_its_refusal_is_told_in_one_line(rt: HostRuntime) -> R
         ),
         (
             "-G db",
+            "",
+            Fails::Nothing,
+            Status::NotBuilt,
+            "",
+            "ssh-mux: not built yet\n",
+        ),
+        (
+            "-M -F none -S /c db",
+            "",
+            Fails::Nothing,
+            Status::NotBuilt,
+            "",
+            "ssh-mux: not built yet\n",
+        ),
+        (
+            "-M -F none --transport /t db",
             "",
             Fails::Nothing,
             Status::NotBuilt,
