@@ -1,13 +1,18 @@
 // Errors of the system as a caller of the outside sees them.
+ghost use Rattle.std.specs.Prelude.{◌≡◌, ◌↔◌};
+ghost use Rattle.std.specs.IoError.{error_kind};
 ghost use Rattle.mux_outside.specs.Counts.{HasCause};
 
 use mux_outside::{FileError, raised};
 use std::io;
+use std::io::ErrorKind;
 
 /// What an error is: want of memory, or a fault.
-pub fn file_error(e: &io::Error) -> FileError {
+pub fn file_error(e: &io::Error) -> FileError
+    ensures { (result ≡ FileError.OutOfMemory) ↔ (error_kind e.now ≡ ErrorKind.OutOfMemory) }
+{
     match e.kind() {
-        io::ErrorKind::OutOfMemory => FileError::OutOfMemory,
+        ErrorKind::OutOfMemory => FileError::OutOfMemory,
         _ => FileError::Failed,
     }
 }

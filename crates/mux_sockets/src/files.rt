@@ -1,4 +1,6 @@
-ghost use Rattle.std.specs.Prelude.{◌≡◌, ◌≤◌, length, None, IfOk, IfSome};
+ghost use Rattle.std.specs.Prelude.{◌≡◌, ◌≤◌, ◌↔◌, ◌⊎◌, length, take, None, Err, IfOk, IfSome, IsTrue, IsUtf8};
+ghost use Rattle.mux_outside.specs.Counts.{HasCause};
+ghost use Rattle.std.specs.IoError.{error_kind};
 
 use crate::faults::{count_failed, file_error};
 use mux_outside::{FileError, Files};
@@ -8,9 +10,6 @@ use std::fs::OpenFile;
 use std::io::{ErrorKind, Read};
 use std::rt::Files as System;
 use std::{fs, io, str};
-
-// How many bytes one read takes at most.
-const CHUNK: usize = 65536;
 
 // How many names a directory may have.
 const NAMES: usize = 1_000_000;
@@ -42,13 +41,21 @@ impl<R: System + AllocGlobal + Clone + Drop> Files for RealFiles<R> {
 
     ghost faults = { λ f. f.faults };
 
-    fn read(&mut self, path: &[u8], most: usize) -> Result<Option<Text>, FileError> {
+    fn read(&mut self, path: &[u8], most: usize) -> Result<Option<Text>, FileError>
+        ensures at_most { IfOk result (λ found. IfSome found (λ text. length text ≤ most)) }
+        ensures not_text { ¬ (IsUtf8 path.now) → result ≡ Err FileError.Failed }
+        ensures cause { HasCause result self.old.faults self.new.faults }
+    {
         let answer = read_file(&self.rt, self.alloc, path, most);
         count_failed(&answer, &mut self.faults);
         answer
     }
 
-    fn list(&mut self, dir: &[u8]) -> Result<Option<Texts>, FileError> {
+    fn list(&mut self, dir: &[u8]) -> Result<Option<Texts>, FileError>
+        ensures at_most { IfOk result (λ found. IfSome found (λ names. length names ≤ NAMES)) }
+        ensures not_text { ¬ (IsUtf8 dir.now) → result ≡ Err FileError.Failed }
+        ensures cause { HasCause result self.old.faults self.new.faults }
+    {
         let answer = list_names(&self.rt, self.alloc, dir);
         count_failed(&answer, &mut self.faults);
         answer
@@ -56,7 +63,10 @@ impl<R: System + AllocGlobal + Clone + Drop> Files for RealFiles<R> {
 }
 
 // Whether there is no such file or directory.
-fn is_missing(e: &io::Error) -> bool {
+fn is_missing(e: &io::Error) -> bool
+    ensures { IsTrue result ↔ ((error_kind e.now ≡ ErrorKind.NotFound)
+        ⊎ (error_kind e.now ≡ ErrorKind.NotADirectory)) }
+{
     e.kind() == ErrorKind::NotFound || e.kind() == ErrorKind::NotADirectory
 }
 
@@ -67,12 +77,13 @@ fn read_file<R: System>(
     path: &[u8],
     most: usize,
 ) -> Result<Option<Text>, FileError>
-    ensures { IfOk result (λ found. IfSome found (λ text. length text ≤ most)) }
+    ensures at_most { IfOk result (λ found. IfSome found (λ text. length text ≤ most)) }
+    ensures not_text { ¬ (IsUtf8 path.now) → result ≡ Err FileError.Failed }
 {
     let Ok(path) = str::from_utf8(path) else {
         return Err(FileError::Failed);
     };
-    let mut file = match fs::open(rt, path) {
+    let file = match fs::open(rt, path) {
         Ok(file) => file,
         Err(e) if is_missing(&e) => return Ok(None),
         Err(e) => return Err(file_error(&e)),
@@ -80,33 +91,19 @@ fn read_file<R: System>(
     if file.metadata().map_err(|e| file_error(&e))?.is_dir() {
         return Ok(None);
     }
-    Ok(Some(read_first(&mut file, alloc, most)?))
+    Ok(Some(read_first(file, alloc, most)?))
 }
 
-// Room for so many bytes.
-fn room_of(alloc: Global, count: usize) -> Result<Vec<u8>, FileError> {
-    Vec::from_elem(alloc, 0, count).map_err(|_| FileError::OutOfMemory)
-}
-
-// Reads until there are enough bytes, or no more.
-fn read_first<F: Read>(file: &mut F, alloc: Global, most: usize) -> Result<Text, FileError>
-    ensures { IfOk result (λ text. length text ≤ most) }
+// The first bytes that a reader gives.
+fn read_first<F: Read + Drop>(file: F, alloc: Global, most: usize) -> Result<Text, FileError>
+    ensures at_most { IfOk result (λ text. length text ≤ most) }
+    ensures first { IfOk result (λ text. IfSome (F.remaining file) (λ left. text ≡ take most left)) }
 {
-    let mut text = Text::new(alloc);
-    let mut chunk = room_of(alloc, CHUNK)?;
-    for _ in 0..u64::MAX {
-        let room = most.saturating_sub(text.as_bytes().len()).min(chunk.len());
-        if room == 0 {
-            return Ok(text);
-        }
-        match file.read(&mut chunk[..room]) {
-            Ok(0) => return Ok(text),
-            Ok(count) => text.add(&chunk[..count])?,
-            Err(e) if e.kind() == ErrorKind::Interrupted => {}
-            Err(e) => return Err(file_error(&e)),
-        }
-    }
-    Ok(text)
+    let mut bytes = Vec::new(alloc);
+    let mut front = file.take(most as u64);
+    let _ = front.read_to_end(&mut bytes).map_err(|e| file_error(&e))?;
+    let count = bytes.len().min(most);
+    Ok(Text::copy(alloc, &bytes[..count])?)
 }
 
 // The names in a directory.
@@ -114,7 +111,10 @@ fn list_names<R: System + AllocGlobal + Clone + Drop>(
     rt: &R,
     alloc: Global,
     dir: &[u8],
-) -> Result<Option<Texts>, FileError> {
+) -> Result<Option<Texts>, FileError>
+    ensures at_most { IfOk result (λ found. IfSome found (λ names. length names ≤ NAMES)) }
+    ensures not_text { ¬ (IsUtf8 dir.now) → result ≡ Err FileError.Failed }
+{
     let Ok(dir) = str::from_utf8(dir) else {
         return Err(FileError::Failed);
     };

@@ -1,4 +1,5 @@
-ghost use Rattle.std.specs.Prelude.{◌≡◌, None};
+ghost use Rattle.std.specs.Prelude.{◌≡◌, None, Err, IsUtf8};
+ghost use Rattle.mux_outside.specs.Counts.{HasCause};
 
 use crate::faults::{count_failed, file_error};
 use mux_outside::{FileError, Runner};
@@ -38,14 +39,19 @@ impl<P: Processes + Drop> Runner for RealRunner<P> {
 
     ghost faults = { λ r. r.faults };
 
-    fn run(&mut self, command: &[u8]) -> Result<u8, FileError> {
+    fn run(&mut self, command: &[u8]) -> Result<u8, FileError>
+        ensures not_text { ¬ (IsUtf8 command.now) → result ≡ Err FileError.Failed }
+        ensures cause { HasCause result self.old.faults self.new.faults }
+    {
         let answer = run_shell(&self.rt, self.alloc, command);
         count_failed(&answer, &mut self.faults);
         answer
     }
 }
 
-fn run_shell<P: Processes>(rt: &P, alloc: Global, command: &[u8]) -> Result<u8, FileError> {
+fn run_shell<P: Processes>(rt: &P, alloc: Global, command: &[u8]) -> Result<u8, FileError>
+    ensures not_text { ¬ (IsUtf8 command.now) → result ≡ Err FileError.Failed }
+{
     let Ok(text) = str::from_utf8(command) else {
         return Err(FileError::Failed);
     };

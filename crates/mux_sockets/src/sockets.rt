@@ -1,5 +1,6 @@
 // The sockets of a run, and which of them are ready, in the order in which they became so.
-ghost use Rattle.std.specs.Prelude.{◌≡◌, ◌≤◌, ◌<◌, length, ℕ, List, Option, IfSome, Some};
+ghost use Rattle.std.specs.Prelude.{◌≡◌, ◌≢◌, ◌≤◌, ◌<◌, length, ℕ, List, Option, IfSome, Some, Err, IsUtf8};
+ghost use Rattle.std.specs.IoError.{error_kind};
 ghost use Rattle.mux_sockets.specs.Sockets.{SentFits, FoundFits};
 
 use crate::control::{Control, listen_beside};
@@ -12,6 +13,7 @@ use mux_outside::{Piece, Want};
 use slab::Slab;
 use std::alloc::{AllocError, Global};
 use std::fs::Files;
+use std::io::ErrorKind;
 use std::net::Net;
 use std::time::Duration;
 use std::{io, str};
@@ -62,9 +64,10 @@ enum Ready {
 
 #[derive(Drop)]
 struct Listening<R: Files + Drop> {
-    listener: UnixListener,
-    // the name, which goes away with the listening
+    // the name, which goes away with the listening, and first: as long as the listener stands, no other
+    // file has the same number
     control: Control<R>,
+    listener: UnixListener,
 }
 
 #[derive(Drop)]
@@ -96,7 +99,9 @@ impl<R: Files + Net + Clone + Drop> Sockets<R> {
         alloc: Global,
         control: &[u8],
         transport: &[u8],
-    ) -> Result<Sockets<R>, Fault> {
+    ) -> Result<Sockets<R>, Fault>
+        ensures not_text { ¬ (IsUtf8 control.now) → result ≡ Err Fault.Control }
+    {
         let Ok(path) = str::from_utf8(control) else {
             return Err(Fault::Control);
         };
@@ -131,7 +136,7 @@ impl<R: Files + Net + Clone + Drop> Sockets<R> {
         self.poll
             .registry()
             .register(&mut listener, LISTENER, Interest::READABLE)?;
-        self.listening = Some(Listening { listener, control });
+        self.listening = Some(Listening { control, listener });
         Ok(())
     }
 
@@ -294,8 +299,8 @@ impl<R: Files + Net + Clone + Drop> Sockets<R> {
             (client : Option ℕ) (bytes : List ℕ) → FoundFits found client bytes) }
     {
         match e.kind() {
-            io::ErrorKind::WouldBlock => None,
-            io::ErrorKind::Interrupted | io::ErrorKind::ConnectionAborted => {
+            ErrorKind::WouldBlock => None,
+            ErrorKind::Interrupted | ErrorKind::ConnectionAborted => {
                 self.resume();
                 None
             }
@@ -326,8 +331,8 @@ impl<R: Files + Net + Clone + Drop> Sockets<R> {
                 Some(Found::Bytes(number))
             }
             Err(e) => match e.kind() {
-                io::ErrorKind::WouldBlock => None,
-                io::ErrorKind::Interrupted => {
+                ErrorKind::WouldBlock => None,
+                ErrorKind::Interrupted => {
                     let _ = note(&mut self.ready, Ready::Read(key));
                     None
                 }
@@ -353,11 +358,11 @@ impl<R: Files + Net + Clone + Drop> Sockets<R> {
             Ok(0) => Sent::Failed,
             Ok(count) => Sent::Took(count),
             Err(e) => match e.kind() {
-                io::ErrorKind::WouldBlock => {
+                ErrorKind::WouldBlock => {
                     entry.blocked = true;
                     Sent::Later
                 }
-                io::ErrorKind::Interrupted => {
+                ErrorKind::Interrupted => {
                     entry.blocked = true;
                     let _ = note(&mut self.ready, Ready::Write(key));
                     Sent::Later
@@ -400,18 +405,23 @@ fn note_event(
     Ok(())
 }
 
-fn fault_of(e: &io::Error, other: Fault) -> Fault {
+fn fault_of(e: &io::Error, other: Fault) -> Fault
+    ensures memory { error_kind e.now ≡ ErrorKind.OutOfMemory → result ≡ Fault.Memory }
+    ensures other { error_kind e.now ≢ ErrorKind.OutOfMemory → result ≡ other }
+{
     match e.kind() {
-        io::ErrorKind::OutOfMemory => Fault::Memory,
+        ErrorKind::OutOfMemory => Fault::Memory,
         _ => other,
     }
 }
 
 fn failure_of(e: &io::Error) -> Found
-    ensures { (client : Option ℕ) (bytes : List ℕ) → FoundFits result client bytes }
+    ensures memory { error_kind e.now ≡ ErrorKind.OutOfMemory → result ≡ Found.NoMemory }
+    ensures other { error_kind e.now ≢ ErrorKind.OutOfMemory → result ≡ Found.Failed 0 }
+    ensures fits { (client : Option ℕ) (bytes : List ℕ) → FoundFits result client bytes }
 {
     match e.kind() {
-        io::ErrorKind::OutOfMemory => Found::NoMemory,
+        ErrorKind::OutOfMemory => Found::NoMemory,
         _ => Found::Failed(0),
     }
 }

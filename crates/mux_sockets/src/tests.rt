@@ -1,6 +1,6 @@
 // What no clause says: what the system does.
 use crate::{RealFiles, RealRunner, RealSink, RealWire};
-use mux_outside::{Files, Piece, Runner, Sink, Streams, Turn, Want, Wire, Wrote};
+use mux_outside::{FileError, Files, Piece, Runner, Sink, Streams, Turn, Want, Wire, Wrote};
 use std::fs;
 use std::io::{Read, Write};
 use std::os::unix::net::{UnixListener, UnixStream};
@@ -50,10 +50,24 @@ fn a_client_is_accepted_heard_and_answered_and_the_control_socket_goes(rt: HostR
 }
 
 #[test]
+fn a_sink_puts_its_bytes_one_after_another_and_a_full_device_is_a_fault(rt: HostRuntime) {
+    let alloc = rt.alloc();
+    let file = fs::create(&rt, "mux-sink").expect(&rt, "a file");
+    let mut sink = RealSink::new(file);
+    assert_eq!(rt; sink.put(b"host db\n"), Ok(()));
+    assert_eq!(rt; sink.put(b""), Ok(()));
+    assert_eq!(rt; sink.put(b"port 22\n"), Ok(()));
+    let text = fs::read(&rt, "mux-sink").expect(&rt, "the file");
+    assert_eq!(rt; text.as_slice(), b"host db\nport 22\n".as_slice());
+    fs::remove_file(&rt, "mux-sink").expect(&rt, "the file's name");
+    let full = fs::create(&rt, "/dev/full").expect(&rt, "a device");
+    assert_eq!(rt; RealSink::new(full).put(b"x"), Err(FileError::Failed));
+}
+
+#[test]
 fn files_are_read_from_their_start_and_commands_give_their_status(rt: HostRuntime) {
     let alloc = rt.alloc();
-    let file = fs::create(&rt, "mux-file").expect(&rt, "a file");
-    assert_eq!(rt; RealSink::new(file).put(b"Port 22"), Ok(()));
+    fs::write(&rt, "mux-file", b"Port 22".as_slice()).expect(&rt, "a file");
     let mut files = RealFiles::new(rt.clone().expect(&rt, "a handle"), alloc);
     let text = files
         .read(b"mux-file", 4)

@@ -1,4 +1,7 @@
 // The connection to the server.
+ghost use Rattle.std.specs.Prelude.{IfOk};
+ghost use Rattle.mux_sockets.specs.Transport.{IsOver, IsOverUnix};
+
 use crate::stream::Stream;
 use mio::net::TcpStream;
 use mio::{Events, Interest, Poll, Token};
@@ -13,7 +16,9 @@ use std::{io, str};
 const CONNECT_SECONDS: u32 = 60;
 
 /// Connects to a Unix socket's path where there is a slash, else to a numeric address and port.
-pub fn connect<R: Files + Net>(rt: &R, alloc: Global, transport: &[u8]) -> io::Result<Stream> {
+pub fn connect<R: Files + Net>(rt: &R, alloc: Global, transport: &[u8]) -> io::Result<Stream>
+    ensures { IfOk result (λ stream. IsOver stream transport.now) }
+{
     if transport.contains(&b'/') {
         return connect_unix(rt, transport);
     }
@@ -26,7 +31,9 @@ pub fn connect<R: Files + Net>(rt: &R, alloc: Global, transport: &[u8]) -> io::R
     Ok(Stream::Tcp(stream))
 }
 
-fn connect_unix<R: Files + Net>(rt: &R, path: &[u8]) -> io::Result<Stream> {
+fn connect_unix<R: Files + Net>(rt: &R, path: &[u8]) -> io::Result<Stream>
+    ensures { IfOk result (λ stream. IsOverUnix stream) }
+{
     let Ok(path) = str::from_utf8(path) else {
         return Err(io::Error::from(io::ErrorKind::InvalidInput));
     };
