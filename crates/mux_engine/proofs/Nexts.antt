@@ -8,7 +8,7 @@ use Rattle.ssh_grammar.specs.declared.framing.Framing.TheVariants as framing
 use Rattle.ssh_grammar.specs.Said.{Body}
 use Rattle.proxy_frames.specs.declared.next.Next.TheVariants as next
 use Rattle.proxy_frames.specs.State.{FramerState}
-use Rattle.proxy_frames.specs.Steps.{front_of, answer_to, after_front}
+use Rattle.proxy_frames.specs.Steps.{once_told, front_of, answer_to, after_front}
 use Rattle.mux_history.specs.Said.{Outcome}
 use Rattle.mux_history.specs.Controls.{body_asks}
 use Rattle.mux_history.specs.Promises.{MayGive}
@@ -50,7 +50,7 @@ client_of k s f q = record { number = k; standing = s; rest = rest_if (is_read s
 -- a framer of control frames that told no fault shows the front of its bytes
 front_in : (f : FramerState) → f.framing ≡ framing.Control → f.fault ≡ None → front_of f ≡ first_frame framing.Control f.rest
 front_in f control well =
-    ap (λ (x : Option BadFrame). elim x as (λ _. Front) [ Some fault ↦ Faulty fault | None ↦ first_frame f.framing f.rest ]) well
+    ap (λ (x : Option BadFrame). once_told x Faulty (first_frame f.framing f.rest)) well
     ∙ ap (λ (m : Framing). first_frame m f.rest) control
 
 -- a client of which a frame was cut follows what was decided of it
