@@ -1,7 +1,9 @@
 // What no clause says: that there is memory for a whole run, and which bytes its clients read.
 use super::*;
 use mux_history::Ended;
-use mux_outside::{Calls, FileError, NoHouse, ScriptWire, Step, Steps, Wire, Writes};
+use mux_outside::{
+    Calls, FileError, FwdAsk, House, HouseReply, NoHouse, ScriptWire, Step, Steps, Wire, Writes,
+};
 use ssh_fields::{OutOfMemory, Text};
 use std::alloc::Global;
 
@@ -45,4 +47,50 @@ fn each_of_two_clients_reads_a_hello_and_the_answer_to_its_own_check(rt: HostRun
     assert_eq!(rt; ended, Ended::ServerEnd);
     assert_eq!(rt; first.as_bytes(), FIRST);
     assert_eq!(rt; second.as_bytes(), SECOND);
+}
+
+/// A house that opens every forwarding at port 40,001, and closes those of port 80 alone.
+struct OpenHouse;
+
+impl House for OpenHouse {
+    ghost may = { λ reply. Unit {0} };
+
+    fn ask(&mut self, _client: u64, opening: bool, what: &FwdAsk<'_>) -> HouseReply {
+        if opening {
+            HouseReply::Port(40_001)
+        } else if what.connect_port == 80 {
+            HouseReply::Done
+        } else {
+            HouseReply::Refused
+        }
+    }
+}
+
+/// A hello, and what it asks: to open a forwarding, to close it, and to close one of another port.
+const FORWARDS: &[u8] = b"\x00\x00\x00\x08\x00\x00\x00\x01\x00\x00\x00\x04\
+    \x00\x00\x00\x1f\x10\x00\x00\x06\x00\x00\x00\x04\x00\x00\x00\x02\x00\x00\x00\x00\x00\x00\x00\x00\x00\x00\x00\x03web\x00\x00\x00\x50\
+    \x00\x00\x00\x1f\x10\x00\x00\x07\x00\x00\x00\x05\x00\x00\x00\x02\x00\x00\x00\x00\x00\x00\x00\x00\x00\x00\x00\x03web\x00\x00\x00\x50\
+    \x00\x00\x00\x1f\x10\x00\x00\x07\x00\x00\x00\x06\x00\x00\x00\x02\x00\x00\x00\x00\x00\x00\x00\x00\x00\x00\x00\x03web\x00\x00\x00\x51";
+
+/// The port, that it is done, and that it is refused.
+const FORWARDED: &[u8] = b"\x00\x00\x00\x08\x00\x00\x00\x01\x00\x00\x00\x04\
+    \x00\x00\x00\x0c\x80\x00\x00\x07\x00\x00\x00\x04\x00\x00\x9c\x41\
+    \x00\x00\x00\x08\x80\x00\x00\x01\x00\x00\x00\x05\
+    \x00\x00\x00\x26\x80\x00\x00\x03\x00\x00\x00\x06\x00\x00\x00\x1aforwardings are not served";
+
+fn forwards(alloc: Global) -> Result<Text, FileError> {
+    let mut steps = Steps::new(alloc);
+    steps.push(Step::Accept)?;
+    steps.push(Step::Bytes(1, Text::copy(alloc, FORWARDS)?))?;
+    let mut wire = ScriptWire::new(alloc, steps, Writes::new(alloc), Calls::new(alloc));
+    wire.open(b"/run/mux", b"/run/server")?;
+    let mut engine = Engine::new(alloc, 4321)?;
+    serve(alloc, &mut engine, &mut wire, &mut OpenHouse, 20);
+    Ok(wire.taken(1)?)
+}
+
+#[test]
+fn what_the_house_replies_is_told_to_the_client_that_asked(rt: HostRuntime) {
+    let taken = forwards(rt.alloc()).expect(&rt, "memory");
+    assert_eq!(rt; taken.as_bytes(), FORWARDED);
 }

@@ -1,3 +1,4 @@
+mod control;
 mod lines;
 mod sharing;
 

@@ -14,7 +14,7 @@ use std::test::Fail;
 const SHARE: &str = "-M -F none -S /c --transport /t db";
 
 /// A hello of version 4, as the master says it too.
-const HELLO: &[u8] = b"\x00\x00\x00\x08\x00\x00\x00\x01\x00\x00\x00\x04";
+pub const HELLO: &[u8] = b"\x00\x00\x00\x08\x00\x00\x00\x01\x00\x00\x00\x04";
 
 /// A hello of version 3.
 const OLD_HELLO: &[u8] = b"\x00\x00\x00\x08\x00\x00\x00\x01\x00\x00\x00\x03";
@@ -29,11 +29,11 @@ const ANSWERS: &[u8] =
 
 /// What came of a master.
 #[derive(Drop)]
-struct Shared {
-    status: Status,
-    wire: ScriptWire,
-    out: ListSink,
-    err: ListSink,
+pub struct Shared {
+    pub status: Status,
+    pub wire: ScriptWire,
+    pub out: ListSink,
+    pub err: ListSink,
 }
 
 /// What is known of the machine: the process id 42.
@@ -73,7 +73,7 @@ fn share(alloc: Global, mut wire: ScriptWire, turns: u64) -> Result<Shared, OutO
 }
 
 /// A run over these steps and writes, in which no call fails.
-fn share_over(alloc: Global, steps: Steps, writes: Writes) -> Result<Shared, OutOfMemory> {
+pub fn share_over(alloc: Global, steps: Steps, writes: Writes) -> Result<Shared, OutOfMemory> {
     share(
         alloc,
         ScriptWire::new(alloc, steps, writes, Calls::new(alloc)),

@@ -1,0 +1,204 @@
+// The control phase: what one client is told for each of its messages, and what becomes of it and of the run.
+use super::sharing::{HELLO, share_over};
+use crate::status::Status;
+use mux_outside::{Step, Steps, WriteEntry, Writes};
+use ssh_fields::{OutOfMemory, Text};
+use std::alloc::Global;
+use std::test::Fail;
+
+/// What a client says after its hello, what it is told, and whether it stays.
+#[derive(Clone, Copy)]
+struct Row {
+    name: &'static str,
+    says: &'static [u8],
+    told: &'static [u8],
+    stays: bool,
+}
+
+const ROWS: [Row; 14] = [
+    Row {
+        name: "descriptors for a session, then bytes that are ignored",
+        says: b"\x00\x00\x00\x0c\x10\x00\x00\x02\x00\x00\x00\x05\x00\x00\x00\x00\x00\x00\x00",
+        told: b"\x00\x00\x00\x29\x80\x00\x00\x03\x00\x00\x00\x05\x00\x00\x00\x1ddescriptors are not supported",
+        stays: true,
+    },
+    Row {
+        name: "descriptors for a stream, then a check that is ignored",
+        says: b"\x00\x00\x00\x08\x10\x00\x00\x08\x00\x00\x00\x06\x00\x00\x00\x08\x10\x00\x00\x04\x00\x00\x00\x07",
+        told: b"\x00\x00\x00\x29\x80\x00\x00\x03\x00\x00\x00\x06\x00\x00\x00\x1ddescriptors are not supported",
+        stays: true,
+    },
+    Row {
+        name: "terminate, then a check that is not read",
+        says: b"\x00\x00\x00\x08\x10\x00\x00\x05\x00\x00\x00\x03\x00\x00\x00\x08\x10\x00\x00\x04\x00\x00\x00\x07",
+        told: b"\x00\x00\x00\x08\x80\x00\x00\x01\x00\x00\x00\x03",
+        stays: true,
+    },
+    Row {
+        name: "stop listening, then a check",
+        says: b"\x00\x00\x00\x08\x10\x00\x00\x09\x00\x00\x00\x09\x00\x00\x00\x08\x10\x00\x00\x04\x00\x00\x00\x07",
+        told: b"\x00\x00\x00\x08\x80\x00\x00\x01\x00\x00\x00\x09\x00\x00\x00\x0c\x80\x00\x00\x05\x00\x00\x00\x07\x00\x00\x00\x2a",
+        stays: true,
+    },
+    Row {
+        name: "a forwarding that the house refuses",
+        says: b"\x00\x00\x00\x1f\x10\x00\x00\x06\x00\x00\x00\x04\x00\x00\x00\x02\x00\x00\x00\x00\x00\x00\x00\x00\x00\x00\x00\x03web\x00\x00\x00\x50",
+        told: b"\x00\x00\x00\x26\x80\x00\x00\x03\x00\x00\x00\x04\x00\x00\x00\x1aforwardings are not served",
+        stays: true,
+    },
+    Row {
+        name: "the end of a forwarding that the house refuses",
+        says: b"\x00\x00\x00\x1f\x10\x00\x00\x07\x00\x00\x00\x04\x00\x00\x00\x02\x00\x00\x00\x00\x00\x00\x00\x00\x00\x00\x00\x03web\x00\x00\x00\x50",
+        told: b"\x00\x00\x00\x26\x80\x00\x00\x03\x00\x00\x00\x04\x00\x00\x00\x1aforwardings are not served",
+        stays: true,
+    },
+    Row {
+        name: "a type that is not known, then a check",
+        says: b"\x00\x00\x00\x08\x10\x00\x00\x03\x00\x00\x00\x08\x00\x00\x00\x08\x10\x00\x00\x04\x00\x00\x00\x07",
+        told: b"\x00\x00\x00\x1f\x80\x00\x00\x03\x00\x00\x00\x08\x00\x00\x00\x13unsupported request\x00\x00\x00\x0c\x80\x00\x00\x05\x00\x00\x00\x07\x00\x00\x00\x2a",
+        stays: true,
+    },
+    Row {
+        name: "a type that is not known, without an id",
+        says: b"\x00\x00\x00\x04\x10\x00\x00\x03",
+        told: b"",
+        stays: false,
+    },
+    Row {
+        name: "proxy mode, which is not served yet, then a check",
+        says: b"\x00\x00\x00\x08\x10\x00\x00\x0f\x00\x00\x00\x00\x00\x00\x00\x08\x10\x00\x00\x04\x00\x00\x00\x07",
+        told: b"\x00\x00\x00\x24\x80\x00\x00\x03\x00\x00\x00\x00\x00\x00\x00\x18proxy mode is not served\x00\x00\x00\x0c\x80\x00\x00\x05\x00\x00\x00\x07\x00\x00\x00\x2a",
+        stays: true,
+    },
+    Row {
+        name: "a check without an id",
+        says: b"\x00\x00\x00\x04\x10\x00\x00\x04",
+        told: b"",
+        stays: false,
+    },
+    Row {
+        name: "a second hello, after an answer",
+        says: b"\x00\x00\x00\x08\x10\x00\x00\x04\x00\x00\x00\x07\x00\x00\x00\x08\x00\x00\x00\x01\x00\x00\x00\x04",
+        told: b"\x00\x00\x00\x0c\x80\x00\x00\x05\x00\x00\x00\x07\x00\x00\x00\x2a",
+        stays: false,
+    },
+    Row {
+        name: "a length above the limit",
+        says: b"\x00\x04\x00\x01",
+        told: b"",
+        stays: false,
+    },
+    Row {
+        name: "a length below the limit",
+        says: b"\x00\x00\x00\x03",
+        told: b"",
+        stays: false,
+    },
+    Row {
+        name: "a length at the limit, of which little came",
+        says: b"\x00\x04\x00\x00\x10\x00\x00\x04",
+        told: b"",
+        stays: true,
+    },
+];
+
+/// One client comes and says this in pieces of so many bytes.
+fn cut_in(alloc: Global, bytes: &[u8], size: usize) -> Result<Steps, OutOfMemory> {
+    let mut steps = Steps::new(alloc);
+    steps.push(Step::Accept)?;
+    for piece in bytes.chunks(size) {
+        steps.push(Step::Bytes(1, Text::copy(alloc, piece)?))?;
+    }
+    Ok(steps)
+}
+
+/// These bytes after a hello.
+fn after_hello(alloc: Global, bytes: &[u8]) -> Result<Text, OutOfMemory> {
+    let mut text = Text::copy(alloc, HELLO)?;
+    text.add(bytes)?;
+    Ok(text)
+}
+
+#[test]
+fn each_control_message_is_answered_alike_however_it_is_cut(rt: HostRuntime) -> Result<(), Fail> {
+    let alloc = rt.alloc();
+    for row in ROWS {
+        let says = after_hello(alloc, row.says)?;
+        let told = after_hello(alloc, row.told)?;
+        for size in [1, 2, 3, 7, 64] {
+            let steps = cut_in(alloc, says.as_bytes(), size)?;
+            let shared = share_over(alloc, steps, Writes::new(alloc))?;
+            assert!(rt; shared.status == Status::Done, "{}, {size}", row.name);
+            assert!(rt; shared.wire.taken(1)?.as_bytes() == told.as_bytes(), "{}, {size}", row.name);
+            assert!(rt; shared.wire.streams().contains(1) == row.stays, "{}, {size}", row.name);
+            assert!(rt; shared.err.taken().is_empty(), "{}, {size}", row.name);
+        }
+    }
+    Ok(())
+}
+
+#[test]
+fn nobody_comes_after_a_stop_and_who_is_here_goes_on(rt: HostRuntime) -> Result<(), Fail> {
+    let alloc = rt.alloc();
+    let stop = after_hello(alloc, b"\x00\x00\x00\x08\x10\x00\x00\x09\x00\x00\x00\x00")?;
+    let check = after_hello(alloc, b"\x00\x00\x00\x08\x10\x00\x00\x04\x00\x00\x00\x07")?;
+    let mut steps = Steps::new(alloc);
+    steps.push(Step::Accept)?;
+    steps.push(Step::Accept)?;
+    steps.push(Step::Bytes(1, stop))?;
+    steps.push(Step::Accept)?;
+    steps.push(Step::Bytes(3, Text::copy(alloc, HELLO)?))?;
+    steps.push(Step::Bytes(2, check))?;
+    let shared = share_over(alloc, steps, Writes::new(alloc))?;
+    let told = after_hello(
+        alloc,
+        b"\x00\x00\x00\x0c\x80\x00\x00\x05\x00\x00\x00\x07\x00\x00\x00\x2a",
+    )?;
+    assert!(rt; shared.status == Status::Done);
+    assert_eq!(rt; shared.wire.taken(2)?.as_bytes(), told.as_bytes());
+    assert!(rt; shared.wire.taken(3)?.as_bytes().is_empty());
+    assert!(rt; !shared.wire.streams().contains(3));
+    Ok(())
+}
+
+/// A refused PROXY, to which 40 bytes are told.
+const PROXY: &[u8] = b"\x00\x00\x00\x08\x10\x00\x00\x0f\x00\x00\x00\x00";
+
+/// A hello and messages that are answered by so many bytes that a queue with the master's hello and as many answers
+/// to PROXY as fit has 12 bytes free: three checks.
+const LEAVES_TWELVE: &[u8] = b"\x00\x00\x00\x08\x10\x00\x00\x04\x00\x00\x00\x01\
+    \x00\x00\x00\x08\x10\x00\x00\x04\x00\x00\x00\x02\x00\x00\x00\x08\x10\x00\x00\x04\x00\x00\x00\x03";
+
+/// The same with 11 bytes free: a type that is not known, a forwarding, and a stop.
+const LEAVES_ELEVEN: &[u8] = b"\x00\x00\x00\x08\x10\x00\x00\x03\x00\x00\x00\x01\
+    \x00\x00\x00\x1c\x10\x00\x00\x06\x00\x00\x00\x02\x00\x00\x00\x02\x00\x00\x00\x00\x00\x00\x00\x00\x00\x00\x00\x00\x00\x00\x00\x50\
+    \x00\x00\x00\x08\x10\x00\x00\x09\x00\x00\x00\x03";
+
+/// A stop, to which 12 bytes are told.
+const STOP: &[u8] = b"\x00\x00\x00\x08\x10\x00\x00\x09\x00\x00\x00\x04";
+
+/// A client that takes nothing says a hello, so many times PROXY, and this at the end.
+fn fill(alloc: Global, first: &[u8], count: usize, last: &[u8]) -> Result<Steps, OutOfMemory> {
+    let mut says = after_hello(alloc, first)?;
+    for _ in 0..count {
+        says.add(PROXY)?;
+    }
+    says.add(last)?;
+    cut_in(alloc, says.as_bytes(), 65_536)
+}
+
+#[test]
+fn a_queue_takes_33554432_bytes_and_no_more(rt: HostRuntime) -> Result<(), Fail> {
+    let alloc = rt.alloc();
+    for (first, count, last, stays) in [
+        (LEAVES_TWELVE, 838_859, STOP, true),
+        (LEAVES_ELEVEN, 838_858, STOP, false),
+    ] {
+        let mut writes = Writes::new(alloc);
+        writes.push(WriteEntry::Later)?;
+        let shared = share_over(alloc, fill(alloc, first, count, last)?, writes)?;
+        assert!(rt; shared.status == Status::Done, "{count}");
+        assert!(rt; shared.wire.streams().contains(1) == stays, "{count}");
+    }
+    Ok(())
+}
