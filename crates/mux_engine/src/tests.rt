@@ -50,6 +50,7 @@ fn each_of_two_clients_reads_a_hello_and_the_answer_to_its_own_check(rt: HostRun
 }
 
 /// A house that opens every forwarding at port 40,001, and closes those of port 80 alone.
+#[derive(Clone, Copy, Drop)]
 struct OpenHouse;
 
 impl House for OpenHouse {
