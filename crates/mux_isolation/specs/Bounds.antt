@@ -5,6 +5,7 @@ use Rattle.mux_outside.specs.declared.mark.Mark.{Mark}
 use Rattle.mux_outside.specs.declared.mark.Mark.TheVariants.{Accepts, Gets, Ends, Fails, WriteFails}
 use Rattle.ssh_grammar.specs.declared.numbers.TheConstants.{LONGEST_FRAME}
 use Rattle.ssh_grammar.specs.Frames.{frame_payload}
+use Rattle.ssh_grammar.specs.Said.{InControl, InProxy, Mode, Stopped, parse}
 use Rattle.mux_history.specs.declared.limits.TheConstants.{MAX_CHANNELS, MAX_CLIENTS, MAX_FORWARDINGS, READING_STOPS_AT}
 use Rattle.mux_history.specs.Rows.{Row, sent_by}
 use Rattle.mux_history.specs.Pending.{joined, pending}
@@ -110,3 +111,21 @@ pub record StaysBelow (setting : Setting) (marks : List Mark) : Type 0 where
 abbrev pub ServerQueueIsBounded : Type 0
 ServerQueueIsBounded =
     OverKnown (λ setting marks. Throughout (ReadsWithRoom setting) marks → StaysBelow setting marks)
+
+-- ---- bytes that are not cut yet
+
+-- less than a frame: 262,147 bytes
+abbrev pub longest_rest : ℕ
+longest_rest = LONGEST_FRAME + 3
+
+-- of a stream that is read on
+abbrev pub RestIsShort : Mode → List ℕ → Type 0
+RestIsShort mode bytes = ((parse mode bytes).mode ≡ Stopped → ⊥) → length (parse mode bytes).rest ≤ longest_rest
+
+-- whatever bytes it gave: a client's, and the server's
+pub record RestsShort (bytes : List ℕ) : Type 0 where
+  pub client : RestIsShort InControl bytes
+  pub server : RestIsShort InProxy bytes
+
+abbrev pub RestsAreShort : Type 0
+RestsAreShort = (bytes : List ℕ) → RestsShort bytes

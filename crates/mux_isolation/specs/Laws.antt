@@ -3,7 +3,7 @@
 use Rattle.std.specs.Prelude.{ℕ, ◌+◌, ◌==◌, ◌≡◌, ◌≤◌, List, [], ◌∷◌, false, length}
 use Rattle.mux_history.specs.declared.limits.TheConstants.{MAX_CHANNELS, MAX_CLIENTS, MAX_FORWARDINGS, MAX_GLOBAL_REQUESTS, MAX_QUEUE}
 use Rattle.mux_history.specs.Policy.{Policy}
-use Rattle.mux_history.specs.Rows.{Row, rows_of, Item, Admit, Heard}
+use Rattle.mux_history.specs.Rows.{Row, rows_of, is_ended, Item, Admit, Heard}
 use Rattle.mux_history.specs.Pending.{waiting_down}
 use Rattle.ssh_grammar.specs.declared.side.Side.{Side}
 use Rattle.mux_history.specs.Channels.{Channel, held_of}
@@ -107,6 +107,13 @@ IdleRowsLeaveViews =
 -- a log that is cut to the client's rows shows the same of it
 abbrev pub CutsKeepViews : Type 0
 CutsKeepViews = (k : ℕ) (rows : List Row) → view_of k (rows_of k rows) ≡ view_of k rows
+
+-- while the run goes on no reply of a client came before its request
+abbrev pub RepliesAwaited : List Row → Type 0
+RepliesAwaited rows = is_ended rows ≡ false → (k : ℕ) → (view_of k rows).waiting.early ≡ []
+
+abbrev pub RepliesAreAwaited : Type 0
+RepliesAreAwaited = OverRight (λ setting rows. AtEach RepliesAwaited rows)
 
 -- two rows are the same, and so are the views after them
 pub record SameStep (k : ℕ) (rows others : List Row) (row other : Row) : Type 0 where

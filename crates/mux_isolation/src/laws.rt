@@ -1,8 +1,8 @@
 ghost use Rattle.mux_isolation.specs.Laws.{Isolation, WindowsAreKept, PermissionsAreKept, AskersAreServed};
 ghost use Rattle.mux_isolation.specs.Laws.{MasterSaysLittle, NothingIsLeft, AllIsKept};
 ghost use Rattle.mux_isolation.specs.Laws.{QueuesAreBounded, ChannelsAreFew, ForwardingsAreFew, RequestsAreFew, ClientsAreFew};
-ghost use Rattle.mux_isolation.specs.Laws.{ViewsShowRooms, IdleRowsLeaveViews, CutsKeepViews, RowsFollowViews};
-ghost use Rattle.mux_isolation.specs.Bounds.{RowsAddLittle, MarksAddLittle, ServerQueueIsBounded};
+ghost use Rattle.mux_isolation.specs.Laws.{ViewsShowRooms, IdleRowsLeaveViews, CutsKeepViews, RepliesAreAwaited, RowsFollowViews};
+ghost use Rattle.mux_isolation.specs.Bounds.{RowsAddLittle, MarksAddLittle, ServerQueueIsBounded, RestsAreShort};
 
 /// What an admitted client is told and what is sent for it is what an unshared connection gives from its
 /// own bytes and the server's messages for its channels, up to the numbers that stand for its own.
@@ -82,6 +82,11 @@ pub fn cuts_keep_views()
     ensures { CutsKeepViews }
 {}
 
+/// While the run goes on, no reply of a client came before its request: the view has none that is early.
+pub fn replies_are_awaited()
+    ensures { RepliesAreAwaited }
+{}
+
 /// What a client's row gives, and what is seen of the client after it, is known from its item, its pick
 /// and what is seen of it before.
 pub fn rows_follow_views()
@@ -102,4 +107,9 @@ pub fn marks_add_little()
 /// than 8,388,608 bytes wait for it ever.
 pub fn server_queue_is_bounded()
     ensures { ServerQueueIsBounded }
+{}
+
+/// Of a stream that is read on, at most 262,147 bytes are not cut yet.
+pub fn rests_are_short()
+    ensures { RestsAreShort }
 {}
