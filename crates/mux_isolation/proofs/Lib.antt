@@ -50,3 +50,4 @@ pub mod ViewRows
 pub mod ViewSaid
 pub mod Views
 pub mod Weights
+pub mod WireRuns

@@ -2,7 +2,8 @@
 use Rattle.std.specs.Prelude.{ℕ, ◌+◌, ◌*◌, ◌==◌, ◌||◌, ◌≡◌, ◌<◌, ◌≤◌, List, [], ◌∷◌, Bool, true, false, IsTrue, map, length}
 use Rattle.mux_outside.specs.declared.house.HouseReply.{HouseReply}
 use Rattle.mux_outside.specs.declared.mark.Mark.{Mark}
-use Rattle.mux_outside.specs.declared.mark.Mark.TheVariants.{Accepts, Gets, Ends, Fails, WriteFails}
+use Rattle.mux_outside.specs.declared.mark.Mark.TheVariants.{Accepts, Gets, Ends, Fails, WriteFails, Waits}
+use Rattle.mux_outside.specs.declared.turn.Want.TheVariants.{Read}
 use Rattle.ssh_grammar.specs.declared.numbers.TheConstants.{LONGEST_FRAME}
 use Rattle.ssh_grammar.specs.Frames.{frame_payload}
 use Rattle.ssh_grammar.specs.Said.{InControl, InProxy, Mode, Stopped, parse}
@@ -11,8 +12,8 @@ use Rattle.mux_history.specs.Rows.{Row, sent_by}
 use Rattle.mux_history.specs.Pending.{joined, pending}
 use Rattle.mux_history.specs.Policy.{Policy}
 use Rattle.mux_history.specs.Log.{Setting}
-use Rattle.mux_history.specs.Journal.{IsLawful, log_of_journal}
-use Rattle.mux_history.specs.Promises.{Throughout}
+use Rattle.mux_history.specs.Journal.{IsLawful, last_client, log_of_journal}
+use Rattle.mux_history.specs.Promises.{Throughout, WaitsAt}
 use Rattle.mux_history.specs.Right.{AreFresh}
 use Rattle.mux_history.specs.Settings.{by_lists}
 use Rattle.mux_history.specs.Kept.{ForEach}
@@ -111,6 +112,24 @@ pub record StaysBelow (setting : Setting) (marks : List Mark) : Type 0 where
 abbrev pub ServerQueueIsBounded : Type 0
 ServerQueueIsBounded =
     OverKnown (λ setting marks. Throughout (ReadsWithRoom setting) marks → StaysBelow setting marks)
+
+-- ---- all marks of a wire
+
+-- the wire was just waited for, to read as well as to write
+abbrev pub FollowsRead : List Mark → Type 0
+FollowsRead (Waits waiting Read streams accepts ∷ before) = Unit {0}
+FollowsRead marks = ⊥
+
+-- what any wire does: clients get one number after the other, and it reads and accepts only where it is waited for so
+abbrev pub IsOfWire : List Mark → Mark → Type 0
+IsOfWire before (Accepts k) = (k ≡ last_client before + 1) × FollowsRead before
+IsOfWire before (Gets stream bytes) = FollowsRead before
+IsOfWire before mark = Unit {0}
+
+-- where each wait keeps what a run promises of it, so much waits for the server at no mark
+abbrev pub RunsAreBounded : Type 0
+RunsAreBounded =
+    (policy : Policy) (pid : ℕ) (picks : List ℕ) (given : List HouseReply) (marks : List Mark) → IsLawful marks → Throughout IsOfWire marks → AreFresh (log_of_journal (by_lists policy pid picks given) marks) → Throughout (WaitsAt (by_lists policy pid picks given)) marks → StaysBelow (by_lists policy pid picks given) marks
 
 -- ---- bytes that are not cut yet
 

@@ -2,7 +2,7 @@ ghost use Rattle.mux_isolation.specs.Laws.{Isolation, WindowsAreKept, Permission
 ghost use Rattle.mux_isolation.specs.Laws.{MasterSaysLittle, NothingIsLeft, AllIsKept};
 ghost use Rattle.mux_isolation.specs.Laws.{QueuesAreBounded, ChannelsAreFew, ForwardingsAreFew, RequestsAreFew, ClientsAreFew};
 ghost use Rattle.mux_isolation.specs.Laws.{ViewsShowRooms, IdleRowsLeaveViews, CutsKeepViews, RepliesAreAwaited, RowsFollowViews};
-ghost use Rattle.mux_isolation.specs.Bounds.{RowsAddLittle, MarksAddLittle, ServerQueueIsBounded, RestsAreShort};
+ghost use Rattle.mux_isolation.specs.Bounds.{RowsAddLittle, MarksAddLittle, ServerQueueIsBounded, RunsAreBounded, RestsAreShort};
 
 /// What an admitted client is told and what is sent for it is what an unshared connection gives from its
 /// own bytes and the server's messages for its channels, up to the numbers that stand for its own.
@@ -107,6 +107,12 @@ pub fn marks_add_little()
 /// than 8,388,608 bytes wait for it ever.
 pub fn server_queue_is_bounded()
     ensures { ServerQueueIsBounded }
+{}
+
+/// Over any wire, where each wait keeps what a run promises of it, less than 8,388,608 bytes wait for the
+/// server ever.
+pub fn runs_are_bounded()
+    ensures { RunsAreBounded }
 {}
 
 /// Of a stream that is read on, at most 262,147 bytes are not cut yet.
