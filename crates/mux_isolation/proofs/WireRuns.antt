@@ -6,13 +6,14 @@ use Rattle.mux_outside.specs.declared.house.HouseReply.{HouseReply}
 use Rattle.mux_outside.specs.declared.mark.Mark.{Mark}
 use Rattle.mux_outside.specs.declared.mark.Mark.TheVariants as wire
 use Rattle.mux_outside.specs.declared.turn.Want.TheVariants as want
-use Rattle.mux_history.specs.Journal.{IsLawful, LawfulMark, last_client, log_of_journal}
+use Rattle.mux_history.specs.Journal.{IsLawful, LawfulMark, last_client}
 use Rattle.mux_history.specs.Log.{Setting}
 use Rattle.mux_history.specs.Policy.{Policy}
 use Rattle.mux_history.specs.Promises.{Throughout, WaitsAt}
 use Rattle.mux_history.specs.Right.{AreFresh}
+use Rattle.mux_history.specs.Rows.{Row}
 use Rattle.mux_history.specs.Settings.{by_lists}
-use Rattle.mux_isolation.specs.Bounds.{FollowsRead, IsOfWire, NamesKnown, ReadsWithRoom, StaysBelow, is_known, waiting_up}
+use Rattle.mux_isolation.specs.Bounds.{FollowsRead, IsLog, IsOfWire, NamesKnown, ReadsWithRoom, StaysBelow, is_known, waiting_up}
 use Rattle.mux_isolation.proofs.ServerQueue.{stays-below}
 
 -- ---- each number up to the last one is a client's
@@ -73,5 +74,5 @@ module _ (policy : Policy) (pid : ℕ) (picks : List ℕ) (given : List HouseRep
       by_mark (wire.Gets stream bytes) is = λ reading. room-after before is waits.1
       by_mark m is = λ reading. cc
 
-pub runs-bounded : (policy : Policy) (pid : ℕ) (picks : List ℕ) (given : List HouseReply) (marks : List Mark) → IsLawful marks → Throughout IsOfWire marks → AreFresh (log_of_journal (by_lists policy pid picks given) marks) → Throughout (WaitsAt (by_lists policy pid picks given)) marks → StaysBelow (by_lists policy pid picks given) marks
-runs-bounded policy pid picks given marks lawful wires fresh waits = stays-below policy pid picks given marks (record { lawful = lawful; names = names marks lawful wires; fresh = fresh }) (rooms policy pid picks given marks wires waits)
+pub runs-bounded : (policy : Policy) (pid : ℕ) (picks : List ℕ) (given : List HouseReply) (marks : List Mark) (rows : List Row) → IsLawful marks → Throughout IsOfWire marks → IsLog (by_lists policy pid picks given) marks rows → AreFresh rows → Throughout (WaitsAt (by_lists policy pid picks given)) marks → StaysBelow rows
+runs-bounded policy pid picks given marks rows lawful wires is fresh waits = stays-below policy pid picks given marks rows lawful (names marks lawful wires) is fresh (rooms policy pid picks given marks wires waits)

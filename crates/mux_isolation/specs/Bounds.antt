@@ -1,5 +1,5 @@
 -- How much may wait for the server.
-use Rattle.std.specs.Prelude.{ℕ, ◌+◌, ◌*◌, ◌==◌, ◌||◌, ◌≡◌, ◌<◌, ◌≤◌, List, [], ◌∷◌, Bool, true, false, IsTrue, map, length}
+use Rattle.std.specs.Prelude.{ℕ, ◌+◌, ◌*◌, ◌==◌, ◌||◌, ◌≡◌, ◌<◌, ◌≤◌, ◌⊎◌, List, [], ◌∷◌, Bool, true, false, IsTrue, map, length}
 use Rattle.mux_outside.specs.declared.house.HouseReply.{HouseReply}
 use Rattle.mux_outside.specs.declared.mark.Mark.{Mark}
 use Rattle.mux_outside.specs.declared.mark.Mark.TheVariants.{Accepts, Gets, Ends, Fails, WriteFails, Waits}
@@ -13,7 +13,7 @@ use Rattle.mux_history.specs.Pending.{joined, pending}
 use Rattle.mux_history.specs.Policy.{Policy}
 use Rattle.mux_history.specs.Log.{Setting}
 use Rattle.mux_history.specs.Journal.{IsLawful, last_client, log_of_journal}
-use Rattle.mux_history.specs.Promises.{Throughout, WaitsAt}
+use Rattle.mux_history.specs.Promises.{IsCut, Throughout, WaitsAt}
 use Rattle.mux_history.specs.Right.{AreFresh}
 use Rattle.mux_history.specs.Settings.{by_lists}
 use Rattle.mux_history.specs.Kept.{ForEach}
@@ -79,15 +79,19 @@ longest_piece = 65536
 abbrev pub longest_mark : ℕ
 longest_mark = MAX_CLIENTS * (longest_farewell + MAX_FORWARDINGS * longest_cancel) + 3 * (LONGEST_FRAME + 3 + longest_piece)
 
--- of a fact of the setting and of a journal that a wire can give, whose picks were fresh
-abbrev pub OverKnown : (Setting → List Mark → Type 0) → Type 0
+-- the log of all marks, or one that want of memory cut
+abbrev pub IsLog : Setting → List Mark → List Row → Type 0
+IsLog setting marks rows = (rows ≡ log_of_journal setting marks) ⊎ IsCut setting marks rows
+
+-- of every log of a journal that a wire can give, whose picks were fresh
+abbrev pub OverKnown : (Setting → List Mark → List Row → Type 0) → Type 0
 OverKnown P =
-    (policy : Policy) (pid : ℕ) (picks : List ℕ) (given : List HouseReply) (marks : List Mark) → IsLawful marks → Throughout NamesKnown marks → AreFresh (log_of_journal (by_lists policy pid picks given) marks) → P (by_lists policy pid picks given) marks
+    (policy : Policy) (pid : ℕ) (picks : List ℕ) (given : List HouseReply) (marks : List Mark) (rows : List Row) → IsLawful marks → Throughout NamesKnown marks → IsLog (by_lists policy pid picks given) marks rows → AreFresh rows → P (by_lists policy pid picks given) marks rows
 
 -- the rows of the newest mark add no more
-abbrev pub AddsAtOnce : Setting → List Mark → Type 0
-AddsAtOnce setting [] = waiting_up setting [] ≡ 0
-AddsAtOnce setting (mark ∷ before) = waiting_up setting (mark ∷ before) ≤ waiting_up setting before + longest_mark
+abbrev pub AddsAtOnce : Setting → List Mark → List Row → Type 0
+AddsAtOnce setting [] rows = pending 0 rows ≡ []
+AddsAtOnce setting (mark ∷ before) rows = length (pending 0 rows) ≤ waiting_up setting before + longest_mark
 
 abbrev pub MarksAddLittle : Type 0
 MarksAddLittle = OverKnown AddsAtOnce
@@ -104,14 +108,18 @@ reads mark = false
 abbrev pub ReadsWithRoom : Setting → List Mark → Mark → Type 0
 ReadsWithRoom setting before mark = reads mark ≡ true → waiting_up setting before < READING_STOPS_AT
 
--- then less than 8,388,608 bytes wait for it ever: no more than where reading stops, and one mark
-pub record StaysBelow (setting : Setting) (marks : List Mark) : Type 0 where
-  pub within : waiting_up setting marks ≤ READING_STOPS_AT + longest_mark
-  pub below : waiting_up setting marks < 8388608
+-- 8,388,608 bytes
+abbrev pub longest_server_queue : ℕ
+longest_server_queue = 8388608
+
+-- then less than that wait for it ever: no more than where reading stops, and one mark
+pub record StaysBelow (rows : List Row) : Type 0 where
+  pub within : length (pending 0 rows) ≤ READING_STOPS_AT + longest_mark
+  pub below : length (pending 0 rows) < longest_server_queue
 
 abbrev pub ServerQueueIsBounded : Type 0
 ServerQueueIsBounded =
-    OverKnown (λ setting marks. Throughout (ReadsWithRoom setting) marks → StaysBelow setting marks)
+    OverKnown (λ setting marks rows. Throughout (ReadsWithRoom setting) marks → StaysBelow rows)
 
 -- ---- all marks of a wire
 
@@ -129,7 +137,7 @@ IsOfWire before mark = Unit {0}
 -- where each wait keeps what a run promises of it, so much waits for the server at no mark
 abbrev pub RunsAreBounded : Type 0
 RunsAreBounded =
-    (policy : Policy) (pid : ℕ) (picks : List ℕ) (given : List HouseReply) (marks : List Mark) → IsLawful marks → Throughout IsOfWire marks → AreFresh (log_of_journal (by_lists policy pid picks given) marks) → Throughout (WaitsAt (by_lists policy pid picks given)) marks → StaysBelow (by_lists policy pid picks given) marks
+    (policy : Policy) (pid : ℕ) (picks : List ℕ) (given : List HouseReply) (marks : List Mark) (rows : List Row) → IsLawful marks → Throughout IsOfWire marks → IsLog (by_lists policy pid picks given) marks rows → AreFresh rows → Throughout (WaitsAt (by_lists policy pid picks given)) marks → StaysBelow rows
 
 -- ---- bytes that are not cut yet
 

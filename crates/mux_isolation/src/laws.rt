@@ -98,7 +98,8 @@ pub fn rows_add_little()
     ensures { RowsAddLittle }
 {}
 
-/// The rows of one mark of at most 65,536 bytes add at most 3,981,321 bytes to what waits for the server.
+/// The rows of one mark of at most 65,536 bytes add at most 3,981,321 bytes to what waits for the server,
+/// also where want of memory cut them.
 pub fn marks_add_little()
     ensures { MarksAddLittle }
 {}
