@@ -82,7 +82,8 @@ pub fn cuts_keep_views()
     ensures { CutsKeepViews }
 {}
 
-/// While the run goes on, no reply of a client came before its request: the view has none that is early.
+/// While the run goes on, no reply of a client came before its request: the view has none that is
+/// early.
 pub fn replies_are_awaited()
     ensures { RepliesAreAwaited }
 {}
@@ -98,20 +99,20 @@ pub fn rows_add_little()
     ensures { RowsAddLittle }
 {}
 
-/// The rows of one mark of at most 65,536 bytes add at most 3,981,321 bytes to what waits for the server,
-/// also where want of memory cut them.
+/// The rows of one mark of at most 65,536 bytes add at most 3,981,321 bytes to what waits for the
+/// server, also where want of memory cut them.
 pub fn marks_add_little()
     ensures { MarksAddLittle }
 {}
 
-/// Where bytes are read and clients accepted only while less than 4,194,304 bytes wait for the server, less
-/// than 8,388,608 bytes wait for it ever.
+/// Where bytes are read and clients accepted only while less than 4,194,304 bytes wait for the server,
+/// less than 8,388,608 bytes wait for it ever.
 pub fn server_queue_is_bounded()
     ensures { ServerQueueIsBounded }
 {}
 
-/// Over any wire, where each wait keeps what a run promises of it, less than 8,388,608 bytes wait for the
-/// server ever.
+/// Over any wire, where each wait keeps what a run promises of it, less than 8,388,608 bytes wait for
+/// the server ever.
 pub fn runs_are_bounded()
     ensures { RunsAreBounded }
 {}
