@@ -1,9 +1,14 @@
 -- How much may wait for the server.
-use Rattle.std.specs.Prelude.{ℕ, ◌+◌, ◌*◌, ◌==◌, ◌||◌, ◌≡◌, ◌<◌, ◌≤◌, ◌⊎◌, List, [], ◌∷◌, Bool, true, false, IsTrue, map, length}
+use Rattle.std.specs.Prelude.{ℕ, ◌+◌, ◌*◌, ◌==◌, ◌||◌, ◌≡◌, ◌<◌, ◌≤◌, ◌⊎◌, List, [], ◌∷◌, ◌++◌, Bool, true, false, IsTrue, map, length, reverse}
 use Rattle.mux_outside.specs.declared.house.HouseReply.{HouseReply}
 use Rattle.mux_outside.specs.declared.mark.Mark.{Mark}
 use Rattle.mux_outside.specs.declared.mark.Mark.TheVariants.{Accepts, Gets, Ends, Fails, WriteFails, Waits}
+use Rattle.mux_outside.specs.declared.turn.Turn.{Turn}
+use Rattle.mux_outside.specs.declared.turn.Want.{Want}
 use Rattle.mux_outside.specs.declared.turn.Want.TheVariants.{Read}
+use Rattle.mux_outside.specs.declared.turn.Wrote.{Wrote}
+use Rattle.mux_outside.specs.Streams.{among, without}
+use Rattle.mux_outside.specs.Wire.{TurnFits, open_after, wait_marks, write_marks}
 use Rattle.ssh_grammar.specs.declared.numbers.TheConstants.{LONGEST_FRAME}
 use Rattle.ssh_grammar.specs.Frames.{frame_payload}
 use Rattle.ssh_grammar.specs.Said.{InControl, InProxy, Mode, Stopped, parse}
@@ -12,7 +17,7 @@ use Rattle.mux_history.specs.Rows.{Row, sent_by}
 use Rattle.mux_history.specs.Pending.{joined, pending}
 use Rattle.mux_history.specs.Policy.{Policy}
 use Rattle.mux_history.specs.Log.{Setting}
-use Rattle.mux_history.specs.Journal.{IsLawful, last_client, log_of_journal}
+use Rattle.mux_history.specs.Journal.{IsLawful, log_of_journal}
 use Rattle.mux_history.specs.Promises.{IsCut, Throughout, WaitsAt}
 use Rattle.mux_history.specs.Right.{AreFresh}
 use Rattle.mux_history.specs.Settings.{by_lists}
@@ -128,16 +133,32 @@ abbrev pub FollowsRead : List Mark → Type 0
 FollowsRead (Waits waiting Read streams accepts ∷ before) = Unit {0}
 FollowsRead marks = ⊥
 
--- what any wire does: clients get one number after the other, and it reads and accepts only where it is waited for so
-abbrev pub IsOfWire : List Mark → Mark → Type 0
-IsOfWire before (Accepts k) = (k ≡ last_client before + 1) × FollowsRead before
-IsOfWire before (Gets stream bytes) = FollowsRead before
-IsOfWire before mark = Unit {0}
+-- what any wire does: it names the server's stream and those of clients that it accepted, and it reads and accepts only
+-- where it is waited for so
+pub record IsOfWire (before : List Mark) (mark : Mark) : Type 0 where
+  pub names : NamesKnown before mark
+  pub follows : reads mark ≡ true → FollowsRead before
 
 -- where each wait keeps what a run promises of it, so much waits for the server at no mark
 abbrev pub RunsAreBounded : Type 0
 RunsAreBounded =
     (policy : Policy) (pid : ℕ) (picks : List ℕ) (given : List HouseReply) (marks : List Mark) (rows : List Row) → IsLawful marks → Throughout IsOfWire marks → IsLog (by_lists policy pid picks given) marks rows → AreFresh rows → Throughout (WaitsAt (by_lists policy pid picks given)) marks → StaysBelow rows
+
+-- the marks of a wire on which these streams are open
+pub record OfWire (streams : List ℕ) (marks : List Mark) : Type 0 where
+  pub each : Throughout IsOfWire marks
+  pub known : (t : ℕ) → IsTrue (among t streams) → IsTrue (is_known t marks)
+
+-- that is what the law of each wire keeps: from no mark on, at each turn that a wire may give, at each write to a stream
+-- that is open, and where a stream is closed
+pub record WireKeeps (streams : List ℕ) (marks : List Mark) : Type 0 where
+  pub none : OfWire (0 ∷ []) []
+  pub turn : (given : Turn) (waiting : List ℕ) (want : Want) (listens : Bool) (last : ℕ) (blocked bytes : List ℕ) → TurnFits given want listens last streams blocked bytes → OfWire streams marks → OfWire (open_after given streams) (reverse (wait_marks given waiting want streams listens bytes) ++ marks)
+  pub write : (answer : Wrote) (t : ℕ) (bytes : List ℕ) → IsTrue (among t streams) → OfWire streams marks → OfWire streams (reverse (write_marks answer t bytes) ++ marks)
+  pub close : (t : ℕ) → OfWire streams marks → OfWire (without t streams) marks
+
+abbrev pub WiresKeepIt : Type 0
+WiresKeepIt = (streams : List ℕ) (marks : List Mark) → WireKeeps streams marks
 
 -- ---- bytes that are not cut yet
 

@@ -2,7 +2,7 @@ ghost use Rattle.mux_isolation.specs.Laws.{Isolation, WindowsAreKept, Permission
 ghost use Rattle.mux_isolation.specs.Laws.{MasterSaysLittle, NothingIsLeft, AllIsKept};
 ghost use Rattle.mux_isolation.specs.Laws.{QueuesAreBounded, ChannelsAreFew, ForwardingsAreFew, RequestsAreFew, ClientsAreFew};
 ghost use Rattle.mux_isolation.specs.Laws.{ViewsShowRooms, IdleRowsLeaveViews, CutsKeepViews, RepliesAreAwaited, RowsFollowViews};
-ghost use Rattle.mux_isolation.specs.Bounds.{RowsAddLittle, MarksAddLittle, ServerQueueIsBounded, RunsAreBounded, RestsAreShort};
+ghost use Rattle.mux_isolation.specs.Bounds.{RowsAddLittle, MarksAddLittle, ServerQueueIsBounded, RunsAreBounded, WiresKeepIt, RestsAreShort};
 
 /// What an admitted client is told and what is sent for it is what an unshared connection gives from its
 /// own bytes and the server's messages for its channels, up to the numbers that stand for its own.
@@ -115,6 +115,12 @@ pub fn server_queue_is_bounded()
 /// the server ever.
 pub fn runs_are_bounded()
     ensures { RunsAreBounded }
+{}
+
+/// What the bound over any wire asks of the marks is what each wire's law gives: it names streams that
+/// it opened, and reads and accepts only where it is waited for so.
+pub fn wires_keep_it()
+    ensures { WiresKeepIt }
 {}
 
 /// Of a stream that is read on, at most 262,147 bytes are not cut yet.
