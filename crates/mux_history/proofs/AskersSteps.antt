@@ -23,7 +23,7 @@ one-reply (Heard p) = by_case (reading p is_reply false)
     by_case false = omega arith
 one-reply item = omega arith
 
-first-of : (xs : List Ask) (n : ℕ) → slice_get xs n ≡ slice_get (drop n xs) 0
+pub first-of : (xs : List Ask) (n : ℕ) → slice_get xs n ≡ slice_get (drop n xs) 0
 first-of xs zero = refl
 first-of [] (suc n) = refl
 first-of (x ∷ xs) (suc n) = first-of xs n

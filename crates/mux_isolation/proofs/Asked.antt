@@ -24,7 +24,7 @@ use Rattle.mux_history.proofs.Sends.{as_row, row-parts}
 
 -- ---- those that were sent, among those that want a reply
 
-abbrev trues : List Bool → ℕ
+abbrev pub trues : List Bool → ℕ
 trues [] = 0
 trues (true ∷ flags) = trues flags + 1
 trues (false ∷ flags) = trues flags
@@ -45,7 +45,7 @@ asks-one k false (Some what) = refl
 asks-one k true None = refl
 asks-one k false None = refl
 
-asks-trues : (own : List Row) → length (asks own) ≡ trues (wanted own)
+pub asks-trues : (own : List Row) → length (asks own) ≡ trues (wanted own)
 asks-trues [] = refl
 asks-trues (row ∷ own) =
     let a = asks-trues own in

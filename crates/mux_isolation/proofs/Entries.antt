@@ -1,5 +1,5 @@
 -- What a client says itself comes after it was let in.
-use Rattle.std.proofs.Common.{◌≡◌, ℕ, List, [], ◌∷◌, ◌++◌, map, true, false, Bool, refl, ◌∙◌, ap, arith, sym, subst, Option, Some, None, inl, inr}
+use Rattle.std.proofs.Common.{◌≡◌, ℕ, List, [], ◌∷◌, ◌++◌, map, true, false, Bool, refl, ◌∙◌, ap, arith, sym, subst, Option, Some, None, inl, inr, zero, suc, take}
 use Rattle.std.specs.Prelude.{◌==◌, ◌⊎◌, ◌||◌, ◌&&◌, not, IsTrue}
 use Rattle.std.proofs.lemmas.Bool.Decides.{nat_tests}
 use Rattle.mux_outside.specs.declared.house.HouseReply.{HouseReply}
@@ -244,3 +244,14 @@ module _ (policy : Policy) (pid : ℕ) (picks : List ℕ) (given : List HouseRep
   log-first (mark ∷ before) each known =
       firsts (log_of_journal setting before) (items_in before mark) (mark-own before mark known.0) each
       (log-first before (tails (ForEach (RowKnown policy pid)) (λ row rs h. h.1) (log_of_journal setting before) (items_in before mark) each) known.1)
+
+  each-take : (P : Item → Type 0) (n : ℕ) (xs : List Item) → EachItem P xs → EachItem P (take n xs)
+  each-take P zero xs all = tt
+  each-take P (suc n) [] all = tt
+  each-take P (suc n) (x ∷ xs) all = (all.0, each-take P n xs all.1)
+
+  -- the same of some of the newest mark's items
+  pub cut-first : (before : List Mark) (mark : Mark) (n : ℕ) → ForEach (RowKnown policy pid) (more_all setting (log_of_journal setting before) (take n (items_in before mark))) → NamesKnown before mark → Throughout NamesKnown before → ForEach LetFirst (more_all setting (log_of_journal setting before) (take n (items_in before mark)))
+  cut-first before mark n each known earlier =
+      firsts (log_of_journal setting before) (take n (items_in before mark)) (each-take (OwnKnown (log_of_journal setting before)) n (items_in before mark) (mark-own before mark known)) each
+      (log-first before (tails (ForEach (RowKnown policy pid)) (λ row rs h. h.1) (log_of_journal setting before) (take n (items_in before mark)) each) earlier)

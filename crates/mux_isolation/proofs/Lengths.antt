@@ -146,6 +146,14 @@ parse-rest (suc n) mode bytes le = by_front (first_in mode bytes) refl (λ mode 
     by_front More e ih = more-rest mode bytes e
     by_front (Faulty fault) e ih = tt
 
+pub rest-few : (mode : Mode) (bytes : List ℕ) → ((parse mode bytes).mode ≡ Stopped → ⊥) → length (parse mode bytes).rest ≤ 262147
+rest-few mode bytes on = by_mode (parse mode bytes).mode (parse mode bytes).rest (parse-rest (length bytes) mode bytes (omega arith)) on
+  where
+    by_mode : (m : Mode) (rest : List ℕ) → RestFew m rest → (m ≡ Stopped → ⊥) → length rest ≤ 262147
+    by_mode Stopped rest few on = absurd (on refl)
+    by_mode InControl rest few on = few
+    by_mode InProxy rest few on = few
+
 -- ---- what is new
 
 -- what new bytes say, after all bytes before them

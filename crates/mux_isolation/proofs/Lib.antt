@@ -10,6 +10,7 @@ pub mod Closed
 pub mod Closing
 pub mod Counts
 pub mod Covers
+pub mod Early
 pub mod Entries
 pub mod Farewells
 pub mod Few
@@ -49,3 +50,4 @@ pub mod ViewRows
 pub mod ViewSaid
 pub mod Views
 pub mod Weights
+pub mod WireRuns

@@ -36,7 +36,7 @@ front-few test (suc n) (x ∷ xs) = by_case (front-few test n xs) (test x) refl
     by_case ih true e = let a = ap length (filter-yes test x (take n xs) e) in let b = ap length (filter-yes test x xs e) in omega (arith, ih)
     by_case ih false e = let a = ap length (filter-no test x (take n xs) e) in let b = ap length (filter-no test x xs e) in omega (arith, ih)
 
-within-own : (rows : List Row) (k : ℕ) → Orderly rows → length (replies (rows_of k rows)) ≤ length (asks (rows_of k rows))
+pub within-own : (rows : List Row) (k : ℕ) → Orderly rows → length (replies (rows_of k rows)) ≤ length (asks (rows_of k rows))
 within-own rows k orderly =
     let a = orderly.each k in
     let b = front-few (asks_for k) (length (replies rows)) (asks rows) in

@@ -7,22 +7,19 @@ use Rattle.mux_outside.specs.declared.house.HouseReply.{HouseReply}
 use Rattle.ssh_grammar.specs.Messages.{Cancel, Forward, Global, KeepAlive, OtherName}
 use Rattle.ssh_grammar.specs.Said.{BadFraming, Body, Payload}
 use Rattle.ssh_grammar.specs.declared.fault.Bad.{Bad}
-use Rattle.mux_history.specs.declared.why.Why.TheVariants as why
 use Rattle.mux_history.specs.Channels.{is_number}
-use Rattle.mux_history.specs.Controls.{greeted, said_body}
 use Rattle.mux_history.specs.Forwardings.{Forwarding, bound, change_first, current, dropped, forwarded, forwardings_of, is_free_at, is_request, of_client, replied, requested, stopped}
 use Rattle.mux_history.specs.Gist.{Gist, Refuses, Requests, Succeeds, read_gist, reading}
-use Rattle.mux_history.specs.Heard.{Breaks, Dest, Disconnects, ToClient, ToMaster, dest, heard_for}
 use Rattle.mux_history.specs.Kept.{ForEach}
-use Rattle.mux_history.specs.Log.{admits, heard_row, row_of, treat}
 use Rattle.mux_history.specs.Policy.{Policy, permits}
 use Rattle.mux_history.specs.Requests.{Ask, asks, asks_of, is_sent, replies, wanted_by, wanted_in}
-use Rattle.mux_history.specs.Rows.{Admit, Fate, Gone, Heard, Item, Row, Says, any_of, loses, rows_of}
-use Rattle.mux_history.specs.Said.{Outcome, drops, is_full_of_asks, said_gist, said_payload, said_request, sends_if, silent}
+use Rattle.mux_history.specs.Rows.{Heard, Item, Row, Says, any_of, loses, rows_of}
+use Rattle.mux_history.specs.Said.{said_request, sends_if}
 use Rattle.mux_history.proofs.Finds.{filter-no, filter-yes}
 use Rattle.mux_history.proofs.ForwardsLocal.{for_of, forwardings-local}
 use Rattle.mux_history.proofs.RightLogs.{RowKnown}
-use Rattle.mux_history.proofs.Sends.{and-left, and-right, as_row, row-parts}
+use Rattle.mux_history.proofs.Sends.{and-left, and-right}
+use Rattle.mux_isolation.proofs.SentRequests.{flag, row-said}
 use Rattle.mux_isolation.proofs.Weights.{EachOf, IsShort}
 
 -- ---- of lists
@@ -104,9 +101,6 @@ free-short k address port (f ∷ fs) all some = by_case (λ h. free-short k addr
         subst (λ (a : List ℕ). length a ≤ 255) same all.0
     by_case ih false e some = ih some
 
-abbrev flag : List (List ℕ) → Bool
-flag up = elim up [ [] ↦ false | p ∷ ps ↦ true ]
-
 request-short : (policy : Policy) (k : ℕ) (own : List Row) (p : List ℕ) (what : Global) (wants : Bool) → EachOf IsShort (current own) → flag (said_request policy k own p what wants).sent ≡ true → AskShort what
 request-short policy k own p (Forward address port) wants all sent = by_case (wants && (nat_le (length address) 255 && (permits policy.listens address port && nat_lt (length (current own)) 64))) refl sent
   where
@@ -120,44 +114,6 @@ request-short policy k own p (Cancel address port) wants all sent = by_case (any
     by_case false e sent = cc
 request-short policy k own p KeepAlive wants all sent = tt
 request-short policy k own p OtherName wants all sent = tt
-
-gist-short : (policy : Policy) (k pick : ℕ) (own : List Row) (p : List ℕ) (what : Global) (wants : Bool) → EachOf IsShort (current own) → flag (said_gist policy k own pick p (Requests what wants)).sent ≡ true → AskShort what
-gist-short policy k pick own p what wants all sent = by_case (is_full_of_asks wants own) sent
-  where
-    by_case : (b : Bool) → flag (elim b as (λ _. Outcome) [ true ↦ drops (why.TooManyAsks 1024) | false ↦ said_request policy k own p what wants ]).sent ≡ true → AskShort what
-    by_case true sent = cc
-    by_case false sent = request-short policy k own p what wants all sent
-
--- what a row asks for is short
-abbrev SendsShort : List Row → Row → Type 0
-SendsShort before row = EachOf IsShort (current (rows_of row.client before)) → (k : ℕ) (p : List ℕ) (given : Option HouseReply) (what : Global) (wants : Bool) → row.item ≡ Says k (Payload p) given → read_gist p ≡ Ok (Requests what wants) → is_sent row ≡ true → AskShort what
-
-says-not : (row : Row) (before : List Row) → ((k : ℕ) (p : List ℕ) (given : Option HouseReply) → row.item ≡ Says k (Payload p) given → ⊥) → SendsShort before row
-says-not row before never all k p given what wants item reads sent = absurd (never k p given item)
-
-said-short : (policy : Policy) (before : List Row) (k pick : ℕ) (p : List ℕ) (given : Option HouseReply) (fw down : List (List ℕ)) (fate : Fate) → SendsShort before (as_row (Says k (Payload p) given) k (said_payload policy k (rows_of k before) pick p).sent fw down fate)
-said-short policy before k pick p given fw down fate all j q other what wants item reads sent =
-    let same : p ≡ q = cc in
-    gist-short policy k pick (rows_of k before) p what wants all
-    (sym (ap (λ r. flag (elim r as (λ _. Outcome) [ Err bad ↦ drops (why.BadMessage bad) | Ok m ↦ said_gist policy k (rows_of k before) pick p m ]).sent) (ap read_gist same ∙ reads)) ∙ sent)
-
-row-not : (before : List Row) (item : Item) (k : ℕ) (o : Outcome) → ((j : ℕ) (p : List ℕ) (given : Option HouseReply) → item ≡ Says j (Payload p) given → ⊥) → SendsShort before (row_of item k o (rows_of k before))
-row-not before item k o never = row-parts (SendsShort before) item k o (rows_of k before) (λ fw parting down fate. says-not (as_row item k o.sent fw down fate) before never)
-
-dest-short : (before : List Row) (p : List ℕ) (d : Dest) → SendsShort before (heard_row before p d)
-dest-short before p ToMaster = says-not (heard_row before p ToMaster) before (λ j q given e. cc)
-dest-short before p (ToClient k) = row-not before (Heard p) k (heard_for (rows_of k before) p) (λ j q given e. cc)
-dest-short before p Disconnects = says-not (heard_row before p Disconnects) before (λ j q given e. cc)
-dest-short before p (Breaks cause) = says-not (heard_row before p (Breaks cause)) before (λ j q given e. cc)
-
-treat-short : (policy : Policy) (pid pick : ℕ) (before : List Row) (item : Item) → SendsShort before (treat policy pid pick before item)
-treat-short policy pid pick before (Admit k) = row-not before (Admit k) k (admits before) (λ j q given e. cc)
-treat-short policy pid pick before (Says k (Payload p) given) = row-parts (SendsShort before) (Says k (Payload p) given) k (said_payload policy k (rows_of k before) pick p) (rows_of k before) (λ fw parting down fate. said-short policy before k pick p given fw down fate)
-treat-short policy pid pick before (Says k (Body body) given) = row-not before (Says k (Body body) given) k (said_body pid k given (greeted (rows_of k before)) body) (λ j q other e. cc)
-treat-short policy pid pick before (Says k (BadFraming fault) given) = row-not before (Says k (BadFraming fault) given) k (drops (why.BadFrame fault)) (λ j q other e. cc)
-treat-short policy pid pick before (Gone k) = row-not before (Gone k) k silent (λ j q given e. cc)
-treat-short policy pid pick before (Heard p) = dest-short before p (dest before p)
-treat-short policy pid pick before item = says-not (treat policy pid pick before item) before (λ j q given e. cc)
 
 -- ---- all forwardings
 
@@ -198,7 +154,7 @@ own-short : (k : ℕ) (rows : List Row) → EachOf IsShort (forwardings_of rows)
 own-short k rows all = subst (EachOf IsShort) (forwardings-local k rows) (each-filter (for_of k) (forwardings_of rows) all)
 
 pub asked-short : (policy : Policy) (pid : ℕ) (before : List Row) (row : Row) → RowKnown policy pid before row → EachOf IsShort (forwardings_of before) → Asked row
-asked-short policy pid before row known all = subst (SendsShort before) known.is (treat-short policy pid known.pick before known.item) (each-filter (λ f. not f.over) (forwardings_of (rows_of row.client before)) (own-short row.client before all))
+asked-short policy pid before row known all k p given what wants item reads sent = request-short policy k (rows_of k before) p what wants (each-filter (λ f. not f.over) (forwardings_of (rows_of k before)) (own-short k before all)) (row-said policy pid before row known k p given what wants item reads sent).1
 
 pub forwardings-short : (policy : Policy) (pid : ℕ) (rows : List Row) → ForEach (RowKnown policy pid) rows → EachOf IsShort (forwardings_of rows)
 forwardings-short policy pid [] each = tt

@@ -1,5 +1,5 @@
 -- What a payload of the server gives a client is the same where the same is seen of it.
-use Rattle.std.proofs.Common.{◌≡◌, ℕ, zero, suc, List, [], ◌∷◌, length, drop, true, false, Bool, refl, ◌∙◌, ap, sym, Option, Some, None, Ok, Err}
+use Rattle.std.proofs.Common.{◌≡◌, ℕ, List, [], length, true, false, Bool, refl, ◌∙◌, ap, sym, Option, Some, None, Ok, Err}
 use Rattle.std.specs.Prelude.{nat_lt, slice_get, Result}
 use Rattle.ssh_grammar.specs.Frames.{frame_payload}
 use Rattle.ssh_grammar.specs.SpellMessage.{open_failure, too_many_channels, with_recipient}
@@ -10,16 +10,12 @@ use Rattle.mux_history.specs.Channels.{Channel, holder, is_number}
 use Rattle.mux_history.specs.Farewell.{late, late_refusal, late_success, with_ask}
 use Rattle.mux_history.specs.Gist.{Confirmation, Gist, Open, Refuses, Succeeds, Within, read_gist}
 use Rattle.mux_history.specs.Heard.{for_client, for_lost, heard_for, heard_gist, own_number}
-use Rattle.mux_history.specs.Requests.{Ask, asker, asks, replies}
+use Rattle.mux_history.specs.Requests.{asker, asks, replies}
 use Rattle.mux_history.specs.Rows.{Row, is_lost}
 use Rattle.mux_history.specs.Said.{Outcome, sends, silent, tells}
+use Rattle.mux_history.proofs.AskersSteps.{first-of}
 use Rattle.mux_isolation.specs.View.{ChannelView, View, channel_view}
 use Rattle.mux_isolation.proofs.ViewSaid.{SeenSame, count, found, own_view}
-
-first-of : (xs : List Ask) (n : ℕ) → slice_get xs n ≡ slice_get (drop n xs) 0
-first-of xs zero = refl
-first-of [] (suc n) = refl
-first-of (x ∷ xs) (suc n) = first-of xs n
 
 own-number : (a b : Option Channel) → SeenSame a b → own_number a ≡ own_number b
 own-number None None same = refl

@@ -1,17 +1,24 @@
 -- How much may wait for the server.
-use Rattle.std.specs.Prelude.{ℕ, ◌+◌, ◌*◌, ◌==◌, ◌||◌, ◌≡◌, ◌<◌, ◌≤◌, List, [], ◌∷◌, Bool, true, false, IsTrue, map, length}
+use Rattle.std.specs.Prelude.{ℕ, ◌+◌, ◌*◌, ◌==◌, ◌||◌, ◌≡◌, ◌<◌, ◌≤◌, ◌⊎◌, List, [], ◌∷◌, ◌++◌, Bool, true, false, IsTrue, map, length, reverse}
 use Rattle.mux_outside.specs.declared.house.HouseReply.{HouseReply}
 use Rattle.mux_outside.specs.declared.mark.Mark.{Mark}
-use Rattle.mux_outside.specs.declared.mark.Mark.TheVariants.{Accepts, Gets, Ends, Fails, WriteFails}
+use Rattle.mux_outside.specs.declared.mark.Mark.TheVariants.{Accepts, Gets, Ends, Fails, WriteFails, Waits}
+use Rattle.mux_outside.specs.declared.turn.Turn.{Turn}
+use Rattle.mux_outside.specs.declared.turn.Want.{Want}
+use Rattle.mux_outside.specs.declared.turn.Want.TheVariants.{Read}
+use Rattle.mux_outside.specs.declared.turn.Wrote.{Wrote}
+use Rattle.mux_outside.specs.Streams.{among, without}
+use Rattle.mux_outside.specs.Wire.{TurnFits, open_after, wait_marks, write_marks}
 use Rattle.ssh_grammar.specs.declared.numbers.TheConstants.{LONGEST_FRAME}
 use Rattle.ssh_grammar.specs.Frames.{frame_payload}
+use Rattle.ssh_grammar.specs.Said.{InControl, InProxy, Mode, Stopped, parse}
 use Rattle.mux_history.specs.declared.limits.TheConstants.{MAX_CHANNELS, MAX_CLIENTS, MAX_FORWARDINGS, READING_STOPS_AT}
 use Rattle.mux_history.specs.Rows.{Row, sent_by}
 use Rattle.mux_history.specs.Pending.{joined, pending}
 use Rattle.mux_history.specs.Policy.{Policy}
 use Rattle.mux_history.specs.Log.{Setting}
 use Rattle.mux_history.specs.Journal.{IsLawful, log_of_journal}
-use Rattle.mux_history.specs.Promises.{Throughout}
+use Rattle.mux_history.specs.Promises.{IsCut, Throughout, WaitsAt}
 use Rattle.mux_history.specs.Right.{AreFresh}
 use Rattle.mux_history.specs.Settings.{by_lists}
 use Rattle.mux_history.specs.Kept.{ForEach}
@@ -77,15 +84,19 @@ longest_piece = 65536
 abbrev pub longest_mark : ℕ
 longest_mark = MAX_CLIENTS * (longest_farewell + MAX_FORWARDINGS * longest_cancel) + 3 * (LONGEST_FRAME + 3 + longest_piece)
 
--- of a fact of the setting and of a journal that a wire can give, whose picks were fresh
-abbrev pub OverKnown : (Setting → List Mark → Type 0) → Type 0
+-- the log of all marks, or one that want of memory cut
+abbrev pub IsLog : Setting → List Mark → List Row → Type 0
+IsLog setting marks rows = (rows ≡ log_of_journal setting marks) ⊎ IsCut setting marks rows
+
+-- of every log of a journal that a wire can give, whose picks were fresh
+abbrev pub OverKnown : (Setting → List Mark → List Row → Type 0) → Type 0
 OverKnown P =
-    (policy : Policy) (pid : ℕ) (picks : List ℕ) (given : List HouseReply) (marks : List Mark) → IsLawful marks → Throughout NamesKnown marks → AreFresh (log_of_journal (by_lists policy pid picks given) marks) → P (by_lists policy pid picks given) marks
+    (policy : Policy) (pid : ℕ) (picks : List ℕ) (given : List HouseReply) (marks : List Mark) (rows : List Row) → IsLawful marks → Throughout NamesKnown marks → IsLog (by_lists policy pid picks given) marks rows → AreFresh rows → P (by_lists policy pid picks given) marks rows
 
 -- the rows of the newest mark add no more
-abbrev pub AddsAtOnce : Setting → List Mark → Type 0
-AddsAtOnce setting [] = waiting_up setting [] ≡ 0
-AddsAtOnce setting (mark ∷ before) = waiting_up setting (mark ∷ before) ≤ waiting_up setting before + longest_mark
+abbrev pub AddsAtOnce : Setting → List Mark → List Row → Type 0
+AddsAtOnce setting [] rows = pending 0 rows ≡ []
+AddsAtOnce setting (mark ∷ before) rows = length (pending 0 rows) ≤ waiting_up setting before + longest_mark
 
 abbrev pub MarksAddLittle : Type 0
 MarksAddLittle = OverKnown AddsAtOnce
@@ -102,11 +113,67 @@ reads mark = false
 abbrev pub ReadsWithRoom : Setting → List Mark → Mark → Type 0
 ReadsWithRoom setting before mark = reads mark ≡ true → waiting_up setting before < READING_STOPS_AT
 
--- then less than 8,388,608 bytes wait for it ever: no more than where reading stops, and one mark
-pub record StaysBelow (setting : Setting) (marks : List Mark) : Type 0 where
-  pub within : waiting_up setting marks ≤ READING_STOPS_AT + longest_mark
-  pub below : waiting_up setting marks < 8388608
+-- 8,388,608 bytes
+abbrev pub longest_server_queue : ℕ
+longest_server_queue = 8388608
+
+-- then less than that wait for it ever: no more than where reading stops, and one mark
+pub record StaysBelow (rows : List Row) : Type 0 where
+  pub within : length (pending 0 rows) ≤ READING_STOPS_AT + longest_mark
+  pub below : length (pending 0 rows) < longest_server_queue
 
 abbrev pub ServerQueueIsBounded : Type 0
 ServerQueueIsBounded =
-    OverKnown (λ setting marks. Throughout (ReadsWithRoom setting) marks → StaysBelow setting marks)
+    OverKnown (λ setting marks rows. Throughout (ReadsWithRoom setting) marks → StaysBelow rows)
+
+-- ---- all marks of a wire
+
+-- the wire was just waited for, to read as well as to write
+abbrev pub FollowsRead : List Mark → Type 0
+FollowsRead (Waits waiting Read streams accepts ∷ before) = Unit {0}
+FollowsRead marks = ⊥
+
+-- what any wire does: it names the server's stream and those of clients that it accepted, and it reads and accepts only
+-- where it is waited for so
+pub record IsOfWire (before : List Mark) (mark : Mark) : Type 0 where
+  pub names : NamesKnown before mark
+  pub follows : reads mark ≡ true → FollowsRead before
+
+-- where each wait keeps what a run promises of it, so much waits for the server at no mark
+abbrev pub RunsAreBounded : Type 0
+RunsAreBounded =
+    (policy : Policy) (pid : ℕ) (picks : List ℕ) (given : List HouseReply) (marks : List Mark) (rows : List Row) → IsLawful marks → Throughout IsOfWire marks → IsLog (by_lists policy pid picks given) marks rows → AreFresh rows → Throughout (WaitsAt (by_lists policy pid picks given)) marks → StaysBelow rows
+
+-- the marks of a wire on which these streams are open
+pub record OfWire (streams : List ℕ) (marks : List Mark) : Type 0 where
+  pub each : Throughout IsOfWire marks
+  pub known : (t : ℕ) → IsTrue (among t streams) → IsTrue (is_known t marks)
+
+-- that is what the law of each wire keeps: from no mark on, at each turn that a wire may give, at each write to a stream
+-- that is open, and where a stream is closed
+pub record WireKeeps (streams : List ℕ) (marks : List Mark) : Type 0 where
+  pub none : OfWire (0 ∷ []) []
+  pub turn : (given : Turn) (waiting : List ℕ) (want : Want) (listens : Bool) (last : ℕ) (blocked bytes : List ℕ) → TurnFits given want listens last streams blocked bytes → OfWire streams marks → OfWire (open_after given streams) (reverse (wait_marks given waiting want streams listens bytes) ++ marks)
+  pub write : (answer : Wrote) (t : ℕ) (bytes : List ℕ) → IsTrue (among t streams) → OfWire streams marks → OfWire streams (reverse (write_marks answer t bytes) ++ marks)
+  pub close : (t : ℕ) → OfWire streams marks → OfWire (without t streams) marks
+
+abbrev pub WiresKeepIt : Type 0
+WiresKeepIt = (streams : List ℕ) (marks : List Mark) → WireKeeps streams marks
+
+-- ---- bytes that are not cut yet
+
+-- less than a frame: 262,147 bytes
+abbrev pub longest_rest : ℕ
+longest_rest = LONGEST_FRAME + 3
+
+-- of a stream that is read on
+abbrev pub RestIsShort : Mode → List ℕ → Type 0
+RestIsShort mode bytes = ((parse mode bytes).mode ≡ Stopped → ⊥) → length (parse mode bytes).rest ≤ longest_rest
+
+-- whatever bytes it gave: a client's, and the server's
+pub record RestsShort (bytes : List ℕ) : Type 0 where
+  pub client : RestIsShort InControl bytes
+  pub server : RestIsShort InProxy bytes
+
+abbrev pub RestsAreShort : Type 0
+RestsAreShort = (bytes : List ℕ) → RestsShort bytes

@@ -3,7 +3,7 @@
 use Rattle.std.specs.Prelude.{ℕ, ◌+◌, ◌==◌, ◌≡◌, ◌≤◌, List, [], ◌∷◌, false, length}
 use Rattle.mux_history.specs.declared.limits.TheConstants.{MAX_CHANNELS, MAX_CLIENTS, MAX_FORWARDINGS, MAX_GLOBAL_REQUESTS, MAX_QUEUE}
 use Rattle.mux_history.specs.Policy.{Policy}
-use Rattle.mux_history.specs.Rows.{Row, rows_of, Item, Admit, Heard}
+use Rattle.mux_history.specs.Rows.{Row, rows_of, is_ended, Item, Admit, Heard}
 use Rattle.mux_history.specs.Pending.{waiting_down}
 use Rattle.ssh_grammar.specs.declared.side.Side.{Side}
 use Rattle.mux_history.specs.Channels.{Channel, held_of}
@@ -108,14 +108,21 @@ IdleRowsLeaveViews =
 abbrev pub CutsKeepViews : Type 0
 CutsKeepViews = (k : ℕ) (rows : List Row) → view_of k (rows_of k rows) ≡ view_of k rows
 
+-- while the run goes on no reply of a client came before its request
+abbrev pub RepliesAwaited : List Row → Type 0
+RepliesAwaited rows = is_ended rows ≡ false → (k : ℕ) → (view_of k rows).waiting.early ≡ []
+
+abbrev pub RepliesAreAwaited : Type 0
+RepliesAreAwaited = OverRight (λ setting rows. AtEach RepliesAwaited rows)
+
 -- two rows are the same, and so are the views after them
 pub record SameStep (k : ℕ) (rows others : List Row) (row other : Row) : Type 0 where
   pub gives : row ≡ other
   pub view : view_of k (row ∷ rows) ≡ view_of k (other ∷ others)
 
--- two logs do the same with what concerns the client: with what it says, its end, and what it takes; with a payload that
--- goes to it in both; with its admission, where both let it in or both refuse it. Which of its items make rows, and whether its
--- matters are open, is the same in both
+-- two logs do the same with what concerns the client: with what it says, its end, and what it takes; with a payload
+-- that goes to it in both; with its admission, where both let it in or both refuse it. Which of its items make rows,
+-- and whether its matters are open, is the same in both
 pub record StepsAlike (policy : Policy) (pid pick k : ℕ) (rows others : List Row) : Type 0 where
   pub own : (item : Item) → IsOf k item → SameStep k rows others (treat policy pid pick rows item) (treat policy pid pick others item)
   pub heard : (p : List ℕ) → dest rows p ≡ ToClient k → dest others p ≡ ToClient k → SameStep k rows others (treat policy pid pick rows (Heard p)) (treat policy pid pick others (Heard p))
@@ -123,8 +130,8 @@ pub record StepsAlike (policy : Policy) (pid pick k : ℕ) (rows others : List R
   pub makes : (item : Item) → IsOf k item → makes_row rows item ≡ makes_row others item
   pub matters : has_open_matters (rows_of k rows) ≡ has_open_matters (rows_of k others)
 
--- where two logs show the same of a client: what its row gives, and its view after it, is known from its item, its pick and
--- its view before it
+-- where two logs show the same of a client: what its row gives, and its view after it, is known from its item, its
+-- pick and its view before it
 abbrev pub RowsFollowViews : Type 0
 RowsFollowViews =
     (policy : Policy) (pid pick k : ℕ) (rows others : List Row) → view_of k rows ≡ view_of k others → StepsAlike policy pid pick k rows others

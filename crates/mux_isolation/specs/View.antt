@@ -13,7 +13,8 @@ use Rattle.mux_history.specs.Controls.{greeted}
 -- ---- a channel
 
 -- one direction of a channel: the window that its receiver gave at first, all adjustments to it, all data that was
--- sent; the longest data that it takes; the requests that want a reply, and their replies; whether EOF and CLOSE were sent
+-- sent; the longest data that it takes; the requests that want a reply, and their replies; whether EOF and CLOSE
+-- were sent
 pub record Way : Type 0 where
   pub window : ℕ
   pub adjustments : ℕ
@@ -45,7 +46,8 @@ room_in way = way.window + way.adjustments - way.sizes
 abbrev pub unanswered_in : Way → ℕ
 unanswered_in way = way.requests - way.replies
 
--- a channel: its client, who opened it, its three numbers, whether its open was confirmed or failed, and both directions
+-- a channel: its client, who opened it, its three numbers, whether its open was confirmed or failed, and both
+-- directions
 pub record ChannelView : Type 0 where
   pub client : ℕ
   pub by : Side
@@ -87,9 +89,9 @@ left_of (true ∷ flags) (p ∷ heard) = left_of flags heard
 
 -- ---- the client
 
--- it was let in, has greeted, is lost, or is out: lost or refused; its channels that are not over; how many requests were
--- sent for it and how many have a reply, those sent without one, and with the refusals behind them; its forwardings that
--- are asked or live, each with the cancel that means it; and the bytes that wait for it
+-- it was let in, has greeted, is lost, or is out: lost or refused; its channels that are not over; how many requests
+-- were sent for it and how many have a reply, those sent without one, and with the refusals behind them; its
+-- forwardings that are asked or live, each with the cancel that means it; and the bytes that wait for it
 pub record View : Type 0 where
   pub admitted : Bool
   pub has_greeted : Bool

@@ -1,8 +1,8 @@
 ghost use Rattle.mux_isolation.specs.Laws.{Isolation, WindowsAreKept, PermissionsAreKept, AskersAreServed};
 ghost use Rattle.mux_isolation.specs.Laws.{MasterSaysLittle, NothingIsLeft, AllIsKept};
 ghost use Rattle.mux_isolation.specs.Laws.{QueuesAreBounded, ChannelsAreFew, ForwardingsAreFew, RequestsAreFew, ClientsAreFew};
-ghost use Rattle.mux_isolation.specs.Laws.{ViewsShowRooms, IdleRowsLeaveViews, CutsKeepViews, RowsFollowViews};
-ghost use Rattle.mux_isolation.specs.Bounds.{RowsAddLittle, MarksAddLittle, ServerQueueIsBounded};
+ghost use Rattle.mux_isolation.specs.Laws.{ViewsShowRooms, IdleRowsLeaveViews, CutsKeepViews, RepliesAreAwaited, RowsFollowViews};
+ghost use Rattle.mux_isolation.specs.Bounds.{RowsAddLittle, MarksAddLittle, ServerQueueIsBounded, RunsAreBounded, WiresKeepIt, RestsAreShort};
 
 /// What an admitted client is told and what is sent for it is what an unshared connection gives from its
 /// own bytes and the server's messages for its channels, up to the numbers that stand for its own.
@@ -82,6 +82,12 @@ pub fn cuts_keep_views()
     ensures { CutsKeepViews }
 {}
 
+/// While the run goes on, no reply of a client came before its request: the view has none that is
+/// early.
+pub fn replies_are_awaited()
+    ensures { RepliesAreAwaited }
+{}
+
 /// What a client's row gives, and what is seen of the client after it, is known from its item, its pick
 /// and what is seen of it before.
 pub fn rows_follow_views()
@@ -93,13 +99,31 @@ pub fn rows_add_little()
     ensures { RowsAddLittle }
 {}
 
-/// The rows of one mark of at most 65,536 bytes add at most 3,981,321 bytes to what waits for the server.
+/// The rows of one mark of at most 65,536 bytes add at most 3,981,321 bytes to what waits for the
+/// server, also where want of memory cut them.
 pub fn marks_add_little()
     ensures { MarksAddLittle }
 {}
 
-/// Where bytes are read and clients accepted only while less than 4,194,304 bytes wait for the server, less
-/// than 8,388,608 bytes wait for it ever.
+/// Where bytes are read and clients accepted only while less than 4,194,304 bytes wait for the server,
+/// less than 8,388,608 bytes wait for it ever.
 pub fn server_queue_is_bounded()
     ensures { ServerQueueIsBounded }
+{}
+
+/// Over any wire, where each wait keeps what a run promises of it, less than 8,388,608 bytes wait for
+/// the server ever.
+pub fn runs_are_bounded()
+    ensures { RunsAreBounded }
+{}
+
+/// What the bound over any wire asks of the marks is what each wire's law gives: it names streams that
+/// it opened, and reads and accepts only where it is waited for so.
+pub fn wires_keep_it()
+    ensures { WiresKeepIt }
+{}
+
+/// Of a stream that is read on, at most 262,147 bytes are not cut yet.
+pub fn rests_are_short()
+    ensures { RestsAreShort }
 {}

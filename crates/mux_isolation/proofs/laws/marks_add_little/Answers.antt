@@ -3,4 +3,4 @@ use Rattle.mux_isolation.proofs.ServerQueue.{adds-at-once}
 use Rattle.mux_isolation.proofs.laws.marks_add_little.Goals as goal
 
 pub returns : goal.returns
-returns c = λ policy pid picks given marks lawful names fresh. adds-at-once policy pid picks given marks (record { lawful = lawful; names = names; fresh = fresh })
+returns c = adds-at-once

@@ -3,4 +3,4 @@ use Rattle.mux_isolation.proofs.ServerQueue.{stays-below}
 use Rattle.mux_isolation.proofs.laws.server_queue_is_bounded.Goals as goal
 
 pub returns : goal.returns
-returns c = λ policy pid picks given marks lawful names fresh rooms. stays-below policy pid picks given marks (record { lawful = lawful; names = names; fresh = fresh }) rooms
+returns c = stays-below
