@@ -1,6 +1,5 @@
 ghost use Rattle.std.specs.Prelude.{◌≡◌, ◌≢◌, None, Err};
 ghost use Rattle.mux_outside.specs.Counts.{HasCause};
-ghost use Rattle.mux_outside.specs.Sink.{TakesTold};
 ghost use Rattle.mux_sockets.specs.Whole.{WritesWhole};
 
 use crate::faults::count_failed;
@@ -29,7 +28,6 @@ impl<W: Write + Drop> Sink for RealSink<W> {
     ghost faults = { λ s. s.faults };
 
     fn put(&mut self, bytes: &[u8]) -> Result<(), FileError>
-        ensures taken { TakesTold result None None bytes.now }
         ensures written { WritesWhole result (W.contents self.old.out) (W.contents self.new.out)
             bytes.now }
         ensures no_memory { result ≢ Err FileError.OutOfMemory }
