@@ -1,13 +1,12 @@
-ghost use Rattle.std.specs.Prelude.{◌≡◌, None};
+ghost use Rattle.std.specs.Prelude.{◌≡◌, ◌≢◌, None, Err};
 ghost use Rattle.mux_outside.specs.Counts.{HasCause};
-ghost use Rattle.mux_outside.specs.Sink.{TakesTold};
 ghost use Rattle.mux_sockets.specs.Whole.{WritesWhole};
 
 use crate::faults::count_failed;
 use mux_outside::{FileError, Sink};
 use std::io::{ErrorKind, Write};
 
-/// A writer of the system, as standard output or standard error.
+/// A writer of the system, as standard output or standard error. It takes no memory.
 #[derive(Drop)]
 pub struct RealSink<W: Write + Drop> {
     out: W,
@@ -29,9 +28,9 @@ impl<W: Write + Drop> Sink for RealSink<W> {
     ghost faults = { λ s. s.faults };
 
     fn put(&mut self, bytes: &[u8]) -> Result<(), FileError>
-        ensures taken { TakesTold result None None bytes.now }
         ensures written { WritesWhole result (W.contents self.old.out) (W.contents self.new.out)
             bytes.now }
+        ensures no_memory { result ≢ Err FileError.OutOfMemory }
         ensures cause { HasCause result self.old.faults self.new.faults }
     {
         let answer = write_whole(&mut self.out, bytes);
@@ -42,7 +41,8 @@ impl<W: Write + Drop> Sink for RealSink<W> {
 
 // Writes until all is taken. A write that takes nothing is a fault.
 fn write_whole<W: Write>(out: &mut W, bytes: &[u8]) -> Result<(), FileError>
-    ensures { WritesWhole result (W.contents out.old) (W.contents out.new) bytes.now }
+    ensures written { WritesWhole result (W.contents out.old) (W.contents out.new) bytes.now }
+    ensures no_memory { result ≢ Err FileError.OutOfMemory }
 {
     let mut rest = bytes;
     for _ in 0..u64::MAX {
