@@ -15,7 +15,9 @@ struct Row {
     stays: bool,
 }
 
-const ROWS: [Row; 14] = [
+/// The rows of the table.
+fn rows() -> [Row; 14] {
+    [
     Row {
         name: "descriptors for a session, then bytes that are ignored",
         says: b"\x00\x00\x00\x0c\x10\x00\x00\x02\x00\x00\x00\x05\x00\x00\x00\x00\x00\x00\x00",
@@ -100,13 +102,14 @@ const ROWS: [Row; 14] = [
         told: b"",
         stays: true,
     },
-];
+    ]
+}
 
 /// One client comes and says this in pieces of so many bytes.
 fn cut_in(alloc: Global, bytes: &[u8], size: usize) -> Result<Steps, OutOfMemory> {
     let mut steps = Steps::new(alloc);
     steps.push(Step::Accept)?;
-    for piece in bytes.chunks(size) {
+    for piece in bytes.chunks(size.max(1)) {
         steps.push(Step::Bytes(1, Text::copy(alloc, piece)?))?;
     }
     Ok(steps)
@@ -119,19 +122,25 @@ fn after_hello(alloc: Global, bytes: &[u8]) -> Result<Text, OutOfMemory> {
     Ok(text)
 }
 
+/// Whether a run over a row in pieces of so many bytes went well, told the client what is expected, and kept it or not.
+fn is_answered(alloc: Global, row: Row, size: usize) -> Result<bool, OutOfMemory> {
+    let says = after_hello(alloc, row.says)?;
+    let told = after_hello(alloc, row.told)?;
+    let steps = cut_in(alloc, says.as_bytes(), size)?;
+    let shared = share_over(alloc, steps, Writes::new(alloc))?;
+    let taken = shared.wire.taken(1)?;
+    Ok(shared.status == Status::Done
+        && taken.as_bytes() == told.as_bytes()
+        && shared.wire.streams().contains(1) == row.stays
+        && shared.err.taken().is_empty())
+}
+
 #[test]
 fn each_control_message_is_answered_alike_however_it_is_cut(rt: HostRuntime) -> Result<(), Fail> {
     let alloc = rt.alloc();
-    for row in ROWS {
-        let says = after_hello(alloc, row.says)?;
-        let told = after_hello(alloc, row.told)?;
+    for row in rows() {
         for size in [1, 2, 3, 7, 64] {
-            let steps = cut_in(alloc, says.as_bytes(), size)?;
-            let shared = share_over(alloc, steps, Writes::new(alloc))?;
-            assert!(rt; shared.status == Status::Done, "{}, {size}", row.name);
-            assert!(rt; shared.wire.taken(1)?.as_bytes() == told.as_bytes(), "{}, {size}", row.name);
-            assert!(rt; shared.wire.streams().contains(1) == row.stays, "{}, {size}", row.name);
-            assert!(rt; shared.err.taken().is_empty(), "{}, {size}", row.name);
+            assert!(rt; is_answered(alloc, row, size)?, "{}, in pieces of {size}", row.name);
         }
     }
     Ok(())
@@ -164,39 +173,44 @@ fn nobody_comes_after_a_stop_and_who_is_here_goes_on(rt: HostRuntime) -> Result<
 /// A refused PROXY, to which 40 bytes are told.
 const PROXY: &[u8] = b"\x00\x00\x00\x08\x10\x00\x00\x0f\x00\x00\x00\x00";
 
-/// A hello and messages that are answered by so many bytes that a queue with the master's hello and as many answers
-/// to PROXY as fit has 12 bytes free: three checks.
-const LEAVES_TWELVE: &[u8] = b"\x00\x00\x00\x08\x10\x00\x00\x04\x00\x00\x00\x01\
-    \x00\x00\x00\x08\x10\x00\x00\x04\x00\x00\x00\x02\x00\x00\x00\x08\x10\x00\x00\x04\x00\x00\x00\x03";
-
-/// The same with 11 bytes free: a type that is not known, a forwarding, and a stop.
-const LEAVES_ELEVEN: &[u8] = b"\x00\x00\x00\x08\x10\x00\x00\x03\x00\x00\x00\x01\
-    \x00\x00\x00\x1c\x10\x00\x00\x06\x00\x00\x00\x02\x00\x00\x00\x02\x00\x00\x00\x00\x00\x00\x00\x00\x00\x00\x00\x00\x00\x00\x00\x50\
-    \x00\x00\x00\x08\x10\x00\x00\x09\x00\x00\x00\x03";
-
 /// A stop, to which 12 bytes are told.
 const STOP: &[u8] = b"\x00\x00\x00\x08\x10\x00\x00\x09\x00\x00\x00\x04";
 
-/// A client that takes nothing says a hello, so many times PROXY, and this at the end.
-fn fill(alloc: Global, first: &[u8], count: usize, last: &[u8]) -> Result<Steps, OutOfMemory> {
+/// What a client says before so many times PROXY and a stop, and whether it stays. It is told 12 bytes of hello, and
+/// for the first of them 48 bytes (three checks), for the second 89 (a type that is not known, a forwarding, a stop):
+/// so before the last stop 33,554,420 bytes wait for the first, and 33,554,421 for the second.
+fn full_queues() -> [(&'static [u8], usize, bool); 2] {
+    [
+        (
+            b"\x00\x00\x00\x08\x10\x00\x00\x04\x00\x00\x00\x01\x00\x00\x00\x08\x10\x00\x00\x04\x00\x00\x00\x02\x00\x00\x00\x08\x10\x00\x00\x04\x00\x00\x00\x03",
+            838_859,
+            true,
+        ),
+        (
+            b"\x00\x00\x00\x08\x10\x00\x00\x03\x00\x00\x00\x01\x00\x00\x00\x1c\x10\x00\x00\x06\x00\x00\x00\x02\x00\x00\x00\x02\x00\x00\x00\x00\x00\x00\x00\x00\x00\x00\x00\x00\x00\x00\x00\x50\x00\x00\x00\x08\x10\x00\x00\x09\x00\x00\x00\x03",
+            838_858,
+            false,
+        ),
+    ]
+}
+
+/// A client that takes nothing says a hello, this, so many times PROXY, and a stop.
+fn fill(alloc: Global, first: &[u8], count: usize) -> Result<Steps, OutOfMemory> {
     let mut says = after_hello(alloc, first)?;
     for _ in 0..count {
         says.add(PROXY)?;
     }
-    says.add(last)?;
+    says.add(STOP)?;
     cut_in(alloc, says.as_bytes(), 65_536)
 }
 
 #[test]
 fn a_queue_takes_33554432_bytes_and_no_more(rt: HostRuntime) -> Result<(), Fail> {
     let alloc = rt.alloc();
-    for (first, count, last, stays) in [
-        (LEAVES_TWELVE, 838_859, STOP, true),
-        (LEAVES_ELEVEN, 838_858, STOP, false),
-    ] {
+    for (first, count, stays) in full_queues() {
         let mut writes = Writes::new(alloc);
         writes.push(WriteEntry::Later)?;
-        let shared = share_over(alloc, fill(alloc, first, count, last)?, writes)?;
+        let shared = share_over(alloc, fill(alloc, first, count)?, writes)?;
         assert!(rt; shared.status == Status::Done, "{count}");
         assert!(rt; shared.wire.streams().contains(1) == stays, "{count}");
     }
