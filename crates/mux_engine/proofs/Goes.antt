@@ -88,7 +88,7 @@ goes_got rs dn s marks closed k bytes ne st live here =
     let w : Found rows marks k s.clients = found rows marks k s.clients st.clients here in
     let moves : (c : ClientState) → c.number ≡ k → StandsAt rows marks c → Moves k rows rows' (bytes_of k marks ++ bytes) c (f c) (client_hears s.pid more bytes c).stops (client_hears s.pid more bytes c).ended (client_asks s.pid more bytes c) =
     λ c num v. subst (λ d. Moves k rows rows' (bytes_of k marks ++ bytes) c (client_got s.pid (drop d rs) bytes c) (client_hears s.pid (drop d rs) bytes c).stops (client_hears s.pid (drop d rs) bytes c).ended (client_asks s.pid (drop d rs) bytes c)) st.drawn_is
-        (got_moves s.pid k rs bytes (bytes_of k marks) rows c num live st.plain (subst (λ j. ClientFits (rows_of j rows) c.standing c.queue) num v.fits) (subst (λ j. ClientReads (bytes_of j marks) c) num (v.reads live))) in
+    (got_moves s.pid k rs bytes (bytes_of k marks) rows c num live st.plain (subst (λ j. ClientFits (rows_of j rows) c.standing c.queue) num v.fits) (subst (λ j. ClientReads (bytes_of j marks) c) num (v.reads live))) in
     let c : ClientState = w.client in
     let it = moves c w.number w.stands in
     let ended : Option Ended = (client_hears s.pid more bytes c).ended in
@@ -106,10 +106,10 @@ goes_got rs dn s marks closed k bytes ne st live here =
     (loss_mine closed c.standing (f c).standing k (open_here rs dn s marks closed k st here))
     (ap (λ l. s.leaving ++ l) (w.loss f)) refl in
     let state : (n : ℕ) (stop : Bool) (e : Option Ended) → client_asks s.pid more bytes c ≡ n → (client_hears s.pid more bytes c).stops ≡ stop → ended_then ended s.ended ≡ e
-        → StandsFor rs (dn + n) (record (changed s k f) { listening = s.listening && not stop; ended = e }) (Gets k bytes ∷ marks) closed =
+    → StandsFor rs (dn + n) (record (changed s k f) { listening = s.listening && not stop; ended = e }) (Gets k bytes ∷ marks) closed =
     λ n stop e a b d. subst (λ m. StandsFor rs (dn + m) (record (changed s k f) { listening = s.listening && not stop; ended = e }) (Gets k bytes ∷ marks) closed) a
-        (subst (λ t. StandsFor rs (dn + client_asks s.pid more bytes c) (record (changed s k f) { listening = s.listening && not t; ended = e }) (Gets k bytes ∷ marks) closed) b
-        (subst (λ o. StandsFor rs (dn + client_asks s.pid more bytes c) (record (changed s k f) { listening = s.listening && not (client_hears s.pid more bytes c).stops; ended = o }) (Gets k bytes ∷ marks) closed) d all)) in
+    (subst (λ t. StandsFor rs (dn + client_asks s.pid more bytes c) (record (changed s k f) { listening = s.listening && not t; ended = e }) (Gets k bytes ∷ marks) closed) b
+    (subst (λ o. StandsFor rs (dn + client_asks s.pid more bytes c) (record (changed s k f) { listening = s.listening && not (client_hears s.pid more bytes c).stops; ended = o }) (Gets k bytes ∷ marks) closed) d all)) in
     state (gained_asks s k more bytes) (stops_at k (client_hears s.pid more bytes) s.clients) (ended_at k (client_hears s.pid more bytes) s.clients)
     (sym (w.count (client_asks s.pid more bytes)))
     (sym (w.flag (λ c. (client_hears s.pid more bytes c).stops)))

@@ -108,7 +108,7 @@ goes_in (Lost why) ended m e r = tt
 
 read_moves : (pid k : ℕ) (replies : List HouseReply) (bytes a : List ℕ) (rows : List Row) (c : ClientState) → is_read c.standing ≡ true → c.number ≡ k → is_ended rows ≡ false → ArePlain rows → ClientFits (rows_of k rows) c.standing c.queue → ClientReads a c
     → (let more = drop (replies_given rows) replies in let p = spoken InControl (c.rest ++ bytes) in let h = client_all pid more p.says (unheard c) in
-       Moves k rows (piece_rows pid replies k rows a bytes) (a ++ bytes) c (after_heeded p.rest h) h.stops h.ended (asks_all pid more p.says (unheard c)))
+    Moves k rows (piece_rows pid replies k rows a bytes) (a ++ bytes) c (after_heeded p.rest h) h.stops h.ended (asks_all pid more p.says (unheard c)))
 read_moves pid k replies bytes a rows c read number live plain fits reads =
     let more : List HouseReply = drop (replies_given rows) replies in
     let p : Parsed = spoken InControl (c.rest ++ bytes) in
@@ -135,7 +135,7 @@ read_moves pid k replies bytes a rows c read number live plain fits reads =
 -- more bytes of a client are the rows of what they say, with the next replies of the house
 pub got_moves : (pid k : ℕ) (replies : List HouseReply) (bytes a : List ℕ) (rows : List Row) (c : ClientState) → c.number ≡ k → is_ended rows ≡ false → ArePlain rows → ClientFits (rows_of k rows) c.standing c.queue → ClientReads a c
     → (let more = drop (replies_given rows) replies in
-       Moves k rows (piece_rows pid replies k rows a bytes) (a ++ bytes) c (client_got pid more bytes c) (client_hears pid more bytes c).stops (client_hears pid more bytes c).ended (client_asks pid more bytes c))
+    Moves k rows (piece_rows pid replies k rows a bytes) (a ++ bytes) c (client_got pid more bytes c) (client_hears pid more bytes c).stops (client_hears pid more bytes c).ended (client_asks pid more bytes c))
 got_moves pid k replies bytes a rows c number live plain fits reads = by_read (is_read c.standing) refl
   where
     more : List HouseReply
@@ -146,10 +146,10 @@ got_moves pid k replies bytes a rows c number live plain fits reads = by_read (i
 
     by_read : (b : Bool) → is_read c.standing ≡ b
         → Moves k rows (piece_rows pid replies k rows a bytes) (a ++ bytes) c
-            (cond b (after_heeded p.rest (cond b (client_all pid more p.says (unheard c)) (unheard c))) c)
-            (cond b (client_all pid more p.says (unheard c)) (unheard c)).stops
-            (cond b (client_all pid more p.says (unheard c)) (unheard c)).ended
-            (cond b (asks_all pid more p.says (unheard c)) 0)
+        (cond b (after_heeded p.rest (cond b (client_all pid more p.says (unheard c)) (unheard c))) c)
+        (cond b (client_all pid more p.says (unheard c)) (unheard c)).stops
+        (cond b (client_all pid more p.says (unheard c)) (unheard c)).ended
+        (cond b (asks_all pid more p.says (unheard c)) 0)
     by_read true e = read_moves pid k replies bytes a rows c e number live plain fits reads
     by_read false e = unread_moves pid k replies bytes a rows c c.standing refl e live fits reads
 

@@ -79,15 +79,17 @@ body_is pid k replies given body rows p =
     let row : Row = row_of (Says k (Body body) given) k o own in
     let r = row_is (Says k (Body body) given) k o own tt (sent_reading pid k given (greeted own) (read_control body)) plain in
     let mine : rows_of row.client rows ≡ own = ap (λ j. rows_of j rows) r.client_is in
-    record { is = subst (λ (l : List Row). RowIs (Says k (Body body) given) k (fitting (waiting_down own) (answer pid k given (greeted own) (Body body)).told) (fate_with (answer pid k given (greeted own) (Body body)).ends (overflow (waiting_down own) (answer pid k given (greeted own) (Body body)).told)) (built (setting pid replies).missing row l)) (sym mine)
-        (by_greeted (greeted own) refl (refuses_proxy (read_control body)) refl r plain) }
+    record {
+      is = subst (λ (l : List Row). RowIs (Says k (Body body) given) k (fitting (waiting_down own) (answer pid k given (greeted own) (Body body)).told) (fate_with (answer pid k given (greeted own) (Body body)).ends (overflow (waiting_down own) (answer pid k given (greeted own) (Body body)).told)) (built (setting pid replies).missing row l)) (sym mine)
+          (by_greeted (greeted own) refl (refuses_proxy (read_control body)) refl r plain);
+    }
   where
     by_greeted : (g : Bool) → greeted (rows_of k rows) ≡ g → (q : Option Outcome) → refuses_proxy (read_control body) ≡ q
         → (let own = rows_of k rows in let o = said_body pid k given (greeted own) body in
-           RowIs (Says k (Body body) given) k (fitting (waiting_down own) o.told) (fate_with o.ends (overflow (waiting_down own) o.told)) (row_of (Says k (Body body) given) k o own))
+        RowIs (Says k (Body body) given) k (fitting (waiting_down own) o.told) (fate_with o.ends (overflow (waiting_down own) o.told)) (row_of (Says k (Body body) given) k o own))
         → ArePlain (rows_of k rows)
         → (let own = rows_of k rows in let a = answer pid k given (greeted own) (Body body) in
-           RowIs (Says k (Body body) given) k (fitting (waiting_down own) a.told) (fate_with a.ends (overflow (waiting_down own) a.told)) (built (setting pid replies).missing (row_of (Says k (Body body) given) k (said_body pid k given (greeted own) body) own) own))
+        RowIs (Says k (Body body) given) k (fitting (waiting_down own) a.told) (fate_with a.ends (overflow (waiting_down own) a.told)) (built (setting pid replies).missing (row_of (Says k (Body body) given) k (said_body pid k given (greeted own) body) own) own))
     by_greeted false e q f r plain =
         let own : List Row = rows_of k rows in
         let row : Row = row_of (Says k (Body body) given) k (said_body pid k given (greeted own) body) own in

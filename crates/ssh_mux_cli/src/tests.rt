@@ -1,6 +1,7 @@
 mod control;
 mod lines;
 mod sharing;
+mod sockets;
 
 use crate::run::run;
 use crate::status::Status;

@@ -18,90 +18,90 @@ struct Row {
 /// The rows of the table.
 fn rows() -> [Row; 14] {
     [
-    Row {
-        name: "descriptors for a session, then bytes that are ignored",
-        says: b"\x00\x00\x00\x0c\x10\x00\x00\x02\x00\x00\x00\x05\x00\x00\x00\x00\x00\x00\x00",
-        told: b"\x00\x00\x00\x29\x80\x00\x00\x03\x00\x00\x00\x05\x00\x00\x00\x1ddescriptors are not supported",
-        stays: true,
-    },
-    Row {
-        name: "descriptors for a stream, then a check that is ignored",
-        says: b"\x00\x00\x00\x08\x10\x00\x00\x08\x00\x00\x00\x06\x00\x00\x00\x08\x10\x00\x00\x04\x00\x00\x00\x07",
-        told: b"\x00\x00\x00\x29\x80\x00\x00\x03\x00\x00\x00\x06\x00\x00\x00\x1ddescriptors are not supported",
-        stays: true,
-    },
-    Row {
-        name: "terminate, then a check that is not read",
-        says: b"\x00\x00\x00\x08\x10\x00\x00\x05\x00\x00\x00\x03\x00\x00\x00\x08\x10\x00\x00\x04\x00\x00\x00\x07",
-        told: b"\x00\x00\x00\x08\x80\x00\x00\x01\x00\x00\x00\x03",
-        stays: true,
-    },
-    Row {
-        name: "stop listening, then a check",
-        says: b"\x00\x00\x00\x08\x10\x00\x00\x09\x00\x00\x00\x09\x00\x00\x00\x08\x10\x00\x00\x04\x00\x00\x00\x07",
-        told: b"\x00\x00\x00\x08\x80\x00\x00\x01\x00\x00\x00\x09\x00\x00\x00\x0c\x80\x00\x00\x05\x00\x00\x00\x07\x00\x00\x00\x2a",
-        stays: true,
-    },
-    Row {
-        name: "a forwarding that the house refuses",
-        says: b"\x00\x00\x00\x1f\x10\x00\x00\x06\x00\x00\x00\x04\x00\x00\x00\x02\x00\x00\x00\x00\x00\x00\x00\x00\x00\x00\x00\x03web\x00\x00\x00\x50",
-        told: b"\x00\x00\x00\x26\x80\x00\x00\x03\x00\x00\x00\x04\x00\x00\x00\x1aforwardings are not served",
-        stays: true,
-    },
-    Row {
-        name: "the end of a forwarding that the house refuses",
-        says: b"\x00\x00\x00\x1f\x10\x00\x00\x07\x00\x00\x00\x04\x00\x00\x00\x02\x00\x00\x00\x00\x00\x00\x00\x00\x00\x00\x00\x03web\x00\x00\x00\x50",
-        told: b"\x00\x00\x00\x26\x80\x00\x00\x03\x00\x00\x00\x04\x00\x00\x00\x1aforwardings are not served",
-        stays: true,
-    },
-    Row {
-        name: "a type that is not known, then a check",
-        says: b"\x00\x00\x00\x08\x10\x00\x00\x03\x00\x00\x00\x08\x00\x00\x00\x08\x10\x00\x00\x04\x00\x00\x00\x07",
-        told: b"\x00\x00\x00\x1f\x80\x00\x00\x03\x00\x00\x00\x08\x00\x00\x00\x13unsupported request\x00\x00\x00\x0c\x80\x00\x00\x05\x00\x00\x00\x07\x00\x00\x00\x2a",
-        stays: true,
-    },
-    Row {
-        name: "a type that is not known, without an id",
-        says: b"\x00\x00\x00\x04\x10\x00\x00\x03",
-        told: b"",
-        stays: false,
-    },
-    Row {
-        name: "proxy mode, which is not served yet, then a check",
-        says: b"\x00\x00\x00\x08\x10\x00\x00\x0f\x00\x00\x00\x00\x00\x00\x00\x08\x10\x00\x00\x04\x00\x00\x00\x07",
-        told: b"\x00\x00\x00\x24\x80\x00\x00\x03\x00\x00\x00\x00\x00\x00\x00\x18proxy mode is not served\x00\x00\x00\x0c\x80\x00\x00\x05\x00\x00\x00\x07\x00\x00\x00\x2a",
-        stays: true,
-    },
-    Row {
-        name: "a check without an id",
-        says: b"\x00\x00\x00\x04\x10\x00\x00\x04",
-        told: b"",
-        stays: false,
-    },
-    Row {
-        name: "a second hello, after an answer",
-        says: b"\x00\x00\x00\x08\x10\x00\x00\x04\x00\x00\x00\x07\x00\x00\x00\x08\x00\x00\x00\x01\x00\x00\x00\x04",
-        told: b"\x00\x00\x00\x0c\x80\x00\x00\x05\x00\x00\x00\x07\x00\x00\x00\x2a",
-        stays: false,
-    },
-    Row {
-        name: "a length above the limit",
-        says: b"\x00\x04\x00\x01",
-        told: b"",
-        stays: false,
-    },
-    Row {
-        name: "a length below the limit",
-        says: b"\x00\x00\x00\x03",
-        told: b"",
-        stays: false,
-    },
-    Row {
-        name: "a length at the limit, of which little came",
-        says: b"\x00\x04\x00\x00\x10\x00\x00\x04",
-        told: b"",
-        stays: true,
-    },
+        Row {
+            name: "descriptors for a session, then bytes that are ignored",
+            says: b"\x00\x00\x00\x0c\x10\x00\x00\x02\x00\x00\x00\x05\x00\x00\x00\x00\x00\x00\x00",
+            told: b"\x00\x00\x00\x29\x80\x00\x00\x03\x00\x00\x00\x05\x00\x00\x00\x1ddescriptors are not supported",
+            stays: true,
+        },
+        Row {
+            name: "descriptors for a stream, then a check that is ignored",
+            says: b"\x00\x00\x00\x08\x10\x00\x00\x08\x00\x00\x00\x06\x00\x00\x00\x08\x10\x00\x00\x04\x00\x00\x00\x07",
+            told: b"\x00\x00\x00\x29\x80\x00\x00\x03\x00\x00\x00\x06\x00\x00\x00\x1ddescriptors are not supported",
+            stays: true,
+        },
+        Row {
+            name: "terminate, then a check that is not read",
+            says: b"\x00\x00\x00\x08\x10\x00\x00\x05\x00\x00\x00\x03\x00\x00\x00\x08\x10\x00\x00\x04\x00\x00\x00\x07",
+            told: b"\x00\x00\x00\x08\x80\x00\x00\x01\x00\x00\x00\x03",
+            stays: true,
+        },
+        Row {
+            name: "stop listening, then a check",
+            says: b"\x00\x00\x00\x08\x10\x00\x00\x09\x00\x00\x00\x09\x00\x00\x00\x08\x10\x00\x00\x04\x00\x00\x00\x07",
+            told: b"\x00\x00\x00\x08\x80\x00\x00\x01\x00\x00\x00\x09\x00\x00\x00\x0c\x80\x00\x00\x05\x00\x00\x00\x07\x00\x00\x00\x2a",
+            stays: true,
+        },
+        Row {
+            name: "a forwarding that the house refuses",
+            says: b"\x00\x00\x00\x1f\x10\x00\x00\x06\x00\x00\x00\x04\x00\x00\x00\x02\x00\x00\x00\x00\x00\x00\x00\x00\x00\x00\x00\x03web\x00\x00\x00\x50",
+            told: b"\x00\x00\x00\x26\x80\x00\x00\x03\x00\x00\x00\x04\x00\x00\x00\x1aforwardings are not served",
+            stays: true,
+        },
+        Row {
+            name: "the end of a forwarding that the house refuses",
+            says: b"\x00\x00\x00\x1f\x10\x00\x00\x07\x00\x00\x00\x04\x00\x00\x00\x02\x00\x00\x00\x00\x00\x00\x00\x00\x00\x00\x00\x03web\x00\x00\x00\x50",
+            told: b"\x00\x00\x00\x26\x80\x00\x00\x03\x00\x00\x00\x04\x00\x00\x00\x1aforwardings are not served",
+            stays: true,
+        },
+        Row {
+            name: "a type that is not known, then a check",
+            says: b"\x00\x00\x00\x08\x10\x00\x00\x03\x00\x00\x00\x08\x00\x00\x00\x08\x10\x00\x00\x04\x00\x00\x00\x07",
+            told: b"\x00\x00\x00\x1f\x80\x00\x00\x03\x00\x00\x00\x08\x00\x00\x00\x13unsupported request\x00\x00\x00\x0c\x80\x00\x00\x05\x00\x00\x00\x07\x00\x00\x00\x2a",
+            stays: true,
+        },
+        Row {
+            name: "a type that is not known, without an id",
+            says: b"\x00\x00\x00\x04\x10\x00\x00\x03",
+            told: b"",
+            stays: false,
+        },
+        Row {
+            name: "proxy mode, which is not served yet, then a check",
+            says: b"\x00\x00\x00\x08\x10\x00\x00\x0f\x00\x00\x00\x00\x00\x00\x00\x08\x10\x00\x00\x04\x00\x00\x00\x07",
+            told: b"\x00\x00\x00\x24\x80\x00\x00\x03\x00\x00\x00\x00\x00\x00\x00\x18proxy mode is not served\x00\x00\x00\x0c\x80\x00\x00\x05\x00\x00\x00\x07\x00\x00\x00\x2a",
+            stays: true,
+        },
+        Row {
+            name: "a check without an id",
+            says: b"\x00\x00\x00\x04\x10\x00\x00\x04",
+            told: b"",
+            stays: false,
+        },
+        Row {
+            name: "a second hello, after an answer",
+            says: b"\x00\x00\x00\x08\x10\x00\x00\x04\x00\x00\x00\x07\x00\x00\x00\x08\x00\x00\x00\x01\x00\x00\x00\x04",
+            told: b"\x00\x00\x00\x0c\x80\x00\x00\x05\x00\x00\x00\x07\x00\x00\x00\x2a",
+            stays: false,
+        },
+        Row {
+            name: "a length above the limit",
+            says: b"\x00\x04\x00\x01",
+            told: b"",
+            stays: false,
+        },
+        Row {
+            name: "a length below the limit",
+            says: b"\x00\x00\x00\x03",
+            told: b"",
+            stays: false,
+        },
+        Row {
+            name: "a length at the limit, of which little came",
+            says: b"\x00\x04\x00\x00\x10\x00\x00\x04",
+            told: b"",
+            stays: true,
+        },
     ]
 }
 
@@ -129,10 +129,12 @@ fn is_answered(alloc: Global, row: Row, size: usize) -> Result<bool, OutOfMemory
     let steps = cut_in(alloc, says.as_bytes(), size)?;
     let shared = share_over(alloc, steps, Writes::new(alloc))?;
     let taken = shared.wire.taken(1)?;
-    Ok(shared.status == Status::Done
-        && taken.as_bytes() == told.as_bytes()
-        && shared.wire.streams().contains(1) == row.stays
-        && shared.err.taken().is_empty())
+    Ok(
+        shared.status == Status::Done
+            && taken.as_bytes() == told.as_bytes()
+            && shared.wire.streams().contains(1) == row.stays
+            && shared.err.taken().is_empty(),
+    )
 }
 
 #[test]
@@ -140,7 +142,11 @@ fn each_control_message_is_answered_alike_however_it_is_cut(rt: HostRuntime) -> 
     let alloc = rt.alloc();
     for row in rows() {
         for size in [1, 2, 3, 7, 64] {
-            assert!(rt; is_answered(alloc, row, size)?, "{}, in pieces of {size}", row.name);
+            assert!(rt;
+                is_answered(alloc, row, size)?,
+                "{}, in pieces of {size}",
+                row.name
+            );
         }
     }
     Ok(())
