@@ -30,4 +30,5 @@ pub mod RightLogs
 pub mod Rooms
 pub mod Sends
 pub mod Steps
+pub mod Wires
 pub mod Written

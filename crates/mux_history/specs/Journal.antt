@@ -1,5 +1,5 @@
 -- What a wire was seen to do, the newest mark first, and the items that it gives.
-use Rattle.std.specs.Prelude.{ℕ, ◌==◌, ◌≡◌, ◌<◌, ◌≤◌, List, [], ◌∷◌, ◌++◌, None, Option, Bool, true, ◌&&◌, option_map, false, length, drop, map, reverse, All, IsTrue}
+use Rattle.std.specs.Prelude.{ℕ, ◌==◌, ◌≡◌, ◌<◌, ◌≤◌, List, [], ◌∷◌, ◌++◌, None, Option, Bool, true, ◌&&◌, ◌||◌, if◌then◌else◌, option_map, false, length, drop, map, reverse, All, IsTrue}
 use Rattle.mux_outside.specs.declared.mark.Mark.{Mark}
 use Rattle.mux_outside.specs.declared.mark.Mark.TheVariants.{Waits, Accepts, Gets, Ends, Frees, Fails, Takes, Holds, WriteFails}
 use Rattle.ssh_fields.specs.Fields.{AreBytes}
@@ -132,17 +132,30 @@ last_client [] = 0
 last_client (Accepts k ∷ before) = k
 last_client (mark ∷ before) = last_client before
 
--- each client has a number above the last one's, and streams are the server's and theirs
+-- a client was accepted
+abbrev pub is_accepted : ℕ → List Mark → Bool
+is_accepted k [] = false
+is_accepted k (Accepts j ∷ before) = if j == k then true else is_accepted k before
+is_accepted k (mark ∷ before) = is_accepted k before
+
+-- the stream is the server's, or that of a client that was accepted
+abbrev pub is_known : ℕ → List Mark → Bool
+is_known stream before = (stream == 0) || is_accepted stream before
+
+-- each client has a number above the last one's, and every other mark names the server's stream or that of a client that
+-- was accepted; what comes are 1 to 65,536 bytes, what is taken is some, and only streams that hold back are freed or
+-- waited for
 abbrev pub LawfulMark : List Mark → Mark → Type 0
 LawfulMark before (Accepts k) = last_client before < k
 LawfulMark before (Gets stream bytes) =
-    (stream ≤ last_client before) × (0 < length bytes) × (length bytes ≤ 65536) × AreBytes bytes
-LawfulMark before (Ends stream) = stream ≤ last_client before
-LawfulMark before (Fails stream) = stream ≤ last_client before
+    IsTrue (is_known stream before) × (0 < length bytes) × (length bytes ≤ 65536) × AreBytes bytes
+LawfulMark before (Ends stream) = IsTrue (is_known stream before)
+LawfulMark before (Fails stream) = IsTrue (is_known stream before)
 LawfulMark before (Frees stream) = IsTrue (is_blocked stream before)
-LawfulMark before (Takes stream bytes) = (stream ≤ last_client before) × (0 < length bytes) × AreBytes bytes
-LawfulMark before (Holds stream) = stream ≤ last_client before
-LawfulMark before (WriteFails stream) = stream ≤ last_client before
+LawfulMark before (Takes stream bytes) =
+    IsTrue (is_known stream before) × (0 < length bytes) × AreBytes bytes
+LawfulMark before (Holds stream) = IsTrue (is_known stream before)
+LawfulMark before (WriteFails stream) = IsTrue (is_known stream before)
 LawfulMark before (Waits waiting want streams listens) = All (λ t. IsTrue (is_blocked t before)) waiting
 
 -- each mark is lawful after those before it

@@ -1,5 +1,5 @@
 -- What a run promises of each row: windows, permissions, askers, numbers, and the unshared connection.
-use Rattle.std.specs.Prelude.{ℕ, ◌≡◌, ◌≤◌, ◌<◌, List, [], ◌∷◌, Option, Some, None, Ok, true, false, length, filter, drop, option_map, replicate, flat_map, reverse}
+use Rattle.std.specs.Prelude.{ℕ, ◌≡◌, ◌≤◌, ◌<◌, List, [], ◌∷◌, ◌++◌, Option, Some, None, Ok, true, false, length, filter, drop, option_map, replicate, flat_map, reverse}
 use Rattle.ssh_grammar.specs.declared.side.Side.{Side}
 use Rattle.ssh_grammar.specs.declared.side.Side.TheVariants.{Up, Down}
 use Rattle.ssh_grammar.specs.Messages.{Direct, Forwarded, Forward, Cancel}
@@ -9,7 +9,8 @@ use Rattle.mux_history.specs.Gist.{Carries, Closes, Fails, Gist, Open, Refuses, 
 use Rattle.mux_history.specs.Rows.{Row, rows_of, sent_by, is_lost, is_end, Heard, Goes}
 use Rattle.mux_history.specs.Channels.{Channel, held_of, is_number, with_own}
 use Rattle.mux_history.specs.Ledger.{room, maximum_of}
-use Rattle.mux_history.specs.Requests.{asker, is_reply}
+use Rattle.mux_history.specs.Requests.{answers, asker, is_reply}
+use Rattle.mux_history.specs.Controls.{is_says}
 use Rattle.mux_history.specs.Policy.{Policy, permits}
 use Rattle.mux_history.specs.Forwardings.{live_at}
 use Rattle.mux_history.specs.Said.{confirmed_at}
@@ -94,18 +95,24 @@ abbrev pub ReachesAsker : List Row → Row → Type 0
 ReachesAsker before row =
     (p : List ℕ) → row.item ≡ Heard p → reading p is_reply false ≡ true → is_end row.fate ≡ false → option_map (λ a. a.client) (asker before) ≡ Some row.client
 
--- it stands first in what the row tells, before the refusals that waited behind it, unless the client was lost before or
--- is dropped by this row
+-- it stands first in what the row tells, before the refusals that waited behind it, and these are the client's next
+-- answers, in the order of its requests
+pub record TellsNext (own : List Row) (row : Row) (p : List ℕ) : Type 0 where
+  pub refusals : ℕ
+  pub told : row.down ≡ frame_payload p ∷ replicate refusals (frame_payload request_failure)
+  pub in_order : answers (row ∷ own) ≡ answers own ++ (p ∷ replicate refusals request_failure)
+
+-- unless the client was lost before or is dropped by this row
 abbrev pub TellsReply : List Row → Row → Type 0
 TellsReply before row =
-    (p : List ℕ) → row.item ≡ Heard p → reading p is_reply false ≡ true → row.fate ≡ Goes → is_lost (rows_of row.client before) ≡ false → (n : ℕ) × (row.down ≡ frame_payload p ∷ replicate n (frame_payload request_failure))
+    (p : List ℕ) → row.item ≡ Heard p → reading p is_reply false ≡ true → row.fate ≡ Goes → is_lost (rows_of row.client before) ≡ false → TellsNext (rows_of row.client before) row p
 
 -- a reply in a row is its asker's
 pub record Asker (before : List Row) (row : Row) : Type 0 where
   pub reaches : ReachesAsker before row
   pub tells : TellsReply before row
 
--- ---- The master's own words: what it sends for nobody, and in farewells, carries no data and brings no number
+-- ---- The master's own words: all that it sends that no client said carries no data and brings no number
 
 -- a refused request, a failed open, a close, or a cancel
 abbrev pub IsMasters : Gist → Type 0
@@ -115,10 +122,11 @@ IsMasters (Requests (Cancel address port) wants) = Unit {0}
 IsMasters Refuses = Unit {0}
 IsMasters m = ⊥
 
--- the farewell of a row, and what a row of nobody sends
+-- the farewell of a row, what a row of nobody sends, and what a row sends in which its client says nothing
 pub record OwnWords (before : List Row) (row : Row) : Type 0 where
   pub farewell : EachSays IsMasters row.farewell
   pub up : row.client ≡ 0 → EachSays IsMasters row.up
+  pub unsaid : is_says row.item ≡ false → EachSays IsMasters row.up
 
 -- ---- Numbers: none is held by two channels, and none of the server's is live in two
 

@@ -18,6 +18,7 @@ pub mod Journal
 pub mod Solo
 pub mod Right
 pub mod Promises
+pub mod Wires
 pub mod Kept
 pub mod Worked
 pub mod WorkedProxy

@@ -1,5 +1,6 @@
--- The forms that are not built yet. This list shrinks with each part that is built, and goes with the last one: nothing
--- else in the definitions knows of it, but for the item Unserved, which goes with the form ServerSays.
+-- The forms that are not built yet. This list shrinks with each part that is built, and goes with the last one. Of the
+-- other definitions only the items of a mark know of it: the server's bytes are one item Unserved, and what a client says
+-- behind a PROXY that is refused is read on as control messages.
 use Rattle.std.specs.Prelude.{ℕ, List, [], ◌∷◌, Option, Some, None, Result, Ok, Err, Bool, true, false, ◌&&◌, ◌||◌, nat_lt, length, zero, suc, codes}
 use Rattle.ssh_grammar.specs.declared.fault.BadControl.{BadControl}
 use Rattle.ssh_grammar.specs.Control.{Control, Proxy, Failed}

@@ -2,6 +2,7 @@
 //! the law.
 
 ghost use Rattle.mux_history.specs.Laws.{OthersStay, LookUpsAreLocal, Locality, HeldGoesOn, AnswersOnlyGrow, AccountsGoOn, WrittenAddsUp, JournalsGiveRightLogs, NumbersAreApart, PicksAreTaken, RoomsNeverFall, OneIndexServes};
+ghost use Rattle.mux_history.specs.Wires.{WiresKeepTheLaw};
 ghost use Rattle.mux_history.specs.Steps.{CurrentGoesOn, MattersGoOn, AskersGoOn, UnrepliedAreLocal, PendingGoesOn, TakesLeaveTheRest};
 
 /// A row of another client leaves a client's rows as they were.
@@ -95,4 +96,10 @@ pub fn pending_goes_on()
 /// A take leaves its stream the rest of what waited, and the others what they had.
 pub fn takes_leave_the_rest()
     ensures { TakesLeaveTheRest }
+{}
+
+/// What any wire tells is a lawful journal, in which it reads and accepts only right behind a wait for
+/// that: each turn, each answer to a write and each close that its law allows keeps it so.
+pub fn journals_of_wires_are_lawful()
+    ensures { WiresKeepTheLaw }
 {}

@@ -1,0 +1,49 @@
+-- What any wire does: its marks make a lawful journal, and it reads and accepts only where it was just waited for so.
+use Rattle.std.specs.Prelude.{ℕ, ◌≡◌, ◌≤◌, ◌<◌, List, [], ◌∷◌, ◌++◌, Bool, true, false, All, IsTrue, length, reverse}
+use Rattle.mux_outside.specs.declared.mark.Mark.{Mark}
+use Rattle.mux_outside.specs.declared.mark.Mark.TheVariants.{Accepts, Gets, Waits}
+use Rattle.mux_outside.specs.declared.turn.Turn.{Turn}
+use Rattle.mux_outside.specs.declared.turn.Want.{Want}
+use Rattle.mux_outside.specs.declared.turn.Want.TheVariants.{Read}
+use Rattle.mux_outside.specs.declared.turn.Wrote.{Wrote}
+use Rattle.mux_outside.specs.Streams.{among, without}
+use Rattle.mux_outside.specs.Wire.{TurnFits, WroteFits, blocked_after, blocked_after_write, last_after, open_after, wait_marks, write_marks}
+use Rattle.ssh_fields.specs.Fields.{AreBytes}
+use Rattle.mux_history.specs.Journal.{IsLawful, is_blocked, is_known, last_client}
+use Rattle.mux_history.specs.Promises.{Throughout}
+
+-- bytes that are read, and clients that are accepted
+abbrev pub reads : Mark → Bool
+reads (Accepts k) = true
+reads (Gets stream bytes) = true
+reads mark = false
+
+-- the wire was just waited for, to read as well as to write
+abbrev pub FollowsRead : List Mark → Type 0
+FollowsRead (Waits waiting Read streams accepts ∷ before) = Unit {0}
+FollowsRead marks = ⊥
+
+-- what is read or accepted comes right behind such a wait
+abbrev pub ReadsWhenAsked : List Mark → Mark → Type 0
+ReadsWhenAsked before mark = reads mark ≡ true → FollowsRead before
+
+-- the marks of a wire of which these streams are open and these hold back, and whose last client has at most this number
+pub record OfWire (streams blocked : List ℕ) (last : ℕ) (marks : List Mark) : Type 0 where
+  pub lawful : IsLawful marks
+  pub asked : Throughout ReadsWhenAsked marks
+  pub known : (t : ℕ) → IsTrue (among t streams) → IsTrue (is_known t marks)
+  pub holds : (t : ℕ) → IsTrue (among t blocked) → IsTrue (is_blocked t marks)
+  pub below : last_client marks ≤ last
+
+-- that is what the law of each wire keeps: right after it was opened; at each turn that it may give, where only streams
+-- that hold back are waited for; at each answer that it may give to a write of some bytes to a stream that is open; and
+-- where a stream is closed
+pub record WireKeeps (streams blocked : List ℕ) (last : ℕ) (marks : List Mark) : Type 0 where
+  pub none : OfWire (0 ∷ []) [] last []
+  pub turn : (given : Turn) (waiting : List ℕ) (want : Want) (listens : Bool) (bytes : List ℕ) → AreBytes bytes → All (λ t. IsTrue (among t blocked)) waiting → TurnFits given want listens last streams blocked bytes → OfWire streams blocked last marks → OfWire (open_after given streams) (blocked_after given blocked) (last_after given last) (reverse (wait_marks given waiting want streams listens bytes) ++ marks)
+  pub write : (answer : Wrote) (t : ℕ) (bytes : List ℕ) → AreBytes bytes → 0 < length bytes → IsTrue (among t streams) → WroteFits answer (length bytes) → OfWire streams blocked last marks → OfWire streams (blocked_after_write answer t blocked) last (reverse (write_marks answer t bytes) ++ marks)
+  pub close : (t : ℕ) → OfWire streams blocked last marks → OfWire (without t streams) (without t blocked) last marks
+
+-- of every wire
+abbrev pub WiresKeepTheLaw : Type 0
+WiresKeepTheLaw = (streams blocked : List ℕ) (last : ℕ) (marks : List Mark) → WireKeeps streams blocked last marks
