@@ -1,6 +1,6 @@
 -- What a client says itself comes after it was let in.
 use Rattle.std.proofs.Common.{◌≡◌, ℕ, List, [], ◌∷◌, ◌++◌, map, true, false, Bool, refl, ◌∙◌, ap, arith, sym, subst, Option, Some, None, inl, inr, zero, suc, take}
-use Rattle.std.specs.Prelude.{◌==◌, ◌⊎◌, ◌||◌, ◌&&◌, not, IsTrue}
+use Rattle.std.specs.Prelude.{◌==◌, ◌⊎◌, ◌||◌, ◌&&◌, not, IsTrue, if◌then◌else◌}
 use Rattle.std.proofs.lemmas.Bool.Decides.{nat_tests}
 use Rattle.mux_outside.specs.declared.house.HouseReply.{HouseReply}
 use Rattle.mux_outside.specs.declared.mark.Mark.{Mark}
@@ -8,15 +8,13 @@ use Rattle.mux_outside.specs.declared.mark.Mark.TheVariants as wire
 use Rattle.ssh_grammar.specs.Said.{BadFraming, Body, InProxy, Payload, Saying, parse}
 use Rattle.mux_history.specs.Choices.{Choices, FromLists, pick_of, replies_given, reply_at, with_reply}
 use Rattle.mux_history.specs.Controls.{body_asks, greeted}
-use Rattle.mux_history.specs.Journal.{bytes_of, heard_item, items_in, log_of_journal, new_heard, new_sayings, said_item, server_end}
+use Rattle.mux_history.specs.Journal.{IsLawful, LawfulMark, bytes_of, heard_item, is_accepted, is_known, items_in, log_of_journal, new_heard, new_sayings, said_item, server_end}
 use Rattle.mux_history.specs.Kept.{ForEach}
 use Rattle.mux_history.specs.Log.{Setting, admits, is_took, makes_next, makes_row, more_all, more_of, said_by_client, treat}
 use Rattle.mux_history.specs.Policy.{Policy}
-use Rattle.mux_history.specs.Promises.{Throughout}
 use Rattle.mux_history.specs.Rows.{Admit, Fate, Gone, Item, Refused, Row, Says, ServerFailed, any_of, is_admit, is_end, is_ended, is_out, is_refusal, loses, rows_of}
 use Rattle.mux_history.specs.Said.{silent}
 use Rattle.mux_history.specs.Settings.{by_lists}
-use Rattle.mux_isolation.specs.Bounds.{NamesKnown, is_known}
 use Rattle.mux_history.proofs.Bools.{or-left, or-right}
 use Rattle.mux_history.proofs.Finds.{filter-no, filter-yes}
 use Rattle.mux_history.proofs.KeepsApart.{admits_client}
@@ -186,17 +184,21 @@ module _ (policy : Policy) (pid : ℕ) (picks : List ℕ) (given : List HouseRep
   same-number : (a b : ℕ) → (a == b) ≡ true → a ≡ b
   same-number a b e = grind (arith, nat_tests)
 
-  known-entered : (marks : List Mark) (t : ℕ) → is_known t marks ≡ true → (t == 0) ≡ false → Entered t (log_of_journal setting marks)
-  known-entered [] t known real = absurd (let bad : true ≡ false = sym known ∙ real in let h = bad in cc)
-  known-entered (mark ∷ before) t known real = by_mark mark known (λ h. known-entered before t h real)
+  accepted-entered : (marks : List Mark) (t : ℕ) → is_accepted t marks ≡ true → Entered t (log_of_journal setting marks)
+  accepted-entered [] t accepted = cc
+  accepted-entered (mark ∷ before) t accepted = by_mark mark accepted (λ h. accepted-entered before t h)
     where
-      by_mark : (m : Mark) → is_known t (m ∷ before) ≡ true → (is_known t before ≡ true → Entered t (log_of_journal setting before)) → Entered t (more_all setting (log_of_journal setting before) (items_in before m))
-      by_mark (wire.Accepts k) known ih = by_same (k == t) refl known
+      by_mark : (m : Mark) → is_accepted t (m ∷ before) ≡ true → (is_accepted t before ≡ true → Entered t (log_of_journal setting before)) → Entered t (more_all setting (log_of_journal setting before) (items_in before m))
+      by_mark (wire.Accepts k) accepted ih = by_same (k == t) refl accepted
         where
-          by_same : (b : Bool) → (k == t) ≡ b → (b || is_known t before) ≡ true → Entered t (more_of setting (log_of_journal setting before) (Admit k))
+          by_same : (b : Bool) → (k == t) ≡ b → (if b then true else is_accepted t before) ≡ true → Entered t (more_of setting (log_of_journal setting before) (Admit k))
           by_same true e some = subst (λ (j : ℕ). Entered j (more_of setting (log_of_journal setting before) (Admit k))) (same-number k t e) (accepted-row k (log_of_journal setting before))
           by_same false e some = entered-more t (log_of_journal setting before) (Admit k ∷ []) (ih some)
-      by_mark m known ih = entered-more t (log_of_journal setting before) (items_in before m) (ih known)
+      by_mark m accepted ih = entered-more t (log_of_journal setting before) (items_in before m) (ih accepted)
+
+  -- a stream that is known and not the server's
+  known-entered : (marks : List Mark) (t : ℕ) → IsTrue (is_known t marks) → (t == 0) ≡ false → Entered t (log_of_journal setting marks)
+  known-entered marks t known real = accepted-entered marks t (sym (ap (λ b. b || is_accepted t marks) real) ∙ known)
 
   -- ---- the items of a mark
 
@@ -214,23 +216,20 @@ module _ (policy : Policy) (pid : ℕ) (picks : List ℕ) (given : List HouseRep
   end-own rows [] = tt
   end-own rows (b ∷ rest) = tt
 
-  true-of : (b : Bool) → IsTrue b → b ≡ true
-  true-of b h = h
-
   gone-own : (before : List Mark) (stream : ℕ) (item : Item) → OwnKnown (log_of_journal setting before) item → IsTrue (is_known stream before) → EachItem (OwnKnown (log_of_journal setting before)) (elim (stream == 0) as (λ _. List Item) [ true ↦ item ∷ [] | false ↦ Gone stream ∷ [] ])
   gone-own before stream item own known = by_stream (stream == 0) refl
     where
       by_stream : (b : Bool) → (stream == 0) ≡ b → EachItem (OwnKnown (log_of_journal setting before)) (elim b as (λ _. List Item) [ true ↦ item ∷ [] | false ↦ Gone stream ∷ [] ])
       by_stream true e = (own, tt)
-      by_stream false e = (known-entered before stream (true-of (is_known stream before) known) e, tt)
+      by_stream false e = (known-entered before stream known e, tt)
 
-  mark-own : (before : List Mark) (mark : Mark) → NamesKnown before mark → EachItem (OwnKnown (log_of_journal setting before)) (items_in before mark)
+  mark-own : (before : List Mark) (mark : Mark) → LawfulMark before mark → EachItem (OwnKnown (log_of_journal setting before)) (items_in before mark)
   mark-own before (wire.Accepts k) known = (tt, tt)
   mark-own before (wire.Gets stream bytes) known = by_stream (stream == 0) refl
     where
       by_stream : (b : Bool) → (stream == 0) ≡ b → EachItem (OwnKnown (log_of_journal setting before)) (elim b as (λ _. List Item) [ true ↦ new_heard (bytes_of 0 before) (bytes_of 0 before ++ bytes) | false ↦ new_sayings stream (bytes_of stream before) (bytes_of stream before ++ bytes) ])
       by_stream true e = heard-own (log_of_journal setting before) _
-      by_stream false e = said-own (log_of_journal setting before) stream _ (known-entered before stream (true-of (is_known stream before) known) e)
+      by_stream false e = said-own (log_of_journal setting before) stream _ (known-entered before stream known.0 e)
   mark-own before (wire.Ends stream) known = gone-own before stream (server_end (parse InProxy (bytes_of 0 before)).rest) (end-own (log_of_journal setting before) (parse InProxy (bytes_of 0 before)).rest) known
   mark-own before (wire.Fails stream) known = gone-own before stream ServerFailed tt known
   mark-own before (wire.WriteFails stream) known = gone-own before stream ServerFailed tt known
@@ -239,7 +238,7 @@ module _ (policy : Policy) (pid : ℕ) (picks : List ℕ) (given : List HouseRep
   mark-own before (wire.Frees stream) known = tt
   mark-own before (wire.Waits waiting want streams listening) known = tt
 
-  pub log-first : (marks : List Mark) → ForEach (RowKnown policy pid) (log_of_journal setting marks) → Throughout NamesKnown marks → ForEach LetFirst (log_of_journal setting marks)
+  pub log-first : (marks : List Mark) → ForEach (RowKnown policy pid) (log_of_journal setting marks) → IsLawful marks → ForEach LetFirst (log_of_journal setting marks)
   log-first [] each known = tt
   log-first (mark ∷ before) each known =
       firsts (log_of_journal setting before) (items_in before mark) (mark-own before mark known.0) each
@@ -251,7 +250,7 @@ module _ (policy : Policy) (pid : ℕ) (picks : List ℕ) (given : List HouseRep
   each-take P (suc n) (x ∷ xs) all = (all.0, each-take P n xs all.1)
 
   -- the same of some of the newest mark's items
-  pub cut-first : (before : List Mark) (mark : Mark) (n : ℕ) → ForEach (RowKnown policy pid) (more_all setting (log_of_journal setting before) (take n (items_in before mark))) → NamesKnown before mark → Throughout NamesKnown before → ForEach LetFirst (more_all setting (log_of_journal setting before) (take n (items_in before mark)))
+  pub cut-first : (before : List Mark) (mark : Mark) (n : ℕ) → ForEach (RowKnown policy pid) (more_all setting (log_of_journal setting before) (take n (items_in before mark))) → LawfulMark before mark → IsLawful before → ForEach LetFirst (more_all setting (log_of_journal setting before) (take n (items_in before mark)))
   cut-first before mark n each known earlier =
       firsts (log_of_journal setting before) (take n (items_in before mark)) (each-take (OwnKnown (log_of_journal setting before)) n (items_in before mark) (mark-own before mark known)) each
       (log-first before (tails (ForEach (RowKnown policy pid)) (λ row rs h. h.1) (log_of_journal setting before) (take n (items_in before mark)) each) earlier)

@@ -1,5 +1,6 @@
 -- What the master sends of its own.
-use Rattle.std.proofs.Common.{◌≡◌, ℕ, List, [], sym, subst}
+use Rattle.std.proofs.Common.{◌≡◌, ℕ, List, [], true, false, sym, subst}
+use Rattle.mux_history.specs.Controls.{is_says}
 use Rattle.mux_history.specs.Heard.{Breaks, Dest, Disconnects, ToClient, ToMaster, dest, heard_for}
 use Rattle.mux_history.specs.Kept.{Every, ForEach, OwnWords}
 use Rattle.mux_history.specs.Log.{admits, heard_row, row_of, said_by_client, treat}
@@ -11,24 +12,24 @@ use Rattle.mux_history.proofs.KeepsApart.{LawfulItem}
 use Rattle.mux_history.proofs.RightLogs.{LogKnown, by-treat}
 use Rattle.mux_history.proofs.Sends.{admits-sent, row-split}
 
-split : (before : List Row) (item : Item) (k : ℕ) (o : Outcome) → (k ≡ 0 → Every Harmless o.sent) → OwnWords before (row_of item k o (rows_of k before))
-split before item k o sent = row-split (OwnWords before) item k o (rows_of k before) (λ fw parting fate. record { farewell = parting; up = sent })
+split : (before : List Row) (item : Item) (k : ℕ) (o : Outcome) → (k ≡ 0 → Every Harmless o.sent) → (is_says item ≡ false → Every Harmless o.sent) → OwnWords before (row_of item k o (rows_of k before))
+split before item k o nobody unsaid = row-split (OwnWords before) item k o (rows_of k before) (λ fw parting fate. record { farewell = parting; up = nobody; unsaid = unsaid })
 
 none-sent : (ups : List (List ℕ)) → ups ≡ [] → Every Harmless ups
 none-sent ups none = subst (Every Harmless) (sym none) tt
 
 heard-own : (before : List Row) (p : List ℕ) (d : Dest) → OwnWords before (heard_row before p d)
-heard-own before p ToMaster = record { farewell = tt; up = λ none. harmless-master p }
-heard-own before p (ToClient k) = split before (Heard p) k (heard_for (rows_of k before) p) (λ none. harmless-heard (rows_of k before) p)
-heard-own before p Disconnects = record { farewell = tt; up = λ none. tt }
-heard-own before p (Breaks cause) = record { farewell = tt; up = λ none. tt }
+heard-own before p ToMaster = record { farewell = tt; up = λ none. harmless-master p; unsaid = λ none. harmless-master p }
+heard-own before p (ToClient k) = split before (Heard p) k (heard_for (rows_of k before) p) (λ none. harmless-heard (rows_of k before) p) (λ none. harmless-heard (rows_of k before) p)
+heard-own before p Disconnects = record { farewell = tt; up = λ none. tt; unsaid = λ none. tt }
+heard-own before p (Breaks cause) = record { farewell = tt; up = λ none. tt; unsaid = λ none. tt }
 
 own-row-says : (policy : Policy) (pid pick : ℕ) (before : List Row) (item : Item) → LawfulItem before item → OwnWords before (treat policy pid pick before item)
-own-row-says policy pid pick before (Admit k) lawful = split before (Admit k) k (admits before) (λ none. none-sent (admits before).sent (admits-sent before))
-own-row-says policy pid pick before (Says k saying given) lawful = split before (Says k saying given) k (said_by_client policy pid k (rows_of k before) pick saying given) (λ none. absurd (lawful.0 none))
-own-row-says policy pid pick before (Gone k) lawful = split before (Gone k) k silent (λ none. tt)
+own-row-says policy pid pick before (Admit k) lawful = split before (Admit k) k (admits before) (λ none. none-sent (admits before).sent (admits-sent before)) (λ none. none-sent (admits before).sent (admits-sent before))
+own-row-says policy pid pick before (Says k saying given) lawful = split before (Says k saying given) k (said_by_client policy pid k (rows_of k before) pick saying given) (λ none. absurd (lawful.0 none)) (λ says. absurd (let bad : true ≡ false = says in let h = bad in cc))
+own-row-says policy pid pick before (Gone k) lawful = split before (Gone k) k silent (λ none. tt) (λ none. tt)
 own-row-says policy pid pick before (Heard p) lawful = heard-own before p (dest before p)
-own-row-says policy pid pick before item lawful = record { farewell = tt; up = λ none. tt }
+own-row-says policy pid pick before item lawful = record { farewell = tt; up = λ none. tt; unsaid = λ none. tt }
 
 pub own-words : (policy : Policy) (pid : ℕ) (rows : List Row) → LogKnown policy pid rows → ForEach OwnWords rows
-own-words policy pid rows known = by-treat OwnWords policy pid (λ pick before item good orderly lawful makes. own-row-says policy pid pick before item lawful) (λ before stream size. record { farewell = tt; up = λ none. tt }) rows known.each
+own-words policy pid rows known = by-treat OwnWords policy pid (λ pick before item good orderly lawful makes. own-row-says policy pid pick before item lawful) (λ before stream size. record { farewell = tt; up = λ none. tt; unsaid = λ none. tt }) rows known.each

@@ -7,7 +7,7 @@ use Rattle.std.proofs.lemmas.Option.{slice_get_within}
 use Rattle.mux_history.specs.Farewell.{farewell}
 use Rattle.mux_history.specs.Gist.{Gist, Refuses, Succeeds, read_gist, reading}
 use Rattle.mux_history.specs.Heard.{Breaks, Dest, Disconnects, ToClient, ToMaster, dest, dest_gist, dest_success, for_client, for_lost, heard_for, heard_gist}
-use Rattle.mux_history.specs.Kept.{Asker, ForEach, ReachesAsker, TellsReply}
+use Rattle.mux_history.specs.Kept.{Asker, ForEach, ReachesAsker, TellsNext, TellsReply}
 use Rattle.mux_history.specs.Log.{all_told, bare, fate_with, fitting, heard_row, new_answers, overflow, queued, row_of, treat}
 use Rattle.mux_history.specs.Pending.{waiting_down}
 use Rattle.mux_history.specs.Policy.{Policy}
@@ -147,14 +147,15 @@ module _ (before : List Row) (orderly : Orderly before) (k : ℕ) (p : List ℕ)
   answers-row : answers (mute_row ∷ rows_of k before) ≡ answers_to (wanted (rows_of k before)) (replies (rows_of k before) ++ p ∷ [])
   answers-row = ap (λ w. answers_to w (replies (rows_of k before) ++ reply_in (Heard p))) (append-nil (wanted (rows_of k before))) ∙ ap (λ r. answers_to (wanted (rows_of k before)) (replies (rows_of k before) ++ r)) reply-is
 
-  new-row : (n : ℕ) × (new_answers mute_row (rows_of k before) ≡ frame_payload p ∷ replicate n (frame_payload request_failure))
+  next-row : (n : ℕ) × (answers (mute_row ∷ rows_of k before) ≡ answers (rows_of k before) ++ (p ∷ replicate n request_failure))
+  next-row =
+      let r = next-answers (wanted (rows_of k before)) (replies (rows_of k before)) p fewer in (r.0, answers-row ∙ r.1)
+
+  new-row : new_answers mute_row (rows_of k before) ≡ frame_payload p ∷ replicate next-row.0 (frame_payload request_failure)
   new-row =
-      let r = next-answers (wanted (rows_of k before)) (replies (rows_of k before)) p fewer in (
-        r.0,
-        ap (λ a. map frame_payload (drop (length (answers (rows_of k before))) a)) (answers-row ∙ r.1)
-            ∙ (ap (map frame_payload) (drop-append_seam (answers (rows_of k before)) (p ∷ replicate r.0 request_failure))
-            ∙ ap (λ xs. frame_payload p ∷ xs) (framed-all r.0 request_failure)),
-      )
+      ap (λ a. map frame_payload (drop (length (answers (rows_of k before))) a)) next-row.1
+      ∙ (ap (map frame_payload) (drop-append_seam (answers (rows_of k before)) (p ∷ replicate next-row.0 request_failure))
+      ∙ ap (λ xs. frame_payload p ∷ xs) (framed-all next-row.0 request_failure))
 
   told-row : all_told mute_row (rows_of k before) ≡ new_answers mute_row (rows_of k before)
   told-row = ap (λ b. elim (true && not b) as (λ _. List (List ℕ)) [ true ↦ [] ++ new_answers mute_row (rows_of k before) | false ↦ [] ]) alive
@@ -172,9 +173,20 @@ module _ (before : List Row) (orderly : Orderly before) (k : ℕ) (p : List ℕ)
       by_case (Err bad) reads = refl
       by_case (Ok m) reads = ap (λ b. elim b as (λ _. Outcome) [ true ↦ for_lost (rows_of k before) m | false ↦ for_client (rows_of k before) p m ]) alive ∙ by_message m (sym (reading-ok p m is_reply false reads) ∙ reply)
 
-  silent-tells : (row_of (Heard p) k silent (rows_of k before)).fate ≡ Goes → (n : ℕ) × ((row_of (Heard p) k silent (rows_of k before)).down ≡ frame_payload p ∷ replicate n (frame_payload request_failure))
-  silent-tells fate = (new-row.0, down-is ∙ (all-fit (waiting_down (rows_of k before)) (all_told mute_row (rows_of k before)) (no-overflow (overflow (waiting_down (rows_of k before)) (all_told mute_row (rows_of k before))) (sym fate-is ∙ fate)) ∙ (told-row ∙ new-row.1)))
+  silent-tells : (row_of (Heard p) k silent (rows_of k before)).fate ≡ Goes → TellsNext (rows_of k before) (row_of (Heard p) k silent (rows_of k before)) p
+  silent-tells fate = record {
+    refusals = next-row.0;
+    told = down-is ∙ (all-fit (waiting_down (rows_of k before)) (all_told mute_row (rows_of k before)) (no-overflow (overflow (waiting_down (rows_of k before)) (all_told mute_row (rows_of k before))) (sym fate-is ∙ fate)) ∙ (told-row ∙ new-row));
+    in_order = answers-are ∙ next-row.1;
+  }
     where
+      answers-are : answers (row_of (Heard p) k silent (rows_of k before) ∷ rows_of k before) ≡ answers (mute_row ∷ rows_of k before)
+      answers-are = by_case (loses (queued (all_told (bare (Heard p) k silent) (rows_of k before)) (bare (Heard p) k silent) (rows_of k before)))
+        where
+          by_case : (b : Bool) → answers ((elim b as (λ _. Row) [ true ↦ record (queued (all_told (bare (Heard p) k silent) (rows_of k before)) (bare (Heard p) k silent) (rows_of k before)) { farewell = farewell (queued (all_told (bare (Heard p) k silent) (rows_of k before)) (bare (Heard p) k silent) (rows_of k before)) (rows_of k before) } | false ↦ queued (all_told (bare (Heard p) k silent) (rows_of k before)) (bare (Heard p) k silent) (rows_of k before) ]) ∷ rows_of k before) ≡ answers (mute_row ∷ rows_of k before)
+          by_case true = refl
+          by_case false = refl
+
       plain_row : Row
       plain_row = queued (all_told (bare (Heard p) k silent) (rows_of k before)) (bare (Heard p) k silent) (rows_of k before)
 
@@ -192,20 +204,23 @@ module _ (before : List Row) (orderly : Orderly before) (k : ℕ) (p : List ℕ)
           by_case true = refl
           by_case false = refl
 
-  pub tells-reply : (row_of (Heard p) k (heard_for (rows_of k before) p) (rows_of k before)).fate ≡ Goes → (n : ℕ) × ((row_of (Heard p) k (heard_for (rows_of k before) p) (rows_of k before)).down ≡ frame_payload p ∷ replicate n (frame_payload request_failure))
-  tells-reply = subst (λ (o : Outcome). (row_of (Heard p) k o (rows_of k before)).fate ≡ Goes → (n : ℕ) × ((row_of (Heard p) k o (rows_of k before)).down ≡ frame_payload p ∷ replicate n (frame_payload request_failure))) (sym does-nothing) silent-tells
+  pub tells-reply : (row_of (Heard p) k (heard_for (rows_of k before) p) (rows_of k before)).fate ≡ Goes → TellsNext (rows_of k before) (row_of (Heard p) k (heard_for (rows_of k before) p) (rows_of k before)) p
+  tells-reply = subst (λ (o : Outcome). (row_of (Heard p) k o (rows_of k before)).fate ≡ Goes → TellsNext (rows_of k before) (row_of (Heard p) k o (rows_of k before)) p) (sym does-nothing) silent-tells
 
 tells-treat : (policy : Policy) (pid pick : ℕ) (before : List Row) (item : Item) → Orderly before → TellsReply before (treat policy pid pick before item)
 tells-treat policy pid pick before item orderly p is reply on alive = by_item item (sym (treat-item policy pid pick before item) ∙ is) on alive
   where
-    by_dest : (d : Dest) → dest before p ≡ d → (heard_row before p d).fate ≡ Goes → is_lost (rows_of (heard_row before p d).client before) ≡ false → (n : ℕ) × ((heard_row before p d).down ≡ frame_payload p ∷ replicate n (frame_payload request_failure))
+    by_dest : (d : Dest) → dest before p ≡ d → (heard_row before p d).fate ≡ Goes → is_lost (rows_of (heard_row before p d).client before) ≡ false → TellsNext (rows_of (heard_row before p d).client before) (heard_row before p d) p
     by_dest ToMaster to on alive = absurd (reply-never before p reply to)
-    by_dest (ToClient k) to on alive = tells-reply before orderly k p reply (reply-asked before k p reply to) (subst (λ (j : ℕ). is_lost (rows_of j before) ≡ false) (client-of (Heard p) k (heard_for (rows_of k before) p) (rows_of k before)) alive) on
+    by_dest (ToClient k) to on alive =
+        let mine = client-of (Heard p) k (heard_for (rows_of k before) p) (rows_of k before) in
+        subst (λ (j : ℕ). TellsNext (rows_of j before) (heard_row before p (ToClient k)) p) (sym mine)
+            (tells-reply before orderly k p reply (reply-asked before k p reply to) (subst (λ (j : ℕ). is_lost (rows_of j before) ≡ false) mine alive) on)
     by_dest Disconnects to on alive = cc
     by_dest (Breaks why) to on alive = cc
 
-    by_item : (i : Item) → i ≡ Heard p → (treat policy pid pick before i).fate ≡ Goes → is_lost (rows_of (treat policy pid pick before i).client before) ≡ false → (n : ℕ) × ((treat policy pid pick before i).down ≡ frame_payload p ∷ replicate n (frame_payload request_failure))
-    by_item (Heard q) e on alive = let same : p ≡ q = cc in subst (λ (r : List ℕ). (heard_row before r (dest before r)).fate ≡ Goes → is_lost (rows_of (heard_row before r (dest before r)).client before) ≡ false → (n : ℕ) × ((heard_row before r (dest before r)).down ≡ frame_payload p ∷ replicate n (frame_payload request_failure))) same (by_dest (dest before p) refl) on alive
+    by_item : (i : Item) → i ≡ Heard p → (treat policy pid pick before i).fate ≡ Goes → is_lost (rows_of (treat policy pid pick before i).client before) ≡ false → TellsNext (rows_of (treat policy pid pick before i).client before) (treat policy pid pick before i) p
+    by_item (Heard q) e on alive = let same : p ≡ q = cc in subst (λ (r : List ℕ). (heard_row before r (dest before r)).fate ≡ Goes → is_lost (rows_of (heard_row before r (dest before r)).client before) ≡ false → TellsNext (rows_of (heard_row before r (dest before r)).client before) (heard_row before r (dest before r)) p) same (by_dest (dest before p) refl) on alive
     by_item i e on alive = cc
 
 pub askers-served : (policy : Policy) (pid : ℕ) (rows : List Row) → LogKnown policy pid rows → ForEach Asker rows

@@ -11,9 +11,10 @@ use Rattle.mux_history.specs.Pending.{pending_up}
 use Rattle.mux_history.specs.Policy.{Policy}
 use Rattle.mux_history.specs.Promises.{Throughout}
 use Rattle.mux_history.specs.Right.{AreFresh}
+use Rattle.mux_history.specs.Wires.{reads}
 use Rattle.mux_history.specs.Rows.{Admit, Gone, Item, Row, ServerFailed, Took, is_ended}
 use Rattle.mux_history.specs.Said.{silent}
-use Rattle.mux_isolation.specs.Bounds.{AddsAtOnce, IsLog, NamesKnown, ReadsWithRoom, StaysBelow, reads}
+use Rattle.mux_isolation.specs.Bounds.{AddsAtOnce, IsLog, ReadsWithRoom, StaysBelow}
 use Rattle.std.proofs.lemmas.List.{take_all}
 use Rattle.mux_history.proofs.Journals.{logs-right}
 use Rattle.mux_history.proofs.RightLogs.{LogKnown, right-known}
@@ -66,30 +67,27 @@ module _ (policy : Policy) (pid : ℕ) (picks : List ℕ) (given : List HouseRep
 
   record Known (marks : List Mark) : Type 0 where
     lawful : IsLawful marks
-    names : Throughout NamesKnown marks
     fresh : AreFresh (log marks)
 
   log-known : (marks : List Mark) → Known marks → LogKnown policy pid (log marks)
   log-known marks known = right-known policy pid picks given marks 0 (log marks) known.lawful ((logs-right policy pid picks given marks).whole known.fresh)
 
   facts-of : (marks : List Mark) → Known marks → Facts policy pid (log marks)
-  facts-of marks known = let each = (log-known marks known).each in record { known = each; first = log-first policy pid picks given marks each known.names }
+  facts-of marks known = let each = (log-known marks known).each in record { known = each; first = log-first policy pid picks given marks each known.lawful }
 
   record KnownCut (before : List Mark) (mark : Mark) (n : ℕ) : Type 0 where
     lawful : LawfulMark before mark × IsLawful before
-    names : NamesKnown before mark × Throughout NamesKnown before
     fresh : AreFresh (cut before mark n)
 
   cut-known : (before : List Mark) (mark : Mark) (n : ℕ) → KnownCut before mark n → LogKnown policy pid (cut before mark n)
   cut-known before mark n known = let r = (logs-right policy pid picks given (mark ∷ before)).cut (cut before mark n) (n, refl) known.fresh in right-known policy pid picks given (mark ∷ before) r.0 (cut before mark n) known.lawful r.1
 
   cut-facts : (before : List Mark) (mark : Mark) (n : ℕ) → KnownCut before mark n → Facts policy pid (cut before mark n)
-  cut-facts before mark n known = let each = (cut-known before mark n known).each in record { known = each; first = cut-first policy pid picks given before mark n each known.names.0 known.names.1 }
+  cut-facts before mark n known = let each = (cut-known before mark n known).each in record { known = each; first = cut-first policy pid picks given before mark n each known.lawful.0 known.lawful.1 }
 
   known-before : (before : List Mark) (mark : Mark) (n : ℕ) → KnownCut before mark n → Known before
   known-before before mark n known = record {
     lawful = known.lawful.1;
-    names = known.names.1;
     fresh = tails policy pid picks given AreFresh (λ row rs h. h.1) (log before) (take n (items_in before mark)) known.fresh;
   }
 
@@ -243,7 +241,7 @@ module _ (policy : Policy) (pid : ℕ) (picks : List ℕ) (given : List HouseRep
   all-of-mark before mark = ap (more_all (setting policy pid picks given) (log before)) (take_all (length (items_in before mark)) (items_in before mark) (omega arith))
 
   whole-known : (before : List Mark) (mark : Mark) → Known (mark ∷ before) → KnownCut before mark (length (items_in before mark))
-  whole-known before mark known = record { lawful = known.lawful; names = known.names; fresh = subst AreFresh (sym (all-of-mark before mark)) known.fresh }
+  whole-known before mark known = record { lawful = known.lawful; fresh = subst AreFresh (sym (all-of-mark before mark)) known.fresh }
 
   bounds : (marks : List Mark) → Known marks → Throughout (ReadsWithRoom (setting policy pid picks given)) marks → Bound (log marks)
   bounds [] known rooms = record { waits = omega arith; going = λ going. omega arith }
@@ -262,18 +260,18 @@ module _ (policy : Policy) (pid : ℕ) (picks : List ℕ) (given : List HouseRep
   nothing-yet rows (inl whole) = whole
   nothing-yet rows (inr part) = part
 
-  pub adds-at-once : (marks : List Mark) (rows : List Row) → IsLawful marks → Throughout NamesKnown marks → IsLog (setting policy pid picks given) marks rows → AreFresh rows → AddsAtOnce (setting policy pid picks given) marks rows
-  adds-at-once [] rows lawful names is fresh = ap pending_up (nothing-yet rows is)
-  adds-at-once (mark ∷ before) rows lawful names is fresh =
+  pub adds-at-once : (marks : List Mark) (rows : List Row) → IsLawful marks → IsLog (setting policy pid picks given) marks rows → AreFresh rows → AddsAtOnce (setting policy pid picks given) marks rows
+  adds-at-once [] rows lawful is fresh = ap pending_up (nothing-yet rows is)
+  adds-at-once (mark ∷ before) rows lawful is fresh =
       let c = cut-of before mark rows is in
-      subst (λ rs. waits rs ≤ waits (log before) + 3981321) (sym c.1) (adds-cut before mark c.0 (record { lawful = lawful; names = names; fresh = subst AreFresh c.1 fresh }))
+      subst (λ rs. waits rs ≤ waits (log before) + 3981321) (sym c.1) (adds-cut before mark c.0 (record { lawful = lawful; fresh = subst AreFresh c.1 fresh }))
 
   below : (rows : List Row) → Bound rows → StaysBelow rows
   below rows bound = let b = bound.waits in record { within = omega (arith, b); below = omega (arith, b) }
 
-  pub stays-below : (marks : List Mark) (rows : List Row) → IsLawful marks → Throughout NamesKnown marks → IsLog (setting policy pid picks given) marks rows → AreFresh rows → Throughout (ReadsWithRoom (setting policy pid picks given)) marks → StaysBelow rows
-  stays-below [] rows lawful names is fresh rooms = subst StaysBelow (sym (nothing-yet rows is)) (record { within = omega arith; below = omega arith })
-  stays-below (mark ∷ before) rows lawful names is fresh rooms =
+  pub stays-below : (marks : List Mark) (rows : List Row) → IsLawful marks → IsLog (setting policy pid picks given) marks rows → AreFresh rows → Throughout (ReadsWithRoom (setting policy pid picks given)) marks → StaysBelow rows
+  stays-below [] rows lawful is fresh rooms = subst StaysBelow (sym (nothing-yet rows is)) (record { within = omega arith; below = omega arith })
+  stays-below (mark ∷ before) rows lawful is fresh rooms =
       let c = cut-of before mark rows is in
-      let known : KnownCut before mark c.0 = record { lawful = lawful; names = names; fresh = subst AreFresh c.1 fresh } in
+      let known : KnownCut before mark c.0 = record { lawful = lawful; fresh = subst AreFresh c.1 fresh } in
       subst StaysBelow (sym c.1) (below (cut before mark c.0) (bound-next before mark c.0 known rooms.0 (bounds before (known-before before mark c.0 known) rooms.1)))

@@ -1,14 +1,7 @@
 -- How much may wait for the server.
-use Rattle.std.specs.Prelude.{ℕ, ◌+◌, ◌*◌, ◌==◌, ◌||◌, ◌≡◌, ◌<◌, ◌≤◌, ◌⊎◌, List, [], ◌∷◌, ◌++◌, Bool, true, false, IsTrue, map, length, reverse}
+use Rattle.std.specs.Prelude.{ℕ, ◌+◌, ◌*◌, ◌≡◌, ◌<◌, ◌≤◌, ◌⊎◌, List, [], ◌∷◌, true, map, length}
 use Rattle.mux_outside.specs.declared.house.HouseReply.{HouseReply}
 use Rattle.mux_outside.specs.declared.mark.Mark.{Mark}
-use Rattle.mux_outside.specs.declared.mark.Mark.TheVariants.{Accepts, Gets, Ends, Fails, WriteFails, Waits}
-use Rattle.mux_outside.specs.declared.turn.Turn.{Turn}
-use Rattle.mux_outside.specs.declared.turn.Want.{Want}
-use Rattle.mux_outside.specs.declared.turn.Want.TheVariants.{Read}
-use Rattle.mux_outside.specs.declared.turn.Wrote.{Wrote}
-use Rattle.mux_outside.specs.Streams.{among, without}
-use Rattle.mux_outside.specs.Wire.{TurnFits, open_after, wait_marks, write_marks}
 use Rattle.ssh_grammar.specs.declared.numbers.TheConstants.{LONGEST_FRAME}
 use Rattle.ssh_grammar.specs.Frames.{frame_payload}
 use Rattle.ssh_grammar.specs.Said.{InControl, InProxy, Mode, Stopped, parse}
@@ -19,6 +12,7 @@ use Rattle.mux_history.specs.Policy.{Policy}
 use Rattle.mux_history.specs.Log.{Setting}
 use Rattle.mux_history.specs.Journal.{IsLawful, log_of_journal}
 use Rattle.mux_history.specs.Promises.{IsCut, Throughout, WaitsAt}
+use Rattle.mux_history.specs.Wires.{ReadsWhenAsked, reads}
 use Rattle.mux_history.specs.Right.{AreFresh}
 use Rattle.mux_history.specs.Settings.{by_lists}
 use Rattle.mux_history.specs.Kept.{ForEach}
@@ -57,20 +51,6 @@ RowsAddLittle = OverRight (λ setting rows. ForEach AddsLittle rows)
 
 -- ---- one mark
 
--- the stream is the server's, or that of a client that was accepted
-abbrev pub is_known : ℕ → List Mark → Bool
-is_known t [] = t == 0
-is_known t (Accepts k ∷ before) = (k == t) || is_known t before
-is_known t (mark ∷ before) = is_known t before
-
--- so is the stream that a mark names
-abbrev pub NamesKnown : List Mark → Mark → Type 0
-NamesKnown before (Gets stream bytes) = IsTrue (is_known stream before)
-NamesKnown before (Ends stream) = IsTrue (is_known stream before)
-NamesKnown before (Fails stream) = IsTrue (is_known stream before)
-NamesKnown before (WriteFails stream) = IsTrue (is_known stream before)
-NamesKnown before mark = Unit {0}
-
 -- what waits for the server
 abbrev pub waiting_up : Setting → List Mark → ℕ
 waiting_up setting marks = length (pending 0 (log_of_journal setting marks))
@@ -88,10 +68,10 @@ longest_mark = MAX_CLIENTS * (longest_farewell + MAX_FORWARDINGS * longest_cance
 abbrev pub IsLog : Setting → List Mark → List Row → Type 0
 IsLog setting marks rows = (rows ≡ log_of_journal setting marks) ⊎ IsCut setting marks rows
 
--- of every log of a journal that a wire can give, whose picks were fresh
-abbrev pub OverKnown : (Setting → List Mark → List Row → Type 0) → Type 0
-OverKnown P =
-    (policy : Policy) (pid : ℕ) (picks : List ℕ) (given : List HouseReply) (marks : List Mark) (rows : List Row) → IsLawful marks → Throughout NamesKnown marks → IsLog (by_lists policy pid picks given) marks rows → AreFresh rows → P (by_lists policy pid picks given) marks rows
+-- of every log of a lawful journal, whatever numbers are picked and whatever the house replies
+abbrev pub OverJournals : (Setting → List Mark → List Row → Type 0) → Type 0
+OverJournals P =
+    (policy : Policy) (pid : ℕ) (picks : List ℕ) (given : List HouseReply) (marks : List Mark) (rows : List Row) → IsLawful marks → IsLog (by_lists policy pid picks given) marks rows → AreFresh rows → P (by_lists policy pid picks given) marks rows
 
 -- the rows of the newest mark add no more
 abbrev pub AddsAtOnce : Setting → List Mark → List Row → Type 0
@@ -99,17 +79,11 @@ AddsAtOnce setting [] rows = pending 0 rows ≡ []
 AddsAtOnce setting (mark ∷ before) rows = length (pending 0 rows) ≤ waiting_up setting before + longest_mark
 
 abbrev pub MarksAddLittle : Type 0
-MarksAddLittle = OverKnown AddsAtOnce
+MarksAddLittle = OverJournals AddsAtOnce
 
 -- ---- all marks
 
--- bytes that are read, and clients that are accepted
-abbrev pub reads : Mark → Bool
-reads (Accepts k) = true
-reads (Gets stream bytes) = true
-reads mark = false
-
--- come only while less than 4,194,304 bytes wait for the server
+-- bytes are read and clients accepted only while less than 4,194,304 bytes wait for the server
 abbrev pub ReadsWithRoom : Setting → List Mark → Mark → Type 0
 ReadsWithRoom setting before mark = reads mark ≡ true → waiting_up setting before < READING_STOPS_AT
 
@@ -124,41 +98,15 @@ pub record StaysBelow (rows : List Row) : Type 0 where
 
 abbrev pub ServerQueueIsBounded : Type 0
 ServerQueueIsBounded =
-    OverKnown (λ setting marks rows. Throughout (ReadsWithRoom setting) marks → StaysBelow rows)
+    OverJournals (λ setting marks rows. Throughout (ReadsWithRoom setting) marks → StaysBelow rows)
 
 -- ---- all marks of a wire
 
--- the wire was just waited for, to read as well as to write
-abbrev pub FollowsRead : List Mark → Type 0
-FollowsRead (Waits waiting Read streams accepts ∷ before) = Unit {0}
-FollowsRead marks = ⊥
-
--- what any wire does: it names the server's stream and those of clients that it accepted, and it reads and accepts only
--- where it is waited for so
-pub record IsOfWire (before : List Mark) (mark : Mark) : Type 0 where
-  pub names : NamesKnown before mark
-  pub follows : reads mark ≡ true → FollowsRead before
-
--- where each wait keeps what a run promises of it, so much waits for the server at no mark
+-- where what is read and accepted comes right behind a wait for it, as every wire keeps it, and where each wait keeps
+-- what a run promises of it, so much waits for the server at no mark
 abbrev pub RunsAreBounded : Type 0
 RunsAreBounded =
-    (policy : Policy) (pid : ℕ) (picks : List ℕ) (given : List HouseReply) (marks : List Mark) (rows : List Row) → IsLawful marks → Throughout IsOfWire marks → IsLog (by_lists policy pid picks given) marks rows → AreFresh rows → Throughout (WaitsAt (by_lists policy pid picks given)) marks → StaysBelow rows
-
--- the marks of a wire on which these streams are open
-pub record OfWire (streams : List ℕ) (marks : List Mark) : Type 0 where
-  pub each : Throughout IsOfWire marks
-  pub known : (t : ℕ) → IsTrue (among t streams) → IsTrue (is_known t marks)
-
--- that is what the law of each wire keeps: from no mark on, at each turn that a wire may give, at each write to a stream
--- that is open, and where a stream is closed
-pub record WireKeeps (streams : List ℕ) (marks : List Mark) : Type 0 where
-  pub none : OfWire (0 ∷ []) []
-  pub turn : (given : Turn) (waiting : List ℕ) (want : Want) (listens : Bool) (last : ℕ) (blocked bytes : List ℕ) → TurnFits given want listens last streams blocked bytes → OfWire streams marks → OfWire (open_after given streams) (reverse (wait_marks given waiting want streams listens bytes) ++ marks)
-  pub write : (answer : Wrote) (t : ℕ) (bytes : List ℕ) → IsTrue (among t streams) → OfWire streams marks → OfWire streams (reverse (write_marks answer t bytes) ++ marks)
-  pub close : (t : ℕ) → OfWire streams marks → OfWire (without t streams) marks
-
-abbrev pub WiresKeepIt : Type 0
-WiresKeepIt = (streams : List ℕ) (marks : List Mark) → WireKeeps streams marks
+    OverJournals (λ setting marks rows. Throughout ReadsWhenAsked marks → Throughout (WaitsAt setting) marks → StaysBelow rows)
 
 -- ---- bytes that are not cut yet
 

@@ -2,7 +2,7 @@ ghost use Rattle.mux_isolation.specs.Laws.{Isolation, WindowsAreKept, Permission
 ghost use Rattle.mux_isolation.specs.Laws.{MasterSaysLittle, NothingIsLeft, AllIsKept};
 ghost use Rattle.mux_isolation.specs.Laws.{QueuesAreBounded, ChannelsAreFew, ForwardingsAreFew, RequestsAreFew, ClientsAreFew};
 ghost use Rattle.mux_isolation.specs.Laws.{ViewsShowRooms, IdleRowsLeaveViews, CutsKeepViews, RepliesAreAwaited, RowsFollowViews};
-ghost use Rattle.mux_isolation.specs.Bounds.{RowsAddLittle, MarksAddLittle, ServerQueueIsBounded, RunsAreBounded, WiresKeepIt, RestsAreShort};
+ghost use Rattle.mux_isolation.specs.Bounds.{RowsAddLittle, MarksAddLittle, ServerQueueIsBounded, RunsAreBounded, RestsAreShort};
 
 /// What an admitted client is told and what is sent for it is what an unshared connection gives from its
 /// own bytes and the server's messages for its channels, up to the numbers that stand for its own.
@@ -20,13 +20,14 @@ pub fn permissions_are_kept()
     ensures { PermissionsAreKept }
 {}
 
-/// Each reply that doesn't break the run is a row of the client that asked first.
+/// Each reply that doesn't break the run is a row of the client that asked first, and stands next among
+/// that client's answers.
 pub fn askers_are_served()
     ensures { AskersAreServed }
 {}
 
-/// What the master sends for nobody, and in farewells, is a refused request, a failed open, a close or a
-/// cancel.
+/// What the master sends that no client said, for nobody, in farewells and in answer to the server, is a
+/// refused request, a failed open, a close or a cancel.
 pub fn master_says_little()
     ensures { MasterSaysLittle }
 {}
@@ -111,16 +112,10 @@ pub fn server_queue_is_bounded()
     ensures { ServerQueueIsBounded }
 {}
 
-/// Over any wire, where each wait keeps what a run promises of it, less than 8,388,608 bytes wait for
-/// the server ever.
+/// Over any wire, which reads and accepts only right behind a wait for that, and where each wait keeps
+/// what a run promises of it, less than 8,388,608 bytes wait for the server ever.
 pub fn runs_are_bounded()
     ensures { RunsAreBounded }
-{}
-
-/// What the bound over any wire asks of the marks is what each wire's law gives: it names streams that
-/// it opened, and reads and accepts only where it is waited for so.
-pub fn wires_keep_it()
-    ensures { WiresKeepIt }
 {}
 
 /// Of a stream that is read on, at most 262,147 bytes are not cut yet.

@@ -9,5 +9,5 @@ pub use laws::{
     forwardings_are_few, idle_rows_leave_views, isolation, marks_add_little, master_says_little,
     nothing_is_left, permissions_are_kept, queues_are_bounded, replies_are_awaited,
     requests_are_few, rests_are_short, rows_add_little, rows_follow_views, runs_are_bounded,
-    server_queue_is_bounded, views_show_rooms, windows_are_kept, wires_keep_it,
+    server_queue_is_bounded, views_show_rooms, windows_are_kept,
 };
