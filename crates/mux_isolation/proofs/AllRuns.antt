@@ -1,21 +1,39 @@
 -- Isolation over all runs.
 use Rattle.std.proofs.Common.{◌≡◌, ℕ, ◌<◌, List, arith, sym, subst, drop}
 use Rattle.mux_history.specs.Journal.{IsLawful, items}
-use Rattle.mux_history.specs.Kept.{Unshared}
+use Rattle.mux_history.specs.Kept.{AtEach, ForEach, Unshared}
 use Rattle.mux_history.specs.Policy.{Policy}
 use Rattle.mux_history.specs.Requests.{replies}
-use Rattle.mux_history.specs.Right.{AreFresh, IsRight}
-use Rattle.mux_history.specs.Rows.{Row}
+use Rattle.mux_history.specs.Right.{AreFresh, IsAdmitted, IsRight}
+use Rattle.mux_history.specs.Rows.{Row, rows_of}
 use Rattle.mux_history.specs.Settings.{by_lists}
 use Rattle.mux_outside.specs.declared.house.HouseReply.{HouseReply}
 use Rattle.mux_outside.specs.declared.mark.Mark.{Mark}
 use Rattle.mux_history.proofs.Marks.{left-lawful}
-use Rattle.mux_isolation.proofs.Logs.{LogFacts, isolated, log-facts}
+use Rattle.mux_history.proofs.OwnRows.{all-of}
+use Rattle.mux_isolation.specs.Renaming.{RowIsRenamed, ViewIsRenamed}
+use Rattle.mux_isolation.proofs.Logs.{LogFacts, admitted-all, isolated, log-facts}
+use Rattle.mux_isolation.proofs.Renamed.{rows-renamed, views-renamed}
+use Rattle.mux_isolation.proofs.Unshared.{AllOwn}
 
 positive : (k : ℕ) → 0 < k → k ≡ 0 → ⊥
 positive k lt e = omega (arith, lt, e)
 
--- over all runs, each admitted client sees what it would see alone
-pub isolation : (policy : Policy) (pid : ℕ) (picks : List ℕ) (replies : List HouseReply) (marks : List Mark) (left : ℕ) (rows : List Row) → IsLawful marks → IsRight (by_lists policy pid picks replies) marks left rows → Unshared (by_lists policy pid picks replies) rows
-isolation policy pid picks replies marks left rows lawful right k lt admitted =
-    isolated policy pid k picks replies rows (subst (LogFacts policy pid k) (sym right.determined) (log-facts policy pid picks replies k (positive k lt) (drop left (items marks)) (left-lawful left marks lawful) (subst AreFresh right.determined right.fresh))) admitted
+module _ (policy : Policy) (pid : ℕ) (picks : List ℕ) (replies : List HouseReply) (marks : List Mark) (left : ℕ) (rows : List Row) (lawful : IsLawful marks) (right : IsRight (by_lists policy pid picks replies) marks left rows) where
+  facts : (k : ℕ) → 0 < k → LogFacts policy pid k rows
+  facts k lt = subst (LogFacts policy pid k) (sym right.determined) (log-facts policy pid picks replies k (positive k lt) (drop left (items marks)) (left-lawful left marks lawful) (subst AreFresh right.determined right.fresh))
+
+  own-known : (k : ℕ) (lt : 0 < k) → IsAdmitted k rows → AllOwn policy pid (rows_of k rows)
+  own-known k lt admitted = let f = facts k lt in f.own (admitted-all k (rows_of k rows) f.once admitted)
+
+  -- over all runs, each admitted client sees what it would see alone
+  pub isolation : Unshared (by_lists policy pid picks replies) rows
+  isolation k lt admitted = isolated policy pid k picks replies rows (facts k lt) admitted
+
+  -- row by row, under its own numbers
+  pub rows-alone : (k : ℕ) → 0 < k → IsAdmitted k rows → ForEach (RowIsRenamed (by_lists policy pid picks replies)) (rows_of k rows)
+  rows-alone k lt admitted = rows-renamed policy pid (rows_of k rows) (own-known k lt admitted)
+
+  -- and so is what is seen of it
+  pub views-alone : (k : ℕ) → 0 < k → IsAdmitted k rows → AtEach (ViewIsRenamed (by_lists policy pid picks replies) k) (rows_of k rows)
+  views-alone k lt admitted = let f = facts k lt in views-renamed policy pid k (rows_of k rows) (all-of k rows) f.named f.small (own-known k lt admitted)

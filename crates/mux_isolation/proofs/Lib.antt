@@ -32,6 +32,7 @@ pub mod OwedFew
 pub mod OwedSteps
 pub mod OwnSayings
 pub mod Potentials
+pub mod Renamed
 pub mod Replied
 pub mod Rows
 pub mod SentRequests

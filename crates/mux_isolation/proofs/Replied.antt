@@ -215,7 +215,7 @@ tells-treat policy pid pick before item orderly p is reply on alive = by_item it
     by_dest (ToClient k) to on alive =
         let mine = client-of (Heard p) k (heard_for (rows_of k before) p) (rows_of k before) in
         subst (λ (j : ℕ). TellsNext (rows_of j before) (heard_row before p (ToClient k)) p) (sym mine)
-            (tells-reply before orderly k p reply (reply-asked before k p reply to) (subst (λ (j : ℕ). is_lost (rows_of j before) ≡ false) mine alive) on)
+        (tells-reply before orderly k p reply (reply-asked before k p reply to) (subst (λ (j : ℕ). is_lost (rows_of j before) ≡ false) mine alive) on)
     by_dest Disconnects to on alive = cc
     by_dest (Breaks why) to on alive = cc
 

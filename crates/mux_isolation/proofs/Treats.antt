@@ -72,7 +72,7 @@ no-admits k (row ∷ own) once none =
     ap (λ b. b || any_of is_admit own) (admit-item row k own once.0 (or-left (admits_client k row.item) (any_of (λ r. admits_client k r.item) own) none))
     ∙ no-admits k own once.1 (or-right (admits_client k row.item) (any_of (λ r. admits_client k r.item) own) none)
 
-alone-admits : (own : List Row) → any_of is_admit (alone own) ≡ any_of is_admit own
+pub alone-admits : (own : List Row) → any_of is_admit (alone own) ≡ any_of is_admit own
 alone-admits [] = refl
 alone-admits (row ∷ own) = ap (λ b. b || any_of is_admit (alone own)) (admit-alone own row) ∙ ap (λ b. is_admit row || b) (alone-admits own)
 
@@ -98,7 +98,7 @@ ended-part k rows none = any-part (λ row. is_end row.fate) k rows none
 
 -- ---- look-ups alone
 
-greeted-alone : (own : List Row) → greeted (alone own) ≡ greeted own
+pub greeted-alone : (own : List Row) → greeted (alone own) ≡ greeted own
 greeted-alone [] = refl
 greeted-alone (row ∷ own) = ap (λ b. b || greeted (alone own)) (by_item row.item) ∙ ap (λ b. is_says row.item || b) (greeted-alone own)
   where
@@ -106,7 +106,7 @@ greeted-alone (row ∷ own) = ap (λ b. b || greeted (alone own)) (by_item row.i
     by_item (Heard p) = refl
     by_item item = refl
 
-out-alone : (own : List Row) → is_out (alone own) ≡ is_out own
+pub out-alone : (own : List Row) → is_out (alone own) ≡ is_out own
 out-alone [] = refl
 out-alone (row ∷ own) = ap (λ b. (b || is_refusal row.fate) || is_out (alone own)) (loses-alone own row) ∙ ap (λ b. (loses row || is_refusal row.fate) || b) (out-alone own)
 

@@ -23,7 +23,7 @@ pub ended-alone : (own : List Row) → is_ended (alone own) ≡ is_ended own
 ended-alone [] = refl
 ended-alone (row ∷ own) = ap (λ b. is_end row.fate || b) (ended-alone own)
 
-one-more : (policy : Policy) (pid : ℕ) (rows : List Row) (item : Item) → makes_next rows item ≡ true → more_of (by_own policy pid) rows item ≡ treat policy pid (said_number (own_of item)) rows item ∷ rows
+pub one-more : (policy : Policy) (pid : ℕ) (rows : List Row) (item : Item) → makes_next rows item ≡ true → more_of (by_own policy pid) rows item ≡ treat policy pid (said_number (own_of item)) rows item ∷ rows
 one-more policy pid rows item makes = ap (λ b. elim b as (λ _. List Row) [ false ↦ rows | true ↦ treat policy pid (said_number (own_of item)) rows item ∷ rows ]) makes
 
 pub solo-alone : (policy : Policy) (pid : ℕ) (own : List Row) → AllOwn policy pid own → log_of (by_own policy pid) (items_for own) ≡ alone own

@@ -2,12 +2,30 @@ ghost use Rattle.mux_isolation.specs.Laws.{Isolation, WindowsAreKept, Permission
 ghost use Rattle.mux_isolation.specs.Laws.{MasterSaysLittle, NothingIsLeft, AllIsKept};
 ghost use Rattle.mux_isolation.specs.Laws.{QueuesAreBounded, ChannelsAreFew, ForwardingsAreFew, RequestsAreFew, ClientsAreFew};
 ghost use Rattle.mux_isolation.specs.Laws.{ViewsShowRooms, IdleRowsLeaveViews, CutsKeepViews, RepliesAreAwaited, RowsFollowViews};
+ghost use Rattle.mux_isolation.specs.Renaming.{RowsAreRenamed, ViewsAreRenamed, CutsCutItems};
 ghost use Rattle.mux_isolation.specs.Bounds.{RowsAddLittle, MarksAddLittle, ServerQueueIsBounded, RunsAreBounded, RestsAreShort};
 
 /// What an admitted client is told and what is sent for it is what an unshared connection gives from its
 /// own bytes and the server's messages for its channels, up to the numbers that stand for its own.
 pub fn isolation()
     ensures { Isolation }
+{}
+
+/// Row by row: what a client's next item does in its unshared connection is what it does among others, but
+/// for the numbers that stand for its own.
+pub fn rows_are_renamed()
+    ensures { RowsAreRenamed }
+{}
+
+/// What is seen of a client at each of its rows is what is seen of it in its unshared connection, but for
+/// those numbers.
+pub fn views_are_renamed()
+    ensures { ViewsAreRenamed }
+{}
+
+/// A log that is cut has the client's items cut: a longer one has one more for each row more of the client.
+pub fn cuts_cut_items()
+    ensures { CutsCutItems }
 {}
 
 /// Data in either direction is within the room and the maximum of its channel.
