@@ -1,5 +1,5 @@
 -- The marks that a wire's law allows make a lawful journal.
-use Rattle.std.proofs.Common.{◌≡◌, ℕ, ◌+◌, ◌≤◌, ◌<◌, List, [], ◌∷◌, ◌++◌, length, take, true, false, Bool, refl, ◌∙◌, ap, arith, sym, subst, length-take}
+use Rattle.std.proofs.Common.{◌≡◌, ℕ, ◌≤◌, ◌<◌, List, [], ◌∷◌, ◌++◌, length, take, true, false, Bool, refl, ◌∙◌, ap, arith, sym, subst, length-take}
 use Rattle.std.specs.Prelude.{◌==◌, ◌||◌, not, reverse, All, IsTrue, if◌then◌else◌}
 use Rattle.std.proofs.lemmas.Bool.Decides.{nat_tests}
 use Rattle.mux_outside.specs.Streams.{among, without}

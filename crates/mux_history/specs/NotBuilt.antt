@@ -1,7 +1,7 @@
 -- The forms that are not built yet. This list shrinks with each part that is built, and goes with the last one. Of the
 -- other definitions only the items of a mark know of it: the server's bytes are one item Unserved, and what a client says
 -- behind a PROXY that is refused is read on as control messages.
-use Rattle.std.specs.Prelude.{ℕ, List, [], ◌∷◌, Option, Some, None, Result, Ok, Err, Bool, true, false, ◌&&◌, ◌||◌, nat_lt, length, zero, suc, codes}
+use Rattle.std.specs.Prelude.{ℕ, List, [], ◌∷◌, Option, Some, None, Result, Ok, Bool, true, false, ◌&&◌, ◌||◌, nat_lt, length, zero, suc, codes}
 use Rattle.ssh_grammar.specs.declared.fault.BadControl.{BadControl}
 use Rattle.ssh_grammar.specs.Control.{Control, Proxy, Failed}
 use Rattle.ssh_grammar.specs.ReadControl.{read_control}

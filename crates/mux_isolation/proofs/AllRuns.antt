@@ -3,7 +3,6 @@ use Rattle.std.proofs.Common.{◌≡◌, ℕ, ◌<◌, List, arith, sym, subst, 
 use Rattle.mux_history.specs.Journal.{IsLawful, items}
 use Rattle.mux_history.specs.Kept.{AtEach, ForEach, Unshared}
 use Rattle.mux_history.specs.Policy.{Policy}
-use Rattle.mux_history.specs.Requests.{replies}
 use Rattle.mux_history.specs.Right.{AreFresh, IsAdmitted, IsRight}
 use Rattle.mux_history.specs.Rows.{Row, rows_of}
 use Rattle.mux_history.specs.Settings.{by_lists}

@@ -1,21 +1,15 @@
 -- A client's rows and what is seen of it, alone: the same under its own numbers.
-use Rattle.std.proofs.Common.{◌≡◌, ℕ, suc, ◌<◌, List, [], ◌∷◌, ◌++◌, length, true, false, Bool, refl, ◌∙◌, ap, arith, map, sym, subst, drop, Option}
-use Rattle.std.specs.Prelude.{◌==◌, ◌||◌, ◌&&◌, filter}
+use Rattle.std.proofs.Common.{◌≡◌, ℕ, suc, List, [], ◌∷◌, ◌++◌, length, true, false, Bool, refl, ◌∙◌, ap, map, sym}
+use Rattle.std.specs.Prelude.{◌==◌, filter}
 use Rattle.mux_history.specs.Channels.{Channel, channels_of, held_of, is_held}
-use Rattle.mux_history.specs.Choices.{said_number}
-use Rattle.mux_history.specs.Controls.{greeted}
-use Rattle.mux_history.specs.Forwardings.{Forwarding, current, forwardings_of}
 use Rattle.mux_history.specs.Kept.{AtEach, ForEach}
-use Rattle.mux_history.specs.Log.{log_of, more_of}
-use Rattle.mux_history.specs.Pending.{pending_down}
+use Rattle.mux_history.specs.Log.{more_of}
 use Rattle.mux_history.specs.Policy.{Policy}
-use Rattle.mux_history.specs.Requests.{Ask, asks, replies, wanted}
-use Rattle.mux_history.specs.Rows.{Item, Row, any_of, is_admit, is_lost, is_out, rows_of}
+use Rattle.mux_history.specs.Rows.{Row, rows_of}
 use Rattle.mux_history.specs.Settings.{by_own}
 use Rattle.mux_history.specs.Solo.{item_for, items_for}
 use Rattle.mux_isolation.specs.Renaming.{MoreItems, RowIsRenamed, ViewIsRenamed, channel_alone, view_alone}
-use Rattle.mux_isolation.specs.View.{ChannelView, View, Waiting, channel_view, left_of, view_of}
-use Rattle.mux_history.proofs.CurrentSteps.{is_on}
+use Rattle.mux_isolation.specs.View.{channel_view, view_of}
 use Rattle.mux_history.proofs.Finds.{filter-no, filter-yes}
 use Rattle.mux_history.proofs.OwnRows.{AllOf, rows-all}
 use Rattle.mux_isolation.proofs.Alike.{held-own}

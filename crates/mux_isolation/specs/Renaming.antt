@@ -1,5 +1,5 @@
 -- The unshared connection row by row: each row of a client, and what is seen of the client, under its own numbers.
-use Rattle.std.specs.Prelude.{ℕ, ◌≡◌, ◌<◌, List, [], ◌∷◌, ◌++◌, length, map}
+use Rattle.std.specs.Prelude.{ℕ, ◌≡◌, ◌<◌, List, ◌∷◌, ◌++◌, length, map}
 use Rattle.mux_history.specs.Rows.{Row, Item, rows_of}
 use Rattle.mux_history.specs.Channels.{own_of}
 use Rattle.mux_history.specs.Choices.{TheirOwn}
