@@ -50,7 +50,7 @@ module _ (policy : Policy) (pid : ℕ) (picks : List ℕ) (replies : List HouseR
   lists = FromLists picks replies
 
   -- the reply changes nothing of what is asked of an item
-  reply-admits : (k : ℕ) (rows : List Row) (item : Item) → admits_client k (with_reply lists rows item) ≡ admits_client k item
+  pub reply-admits : (k : ℕ) (rows : List Row) (item : Item) → admits_client k (with_reply lists rows item) ≡ admits_client k item
   reply-admits k rows (Says j (Body body) reply) = elim (greeted (rows_of j rows) && body_asks body) as (λ b. admits_client k (elim b as (λ _. Item) [ true ↦ Says j (Body body) (Some (reply_at replies (replies_given rows))) | false ↦ Says j (Body body) None ]) ≡ false) [ true ↦ refl | false ↦ refl ]
   reply-admits k rows (Says j (Payload p) reply) = refl
   reply-admits k rows (Says j (BadFraming fault) reply) = refl

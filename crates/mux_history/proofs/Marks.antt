@@ -170,7 +170,7 @@ plain-mark before (wire.Waits waiting want streams listening) all lawful never =
 
 -- ---- each client is accepted once
 
-abbrev accepts : ℕ → Mark → Bool
+abbrev pub accepts : ℕ → Mark → Bool
 accepts k (wire.Accepts j) = j == k
 accepts k mark = false
 
@@ -178,7 +178,7 @@ other-client : (j k : ℕ) → j < k → (j == k) ≡ false
 other-client j k lt = grind (arith, nat_tests)
 
 -- clients above the last one were not accepted
-none-above : (k : ℕ) (marks : List Mark) → IsLawful marks → last_client marks < k → any_of (accepts k) marks ≡ false
+pub none-above : (k : ℕ) (marks : List Mark) → IsLawful marks → last_client marks < k → any_of (accepts k) marks ≡ false
 none-above k [] lawful lt = refl
 none-above k (mark ∷ before) lawful lt = by_mark mark lawful.0 lt (none-above k before lawful.1)
   where

@@ -43,7 +43,7 @@ harmless-may policy own (Requests what wants) h = absurd h
 harmless-may policy own (Open what c w max) h = absurd h
 harmless-may policy own m h = tt
 
-all-may : (policy : Policy) (own : List Row) (qs : List (List ℕ)) → Every Harmless qs → Every (SendOk policy own) qs
+pub all-may : (policy : Policy) (own : List Row) (qs : List (List ℕ)) → Every Harmless qs → Every (SendOk policy own) qs
 all-may policy own qs all = every-of Harmless (SendOk policy own) (λ q h m reads. harmless-may policy own m (h m reads)) qs all
 
 up-said : (policy : Policy) (k : ℕ) (own : List Row) (pick : ℕ) (p : List ℕ) (m : Gist) → AreBytes p → read_gist p ≡ Ok m → Every (SendOk policy own) (said_gist policy k own pick p m).sent

@@ -8,6 +8,8 @@ pub mod Begun
 pub mod Bounded
 pub mod Closed
 pub mod Closing
+pub mod ControlPhase
+pub mod ControlRows
 pub mod Counts
 pub mod Covers
 pub mod Early

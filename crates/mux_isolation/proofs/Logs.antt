@@ -5,7 +5,7 @@ use Rattle.std.proofs.lemmas.Bool.Decides.{nat_tests}
 use Rattle.mux_history.specs.Channels.{channels_of, own_of}
 use Rattle.mux_history.specs.Choices.{Choices, FromLists, pick_of, said_number, with_reply}
 use Rattle.mux_history.specs.Journal.{items}
-use Rattle.mux_history.specs.Log.{admits, bare, log_of, makes_next, more_of, next_row, treat}
+use Rattle.mux_history.specs.Log.{Setting, admits, bare, log_of, makes_next, more_of, next_row, treat}
 use Rattle.mux_history.specs.Policy.{Policy}
 use Rattle.mux_history.specs.Requests.{replies}
 use Rattle.mux_history.specs.Right.{AreFresh}
@@ -179,18 +179,18 @@ admitted-all k (row ∷ own) once admitted = by_case (λ h. admitted-all k own o
     by_case ih false e = (other row.item (is_admit row) once.0 e, ih (or-second (is_admit row) (any_of is_admit own) (admit-item row k own once.0 e) admitted))
 
 -- what ends the run makes no row of the client's
-run-end-same : (policy : Policy) (pid : ℕ) (rows : List Row) (items : List Item) → log_of (by_own policy pid) (run_end rows ++ items) ≡ log_of (by_own policy pid) items
-run-end-same policy pid rows items = by_end (end_of rows)
+pub run-end-same : (setting : Setting) (rows : List Row) (items : List Item) → log_of setting (run_end rows ++ items) ≡ log_of setting items
+run-end-same setting rows items = by_end (end_of rows)
   where
-    by_ended : (cause : Ended) (b : Bool) → (elim (elim b as (λ _. Bool) [ true ↦ false | false ↦ false ]) as (λ _. List Row) [ false ↦ log_of (by_own policy pid) items | true ↦ next_row (by_own policy pid) (log_of (by_own policy pid) items) (RunEnd cause) ∷ log_of (by_own policy pid) items ]) ≡ log_of (by_own policy pid) items
+    by_ended : (cause : Ended) (b : Bool) → (elim (elim b as (λ _. Bool) [ true ↦ false | false ↦ false ]) as (λ _. List Row) [ false ↦ log_of setting items | true ↦ next_row setting (log_of setting items) (RunEnd cause) ∷ log_of setting items ]) ≡ log_of setting items
     by_ended cause true = refl
     by_ended cause false = refl
 
-    by_end : (o : Option Ended) → log_of (by_own policy pid) (elim o as (λ _. List Item) [ None ↦ [] | Some cause ↦ RunEnd cause ∷ [] ] ++ items) ≡ log_of (by_own policy pid) items
+    by_end : (o : Option Ended) → log_of setting (elim o as (λ _. List Item) [ None ↦ [] | Some cause ↦ RunEnd cause ∷ [] ] ++ items) ≡ log_of setting items
     by_end None = refl
-    by_end (Some cause) = by_ended cause (is_ended (log_of (by_own policy pid) items))
+    by_end (Some cause) = by_ended cause (is_ended (log_of setting items))
 
 pub isolated : (policy : Policy) (pid k : ℕ) (picks : List ℕ) (replies : List HouseReply) (rows : List Row) → LogFacts policy pid k rows → any_of is_admit (rows_of k rows) ≡ true → IsUnshared (by_lists policy pid picks replies) k rows
 isolated policy pid k picks replies rows facts admitted =
     unshared policy pid (rows_of k rows) (facts.own (admitted-all k (rows_of k rows) facts.once admitted))
-    ∙ sym (ap (map seen_alone) (run-end-same policy pid rows (items_for (rows_of k rows))))
+    ∙ sym (ap (map seen_alone) (run-end-same (by_own policy pid) rows (items_for (rows_of k rows))))

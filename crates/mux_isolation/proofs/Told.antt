@@ -58,7 +58,7 @@ module _ (before : List Row) (k : ℕ) where
 
   -- ---- control frames carry no message
 
-  answer-tell : (answer : Answer) → TellOk before k (frame_answer answer)
+  pub answer-tell : (answer : Answer) → TellOk before k (frame_answer answer)
   answer-tell (Greets version) m reads = cc
   answer-tell (Okay id) m reads = cc
   answer-tell (PermissionDenied id reason) m reads = cc
@@ -299,7 +299,7 @@ module _ (before : List Row) (good : AreApart (channels_of before)) (k : ℕ) (p
 
 -- ---- any row
 
-down-row : (before : List Row) (item : Item) (k : ℕ) (o : Outcome) → Every (TellOk before k) o.told → TellsAllowed before (row_of item k o (rows_of k before))
+pub down-row : (before : List Row) (item : Item) (k : ℕ) (o : Outcome) → Every (TellOk before k) o.told → TellsAllowed before (row_of item k o (rows_of k before))
 down-row before item k o told = row-split (TellsAllowed before) item k o (rows_of k before) (λ fw parting fate. fitting-tell before k (waiting_down (rows_of k before)) (all_told (bare item k o) (rows_of k before)) (all-tell before k (bare item k o) (rows_of k before) told))
 
 pub master-told : (p : List ℕ) → (heard_master p).told ≡ []
@@ -320,7 +320,7 @@ down-heard before good p (ToClient k) e = down-row before (Heard p) k (heard_for
 down-heard before good p Disconnects e = tt
 down-heard before good p (Breaks why) e = tt
 
-down-treat : (policy : Policy) (pid pick : ℕ) (before : List Row) (item : Item) → AreApart (channels_of before) → TellsAllowed before (treat policy pid pick before item)
+pub down-treat : (policy : Policy) (pid pick : ℕ) (before : List Row) (item : Item) → AreApart (channels_of before) → TellsAllowed before (treat policy pid pick before item)
 down-treat policy pid pick before (Admit k) good = down-row before (Admit k) k (admits before) (admits-tell before k)
 down-treat policy pid pick before (Says k (Payload p) reply) good = down-row before (Says k (Payload p) reply) k (said_payload policy k (rows_of k before) pick p) (payload-tell before k policy (rows_of k before) pick p)
 down-treat policy pid pick before (Says k (Body body) reply) good = down-row before (Says k (Body body) reply) k (said_body pid k reply (greeted (rows_of k before)) body) (body-tell before k pid reply (greeted (rows_of k before)) body)

@@ -82,7 +82,7 @@ entered-none (row ∷ rows) none =
     ap (λ xs. xs ++ elim (is_admit row) as (λ _. List ℕ) [ true ↦ row.client ∷ [] | false ↦ [] ]) (entered-none rows (or-right (is_admit row) (any_of is_admit rows) none))
     ∙ ap (λ b. elim b as (λ _. List ℕ) [ true ↦ row.client ∷ [] | false ↦ [] ]) (or-left (is_admit row) (any_of is_admit rows) none)
 
-matters-none : (rows : List Row) → any_of is_admit rows ≡ false → open_matters rows ≡ 0
+pub matters-none : (rows : List Row) → any_of is_admit rows ≡ false → open_matters rows ≡ 0
 matters-none rows none = ap (matters_of rows) (entered-none rows none)
 
 pub any-part : (test : Row → Bool) (k : ℕ) (rows : List Row) → any_of test rows ≡ false → any_of test (rows_of k rows) ≡ false

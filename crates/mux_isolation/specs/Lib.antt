@@ -2,3 +2,4 @@ pub mod Bounds
 pub mod View
 pub mod Renaming
 pub mod Laws
+pub mod ControlPhase

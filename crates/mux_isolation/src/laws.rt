@@ -3,6 +3,7 @@ ghost use Rattle.mux_isolation.specs.Laws.{MasterSaysLittle, NothingIsLeft, AllI
 ghost use Rattle.mux_isolation.specs.Laws.{QueuesAreBounded, ChannelsAreFew, ForwardingsAreFew, RequestsAreFew, ClientsAreFew};
 ghost use Rattle.mux_isolation.specs.Laws.{ViewsShowRooms, IdleRowsLeaveViews, CutsKeepViews, RepliesAreAwaited, RowsFollowViews};
 ghost use Rattle.mux_isolation.specs.Renaming.{RowsAreRenamed, ViewsAreRenamed, CutsCutItems};
+ghost use Rattle.mux_isolation.specs.ControlPhase.{ControlPhaseIsKept};
 ghost use Rattle.mux_isolation.specs.Bounds.{RowsAddLittle, MarksAddLittle, ServerQueueIsBounded, RunsAreBounded, RestsAreShort};
 
 /// What an admitted client is told and what is sent for it is what an unshared connection gives from its
@@ -84,6 +85,12 @@ pub fn clients_are_few()
 /// and the unshared connection of each admitted client.
 pub fn all_is_kept()
     ensures { AllIsKept }
+{}
+
+/// So it is where the control phase alone is served: the log of every lawful journal keeps all that a run
+/// promises of its rows, whatever the house replies, also where want of memory cut it.
+pub fn control_phase_is_kept()
+    ensures { ControlPhaseIsKept }
 {}
 
 /// What is seen of a channel shows the rooms of both directions and how many requests have no reply.
