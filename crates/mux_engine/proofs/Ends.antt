@@ -19,7 +19,7 @@ use Rattle.mux_history.specs.Promises.{listens}
 use Rattle.mux_engine.specs.State.{ClientState, State}
 use Rattle.mux_engine.specs.Step.{is_lost, is_present, served_in, over}
 use Rattle.mux_engine.specs.Stands.{log, StandsFor, AreApart, StandsAt, EachStands, IsKnown, ArePlain, IsPlainItem, not_closed, is_accepted, IsStrange}
-use Rattle.mux_engine.proofs.Plain.{plain_of, no_channels, no_asks}
+use Rattle.mux_history.proofs.PlainRows.{plain_of, no_channels, no_asks}
 use Rattle.mux_engine.proofs.Grows.{other_row, test_other, known_row, or_true}
 use Rattle.mux_engine.proofs.Listed.{each_same}
 use Rattle.mux_engine.proofs.Served.{here_in, served_kept}

@@ -22,7 +22,7 @@ use Rattle.mux_engine.specs.State.{ClientState, State}
 use Rattle.mux_history.specs.Promises.{is_empty}
 use Rattle.mux_engine.specs.Step.{is_lost, at_client, is_present, waiting_in, loss_at, loss_in, loss_between, client_got, client_hears, client_asks, lost_client, client_took, changed, gained, gained_asks, stops_at, ended_at, taken, over, queue_in}
 use Rattle.mux_engine.specs.Stands.{setting, log, StandsFor, StandsAt, EachStands, ClientFits, ClientReads, IsReadIn, IsKnown, ArePlain, not_closed, is_accepted, IsStrange}
-use Rattle.mux_engine.proofs.Plain.{plain_of}
+use Rattle.mux_history.proofs.PlainRows.{plain_of}
 use Rattle.mux_engine.proofs.RowFacts.{RowIs, row_is, built_is}
 use Rattle.mux_engine.proofs.Fits.{out_row, standing_row}
 use Rattle.mux_engine.proofs.Grows.{Grows, grows_none, grows_row, own_row, test_other, no_stops, ended_then}

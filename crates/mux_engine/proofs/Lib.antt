@@ -4,7 +4,6 @@ pub mod Nexts
 pub mod Hearing
 pub mod HearsThere
 pub mod Clients
-pub mod Plain
 pub mod RowFacts
 pub mod Says
 pub mod Fits

@@ -17,7 +17,7 @@ use Rattle.mux_history.specs.Log.{more_all, more_of, next_row, makes_next, treat
 use Rattle.mux_history.specs.Journal.{built_items, bytes_of, said_item, server_end, new_heard, new_spoken}
 use Rattle.mux_history.proofs.LawfulItems.{client-of}
 use Rattle.mux_engine.specs.Stands.{setting, log, ArePlain}
-use Rattle.mux_engine.proofs.Plain.{nothing_up}
+use Rattle.mux_history.proofs.PlainRows.{nothing_up}
 use Rattle.mux_engine.proofs.Grows.{other_row}
 
 -- the stream of a mark

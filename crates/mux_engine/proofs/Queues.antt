@@ -17,7 +17,7 @@ use Rattle.mux_engine.specs.State.{ClientState, State}
 use Rattle.mux_engine.specs.Events.{Tells, client_of}
 use Rattle.mux_engine.specs.Step.{is_present, in_client, queue_in, waiting_in, at_client, client_got, lost_client, changed, gained, Steps, entered, added, refused, new_client, refused_client, over, after, served_in, SameClient}
 use Rattle.mux_engine.specs.Stands.{log, StandsFor, AreApart, EachStands}
-use Rattle.mux_engine.proofs.Plain.{nothing_up}
+use Rattle.mux_history.proofs.PlainRows.{nothing_up}
 use Rattle.mux_engine.proofs.Grows.{test_other}
 use Rattle.mux_engine.proofs.Pieces.{got_number}
 use Rattle.mux_engine.proofs.Listed.{KeepsNumber, found, Found, not_here}

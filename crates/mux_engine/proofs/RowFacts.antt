@@ -7,7 +7,7 @@ use Rattle.mux_history.specs.Said.{Outcome}
 use Rattle.mux_history.specs.NotBuilt.{ProxyMode, ServerSays, built, otherwise, unbuilt, proxy_outcome, server_fate}
 use Rattle.mux_history.specs.Log.{bare, goes, all_told, fitting, overflow, fate_with, queued, with_farewell, row_of, new_answers}
 use Rattle.mux_engine.specs.Stands.{IsPlainItem, ArePlain}
-use Rattle.mux_engine.proofs.Plain.{no_farewell, nothing_answered}
+use Rattle.mux_history.proofs.PlainRows.{no_farewell, nothing_answered}
 
 -- what is known of a row
 pub record RowIs (item : Item) (k : ℕ) (down : List (List ℕ)) (fate : Fate) (row : Row) : Type 0 where

@@ -20,7 +20,7 @@ use Rattle.mux_history.specs.Log.{fitting, overflow, fate_with, row_of, next_row
 use Rattle.mux_engine.specs.Answer.{answer, reading_answer, or_other, asks}
 use Rattle.mux_engine.specs.Heeded.{reply_if, next_reply}
 use Rattle.mux_engine.specs.Stands.{ArePlain, setting}
-use Rattle.mux_engine.proofs.Plain.{plain_of}
+use Rattle.mux_history.proofs.PlainRows.{plain_of}
 use Rattle.mux_engine.proofs.RowFacts.{RowIs, row_is, built_is, built_other}
 
 -- ---- a control message sends nothing to the server

@@ -10,6 +10,7 @@ use Rattle.mux_history.specs.Rows.{Row, rows_of, is_out, is_ended, losses, any_o
 use Rattle.mux_history.specs.Pending.{pending_down}
 use Rattle.mux_history.specs.Policy.{Anything}
 use Rattle.mux_history.specs.Controls.{greeted}
+pub use Rattle.mux_history.specs.PlainRows.{IsPlainItem, IsPlain, ArePlain}
 use Rattle.mux_history.specs.NotBuilt.{ProxyMode, ServerSays, spoken}
 use Rattle.mux_history.specs.Choices.{FromLists, replies_given}
 use Rattle.mux_history.specs.Log.{Setting, served, entered}
@@ -95,21 +96,6 @@ is_accepted k (mark ∷ before) = is_accepted k before
 
 abbrev pub not_closed : List ℕ → ℕ × Option Why → Bool
 not_closed closed l = not (among l.0 closed)
-
--- a row that says nothing to the server and hears nothing of it
-abbrev pub IsPlainItem : Item → Type 0
-IsPlainItem (Says k (Payload p) given) = ⊥
-IsPlainItem (Heard p) = ⊥
-IsPlainItem _ = Unit {0}
-
-pub record IsPlain (row : Row) : Type 0 where
-  pub item : IsPlainItem row.item
-  pub up : row.up ≡ []
-  pub farewell : row.farewell ≡ []
-
-abbrev pub ArePlain : List Row → Type 0
-ArePlain [] = Unit {0}
-ArePlain (row ∷ before) = IsPlain row × ArePlain before
 
 -- the rows of a client that was let in: it was never refused
 pub record IsKnown (own : List Row) : Type 0 where

@@ -23,6 +23,7 @@ pub mod Nexts
 pub mod OwnRows
 pub mod PendingSteps
 pub mod Picks
+pub mod PlainRows
 pub mod Quiets
 pub mod Readings
 pub mod Renumbered

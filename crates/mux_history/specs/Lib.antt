@@ -1,5 +1,6 @@
 pub mod Gist
 pub mod Rows
+pub mod PlainRows
 pub mod Pending
 pub mod Channels
 pub mod Ledger

@@ -29,13 +29,13 @@ fitting-bound have (f ∷ fs) le = by_case (nat_le (have + length f) 33554432) r
     by_case false e ih = omega arith
 
 -- a row keeps it for its client
-abbrev Keeps : List Row → Row → Type 0
+abbrev pub Keeps : List Row → Row → Type 0
 Keeps before row = waiting_down (rows_of row.client before) ≤ 33554432 → waiting_down (rows_of row.client before) + length (joined row.down) ≤ 33554432
 
-keeps-row : (before : List Row) (item : Item) (k : ℕ) (o : Outcome) → Keeps before (row_of item k o (rows_of k before))
+pub keeps-row : (before : List Row) (item : Item) (k : ℕ) (o : Outcome) → Keeps before (row_of item k o (rows_of k before))
 keeps-row before item k o = row-split (Keeps before) item k o (rows_of k before) (λ fw parting fate le. fitting-bound (waiting_down (rows_of k before)) (all_told (bare item k o) (rows_of k before)) le)
 
-keeps-none : (before : List Row) (row : Row) → row.down ≡ [] → Keeps before row
+pub keeps-none : (before : List Row) (row : Row) → row.down ≡ [] → Keeps before row
 keeps-none before row none le = let e = ap (λ fs. length (joined fs)) none in omega arith
 
 keeps-heard : (before : List Row) (p : List ℕ) (d : Dest) → Keeps before (heard_row before p d)
@@ -44,7 +44,7 @@ keeps-heard before p (ToClient k) = keeps-row before (Heard p) k (heard_for (row
 keeps-heard before p Disconnects = keeps-none before (heard_row before p Disconnects) refl
 keeps-heard before p (Breaks why) = keeps-none before (heard_row before p (Breaks why)) refl
 
-keeps-treat : (policy : Policy) (pid pick : ℕ) (before : List Row) (item : Item) → Keeps before (treat policy pid pick before item)
+pub keeps-treat : (policy : Policy) (pid pick : ℕ) (before : List Row) (item : Item) → Keeps before (treat policy pid pick before item)
 keeps-treat policy pid pick before (Admit k) = keeps-row before (Admit k) k (admits before)
 keeps-treat policy pid pick before (Says k saying reply) = keeps-row before (Says k saying reply) k (said_by_client policy pid k (rows_of k before) pick saying reply)
 keeps-treat policy pid pick before (Gone k) = keeps-row before (Gone k) k silent
@@ -65,9 +65,9 @@ waits (row ∷ before) each k = by_case (waits before each.1 k) (row.client == k
         omega arith
     by_case ih false e = subst (λ (rs : List Row). waiting_down rs ≤ 33554432) (sym (filter-no (λ (r : Row). r.client == k) row before e)) ih
 
-at-each : (rows : List Row) → ForEach Keeps rows → AtEach WaitsBounded rows
-at-each [] each = waits [] each
-at-each (row ∷ before) each = (waits (row ∷ before) each, at-each before each.1)
+pub waits-at-each : (rows : List Row) → ForEach Keeps rows → AtEach WaitsBounded rows
+waits-at-each [] each = waits [] each
+waits-at-each (row ∷ before) each = (waits (row ∷ before) each, waits-at-each before each.1)
 
 pub queues-bounded : (policy : Policy) (pid : ℕ) (rows : List Row) → LogKnown policy pid rows → AtEach WaitsBounded rows
-queues-bounded policy pid rows known = at-each rows (by-treat Keeps policy pid (λ pick before item good orderly may makes. keeps-treat policy pid pick before item) (λ before stream size. keeps-none before (bare (Took stream size) stream silent) refl) rows known.each)
+queues-bounded policy pid rows known = waits-at-each rows (by-treat Keeps policy pid (λ pick before item good orderly may makes. keeps-treat policy pid pick before item) (λ before stream size. keeps-none before (bare (Took stream size) stream silent) refl) rows known.each)

@@ -1,42 +1,50 @@
 -- Over every lawful journal, a run in which the control phase alone is served keeps all that is promised of its rows.
 use Rattle.std.proofs.Common.{◌≡◌, ℕ, ◌<◌, List, [], ◌∷◌, ◌++◌, length, true, false, Bool, refl, ◌∙◌, ap, arith, map, sym, subst, drop, take, zero, suc, inl, inr}
-use Rattle.std.specs.Prelude.{◌==◌, ◌||◌, not, filter, nat_lt}
+use Rattle.std.specs.Prelude.{◌==◌, ◌||◌, ◌&&◌, not, filter, nat_lt}
 use Rattle.std.proofs.lemmas.Bool.Decides.{nat_tests}
 use Rattle.mux_outside.specs.declared.house.HouseReply.{HouseReply}
 use Rattle.mux_outside.specs.declared.mark.Mark.{Mark}
 use Rattle.mux_outside.specs.declared.mark.Mark.TheVariants as wire
 use Rattle.ssh_grammar.specs.Control.{Greets}
-use Rattle.ssh_grammar.specs.Frames.{Faulty, Frame, Front, More, frame_answer}
+use Rattle.ssh_grammar.specs.Frames.{Faulty, Frame, Front, More, frame_answer, frame_payload}
 use Rattle.ssh_grammar.specs.Said.{BadFraming, Body, InControl as ReadsControl, InProxy, Mode, Payload, Saying, Stopped, first_in, mode_after, parse, parse_front}
 use Rattle.ssh_grammar.specs.declared.numbers.TheConstants.{VERSION}
 use Rattle.mux_history.specs.Channels.{Channel, channels_of, held_of, is_held, is_number, own_of}
 use Rattle.mux_history.specs.Choices.{pick_of, said_number, with_reply}
 use Rattle.mux_history.specs.Journal.{IsLawful, LawfulMark, bytes_of, built_items, control_items, log_of_journal, new_heard, new_spoken, said_item, server_end}
-use Rattle.mux_history.specs.Kept.{Asker, AtEach, Every, ForEach, Kept, NumbersApart}
+use Rattle.mux_history.specs.Kept.{Asker, AtEach, Every, ForEach, NumbersApart}
 use Rattle.mux_history.specs.Laws.{IsOf}
 use Rattle.mux_history.specs.Log.{Setting, admits, makes_next, makes_row, more_all, more_of, next_row, open_matters, row_of, treat}
 use Rattle.mux_history.specs.NotBuilt.{built, proxy_outcome, server_fate, spoken, spoken_by, unproxied}
+use Rattle.mux_history.specs.Farewell.{has_open_matters}
+use Rattle.mux_history.specs.Pending.{given_to, joined}
+use Rattle.mux_history.specs.PlainRows.{ArePlain, IsPlain}
+use Rattle.mux_history.specs.Requests.{asks, replies}
 use Rattle.mux_history.specs.Policy.{Policy}
 use Rattle.mux_history.specs.Right.{IsAdmitted}
-use Rattle.mux_history.specs.Rows.{Admit, BadServer, Gone, Heard, Item, Refused, Row, RunEnd, Says, ServerCut, ServerEnd, ServerFailed, Took, Unserved, any_of, is_admit, is_out, rows_of, sent_by}
+use Rattle.mux_history.specs.Rows.{Admit, BadServer, Gone, Heard, Item, Refused, Row, RunEnd, Says, ServerCut, ServerEnd, ServerFailed, Took, Unserved, any_of, is_admit, is_out, rows_of, sent_by, is_lost, loses}
 use Rattle.mux_history.specs.Said.{Outcome, silent, tells}
 use Rattle.mux_history.specs.Settings.{control_alone}
 use Rattle.mux_history.specs.Solo.{IsUnshared, items_for, seen_alone}
 use Rattle.mux_isolation.specs.Bounds.{IsLog}
+use Rattle.mux_isolation.specs.ControlPhase.{KeepsControl}
 use Rattle.mux_history.proofs.Apart.{same-number}
 use Rattle.mux_history.proofs.Bools.{or-left, or-right}
 use Rattle.mux_history.proofs.Finds.{filter-no, filter-yes}
-use Rattle.mux_history.proofs.Harmless.{Harmless, every-append}
+use Rattle.mux_history.proofs.Harmless.{Harmless}
 use Rattle.mux_history.proofs.KeepsApart.{admits_client}
 use Rattle.mux_history.proofs.LawfulItems.{client-of, item-of, reply-admits, reply-next, treat-item}
 use Rattle.mux_history.proofs.Locality.{rows-local}
 use Rattle.mux_history.proofs.Marks.{accepts, none-above}
 use Rattle.mux_history.proofs.Nexts.{by-next, next-live, next-took}
 use Rattle.mux_history.proofs.OwnRows.{rows-twice}
+use Rattle.mux_history.proofs.PlainRows.{no_asks, no_channels, plain_of}
 use Rattle.mux_isolation.proofs.Allowed.{all-may}
-use Rattle.mux_isolation.proofs.ControlRows.{AllHere, Here, InControl, IsControl, alone_by, built-item, built-plain, lists, next, next-client, next-control, next-item, no-channels, reply-control, seen-here, setting, solo-here}
+use Rattle.mux_isolation.proofs.ControlRows.{AllHere, Here, InControl, IsControl, alone_by, are-plain, built-item, built-plain, lists, next, next-client, next-control, next-item, reply-control, seen-here, setting, solo-here}
 use Rattle.mux_isolation.proofs.Entries.{EachItem}
 use Rattle.mux_isolation.proofs.Logs.{AllUnrefused, admitted-all, run-end-same}
+use Rattle.mux_isolation.proofs.Bounded.{Keeps, waits-at-each}
+use Rattle.mux_isolation.proofs.Matters.{FewMore, StayClosed, few-at-each}
 use Rattle.mux_isolation.proofs.Mays.{SendsAllowed, TellsAllowed, permissions, windows}
 use Rattle.mux_isolation.proofs.Treats.{AdmitFact, AdmitOnce, Unrefused, any-part, ended-part, matters-none, no-admits}
 
@@ -301,7 +309,7 @@ module _ (policy : Policy) (pid : ℕ) (picks : List ℕ) (given : List HouseRep
       row = next policy pid picks given rows item
 
       control : InControl rows row
-      control = next-control policy pid picks given rows item (no-channels rows facts.each) fine.control
+      control = next-control policy pid picks given rows item (are-plain rows facts.each) fine.control
 
       mine : row.client ≡ k → Mine solo_run k (rows_of k rows) row
       mine is =
@@ -415,10 +423,13 @@ module _ (policy : Policy) (pid : ℕ) (picks : List ℕ) (given : List HouseRep
 
   -- ---- what is promised of the rows
 
+  nothing-sent : (row : Row) → IsPlain row → sent_by row ≡ []
+  nothing-sent row plain = ap (λ ups. ups ++ row.farewell) plain.up ∙ plain.farewell
+
   sends-allowed : (rows : List Row) → ForEach InControl rows → ForEach (SendsAllowed policy) rows
   sends-allowed [] each = tt
   sends-allowed (row ∷ before) each = (
-    all-may policy (rows_of row.client before) (sent_by row) (every-append Harmless row.up row.farewell (subst (Every Harmless) (sym each.0.up) tt) each.0.farewell),
+    all-may policy (rows_of row.client before) (sent_by row) (subst (Every Harmless) (sym (nothing-sent row each.0.plain)) tt),
     sends-allowed before each.1,
   )
 
@@ -433,8 +444,8 @@ module _ (policy : Policy) (pid : ℕ) (picks : List ℕ) (given : List HouseRep
   askers [] each = tt
   askers (row ∷ before) each = (
     record {
-      reaches = λ p is. absurd (heard-never row.item p each.0.item is);
-      tells = λ p is. absurd (heard-never row.item p each.0.item is);
+      reaches = λ p is. absurd (heard-never row.item p each.0.control is);
+      tells = λ p is. absurd (heard-never row.item p each.0.control is);
     },
     askers before each.1,
   )
@@ -448,7 +459,7 @@ module _ (policy : Policy) (pid : ℕ) (picks : List ℕ) (given : List HouseRep
 
   numbers : (rows : List Row) → ForEach InControl rows → AtEach NumbersApart rows
   numbers [] each = none-held [] refl
-  numbers (row ∷ before) each = (none-held (row ∷ before) (no-channels (row ∷ before) each), numbers before each.1)
+  numbers (row ∷ before) each = (none-held (row ∷ before) (no_channels (row ∷ before) (are-plain (row ∷ before) each)), numbers before each.1)
 
   positive : (k : ℕ) → 0 < k → k ≡ 0 → ⊥
   positive k lt e = omega (arith, lt, e)
@@ -461,13 +472,78 @@ module _ (policy : Policy) (pid : ℕ) (picks : List ℕ) (given : List HouseRep
       ∙ (sym (ap (map seen_alone) (solo-here solo_run (rows_of k rows) here))
       ∙ sym (ap (map seen_alone) (run-end-same solo_run rows (items_for (rows_of k rows)))))
 
-  pub control-kept : (marks : List Mark) (rows : List Row) → IsLawful marks → IsLog run marks rows → Kept run rows
+  -- ---- the limits
+
+  nothing-given : (rows : List Row) → ForEach InControl rows → given_to 0 rows ≡ []
+  nothing-given [] each = refl
+  nothing-given (row ∷ before) each = ap (λ bytes. bytes ++ joined (map frame_payload (sent_by row))) (nothing-given before each.1) ∙ ap (λ ups. joined (map frame_payload ups)) (nothing-sent row each.0.plain)
+
+  all-keep : (rows : List Row) → ForEach InControl rows → ForEach Keeps rows
+  all-keep [] each = tt
+  all-keep (row ∷ before) each = (each.0.keeps, all-keep before each.1)
+
+  -- matters are open while a client is let in and not lost, and no longer
+  plain-matters : (own : List Row) → ArePlain own → has_open_matters own ≡ (any_of is_admit own && not (is_lost own))
+  plain-matters own plain =
+      let held : held_of own ≡ [] = ap (filter is_held) (no_channels own plain) in
+      ap (λ xs. (any_of is_admit own && not (is_lost own)) || (any_of is_held xs || nat_lt (length (replies own)) (length (asks own)))) held
+      ∙ (ap (λ xs. (any_of is_admit own && not (is_lost own)) || nat_lt (length (replies own)) (length xs)) (no_asks own plain)
+      ∙ (ap (λ b. (any_of is_admit own && not (is_lost own)) || b) (never-less (length (replies own)))
+      ∙ or-none (any_of is_admit own && not (is_lost own))))
+    where
+      never-less : (n : ℕ) → nat_lt n 0 ≡ false
+      never-less n = grind (arith, nat_tests)
+
+      or-none : (b : Bool) → (b || false) ≡ b
+      or-none true = refl
+      or-none false = refl
+
+  stay-closed : (before : List Row) (row : Row) → ArePlain (row ∷ before) → StayClosed before row
+  stay-closed before row plain k admitted closed = by_client (row.client == k) refl
+    where
+      own : ArePlain (rows_of k before)
+      own = plain_of k before plain.1
+
+      gone : is_lost (rows_of k before) ≡ true
+      gone = by_lost (is_lost (rows_of k before)) refl
+        where
+          by_lost : (b : Bool) → is_lost (rows_of k before) ≡ b → is_lost (rows_of k before) ≡ true
+          by_lost true e = e
+          by_lost false e =
+              let open_yet : has_open_matters (rows_of k before) ≡ true = plain-matters (rows_of k before) own ∙ (ap (λ a. a && not (is_lost (rows_of k before))) admitted ∙ ap not e) in
+              let bad : true ≡ false = sym open_yet ∙ closed in absurd (let h = bad in cc)
+
+      lost-stays : (a b : Bool) → b ≡ true → (a || b) ≡ true
+      lost-stays true b e = refl
+      lost-stays false b e = e
+
+      and-none : (a b : Bool) → b ≡ true → (a && not b) ≡ false
+      and-none true b e = ap not e
+      and-none false b e = refl
+
+      by_client : (b : Bool) → (row.client == k) ≡ b → has_open_matters (rows_of k (row ∷ before)) ≡ false
+      by_client true e =
+          ap has_open_matters (filter-yes (λ (r : Row). r.client == k) row before e)
+          ∙ (plain-matters (row ∷ rows_of k before) (plain.0, own)
+          ∙ and-none (any_of is_admit (row ∷ rows_of k before)) (is_lost (row ∷ rows_of k before)) (lost-stays (loses row) (is_lost (rows_of k before)) gone))
+      by_client false e = ap has_open_matters (filter-no (λ (r : Row). r.client == k) row before e) ∙ closed
+
+  few : (rows : List Row) → ForEach InControl rows → ForEach FewMore rows
+  few [] each = tt
+  few (row ∷ before) each = (record { stay = stay-closed before row (are-plain (row ∷ before) each); room = each.0.room }, few before each.1)
+
+  pub control-kept : (marks : List Mark) (rows : List Row) → IsLawful marks → IsLog run marks rows → KeepsControl run rows
   control-kept marks rows lawful is =
       let each = (log-facts 1 (λ e. absurd (let h = e in omega (arith, h))) marks rows lawful is).each in
       record {
-        window = windows policy rows (sends-allowed rows each) (tells-allowed rows each);
-        permission = permissions policy rows (sends-allowed rows each) (tells-allowed rows each);
-        asker = askers rows each;
-        apart = numbers rows each;
-        unshared = unshared marks rows lawful is;
+        kept = record {
+          window = windows policy rows (sends-allowed rows each) (tells-allowed rows each);
+          permission = permissions policy rows (sends-allowed rows each) (tells-allowed rows each);
+          asker = askers rows each;
+          apart = numbers rows each;
+          unshared = unshared marks rows lawful is;
+        };
+        silent = nothing-given rows each;
+        queues = waits-at-each rows (all-keep rows each);
+        clients = few-at-each rows (few rows each);
       }

@@ -7,21 +7,25 @@ use Rattle.ssh_grammar.specs.Control.{Control, Failed, Proxy}
 use Rattle.ssh_grammar.specs.ReadControl.{read_control}
 use Rattle.ssh_grammar.specs.Said.{BadFraming, Body, Payload}
 use Rattle.ssh_grammar.specs.declared.fault.BadControl.{BadControl}
-use Rattle.mux_history.specs.Channels.{after_farewell, after_item, begun_by, channels_of, own_of}
+use Rattle.mux_history.specs.Channels.{channels_of, own_of}
 use Rattle.mux_history.specs.Choices.{Choices, FromLists, TheirOwn, pick_of, replies_given, reply_at, with_reply}
 use Rattle.mux_history.specs.Controls.{answers_with, body_asks, greeted, said_body}
-use Rattle.mux_history.specs.Kept.{Every, ForEach}
-use Rattle.mux_history.specs.Log.{Setting, admits, log_of, makes_next, more_of, next_row, row_of, said_by_client, treat}
+use Rattle.mux_history.specs.Kept.{ForEach}
+use Rattle.mux_history.specs.Log.{Setting, admits, all_told, bare, queued, log_of, makes_next, more_of, next_row, row_of, said_by_client, treat}
 use Rattle.mux_history.specs.NotBuilt.{built, no_proxy, otherwise, proxy_outcome, refuses_proxy, server_fate, unbuilt}
+use Rattle.mux_history.specs.Farewell.{farewell}
+use Rattle.mux_history.specs.PlainRows.{ArePlain, IsPlain, IsPlainItem}
 use Rattle.mux_history.specs.Policy.{Policy}
-use Rattle.mux_history.specs.Rows.{Admit, Fate, Gone, Heard, Item, Row, RunEnd, Says, rows_of}
+use Rattle.mux_history.specs.Rows.{Admit, Fate, Gone, Heard, Item, Row, RunEnd, Says, rows_of, loses}
 use Rattle.mux_history.specs.Said.{Outcome, silent}
 use Rattle.mux_history.specs.Settings.{control_alone, in_control}
 use Rattle.mux_history.specs.Solo.{item_for, items_for, own_ups, seen, seen_alone}
 use Rattle.mux_history.proofs.Apart.{AreApart}
-use Rattle.mux_history.proofs.Harmless.{Harmless}
+use Rattle.mux_history.proofs.PlainRows.{no_channels, no_farewell, plain_of}
 use Rattle.mux_history.proofs.LawfulItems.{client-of, item-of, treat-item}
-use Rattle.mux_history.proofs.Sends.{admits-sent, body-sent, row-split}
+use Rattle.mux_history.proofs.Sends.{admits-sent, body-sent}
+use Rattle.mux_isolation.proofs.Bounded.{Keeps, keeps-none, keeps-row, keeps-treat}
+use Rattle.mux_isolation.proofs.Matters.{Room, not-admit, treat-room}
 use Rattle.mux_isolation.proofs.Mays.{TellsAllowed}
 use Rattle.mux_isolation.proofs.Told.{answer-tell, down-row, down-treat}
 
@@ -40,13 +44,6 @@ owns-none (Says k (Body body) given) control = refl
 owns-none (Says k (BadFraming fault) given) control = refl
 owns-none (Heard p) control = absurd control
 owns-none item control = refl
-
-begins-none : (k : ℕ) (item : Item) → IsControl item → begun_by k [] item ≡ []
-begins-none k (Says j (Payload p) given) control = absurd control
-begins-none k (Says j (Body body) given) control = refl
-begins-none k (Says j (BadFraming fault) given) control = refl
-begins-none k (Heard p) control = absurd control
-begins-none k item control = refl
 
 same-item : (own : List Row) (item : Item) → IsControl item → item_for own item ≡ item
 same-item own (Heard p) control = absurd control
@@ -72,22 +69,22 @@ proxy-refusal (Says k (Body body) given) own o is = by_greeted (greeted own) is
 proxy-refusal item own o is = absurd (let h = is in cc)
 
 -- a fact of the row that an item makes, of the answer to a PROXY, and of a row that ends the run and does nothing else
-by-built : (P : Row → Type 0) (row : Row) (own : List Row) → P row → ((o : Outcome) → proxy_outcome row.item own ≡ Some o → P (row_of row.item row.client o own)) → ((r : Row) (fate : Fate) → P r → P (record r { up = []; farewell = []; down = []; fate = fate })) → P (built control_alone row own)
+by-built : (P : Row → Type 0) (row : Row) (own : List Row) → P row → ((o : Outcome) → proxy_outcome row.item own ≡ Some o → P (row_of row.item row.client o own)) → ((r : Row) (fate : Fate) → server_fate r.item ≡ Some fate → P r → P (record r { up = []; farewell = []; down = []; fate = fate })) → P (built control_alone row own)
 by-built P row own plain refused ended = by_proxy (proxy_outcome row.item own) refl
   where
-    by_server : (r : Row) (o : Option Fate) → P r → P (unbuilt o r)
-    by_server r None p = p
-    by_server r (Some fate) p = ended r fate p
+    by_server : (r : Row) (o : Option Fate) → server_fate r.item ≡ o → P r → P (unbuilt o r)
+    by_server r None e p = p
+    by_server r (Some fate) e p = ended r fate e p
 
     by_proxy : (o : Option Outcome) → proxy_outcome row.item own ≡ o → P (unbuilt (server_fate (otherwise o row own).item) (otherwise o row own))
-    by_proxy None e = by_server row (server_fate row.item) plain
-    by_proxy (Some o) e = by_server (row_of row.item row.client o own) (server_fate (row_of row.item row.client o own).item) (refused o e)
+    by_proxy None e = by_server row (server_fate row.item) refl plain
+    by_proxy (Some o) e = by_server (row_of row.item row.client o own) (server_fate (row_of row.item row.client o own).item) refl (refused o e)
 
 pub built-item : (row : Row) (own : List Row) → (built control_alone row own).item ≡ row.item
-built-item row own = by-built (λ r. r.item ≡ row.item) row own refl (λ o is. item-of row.item row.client o own) (λ r fate is. is)
+built-item row own = by-built (λ r. r.item ≡ row.item) row own refl (λ o is. item-of row.item row.client o own) (λ r fate over is. is)
 
 pub built-client : (row : Row) (own : List Row) → (built control_alone row own).client ≡ row.client
-built-client row own = by-built (λ r. r.client ≡ row.client) row own refl (λ o is. client-of row.item row.client o own) (λ r fate is. is)
+built-client row own = by-built (λ r. r.client ≡ row.client) row own refl (λ o is. client-of row.item row.client o own) (λ r fate over is. is)
 
 -- where the form is built the row stays
 pub built-plain : (row : Row) (own : List Row) → proxy_outcome row.item own ≡ None → server_fate row.item ≡ None → built control_alone row own ≡ row
@@ -96,39 +93,50 @@ built-plain row own unproxied served =
 
 -- ---- each row
 
--- it says nothing to the server of its own item, and tells the client no message
+-- it says nothing to the server, tells the client no message, keeps the bound of its queue, and lets in only below the limit
 pub record InControl (before : List Row) (row : Row) : Type 0 where
-  pub item : IsControl row.item
-  pub up : row.up ≡ []
-  pub farewell : Every Harmless row.farewell
+  pub control : IsControl row.item
+  pub plain : IsPlain row
   pub down : TellsAllowed before row
+  pub keeps : Keeps before row
+  pub room : Room before row
+
+pub are-plain : (rows : List Row) → ForEach InControl rows → ArePlain rows
+are-plain [] each = tt
+are-plain (row ∷ rows) each = (each.0.plain, are-plain rows each.1)
+
+plain-item : (item : Item) → IsControl item → IsPlainItem item
+plain-item (Says k (Payload p) given) control = absurd control
+plain-item (Says k (Body body) given) control = tt
+plain-item (Says k (BadFraming fault) given) control = tt
+plain-item (Heard p) control = absurd control
+plain-item item control = tt
 
 record SendsNothing (row : Row) : Type 0 where
   up : row.up ≡ []
-  farewell : Every Harmless row.farewell
+  farewell : row.farewell ≡ []
 
-sends-nothing : (item : Item) (k : ℕ) (o : Outcome) (own : List Row) → o.sent ≡ [] → SendsNothing (row_of item k o own)
-sends-nothing item k o own none = row-split SendsNothing item k o own (λ fw parting fate. record { up = none; farewell = parting })
+sends-nothing : (item : Item) (k : ℕ) (o : Outcome) (own : List Row) → IsControl item → ArePlain own → o.sent ≡ [] → SendsNothing (row_of item k o own)
+sends-nothing item k o own control plain none = by_loss (loses told)
+  where
+    told : Row
+    told = queued (all_told (bare item k o) own) (bare item k o) own
 
-treat-sends : (policy : Policy) (pid pick : ℕ) (before : List Row) (item : Item) → IsControl item → SendsNothing (treat policy pid pick before item)
-treat-sends policy pid pick before (Admit k) control = sends-nothing (Admit k) k (admits before) (rows_of k before) (admits-sent before)
-treat-sends policy pid pick before (Says k (Body body) given) control = sends-nothing (Says k (Body body) given) k (said_body pid k given (greeted (rows_of k before)) body) (rows_of k before) (body-sent pid k given (greeted (rows_of k before)) body)
-treat-sends policy pid pick before (Says k (BadFraming fault) given) control = sends-nothing (Says k (BadFraming fault) given) k (said_by_client policy pid k (rows_of k before) pick (BadFraming fault) given) (rows_of k before) refl
-treat-sends policy pid pick before (Says k (Payload p) given) control = absurd control
-treat-sends policy pid pick before (Gone k) control = sends-nothing (Gone k) k silent (rows_of k before) refl
-treat-sends policy pid pick before (Heard p) control = absurd control
-treat-sends policy pid pick before item control = record { up = refl; farewell = tt }
+    by_loss : (b : Bool) → SendsNothing (elim b as (λ _. Row) [ true ↦ record told { farewell = farewell told own } | false ↦ told ])
+    by_loss true = record { up = none; farewell = no_farewell told own (plain-item item control) none plain }
+    by_loss false = record { up = none; farewell = refl }
 
-none-apart : (rows : List Row) → channels_of rows ≡ [] → AreApart (channels_of rows)
-none-apart rows none = subst AreApart (sym none) (record { each = tt; apart = tt })
+treat-sends : (policy : Policy) (pid pick : ℕ) (before : List Row) (item : Item) → IsControl item → ArePlain before → SendsNothing (treat policy pid pick before item)
+treat-sends policy pid pick before (Admit k) control plain = sends-nothing (Admit k) k (admits before) (rows_of k before) control (plain_of k before plain) (admits-sent before)
+treat-sends policy pid pick before (Says k (Body body) given) control plain = sends-nothing (Says k (Body body) given) k (said_body pid k given (greeted (rows_of k before)) body) (rows_of k before) control (plain_of k before plain) (body-sent pid k given (greeted (rows_of k before)) body)
+treat-sends policy pid pick before (Says k (BadFraming fault) given) control plain = sends-nothing (Says k (BadFraming fault) given) k (said_by_client policy pid k (rows_of k before) pick (BadFraming fault) given) (rows_of k before) control (plain_of k before plain) refl
+treat-sends policy pid pick before (Says k (Payload p) given) control plain = absurd control
+treat-sends policy pid pick before (Gone k) control plain = sends-nothing (Gone k) k silent (rows_of k before) control (plain_of k before plain) refl
+treat-sends policy pid pick before (Heard p) control plain = absurd control
+treat-sends policy pid pick before item control plain = record { up = refl; farewell = refl }
 
--- with such rows no channel begins
-pub no-channels : (rows : List Row) → ForEach InControl rows → channels_of rows ≡ []
-no-channels [] each = refl
-no-channels (row ∷ rows) each =
-    ap (λ xs. map (after_farewell row) (map (after_item row) xs ++ begun_by row.client row.up row.item)) (no-channels rows each.1)
-    ∙ (ap (λ u. map (after_farewell row) (begun_by row.client u row.item)) each.0.up
-    ∙ ap (map (after_farewell row)) (begins-none row.client row.item each.0.item))
+none-apart : (rows : List Row) → ArePlain rows → AreApart (channels_of rows)
+none-apart rows plain = subst AreApart (sym (no_channels rows plain)) (record { each = tt; apart = tt })
 
 -- ---- the rows of a client alone
 
@@ -191,8 +199,8 @@ module _ (policy : Policy) (pid : ℕ) (picks : List ℕ) (given : List HouseRep
   pub next-client : (rows : List Row) (item : Item) → (next rows item).client ≡ (treated rows item).client
   next-client rows item = built-client (treated rows item) (rows_of (treated rows item).client rows)
 
-  pub next-control : (rows : List Row) (item : Item) → channels_of rows ≡ [] → IsControl item → InControl rows (next rows item)
-  next-control rows item none control = by-built (InControl rows) (treated rows item) (rows_of (treated rows item).client rows) plain refused ended
+  pub next-control : (rows : List Row) (item : Item) → ArePlain rows → IsControl item → InControl rows (next rows item)
+  next-control rows item plain control = by-built (InControl rows) (treated rows item) (rows_of (treated rows item).client rows) as_treated refused ended
     where
       is : (treated rows item).item ≡ with_reply lists rows item
       is = treat-item policy pid (pick_of lists rows item) rows (with_reply lists rows item)
@@ -201,31 +209,43 @@ module _ (policy : Policy) (pid : ℕ) (picks : List ℕ) (given : List HouseRep
       still = subst IsControl (sym is) (reply-control rows item control)
 
       sends : SendsNothing (treated rows item)
-      sends = treat-sends policy pid (pick_of lists rows item) rows (with_reply lists rows item) (reply-control rows item control)
+      sends = treat-sends policy pid (pick_of lists rows item) rows (with_reply lists rows item) (reply-control rows item control) plain
 
-      plain : InControl rows (treated rows item)
-      plain = record {
-        item = still;
-        up = sends.up;
-        farewell = sends.farewell;
-        down = down-treat policy pid (pick_of lists rows item) rows (with_reply lists rows item) (none-apart rows none);
+      as_treated : InControl rows (treated rows item)
+      as_treated = record {
+        control = still;
+        plain = record { item = plain-item (treated rows item).item still; up = sends.up; farewell = sends.farewell };
+        down = down-treat policy pid (pick_of lists rows item) rows (with_reply lists rows item) (none-apart rows plain);
+        keeps = keeps-treat policy pid (pick_of lists rows item) rows (with_reply lists rows item);
+        room = treat-room policy pid (pick_of lists rows item) rows (with_reply lists rows item);
       }
 
-      answered : (k : ℕ) (i : Item) (id : ℕ) → IsControl i → InControl rows (row_of i k (answers_with (Failed id no_proxy)) (rows_of k rows))
-      answered k i id control =
-          let s = sends-nothing i k (answers_with (Failed id no_proxy)) (rows_of k rows) refl in
+      -- the answer to a PROXY, which no admission is
+      answered : (k : ℕ) (i : Item) (id : ℕ) → IsControl i → ((j : ℕ) → i ≡ Admit j → ⊥) → InControl rows (row_of i k (answers_with (Failed id no_proxy)) (rows_of k rows))
+      answered k i id control other =
+          let s = sends-nothing i k (answers_with (Failed id no_proxy)) (rows_of k rows) control (plain_of k rows plain) refl in
+          let same = item-of i k (answers_with (Failed id no_proxy)) (rows_of k rows) in
+          let here : IsControl (row_of i k (answers_with (Failed id no_proxy)) (rows_of k rows)).item = subst IsControl (sym same) control in
           record {
-            item = subst IsControl (sym (item-of i k (answers_with (Failed id no_proxy)) (rows_of k rows))) control;
-            up = s.up;
-            farewell = s.farewell;
+            control = here;
+            plain = record { item = plain-item (row_of i k (answers_with (Failed id no_proxy)) (rows_of k rows)).item here; up = s.up; farewell = s.farewell };
             down = down-row rows i k (answers_with (Failed id no_proxy)) (answer-tell rows k (Failed id no_proxy), tt);
+            keeps = keeps-row rows i k (answers_with (Failed id no_proxy));
+            room = λ admitted. absurd (not-admit (row_of i k (answers_with (Failed id no_proxy)) (rows_of k rows)) i same other admitted);
           }
 
       refused : (o : Outcome) → proxy_outcome (treated rows item).item (rows_of (treated rows item).client rows) ≡ Some o → InControl rows (row_of (treated rows item).item (treated rows item).client o (rows_of (treated rows item).client rows))
       refused o e =
           let r = proxy-refusal (treated rows item).item (rows_of (treated rows item).client rows) o e in
           subst (λ (x : Outcome). InControl rows (row_of (treated rows item).item (treated rows item).client x (rows_of (treated rows item).client rows))) r.1
-          (answered (treated rows item).client (treated rows item).item r.0 still)
+          (answered (treated rows item).client (treated rows item).item r.0 still
+          (λ j admits. let bad : None ≡ Some o = sym (ap (λ i. proxy_outcome i (rows_of (treated rows item).client rows)) admits) ∙ e in absurd (let h = bad in cc)))
 
-      ended : (r : Row) (fate : Fate) → InControl rows r → InControl rows (record r { up = []; farewell = []; down = []; fate = fate })
-      ended r fate known = record { item = known.item; up = refl; farewell = tt; down = tt }
+      ended : (r : Row) (fate : Fate) → server_fate r.item ≡ Some fate → InControl rows r → InControl rows (record r { up = []; farewell = []; down = []; fate = fate })
+      ended r fate over known = record {
+        control = known.control;
+        plain = record { item = known.plain.item; up = refl; farewell = refl };
+        down = tt;
+        keeps = keeps-none rows (record r { up = []; farewell = []; down = []; fate = fate }) refl;
+        room = λ admitted. absurd (not-admit (record r { up = []; farewell = []; down = []; fate = fate }) r.item refl (λ j admits. (let bad : None ≡ Some fate = sym (ap server_fate admits) ∙ over in let h = bad in cc)) admitted);
+      }

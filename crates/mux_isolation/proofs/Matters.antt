@@ -23,15 +23,20 @@ abbrev pub LetIn : List Row → List ℕ → Type 0
 LetIn rows [] = Unit {0}
 LetIn rows (k ∷ ks) = (any_of is_admit (rows_of k rows) ≡ true) × LetIn rows ks
 
-matters-next : (policy : Policy) (pid : ℕ) (before : List Row) (row : Row) → LogKnown policy pid before → RowKnown policy pid before row → (ks : List ℕ) → LetIn before ks → matters_of (row ∷ before) ks ≤ matters_of before ks
-matters-next policy pid before row log known [] ins = omega arith
-matters-next policy pid before row log known (k ∷ ks) ins = by_case (matters-next policy pid before row log known ks ins.1) (has_open_matters (rows_of k before)) refl (has_open_matters (rows_of k (row ∷ before))) refl
+-- closed matters of a client that was let in stay closed
+abbrev pub StayClosed : List Row → Row → Type 0
+StayClosed before row =
+    (k : ℕ) → any_of is_admit (rows_of k before) ≡ true → has_open_matters (rows_of k before) ≡ false → has_open_matters (rows_of k (row ∷ before)) ≡ false
+
+matters-next : (before : List Row) (row : Row) → StayClosed before row → (ks : List ℕ) → LetIn before ks → matters_of (row ∷ before) ks ≤ matters_of before ks
+matters-next before row stay [] ins = omega arith
+matters-next before row stay (k ∷ ks) ins = by_case (matters-next before row stay ks ins.1) (has_open_matters (rows_of k before)) refl (has_open_matters (rows_of k (row ∷ before))) refl
   where
     by_case : matters_of (row ∷ before) ks ≤ matters_of before ks → (a : Bool) → has_open_matters (rows_of k before) ≡ a → (b : Bool) → has_open_matters (rows_of k (row ∷ before)) ≡ b → (elim b as (λ _. ℕ) [ true ↦ matters_of (row ∷ before) ks + 1 | false ↦ matters_of (row ∷ before) ks ]) ≤ (elim a as (λ _. ℕ) [ true ↦ matters_of before ks + 1 | false ↦ matters_of before ks ])
     by_case ih true e true f = omega (arith, ih)
     by_case ih true e false f = omega (arith, ih)
     by_case ih false e false f = ih
-    by_case ih false e true f = let bad : false ≡ true = sym (closed-next policy pid before row log known k ins.0 e) ∙ f in absurd (let h = bad in cc)
+    by_case ih false e true f = let bad : false ≡ true = sym (stay k ins.0 e) ∙ f in absurd (let h = bad in cc)
 
 matters-one : (rows : List Row) (ks : List ℕ) (c : ℕ) → matters_of rows (ks ++ c ∷ []) ≤ matters_of rows ks + 1
 matters-one rows [] c = by_case (has_open_matters (rows_of c rows))
@@ -78,10 +83,10 @@ let-entered (row ∷ before) = let-append (row ∷ before) (entered before) (eli
 is-less : (a b : ℕ) → nat_lt a b ≡ true → a + 1 ≤ b
 is-less a b e = grind (arith, nat_tests)
 
-abbrev Room : List Row → Row → Type 0
+abbrev pub Room : List Row → Row → Type 0
 Room before row = is_admit row ≡ true → open_matters before + 1 ≤ 64
 
-not-admit : (row : Row) (item : Item) → row.item ≡ item → ((k : ℕ) → item ≡ Admit k → ⊥) → is_admit row ≡ true → ⊥
+pub not-admit : (row : Row) (item : Item) → row.item ≡ item → ((k : ℕ) → item ≡ Admit k → ⊥) → is_admit row ≡ true → ⊥
 not-admit row item is not admitted =
     let bad : false ≡ true = sym (by_item row.item row.fate (λ k e. not k (sym is ∙ e))) ∙ admitted in
     absurd (let h = bad in cc)
@@ -91,7 +96,7 @@ not-admit row item is not admitted =
     by_item i Refused other = refl
     by_item i fate other = refl
 
-treat-room : (policy : Policy) (pid pick : ℕ) (before : List Row) (item : Item) → Room before (treat policy pid pick before item)
+pub treat-room : (policy : Policy) (pid pick : ℕ) (before : List Row) (item : Item) → Room before (treat policy pid pick before item)
 treat-room policy pid pick before (Admit k) admitted = by_case (nat_lt (open_matters before) 64) refl
   where
     by_case : (b : Bool) → nat_lt (open_matters before) 64 ≡ b → open_matters before + 1 ≤ 64
@@ -103,15 +108,20 @@ treat-room policy pid pick before item admitted = absurd (not-admit (treat polic
 
 -- ---- all rows
 
-matters-few : (policy : Policy) (pid : ℕ) (before : List Row) (row : Row) → LogKnown policy pid before → RowKnown policy pid before row → MattersBounded before → MattersBounded (row ∷ before)
-matters-few policy pid before row log known le = by_case (is_admit row) refl
+-- a row closes nothing again, and lets in only below the limit
+pub record FewMore (before : List Row) (row : Row) : Type 0 where
+  pub stay : StayClosed before row
+  pub room : Room before row
+
+matters-few : (before : List Row) (row : Row) → FewMore before row → MattersBounded before → MattersBounded (row ∷ before)
+matters-few before row few le = by_case (is_admit row) refl
   where
     less : matters_of (row ∷ before) (entered before) ≤ open_matters before
-    less = matters-next policy pid before row log known (entered before) (let-entered before)
+    less = matters-next before row few.stay (entered before) (let-entered before)
 
     by_case : (b : Bool) → is_admit row ≡ b → matters_of (row ∷ before) (entered before ++ elim b as (λ _. List ℕ) [ true ↦ row.client ∷ [] | false ↦ [] ]) ≤ 64
     by_case true e =
-        let room = subst (Room before) known.is (treat-room policy pid known.pick before known.item) e in
+        let room = few.room e in
         let one = matters-one (row ∷ before) (entered before) row.client in
         let l = less in
         omega (arith, room)
@@ -124,16 +134,23 @@ matters-few policy pid before row log known le = by_case (is_admit row) refl
         no-one [] = refl
         no-one (k ∷ ks) = ap (λ rest. k ∷ rest) (no-one ks)
 
-of-before : (policy : Policy) (pid : ℕ) (row : Row) (before : List Row) → RowKnown policy pid before row → ForEach (RowKnown policy pid) before → LogKnown policy pid before
-of-before policy pid row before known each = record { each = each; good = known.good; orderly = known.orderly }
+last-few : (rows : List Row) → ForEach FewMore rows → MattersBounded rows
+last-few [] each = omega arith
+last-few (row ∷ before) each = matters-few before row each.0 (last-few before each.1)
 
-last-few : (policy : Policy) (pid : ℕ) (rows : List Row) → ForEach (RowKnown policy pid) rows → MattersBounded rows
-last-few policy pid [] each = omega arith
-last-few policy pid (row ∷ before) each = matters-few policy pid before row (of-before policy pid row before each.0 each.1) each.0 (last-few policy pid before each.1)
+pub few-at-each : (rows : List Row) → ForEach FewMore rows → AtEach MattersBounded rows
+few-at-each [] each = last-few [] each
+few-at-each (row ∷ before) each = (last-few (row ∷ before) each, few-at-each before each.1)
 
-at-each : (policy : Policy) (pid : ℕ) (rows : List Row) → ForEach (RowKnown policy pid) rows → AtEach MattersBounded rows
-at-each policy pid [] each = last-few policy pid [] each
-at-each policy pid (row ∷ before) each = (last-few policy pid (row ∷ before) each, at-each policy pid before each.1)
+few-more : (policy : Policy) (pid : ℕ) (rows : List Row) → ForEach (RowKnown policy pid) rows → ForEach FewMore rows
+few-more policy pid [] each = tt
+few-more policy pid (row ∷ before) each = (
+  record {
+    stay = closed-next policy pid before row (record { each = each.1; good = each.0.good; orderly = each.0.orderly }) each.0;
+    room = subst (Room before) each.0.is (treat-room policy pid each.0.pick before each.0.item);
+  },
+  few-more policy pid before each.1,
+)
 
 pub matters-bounded : (policy : Policy) (pid : ℕ) (rows : List Row) → LogKnown policy pid rows → AtEach MattersBounded rows
-matters-bounded policy pid rows known = at-each policy pid rows known.each
+matters-bounded policy pid rows known = few-at-each rows (few-more policy pid rows known.each)

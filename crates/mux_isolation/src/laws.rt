@@ -87,8 +87,9 @@ pub fn all_is_kept()
     ensures { AllIsKept }
 {}
 
-/// So it is where the control phase alone is served: the log of every lawful journal keeps all that a run
-/// promises of its rows, whatever the house replies, also where want of memory cut it.
+/// Where the control phase alone is served, the log of every lawful journal keeps all that a run promises of
+/// its rows, whatever the house replies, also where want of memory cut it: what each admitted client is told
+/// is what an unshared connection gives, the server is given nothing, and the limits hold.
 pub fn control_phase_is_kept()
     ensures { ControlPhaseIsKept }
 {}

@@ -1,0 +1,21 @@
+-- Rows that say nothing to the server and hear nothing of it.
+use Rattle.std.specs.Prelude.{◌≡◌, List, [], ◌∷◌}
+use Rattle.ssh_grammar.specs.Said.{Payload}
+use Rattle.mux_history.specs.Rows.{Row, Item, Says, Heard}
+
+-- what neither a client in proxy mode nor the server said
+abbrev pub IsPlainItem : Item → Type 0
+IsPlainItem (Says k (Payload p) given) = ⊥
+IsPlainItem (Heard p) = ⊥
+IsPlainItem _ = Unit {0}
+
+-- and sends nothing
+pub record IsPlain (row : Row) : Type 0 where
+  pub item : IsPlainItem row.item
+  pub up : row.up ≡ []
+  pub farewell : row.farewell ≡ []
+
+-- each of them
+abbrev pub ArePlain : List Row → Type 0
+ArePlain [] = Unit {0}
+ArePlain (row ∷ before) = IsPlain row × ArePlain before
