@@ -1,11 +1,11 @@
 -- The arms of an offer.
-use Rattle.std.proofs.Common.{◌≡◌, ◌≢◌, ◌≤◌, ◌<◌, ◌-◌, ℕ, Bool, true, false, ◌||◌, List, [], ◌∷◌, length, drop, Option, refl, sym, ap, ◌∙◌, subst, inl, inr, cond, arith, length-drop}
+use Rattle.std.proofs.Common.{◌≡◌, ◌≢◌, ◌≤◌, ◌<◌, ◌-◌, ℕ, Bool, true, false, List, [], ◌∷◌, length, drop, Option, refl, sym, ap, ◌∙◌, subst, inl, inr, cond, arith, length-drop}
 use Rattle.std.specs.Prelude.{◌==◌, is_some, Result, Ok, Err, MatchResult, IsErr}
 use Rattle.std.specs.Bool.{MatchBool}
 use Rattle.std.proofs.lemmas.Bool.{eqb-true}
 use Rattle.std.proofs.lemmas.Bool.Decides.{eqb_tells}
 use Rattle.mux_outside.specs.Counts.{Rose}
-use Rattle.mux_outside.specs.Streams.{among, without}
+use Rattle.mux_outside.specs.Streams.{without}
 use Rattle.mux_outside.specs.Wire.{StreamFault}
 use Rattle.mux_outside.specs.declared.house.HouseReply.{HouseReply}
 use Rattle.mux_outside.specs.declared.mark.Mark.{Mark}
@@ -15,8 +15,8 @@ use Rattle.mux_engine.specs.State.{ClientState, State}
 use Rattle.mux_engine.specs.Step.{is_present, numbers, queue_in, at_client, client_took, taken, over, changed, lost_client, after, Steps}
 use Rattle.mux_engine.specs.Stands.{setting, StandsFor}
 use Rattle.mux_engine.specs.Serving.{ServingBy}
-use Rattle.mux_engine.proofs.Grows.{test_other, or_true}
-use Rattle.mux_engine.proofs.Wires.{among_numbers, numbers_at}
+use Rattle.mux_engine.proofs.Grows.{test_other}
+use Rattle.mux_engine.proofs.Wires.{numbers_at}
 use Rattle.mux_engine.proofs.Offers.{serve_empty, without_other, AtStream, at_stream, nonzero_here}
 
 pub seen_same : (rs : List HouseReply) (dn pid : ℕ) (start told : Option (List Mark)) (streams streams' blocked blocked' held held' : List ℕ) (listens listens' : Bool) (last last' given : ℕ) (todo : List ℕ) (s s' : State) → ServingBy rs dn pid start told streams blocked held listens last given todo s
@@ -68,9 +68,6 @@ client_fault k a b c d nz f = by_test (k == 0) (test_other k 0 nz) f
     by_test : (t : Bool) → t ≡ false → MatchBool t (Rose a b × (d ≡ c)) ((b ≡ a) × Rose c d) → b ≡ a
     by_test true e f = absurd (cc)
     by_test false e f = f.0
-
-pub here_open : (rs : List HouseReply) (dn pid : ℕ) (start told : Option (List Mark)) (streams blocked held : List ℕ) (listens : Bool) (last given : ℕ) (todo : List ℕ) (s : State) (k : ℕ) → ServingBy rs dn pid start told streams blocked held listens last given todo s → is_present s.clients k ≡ true → among k streams ≡ true
-here_open rs dn pid start told streams blocked held listens last given todo s k v here = ap (among k) v.open_are ∙ (ap (λ b. (0 == k) || b) (among_numbers k s.clients ∙ here) ∙ or_true (0 == k))
 
 pub here_nonzero : (rs : List HouseReply) (dn pid : ℕ) (start told : Option (List Mark)) (streams blocked held : List ℕ) (listens : Bool) (last given : ℕ) (todo : List ℕ) (s : State) (k : ℕ) → ServingBy rs dn pid start told streams blocked held listens last given todo s → is_present s.clients k ≡ true → k ≢ 0
 here_nonzero rs dn pid start told streams blocked held listens last given todo s k v here = nonzero_here rs dn s v.journal v.closed k v.stands here

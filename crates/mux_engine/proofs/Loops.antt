@@ -10,6 +10,7 @@ use Rattle.mux_outside.specs.declared.mark.Mark.{Mark}
 use Rattle.mux_history.specs.declared.why.Why.{Why}
 use Rattle.mux_history.specs.Rows.{rows_of, is_out, losses}
 use Rattle.mux_history.specs.Promises.{IsSettled, is_empty}
+use Rattle.mux_history.proofs.Wires.{wire-keeps}
 use Rattle.mux_engine.specs.State.{ClientState, State}
 use Rattle.mux_engine.specs.Step.{is_present, numbers, queue_in, without_client, closed_by, first_of}
 use Rattle.mux_engine.specs.Stands.{setting, log, StandsFor, IsFirst, not_closed}
@@ -130,6 +131,7 @@ serve_closed rs dn pid start told streams blocked held listens last given todo s
       closed = k ∷ v.closed;
       pid_is = v.pid_is;
       tells = v.tells;
+      of_wire = (wire-keeps streams blocked last v.journal).close k v.of_wire;
       stands = closes_by rs dn s k first v.journal v.closed v.stands;
       kept = v.kept;
       waits = v.waits;

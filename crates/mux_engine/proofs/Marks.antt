@@ -10,6 +10,7 @@ use Rattle.mux_outside.specs.declared.mark.Mark.{Mark}
 use Rattle.mux_outside.specs.declared.mark.Mark.TheVariants.{Waits, Accepts, Gets, Ends, Frees, Fails, Takes, Holds, WriteFails}
 use Rattle.mux_history.specs.Journal.{is_blocked}
 use Rattle.mux_history.specs.Promises.{IsSettled, write_failed, waits_in}
+use Rattle.mux_history.specs.Wires.{OfWire}
 use Rattle.mux_engine.specs.State.{State}
 use Rattle.mux_engine.specs.Step.{is_present, numbers, after, asked_at}
 use Rattle.mux_engine.specs.Stands.{setting, log, StandsFor, is_accepted}
@@ -70,12 +71,13 @@ says_mark s journal (Holds k) o acc = absurd o
 says_mark s journal (WriteFails k) o acc = absurd o
 
 pub next_says : (rs : List HouseReply) (dn pid : ℕ) (start told : Option (List Mark)) (streams blocked held : List ℕ) (hears : Bool) (last given : ℕ) (s : State) (v : ServingBy rs dn pid start told streams blocked held hears last given [] s) (mark : Mark)
-    → OfStream mark → among (mark_stream mark) streams ≡ true → Next rs dn pid s v.journal streams blocked held last given (numbers (after s (drop dn rs) mark).clients) mark
-next_says rs dn pid start told streams blocked held hears last given s v mark o found =
+    → OfStream mark → among (mark_stream mark) streams ≡ true → OfWire streams blocked last (mark ∷ v.journal) → Next rs dn pid s v.journal streams blocked held last given (numbers (after s (drop dn rs) mark).clients) mark
+next_says rs dn pid start told streams blocked held hears last given s v mark o found of =
     let acc : mark_stream mark ≢ 0 → is_accepted (mark_stream mark) v.journal ≡ true = λ nz. accepted_here rs dn s v.journal v.closed (mark_stream mark) v.stands (stream_here rs dn pid start told streams blocked held hears last given [] s (mark_stream mark) v found nz) in
     let m : Says s v.journal mark = says_mark s v.journal mark o acc in
     record {
       allowed = m.allowed;
+      of_wire = of;
       promise = m.promise rs pid;
       waits = m.waits ∙ v.waits;
       open_are = v.open_are ∙ ap (λ l. 0 ∷ l) (sym (after_numbers s (drop dn rs) mark m.comes));
@@ -89,8 +91,8 @@ next_says rs dn pid start told streams blocked held hears last given s v mark o 
 
 -- a client comes
 pub next_accepts : (rs : List HouseReply) (dn pid : ℕ) (start told : Option (List Mark)) (streams blocked held : List ℕ) (hears : Bool) (last given : ℕ) (s : State) (v : ServingBy rs dn pid start told streams blocked held hears last given [] s) (k : ℕ)
-    → k ≡ last + 1 → s.ended ≡ None → Next rs dn pid s v.journal (streams ++ k ∷ []) blocked held k given (numbers (after s (drop dn rs) (Accepts k)).clients) (Accepts k)
-next_accepts rs dn pid start told streams blocked held hears last given s v k e live =
+    → k ≡ last + 1 → s.ended ≡ None → OfWire (streams ++ k ∷ []) blocked k (Accepts k ∷ v.journal) → Next rs dn pid s v.journal (streams ++ k ∷ []) blocked held k given (numbers (after s (drop dn rs) (Accepts k)).clients) (Accepts k)
+next_accepts rs dn pid start told streams blocked held hears last given s v k e live of =
     let mark : Mark = Accepts k in
     let new : last < k = omega arith in
     let u : IsUnseen v.journal blocked k = v.unseen k new in
@@ -99,6 +101,7 @@ next_accepts rs dn pid start told streams blocked held hears last given s v k e 
     let among_more : (t : ℕ) → among t (numbers s.clients ++ k ∷ []) ≡ (among t (numbers s.clients) || ((k == t) || false)) = λ t. list_any-append (λ (i : ℕ). i == t) (numbers s.clients) (k ∷ []) in
     record {
       allowed = (nz, u.not_accepted);
+      of_wire = of;
       promise = record { takes = tt; waits = tt; open_streams = tt };
       waits = v.waits;
       open_are = ap (λ l. l ++ k ∷ []) v.open_are ∙ ap (λ l. 0 ∷ l) (sym more);
@@ -124,12 +127,13 @@ next_accepts rs dn pid start told streams blocked held hears last given s v k e 
 
 -- a stream takes bytes again
 pub next_frees : (rs : List HouseReply) (dn pid : ℕ) (start told : Option (List Mark)) (streams blocked held : List ℕ) (hears : Bool) (last given : ℕ) (s : State) (v : ServingBy rs dn pid start told streams blocked held hears last given [] s) (k : ℕ)
-    → among k streams ≡ true → Next rs dn pid s v.journal streams (without k blocked) (without k held) last given (numbers s.clients) (Frees k)
-next_frees rs dn pid start told streams blocked held hears last given s v k found =
+    → among k streams ≡ true → OfWire streams (without k blocked) last (Frees k ∷ v.journal) → Next rs dn pid s v.journal streams (without k blocked) (without k held) last given (numbers s.clients) (Frees k)
+next_frees rs dn pid start told streams blocked held hears last given s v k found of =
     let mark : Mark = Frees k in
     let here : k ≢ 0 → is_present s.clients k ≡ true = λ nz. stream_here rs dn pid start told streams blocked held hears last given [] s k v found nz in
     record {
       allowed = tt;
+      of_wire = of;
       promise = record { takes = tt; waits = tt; open_streams = tt };
       waits = v.waits;
       open_are = v.open_are;

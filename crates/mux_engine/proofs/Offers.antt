@@ -1,5 +1,5 @@
 -- What an answer to a write makes of what holds while a wire is served.
-use Rattle.std.proofs.Common.{◌≡◌, ◌≢◌, ◌<◌, ℕ, Bool, true, false, not, ◌||◌, List, [], ◌∷◌, ◌++◌, take, drop, Option, None, refl, sym, ap, ◌∙◌, subst, inl, inr, ◌⊎◌, cond, arith}
+use Rattle.std.proofs.Common.{◌≡◌, ◌≢◌, ◌≤◌, ◌<◌, ℕ, Bool, true, false, not, ◌||◌, List, [], ◌∷◌, ◌++◌, take, drop, length, Option, None, refl, sym, ap, ◌∙◌, subst, inl, inr, ◌⊎◌, cond, arith}
 use Rattle.std.specs.Prelude.{◌==◌, is_some}
 use Rattle.std.proofs.lemmas.Bool.{eq-eqb}
 use Rattle.std.proofs.lemmas.Bool.Decides.{eqb_tells}
@@ -9,15 +9,18 @@ use Rattle.mux_outside.specs.Streams.{among, without}
 use Rattle.mux_outside.specs.declared.house.HouseReply.{HouseReply}
 use Rattle.mux_outside.specs.declared.mark.Mark.{Mark}
 use Rattle.mux_outside.specs.declared.mark.Mark.TheVariants.{Waits, Accepts, Gets, Ends, Frees, Fails, Takes, Holds, WriteFails}
+use Rattle.mux_outside.specs.declared.turn.Wrote.TheVariants as wrote
+use Rattle.ssh_fields.specs.Fields.{AreBytes}
 use Rattle.mux_history.specs.Rows.{Row, rows_of, is_out, is_ended, Gone, ServerFailed}
 use Rattle.mux_history.specs.Pending.{pending}
 use Rattle.mux_history.specs.Journal.{is_blocked}
 use Rattle.mux_history.specs.Promises.{IsSettled, write_failed}
+use Rattle.mux_history.proofs.Wires.{wire-keeps}
 use Rattle.mux_engine.specs.State.{State}
 use Rattle.mux_engine.specs.Step.{is_present, queue_in, after}
 use Rattle.mux_engine.specs.Stands.{setting, log, ArePlain, StandsFor, is_accepted, IsStrange}
 use Rattle.mux_engine.specs.Serving.{IsUnseen, ServingBy}
-use Rattle.mux_engine.proofs.Grows.{test_other}
+use Rattle.mux_engine.proofs.Grows.{test_other, or_true}
 use Rattle.mux_engine.proofs.Moved.{true_false}
 use Rattle.mux_engine.proofs.Goes.{open_here, gone_is, gone_log}
 use Rattle.mux_engine.proofs.GoesOn.{ended_is, by_number}
@@ -97,17 +100,22 @@ at_stream rs dn pid s journal closed k e st here = record {
   queue = queue_pending rs dn s journal closed k st (open_here rs dn s journal closed k st here) ∙ ap (λ p. pending k (log p rs journal)) e;
 }
 
+-- the stream of a client that is here is open
+pub here_open : (rs : List HouseReply) (dn pid : ℕ) (start told : Option (List Mark)) (streams blocked held : List ℕ) (listens : Bool) (last given : ℕ) (todo : List ℕ) (s : State) (k : ℕ) → ServingBy rs dn pid start told streams blocked held listens last given todo s → is_present s.clients k ≡ true → among k streams ≡ true
+here_open rs dn pid start told streams blocked held listens last given todo s k v here = ap (among k) v.open_are ∙ (ap (λ b. (0 == k) || b) (among_numbers k s.clients ∙ here) ∙ or_true (0 == k))
+
 -- ---- bytes that were taken
 
 pub next_takes : (rs : List HouseReply) (dn pid : ℕ) (start told : Option (List Mark)) (streams blocked held : List ℕ) (listens : Bool) (last given : ℕ) (todo : List ℕ) (s : State) (v : ServingBy rs dn pid start told streams blocked held listens last given todo s) (k n : ℕ)
-    → is_present s.clients k ≡ true → Next rs dn pid s v.journal streams blocked held last given (k ∷ todo) (Takes k (take n (queue_in s.clients k)))
-next_takes rs dn pid start told streams blocked held listens last given todo s v k n here =
+    → is_present s.clients k ≡ true → AreBytes (queue_in s.clients k) → 1 ≤ n → n ≤ length (queue_in s.clients k) → Next rs dn pid s v.journal streams blocked held last given (k ∷ todo) (Takes k (take n (queue_in s.clients k)))
+next_takes rs dn pid start told streams blocked held listens last given todo s v k n here are one fits =
     let bytes : List ℕ = queue_in s.clients k in
     let mark : Mark = Takes k (take n bytes) in
     let at : AtStream rs dn pid s v.journal v.closed k = at_stream rs dn pid s v.journal v.closed k v.pid_is v.stands here in
     let st' : StandsFor rs dn (after s (drop dn rs) mark) (mark ∷ v.journal) v.closed = stands_next rs dn pid start told streams blocked held listens last given todo s mark v tt here in
     record {
       allowed = here;
+      of_wire = (wire-keeps streams blocked last v.journal).write (wrote.Took n) k bytes are (omega arith) (here_open rs dn pid start told streams blocked held listens last given todo s k v here) (one, fits) v.of_wire;
       promise = record { takes = (drop n bytes, sym at.queue ∙ sym (take-append-drop n bytes)); waits = tt; open_streams = tt };
       waits = v.waits;
       open_are = v.open_are ∙ ap (λ l. 0 ∷ l) (sym (after_numbers s (drop dn rs) mark tt));
@@ -124,6 +132,7 @@ next_takes rs dn pid start told streams blocked held listens last given todo s v
 
 -- ---- a stream that is blocked now
 
+-- the mark names no bytes, so it is the same whichever were handed in
 pub next_holds : (rs : List HouseReply) (dn pid : ℕ) (start told : Option (List Mark)) (streams blocked held : List ℕ) (listens : Bool) (last given : ℕ) (todo : List ℕ) (s : State) (v : ServingBy rs dn pid start told streams blocked held listens last given todo s) (k : ℕ)
     → is_present s.clients k ≡ true → Next rs dn pid s v.journal streams (blocked ++ k ∷ []) (held ++ k ∷ []) last given (without k todo) (Holds k)
 next_holds rs dn pid start told streams blocked held listens last given todo s v k here =
@@ -132,6 +141,7 @@ next_holds rs dn pid start told streams blocked held listens last given todo s v
     let among_more : (t : ℕ) → among t (blocked ++ k ∷ []) ≡ (among t blocked || ((k == t) || false)) = λ t. list_any-append (λ (i : ℕ). i == t) blocked (k ∷ []) in
     record {
       allowed = tt;
+      of_wire = (wire-keeps streams blocked last v.journal).write wrote.Later k (0 ∷ []) (omega arith, tt) (omega arith) (here_open rs dn pid start told streams blocked held listens last given todo s k v here) tt v.of_wire;
       promise = record { takes = tt; waits = tt; open_streams = tt };
       waits = v.waits;
       open_are = v.open_are;
@@ -174,6 +184,7 @@ lost_out rs dn s journal closed k nz st live =
         let r = gone_is s.pid k rs (log s.pid rs journal) st.plain in
         own_out k (Rattle.mux_engine.proofs.Goes.gone_row s.pid k rs (log s.pid rs journal)) (log s.pid rs journal) r.client_is (ap (λ f. Rattle.mux_engine.proofs.Fits.puts_out f (Rattle.mux_engine.proofs.Goes.gone_row s.pid k rs (log s.pid rs journal)).item) r.fate_is ∙ ap (Rattle.mux_engine.proofs.Fits.puts_out Rattle.mux_history.specs.Rows.Goes) r.item_is)
 
+-- the mark names no bytes here either
 pub next_write_fails : (rs : List HouseReply) (dn pid : ℕ) (start told : Option (List Mark)) (streams blocked held : List ℕ) (listens : Bool) (last given : ℕ) (todo : List ℕ) (s : State) (v : ServingBy rs dn pid start told streams blocked held listens last given todo s) (k : ℕ)
     → is_present s.clients k ≡ true → Next rs dn pid s v.journal streams blocked held last given (without k todo) (WriteFails k)
 next_write_fails rs dn pid start told streams blocked held listens last given todo s v k here =
@@ -182,6 +193,7 @@ next_write_fails rs dn pid start told streams blocked held listens last given to
     let st' : StandsFor rs dn (after s (drop dn rs) mark) (mark ∷ v.journal) v.closed = stands_next rs dn pid start told streams blocked held listens last given todo s mark v tt (λ z. at.accepted) in
     record {
       allowed = λ z. at.accepted;
+      of_wire = (wire-keeps streams blocked last v.journal).write wrote.Failed k (0 ∷ []) (omega arith, tt) (omega arith) (here_open rs dn pid start told streams blocked held listens last given todo s k v here) tt v.of_wire;
       promise = record { takes = tt; waits = tt; open_streams = tt };
       waits = v.waits;
       open_are = v.open_are ∙ ap (λ l. 0 ∷ l) (sym (after_numbers s (drop dn rs) mark tt));
@@ -208,6 +220,7 @@ serve_empty rs dn pid start told streams blocked held listens last given todo to
   closed = v.closed;
   pid_is = v.pid_is;
   tells = v.tells;
+  of_wire = v.of_wire;
   stands = v.stands;
   kept = v.kept;
   waits = v.waits;

@@ -10,6 +10,7 @@ use Rattle.mux_history.specs.Choices.{replies_given}
 use Rattle.mux_history.specs.Pending.{pending}
 use Rattle.mux_history.specs.Solo.{end_of}
 use Rattle.mux_history.specs.Promises.{EndsAs, waits_in}
+use Rattle.mux_history.proofs.Wires.{wire-keeps}
 use Rattle.mux_engine.specs.State.{State}
 use Rattle.mux_engine.specs.Step.{numbers, new_state}
 use Rattle.mux_engine.specs.Events.{went_of}
@@ -17,6 +18,7 @@ use Rattle.mux_engine.specs.declared.engine.Went.TheVariants.{On, Ended as Over}
 use Rattle.mux_engine.specs.Stands.{log, StandsFor}
 use Rattle.mux_engine.specs.Serving.{Serving, ServingBy, IsServedBut, Promised, PromisedBy, Ran, RanBy, IsRun}
 use Rattle.mux_engine.proofs.Moved.{true_false}
+use Rattle.mux_engine.proofs.Wires.{of_streams}
 use Rattle.mux_engine.proofs.Arms.{seen_same}
 use Rattle.mux_engine.proofs.Loops.{todo_is}
 use Rattle.mux_engine.proofs.Turned.{no_marks}
@@ -55,6 +57,7 @@ starts_new rs pid told last = record {
   closed = [];
   pid_is = refl;
   tells = sym (no_marks told);
+  of_wire = (wire-keeps (0 ∷ []) [] last []).none;
   stands = new_stands rs pid;
   kept = record { written = record { takes = tt; waits = tt }; open_streams = tt };
   waits = refl;
@@ -81,6 +84,7 @@ ends_at : (rs : List HouseReply) (dn pid turns : ℕ) (start told : Option (List
 ends_at rs dn pid turns start told streams blocked held listens last given s answer v le e = record {
   journal = v.journal;
   tells = v.tells;
+  of_wire = of_streams streams blocked last v.journal v.of_wire;
   kept = v.kept;
   waits = let w : waits_in v.journal ≡ given = v.waits in omega arith;
   asked = ap (λ p. replies_given (log p rs v.journal)) (sym v.pid_is) ∙ v.stands.drawn_is;
@@ -121,6 +125,7 @@ run_of May pid turns start told answer ran =
       picks = [];
       replies = ran.replies;
       tells = r.tells;
+      of_wire = r.of_wire;
       given = ran.may;
       written = r.kept.written;
       open_streams = r.kept.open_streams;
@@ -137,6 +142,7 @@ run_starved May pid turns start told ran =
       picks = [];
       replies = ran.replies;
       tells = r.tells;
+      of_wire = r.of_wire;
       given = ran.may;
       written = r.kept.written;
       open_streams = r.kept.open_streams;

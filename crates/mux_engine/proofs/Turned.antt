@@ -1,6 +1,6 @@
 -- What a whole turn makes of what holds while a wire is served.
 use Rattle.std.proofs.Common.{◌≡◌, ◌≤◌, ◌+◌, ℕ, Bool, true, false, List, [], ◌∷◌, ◌++◌, length, drop, Option, Some, None, refl, sym, ap, ◌∙◌, subst, cond, arith, append_assoc, append-nil}
-use Rattle.std.specs.Prelude.{◌==◌, is_some, nat_lt, Result, Ok, Err, OnOk, MatchResult}
+use Rattle.std.specs.Prelude.{◌==◌, is_some, nat_lt, reverse, Result, Ok, Err, OnOk, MatchResult, IsTrue}
 use Rattle.std.specs.Bool.{MatchBool}
 use Rattle.std.specs.Option.{option_map}
 use Rattle.mux_outside.specs.Counts.{Rose}
@@ -12,6 +12,7 @@ use Rattle.mux_outside.specs.declared.mark.Mark.TheVariants.{Waits, Accepts, Get
 use Rattle.mux_outside.specs.declared.turn.Turn.{Turn}
 use Rattle.mux_outside.specs.declared.turn.Turn.TheVariants as turn
 use Rattle.mux_outside.specs.declared.turn.Want.TheVariants.{Read}
+use Rattle.ssh_fields.specs.Fields.{AreBytes}
 use Rattle.ssh_grammar.specs.declared.numbers.TheConstants.{VERSION}
 use Rattle.ssh_grammar.specs.declared.fault.BadControl.{BadControl}
 use Rattle.ssh_grammar.specs.declared.fault.BadControl.TheVariants.{Unknown}
@@ -27,6 +28,8 @@ use Rattle.mux_history.specs.Said.{Outcome, silent, drops}
 use Rattle.mux_history.specs.Controls.{answers_ask}
 use Rattle.mux_history.specs.NotBuilt.{spoken}
 use Rattle.mux_history.specs.Log.{fate_with, overflow}
+use Rattle.mux_history.specs.Wires.{OfWire}
+use Rattle.mux_history.proofs.Wires.{wire-keeps}
 use Rattle.mux_engine.specs.State.{ClientState, State}
 use Rattle.mux_engine.specs.Answer.{answer, reading_answer}
 use Rattle.mux_engine.specs.Heeded.{Heeded, unheard, heeded, end_in, client_said, client_all, client_hears, asks_in, left_if, reply_if, is_read, is_greeted}
@@ -37,7 +40,7 @@ use Rattle.mux_engine.specs.Serving.{Serving, ServingBy, Promised, PromisedBy}
 use Rattle.mux_engine.proofs.Drawn.{through, through_mark}
 use Rattle.mux_engine.proofs.Others.{mark_stream}
 use Rattle.mux_engine.proofs.Wires.{serve_more, serve_next, promised_of}
-use Rattle.mux_engine.proofs.Turns.{next_waits}
+use Rattle.mux_engine.proofs.Turns.{next_waits, waiting_blocked}
 use Rattle.mux_engine.proofs.Arms.{seen_same}
 use Rattle.mux_engine.proofs.Loops.{todo_is}
 use Rattle.mux_engine.proofs.Marks.{OfStream, next_says, next_accepts, next_frees}
@@ -50,11 +53,17 @@ pub no_marks : (told : Option (List Mark)) → option_map (λ m. m ++ []) told �
 no_marks None = refl
 no_marks (Some m) = ap (λ (l : List Mark). Some l) (append-nil m)
 
--- a wait was told
+-- a wait was told: it is the newest mark of the journal
 waited : (rs : List HouseReply) (dn pid : ℕ) (start told : Option (List Mark)) (streams blocked held : List ℕ) (hears : Bool) (last given : ℕ) (s : State) (v : ServingBy rs dn pid start told streams blocked held hears last given [] s) → s.leaving ≡ [] → s.ended ≡ None → hears ≡ s.listening
     → ServingBy rs dn pid start (option_map (λ m. m ++ Waits s.waiting Read streams hears ∷ []) told) streams blocked held hears last (given + 1) [] s
 waited rs dn pid start told streams blocked held hears last given s v none live hear = serve_next rs dn pid start told (option_map (λ m. m ++ Waits s.waiting Read streams hears ∷ []) told) streams streams blocked blocked held held hears last last given (given + 1) [] [] s (Waits s.waiting Read streams hears) v tt refl
     (next_waits rs dn pid start told streams blocked held hears last given s v none live hear)
+
+-- the journal with the marks of a turn is one that a wire can give
+of_turn : (rs : List HouseReply) (dn pid : ℕ) (start told : Option (List Mark)) (streams blocked held : List ℕ) (hears : Bool) (last given : ℕ) (s : State) (v : ServingBy rs dn pid start told streams blocked held hears last given [] s) → s.leaving ≡ [] → s.ended ≡ None
+    → (t : Turn) (bytes : List ℕ) → AreBytes bytes → TurnFits t Read hears last streams blocked bytes → OfWire (open_after t streams) (blocked_after t blocked) (last_after t last) (reverse (wait_marks t s.waiting Read streams hears bytes) ++ v.journal)
+of_turn rs dn pid start told streams blocked held hears last given s v none live t bytes are fits =
+    (wire-keeps streams blocked last v.journal).turn t s.waiting Read hears bytes are (waiting_blocked rs dn pid start told streams blocked held hears last given s v none live) fits v.of_wire
 
 -- what a turn that tells an event makes of whatever held before it
 pub record Turned (pid : ℕ) (start told now : Option (List Mark)) (streams blocked held streams' blocked' : List ℕ) (hears : Bool) (last last' given : ℕ) (s : State) (e : Event) (before rose : ℕ) : Type 0 where
@@ -176,47 +185,51 @@ fail_on s more k a b c d live f e = by_server (k == 0) f (sym (ap (λ t. (cond t
     by_server true f e = f.0
     by_server false f e = absurd (let w : None ≡ Some ended.ServerFailed = sym live ∙ e in cc)
 
+-- what a stream told behind a wait
 says_mark : (rs : List HouseReply) (dn pid : ℕ) (start told now : Option (List Mark)) (streams blocked held : List ℕ) (hears : Bool) (last given : ℕ) (s : State) (v : ServingBy rs dn pid start told streams blocked held hears last given [] s) → s.leaving ≡ [] → s.ended ≡ None → hears ≡ s.listening
     → (mark : Mark) → now ≡ option_map (λ m. m ++ (Waits s.waiting Read streams hears ∷ mark ∷ [])) told → OfStream mark → among (mark_stream mark) streams ≡ true
+    → OfWire streams blocked last (mark ∷ Waits s.waiting Read streams hears ∷ v.journal)
     → ServingBy rs (dn + asked_at s (drop dn rs) mark) pid start now streams blocked held hears last (given + 1) (numbers (after s (drop dn rs) mark).clients) (after s (drop dn rs) mark)
-says_mark rs dn pid start told now streams blocked held hears last given s v none live hear mark n o found =
+unfolding waited serve_next serve_more
+says_mark rs dn pid start told now streams blocked held hears last given s v none live hear mark n o found of =
     let waits : Option (List Mark) = option_map (λ m. m ++ Waits s.waiting Read streams hears ∷ []) told in
     let w : ServingBy rs dn pid start waits streams blocked held hears last (given + 1) [] s = waited rs dn pid start told streams blocked held hears last given s v none live hear in
     serve_more rs dn (dn + asked_at s (drop dn rs) mark) pid start waits now streams streams blocked blocked held held hears last last (given + 1) (given + 1) [] (numbers (after s (drop dn rs) mark).clients) s mark w refl
-    (n ∙ two_marks (Waits s.waiting Read streams hears) mark told) (next_says rs dn pid start waits streams blocked held hears last (given + 1) s w mark o found)
+    (n ∙ two_marks (Waits s.waiting Read streams hears) mark told) (next_says rs dn pid start waits streams blocked held hears last (given + 1) s w mark o found of)
 
 pub turned : (pid : ℕ) (start told now : Option (List Mark)) (streams blocked held : List ℕ) (hears : Bool) (last given : ℕ) (s : State) → s.leaving ≡ [] → s.ended ≡ None → hears ≡ s.listening
-    → (t : Turn) (bytes : List ℕ) (e : Event) (a b c d : ℕ) → TurnFits t Read hears last streams blocked bytes → now ≡ option_map (λ m. m ++ wait_marks t s.waiting Read streams hears bytes) told → IsNext (Some e) t bytes → TurnFaults t a b c d
+    → (t : Turn) (bytes : List ℕ) (e : Event) (a b c d : ℕ) → AreBytes bytes → TurnFits t Read hears last streams blocked bytes → now ≡ option_map (λ m. m ++ wait_marks t s.waiting Read streams hears bytes) told → IsNext (Some e) t bytes → TurnFaults t a b c d
     → Turned pid start told now streams blocked held (open_after t streams) (blocked_after t blocked) hears last (last_after t last) given s e a b
-turned pid start told now streams blocked held hears last given s none live hear (turn.Accepted k) bytes e a b c d fits n tells f = record {
+unfolding waited serve_next serve_more
+turned pid start told now streams blocked held hears last given s none live hear (turn.Accepted k) bytes e a b c d are fits n tells f = record {
   mark = Accepts k;
   tells = tells;
   serving = λ rs dn v. let waits : Option (List Mark) = option_map (λ m. m ++ Waits s.waiting Read streams hears ∷ []) told in
       let w : ServingBy rs dn pid start waits streams blocked held hears last (given + 1) [] s = waited rs dn pid start told streams blocked held hears last given s v none live hear in
       serve_more rs dn (dn + asked_at s (drop dn rs) (Accepts k)) pid start waits now streams (streams ++ k ∷ []) blocked blocked held held hears last k (given + 1) (given + 1) [] (numbers (after s (drop dn rs) (Accepts k)).clients) s (Accepts k) w refl
-      (n ∙ two_marks (Waits s.waiting Read streams hears) (Accepts k) told) (next_accepts rs dn pid start waits streams blocked held hears last (given + 1) s w k fits.2 live);
+      (n ∙ two_marks (Waits s.waiting Read streams hears) (Accepts k) told) (next_accepts rs dn pid start waits streams blocked held hears last (given + 1) s w k fits.2 live (of_turn rs dn pid start told streams blocked held hears last given s v none live (turn.Accepted k) bytes are fits));
   failed = λ more. accept_on s more k (Rose a b) live;
 }
-turned pid start told now streams blocked held hears last given s none live hear (turn.Got k) bytes e a b c d fits n tells f = record {
+turned pid start told now streams blocked held hears last given s none live hear (turn.Got k) bytes e a b c d are fits n tells f = record {
   mark = Gets k bytes;
   tells = tells;
-  serving = λ rs dn v. says_mark rs dn pid start told now streams blocked held hears last given s v none live hear (Gets k bytes) n tt fits.1;
+  serving = λ rs dn v. says_mark rs dn pid start told now streams blocked held hears last given s v none live hear (Gets k bytes) n tt fits.1 (of_turn rs dn pid start told streams blocked held hears last given s v none live (turn.Got k) bytes are fits);
   failed = λ more. got_on s more k bytes (Rose a b) live;
 }
-turned pid start told now streams blocked held hears last given s none live hear (turn.End k) bytes e a b c d fits n tells f = record {
+turned pid start told now streams blocked held hears last given s none live hear (turn.End k) bytes e a b c d are fits n tells f = record {
   mark = Ends k;
   tells = tells;
-  serving = λ rs dn v. says_mark rs dn pid start told now streams blocked held hears last given s v none live hear (Ends k) n tt fits.1;
+  serving = λ rs dn v. says_mark rs dn pid start told now streams blocked held hears last given s v none live hear (Ends k) n tt fits.1 (of_turn rs dn pid start told streams blocked held hears last given s v none live (turn.End k) bytes are fits);
   failed = λ more. end_on s more k (Rose a b) live;
 }
-turned pid start told now streams blocked held hears last given s none live hear (turn.Failed k) bytes e a b c d fits n tells f = record {
+turned pid start told now streams blocked held hears last given s none live hear (turn.Failed k) bytes e a b c d are fits n tells f = record {
   mark = Fails k;
   tells = tells;
-  serving = λ rs dn v. says_mark rs dn pid start told now streams blocked held hears last given s v none live hear (Fails k) n tt fits;
+  serving = λ rs dn v. says_mark rs dn pid start told now streams blocked held hears last given s v none live hear (Fails k) n tt fits (of_turn rs dn pid start told streams blocked held hears last given s v none live (turn.Failed k) bytes are fits);
   failed = λ more. fail_on s more k a b c d live f;
 }
-turned pid start told now streams blocked held hears last given s none live hear (turn.Writable k) bytes e a b c d fits n tells f = absurd tells
-turned pid start told now streams blocked held hears last given s none live hear turn.NoMemory bytes e a b c d fits n tells f = absurd tells
+turned pid start told now streams blocked held hears last given s none live hear (turn.Writable k) bytes e a b c d are fits n tells f = absurd tells
+turned pid start told now streams blocked held hears last given s none live hear turn.NoMemory bytes e a b c d are fits n tells f = absurd tells
 
 -- it goes on with what the house replies at its mark
 pub turned_serving : (May : HouseReply → Type 0) (pid : ℕ) (start told now : Option (List Mark)) (streams blocked held streams' blocked' : List ℕ) (hears : Bool) (last last' given : ℕ) (s new : State) (e : Event) (a b : ℕ)
@@ -237,21 +250,22 @@ turned_failed May pid start told now streams blocked held streams' blocked' hear
     t.failed (steps.given ++ []) (sym (ap (λ (x : State). x.ended) (steps.state [])) ∙ over)
 
 pub freed : (rs : List HouseReply) (dn pid : ℕ) (start told now : Option (List Mark)) (streams blocked held : List ℕ) (hears : Bool) (last given : ℕ) (s : State) (v : ServingBy rs dn pid start told streams blocked held hears last given [] s) → s.leaving ≡ [] → s.ended ≡ None → hears ≡ s.listening
-    → (k : ℕ) → among k streams ≡ true → now ≡ option_map (λ m. m ++ (Waits s.waiting Read streams hears ∷ Frees k ∷ [])) told
+    → (k : ℕ) → IsTrue (among k streams) × IsTrue (among k blocked) → now ≡ option_map (λ m. m ++ (Waits s.waiting Read streams hears ∷ Frees k ∷ [])) told
     → ServingBy rs dn pid start now streams (without k blocked) (without k held) hears last (given + 1) (numbers s.clients) s
-freed rs dn pid start told now streams blocked held hears last given s v none live hear k here n =
+unfolding waited serve_next serve_more
+freed rs dn pid start told now streams blocked held hears last given s v none live hear k fits n =
     let w : ServingBy rs dn pid start (option_map (λ m. m ++ Waits s.waiting Read streams hears ∷ []) told) streams blocked held hears last (given + 1) [] s = waited rs dn pid start told streams blocked held hears last given s v none live hear in
     serve_next rs dn pid start (option_map (λ m. m ++ Waits s.waiting Read streams hears ∷ []) told) now streams streams blocked (without k blocked) held (without k held) hears last last (given + 1) (given + 1) [] (numbers s.clients) s (Frees k) w tt
-    (n ∙ two_marks (Waits s.waiting Read streams hears) (Frees k) told) (next_frees rs dn pid start (option_map (λ m. m ++ Waits s.waiting Read streams hears ∷ []) told) streams blocked held hears last (given + 1) s w k here)
+    (n ∙ two_marks (Waits s.waiting Read streams hears) (Frees k) told) (next_frees rs dn pid start (option_map (λ m. m ++ Waits s.waiting Read streams hears ∷ []) told) streams blocked held hears last (given + 1) s w k fits.0 (of_turn rs dn pid start told streams blocked held hears last given s v none live (turn.Writable k) [] tt fits))
 
 pub more_given : (rs : List HouseReply) (dn pid : ℕ) (start now : Option (List Mark)) (given more : ℕ) → given ≤ more → PromisedBy rs pid start now given → PromisedBy rs pid start now more
-more_given rs dn pid start now given more le p = record { journal = p.journal; tells = p.tells; kept = p.kept; waits = let w : Rattle.mux_history.specs.Promises.waits_in p.journal ≤ given = p.waits in omega arith }
+more_given rs dn pid start now given more le p = record { journal = p.journal; tells = p.tells; of_wire = p.of_wire; kept = p.kept; waits = let w : Rattle.mux_history.specs.Promises.waits_in p.journal ≤ given = p.waits in omega arith }
 
 -- a turn that tells nothing
 pub told_nothing : (rs : List HouseReply) (dn pid : ℕ) (start told now : Option (List Mark)) (streams blocked held : List ℕ) (hears : Bool) (last given : ℕ) (s : State) (v : ServingBy rs dn pid start told streams blocked held hears last given [] s) → s.leaving ≡ [] → s.ended ≡ None → hears ≡ s.listening
     → (t : Turn) (bytes : List ℕ) → TurnFits t Read hears last streams blocked bytes → now ≡ option_map (λ m. m ++ wait_marks t s.waiting Read streams hears bytes) told → IsNext None t bytes → PromisedBy rs pid start now (given + 1)
 told_nothing rs dn pid start told now streams blocked held hears last given s v none live hear (turn.Writable k) bytes fits n tells =
-    promised_of rs dn pid start now streams (without k blocked) (without k held) hears last (given + 1) (numbers s.clients) s (freed rs dn pid start told now streams blocked held hears last given s v none live hear k fits.0 n)
+    promised_of rs dn pid start now streams (without k blocked) (without k held) hears last (given + 1) (numbers s.clients) s (freed rs dn pid start told now streams blocked held hears last given s v none live hear k fits n)
 told_nothing rs dn pid start told now streams blocked held hears last given s v none live hear turn.NoMemory bytes fits n tells =
     subst (λ x. PromisedBy rs pid start x (given + 1)) (sym (n ∙ no_marks told)) (more_given rs dn pid start told given (given + 1) (omega arith) (promised_of rs dn pid start told streams blocked held hears last given [] s v))
 told_nothing rs dn pid start told now streams blocked held hears last given s v none live hear (turn.Accepted k) bytes fits n tells = absurd tells

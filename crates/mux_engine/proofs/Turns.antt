@@ -140,14 +140,22 @@ next_waits rs dn pid start told streams blocked held hears last given s v none l
     let plain : ArePlain rows = plain_here rs dn pid start told streams blocked held hears last given [] s v in
     let log_is : log s.pid rs v.journal ≡ rows = ap (λ p. log p rs v.journal) v.pid_is in
     let nothing : pending 0 rows ≡ [] = server_pending rows plain in
+    let held_back : All (λ t. IsTrue (is_blocked t v.journal)) s.waiting = all_of (λ t. IsTrue (is_blocked t v.journal)) s.waiting (waits_blocked rs dn pid start told streams blocked held hears last given s v none live) in
     record {
       allowed = tt;
+      of_wire = record {
+        lawful = (held_back, v.of_wire.lawful);
+        asked = (λ reads. true_false (sym reads), v.of_wire.asked);
+        known = v.of_wire.known;
+        holds = v.of_wire.holds;
+        below = v.of_wire.below;
+      };
       promise = record {
         takes = tt;
         waits = record {
           waits_for = v.stands.waiting_is ∙ (waiting_filter (log s.pid rs v.journal) v.journal s.clients v.stands.plain v.stands.clients ∙ (ap (λ r. filter (has_output r) (numbers s.clients)) log_is
               ∙ (sym (ap (λ b. cond b (0 ∷ filter (has_output rows) (numbers s.clients)) (filter (has_output rows) (numbers s.clients))) (ap (λ q. not (is_empty q)) nothing)) ∙ sym (ap (filter (has_output rows)) v.open_are))));
-          blocked = all_of (λ t. IsTrue (is_blocked t v.journal)) s.waiting (waits_blocked rs dn pid start told streams blocked held hears last given s v none live);
+          blocked = held_back;
           write_only = (λ e. absurd (cc), λ h. absurd (let n : length (pending 0 rows) ≡ 0 = ap length nothing in omega arith));
           settled = λ t. v.settled t refl;
         };

@@ -1,5 +1,5 @@
 -- One mark more, between a wire and an engine that serves it.
-use Rattle.std.proofs.Common.{◌≡◌, ◌≢◌, ◌≤◌, ◌<◌, ◌+◌, ℕ, Bool, true, false, not, ◌&&◌, ◌||◌, List, [], ◌∷◌, ◌++◌, length, drop, Option, Some, None, refl, sym, ap, ◌∙◌, subst, inl, inr, cond, append_assoc, arith}
+use Rattle.std.proofs.Common.{◌≡◌, ◌≢◌, ◌<◌, ◌+◌, ℕ, Bool, true, false, not, ◌&&◌, ◌||◌, List, [], ◌∷◌, ◌++◌, length, drop, Option, Some, None, refl, sym, ap, ◌∙◌, subst, inl, inr, cond, append_assoc, arith}
 use Rattle.std.specs.Prelude.{◌==◌, is_some, reverse, nat_lt}
 use Rattle.std.specs.Option.{option_map}
 use Rattle.std.proofs.lemmas.List.{reverse-append}
@@ -16,7 +16,8 @@ use Rattle.mux_history.specs.Promises.{TakesFront, WaitsAt, OpenAt, IsSettled, w
 use Rattle.mux_engine.specs.State.{ClientState, State}
 use Rattle.mux_engine.specs.Step.{is_present, numbers, at_client, changed, entered, added, refused, new_client, refused_client, over, after, asked_at, stepped, gained, stops_at, client_got, client_hears, lost_client, client_took, served_in}
 use Rattle.mux_engine.specs.Stands.{setting, log, ArePlain, StandsFor, IsAllowed}
-use Rattle.mux_engine.specs.Serving.{Kept, IsUnseen, ServingBy, PromisedBy}
+use Rattle.mux_history.specs.Wires.{OfWire}
+use Rattle.mux_engine.specs.Serving.{Kept, IsOfWire, IsUnseen, ServingBy, PromisedBy}
 use Rattle.mux_engine.proofs.Grows.{test_other}
 use Rattle.mux_engine.proofs.Pieces.{got_number}
 use Rattle.mux_engine.proofs.Listed.{KeepsNumber}
@@ -269,9 +270,14 @@ pub record PromiseAt (rs : List HouseReply) (pid : ℕ) (before : List Mark) (ma
 pub kept_more : (rs : List HouseReply) (pid : ℕ) (journal : List Mark) (mark : Mark) → Kept pid rs journal → PromiseAt rs pid journal mark → Kept pid rs (mark ∷ journal)
 kept_more rs pid journal mark k p = record { written = record { takes = (p.takes, k.written.takes); waits = (p.waits, k.written.waits) }; open_streams = (p.open_streams, k.open_streams) }
 
+-- a journal of a wire is one whichever of its streams are open and hold back
+pub of_streams : (streams blocked : List ℕ) (last : ℕ) (journal : List Mark) → OfWire streams blocked last journal → IsOfWire journal
+of_streams streams blocked last journal of = record { lawful = of.lawful; asked = of.asked }
+
 -- what is to be shown of a mark
 pub record Next (rs : List HouseReply) (dn pid : ℕ) (s : State) (journal : List Mark) (streams blocked held : List ℕ) (last given : ℕ) (todo : List ℕ) (mark : Mark) : Type 0 where
   pub allowed : IsAllowed s journal mark
+  pub of_wire : OfWire streams blocked last (mark ∷ journal)
   pub promise : PromiseAt rs pid journal mark
   pub waits : waits_in (mark ∷ journal) ≡ given
   pub open_are : streams ≡ 0 ∷ numbers (after s (drop dn rs) mark).clients
@@ -287,13 +293,14 @@ stands_next rs dn pid start told streams blocked held listens last given todo s 
     subst (λ x. StandsFor rs x (after s (drop dn rs) mark) (mark ∷ v.journal) v.closed) (quiet dn s (drop dn rs) mark q) (goes_on rs dn s mark v.journal v.closed v.stands al)
 
 -- with the replies of the house that the mark draws
-pub serve_more : (rs : List HouseReply) (dn dn' pid : ℕ) (start told now : Option (List Mark)) (streams streams' blocked blocked' held held' : List ℕ) (listens : Bool) (last last' given given' : ℕ) (todo todo' : List ℕ) (s : State) (mark : Mark) (v : ServingBy rs dn pid start told streams blocked held listens last given todo s)
+unfoldable pub serve_more : (rs : List HouseReply) (dn dn' pid : ℕ) (start told now : Option (List Mark)) (streams streams' blocked blocked' held held' : List ℕ) (listens : Bool) (last last' given given' : ℕ) (todo todo' : List ℕ) (s : State) (mark : Mark) (v : ServingBy rs dn pid start told streams blocked held listens last given todo s)
     → dn + asked_at s (drop dn rs) mark ≡ dn' → now ≡ option_map (λ m. m ++ mark ∷ []) told → Next rs dn pid s v.journal streams' blocked' held' last' given' todo' mark → ServingBy rs dn' pid start now streams' blocked' held' listens last' given' todo' (after s (drop dn rs) mark)
 serve_more rs dn dn' pid start told now streams streams' blocked blocked' held held' listens last last' given given' todo todo' s mark v d e n = record {
   journal = mark ∷ v.journal;
   closed = v.closed;
   pid_is = after_pid s (drop dn rs) mark ∙ v.pid_is;
   tells = tells_more start told now v.journal (mark ∷ []) v.tells e;
+  of_wire = n.of_wire;
   stands = subst (λ x. StandsFor rs x (after s (drop dn rs) mark) (mark ∷ v.journal) v.closed) d (goes_on rs dn s mark v.journal v.closed v.stands n.allowed);
   kept = kept_more rs pid v.journal mark v.kept n.promise;
   waits = n.waits;
@@ -306,20 +313,27 @@ serve_more rs dn dn' pid start told now streams streams' blocked blocked' held h
   hears = λ h. v.hears (after_hears s (drop dn rs) mark h);
 }
 
-pub serve_next : (rs : List HouseReply) (dn pid : ℕ) (start told now : Option (List Mark)) (streams streams' blocked blocked' held held' : List ℕ) (listens : Bool) (last last' given given' : ℕ) (todo todo' : List ℕ) (s : State) (mark : Mark) (v : ServingBy rs dn pid start told streams blocked held listens last given todo s)
+unfoldable pub serve_next : (rs : List HouseReply) (dn pid : ℕ) (start told now : Option (List Mark)) (streams streams' blocked blocked' held held' : List ℕ) (listens : Bool) (last last' given given' : ℕ) (todo todo' : List ℕ) (s : State) (mark : Mark) (v : ServingBy rs dn pid start told streams blocked held listens last given todo s)
     → IsQuiet mark → now ≡ option_map (λ m. m ++ mark ∷ []) told → Next rs dn pid s v.journal streams' blocked' held' last' given' todo' mark → ServingBy rs dn pid start now streams' blocked' held' listens last' given' todo' (after s (drop dn rs) mark)
 serve_next rs dn pid start told now streams streams' blocked blocked' held held' listens last last' given given' todo todo' s mark v q e n =
     serve_more rs dn dn pid start told now streams streams' blocked blocked' held held' listens last last' given given' todo todo' s mark v (quiet dn s (drop dn rs) mark q) e n
 
 -- with no memory left, what was promised stays
-pub promised_next : (rs : List HouseReply) (dn pid : ℕ) (start told now : Option (List Mark)) (streams blocked held : List ℕ) (listens : Bool) (last given given' : ℕ) (todo : List ℕ) (s : State) (mark : Mark) (v : ServingBy rs dn pid start told streams blocked held listens last given todo s)
-    → now ≡ option_map (λ m. m ++ mark ∷ []) told → PromiseAt rs pid v.journal mark → waits_in (mark ∷ v.journal) ≤ given' → PromisedBy rs pid start now given'
-promised_next rs dn pid start told now streams blocked held listens last given given' todo s mark v e p w = record {
+pub promised_next : (rs : List HouseReply) (dn pid : ℕ) (start told now : Option (List Mark)) (streams streams' blocked blocked' held held' : List ℕ) (listens : Bool) (last last' given given' : ℕ) (todo todo' : List ℕ) (s : State) (mark : Mark) (v : ServingBy rs dn pid start told streams blocked held listens last given todo s)
+    → now ≡ option_map (λ m. m ++ mark ∷ []) told → Next rs dn pid s v.journal streams' blocked' held' last' given' todo' mark → PromisedBy rs pid start now given'
+promised_next rs dn pid start told now streams streams' blocked blocked' held held' listens last last' given given' todo todo' s mark v e n = record {
   journal = mark ∷ v.journal;
   tells = tells_more start told now v.journal (mark ∷ []) v.tells e;
-  kept = kept_more rs pid v.journal mark v.kept p;
-  waits = w;
+  of_wire = of_streams streams' blocked' last' (mark ∷ v.journal) n.of_wire;
+  kept = kept_more rs pid v.journal mark v.kept n.promise;
+  waits = let w : waits_in (mark ∷ v.journal) ≡ given' = n.waits in omega arith;
 }
 
 pub promised_of : (rs : List HouseReply) (dn pid : ℕ) (start told : Option (List Mark)) (streams blocked held : List ℕ) (listens : Bool) (last given : ℕ) (todo : List ℕ) (s : State) → ServingBy rs dn pid start told streams blocked held listens last given todo s → PromisedBy rs pid start told given
-promised_of rs dn pid start told streams blocked held listens last given todo s v = record { journal = v.journal; tells = v.tells; kept = v.kept; waits = let w : waits_in v.journal ≡ given = v.waits in omega arith }
+promised_of rs dn pid start told streams blocked held listens last given todo s v = record {
+  journal = v.journal;
+  tells = v.tells;
+  of_wire = of_streams streams blocked last v.journal v.of_wire;
+  kept = v.kept;
+  waits = let w : waits_in v.journal ≡ given = v.waits in omega arith;
+}

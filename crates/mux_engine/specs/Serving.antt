@@ -10,8 +10,9 @@ use Rattle.mux_history.specs.Policy.{Anything}
 use Rattle.mux_history.specs.NotBuilt.{ProxyMode, ServerSays}
 use Rattle.mux_history.specs.Choices.{FromLists, replies_given}
 use Rattle.mux_history.specs.Log.{Setting}
-use Rattle.mux_history.specs.Journal.{Tells, is_blocked, log_of_journal}
-use Rattle.mux_history.specs.Promises.{Written, OpenStreams, Settled, IsSettled, ConnectionEnds, MayGive, waits_in, write_failed}
+use Rattle.mux_history.specs.Journal.{IsLawful, Tells, is_blocked, log_of_journal}
+use Rattle.mux_history.specs.Promises.{Written, OpenStreams, Settled, IsSettled, ConnectionEnds, MayGive, Throughout, waits_in, write_failed}
+use Rattle.mux_history.specs.Wires.{OfWire, ReadsWhenAsked}
 use Rattle.mux_engine.specs.State.{State}
 use Rattle.mux_engine.specs.Step.{is_present, numbers}
 use Rattle.mux_engine.specs.Stands.{setting, log, StandsFor, is_accepted}
@@ -22,19 +23,25 @@ use Rattle.mux_engine.specs.Stands.{setting, log, StandsFor, is_accepted}
 abbrev pub setting_with : List ℕ → List HouseReply → ℕ → Setting
 setting_with picks replies pid = record { policy = record { opens = Anything; listens = Anything }; pid = pid; choices = FromLists picks replies; missing = ProxyMode ∷ ServerSays ∷ [] }
 
+-- a journal that a wire can give: it is lawful, and the wire read and accepted only right behind a wait for that
+pub record IsOfWire (journal : List Mark) : Type 0 where
+  pub lawful : IsLawful journal
+  pub asked : Throughout ReadsWhenAsked journal
+
 -- how a run ends: as the journal says, and each stream was offered what waits for it
 pub record EndsRight (setting : Setting) (turns : ℕ) (journal : List Mark) (answer : Ended) : Type 0 where
   pub end : ConnectionEnds setting turns journal answer
   pub settled : Settled setting journal
 
--- there is a journal that is what the wire told in this run, where it tells; there are fresh numbers, and replies that
--- the house may give, one to each time that it was asked; for these all is written and kept open as it must be, and the
--- run ends right, but for want of memory
+-- there is a journal that is what the wire told in this run, where it tells; it is lawful, and the wire read and accepted
+-- only right behind a wait for that; there are fresh numbers, and replies that the house may give, one to each ask of the
+-- journal; for these all is written and kept open as it must be, and the run ends right, but for want of memory
 pub record IsRun (May : HouseReply → Type 0) (pid turns : ℕ) (start told : Option (List Mark)) (answer : Ended) : Type 0 where
   pub journal : List Mark
   pub picks : List ℕ
   pub replies : List HouseReply
   pub tells : Tells start told journal
+  pub of_wire : IsOfWire journal
   pub given : MayGive May replies
   pub written : Written (setting_with picks replies pid) journal
   pub open_streams : OpenStreams (setting_with picks replies pid) journal
@@ -62,13 +69,14 @@ pub record IsUnseen (journal : List Mark) (blocked : List ℕ) (k : ℕ) : Type 
   pub not_blocked : among k blocked ≡ false
 
 -- with these replies, of which so many were drawn, the engine stands for what the wire told since the start, in which
--- `given` turns were asked for; the clients that are here are those whose streams are open; the streams that are not in
--- `todo` were offered what waits for them
+-- `given` turns were asked for; the journal is one that a wire can give; the clients that are here are those whose
+-- streams are open; the streams that are not in `todo` were offered what waits for them
 pub record ServingBy (replies : List HouseReply) (drawn : ℕ) (pid : ℕ) (start told : Option (List Mark)) (streams blocked held : List ℕ) (listens : Bool) (last given : ℕ) (todo : List ℕ) (s : State) : Type 0 where
   pub journal : List Mark
   pub closed : List ℕ
   pub pid_is : s.pid ≡ pid
   pub tells : Tells start told journal
+  pub of_wire : OfWire streams blocked last journal
   pub stands : StandsFor replies drawn s journal closed
   pub kept : Kept pid replies journal
   pub waits : waits_in journal ≡ given
@@ -115,6 +123,7 @@ pub record IsRunning (May : HouseReply → Type 0) (told : Option (List Mark)) (
 pub record PromisedBy (replies : List HouseReply) (pid : ℕ) (start told : Option (List Mark)) (given : ℕ) : Type 0 where
   pub journal : List Mark
   pub tells : Tells start told journal
+  pub of_wire : IsOfWire journal
   pub kept : Kept pid replies journal
   pub waits : waits_in journal ≤ given
 
@@ -125,6 +134,7 @@ Promised May pid start told given = Replied May (λ replies drawn. PromisedBy re
 pub record RanBy (replies : List HouseReply) (drawn : ℕ) (pid turns : ℕ) (start told : Option (List Mark)) (answer : Ended) : Type 0 where
   pub journal : List Mark
   pub tells : Tells start told journal
+  pub of_wire : IsOfWire journal
   pub kept : Kept pid replies journal
   pub waits : waits_in journal ≤ turns
   pub asked : replies_given (log pid replies journal) ≡ drawn

@@ -4,6 +4,7 @@ ghost use Rattle.mux_outside.specs.declared.mark.Mark.{Mark as TheMark};
 ghost use Rattle.mux_engine.specs.Step.{at_client, client_index, queue_in, rest_in, waiting_in, loss_between, loss_at, is_lost, changed, added, served_in, entered, over, taken, closed_by, Steps, Gains, HearsAt, client_took, lost_client, new_client, without_client, new_state, rest_length, SameClient, first_of};
 ghost use Rattle.mux_outside.specs.Streams.{among};
 ghost use Rattle.mux_outside.specs.declared.mark.Mark.TheVariants.{Takes};
+ghost use Rattle.ssh_fields.specs.Fields.{AreBytes};
 ghost use Rattle.mux_history.specs.Rows.{losses};
 ghost use Rattle.mux_history.specs.Pending.{pending};
 ghost use Rattle.mux_history.specs.Promises.{listens, has_output};
@@ -364,9 +365,11 @@ impl Engine {
     /// The bytes that wait for a stream.
     pub fn queue_of(&self, stream: u64) -> &[u8]
         ensures exact { result.now ≡ queue_in self.now.clients stream }
+        ensures bytes { AreBytes result.now }
         ensures waits { (given : List TheReply) (marks : List TheMark) (closed : List ℕ) → Stands given self.now marks closed → among stream closed ≡ false → result.now ≡ pending stream (log self.now.pid given marks) }
     {
-        self.do_queue_of(stream)
+        let bytes = self.do_queue_of(stream);
+        bytes
     }
 
     /// So many bytes that wait for a stream were taken.

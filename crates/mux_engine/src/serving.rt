@@ -3,6 +3,7 @@ ghost use Rattle.std.specs.declared.option.Option.{Option};
 ghost use Rattle.mux_outside.specs.declared.mark.Mark.{Mark as TheMark};
 ghost use Rattle.mux_outside.specs.Counts.{Rose};
 ghost use Rattle.mux_outside.specs.Streams.{among, without};
+ghost use Rattle.ssh_fields.specs.Fields.{AreBytes};
 ghost use Rattle.mux_history.specs.declared.ended.Ended.TheVariants.{ServerFailed, OutOfMemory as WantOfMemory};
 ghost use Rattle.mux_engine.specs.Step.{is_present, numbers, queue_in, new_state};
 ghost use Rattle.mux_engine.specs.Events.{went_of, IsNext, Tells};
@@ -206,7 +207,8 @@ fn event_of_fault<'a>(stream: u64) -> Event<'a>
 
 // The event that a turn tells, where it tells one.
 fn event_of<'a>(turn: Turn, bytes: &'a [u8]) -> Option<Event<'a>>
-    ensures { IsNext result turn bytes.now }
+    ensures next { IsNext result turn bytes.now }
+    ensures bytes { AreBytes bytes.now }
 {
     match turn {
         Turn::Accepted(client) => Some(Event::Accepted(client)),

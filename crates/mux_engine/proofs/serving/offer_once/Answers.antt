@@ -4,11 +4,12 @@ use Rattle.std.proofs.lemmas.List.{length-take-le}
 use Rattle.mux_outside.specs.Streams.{without}
 use Rattle.mux_outside.specs.declared.mark.Mark.{Mark}
 use Rattle.mux_outside.specs.declared.mark.Mark.TheVariants.{Takes, Holds, WriteFails}
+use Rattle.ssh_fields.specs.Fields.{AreBytes}
 use Rattle.mux_engine.specs.State.{State}
 use Rattle.mux_engine.specs.Step.{queue_in, taken, after, numbers}
 use Rattle.mux_engine.proofs.Wires.{serve_next, promised_next, after_numbers}
-use Rattle.mux_engine.proofs.Offers.{next_takes, next_holds, next_write_fails}
-use Rattle.mux_engine.proofs.Arms.{seen_same, le_of, took_less, took_numbers, failed_ended, client_fault, failed_state, here_open, here_nonzero, nothing_left, empty_is, on_err}
+use Rattle.mux_engine.proofs.Offers.{here_open, next_takes, next_holds, next_write_fails}
+use Rattle.mux_engine.proofs.Arms.{seen_same, took_less, took_numbers, failed_ended, client_fault, failed_state, here_nonzero, nothing_left, empty_is, on_err}
 use Rattle.mux_engine.proofs.serving.offer_once.Goals as goal
 
 pub returns-then-is_empty-clause-serving : goal.returns-then-is_empty-clause-serving
@@ -19,11 +20,11 @@ write-requires-clause-stream_open g c = let w = c.requires.served in here_open _
 
 pub returns-in_err-push-in-Later-clause-serving : goal.returns-in_err-push-in-Later-clause-serving
 returns-in_err-push-in-Later-clause-serving g c rs dn pid start given todo v = on_err c.from_residual.result _ _ c.from_residual.ensures.0
-    (promised_next _ _ _ start _ _ _ _ _ _ _ given given todo c.args.engine.now (Holds c.args.stream) v c.in-Later.ensures.told (next_holds _ _ _ _ _ _ _ _ _ _ _ _ c.args.engine.now v c.args.stream c.requires.here).promise (le_of _ _ v.waits))
+    (promised_next _ _ _ start _ _ _ _ _ _ _ _ _ _ _ given given todo _ c.args.engine.now (Holds c.args.stream) v c.in-Later.ensures.told (next_holds _ _ _ _ _ _ _ _ _ _ _ _ c.args.engine.now v c.args.stream c.requires.here))
 
 pub returns-in_err-event-in-Failed-clause-serving : goal.returns-in_err-event-in-Failed-clause-serving
 returns-in_err-event-in-Failed-clause-serving g c rs dn pid start given todo v = on_err c.from_residual-in_err-event-in-Failed.result _ _ c.from_residual-in_err-event-in-Failed.ensures.0
-    (promised_next _ _ _ start _ _ _ _ _ _ _ given given todo c.args.engine.now (WriteFails c.args.stream) v c.in-Failed.ensures.told (next_write_fails _ _ _ _ _ _ _ _ _ _ _ _ c.args.engine.now v c.args.stream c.requires.here).promise (le_of _ _ v.waits))
+    (promised_next _ _ _ start _ _ _ _ _ _ _ _ _ _ _ given given todo _ c.args.engine.now (WriteFails c.args.stream) v c.in-Failed.ensures.told (next_write_fails _ _ _ _ _ _ _ _ _ _ _ _ c.args.engine.now v c.args.stream c.requires.here))
 
 pub returns-in_err-event-in-Failed-clause-faults : goal.returns-in_err-event-in-Failed-clause-faults
 returns-in_err-event-in-Failed-clause-faults g c = let w = c.requires.served in client_fault c.args.stream _ _ _ _ (here_nonzero _ _ _ _ _ _ _ _ _ _ _ _ c.args.engine.now c.args.stream w.serving c.requires.here) c.in-Failed.ensures.cause
@@ -34,10 +35,11 @@ returns-in-Took-clause-serving g c rs dn pid start given todo v =
     let bytes : List ℕ = queue_in s.clients k in
     let e : c.queue_of-bytes.result.now ≡ bytes = c.queue_of-bytes.ensures.exact in
     let fits : n ≤ length bytes = subst (λ (b : List ℕ). n ≤ length b) e c.in-Took.ensures.wrote.1 in
+    let are : AreBytes bytes = subst AreBytes e c.queue_of-bytes.ensures.bytes in
     let mark : Mark = Takes k (take n bytes) in
     let told : g.W.Wire.told c.write.new.self ≡ option_map (λ m. m ++ mark ∷ []) (g.W.Wire.told c.args.wire.now) = c.in-Took.ensures.told ∙ ap (λ (b : List ℕ). option_map (λ m. m ++ Takes k (take n b) ∷ []) (g.W.Wire.told c.args.wire.now)) e in
     seen_same _ _ _ start _ _ _ _ _ _ _ _ _ _ _ given _ (after s (drop dn rs) mark) c.took.new.self
-    (serve_next _ _ _ start _ _ _ (g.W.Wire.streams c.args.wire.now) _ (g.W.Wire.blocked c.args.wire.now) _ c.args.held.now _ _ (g.W.Wire.last c.args.wire.now) given given todo (k ∷ todo) s mark v tt told (next_takes _ _ _ _ _ _ _ _ _ _ _ _ s v k n c.requires.here))
+    (serve_next _ _ _ start _ _ _ (g.W.Wire.streams c.args.wire.now) _ (g.W.Wire.blocked c.args.wire.now) _ c.args.held.now _ _ (g.W.Wire.last c.args.wire.now) given given todo (k ∷ todo) s mark v tt told (next_takes _ _ _ _ _ _ _ _ _ _ _ _ s v k n c.requires.here are c.in-Took.ensures.wrote.0 fits))
     c.in-Took.ensures.streams c.in-Took.ensures.blocked refl c.in-Took.ensures.listens c.in-Took.ensures.last
     (c.took.ensures.step ∙ ap (taken s k) (sym (length-take-le n bytes fits)))
 
