@@ -1,18 +1,20 @@
 -- What holds between an engine and its wire while it is served.
-use Rattle.std.specs.Prelude.{◌≡◌, ◌≢◌, ◌≤◌, ◌<◌, ℕ, Bool, true, false, List, [], ◌∷◌, ◌++◌, length, Option, None}
+use Rattle.std.specs.Prelude.{◌≡◌, ◌≢◌, ◌≤◌, ◌<◌, ℕ, Bool, true, false, List, ◌∷◌, ◌++◌, length, Option, None}
 use Rattle.mux_outside.specs.Streams.{among}
 use Rattle.mux_outside.specs.declared.house.HouseReply.{HouseReply}
 use Rattle.mux_outside.specs.declared.mark.Mark.{Mark}
 use Rattle.mux_history.specs.declared.ended.Ended.{Ended}
 use Rattle.mux_history.specs.declared.ended.Ended.TheVariants.{OutOfMemory}
-use Rattle.mux_history.specs.Rows.{rows_of, is_out}
-use Rattle.mux_history.specs.Policy.{Anything}
-use Rattle.mux_history.specs.NotBuilt.{ProxyMode, ServerSays}
-use Rattle.mux_history.specs.Choices.{FromLists, replies_given}
+use Rattle.mux_history.specs.Rows.{Row, rows_of, is_out}
+use Rattle.mux_history.specs.Policy.{any_policy}
+use Rattle.mux_history.specs.Settings.{in_control}
+use Rattle.mux_history.specs.Choices.{replies_given}
 use Rattle.mux_history.specs.Log.{Setting}
 use Rattle.mux_history.specs.Journal.{IsLawful, Tells, is_blocked, log_of_journal}
 use Rattle.mux_history.specs.Promises.{Written, OpenStreams, Settled, IsSettled, ConnectionEnds, MayGive, Throughout, waits_in, write_failed}
 use Rattle.mux_history.specs.Wires.{OfWire, ReadsWhenAsked}
+use Rattle.mux_isolation.specs.Bounds.{IsLog}
+use Rattle.mux_isolation.specs.ControlPhase.{KeepsControl}
 use Rattle.mux_engine.specs.State.{State}
 use Rattle.mux_engine.specs.Step.{is_present, numbers}
 use Rattle.mux_engine.specs.Stands.{setting, log, StandsFor, is_accepted}
@@ -21,7 +23,7 @@ use Rattle.mux_engine.specs.Stands.{setting, log, StandsFor, is_accepted}
 
 -- a run of a master that serves the control phase, with these choices
 abbrev pub setting_with : List ℕ → List HouseReply → ℕ → Setting
-setting_with picks replies pid = record { policy = record { opens = Anything; listens = Anything }; pid = pid; choices = FromLists picks replies; missing = ProxyMode ∷ ServerSays ∷ [] }
+setting_with picks replies pid = in_control any_policy pid picks replies
 
 -- a journal that a wire can give: it is lawful, and the wire read and accepted only right behind a wait for that
 pub record IsOfWire (journal : List Mark) : Type 0 where
@@ -35,7 +37,9 @@ pub record EndsRight (setting : Setting) (turns : ℕ) (journal : List Mark) (an
 
 -- there is a journal that is what the wire told in this run, where it tells; it is lawful, and the wire read and accepted
 -- only right behind a wait for that; there are fresh numbers, and replies that the house may give, one to each ask of the
--- journal; for these all is written and kept open as it must be, and the run ends right, but for want of memory
+-- journal; for these all is written and kept open as it must be; the rows of the journal, also those that want of memory
+-- cut, keep all that is promised of them, the unshared connection of each client among it; and the run ends right, but
+-- for want of memory
 pub record IsRun (May : HouseReply → Type 0) (pid turns : ℕ) (start told : Option (List Mark)) (answer : Ended) : Type 0 where
   pub journal : List Mark
   pub picks : List ℕ
@@ -45,6 +49,7 @@ pub record IsRun (May : HouseReply → Type 0) (pid turns : ℕ) (start told : O
   pub given : MayGive May replies
   pub written : Written (setting_with picks replies pid) journal
   pub open_streams : OpenStreams (setting_with picks replies pid) journal
+  pub keeps : (rows : List Row) → IsLog (setting_with picks replies pid) journal rows → KeepsControl (setting_with picks replies pid) rows
   pub waits : waits_in journal ≤ turns
   pub asked : answer ≢ OutOfMemory → replies_given (log_of_journal (setting_with picks replies pid) journal) ≡ length replies
   pub ends : answer ≢ OutOfMemory → EndsRight (setting_with picks replies pid) turns journal answer

@@ -1,18 +1,19 @@
 -- An engine stands for a journal, the newest mark first, and for the clients that were closed: one clause a part.
 use Rattle.std.specs.Prelude.{◌≡◌, ◌≢◌, ℕ, Bool, true, false, not, List, [], ◌∷◌, ◌++◌, ◌==◌, length, filter, Option, Some, None, if◌then◌else◌}
 use Rattle.mux_outside.specs.declared.house.HouseReply.{HouseReply}
-use Rattle.ssh_grammar.specs.Said.{Mode, InControl, Stopped, Payload}
+use Rattle.ssh_grammar.specs.Said.{Mode, InControl, Stopped}
 use Rattle.mux_outside.specs.Streams.{among}
 use Rattle.mux_outside.specs.declared.mark.Mark.{Mark}
 use Rattle.mux_outside.specs.declared.mark.Mark.TheVariants.{Waits, Accepts, Gets, Ends, Frees, Fails, Takes, Holds, WriteFails}
 use Rattle.mux_history.specs.declared.why.Why.{Why}
-use Rattle.mux_history.specs.Rows.{Row, rows_of, is_out, is_ended, losses, any_of, is_lost as has_loss, is_admit, Item, Says, Gone, Heard, Goes, Refused, Drop, End}
+use Rattle.mux_history.specs.Rows.{Row, rows_of, is_out, is_ended, losses, any_of, is_lost as has_loss, is_admit, Item, Says, Gone, Goes, Refused, Drop, End}
 use Rattle.mux_history.specs.Pending.{pending_down}
-use Rattle.mux_history.specs.Policy.{Anything}
+use Rattle.mux_history.specs.Policy.{any_policy}
+use Rattle.mux_history.specs.Settings.{in_control}
 use Rattle.mux_history.specs.Controls.{greeted}
 pub use Rattle.mux_history.specs.PlainRows.{IsPlainItem, IsPlain, ArePlain}
-use Rattle.mux_history.specs.NotBuilt.{ProxyMode, ServerSays, spoken}
-use Rattle.mux_history.specs.Choices.{FromLists, replies_given}
+use Rattle.mux_history.specs.NotBuilt.{spoken}
+use Rattle.mux_history.specs.Choices.{replies_given}
 use Rattle.mux_history.specs.Log.{Setting, served, entered}
 use Rattle.mux_history.specs.Solo.{end_of}
 use Rattle.mux_history.specs.Journal.{bytes_of, log_of_journal}
@@ -25,7 +26,7 @@ use Rattle.mux_engine.specs.Step.{is_lost, is_read, is_greeted, is_present, wait
 
 -- a run of a master that refuses PROXY and reads nothing of the server: nothing is chosen in it but by the house
 abbrev pub setting : ℕ → List HouseReply → Setting
-setting pid replies = record { policy = record { opens = Anything; listens = Anything }; pid = pid; choices = FromLists [] replies; missing = ProxyMode ∷ ServerSays ∷ [] }
+setting pid replies = in_control any_policy pid [] replies
 
 -- its rows
 abbrev pub log : ℕ → List HouseReply → List Mark → List Row
