@@ -368,6 +368,7 @@ impl Engine {
         ensures bytes { AreBytes result.now }
         ensures waits { (given : List TheReply) (marks : List TheMark) (closed : List ℕ) → Stands given self.now marks closed → among stream closed ≡ false → result.now ≡ pending stream (log self.now.pid given marks) }
     {
+        // Named first: what a name holds is known to be bytes.
         let bytes = self.do_queue_of(stream);
         bytes
     }
