@@ -7,6 +7,7 @@ use Rattle.mux_history.specs.Gist.{Confirms}
 use Rattle.ssh_grammar.specs.declared.side.Side.TheVariants.{Down, Up}
 use Rattle.mux_history.proofs.Finds.{Each, filter-no, filter-yes, find-no, find-yes}
 use Rattle.mux_history.proofs.Local.{is_of}
+use Rattle.mux_history.proofs.Bools.{same-number, self}
 
 -- what holds of each channel
 pub record Sound (x : Channel) : Type 0 where
@@ -89,12 +90,6 @@ pub record Unused (n k c : ℕ) (x : Channel) : Type 0 where
 
 abbrev pub NotLive : ℕ → Channel → Type 0
 NotLive s x = is_held x ≡ true → is_number x.remote s ≡ false
-
-pub same-number : (a b : ℕ) → (a == b) ≡ true → a ≡ b
-same-number a b e = grind (arith, nat_tests)
-
-pub self : (c : ℕ) → (c == c) ≡ true
-self c = grind (arith, nat_tests)
 
 pub differs : (o : Option ℕ) (n j : ℕ) → is_number o n ≡ false → is_number o j ≡ true → (n == j) ≡ false
 differs None n j other same = cc

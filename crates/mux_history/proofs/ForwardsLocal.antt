@@ -15,6 +15,7 @@ use Rattle.ssh_grammar.specs.SpellMessage.{wants}
 use Rattle.ssh_grammar.specs.declared.fault.Bad.{Bad}
 use Rattle.mux_history.proofs.Finds.{filter-no, filter-yes, find-no, find-yes}
 use Rattle.mux_history.proofs.OwnRows.{rows-twice, same-client}
+use Rattle.mux_history.proofs.Bools.{is-of}
 
 abbrev pub for_of : ℕ → Forwarding → Bool
 for_of k f = f.client == k
@@ -205,9 +206,6 @@ forwardings-local k (row ∷ before) = by_case (forwardings-local k before) (row
         dropped-other k row (forwarded row (rows_of row.client before) (forwardings_of before)) e
         ∙ (forwarded-other k row (rows_of row.client before) (forwardings_of before) e
         ∙ (ih ∙ sym (ap forwardings_of (filter-no (λ (r : Row). r.client == k) row before e))))
-
-is-of : (a k : ℕ) → a ≡ k → (a == k) ≡ true
-is-of a k e = grind (arith, nat_tests)
 
 -- the earliest that is live at a place, where it is a client's, is the earliest of the client's
 pub live-local : (k : ℕ) (rows : List Row) (address : List ℕ) (port : ℕ) (f : Forwarding) → live_at rows address port ≡ Some f → f.client ≡ k → live_at (rows_of k rows) address port ≡ Some f

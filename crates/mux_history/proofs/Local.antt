@@ -9,6 +9,7 @@ use Rattle.mux_history.specs.Gist.{Confirmation, Confirms, Gist, Open, Within, r
 use Rattle.mux_history.specs.Rows.{Heard, Item, Row, Says, rows_of}
 use Rattle.ssh_grammar.specs.Said.{Payload}
 use Rattle.ssh_grammar.specs.declared.side.Side.TheVariants.{Down, Up}
+use Rattle.mux_history.proofs.Bools.{self}
 
 -- ---- each step keeps a channel's client
 
@@ -81,9 +82,6 @@ leave-other k row other x mine = rw (differ x.client row.client k mine other, af
 -- a row begins channels of its client alone
 abbrev Begun : ℕ → List Channel → Type 0
 Begun k xs = (filter (is_of k) xs ≡ xs) × ((j : ℕ) → (k == j) ≡ false → filter (is_of j) xs ≡ [])
-
-self : (k : ℕ) → (k == k) ≡ true
-self k = grind (arith, nat_tests)
 
 begun-up : (k : ℕ) (up : List (List ℕ)) (m : Gist) → Begun k (opened_up k up m)
 begun-up k [] m = (refl, λ j e. refl)

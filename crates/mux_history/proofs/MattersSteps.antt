@@ -9,7 +9,7 @@ use Rattle.mux_history.specs.Log.{admits, entered, matters_of, treat}
 use Rattle.mux_history.specs.Policy.{Policy}
 use Rattle.mux_history.specs.Rows.{Admit, Fate, Item, Refused, Row, any_of, is_admit, rows_of}
 use Rattle.mux_history.specs.Steps.{MattersStep, one_if}
-use Rattle.mux_history.proofs.Bools.{or-left, or-right}
+use Rattle.mux_history.proofs.Bools.{or-left, or-right, self}
 use Rattle.mux_history.proofs.Finds.{filter-no, filter-yes}
 use Rattle.mux_history.proofs.KeepsApart.{LawfulItem, admits_client}
 use Rattle.mux_history.proofs.LawfulItems.{client-of, treat-item}
@@ -29,9 +29,6 @@ admit-item row admitted = by_item row.item row.fate admitted
     by_item (Admit j) fate e = refl
     by_item i Refused e = cc
     by_item i fate e = cc
-
-self : (k : ℕ) → (k == k) ≡ true
-self k = grind (arith, nat_tests)
 
 -- the item that lets a client in, and no row before it did
 pub record LetsIn (before : List Row) (row : Row) : Type 0 where

@@ -8,6 +8,7 @@ use Rattle.mux_history.specs.Rows.{Row, rows_of, sent_by}
 use Rattle.mux_history.specs.Steps.{TakeStep, next_pending, take_row}
 use Rattle.ssh_grammar.specs.Frames.{frame_payload}
 use Rattle.mux_history.proofs.Finds.{filter-no, filter-yes}
+use Rattle.mux_history.proofs.Bools.{self}
 
 pub pending-step : (t : ℕ) (row : Row) (before : List Row) → pending t (row ∷ before) ≡ next_pending t row (pending t before)
 pending-step t row before = by_stream (t == 0)
@@ -22,9 +23,6 @@ pending-step t row before = by_stream (t == 0)
     by_stream false = by_client (row.client == t) refl
 
 -- ---- a take
-
-self : (t : ℕ) → (t == t) ≡ true
-self t = grind (arith, nat_tests)
 
 given-none : (t s n : ℕ) → given_by t (take_row s n) ≡ []
 given-none t s n = by_stream (t == 0) (s == t)

@@ -17,12 +17,9 @@ use Rattle.ssh_fields.proofs.Fields.{AreBytes-take}
 use Rattle.mux_history.specs.Journal.{is_accepted, is_blocked, is_known}
 use Rattle.mux_history.specs.Wires.{FollowsRead, OfWire, ReadsWhenAsked, WireKeeps, reads}
 use Rattle.mux_history.proofs.Finds.{filter-no, filter-yes}
+use Rattle.mux_history.proofs.Bools.{or-yes}
 
 -- ---- lists of streams
-
-or-yes : (a b : Bool) → b ≡ true → (a || b) ≡ true
-or-yes true b e = refl
-or-yes false b e = e
 
 -- what is in a list with one more is in the list, or it is that one
 among-last : (P : Type 0) (t k : ℕ) (streams : List ℕ) → (IsTrue (among t streams) → P) → ((k == t) ≡ true → P) → among t (streams ++ k ∷ []) ≡ true → P

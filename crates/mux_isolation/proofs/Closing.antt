@@ -22,6 +22,7 @@ use Rattle.mux_history.proofs.RightLogs.{LogKnown, RowKnown}
 use Rattle.mux_history.proofs.Sends.{as_row, row-parts}
 use Rattle.mux_isolation.proofs.Closed.{lost-out, nothing-left}
 use Rattle.mux_isolation.proofs.Begun.{held-count, lost-offers, opened-down-not}
+use Rattle.mux_history.proofs.Bools.{or-yes}
 
 -- ---- a lost client begins nothing and asks nothing
 
@@ -87,10 +88,6 @@ all-closed a false h n l e f = cc
 all-closed a true true n l e f = cc
 all-closed a true false true l e f = cc
 
-pub or-true : (a b : Bool) → b ≡ true → (a || b) ≡ true
-or-true true b e = refl
-or-true false b e = e
-
 asks-same : (k : ℕ) (sent : Bool) → length (asks_of k sent None) ≡ 0
 asks-same k true = refl
 asks-same k false = refl
@@ -106,7 +103,7 @@ stays-closed row own nothing lost begins wants =
     let r = length-append (replies own) (reply_in row.item) in
     let before = nothing.requests in
     let fewer : length (asks (row ∷ own)) ≤ length (replies (row ∷ own)) = omega (arith, before) in
-    all-closed (any_of is_admit (row ∷ own)) (is_lost (row ∷ own)) (any_of is_held (held_of (row ∷ own))) (nat_lt (length (replies (row ∷ own))) (length (asks (row ∷ own)))) (or-true (loses row) (is_lost own) lost) (ap (any_of is_held) held) (no-less (length (replies (row ∷ own))) (length (asks (row ∷ own))) fewer)
+    all-closed (any_of is_admit (row ∷ own)) (is_lost (row ∷ own)) (any_of is_held (held_of (row ∷ own))) (nat_lt (length (replies (row ∷ own))) (length (asks (row ∷ own)))) (or-yes (loses row) (is_lost own) lost) (ap (any_of is_held) held) (no-less (length (replies (row ∷ own))) (length (asks (row ∷ own))) fewer)
 
 -- lost, where the matters of one that was let in are closed
 lost-of : (a l r : Bool) → a ≡ true → ((a && not l) || r) ≡ false → l ≡ true

@@ -12,6 +12,7 @@ use Rattle.mux_history.proofs.Finds.{filter-no, filter-yes}
 use Rattle.mux_history.proofs.Sends.{and-left, and-right}
 use Rattle.mux_isolation.proofs.Counts.{count, is_on}
 use Rattle.mux_isolation.proofs.Weights.{EachOf}
+use Rattle.mux_history.proofs.Bools.{or-yes, self}
 
 abbrev pub add_if : Bool → ℕ → ℕ
 add_if b n = elim b [ true ↦ n + 1 | false ↦ n ]
@@ -158,10 +159,6 @@ pub cover-append : (i : ℕ) (us new : List Ask) (fs : List Forwarding) → Cove
 cover-append i [] new fs cover more = let e : i + 0 ≡ i = omega arith in subst (λ (j : ℕ). CoverFrom j new fs) e more
 cover-append i (a ∷ us) new fs cover more = let e : i + length (a ∷ us) ≡ i + 1 + length us = omega arith in (cover.0, cover-append (i + 1) us new fs cover.1 (subst (λ (j : ℕ). CoverFrom j new fs) e more))
 
-or-yes : (a b : Bool) → b ≡ true → (a || b) ≡ true
-or-yes true b e = refl
-or-yes false b e = e
-
 pub covered-append : (j : ℕ) (fs gs : List Forwarding) → covered j fs ≡ true → covered j (fs ++ gs) ≡ true
 covered-append j [] gs e = cc
 covered-append j (f ∷ fs) gs e = by_case (covers j f) (λ h. covered-append j fs gs h) e
@@ -233,9 +230,6 @@ pub free-waits-not : (f : Forwarding) (j : ℕ) → IsFree f → covers j f ≡ 
 free-waits-not f j free =
     ap (λ b. not f.over && (b || is_number f.cancel j)) (live-request f j free.live)
     ∙ (ap (λ b. not f.over && (false || b)) (none-number f.cancel j free.cancel) ∙ and-none (not f.over))
-
-self : (n : ℕ) → (n == n) ≡ true
-self n = grind (arith, nat_tests)
 
 pub stopped-waits : (n : ℕ) (f : Forwarding) → IsFree f → covers n (stopped true n f) ≡ true
 stopped-waits n f free =

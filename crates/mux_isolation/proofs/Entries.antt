@@ -15,7 +15,7 @@ use Rattle.mux_history.specs.Policy.{Policy}
 use Rattle.mux_history.specs.Rows.{Admit, Fate, Gone, Item, Refused, Row, Says, ServerFailed, any_of, is_admit, is_end, is_ended, is_out, is_refusal, loses, rows_of}
 use Rattle.mux_history.specs.Said.{silent}
 use Rattle.mux_history.specs.Settings.{by_lists}
-use Rattle.mux_history.proofs.Bools.{or-left, or-right}
+use Rattle.mux_history.proofs.Bools.{or-left, or-right, or-yes, self}
 use Rattle.mux_history.proofs.Finds.{filter-no, filter-yes}
 use Rattle.mux_history.proofs.KeepsApart.{admits_client}
 use Rattle.mux_history.proofs.LawfulItems.{client-of, reply-next, treat-item}
@@ -23,13 +23,6 @@ use Rattle.mux_history.proofs.Nexts.{next-live}
 use Rattle.mux_history.proofs.RightLogs.{RowKnown}
 use Rattle.mux_isolation.proofs.Knowns.{LetFirst, is_own}
 use Rattle.mux_isolation.proofs.Matters.{still-in}
-
-self : (k : ℕ) → (k == k) ≡ true
-self k = grind (arith, nat_tests)
-
-or-yes : (a b : Bool) → b ≡ true → (a || b) ≡ true
-or-yes true b e = refl
-or-yes false b e = e
 
 -- ---- a client whose admission made a row, and that isn't out, was let in
 

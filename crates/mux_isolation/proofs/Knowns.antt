@@ -16,7 +16,7 @@ use Rattle.mux_history.specs.Requests.{Ask, asks, asks_of, is_sent, replies, wan
 use Rattle.mux_history.specs.Rows.{Admit, Fate, Gone, Heard, Item, Row, Says, any_of, is_admit, loses, rows_of}
 use Rattle.mux_history.specs.Said.{silent}
 use Rattle.mux_history.proofs.Askers.{asks-local, asks_for, get-filter}
-use Rattle.mux_history.proofs.Bools.{or-left, or-right}
+use Rattle.mux_history.proofs.Bools.{or-left, or-right, self}
 use Rattle.mux_history.proofs.Dests.{Asked, Offered, Reached, dest-err, dest-ok, offered, reached, refuses-asked, succeeds-asked}
 use Rattle.mux_history.proofs.Finds.{filter-no, filter-yes}
 use Rattle.mux_history.proofs.ForwardsLocal.{find-part, live-local}
@@ -132,9 +132,6 @@ quiet-channels policy pid k (row ∷ before) each quiet = by_case (λ h. quiet-c
     by_case ih false e quiet = ap channels_of (filter-no (λ (r : Row). r.client == k) row before e) ∙ ih (sym (ap greeted (filter-no (λ (r : Row). r.client == k) row before e)) ∙ quiet)
 
 -- ---- so what the server says goes to one that said something
-
-self : (k : ℕ) → (k == k) ≡ true
-self k = grind (arith, nat_tests)
 
 never-asked : (before : List Row) (k : ℕ) → greeted (rows_of k before) ≡ false → Asked before k → ⊥
 never-asked before k quiet asked =

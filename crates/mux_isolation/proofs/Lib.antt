@@ -8,6 +8,9 @@ pub mod Begun
 pub mod Bounded
 pub mod Closed
 pub mod Closing
+pub mod ControlAlone
+pub mod ControlItems
+pub mod ControlLogs
 pub mod ControlPhase
 pub mod ControlRows
 pub mod Counts

@@ -25,6 +25,7 @@ use Rattle.mux_isolation.proofs.Closed.{lost-out}
 use Rattle.mux_isolation.proofs.Farewells.{LeavesLittle, if_lost}
 use Rattle.mux_isolation.proofs.Knowns.{LetFirst, greeted-in, is_own, to-greeted}
 use Rattle.mux_isolation.proofs.Totals.{counts, is_live, live}
+use Rattle.mux_history.proofs.Bools.{self}
 
 -- ---- counts go on by one row
 
@@ -140,9 +141,6 @@ row-once policy pid before row known =
     (λ stream size took. subst (λ (i : Item). LosesOnce before (treat policy pid known.pick before i)) (sym took) (keeps-none before (bare (Took stream size) stream silent) refl)))
 
 -- ---- the step
-
-self : (k : ℕ) → (k == k) ≡ true
-self k = grind (arith, nat_tests)
 
 pub live-step : (policy : Policy) (pid : ℕ) (before : List Row) (row : Row) → RowKnown policy pid before row → ForEach (RowKnown policy pid) before → ForEach LetFirst (row ∷ before) → LeavesLittle before row → weight row.farewell + 28032 * live (row ∷ before) ≤ 28032 * live before + 28032 * one_if (admits_one row.item)
 live-step policy pid before row known each first little = by_loss (loses row) refl (is_admit row) refl

@@ -1,7 +1,6 @@
 -- The facts of a right log, by induction over its items, and the isolation of each client.
-use Rattle.std.proofs.Common.{◌≡◌, ℕ, List, [], ◌∷◌, ◌++◌, true, false, Bool, refl, ◌∙◌, ap, arith, map, sym, Option, Some, None, subst}
+use Rattle.std.proofs.Common.{◌≡◌, ℕ, List, [], ◌∷◌, ◌++◌, true, false, Bool, refl, ◌∙◌, ap, map, sym, Option, Some, None, subst}
 use Rattle.std.specs.Prelude.{◌==◌, ◌||◌}
-use Rattle.std.proofs.lemmas.Bool.Decides.{nat_tests}
 use Rattle.mux_history.specs.Channels.{channels_of, own_of}
 use Rattle.mux_history.specs.Choices.{Choices, FromLists, pick_of, said_number, with_reply}
 use Rattle.mux_history.specs.Journal.{items}
@@ -15,9 +14,9 @@ use Rattle.mux_history.specs.Settings.{by_lists, by_own}
 use Rattle.mux_history.specs.Solo.{IsUnshared, end_of, item_for, items_for, run_end, seen_alone}
 use Rattle.mux_history.specs.declared.ended.Ended.{Ended}
 use Rattle.mux_outside.specs.declared.house.HouseReply.{HouseReply}
-use Rattle.mux_history.proofs.Apart.{AreApart, same-number}
+use Rattle.mux_history.proofs.Apart.{AreApart}
 use Rattle.mux_history.proofs.Askers.{Orderly, orderly-none, orderly-treat}
-use Rattle.mux_history.proofs.Bools.{or-left, or-right}
+use Rattle.mux_history.proofs.Bools.{is-of, or-left, or-right, same-number}
 use Rattle.mux_history.proofs.Finds.{filter-no, filter-yes}
 use Rattle.mux_history.proofs.KeepsApart.{IsFresh, LawfulItem, admits_client, good-treat}
 use Rattle.mux_history.proofs.LawfulItems.{LawfulIn, LawfulItems, client-of, reply-lawful, reply-next, rows-admits}
@@ -51,9 +50,6 @@ facts-none policy pid k = record {
   once = tt;
   own = λ un. tt;
 }
-
-is-of : (a k : ℕ) → a ≡ k → (a == k) ≡ true
-is-of a k e = grind (arith, nat_tests)
 
 module _ (policy : Policy) (pid pick k : ℕ) (real : k ≡ 0 → ⊥) (before : List Row) (item : Item) (facts : LogFacts policy pid k before) (may : makes_next before item ≡ true) (lawful : LawfulItem before item) (fresh : IsFresh before (treat policy pid pick before item)) where
   once-item : (item : Item) → LawfulItem before item → (treat policy pid pick before item).client ≡ k → AdmitFact k (rows_of k before) item

@@ -12,10 +12,11 @@ use Rattle.mux_isolation.specs.Laws.{MattersBounded}
 use Rattle.ssh_grammar.specs.Control.{Greets}
 use Rattle.ssh_grammar.specs.Frames.{frame_answer}
 use Rattle.ssh_grammar.specs.declared.numbers.TheConstants.{VERSION}
+use Rattle.mux_history.proofs.Bools.{or-yes, self}
 use Rattle.mux_history.proofs.Finds.{filter-no, filter-yes}
 use Rattle.mux_history.proofs.LawfulItems.{treat-item}
 use Rattle.mux_history.proofs.RightLogs.{LogKnown, RowKnown}
-use Rattle.mux_isolation.proofs.Closing.{closed-next, or-true}
+use Rattle.mux_isolation.proofs.Closing.{closed-next}
 
 -- ---- how many
 
@@ -56,7 +57,7 @@ pub still-in : (row : Row) (before : List Row) (k : ℕ) → any_of is_admit (ro
 still-in row before k admitted = by_case (row.client == k) refl
   where
     by_case : (b : Bool) → (row.client == k) ≡ b → any_of is_admit (rows_of k (row ∷ before)) ≡ true
-    by_case true e = ap (any_of is_admit) (filter-yes (λ (r : Row). r.client == k) row before e) ∙ or-true (is_admit row) (any_of is_admit (rows_of k before)) admitted
+    by_case true e = ap (any_of is_admit) (filter-yes (λ (r : Row). r.client == k) row before e) ∙ or-yes (is_admit row) (any_of is_admit (rows_of k before)) admitted
     by_case false e = ap (any_of is_admit) (filter-no (λ (r : Row). r.client == k) row before e) ∙ admitted
 
 let-next : (row : Row) (before : List Row) (ks : List ℕ) → LetIn before ks → LetIn (row ∷ before) ks
@@ -67,15 +68,12 @@ let-append : (rows : List Row) (xs ys : List ℕ) → LetIn rows xs → LetIn ro
 let-append rows [] ys a b = b
 let-append rows (x ∷ xs) ys a b = (a.0, let-append rows xs ys a.1 b)
 
-same-number : (k : ℕ) → (k == k) ≡ true
-same-number k = grind (arith, nat_tests)
-
 pub let-entered : (rows : List Row) → LetIn rows (entered rows)
 let-entered [] = tt
 let-entered (row ∷ before) = let-append (row ∷ before) (entered before) (elim (is_admit row) as (λ _. List ℕ) [ true ↦ row.client ∷ [] | false ↦ [] ]) (let-next row before (entered before) (let-entered before)) (by_case (is_admit row) refl)
   where
     by_case : (b : Bool) → is_admit row ≡ b → LetIn (row ∷ before) (elim b as (λ _. List ℕ) [ true ↦ row.client ∷ [] | false ↦ [] ])
-    by_case true e = (ap (any_of is_admit) (filter-yes (λ (r : Row). r.client == row.client) row before (same-number row.client)) ∙ ap (λ b. b || any_of is_admit (rows_of row.client before)) e, tt)
+    by_case true e = (ap (any_of is_admit) (filter-yes (λ (r : Row). r.client == row.client) row before (self row.client)) ∙ ap (λ b. b || any_of is_admit (rows_of row.client before)) e, tt)
     by_case false e = tt
 
 -- ---- one is let in below the limit

@@ -8,6 +8,7 @@ use Rattle.ssh_grammar.specs.declared.side.Side.TheVariants.{Down}
 use Rattle.mux_history.proofs.Apart.{AllApart, ApartFrom, each-both, each-filter}
 use Rattle.mux_history.proofs.Finds.{Each, filter-no, filter-yes, find-no, find-yes}
 use Rattle.mux_history.proofs.Local.{is_of}
+use Rattle.mux_history.proofs.Bools.{self}
 
 -- two channels that are not over have different numbers and different numbers of the client's own
 pub record Apart (x y : Channel) : Type 0 where
@@ -29,9 +30,6 @@ Meets n c x = names n x ≡ names_own c x
 
 abbrev pub held_by : ℕ → List Channel → Option Channel
 held_by n xs = find (λ y. is_number y.number n) (filter is_held xs)
-
-self : (c : ℕ) → (c == c) ≡ true
-self c = grind (arith, nat_tests)
 
 has : (o : Option ℕ) (c : ℕ) → o ≡ Some c → is_number o c ≡ true
 has o c e = rw e (self c)

@@ -30,6 +30,7 @@ use Rattle.mux_isolation.proofs.Heard.{Named}
 use Rattle.mux_isolation.proofs.Meets.{Distinct, Meets, distinct-of, meets-all, own_numbered}
 use Rattle.mux_isolation.proofs.Numbers.{HeardOne, Numbered, RowNamed, UpsNamed}
 use Rattle.mux_isolation.proofs.Rows.{SmallItem, same-use, seen_payload}
+use Rattle.mux_history.proofs.Bools.{is-of}
 
 -- ---- what was found
 
@@ -56,9 +57,6 @@ number-is (Some m) n e = ap Some (same m n e)
   where
     same : (a b : ℕ) → (a == b) ≡ true → a ≡ b
     same a b e = grind (arith, nat_tests)
-
-is-of : (a k : ℕ) → a ≡ k → (a == k) ≡ true
-is-of a k e = grind (arith, nat_tests)
 
 each-unit : (P : Channel → Type 0) → ((x : Channel) → P x) → (xs : List Channel) → Each P xs
 each-unit P all [] = tt

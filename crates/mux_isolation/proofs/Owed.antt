@@ -19,6 +19,7 @@ use Rattle.mux_isolation.proofs.Counts.{is_on}
 use Rattle.mux_isolation.proofs.Covers.{CoverFrom, Sound, client-sound, client-waits, cover-append, cover-from, covered, covered-append, covered-first, covered-hit, covered-last, covered-map, covers, free-is, free-waits-not, is_forward, replied-other, replied-sound, sound-append, sound-first, sound-map, stopped-sound, stopped-waits}
 use Rattle.mux_isolation.proofs.SentRequests.{flag}
 use Rattle.mux_isolation.proofs.Weights.{EachOf}
+use Rattle.mux_history.proofs.Bools.{self}
 
 -- ---- what a request that is sent tells
 
@@ -78,9 +79,6 @@ held-more place last k us what fs gs here stays new sound held =
 -- with the forwardings changed
 held-changed : (place : ℕ) (us : List Ask) (fs gs : List Forwarding) → ((j : ℕ) → covered j fs ≡ true → covered j gs ≡ true) → EachOf Sound gs → Held place us fs → Held (place + 0) (us ++ []) gs
 held-changed place us fs gs stays sound held = held-still place us [] gs refl (record { cover = cover-from place us fs gs (λ j le. stays j) held.cover; sound = sound })
-
-self : (n : ℕ) → (n == n) ≡ true
-self n = grind (arith, nat_tests)
 
 -- what is asked, where it is sent
 asked-held : (place last k : ℕ) (us : List Ask) (fs : List Forwarding) (what : Global) (wants : Bool) → place + length us ≡ last → ((address : List ℕ) (port : ℕ) → what ≡ Forward address port → wants ≡ true) → ((address : List ℕ) (port : ℕ) → what ≡ Cancel address port → any_of (is_free_at k address port) fs ≡ true) → Held place us fs → Held (place + 0) (us ++ asks_of k true (wanted_in (Requests what wants))) (requested k last (Requests what wants) fs)

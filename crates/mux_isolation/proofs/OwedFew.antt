@@ -1,7 +1,6 @@
 -- At every row at most 64 requests of a client for forwardings have no reply.
 use Rattle.std.proofs.Common.{◌≡◌, ℕ, zero, suc, ◌+◌, ◌≤◌, List, [], ◌∷◌, ◌++◌, map, take, drop, length, length-append, true, false, Bool, refl, ◌∙◌, ap, arith, sym, subst}
 use Rattle.std.specs.Prelude.{◌==◌, ◌||◌, filter}
-use Rattle.std.proofs.lemmas.Bool.Decides.{nat_tests}
 use Rattle.std.proofs.lemmas.List.{append-nil, length-drop}
 use Rattle.ssh_grammar.specs.Messages.{Cancel, Forward}
 use Rattle.mux_history.specs.Forwardings.{Forwarding, dropped, forwarded, forwardings_of, is_free_at, of_client}
@@ -125,9 +124,6 @@ state-take stream size own state = record {
 
     us-same : unreplied (bare (Took stream size) stream silent ∷ own) ≡ unreplied own
     us-same = ap (λ (rs : List (List ℕ)). drop (length rs) (asks own ++ [])) replies-same ∙ ap (drop (length (replies own))) (append-nil (asks own))
-
-self : (k : ℕ) → (k == k) ≡ true
-self k = grind (arith, nat_tests)
 
 state-next : (policy : Policy) (pid : ℕ) (before : List Row) (row : Row) → RowKnown policy pid before row → ForEach (RowKnown policy pid) before → State (rows_of row.client before) → State (row ∷ rows_of row.client before)
 state-next policy pid before row known each state =

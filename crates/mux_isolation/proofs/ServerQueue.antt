@@ -1,6 +1,6 @@
 -- What waits for the server is bounded over all runs.
 use Rattle.std.proofs.Common.{◌≡◌, ℕ, ◌+◌, ◌*◌, ◌≤◌, ◌<◌, List, [], ◌∷◌, ◌++◌, length, true, false, Bool, refl, ◌∙◌, ap, arith, sym, subst, inl, inr, zero, suc, take}
-use Rattle.std.specs.Prelude.{◌==◌, ◌⊎◌, ◌||◌}
+use Rattle.std.specs.Prelude.{◌==◌, ◌⊎◌}
 use Rattle.mux_outside.specs.declared.house.HouseReply.{HouseReply}
 use Rattle.mux_outside.specs.declared.mark.Mark.{Mark}
 use Rattle.mux_outside.specs.declared.mark.Mark.TheVariants as wire
@@ -23,10 +23,6 @@ use Rattle.mux_isolation.proofs.Entries.{EachItem, by-more, cut-first, log-first
 use Rattle.mux_isolation.proofs.Lengths.{new-bodies, new-bytes, new_says, payloads_bytes}
 use Rattle.mux_isolation.proofs.Potentials.{Facts, IsMute, heard-cost, heard-mute, live-grows, live_cost, owed-grows, owed_cost, said-cost, total, with_live, with_owed}
 use Rattle.mux_isolation.proofs.Totals.{live, live-few, owed, owed-all-few}
-
-or-yes : (a b : Bool) → b ≡ true → (a || b) ≡ true
-or-yes true b e = refl
-or-yes false b e = e
 
 module _ (policy : Policy) (pid : ℕ) (picks : List ℕ) (given : List HouseReply) where
   abbrev log : List Mark → List Row
