@@ -17,7 +17,7 @@ use Rattle.mux_engine.specs.Events.{went_of}
 use Rattle.mux_engine.specs.declared.engine.Went.TheVariants.{On, Ended as Over}
 use Rattle.mux_engine.specs.Stands.{log, StandsFor}
 use Rattle.mux_history.specs.Policy.{any_policy}
-use Rattle.mux_isolation.proofs.ControlPhase.{control-kept}
+use Rattle.mux_isolation.proofs.ControlPhase.{control-kept, control-takes}
 use Rattle.mux_engine.specs.Serving.{Serving, ServingBy, IsServedBut, Promised, PromisedBy, Ran, RanBy, IsRun}
 use Rattle.mux_engine.proofs.Moved.{true_false}
 use Rattle.mux_engine.proofs.Wires.{of_streams}
@@ -131,6 +131,7 @@ run_of May pid turns start told answer ran =
       given = ran.may;
       written = r.kept.written;
       open_streams = r.kept.open_streams;
+      alone = control-takes any_policy pid [] ran.replies r.journal r.of_wire.lawful r.kept.written.takes;
       keeps = λ rows is. control-kept any_policy pid [] ran.replies r.journal rows r.of_wire.lawful is;
       waits = r.waits;
       asked = λ ne. r.asked;
@@ -149,6 +150,7 @@ run_starved May pid turns start told ran =
       given = ran.may;
       written = r.kept.written;
       open_streams = r.kept.open_streams;
+      alone = control-takes any_policy pid [] ran.replies r.journal r.of_wire.lawful r.kept.written.takes;
       keeps = λ rows is. control-kept any_policy pid [] ran.replies r.journal rows r.of_wire.lawful is;
       waits = r.waits;
       asked = λ ne. absurd (ne refl);

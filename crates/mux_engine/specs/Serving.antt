@@ -14,6 +14,7 @@ use Rattle.mux_history.specs.Journal.{IsLawful, Tells, is_blocked, log_of_journa
 use Rattle.mux_history.specs.Promises.{Written, OpenStreams, Settled, IsSettled, ConnectionEnds, MayGive, Throughout, waits_in, write_failed}
 use Rattle.mux_history.specs.Wires.{OfWire, ReadsWhenAsked}
 use Rattle.mux_isolation.specs.Bounds.{IsLog}
+use Rattle.mux_isolation.specs.Bytes.{TakesAlike}
 use Rattle.mux_isolation.specs.ControlPhase.{KeepsControl}
 use Rattle.mux_engine.specs.State.{State}
 use Rattle.mux_engine.specs.Step.{is_present, numbers}
@@ -37,9 +38,9 @@ pub record EndsRight (setting : Setting) (turns : ℕ) (journal : List Mark) (an
 
 -- there is a journal that is what the wire told in this run, where it tells; it is lawful, and the wire read and accepted
 -- only right behind a wait for that; there are fresh numbers, and replies that the house may give, one to each ask of the
--- journal; for these all is written and kept open as it must be; the rows of the journal, also those that want of memory
--- cut, keep all that is promised of them, the unshared connection of each client among it; and the run ends right, but
--- for want of memory
+-- journal; for these all is written and kept open as it must be; what the stream of each admitted client took begins what
+-- its unshared connection gives it; the rows of the journal, also those that want of memory cut, keep all that is promised
+-- of them; and the run ends right, but for want of memory
 pub record IsRun (May : HouseReply → Type 0) (pid turns : ℕ) (start told : Option (List Mark)) (answer : Ended) : Type 0 where
   pub journal : List Mark
   pub picks : List ℕ
@@ -49,6 +50,7 @@ pub record IsRun (May : HouseReply → Type 0) (pid turns : ℕ) (start told : O
   pub given : MayGive May replies
   pub written : Written (setting_with picks replies pid) journal
   pub open_streams : OpenStreams (setting_with picks replies pid) journal
+  pub alone : TakesAlike (setting_with picks replies pid) journal
   pub keeps : (rows : List Row) → IsLog (setting_with picks replies pid) journal rows → KeepsControl (setting_with picks replies pid) rows
   pub waits : waits_in journal ≤ turns
   pub asked : answer ≢ OutOfMemory → replies_given (log_of_journal (setting_with picks replies pid) journal) ≡ length replies

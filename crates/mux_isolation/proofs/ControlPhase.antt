@@ -1,22 +1,24 @@
 -- Over every lawful journal, a run in which the control phase alone is served keeps all that is promised of its rows.
-use Rattle.std.proofs.Common.{◌≡◌, ℕ, ◌<◌, List, [], ◌∷◌, ◌++◌, length, true, false, Bool, refl, ◌∙◌, ap, arith, map, sym, subst}
+use Rattle.std.proofs.Common.{◌≡◌, ℕ, ◌<◌, List, [], ◌∷◌, ◌++◌, length, true, false, Bool, refl, ◌∙◌, ap, arith, map, sym, subst, inl}
 use Rattle.std.specs.Prelude.{◌==◌, ◌||◌, ◌&&◌, not, filter, nat_lt}
 use Rattle.std.proofs.lemmas.Bool.Decides.{nat_tests}
 use Rattle.mux_outside.specs.declared.house.HouseReply.{HouseReply}
 use Rattle.mux_outside.specs.declared.mark.Mark.{Mark}
 use Rattle.ssh_grammar.specs.Frames.{frame_payload}
 use Rattle.mux_history.specs.Channels.{Channel, channels_of, held_of, is_held, is_number}
-use Rattle.mux_history.specs.Journal.{IsLawful}
+use Rattle.mux_history.specs.Journal.{IsLawful, log_of_journal}
 use Rattle.mux_history.specs.Kept.{Asker, AtEach, Every, ForEach, NumbersApart}
 use Rattle.mux_history.specs.Farewell.{has_open_matters}
 use Rattle.mux_history.specs.Pending.{given_to, joined}
 use Rattle.mux_history.specs.PlainRows.{ArePlain, IsPlain}
 use Rattle.mux_history.specs.Requests.{asks, replies}
 use Rattle.mux_history.specs.Policy.{Policy}
+use Rattle.mux_history.specs.Promises.{TakesFront, Throughout}
 use Rattle.mux_history.specs.Right.{IsAdmitted}
 use Rattle.mux_history.specs.Rows.{Heard, Item, Row, any_of, is_admit, rows_of, sent_by, is_lost, loses}
-use Rattle.mux_history.specs.Solo.{IsUnshared, items_for, seen_alone}
+use Rattle.mux_history.specs.Solo.{IsUnshared, items_for, seen_alone, solo}
 use Rattle.mux_isolation.specs.Bounds.{IsLog}
+use Rattle.mux_isolation.specs.Bytes.{GivesAlike, TakesAlike}
 use Rattle.mux_isolation.specs.ControlPhase.{KeepsControl}
 use Rattle.mux_history.proofs.Finds.{filter-no, filter-yes}
 use Rattle.mux_history.proofs.Harmless.{Harmless}
@@ -24,6 +26,7 @@ use Rattle.mux_history.proofs.PlainRows.{no_asks, no_channels, plain_of}
 use Rattle.mux_isolation.proofs.Allowed.{all-may}
 use Rattle.mux_isolation.proofs.ControlRows.{AllHere, InControl, IsControl, are-plain, seen-here, solo-here}
 use Rattle.mux_isolation.proofs.Logs.{admitted-all, run-end-same}
+use Rattle.mux_isolation.proofs.Bytes.{given-own, takes-alike}
 use Rattle.mux_isolation.proofs.Bounded.{Keeps, waits-at-each}
 use Rattle.mux_isolation.proofs.Matters.{FewMore, StayClosed, few-at-each}
 use Rattle.mux_isolation.proofs.Mays.{SendsAllowed, TellsAllowed, permissions, windows}
@@ -73,13 +76,24 @@ module _ (policy : Policy) (pid : ℕ) (picks : List ℕ) (given : List HouseRep
   positive : (k : ℕ) → 0 < k → k ≡ 0 → ⊥
   positive k lt e = omega (arith, lt, e)
 
+  here-of : (marks : List Mark) (rows : List Row) → IsLawful marks → IsLog (run policy pid picks given) marks rows → (k : ℕ) → 0 < k → IsAdmitted k rows → AllHere (solo_run policy pid picks given) (rows_of k rows)
+  here-of marks rows lawful is k lt admitted =
+      let facts : Known policy pid picks given k rows = log-facts policy pid picks given k (positive k lt) marks rows lawful is in
+      facts.own (admitted-all k (rows_of k rows) facts.once admitted)
+
+  -- the client's rows are its unshared connection
+  alone-same : (k : ℕ) (rows : List Row) → AllHere (solo_run policy pid picks given) (rows_of k rows) → solo (run policy pid picks given) k rows ≡ rows_of k rows
+  alone-same k rows here =
+      run-end-same (solo_run policy pid picks given) rows (items_for (rows_of k rows))
+      ∙ solo-here (solo_run policy pid picks given) (rows_of k rows) here
+
   unshared : (marks : List Mark) (rows : List Row) → IsLawful marks → IsLog (run policy pid picks given) marks rows → (k : ℕ) → 0 < k → IsAdmitted k rows → IsUnshared (run policy pid picks given) k rows
   unshared marks rows lawful is k lt admitted =
-      let facts : Known policy pid picks given k rows = log-facts policy pid picks given k (positive k lt) marks rows lawful is in
-      let here : AllHere (solo_run policy pid picks given) (rows_of k rows) = facts.own (admitted-all k (rows_of k rows) facts.once admitted) in
-      seen-here (solo_run policy pid picks given) (rows_of k rows) here
-      ∙ (sym (ap (map seen_alone) (solo-here (solo_run policy pid picks given) (rows_of k rows) here))
-      ∙ sym (ap (map seen_alone) (run-end-same (solo_run policy pid picks given) rows (items_for (rows_of k rows)))))
+      let here = here-of marks rows lawful is k lt admitted in
+      seen-here (solo_run policy pid picks given) (rows_of k rows) here ∙ sym (ap (map seen_alone) (alone-same k rows here))
+
+  gives-alike : (marks : List Mark) (rows : List Row) → IsLawful marks → IsLog (run policy pid picks given) marks rows → GivesAlike (run policy pid picks given) rows
+  gives-alike marks rows lawful is k lt admitted = given-own k lt rows ∙ sym (ap (given_to k) (alone-same k rows (here-of marks rows lawful is k lt admitted)))
 
   -- ---- the limits
 
@@ -152,7 +166,12 @@ module _ (policy : Policy) (pid : ℕ) (picks : List ℕ) (given : List HouseRep
           apart = numbers rows each;
           unshared = unshared marks rows lawful is;
         };
+        gives = gives-alike marks rows lawful is;
         silent = nothing-given rows each;
         queues = waits-at-each rows (all-keep rows each);
         clients = few-at-each rows (few rows each);
       }
+
+  -- so what its stream took begins what its unshared connection gives
+  pub control-takes : (marks : List Mark) → IsLawful marks → Throughout (TakesFront (run policy pid picks given)) marks → TakesAlike (run policy pid picks given) marks
+  control-takes marks lawful takes = takes-alike (run policy pid picks given) marks takes (gives-alike marks (log_of_journal (run policy pid picks given) marks) lawful (inl refl))

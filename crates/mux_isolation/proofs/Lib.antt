@@ -6,6 +6,7 @@ pub mod Alone
 pub mod Asked
 pub mod Begun
 pub mod Bounded
+pub mod Bytes
 pub mod Closed
 pub mod Closing
 pub mod ControlAlone

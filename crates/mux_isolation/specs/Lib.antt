@@ -2,4 +2,5 @@ pub mod Bounds
 pub mod View
 pub mod Renaming
 pub mod Laws
+pub mod Bytes
 pub mod ControlPhase

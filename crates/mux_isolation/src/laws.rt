@@ -3,6 +3,7 @@ ghost use Rattle.mux_isolation.specs.Laws.{MasterSaysLittle, NothingIsLeft, AllI
 ghost use Rattle.mux_isolation.specs.Laws.{QueuesAreBounded, ChannelsAreFew, ForwardingsAreFew, RequestsAreFew, ClientsAreFew};
 ghost use Rattle.mux_isolation.specs.Laws.{ViewsShowRooms, IdleRowsLeaveViews, CutsKeepViews, RepliesAreAwaited, RowsFollowViews};
 ghost use Rattle.mux_isolation.specs.Renaming.{RowsAreRenamed, ViewsAreRenamed, CutsCutItems};
+ghost use Rattle.mux_isolation.specs.Bytes.{BytesAreUnshared, TakesAreUnshared};
 ghost use Rattle.mux_isolation.specs.ControlPhase.{ControlPhaseIsKept};
 ghost use Rattle.mux_isolation.specs.Bounds.{RowsAddLittle, MarksAddLittle, ServerQueueIsBounded, RunsAreBounded, RestsAreShort};
 
@@ -10,6 +11,17 @@ ghost use Rattle.mux_isolation.specs.Bounds.{RowsAddLittle, MarksAddLittle, Serv
 /// own bytes and the server's messages for its channels, up to the numbers that stand for its own.
 pub fn isolation()
     ensures { Isolation }
+{}
+
+/// Byte for byte, an admitted client is given what its unshared connection gives it.
+pub fn bytes_are_unshared()
+    ensures { BytesAreUnshared }
+{}
+
+/// What an admitted client's stream took begins what its unshared connection gives it, where each take is
+/// the front of what waited.
+pub fn takes_are_unshared()
+    ensures { TakesAreUnshared }
 {}
 
 /// Row by row: what a client's next item does in its unshared connection is what it does among others, but

@@ -1,0 +1,33 @@
+-- What an admitted client is given, byte for byte, is what its unshared connection gives it.
+use Rattle.std.specs.Prelude.{ℕ, ◌≡◌, ◌<◌, List}
+use Rattle.mux_outside.specs.declared.house.HouseReply.{HouseReply}
+use Rattle.mux_outside.specs.declared.mark.Mark.{Mark}
+use Rattle.mux_history.specs.Rows.{Row}
+use Rattle.mux_history.specs.Pending.{given_to}
+use Rattle.mux_history.specs.Policy.{Policy}
+use Rattle.mux_history.specs.Log.{Setting}
+use Rattle.mux_history.specs.Journal.{IsLawful, log_of_journal, taken_by}
+use Rattle.mux_history.specs.Promises.{IsFront, TakesFront, Throughout}
+use Rattle.mux_history.specs.Right.{AreFresh, IsAdmitted}
+use Rattle.mux_history.specs.Settings.{by_lists}
+use Rattle.mux_history.specs.Solo.{solo}
+use Rattle.mux_history.specs.Laws.{OverRight}
+
+-- all bytes that each admitted client is to be given
+abbrev pub GivesAlike : Setting → List Row → Type 0
+GivesAlike setting rows =
+    (k : ℕ) → 0 < k → IsAdmitted k rows → given_to k rows ≡ given_to k (solo setting k rows)
+
+-- in every right log
+abbrev pub BytesAreUnshared : Type 0
+BytesAreUnshared = OverRight GivesAlike
+
+-- so the bytes that its stream took begin what the unshared connection gives
+abbrev pub TakesAlike : Setting → List Mark → Type 0
+TakesAlike setting marks =
+    (k : ℕ) → 0 < k → IsAdmitted k (log_of_journal setting marks) → IsFront (taken_by k marks) (given_to k (solo setting k (log_of_journal setting marks)))
+
+-- where each take is the front of what waited
+abbrev pub TakesAreUnshared : Type 0
+TakesAreUnshared =
+    (policy : Policy) (pid : ℕ) (picks : List ℕ) (given : List HouseReply) (marks : List Mark) → IsLawful marks → AreFresh (log_of_journal (by_lists policy pid picks given) marks) → Throughout (TakesFront (by_lists policy pid picks given)) marks → TakesAlike (by_lists policy pid picks given) marks
