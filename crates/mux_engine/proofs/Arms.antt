@@ -1,5 +1,4 @@
 -- The arms of an offer.
-use Rattle.mux_outside.specs.House.{Asked}
 use Rattle.std.proofs.Common.{◌≡◌, ◌≢◌, ◌≤◌, ◌<◌, ◌-◌, ℕ, Bool, true, false, List, [], ◌∷◌, length, drop, Option, refl, sym, ap, ◌∙◌, subst, inl, inr, cond, arith, length-drop}
 use Rattle.std.specs.Prelude.{◌==◌, is_some, Result, Ok, Err, MatchResult, IsErr}
 use Rattle.std.specs.Bool.{MatchBool}
@@ -7,6 +6,7 @@ use Rattle.std.proofs.lemmas.Bool.{eqb-true}
 use Rattle.std.proofs.lemmas.Bool.Decides.{eqb_tells}
 use Rattle.mux_outside.specs.Counts.{Rose}
 use Rattle.mux_outside.specs.Streams.{without}
+use Rattle.mux_outside.specs.House.{Asked}
 use Rattle.mux_outside.specs.Wire.{StreamFault}
 use Rattle.mux_outside.specs.declared.house.HouseReply.{HouseReply}
 use Rattle.mux_outside.specs.declared.mark.Mark.{Mark}

@@ -62,13 +62,10 @@ tells_none (Some asks) = ap (λ (l : List Asked). Some l) (sym (append-nil asks)
 pub tells_same : (before now : Option (List Asked)) → TellsAsks before now [] → now ≡ before
 tells_same before now told = told ∙ sym (tells_none before)
 
-pub tells_still : (before now : Option (List Asked)) → now ≡ before → TellsAsks before now []
-tells_still before now same = same ∙ tells_none before
-
 tells_twice : (before : Option (List Asked)) (a b : List Asked) → option_map (λ told. told ++ b) (option_map (λ told. told ++ a) before) ≡ option_map (λ told. told ++ (a ++ b)) before
 tells_twice None a b = refl
 tells_twice (Some asks) a b = ap (λ (l : List Asked). Some l) (append_assoc asks a b)
 
 -- first these, then those
-pub tells_more : (before mid now : Option (List Asked)) (a b : List Asked) → TellsAsks before mid a → TellsAsks mid now b → TellsAsks before now (a ++ b)
-tells_more before mid now a b first then = then ∙ (ap (λ (told : Option (List Asked)). option_map (λ l. l ++ b) told) first ∙ tells_twice before a b)
+pub tells_then : (before mid now : Option (List Asked)) (a b : List Asked) → TellsAsks before mid a → TellsAsks mid now b → TellsAsks before now (a ++ b)
+tells_then before mid now a b first then = then ∙ (ap (λ (told : Option (List Asked)). option_map (λ l. l ++ b) told) first ∙ tells_twice before a b)

@@ -63,11 +63,11 @@ decides_close May before now pid k id body what given frame d may e f told g =
     decided_by May before now pid k id false body given frame d may f g (told_as before now k body (CloseForward id what) given e told)
     (asks_by pid k body (CloseForward id what) given (frame_answer (house_answer false id given)) e refl refl refl refl)
 
--- the house is not asked
-pub decides_alone : (May : HouseReply → Type 0) (told : Option (List Asked)) (pid k : ℕ) (greeted : Bool) (body : List ℕ) (d : Decision) → Decides pid k greeted body None d → DecidesBy May told told pid k greeted body d
-decides_alone May told pid k greeted body d decides = record { given = None; may = tt; told = tells_none told; decides = decides }
-
--- as before the hello
+-- the house is not asked before the hello
 pub decides_first : (May : HouseReply → Type 0) (told : Option (List Asked)) (pid k : ℕ) (greeted : Bool) (body : List ℕ) (d : Decision) → greeted ≡ false → ((pid k : ℕ) → Decides pid k false body None d) → DecidesBy May told told pid k greeted body d
-decides_first May told pid k greeted body d e decides =
-    decides_alone May told pid k greeted body d (subst (λ (b : Bool). Decides pid k b body None d) (sym e) (decides pid k))
+decides_first May told pid k greeted body d e decides = record {
+  given = None;
+  may = tt;
+  told = tells_none told;
+  decides = subst (λ (b : Bool). Decides pid k b body None d) (sym e) (decides pid k);
+}

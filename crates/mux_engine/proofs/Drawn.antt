@@ -1,8 +1,8 @@
 -- What the house replied comes first of all that it will reply.
-use Rattle.mux_outside.specs.House.{Asked}
 use Rattle.std.proofs.Common.{◌≡◌, ◌+◌, ℕ, Bool, true, false, List, [], ◌∷◌, ◌++◌, length, drop, refl, sym, ap, ◌∙◌, subst, cond, append_assoc, append-nil}
 use Rattle.std.specs.Prelude.{is_some, Option}
 use Rattle.std.proofs.lemmas.List.{length-append}
+use Rattle.mux_outside.specs.House.{Asked}
 use Rattle.mux_outside.specs.declared.house.HouseReply.{HouseReply}
 use Rattle.mux_outside.specs.declared.mark.Mark.{Mark}
 use Rattle.mux_outside.specs.declared.mark.Mark.TheVariants.{Takes}
@@ -13,7 +13,7 @@ use Rattle.mux_engine.specs.Step.{Steps, after, asked_at, taken}
 use Rattle.mux_engine.specs.Stands.{log, StandsFor, Stands, GoesOn, GoesAlone, IsAllowed}
 use Rattle.mux_engine.specs.Serving.{Replied}
 use Rattle.mux_engine.proofs.GoesOn.{goes_on}
-use Rattle.mux_engine.proofs.Asks.{tells_more}
+use Rattle.mux_engine.proofs.Asks.{tells_then}
 
 pub drop_given : (given more : List HouseReply) → drop (length given) (given ++ more) ≡ more
 drop_given [] more = refl
@@ -105,6 +105,6 @@ through_mark May before mid told P Q old new mark f steps r = record {
   asks = r.asks ++ steps.asks;
   may = may_join May r.replies steps.given r.may steps.may;
   each = both_lengths r.asks steps.asks r.replies steps.given r.each steps.each;
-  told = tells_more before mid told r.asks steps.asks r.told steps.told;
+  told = tells_then before mid told r.asks steps.asks r.told steps.told;
   at = λ later. carry Q r.replies steps.given later r.asks steps.asks old new mark r.each (f (r.replies ++ (steps.given ++ later)) r.asks (r.at (steps.given ++ later))) (steps.asked later) (steps.state later);
 }

@@ -1,8 +1,8 @@
 -- An engine goes on by any mark that may come, and with a client closed.
-use Rattle.mux_outside.specs.House.{Asked}
 use Rattle.std.proofs.Common.{◌≡◌, ◌≢◌, ◌+◌, ℕ, Bool, true, false, not, ◌||◌, ◌&&◌, List, [], ◌∷◌, ◌++◌, length, drop, Option, Some, None, refl, sym, ap, ◌∙◌, subst, inl, inr, cond, append-nil, arith}
 use Rattle.std.specs.Prelude.{◌==◌, is_some, nat_lt}
 use Rattle.std.proofs.lemmas.Bool.Decides.{eqb_tells}
+use Rattle.mux_outside.specs.House.{Asked}
 use Rattle.mux_outside.specs.declared.house.HouseReply.{HouseReply}
 use Rattle.mux_outside.specs.declared.mark.Mark.{Mark}
 use Rattle.mux_outside.specs.declared.mark.Mark.TheVariants.{Waits, Accepts, Gets, Ends, Frees, Fails, Takes, Holds, WriteFails}

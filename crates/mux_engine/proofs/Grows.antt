@@ -3,6 +3,7 @@ use Rattle.std.proofs.Common.{◌≡◌, ◌≢◌, ◌+◌, ℕ, Bool, true, fa
 use Rattle.std.specs.Prelude.{◌==◌, is_some}
 use Rattle.std.proofs.lemmas.Bool.{eq-eqb}
 use Rattle.std.proofs.lemmas.Bool.Decides.{eqb_tells}
+use Rattle.mux_outside.specs.House.{Asked}
 use Rattle.mux_history.specs.declared.why.Why.{Why}
 use Rattle.mux_history.specs.declared.ended.Ended.{Ended}
 use Rattle.mux_history.specs.Rows.{Row, rows_of, loses, is_out, is_refusal, is_admit, is_end, is_ended, loss_by, losses, Item, Admit, Says, Gone, Fate, Goes, Refused, Drop, End}
@@ -10,9 +11,8 @@ use Rattle.mux_history.specs.Choices.{has_reply, replies_given}
 use Rattle.mux_history.specs.Log.{goes, entered}
 use Rattle.mux_history.specs.Solo.{end_of}
 use Rattle.mux_history.specs.Promises.{listens, stops}
-use Rattle.mux_outside.specs.House.{Asked}
-use Rattle.mux_engine.specs.Asked.{asked_of, item_asks}
 use Rattle.mux_engine.proofs.Asks.{count_if}
+use Rattle.mux_engine.specs.Asked.{asked_of, item_asks}
 use Rattle.mux_engine.specs.Stands.{IsPlainItem, ArePlain, IsKnown}
 use Rattle.mux_engine.proofs.RowFacts.{RowIs}
 use Rattle.mux_engine.proofs.Says.{NotRefused}

@@ -23,7 +23,7 @@ use Rattle.mux_engine.specs.Decisions.{reply_list, heeded_by, SaysBody, SaysFaul
 use Rattle.proxy_frames.specs.State.{FramerState}
 use Rattle.proxy_frames.specs.Steps.{pushed}
 use Rattle.mux_engine.proofs.Spoken.{spoken-at}
-use Rattle.mux_engine.proofs.Asks.{none_asks, each_said, tells_none, tells_more}
+use Rattle.mux_engine.proofs.Asks.{none_asks, each_said, tells_none, tells_then}
 use Rattle.mux_engine.proofs.Nexts.{client_of}
 
 -- what was heard so far, with the replies that the house gave to it
@@ -167,7 +167,7 @@ hearing_body May start mid told pid all body rest first now heard new heard' rea
       used = before.used ++ reply_list says.given;
       asks = before.asks ++ asks;
       each = length-append before.asks asks ∙ (ap (λ (n : ℕ). n + length asks) before.each ∙ (ap (λ (n : ℕ). length before.used + n) (each_said now.number says.given h (Body body) says.asked) ∙ sym (length-append before.used (reply_list says.given))));
-      tells = tells_more start mid told before.asks asks before.tells says.told;
+      tells = tells_then start mid told before.asks asks before.tells says.told;
       may = may_both before.used (reply_list says.given) before.may says.may;
       said = λ later.
           ap (λ (l : List HouseReply). client_all pid l (spoken InControl all).says (unheard first)) (append_assoc before.used (reply_list says.given) later)

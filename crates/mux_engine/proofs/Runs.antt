@@ -1,8 +1,8 @@
 -- The start and the end of a run.
-use Rattle.mux_outside.specs.House.{Asked}
 use Rattle.std.proofs.Common.{◌≡◌, ◌≤◌, ◌+◌, ℕ, Bool, true, false, List, [], ◌∷◌, ◌++◌, Option, Some, None, refl, sym, ap, ◌∙◌, subst, inl, arith, append-nil}
 use Rattle.std.specs.Prelude.{◌==◌, min, ◌^◌, ◌-◌}
 use Rattle.mux_outside.specs.Counts.{Rose}
+use Rattle.mux_outside.specs.House.{Asked}
 use Rattle.mux_outside.specs.declared.mark.Mark.{Mark}
 use Rattle.mux_outside.specs.declared.house.HouseReply.{HouseReply}
 use Rattle.mux_history.specs.declared.ended.Ended.{Ended}

@@ -1,11 +1,11 @@
 -- What a whole turn makes of what holds while a wire is served.
-use Rattle.mux_outside.specs.House.{Asked}
 use Rattle.std.proofs.Common.{◌≡◌, ◌≤◌, ◌+◌, ℕ, Bool, true, false, List, [], ◌∷◌, ◌++◌, length, drop, Option, Some, None, refl, sym, ap, ◌∙◌, subst, cond, arith, append_assoc, append-nil}
 use Rattle.std.specs.Prelude.{◌==◌, is_some, nat_lt, reverse, Result, Ok, Err, OnOk, MatchResult, IsTrue}
 use Rattle.std.specs.Bool.{MatchBool}
 use Rattle.std.specs.Option.{option_map}
 use Rattle.mux_outside.specs.Counts.{Rose}
 use Rattle.mux_outside.specs.Streams.{among, without}
+use Rattle.mux_outside.specs.House.{Asked}
 use Rattle.mux_outside.specs.Wire.{TurnFits, TurnFaults, StreamFault, wait_marks, open_after, blocked_after, last_after}
 use Rattle.mux_outside.specs.declared.house.HouseReply.{HouseReply}
 use Rattle.mux_outside.specs.declared.mark.Mark.{Mark}

@@ -1,5 +1,6 @@
 -- What becomes of a control message, as the engine decides it.
 use Rattle.std.specs.Prelude.{◌≡◌, ℕ, ◌&&◌, Bool, true, false, List, [], ◌∷◌, ◌++◌, length, Option, Some, None, is_some}
+use Rattle.mux_outside.specs.House.{Asked}
 use Rattle.mux_outside.specs.declared.house.HouseReply.{HouseReply}
 use Rattle.ssh_grammar.specs.declared.fault.BadFrame.{BadFrame}
 use Rattle.ssh_grammar.specs.Frames.{Front, Frame, More, Faulty}
@@ -16,7 +17,6 @@ use Rattle.mux_engine.specs.declared.client.Heard.{Heard}
 use Rattle.mux_engine.specs.declared.decision.Decision.{Decision}
 use Rattle.mux_engine.specs.declared.decision.Fate.{Fate}
 use Rattle.mux_engine.specs.declared.decision.Fate.TheVariants.{Goes, Unreads, Stops, Ends, Drops}
-use Rattle.mux_outside.specs.House.{Asked}
 use Rattle.mux_engine.specs.State.{ClientState}
 use Rattle.mux_engine.specs.Asked.{saying_asks, TellsAsks}
 use Rattle.mux_engine.specs.Answer.{answer, stands_by}

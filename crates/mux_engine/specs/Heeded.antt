@@ -1,5 +1,6 @@
 -- One client of an engine: what it says, and what it takes.
 use Rattle.std.specs.Prelude.{ℕ, ◌||◌, ◌&&◌, Bool, true, false, List, [], ◌∷◌, ◌++◌, length, drop, if◌then◌else◌, Option, Some, None}
+use Rattle.mux_outside.specs.House.{Asked}
 use Rattle.mux_outside.specs.declared.house.HouseReply.{HouseReply}
 use Rattle.mux_outside.specs.declared.house.HouseReply.TheVariants as reply
 use Rattle.ssh_grammar.specs.Said.{Saying, InControl}
@@ -10,7 +11,6 @@ use Rattle.mux_history.specs.Said.{Outcome}
 use Rattle.mux_history.specs.NotBuilt.{spoken}
 use Rattle.mux_history.specs.Log.{goes, fitting, overflow, fate_with}
 use Rattle.mux_engine.specs.State.{ClientState}
-use Rattle.mux_outside.specs.House.{Asked}
 use Rattle.mux_engine.specs.Asked.{saying_asks}
 use Rattle.mux_engine.specs.Answer.{answer, asks, stops, stands_by, hello}
 use Rattle.mux_engine.specs.declared.client.Standing.{Standing}

@@ -1,6 +1,7 @@
 -- What holds between an engine and its wire while it is served.
 use Rattle.std.specs.Prelude.{◌≡◌, ◌≢◌, ◌≤◌, ◌<◌, ℕ, Bool, true, false, List, ◌∷◌, ◌++◌, length, Option, None}
 use Rattle.mux_outside.specs.Streams.{among}
+use Rattle.mux_outside.specs.House.{Asked}
 use Rattle.mux_outside.specs.declared.house.HouseReply.{HouseReply}
 use Rattle.mux_outside.specs.declared.mark.Mark.{Mark}
 use Rattle.mux_history.specs.declared.ended.Ended.{Ended}
@@ -15,7 +16,6 @@ use Rattle.mux_history.specs.Promises.{Written, OpenStreams, Settled, IsSettled,
 use Rattle.mux_history.specs.Wires.{OfWire, ReadsWhenAsked}
 use Rattle.mux_isolation.specs.Bounds.{IsLog}
 use Rattle.mux_isolation.specs.ControlPhase.{KeepsControl}
-use Rattle.mux_outside.specs.House.{Asked}
 use Rattle.mux_engine.specs.State.{State}
 use Rattle.mux_engine.specs.Asked.{asked_of, TellsAsks}
 use Rattle.mux_engine.specs.Step.{is_present, numbers}
@@ -40,8 +40,8 @@ pub record EndsRight (setting : Setting) (turns : ℕ) (journal : List Mark) (an
 -- there is a journal that is what the wire told in this run, where it tells; it is lawful, and the wire read and accepted
 -- only right behind a wait for that; there are fresh numbers, and replies that the house may give, one to each ask of the
 -- journal; for these all is written and kept open as it must be; the rows of the journal, also those that want of memory
--- cut, keep all that is promised of them, the unshared connection of each client among it; and the run ends right, but
--- for want of memory
+-- cut, keep all that is promised of them, the unshared connection of each client among it; and but for want of memory the
+-- run ends right, and the house, which told `before` and tells `now`, was told exactly the asks of these rows
 pub record IsRun (May : HouseReply → Type 0) (pid turns : ℕ) (before now : Option (List Asked)) (start told : Option (List Mark)) (answer : Ended) : Type 0 where
   pub journal : List Mark
   pub picks : List ℕ

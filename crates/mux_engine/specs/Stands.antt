@@ -2,7 +2,6 @@
 use Rattle.std.specs.Prelude.{◌≡◌, ◌≢◌, ℕ, Bool, true, false, not, List, [], ◌∷◌, ◌++◌, ◌==◌, length, filter, Option, Some, None, if◌then◌else◌}
 use Rattle.mux_outside.specs.House.{Asked}
 use Rattle.mux_outside.specs.declared.house.HouseReply.{HouseReply}
-use Rattle.mux_engine.specs.Asked.{asked_of, TellsAsks}
 use Rattle.ssh_grammar.specs.Said.{Mode, InControl, Stopped}
 use Rattle.mux_outside.specs.Streams.{among}
 use Rattle.mux_outside.specs.declared.mark.Mark.{Mark}
@@ -23,6 +22,7 @@ use Rattle.mux_history.specs.Promises.{listens, MayGive}
 use Rattle.mux_engine.specs.declared.client.Standing.{Standing}
 use Rattle.mux_engine.specs.declared.client.Standing.TheVariants.{Awaited, Greeted, Unread, Lost}
 use Rattle.mux_engine.specs.State.{ClientState, State}
+use Rattle.mux_engine.specs.Asked.{asked_of, TellsAsks}
 use Rattle.mux_engine.specs.Answer.{stands_by}
 use Rattle.mux_engine.specs.Step.{is_lost, is_read, is_greeted, is_present, waiting_in, served_in}
 

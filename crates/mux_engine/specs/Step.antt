@@ -1,5 +1,6 @@
 -- One step of an engine.
 use Rattle.std.specs.Prelude.{◌≡◌, ℕ, ◌&&◌, Bool, true, false, not, List, [], ◌∷◌, ◌++◌, length, filter, if◌then◌else◌, ◌==◌, suc, Option, Some, None, is_some, nat_lt}
+use Rattle.mux_outside.specs.House.{Asked}
 use Rattle.mux_outside.specs.declared.house.HouseReply.{HouseReply}
 use Rattle.mux_outside.specs.Streams.{without}
 use Rattle.mux_outside.specs.declared.mark.Mark.{Mark}
@@ -8,10 +9,9 @@ use Rattle.mux_history.specs.declared.why.Why.{Why}
 use Rattle.mux_history.specs.declared.ended.Ended.{Ended}
 use Rattle.mux_history.specs.declared.ended.Ended.TheVariants as ended
 use Rattle.mux_history.specs.Promises.{is_empty, MayGive}
-use Rattle.mux_outside.specs.House.{Asked}
 use Rattle.mux_engine.specs.declared.client.Heard.{Heard}
-use Rattle.mux_engine.specs.Asked.{TellsAsks}
 use Rattle.mux_engine.specs.State.{ClientState, State}
+use Rattle.mux_engine.specs.Asked.{TellsAsks}
 use Rattle.mux_engine.specs.declared.client.Standing.{Standing}
 use Rattle.mux_engine.specs.declared.client.Standing.TheVariants.{Lost}
 pub use Rattle.mux_engine.specs.Heeded.{is_lost, is_read, is_greeted, new_client, refused_client, standing_after, Heeded, unheard, end_in, heeded, client_said, asks_in, next_reply, later_replies, reply_if, left_if, client_all, asks_next, asks_all, rest_if, after_heeded, client_hears, client_got, client_asks, lost_client, client_took}

@@ -342,8 +342,9 @@ impl Engine {
         })
     }
 
-    /// Takes in what happened at a stream. A client is accepted once, with a number from 1 on, and all other
-    /// events of clients name one that was accepted. Once there was no memory there is none for any later event.
+    /// Takes in what happened at a stream, and tells the house what the client asks by it. A client is accepted once,
+    /// with a number from 1 on, and all other events of clients name one that was accepted. Once there was no memory
+    /// there is none for any later event.
     pub fn event<H: House>(&mut self, e: Event<'_>, house: &mut H) -> Result<Went, OutOfMemory>
         ensures stands { OnOk result ((mark : TheMark) → Tells e.entry mark → GoesOn H.may (H.told house.old) (H.told house.new) self.old self.new mark) }
         ensures step { OnOk result ((mark : TheMark) → Tells e.entry mark → Steps H.may (H.told house.old) (H.told house.new) self.old self.new mark) }

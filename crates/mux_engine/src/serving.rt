@@ -295,7 +295,7 @@ fn run<W: Wire, H: House>(
 }
 
 /// Serves a wire with a new engine until the run ends, for so many turns at most: why it ended. What the wire tells of
-/// this run is written and kept open as it must be, and ends as it must.
+/// this run is written and kept open as it must be, and ends as it must; the house is told each ask of its clients.
 pub fn serve<W: Wire, H: House>(
     alloc: Global,
     engine: &mut Engine,

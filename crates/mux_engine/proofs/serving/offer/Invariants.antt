@@ -1,6 +1,6 @@
-use Rattle.mux_outside.specs.House.{Asked}
 use Rattle.std.proofs.Common.{◌≡◌, ◌∷◌, ℕ, List, Option, false, length}
 use Rattle.mux_outside.specs.Streams.{among}
+use Rattle.mux_outside.specs.House.{Asked}
 use Rattle.mux_outside.specs.declared.house.HouseReply.{HouseReply}
 use Rattle.mux_outside.specs.declared.mark.Mark.{Mark}
 use Rattle.mux_engine.specs.Step.{numbers, queue_in}
