@@ -6,12 +6,15 @@ use Rattle.std.proofs.lemmas.Bool.{eqb-true}
 use Rattle.std.proofs.lemmas.Bool.Decides.{eqb_tells}
 use Rattle.mux_outside.specs.Counts.{Rose}
 use Rattle.mux_outside.specs.Streams.{without}
+use Rattle.mux_outside.specs.House.{Asked}
 use Rattle.mux_outside.specs.Wire.{StreamFault}
 use Rattle.mux_outside.specs.declared.house.HouseReply.{HouseReply}
 use Rattle.mux_outside.specs.declared.mark.Mark.{Mark}
 use Rattle.mux_outside.specs.declared.mark.Mark.TheVariants.{WriteFails}
 use Rattle.mux_history.specs.declared.ended.Ended.TheVariants as ended
 use Rattle.mux_engine.specs.State.{ClientState, State}
+use Rattle.mux_engine.specs.Asked.{TellsAsks}
+use Rattle.mux_engine.proofs.Asks.{tells_same}
 use Rattle.mux_engine.specs.Step.{is_present, numbers, queue_in, at_client, client_took, taken, over, changed, lost_client, after, Steps}
 use Rattle.mux_engine.specs.Stands.{setting, StandsFor}
 use Rattle.mux_engine.specs.Serving.{ServingBy}
@@ -19,7 +22,7 @@ use Rattle.mux_engine.proofs.Grows.{test_other}
 use Rattle.mux_engine.proofs.Wires.{numbers_at}
 use Rattle.mux_engine.proofs.Offers.{serve_empty, without_other, AtStream, at_stream, nonzero_here}
 
-pub seen_same : (rs : List HouseReply) (dn pid : ℕ) (start told : Option (List Mark)) (streams streams' blocked blocked' held held' : List ℕ) (listens listens' : Bool) (last last' given : ℕ) (todo : List ℕ) (s s' : State) → ServingBy rs dn pid start told streams blocked held listens last given todo s
+pub seen_same : (rs : List HouseReply) (dn : List Asked) (pid : ℕ) (start told : Option (List Mark)) (streams streams' blocked blocked' held held' : List ℕ) (listens listens' : Bool) (last last' given : ℕ) (todo : List ℕ) (s s' : State) → ServingBy rs dn pid start told streams blocked held listens last given todo s
     → streams' ≡ streams → blocked' ≡ blocked → held' ≡ held → listens' ≡ listens → last' ≡ last → s' ≡ s → ServingBy rs dn pid start told streams' blocked' held' listens' last' given todo s'
 seen_same rs dn pid start told streams streams' blocked blocked' held held' listens listens' last last' given todo s s' v a b c d e f =
     subst (λ x. ServingBy rs dn pid start told x blocked' held' listens' last' given todo s') (sym a)
@@ -58,8 +61,19 @@ failed_ended s more k nz = ap (λ b. (cond (is_some s.ended) s (cond b (over s e
     by_end false = refl
 
 -- a stream that failed draws no reply
-pub failed_state : {May : HouseReply → Type 0} (s s' : State) (k : ℕ) (more : List HouseReply) → Steps May s s' (WriteFails k) → s' ≡ after s more (WriteFails k)
+pub failed_state : {May : HouseReply → Type 0} {before now : Option (List Asked)} (s s' : State) (k : ℕ) (more : List HouseReply) → Steps May before now s s' (WriteFails k) → s' ≡ after s more (WriteFails k)
 failed_state s s' k more steps = steps.state []
+
+-- nor is anything asked
+pub failed_told : {May : HouseReply → Type 0} (before now : Option (List Asked)) (s s' : State) (k : ℕ) → Steps May before now s s' (WriteFails k) → now ≡ before
+failed_told before now s s' k steps = tells_same before now (subst (TellsAsks before now) (sym (steps.asked []) ∙ never (is_some s.ended)) steps.told)
+  where
+    empty : List Asked
+    empty = []
+
+    never : (b : Bool) → cond b empty empty ≡ empty
+    never true = refl
+    never false = refl
 
 -- where a client's stream failed, the server's count stays
 pub client_fault : (k a b c d : ℕ) → k ≢ 0 → StreamFault k a b c d → b ≡ a
@@ -69,11 +83,11 @@ client_fault k a b c d nz f = by_test (k == 0) (test_other k 0 nz) f
     by_test true e f = absurd (cc)
     by_test false e f = f.0
 
-pub here_nonzero : (rs : List HouseReply) (dn pid : ℕ) (start told : Option (List Mark)) (streams blocked held : List ℕ) (listens : Bool) (last given : ℕ) (todo : List ℕ) (s : State) (k : ℕ) → ServingBy rs dn pid start told streams blocked held listens last given todo s → is_present s.clients k ≡ true → k ≢ 0
+pub here_nonzero : (rs : List HouseReply) (dn : List Asked) (pid : ℕ) (start told : Option (List Mark)) (streams blocked held : List ℕ) (listens : Bool) (last given : ℕ) (todo : List ℕ) (s : State) (k : ℕ) → ServingBy rs dn pid start told streams blocked held listens last given todo s → is_present s.clients k ≡ true → k ≢ 0
 here_nonzero rs dn pid start told streams blocked held listens last given todo s k v here = nonzero_here rs dn s v.journal v.closed k v.stands here
 
 -- a stream for which nothing waits is settled
-pub nothing_left : (rs : List HouseReply) (dn pid : ℕ) (start told : Option (List Mark)) (streams blocked held : List ℕ) (listens : Bool) (last given : ℕ) (todo : List ℕ) (s : State) (k : ℕ) → ServingBy rs dn pid start told streams blocked held listens last given todo s → is_present s.clients k ≡ true → queue_in s.clients k ≡ []
+pub nothing_left : (rs : List HouseReply) (dn : List Asked) (pid : ℕ) (start told : Option (List Mark)) (streams blocked held : List ℕ) (listens : Bool) (last given : ℕ) (todo : List ℕ) (s : State) (k : ℕ) → ServingBy rs dn pid start told streams blocked held listens last given todo s → is_present s.clients k ≡ true → queue_in s.clients k ≡ []
     → ServingBy rs dn pid start told streams blocked held listens last given (without k todo) s
 nothing_left rs dn pid start told streams blocked held listens last given todo s k v here none =
     serve_empty rs dn pid start told streams blocked held listens last given todo (without k todo) s v

@@ -1,11 +1,12 @@
 -- An engine goes on with a client closed.
-use Rattle.std.proofs.Common.{◌≡◌, ◌≢◌, ℕ, Bool, true, false, not, ◌||◌, ◌&&◌, List, [], ◌∷◌, ◌++◌, length, Option, refl, sym, ap, ◌∙◌, subst, inl, inr, ◌⊎◌, cond}
+use Rattle.std.proofs.Common.{◌≡◌, ◌≢◌, ℕ, Bool, true, false, not, ◌||◌, ◌&&◌, List, [], ◌∷◌, ◌++◌, Option, refl, sym, ap, ◌∙◌, subst, inl, inr, ◌⊎◌, cond}
 use Rattle.std.specs.Prelude.{filter, ◌==◌}
 use Rattle.std.specs.List.{list_any}
 use Rattle.std.proofs.lemmas.Bool.{eq-eqb}
 use Rattle.std.proofs.lemmas.Bool.Decides.{eqb_tells}
 use Rattle.std.proofs.lemmas.List.Folds.{list_any-append}
 use Rattle.mux_outside.specs.Streams.{among, without}
+use Rattle.mux_outside.specs.House.{Asked}
 use Rattle.mux_outside.specs.declared.house.HouseReply.{HouseReply}
 use Rattle.mux_outside.specs.declared.mark.Mark.{Mark}
 use Rattle.mux_history.specs.declared.why.Why.{Why}
@@ -103,7 +104,7 @@ filter_twice : {A : Type 0} (p q r : A → Bool) (xs : List A) → ((x : A) → 
 filter_twice p q r [] h = refl
 filter_twice p q r (x ∷ xs) h = twice_head p (q x) (r x) x (filter q xs) (filter r xs) (h x) (filter_twice p q r xs h)
 
-pub closes_by : (rs : List HouseReply) (dn : ℕ) (s : State) (k : ℕ) → IsFirst k s.leaving → (marks : List Mark) (closed : List ℕ) → StandsFor rs dn s marks closed → StandsFor rs dn (closed_by s k) marks (k ∷ closed)
+pub closes_by : (rs : List HouseReply) (dn : List Asked) (s : State) (k : ℕ) → IsFirst k s.leaving → (marks : List Mark) (closed : List ℕ) → StandsFor rs dn s marks closed → StandsFor rs dn (closed_by s k) marks (k ∷ closed)
 closes_by rs dn s k first marks closed st =
     let rows : List Row = log s.pid rs marks in
     let out : is_out (rows_of k rows) ≡ true = loss_is_out k rows (unfiltered k (not_closed closed) (losses rows) (subst (λ ls. in_losses k ls ≡ true) st.leaving_are (first_in k s.leaving first))) in
@@ -111,6 +112,7 @@ closes_by rs dn s k first marks closed st =
     let closed_test : (j : ℕ) (b : Bool) → (k == j) ≡ b → among j (k ∷ closed) ≡ (b || among j closed) = λ j b e. ap (λ x. x || among j closed) e in
     record {
       drawn_is = st.drawn_is;
+      asked_is = st.asked_is;
       ended_is = st.ended_is;
       listening_is = st.listening_is;
       apart = apart_less k s.clients st.apart;
@@ -145,4 +147,4 @@ closes_by rs dn s k first marks closed st =
     }
 
 pub closes : (s : State) (k : ℕ) → IsFirst k s.leaving → Closes s (closed_by s k) k
-closes s k first given marks closed st later = closes_by (given ++ later) (length given) s k first marks closed (st later)
+closes s k first given marks closed st = record { asks = st.asks; each = st.each; at = λ later. closes_by (given ++ later) st.asks s k first marks closed (st.at later) }

@@ -4,6 +4,7 @@ use Rattle.std.specs.Prelude.{filter, ◌==◌, nat_lt}
 use Rattle.std.proofs.lemmas.Bool.{eq-eqb}
 use Rattle.std.proofs.lemmas.Bool.Decides.{eqb_tells}
 use Rattle.mux_outside.specs.Streams.{among, without}
+use Rattle.mux_outside.specs.House.{Asked}
 use Rattle.mux_outside.specs.declared.house.HouseReply.{HouseReply}
 use Rattle.mux_outside.specs.declared.mark.Mark.{Mark}
 use Rattle.mux_outside.specs.declared.mark.Mark.TheVariants.{Accepts}
@@ -17,6 +18,7 @@ use Rattle.mux_history.specs.Solo.{end_of}
 use Rattle.mux_history.specs.Journal.{bytes_of}
 use Rattle.mux_history.specs.Promises.{listens}
 use Rattle.mux_engine.specs.State.{ClientState, State}
+use Rattle.mux_engine.specs.Asked.{asked_of, item_asks}
 use Rattle.mux_engine.specs.Answer.{hello}
 use Rattle.mux_engine.specs.Step.{is_present, waiting_in, served_in, new_client, refused_client, added, refused}
 use Rattle.mux_engine.specs.Stands.{setting, log, StandsFor, EachStands, ClientFits, ClientReads, IsKnown, ArePlain, IsPlainItem, not_closed, is_accepted, IsStrange}
@@ -54,11 +56,11 @@ pub record IsNew (rs : List HouseReply) (s : State) (marks : List Mark) (closed 
   pub strange : IsStrange s marks closed k
   pub no_rows : rows_of k (log s.pid rs marks) ≡ []
 
-pub is_new : (rs : List HouseReply) (dn : ℕ) (s : State) (marks : List Mark) (closed : List ℕ) (k : ℕ) → StandsFor rs dn s marks closed → k ≢ 0 → is_accepted k marks ≡ false → IsNew rs s marks closed k
+pub is_new : (rs : List HouseReply) (dn : List Asked) (s : State) (marks : List Mark) (closed : List ℕ) (k : ℕ) → StandsFor rs dn s marks closed → k ≢ 0 → is_accepted k marks ≡ false → IsNew rs s marks closed k
 is_new rs dn s marks closed k st nz a = let v : IsStrange s marks closed k = st.strange k a in
     record { nonzero = nz; not_accepted = a; strange = v; no_rows = st.absent k nz v.not_here v.not_closed_yet }
 
-goes_more : (rs : List HouseReply) (dn : ℕ) (s : State) (marks : List Mark) (closed : List ℕ) (k : ℕ) (c : ClientState) (row : Row) (down : List (List ℕ)) (f : Fate) (leaving : List (ℕ × Option Why))
+goes_more : (rs : List HouseReply) (dn : List Asked) (s : State) (marks : List Mark) (closed : List ℕ) (k : ℕ) (c : ClientState) (row : Row) (down : List (List ℕ)) (f : Fate) (leaving : List (ℕ × Option Why))
     → StandsFor rs dn s marks closed → is_ended (log s.pid rs marks) ≡ false → IsNew rs s marks closed k → log s.pid rs (Accepts k ∷ marks) ≡ row ∷ log s.pid rs marks → RowIs (Admit k) k down f row → FirstFate f
     → c.number ≡ k → ClientFits (row ∷ []) c.standing c.queue → ClientReads [] c
     → leaving ≡ filter (not_closed closed) (losses (row ∷ log s.pid rs marks)) → served_in (s.clients ++ c ∷ []) ≡ served (row ∷ log s.pid rs marks)
@@ -74,6 +76,7 @@ goes_more rs dn s marks closed k c row down f leaving st live new is r first num
     let before : (j : ℕ) → k ≢ j → is_accepted j (mark ∷ marks) ≡ is_accepted j marks = λ j ne. ap (λ b. cond b true (is_accepted j marks)) (test_other k j ne) in
     record {
       drawn_is = ap replies_given is ∙ (ap (λ (i : Item). elim (has_reply i) as (λ _. ℕ) [ true ↦ replies_given rows + 1 | false ↦ replies_given rows ]) r.item_is ∙ st.drawn_is);
+      asked_is = ap asked_of is ∙ (ap (λ (i : Item). asked_of rows ++ item_asks i) r.item_is ∙ (append-nil (asked_of rows) ∙ st.asked_is));
       ended_is = st.ended_is ∙ (sym (first_end f row rows r.fate_is first) ∙ sym (ap end_of is));
       listening_is = st.listening_is ∙ (sym (ap (λ b. not b && listens rows) (no_stops (Admit k) row (rows_of row.client rows) r.item_is tt)) ∙ sym (ap listens is));
       apart = apart_more s.clients c (ap (is_present s.clients) number ∙ new.strange.not_here) st.apart;
@@ -147,7 +150,7 @@ loss_first (End cause) k row e i c g = absurd g
 
 -- ---- let in
 
-pub goes_in : (rs : List HouseReply) (dn : ℕ) (s : State) (marks : List Mark) (closed : List ℕ) (k : ℕ) → StandsFor rs dn s marks closed → is_ended (log s.pid rs marks) ≡ false → IsNew rs s marks closed k → nat_lt (length (served_in s.clients)) 64 ≡ true → StandsFor rs dn (added s (new_client k)) (Accepts k ∷ marks) closed
+pub goes_in : (rs : List HouseReply) (dn : List Asked) (s : State) (marks : List Mark) (closed : List ℕ) (k : ℕ) → StandsFor rs dn s marks closed → is_ended (log s.pid rs marks) ≡ false → IsNew rs s marks closed k → nat_lt (length (served_in s.clients)) 64 ≡ true → StandsFor rs dn (added s (new_client k)) (Accepts k ∷ marks) closed
 goes_in rs dn s marks closed k st live new room =
     let rows : List Row = log s.pid rs marks in
     let row : Row = come_row s.pid k rs rows in
@@ -181,7 +184,7 @@ goes_in rs dn s marks closed k st live new room =
 
 -- ---- refused
 
-pub goes_refused : (rs : List HouseReply) (dn : ℕ) (s : State) (marks : List Mark) (closed : List ℕ) (k : ℕ) → StandsFor rs dn s marks closed → is_ended (log s.pid rs marks) ≡ false → IsNew rs s marks closed k → nat_lt (length (served_in s.clients)) 64 ≡ false → StandsFor rs dn (refused s k) (Accepts k ∷ marks) closed
+pub goes_refused : (rs : List HouseReply) (dn : List Asked) (s : State) (marks : List Mark) (closed : List ℕ) (k : ℕ) → StandsFor rs dn s marks closed → is_ended (log s.pid rs marks) ≡ false → IsNew rs s marks closed k → nat_lt (length (served_in s.clients)) 64 ≡ false → StandsFor rs dn (refused s k) (Accepts k ∷ marks) closed
 goes_refused rs dn s marks closed k st live new room =
     let rows : List Row = log s.pid rs marks in
     let row : Row = come_row s.pid k rs rows in

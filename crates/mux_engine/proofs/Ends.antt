@@ -1,13 +1,14 @@
 -- The end of a run, and a client that comes.
-use Rattle.std.proofs.Common.{◌≡◌, ◌≢◌, ◌+◌, ℕ, Bool, true, false, not, ◌||◌, ◌&&◌, List, [], ◌∷◌, ◌++◌, length, refl, sym, ap, ◌∙◌, subst, inl, inr, cond, append-nil, arith}
+use Rattle.std.proofs.Common.{◌≡◌, ◌≢◌, ◌+◌, ℕ, Bool, true, false, not, ◌||◌, ◌&&◌, List, [], ◌∷◌, ◌++◌, length, Some, None, refl, sym, ap, ◌∙◌, subst, inl, inr, cond, append-nil, arith}
 use Rattle.std.specs.Prelude.{filter, ◌==◌, nat_lt}
 use Rattle.std.proofs.lemmas.Bool.{eq-eqb}
 use Rattle.std.proofs.lemmas.Bool.Decides.{eqb_tells}
 use Rattle.mux_outside.specs.Streams.{among}
+use Rattle.mux_outside.specs.House.{Asked}
 use Rattle.mux_outside.specs.declared.house.HouseReply.{HouseReply}
 use Rattle.mux_outside.specs.declared.mark.Mark.{Mark}
 use Rattle.mux_history.specs.declared.ended.Ended.{Ended}
-use Rattle.mux_history.specs.Rows.{Row, rows_of, is_out, is_ended, is_admit, is_lost as has_loss, losses, any_of, Item, End}
+use Rattle.mux_history.specs.Rows.{Row, rows_of, is_out, is_ended, is_admit, is_lost as has_loss, losses, any_of, Item, Says, End}
 use Rattle.mux_history.specs.Channels.{is_held, held_of}
 use Rattle.mux_history.specs.Requests.{asks, replies}
 use Rattle.mux_history.specs.Choices.{has_reply, replies_given}
@@ -17,10 +18,12 @@ use Rattle.mux_history.specs.Solo.{end_of}
 use Rattle.mux_history.specs.Journal.{bytes_in}
 use Rattle.mux_history.specs.Promises.{listens}
 use Rattle.mux_engine.specs.State.{ClientState, State}
+use Rattle.mux_engine.specs.Asked.{asked_of, item_asks}
 use Rattle.mux_engine.specs.Step.{is_lost, is_present, served_in, over}
 use Rattle.mux_engine.specs.Stands.{log, StandsFor, AreApart, StandsAt, EachStands, IsKnown, ArePlain, IsPlainItem, not_closed, is_accepted, IsStrange}
 use Rattle.mux_history.proofs.PlainRows.{plain_of, no_channels, no_asks}
 use Rattle.mux_engine.proofs.Grows.{other_row, test_other, known_row, or_true}
+use Rattle.mux_engine.proofs.Asks.{none_asks}
 use Rattle.mux_engine.proofs.Listed.{each_same}
 use Rattle.mux_engine.proofs.Served.{here_in, served_kept}
 use Rattle.mux_engine.proofs.Moved.{bytes_same, stands_same, true_false}
@@ -45,7 +48,13 @@ end_known item cause rows j h = elim (eqb_tells j 0) [
   | inr p ↦ subst IsKnown (sym (end_others item cause rows j p.1)) h
 ]
 
-pub goes_over : (rs : List HouseReply) (dn : ℕ) (s : State) (marks : List Mark) (closed : List ℕ) (mark : Mark) (item : Item) (cause : Ended) → StandsFor rs dn s marks closed → is_ended (log s.pid rs marks) ≡ false → log s.pid rs (mark ∷ marks) ≡ end_row item cause ∷ log s.pid rs marks
+-- an item without a reply asks nothing
+item_unasked : (item : Item) → has_reply item ≡ false → item_asks item ≡ []
+item_unasked (Says k x None) e = none_asks k x
+item_unasked (Says k x (Some given)) e = true_false e
+item_unasked item e = refl
+
+pub goes_over : (rs : List HouseReply) (dn : List Asked) (s : State) (marks : List Mark) (closed : List ℕ) (mark : Mark) (item : Item) (cause : Ended) → StandsFor rs dn s marks closed → is_ended (log s.pid rs marks) ≡ false → log s.pid rs (mark ∷ marks) ≡ end_row item cause ∷ log s.pid rs marks
     → IsPlainItem item → has_reply item ≡ false → is_admit (end_row item cause) ≡ false → ((j : ℕ) → is_accepted j (mark ∷ marks) ≡ is_accepted j marks) → ((j : ℕ) → j ≢ 0 → bytes_in j mark ≡ []) → StandsFor rs dn (over s cause) (mark ∷ marks) closed
 goes_over rs dn s marks closed mark item cause st live is plain unasked admit accepts bytes =
     let rows : List Row = log s.pid rs marks in
@@ -53,6 +62,7 @@ goes_over rs dn s marks closed mark item cause st live is plain unasked admit ac
     let same_entered : entered (row ∷ rows) ≡ entered rows = ap (λ b. entered rows ++ elim b as (λ _. List ℕ) [ true ↦ 0 ∷ [] | false ↦ [] ]) admit ∙ append-nil (entered rows) in
     record {
       drawn_is = ap replies_given is ∙ (ap (λ b. elim b as (λ _. ℕ) [ true ↦ replies_given rows + 1 | false ↦ replies_given rows ]) unasked ∙ st.drawn_is);
+      asked_is = ap asked_of is ∙ (ap (λ l. asked_of rows ++ l) (item_unasked item unasked) ∙ (append-nil (asked_of rows) ∙ st.asked_is));
       ended_is = sym (ap end_of is);
       listening_is = st.listening_is ∙ sym (ap listens is);
       apart = st.apart;
@@ -99,7 +109,7 @@ matters_each rows (k ∷ ks) p h =
     count true l = omega arith
     count false l = refl
 
-pub matters_are : (rs : List HouseReply) (dn : ℕ) (s : State) (marks : List Mark) (closed : List ℕ) → StandsFor rs dn s marks closed → open_matters (log s.pid rs marks) ≡ length (served_in s.clients)
+pub matters_are : (rs : List HouseReply) (dn : List Asked) (s : State) (marks : List Mark) (closed : List ℕ) → StandsFor rs dn s marks closed → open_matters (log s.pid rs marks) ≡ length (served_in s.clients)
 matters_are rs dn s marks closed st = matters_each (log s.pid rs marks) (entered (log s.pid rs marks)) st.plain st.known ∙ ap length (sym st.served_are)
 
 -- ---- one client more

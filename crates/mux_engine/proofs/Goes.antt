@@ -1,7 +1,8 @@
 -- An engine goes on by a mark.
-use Rattle.std.proofs.Common.{◌≡◌, ◌≢◌, ◌+◌, ℕ, Bool, true, false, not, ◌&&◌, List, [], ◌∷◌, ◌++◌, length, drop, Option, Some, None, refl, sym, ap, ◌∙◌, subst, cond, append-nil}
+use Rattle.std.proofs.Common.{◌≡◌, ◌≢◌, ℕ, Bool, true, false, not, ◌&&◌, List, [], ◌∷◌, ◌++◌, length, drop, Option, Some, None, refl, sym, ap, ◌∙◌, subst, cond, append-nil}
 use Rattle.std.specs.Prelude.{filter, ◌==◌}
 use Rattle.mux_outside.specs.Streams.{among, without}
+use Rattle.mux_outside.specs.House.{Asked}
 use Rattle.mux_outside.specs.declared.house.HouseReply.{HouseReply}
 use Rattle.mux_outside.specs.declared.mark.Mark.{Mark}
 use Rattle.mux_outside.specs.declared.mark.Mark.TheVariants.{Gets, Takes}
@@ -19,6 +20,7 @@ use Rattle.mux_history.specs.Promises.{listens}
 use Rattle.mux_engine.specs.declared.client.Standing.{Standing}
 use Rattle.mux_engine.specs.declared.client.Standing.TheVariants.{Awaited, Greeted, Unread, Lost}
 use Rattle.mux_engine.specs.State.{ClientState, State}
+use Rattle.mux_engine.specs.Asked.{asked_of}
 use Rattle.mux_history.specs.Promises.{is_empty}
 use Rattle.mux_engine.specs.Step.{is_lost, at_client, is_present, waiting_in, loss_at, loss_in, loss_between, client_got, client_hears, client_asks, lost_client, client_took, changed, gained, gained_asks, stops_at, ended_at, taken, over, queue_in}
 use Rattle.mux_engine.specs.Stands.{setting, log, StandsFor, StandsAt, EachStands, ClientFits, ClientReads, IsReadIn, IsKnown, ArePlain, not_closed, is_accepted, IsStrange}
@@ -51,7 +53,7 @@ loss_mine closed a b k e = by_lost (is_lost a) b
     by_lost false Unread = refl
     by_lost false (Lost why) = ap (λ b. cond (not b) ((k, why) ∷ []) []) e
 
-pub open_here : (rs : List HouseReply) (dn : ℕ) (s : State) (marks : List Mark) (closed : List ℕ) (k : ℕ) → StandsFor rs dn s marks closed → is_present s.clients k ≡ true → among k closed ≡ false
+pub open_here : (rs : List HouseReply) (dn : List Asked) (s : State) (marks : List Mark) (closed : List ℕ) (k : ℕ) → StandsFor rs dn s marks closed → is_present s.clients k ≡ true → among k closed ≡ false
 open_here rs dn s marks closed k st here = by_closed (among k closed) refl
   where
     by_closed : (b : Bool) → among k closed ≡ b → b ≡ false
@@ -78,12 +80,12 @@ own_bytes k bytes marks = ap (λ b. bytes_of k marks ++ elim b as (λ _. List �
     same_number : (k : ℕ) → (k == k) ≡ true
     same_number k = Rattle.std.proofs.lemmas.Bool.eq-eqb k k refl
 
-pub goes_got : (rs : List HouseReply) (dn : ℕ) (s : State) (marks : List Mark) (closed : List ℕ) (k : ℕ) (bytes : List ℕ) → k ≢ 0 → StandsFor rs dn s marks closed → is_ended (log s.pid rs marks) ≡ false → is_present s.clients k ≡ true
-    → StandsFor rs (dn + gained_asks s k (drop dn rs) bytes) (gained s k (drop dn rs) bytes) (Gets k bytes ∷ marks) closed
+pub goes_got : (rs : List HouseReply) (dn : List Asked) (s : State) (marks : List Mark) (closed : List ℕ) (k : ℕ) (bytes : List ℕ) → k ≢ 0 → StandsFor rs dn s marks closed → is_ended (log s.pid rs marks) ≡ false → is_present s.clients k ≡ true
+    → StandsFor rs (dn ++ gained_asks s k (drop (length dn) rs) bytes) (gained s k (drop (length dn) rs) bytes) (Gets k bytes ∷ marks) closed
 goes_got rs dn s marks closed k bytes ne st live here =
     let rows : List Row = log s.pid rs marks in
     let rows' : List Row = piece_rows s.pid rs k rows (bytes_of k marks) bytes in
-    let more : List HouseReply = drop dn rs in
+    let more : List HouseReply = drop (length dn) rs in
     let f : ClientState → ClientState = client_got s.pid more bytes in
     let w : Found rows marks k s.clients = found rows marks k s.clients st.clients here in
     let moves : (c : ClientState) → c.number ≡ k → StandsAt rows marks c → Moves k rows rows' (bytes_of k marks ++ bytes) c (f c) (client_hears s.pid more bytes c).stops (client_hears s.pid more bytes c).ended (client_asks s.pid more bytes c) =
@@ -92,7 +94,7 @@ goes_got rs dn s marks closed k bytes ne st live here =
     let c : ClientState = w.client in
     let it = moves c w.number w.stands in
     let ended : Option Ended = (client_hears s.pid more bytes c).ended in
-    let all : StandsFor rs (dn + client_asks s.pid more bytes c) (record s { clients = at_client k f s.clients; leaving = s.leaving ++ loss_at k f s.clients; waiting = waiting_in (at_client k f s.clients); listening = s.listening && not (client_hears s.pid more bytes c).stops; ended = ended_then ended s.ended }) (Gets k bytes ∷ marks) closed =
+    let all : StandsFor rs (dn ++ client_asks s.pid more bytes c) (record s { clients = at_client k f s.clients; leaving = s.leaving ++ loss_at k f s.clients; waiting = waiting_in (at_client k f s.clients); listening = s.listening && not (client_hears s.pid more bytes c).stops; ended = ended_then ended s.ended }) (Gets k bytes ∷ marks) closed =
     moved rs dn s marks closed k f (Gets k bytes) rows' (loss_between c.standing (f c).standing k) (client_hears s.pid more bytes c).stops ended (client_asks s.pid more bytes c) (s.leaving ++ loss_at k f s.clients) (waiting_in (at_client k f s.clients)) ne st here
     (got_log s.pid k rs bytes marks ne) (got_number s.pid more bytes)
     (λ c num v. let d = moves c num v in record {
@@ -105,13 +107,13 @@ goes_got rs dn s marks closed k bytes ne st live here =
     (gets_of k bytes marks)
     (loss_mine closed c.standing (f c).standing k (open_here rs dn s marks closed k st here))
     (ap (λ l. s.leaving ++ l) (w.loss f)) refl in
-    let state : (n : ℕ) (stop : Bool) (e : Option Ended) → client_asks s.pid more bytes c ≡ n → (client_hears s.pid more bytes c).stops ≡ stop → ended_then ended s.ended ≡ e
-    → StandsFor rs (dn + n) (record (changed s k f) { listening = s.listening && not stop; ended = e }) (Gets k bytes ∷ marks) closed =
-    λ n stop e a b d. subst (λ m. StandsFor rs (dn + m) (record (changed s k f) { listening = s.listening && not stop; ended = e }) (Gets k bytes ∷ marks) closed) a
-    (subst (λ t. StandsFor rs (dn + client_asks s.pid more bytes c) (record (changed s k f) { listening = s.listening && not t; ended = e }) (Gets k bytes ∷ marks) closed) b
-    (subst (λ o. StandsFor rs (dn + client_asks s.pid more bytes c) (record (changed s k f) { listening = s.listening && not (client_hears s.pid more bytes c).stops; ended = o }) (Gets k bytes ∷ marks) closed) d all)) in
+    let state : (n : List Asked) (stop : Bool) (e : Option Ended) → client_asks s.pid more bytes c ≡ n → (client_hears s.pid more bytes c).stops ≡ stop → ended_then ended s.ended ≡ e
+    → StandsFor rs (dn ++ n) (record (changed s k f) { listening = s.listening && not stop; ended = e }) (Gets k bytes ∷ marks) closed =
+    λ n stop e a b d. subst (λ m. StandsFor rs (dn ++ m) (record (changed s k f) { listening = s.listening && not stop; ended = e }) (Gets k bytes ∷ marks) closed) a
+    (subst (λ t. StandsFor rs (dn ++ client_asks s.pid more bytes c) (record (changed s k f) { listening = s.listening && not t; ended = e }) (Gets k bytes ∷ marks) closed) b
+    (subst (λ o. StandsFor rs (dn ++ client_asks s.pid more bytes c) (record (changed s k f) { listening = s.listening && not (client_hears s.pid more bytes c).stops; ended = o }) (Gets k bytes ∷ marks) closed) d all)) in
     state (gained_asks s k more bytes) (stops_at k (client_hears s.pid more bytes) s.clients) (ended_at k (client_hears s.pid more bytes) s.clients)
-    (sym (w.count (client_asks s.pid more bytes)))
+    (sym (w.asks (client_asks s.pid more bytes)))
     (sym (w.flag (λ c. (client_hears s.pid more bytes c).stops)))
     (ap (ended_then ended) (st.ended_is ∙ no_end rows live) ∙ (then_none ended ∙ sym (w.end (λ c. (client_hears s.pid more bytes c).ended))))
   where
@@ -143,23 +145,23 @@ gone_loss : (a : Standing) (k : ℕ) → is_lost a ≡ false → loss_between a 
 gone_loss a k e = loss_of_here a (Lost None) k e
 
 gone_moves : (pid k : ℕ) (rs : List HouseReply) (rows : List Row) (bytes : List ℕ) (c : ClientState) (out : Bool) → is_out (rows_of k rows) ≡ out → ArePlain rows → ClientFits (rows_of k rows) c.standing c.queue → c.number ≡ k → (is_ended (rows_gone pid k rs rows out) ≡ false → ClientReads bytes (lost_client c))
-    → Moves k rows (rows_gone pid k rs rows out) bytes c (lost_client c) false None 0
+    → Moves k rows (rows_gone pid k rs rows out) bytes c (lost_client c) false None []
 gone_moves pid k rs rows bytes c true out p fits num reads =
     let same : lost_client c ≡ c = lost_at c true (lost_is (rows_of k rows) c fits ∙ out) in
-    subst (λ (new : ClientState). Moves k rows rows bytes c new false None 0) (sym same) record { fits = fits; grows = subst (λ l. Grows k rows rows l false None 0) (sym (loss_same c.standing k)) (grows_none k rows); stays = λ h. refl; reads = λ l. subst (ClientReads bytes) same (reads l) }
+    subst (λ (new : ClientState). Moves k rows rows bytes c new false None []) (sym same) record { fits = fits; grows = subst (λ l. Grows k rows rows l false None []) (sym (loss_same c.standing k)) (grows_none k rows); stays = λ h. refl; reads = λ l. subst (ClientReads bytes) same (reads l) }
 gone_moves pid k rs rows bytes c false out p fits num reads =
     let here : is_lost c.standing ≡ false = lost_is (rows_of k rows) c fits ∙ out in
     let row : Row = gone_row pid k rs rows in
     let r : RowIs (Gone k) k [] Goes row = gone_is pid k rs rows p in
     let new : ClientState = record c { standing = Lost None; rest = [] } in
     let same : lost_client c ≡ new = lost_at c false here in
-    subst (λ (new : ClientState). Moves k rows (row ∷ rows) bytes c new false None 0) (sym same) record {
+    subst (λ (new : ClientState). Moves k rows (row ∷ rows) bytes c new false None []) (sym same) record {
       fits = subst (λ own. ClientFits own (Lost None) c.queue) (sym (own_row k row rows r.client_is)) record {
         standing_is = sym (standing_row (Gone k) Goes row (rows_of k rows) r.item_is r.fate_is);
         greeted_is = λ l. true_false l;
         queue_is = fits.queue_is ∙ (sym (append-nil (pending_down (rows_of k rows))) ∙ (ap (λ d. pending_down (rows_of k rows) ++ joined d) (sym r.down_is) ∙ sym (ap (λ i. drop (took_by i) (pending_down (rows_of k rows) ++ joined row.down)) r.item_is)));
       };
-      grows = subst (λ l. Grows k rows (row ∷ rows) l false None 0) (sym (gone_loss c.standing k here)) (grows_row k (Gone k) [] Goes row rows false false r tt tt tt (no_stops (Gone k) row (rows_of row.client rows) r.item_is tt) refl);
+      grows = subst (λ l. Grows k rows (row ∷ rows) l false None []) (sym (gone_loss c.standing k here)) (grows_row k (Gone k) [] Goes row rows false r tt tt tt (no_stops (Gone k) row (rows_of row.client rows) r.item_is tt) refl);
       stays = λ h. true_false (sym h ∙ here);
       reads = λ l. subst (ClientReads bytes) same (reads l);
     }
@@ -188,7 +190,7 @@ lost_reads bytes c l = record { mode_is = by_standing c.standing l; rest_is = λ
     by_standing Unread e = true_false (sym e)
     by_standing (Lost why) e = tt
 
-pub goes_lost : (rs : List HouseReply) (dn : ℕ) (s : State) (marks : List Mark) (closed : List ℕ) (k : ℕ) (mark : Mark) → k ≢ 0 → StandsFor rs dn s marks closed → is_ended (log s.pid rs marks) ≡ false → is_present s.clients k ≡ true
+pub goes_lost : (rs : List HouseReply) (dn : List Asked) (s : State) (marks : List Mark) (closed : List ℕ) (k : ℕ) (mark : Mark) → k ≢ 0 → StandsFor rs dn s marks closed → is_ended (log s.pid rs marks) ≡ false → is_present s.clients k ≡ true
     → log s.pid rs (mark ∷ marks) ≡ more_of (setting s.pid rs) (log s.pid rs marks) (Gone k) → ((j : ℕ) → is_accepted j (mark ∷ marks) ≡ is_accepted j marks) → ((j : ℕ) → bytes_in j mark ≡ [])
     → StandsFor rs dn (changed s k lost_client) (mark ∷ marks) closed
 goes_lost rs dn s marks closed k mark ne st live here is accepts bytes =
@@ -196,7 +198,7 @@ goes_lost rs dn s marks closed k mark ne st live here is accepts bytes =
     let out : Bool = is_out (rows_of k rows) in
     let rows' : List Row = rows_gone s.pid k rs rows out in
     let w : Found rows marks k s.clients = found rows marks k s.clients st.clients here in
-    let at_k : (c : ClientState) → c.number ≡ k → StandsAt rows marks c → Moves k rows rows' [] c (lost_client c) false None 0 =
+    let at_k : (c : ClientState) → c.number ≡ k → StandsAt rows marks c → Moves k rows rows' [] c (lost_client c) false None [] =
     λ c num v. gone_moves s.pid k rs rows [] c out refl st.plain (subst (λ j. ClientFits (rows_of j rows) c.standing c.queue) num v.fits) num (λ l. lost_reads [] (lost_client c) (lost_after c)) in
     let c : ClientState = w.client in
     let it = at_k c w.number w.stands in
@@ -228,7 +230,7 @@ took_log pid k rs n rows = more_yes (setting pid rs) rows (Took k n) (by_end (is
 took_fits : (k n : ℕ) (own : List Row) (s : Standing) (q : List ℕ) → ClientFits own s q → ClientFits (took_row k n ∷ own) s (drop n q)
 took_fits k n own s q fits = record { standing_is = fits.standing_is; greeted_is = fits.greeted_is; queue_is = ap (drop n) (fits.queue_is ∙ sym (append-nil (pending_down own))) }
 
-pub goes_took : (rs : List HouseReply) (dn : ℕ) (s : State) (marks : List Mark) (closed : List ℕ) (k : ℕ) (bytes : List ℕ) → StandsFor rs dn s marks closed → is_present s.clients k ≡ true → StandsFor rs dn (taken s k (length bytes)) (Takes k bytes ∷ marks) closed
+pub goes_took : (rs : List HouseReply) (dn : List Asked) (s : State) (marks : List Mark) (closed : List ℕ) (k : ℕ) (bytes : List ℕ) → StandsFor rs dn s marks closed → is_present s.clients k ≡ true → StandsFor rs dn (taken s k (length bytes)) (Takes k bytes ∷ marks) closed
 goes_took rs dn s marks closed k bytes st here =
     let n : ℕ = length bytes in
     let rows : List Row = log s.pid rs marks in
@@ -243,7 +245,7 @@ goes_took rs dn s marks closed k bytes st here =
       fits = subst (λ o. ClientFits o c.standing (drop n c.queue)) (sym (ap (λ j. rows_of j (row ∷ rows)) num ∙ own_row k row rows refl)) (took_fits k n (rows_of k rows) c.standing c.queue (subst (λ j. ClientFits (rows_of j rows) c.standing c.queue) num v.fits));
       reads = λ l. let r : ClientReads (bytes_of c.number marks) c = v.reads l in subst (λ b. ClientReads b (client_took n c)) (sym (append-nil (bytes_of c.number marks))) record { mode_is = r.mode_is; rest_is = r.rest_is };
     })
-    (grows_row k (Took k n) [] Goes row rows false false record { item_is = refl; client_is = refl; up_is = refl; farewell_is = refl; down_is = refl; fate_is = refl } tt tt tt refl refl)
+    (grows_row k (Took k n) [] Goes row rows false record { item_is = refl; client_is = refl; up_is = refl; farewell_is = refl; down_is = refl; fate_is = refl } tt tt tt refl refl)
     (λ out. ap is_out (own_row k row rows refl) ∙ (out_row (Took k n) Goes row (rows_of k rows) refl refl ∙ out))
     record { accepts = λ j. refl; bytes = λ j d. refl }
     refl (sym (append-nil s.leaving))
@@ -251,11 +253,12 @@ goes_took rs dn s marks closed k bytes st here =
 
 -- ---- a mark that changes nothing
 
-pub goes_still : (rs : List HouseReply) (dn : ℕ) (s : State) (marks : List Mark) (closed : List ℕ) (mark : Mark) → StandsFor rs dn s marks closed → log s.pid rs (mark ∷ marks) ≡ log s.pid rs marks → ((j : ℕ) → is_accepted j (mark ∷ marks) ≡ false → is_accepted j marks ≡ false) → ((j : ℕ) → is_accepted j marks ≡ false → j ≢ 0 → bytes_in j mark ≡ [])
+pub goes_still : (rs : List HouseReply) (dn : List Asked) (s : State) (marks : List Mark) (closed : List ℕ) (mark : Mark) → StandsFor rs dn s marks closed → log s.pid rs (mark ∷ marks) ≡ log s.pid rs marks → ((j : ℕ) → is_accepted j (mark ∷ marks) ≡ false → is_accepted j marks ≡ false) → ((j : ℕ) → is_accepted j marks ≡ false → j ≢ 0 → bytes_in j mark ≡ [])
     → (is_ended (log s.pid rs marks) ≡ false → (j : ℕ) → is_accepted j (mark ∷ marks) ≡ is_accepted j marks) → (is_ended (log s.pid rs marks) ≡ false → bytes_in 0 mark ≡ []) → (EachStands (log s.pid rs marks) marks s.clients → EachStands (log s.pid rs marks) (mark ∷ marks) s.clients)
     → StandsFor rs dn s (mark ∷ marks) closed
 goes_still rs dn s marks closed mark st is fresh strange accepts server each = record {
   drawn_is = ap replies_given is ∙ st.drawn_is;
+  asked_is = ap asked_of is ∙ st.asked_is;
   ended_is = st.ended_is ∙ sym (ap end_of is);
   listening_is = st.listening_is ∙ sym (ap listens is);
   apart = st.apart;

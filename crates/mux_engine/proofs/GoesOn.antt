@@ -2,6 +2,7 @@
 use Rattle.std.proofs.Common.{◌≡◌, ◌≢◌, ◌+◌, ℕ, Bool, true, false, not, ◌||◌, ◌&&◌, List, [], ◌∷◌, ◌++◌, length, drop, Option, Some, None, refl, sym, ap, ◌∙◌, subst, inl, inr, cond, append-nil, arith}
 use Rattle.std.specs.Prelude.{◌==◌, is_some, nat_lt}
 use Rattle.std.proofs.lemmas.Bool.Decides.{eqb_tells}
+use Rattle.mux_outside.specs.House.{Asked}
 use Rattle.mux_outside.specs.declared.house.HouseReply.{HouseReply}
 use Rattle.mux_outside.specs.declared.mark.Mark.{Mark}
 use Rattle.mux_outside.specs.declared.mark.Mark.TheVariants.{Waits, Accepts, Gets, Ends, Frees, Fails, Takes, Holds, WriteFails}
@@ -39,7 +40,7 @@ pub some_end : (rows : List Row) → is_some (end_of rows) ≡ is_ended rows
 some_end [] = refl
 some_end (row ∷ rows) = end_is row.fate row rows refl (some_end rows)
 
-pub ended_is : (rs : List HouseReply) (dn : ℕ) (s : State) (marks : List Mark) (closed : List ℕ) → StandsFor rs dn s marks closed → is_some s.ended ≡ is_ended (log s.pid rs marks)
+pub ended_is : (rs : List HouseReply) (dn : List Asked) (s : State) (marks : List Mark) (closed : List ℕ) → StandsFor rs dn s marks closed → is_some s.ended ≡ is_ended (log s.pid rs marks)
 ended_is rs dn s marks closed st = ap is_some st.ended_is ∙ some_end (log s.pid rs marks)
 
 over_one : (pid : ℕ) (rs : List HouseReply) (rows : List Row) (item : Item) → is_ended rows ≡ true → is_took item ≡ false → more_of (setting pid rs) rows item ≡ rows
@@ -63,7 +64,7 @@ none_heard (Rattle.ssh_grammar.specs.Said.Body b ∷ xs) = (refl, none_heard xs)
 none_heard (Rattle.ssh_grammar.specs.Said.Payload b ∷ xs) = (refl, none_heard xs)
 none_heard (Rattle.ssh_grammar.specs.Said.BadFraming f ∷ xs) = (refl, none_heard xs)
 
-pub over_still : (rs : List HouseReply) (dn : ℕ) (s : State) (marks : List Mark) (closed : List ℕ) (mark : Mark) → StandsFor rs dn s marks closed → is_ended (log s.pid rs marks) ≡ true → NoneTaken (built_items (setting s.pid rs).missing marks mark)
+pub over_still : (rs : List HouseReply) (dn : List Asked) (s : State) (marks : List Mark) (closed : List ℕ) (mark : Mark) → StandsFor rs dn s marks closed → is_ended (log s.pid rs marks) ≡ true → NoneTaken (built_items (setting s.pid rs).missing marks mark)
     → ((j : ℕ) → is_accepted j (mark ∷ marks) ≡ false → is_accepted j marks ≡ false) → ((j : ℕ) → is_accepted j marks ≡ false → j ≢ 0 → bytes_in j mark ≡ []) → StandsFor rs dn s (mark ∷ marks) closed
 over_still rs dn s marks closed mark st over none fresh strange =
     goes_still rs dn s marks closed mark st (over_all s.pid rs (built_items (setting s.pid rs).missing marks mark) (log s.pid rs marks) over none) fresh strange
@@ -81,7 +82,7 @@ with_parts s a b w e f g =
     ap (λ x. record s { clients = x; leaving = b; waiting = w }) e
     ∙ (ap (λ y. record s { leaving = y; waiting = w }) f ∙ ap (λ z. record s { waiting = z }) g)
 
-absent_same : (rs : List HouseReply) (dn : ℕ) (s : State) (marks : List Mark) (closed : List ℕ) (k : ℕ) (f : ClientState → ClientState) → StandsFor rs dn s marks closed → is_present s.clients k ≡ false → changed s k f ≡ s
+absent_same : (rs : List HouseReply) (dn : List Asked) (s : State) (marks : List Mark) (closed : List ℕ) (k : ℕ) (f : ClientState → ClientState) → StandsFor rs dn s marks closed → is_present s.clients k ≡ false → changed s k f ≡ s
 absent_same rs dn s marks closed k f st gone =
     with_parts s (at_client k f s.clients) (s.leaving ++ loss_at k f s.clients) (waiting_in (at_client k f s.clients)) (at_absent k f s.clients gone)
     (ap (λ l. s.leaving ++ l) (look_none [] (λ c. step.loss_between c.standing (f c).standing k) k s.clients gone) ∙ append-nil s.leaving)
@@ -111,14 +112,14 @@ gets_strange k bytes marks al j a nz = elim (eqb_tells k 0) [
   | inr q ↦ of_bytes k j bytes (accepted_apart k j marks (al q.1) a)
 ]
 
-none_more : (dn : ℕ) → dn + 0 ≡ dn
-none_more dn = omega arith
+none_more : (dn : List Asked) → dn ++ [] ≡ dn
+none_more dn = append-nil dn
 
 -- a mark at which the house is not asked
-unasked : (rs : List HouseReply) (dn : ℕ) (s : State) (marks : List Mark) (closed : List ℕ) → StandsFor rs dn s marks closed → StandsFor rs (dn + 0) s marks closed
+unasked : (rs : List HouseReply) (dn : List Asked) (s : State) (marks : List Mark) (closed : List ℕ) → StandsFor rs dn s marks closed → StandsFor rs (dn ++ []) s marks closed
 unasked rs dn s marks closed st = subst (λ d. StandsFor rs d s marks closed) (sym (none_more dn)) st
 
-gets_server : (rs : List HouseReply) (dn : ℕ) (s : State) (marks : List Mark) (closed : List ℕ) (bytes : List ℕ) → StandsFor rs dn s marks closed → is_ended (log s.pid rs marks) ≡ false → StandsFor rs dn (over s ended.NotBuilt) (Gets 0 bytes ∷ marks) closed
+gets_server : (rs : List HouseReply) (dn : List Asked) (s : State) (marks : List Mark) (closed : List ℕ) (bytes : List ℕ) → StandsFor rs dn s marks closed → is_ended (log s.pid rs marks) ≡ false → StandsFor rs dn (over s ended.NotBuilt) (Gets 0 bytes ∷ marks) closed
 gets_server rs dn s marks closed bytes st live =
     goes_over rs dn s marks closed (Gets 0 bytes) Unserved ended.NotBuilt st live
     (more_yes (setting s.pid rs) (log s.pid rs marks) Unserved (next_live (log s.pid rs marks) Unserved live)) tt refl refl (λ j. refl) (λ j nz. of_bytes 0 j bytes (λ e. nz (sym e)))
@@ -131,37 +132,37 @@ and_true : (b : Bool) → (b && true) ≡ b
 and_true true = refl
 and_true false = refl
 
-absent_gained : (rs : List HouseReply) (dn : ℕ) (s : State) (marks : List Mark) (closed : List ℕ) (k : ℕ) (more : List HouseReply) (bytes : List ℕ) → StandsFor rs dn s marks closed → is_ended (log s.pid rs marks) ≡ false → is_present s.clients k ≡ false → gained s k more bytes ≡ s
+absent_gained : (rs : List HouseReply) (dn : List Asked) (s : State) (marks : List Mark) (closed : List ℕ) (k : ℕ) (more : List HouseReply) (bytes : List ℕ) → StandsFor rs dn s marks closed → is_ended (log s.pid rs marks) ≡ false → is_present s.clients k ≡ false → gained s k more bytes ≡ s
 absent_gained rs dn s marks closed k more bytes st live gone =
     let stop : stops_at k (client_hears s.pid more bytes) s.clients ≡ false = look_none false (λ c. (client_hears s.pid more bytes c).stops) k s.clients gone in
     let ends : ended_at k (client_hears s.pid more bytes) s.clients ≡ s.ended = look_none None (λ c. (client_hears s.pid more bytes c).ended) k s.clients gone ∙ sym (st.ended_is ∙ no_end (log s.pid rs marks) live) in
     ap (λ (t : State). record t { listening = s.listening && not (stops_at k (client_hears s.pid more bytes) s.clients); ended = ended_at k (client_hears s.pid more bytes) s.clients }) (absent_same rs dn s marks closed k (client_got s.pid more bytes) st gone)
     ∙ with_ends s (s.listening && not (stops_at k (client_hears s.pid more bytes) s.clients)) (ended_at k (client_hears s.pid more bytes) s.clients) (ap (λ b. s.listening && not b) stop ∙ and_true s.listening) ends
 
-gets_client : (rs : List HouseReply) (dn : ℕ) (s : State) (marks : List Mark) (closed : List ℕ) (k : ℕ) (bytes : List ℕ) → k ≢ 0 → is_accepted k marks ≡ true → StandsFor rs dn s marks closed → is_ended (log s.pid rs marks) ≡ false → (here : Bool) → is_present s.clients k ≡ here
-    → StandsFor rs (dn + gained_asks s k (drop dn rs) bytes) (gained s k (drop dn rs) bytes) (Gets k bytes ∷ marks) closed
+gets_client : (rs : List HouseReply) (dn : List Asked) (s : State) (marks : List Mark) (closed : List ℕ) (k : ℕ) (bytes : List ℕ) → k ≢ 0 → is_accepted k marks ≡ true → StandsFor rs dn s marks closed → is_ended (log s.pid rs marks) ≡ false → (here : Bool) → is_present s.clients k ≡ here
+    → StandsFor rs (dn ++ gained_asks s k (drop (length dn) rs) bytes) (gained s k (drop (length dn) rs) bytes) (Gets k bytes ∷ marks) closed
 gets_client rs dn s marks closed k bytes ne al st live true here = goes_got rs dn s marks closed k bytes ne st live here
 gets_client rs dn s marks closed k bytes ne al st live false gone =
     let rows : List Row = log s.pid rs marks in
     let out : is_out (rows_of k rows) ≡ true = st.closed_out k (st.there live k al gone) in
-    subst (λ m. StandsFor rs (dn + m) (gained s k (drop dn rs) bytes) (Gets k bytes ∷ marks) closed) (sym (look_none 0 (client_asks s.pid (drop dn rs) bytes) k s.clients gone))
-    (subst (λ t. StandsFor rs (dn + 0) t (Gets k bytes ∷ marks) closed) (sym (absent_gained rs dn s marks closed k (drop dn rs) bytes st live gone))
+    subst (λ m. StandsFor rs (dn ++ m) (gained s k (drop (length dn) rs) bytes) (Gets k bytes ∷ marks) closed) (sym (look_none [] (client_asks s.pid (drop (length dn) rs) bytes) k s.clients gone))
+    (subst (λ t. StandsFor rs (dn ++ []) t (Gets k bytes ∷ marks) closed) (sym (absent_gained rs dn s marks closed k (drop (length dn) rs) bytes st live gone))
     (unasked rs dn s (Gets k bytes ∷ marks) closed (goes_still rs dn s marks closed (Gets k bytes) st
     (got_log s.pid k rs bytes marks ne ∙ out_said s.pid k rs (drop (length (spoken InControl (bytes_of k marks)).says) (spoken InControl (bytes_of k marks ++ bytes)).says) rows live out)
     (λ j a. a) (λ j a nz. of_bytes k j bytes (accepted_apart k j marks al a)) (λ l j. refl) (λ l. of_bytes k 0 bytes ne)
     (each_absent rows marks (Gets k bytes) k s.clients gone (λ j d. of_bytes k j bytes d)))))
 
-gets_live : (rs : List HouseReply) (dn : ℕ) (s : State) (marks : List Mark) (closed : List ℕ) (k : ℕ) (bytes : List ℕ) → (k ≢ 0 → is_accepted k marks ≡ true) → StandsFor rs dn s marks closed → is_ended (log s.pid rs marks) ≡ false
-    → StandsFor rs (dn + cond (k == 0) 0 (gained_asks s k (drop dn rs) bytes)) (cond (k == 0) (over s ended.NotBuilt) (gained s k (drop dn rs) bytes)) (Gets k bytes ∷ marks) closed
+gets_live : (rs : List HouseReply) (dn : List Asked) (s : State) (marks : List Mark) (closed : List ℕ) (k : ℕ) (bytes : List ℕ) → (k ≢ 0 → is_accepted k marks ≡ true) → StandsFor rs dn s marks closed → is_ended (log s.pid rs marks) ≡ false
+    → StandsFor rs (dn ++ cond (k == 0) [] (gained_asks s k (drop (length dn) rs) bytes)) (cond (k == 0) (over s ended.NotBuilt) (gained s k (drop (length dn) rs) bytes)) (Gets k bytes ∷ marks) closed
 gets_live rs dn s marks closed k bytes al st live = elim (eqb_tells k 0) [
-  | inl q ↦ subst (λ b. StandsFor rs (dn + cond b 0 (gained_asks s k (drop dn rs) bytes)) (cond b (over s ended.NotBuilt) (gained s k (drop dn rs) bytes)) (Gets k bytes ∷ marks) closed) (sym q.0)
-      (subst (λ j. StandsFor rs (dn + 0) (over s ended.NotBuilt) (Gets j bytes ∷ marks) closed) (sym q.1) (unasked rs dn (over s ended.NotBuilt) (Gets 0 bytes ∷ marks) closed (gets_server rs dn s marks closed bytes st live)))
-  | inr q ↦ subst (λ b. StandsFor rs (dn + cond b 0 (gained_asks s k (drop dn rs) bytes)) (cond b (over s ended.NotBuilt) (gained s k (drop dn rs) bytes)) (Gets k bytes ∷ marks) closed) (sym q.0) (gets_client rs dn s marks closed k bytes q.1 (al q.1) st live (is_present s.clients k) refl)
+  | inl q ↦ subst (λ b. StandsFor rs (dn ++ cond b [] (gained_asks s k (drop (length dn) rs) bytes)) (cond b (over s ended.NotBuilt) (gained s k (drop (length dn) rs) bytes)) (Gets k bytes ∷ marks) closed) (sym q.0)
+      (subst (λ j. StandsFor rs (dn ++ []) (over s ended.NotBuilt) (Gets j bytes ∷ marks) closed) (sym q.1) (unasked rs dn (over s ended.NotBuilt) (Gets 0 bytes ∷ marks) closed (gets_server rs dn s marks closed bytes st live)))
+  | inr q ↦ subst (λ b. StandsFor rs (dn ++ cond b [] (gained_asks s k (drop (length dn) rs) bytes)) (cond b (over s ended.NotBuilt) (gained s k (drop (length dn) rs) bytes)) (Gets k bytes ∷ marks) closed) (sym q.0) (gets_client rs dn s marks closed k bytes q.1 (al q.1) st live (is_present s.clients k) refl)
 ]
 
 -- ---- ends and failures
 
-lost_client_mark : (rs : List HouseReply) (dn : ℕ) (s : State) (marks : List Mark) (closed : List ℕ) (k : ℕ) (mark : Mark) → k ≢ 0 → is_accepted k marks ≡ true → StandsFor rs dn s marks closed → is_ended (log s.pid rs marks) ≡ false
+lost_client_mark : (rs : List HouseReply) (dn : List Asked) (s : State) (marks : List Mark) (closed : List ℕ) (k : ℕ) (mark : Mark) → k ≢ 0 → is_accepted k marks ≡ true → StandsFor rs dn s marks closed → is_ended (log s.pid rs marks) ≡ false
     → log s.pid rs (mark ∷ marks) ≡ more_of (setting s.pid rs) (log s.pid rs marks) (Gone k) → ((j : ℕ) → is_accepted j (mark ∷ marks) ≡ is_accepted j marks) → ((j : ℕ) → bytes_in j mark ≡ [])
     → (here : Bool) → is_present s.clients k ≡ here → StandsFor rs dn (changed s k lost_client) (mark ∷ marks) closed
 lost_client_mark rs dn s marks closed k mark ne al st live is accepts bytes true here = goes_lost rs dn s marks closed k mark ne st live here is accepts bytes
@@ -172,7 +173,7 @@ lost_client_mark rs dn s marks closed k mark ne al st live is accepts bytes fals
     (goes_still rs dn s marks closed mark st (is ∙ gone_log s.pid k rs rows true live out)
     (λ j a. sym (accepts j) ∙ a) (λ j a nz. bytes j) (λ l j. accepts j) (λ l. bytes 0) (each_quiet rows marks mark s.clients bytes))
 
-lost_live : (rs : List HouseReply) (dn : ℕ) (s : State) (marks : List Mark) (closed : List ℕ) (k : ℕ) (mark : ℕ → Mark) (item : Item) (cause : Ended) → (k ≢ 0 → is_accepted k marks ≡ true) → StandsFor rs dn s marks closed → is_ended (log s.pid rs marks) ≡ false
+lost_live : (rs : List HouseReply) (dn : List Asked) (s : State) (marks : List Mark) (closed : List ℕ) (k : ℕ) (mark : ℕ → Mark) (item : Item) (cause : Ended) → (k ≢ 0 → is_accepted k marks ≡ true) → StandsFor rs dn s marks closed → is_ended (log s.pid rs marks) ≡ false
     → ((i : ℕ) → i ≢ 0 → log s.pid rs (mark i ∷ marks) ≡ more_of (setting s.pid rs) (log s.pid rs marks) (Gone i)) → log s.pid rs (mark 0 ∷ marks) ≡ end_row item cause ∷ log s.pid rs marks
     → Rattle.mux_engine.specs.Stands.IsPlainItem item → has_reply item ≡ false → Rattle.mux_history.specs.Rows.is_admit (end_row item cause) ≡ false
     → ((i j : ℕ) → is_accepted j (mark i ∷ marks) ≡ is_accepted j marks) → ((i j : ℕ) → bytes_in j (mark i) ≡ [])
@@ -196,16 +197,16 @@ by_number pid rs rows k item ne = ap (λ b. more_all (setting pid rs) rows (elim
 
 -- ---- any mark
 
-by_end : (rs : List HouseReply) (dn m : ℕ) (s t : State) (marks : List Mark) (closed : List ℕ) (mark : Mark) (b : Bool) → is_some s.ended ≡ b → StandsFor rs dn s marks closed → (is_ended (log s.pid rs marks) ≡ true → StandsFor rs dn s (mark ∷ marks) closed)
-    → (is_ended (log s.pid rs marks) ≡ false → StandsFor rs (dn + m) t (mark ∷ marks) closed) → StandsFor rs (dn + cond b 0 m) (cond b s t) (mark ∷ marks) closed
+by_end : (rs : List HouseReply) (dn m : List Asked) (s t : State) (marks : List Mark) (closed : List ℕ) (mark : Mark) (b : Bool) → is_some s.ended ≡ b → StandsFor rs dn s marks closed → (is_ended (log s.pid rs marks) ≡ true → StandsFor rs dn s (mark ∷ marks) closed)
+    → (is_ended (log s.pid rs marks) ≡ false → StandsFor rs (dn ++ m) t (mark ∷ marks) closed) → StandsFor rs (dn ++ cond b [] m) (cond b s t) (mark ∷ marks) closed
 by_end rs dn m s t marks closed mark true e st f g = unasked rs dn s (mark ∷ marks) closed (f (sym (ended_is rs dn s marks closed st) ∙ e))
 by_end rs dn m s t marks closed mark false e st f g = g (sym (ended_is rs dn s marks closed st) ∙ e)
 
-quiet_end : (rs : List HouseReply) (dn : ℕ) (t : State) (marks : List Mark) (closed : List ℕ) (b : Bool) → StandsFor rs dn t marks closed → StandsFor rs (dn + cond b 0 0) t marks closed
+quiet_end : (rs : List HouseReply) (dn : List Asked) (t : State) (marks : List Mark) (closed : List ℕ) (b : Bool) → StandsFor rs dn t marks closed → StandsFor rs (dn ++ cond b [] []) t marks closed
 quiet_end rs dn t marks closed true st = unasked rs dn t marks closed st
 quiet_end rs dn t marks closed false st = unasked rs dn t marks closed st
 
-comes : (rs : List HouseReply) (dn : ℕ) (s : State) (marks : List Mark) (closed : List ℕ) (k : ℕ) (room : Bool) → nat_lt (length (served_in s.clients)) 64 ≡ room → k ≢ 0 → is_accepted k marks ≡ false → StandsFor rs dn s marks closed → is_ended (log s.pid rs marks) ≡ false → StandsFor rs dn (cond room (step.added s (step.new_client k)) (step.refused s k)) (Accepts k ∷ marks) closed
+comes : (rs : List HouseReply) (dn : List Asked) (s : State) (marks : List Mark) (closed : List ℕ) (k : ℕ) (room : Bool) → nat_lt (length (served_in s.clients)) 64 ≡ room → k ≢ 0 → is_accepted k marks ≡ false → StandsFor rs dn s marks closed → is_ended (log s.pid rs marks) ≡ false → StandsFor rs dn (cond room (step.added s (step.new_client k)) (step.refused s k)) (Accepts k ∷ marks) closed
 comes rs dn s marks closed k true e nz a st live = goes_in rs dn s marks closed k st live (is_new rs dn s marks closed k st nz a) e
 comes rs dn s marks closed k false e nz a st live = goes_refused rs dn s marks closed k st live (is_new rs dn s marks closed k st nz a) e
 
@@ -216,31 +217,31 @@ accepts_fresh k j marks a = by_test (k == j) a
     by_test true e = true_false e
     by_test false e = e
 
-nothing_new : (rs : List HouseReply) (dn : ℕ) (s : State) (marks : List Mark) (closed : List ℕ) (mark : Mark) → StandsFor rs dn s marks closed → log s.pid rs (mark ∷ marks) ≡ log s.pid rs marks → ((j : ℕ) → is_accepted j (mark ∷ marks) ≡ is_accepted j marks) → ((j : ℕ) → bytes_in j mark ≡ []) → StandsFor rs dn s (mark ∷ marks) closed
+nothing_new : (rs : List HouseReply) (dn : List Asked) (s : State) (marks : List Mark) (closed : List ℕ) (mark : Mark) → StandsFor rs dn s marks closed → log s.pid rs (mark ∷ marks) ≡ log s.pid rs marks → ((j : ℕ) → is_accepted j (mark ∷ marks) ≡ is_accepted j marks) → ((j : ℕ) → bytes_in j mark ≡ []) → StandsFor rs dn s (mark ∷ marks) closed
 nothing_new rs dn s marks closed mark st is accepts bytes = goes_still rs dn s marks closed mark st is (λ j a. sym (accepts j) ∙ a) (λ j a nz. bytes j) (λ l j. accepts j) (λ l. bytes 0) (each_quiet (log s.pid rs marks) marks mark s.clients bytes)
 
-pub goes_on : (rs : List HouseReply) (dn : ℕ) (s : State) (mark : Mark) (marks : List Mark) (closed : List ℕ) → StandsFor rs dn s marks closed → IsAllowed s marks mark → StandsFor rs (dn + asked_at s (drop dn rs) mark) (after s (drop dn rs) mark) (mark ∷ marks) closed
+pub goes_on : (rs : List HouseReply) (dn : List Asked) (s : State) (mark : Mark) (marks : List Mark) (closed : List ℕ) → StandsFor rs dn s marks closed → IsAllowed s marks mark → StandsFor rs (dn ++ asked_at s (drop (length dn) rs) mark) (after s (drop (length dn) rs) mark) (mark ∷ marks) closed
 goes_on rs dn s (Waits waiting want streams listens) marks closed st al = quiet_end rs dn s (Waits waiting want streams listens ∷ marks) closed (is_some s.ended) (nothing_new rs dn s marks closed (Waits waiting want streams listens) st refl (λ j. refl) (λ j. refl))
 goes_on rs dn s (Frees k) marks closed st al = quiet_end rs dn s (Frees k ∷ marks) closed (is_some s.ended) (nothing_new rs dn s marks closed (Frees k) st refl (λ j. refl) (λ j. refl))
 goes_on rs dn s (Holds k) marks closed st al = quiet_end rs dn s (Holds k ∷ marks) closed (is_some s.ended) (nothing_new rs dn s marks closed (Holds k) st refl (λ j. refl) (λ j. refl))
 goes_on rs dn s (Takes k bytes) marks closed st al = quiet_end rs dn (taken s k (length bytes)) (Takes k bytes ∷ marks) closed (is_some s.ended) (goes_took rs dn s marks closed k bytes st al)
-goes_on rs dn s (Accepts k) marks closed st al = by_end rs dn 0 s (step.entered s k) marks closed (Accepts k) (is_some s.ended) refl st
+goes_on rs dn s (Accepts k) marks closed st al = by_end rs dn [] s (step.entered s k) marks closed (Accepts k) (is_some s.ended) refl st
     (λ over. over_still rs dn s marks closed (Accepts k) st over (refl, tt) (λ j a. accepts_fresh k j marks a) (λ j a nz. refl))
     (λ live. unasked rs dn (step.entered s k) (Accepts k ∷ marks) closed (comes rs dn s marks closed k (nat_lt (length (served_in s.clients)) 64) refl al.0 al.1 st live))
-goes_on rs dn s (Gets k bytes) marks closed st al = by_end rs dn (stepped_asks s (drop dn rs) (Gets k bytes)) s (stepped s (drop dn rs) (Gets k bytes)) marks closed (Gets k bytes) (is_some s.ended) refl st
+goes_on rs dn s (Gets k bytes) marks closed st al = by_end rs dn (stepped_asks s (drop (length dn) rs) (Gets k bytes)) s (stepped s (drop (length dn) rs) (Gets k bytes)) marks closed (Gets k bytes) (is_some s.ended) refl st
     (λ over. over_still rs dn s marks closed (Gets k bytes) st over (gets_over marks k bytes (k == 0)) (λ j a. a) (gets_strange k bytes marks al))
     (λ live. gets_live rs dn s marks closed k bytes al st live)
-goes_on rs dn s (Ends k) marks closed st al = by_end rs dn 0 s (stepped s (drop dn rs) (Ends k)) marks closed (Ends k) (is_some s.ended) refl st
+goes_on rs dn s (Ends k) marks closed st al = by_end rs dn [] s (stepped s (drop (length dn) rs) (Ends k)) marks closed (Ends k) (is_some s.ended) refl st
     (λ over. over_still rs dn s marks closed (Ends k) st over (none_lost (k == 0) (server_end (parse InProxy (bytes_of 0 marks)).rest) k (took_end (parse InProxy (bytes_of 0 marks)).rest)) (λ j a. a) (λ j a nz. refl))
-    (λ live. unasked rs dn (stepped s (drop dn rs) (Ends k)) (Ends k ∷ marks) closed (lost_live rs dn s marks closed k Ends ServerEnd ended.ServerEnd al st live
+    (λ live. unasked rs dn (stepped s (drop (length dn) rs) (Ends k)) (Ends k ∷ marks) closed (lost_live rs dn s marks closed k Ends ServerEnd ended.ServerEnd al st live
     (λ i ne. by_number s.pid rs (log s.pid rs marks) i (server_end (parse InProxy (bytes_of 0 marks)).rest) ne)
     (ap (λ b. more_all (setting s.pid rs) (log s.pid rs marks) (server_end (parse InProxy b).rest ∷ [])) (st.silent live) ∙ more_yes (setting s.pid rs) (log s.pid rs marks) ServerEnd (next_live (log s.pid rs marks) ServerEnd live))
     tt refl refl (λ i j. refl) (λ i j. refl)))
-goes_on rs dn s (Fails k) marks closed st al = by_end rs dn 0 s (stepped s (drop dn rs) (Fails k)) marks closed (Fails k) (is_some s.ended) refl st
+goes_on rs dn s (Fails k) marks closed st al = by_end rs dn [] s (stepped s (drop (length dn) rs) (Fails k)) marks closed (Fails k) (is_some s.ended) refl st
     (λ over. over_still rs dn s marks closed (Fails k) st over (none_lost (k == 0) ServerFailed k refl) (λ j a. a) (λ j a nz. refl))
-    (λ live. unasked rs dn (stepped s (drop dn rs) (Fails k)) (Fails k ∷ marks) closed (lost_live rs dn s marks closed k Fails ServerFailed ended.ServerFailed al st live (λ i ne. by_number s.pid rs (log s.pid rs marks) i ServerFailed ne)
+    (λ live. unasked rs dn (stepped s (drop (length dn) rs) (Fails k)) (Fails k ∷ marks) closed (lost_live rs dn s marks closed k Fails ServerFailed ended.ServerFailed al st live (λ i ne. by_number s.pid rs (log s.pid rs marks) i ServerFailed ne)
     (more_yes (setting s.pid rs) (log s.pid rs marks) ServerFailed (next_live (log s.pid rs marks) ServerFailed live)) tt refl refl (λ i j. refl) (λ i j. refl)))
-goes_on rs dn s (WriteFails k) marks closed st al = by_end rs dn 0 s (stepped s (drop dn rs) (WriteFails k)) marks closed (WriteFails k) (is_some s.ended) refl st
+goes_on rs dn s (WriteFails k) marks closed st al = by_end rs dn [] s (stepped s (drop (length dn) rs) (WriteFails k)) marks closed (WriteFails k) (is_some s.ended) refl st
     (λ over. over_still rs dn s marks closed (WriteFails k) st over (none_lost (k == 0) ServerFailed k refl) (λ j a. a) (λ j a nz. refl))
-    (λ live. unasked rs dn (stepped s (drop dn rs) (WriteFails k)) (WriteFails k ∷ marks) closed (lost_live rs dn s marks closed k WriteFails ServerFailed ended.ServerFailed al st live (λ i ne. by_number s.pid rs (log s.pid rs marks) i ServerFailed ne)
+    (λ live. unasked rs dn (stepped s (drop (length dn) rs) (WriteFails k)) (WriteFails k ∷ marks) closed (lost_live rs dn s marks closed k WriteFails ServerFailed ended.ServerFailed al st live (λ i ne. by_number s.pid rs (log s.pid rs marks) i ServerFailed ne)
     (more_yes (setting s.pid rs) (log s.pid rs marks) ServerFailed (next_live (log s.pid rs marks) ServerFailed live)) tt refl refl (λ i j. refl) (λ i j. refl)))

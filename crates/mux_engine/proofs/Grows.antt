@@ -1,8 +1,9 @@
 -- What rows of one client change in a log.
-use Rattle.std.proofs.Common.{◌≡◌, ◌≢◌, ◌+◌, ℕ, Bool, true, false, ◌||◌, ◌&&◌, not, List, [], ◌∷◌, ◌++◌, Option, Some, None, refl, sym, ap, ◌∙◌, subst, append-nil, append_assoc, inl, inr, arith}
+use Rattle.std.proofs.Common.{◌≡◌, ◌≢◌, ◌+◌, ℕ, Bool, true, false, ◌||◌, ◌&&◌, not, List, [], ◌∷◌, ◌++◌, Option, Some, None, refl, sym, ap, ◌∙◌, subst, length, length-append, append-nil, append_assoc, inl, inr, arith}
 use Rattle.std.specs.Prelude.{◌==◌, is_some}
 use Rattle.std.proofs.lemmas.Bool.{eq-eqb}
 use Rattle.std.proofs.lemmas.Bool.Decides.{eqb_tells}
+use Rattle.mux_outside.specs.House.{Asked}
 use Rattle.mux_history.specs.declared.why.Why.{Why}
 use Rattle.mux_history.specs.declared.ended.Ended.{Ended}
 use Rattle.mux_history.specs.Rows.{Row, rows_of, loses, is_out, is_refusal, is_admit, is_end, is_ended, loss_by, losses, Item, Admit, Says, Gone, Fate, Goes, Refused, Drop, End}
@@ -10,7 +11,8 @@ use Rattle.mux_history.specs.Choices.{has_reply, replies_given}
 use Rattle.mux_history.specs.Log.{goes, entered}
 use Rattle.mux_history.specs.Solo.{end_of}
 use Rattle.mux_history.specs.Promises.{listens, stops}
-use Rattle.mux_engine.specs.Heeded.{count_if}
+use Rattle.mux_engine.proofs.Asks.{count_if}
+use Rattle.mux_engine.specs.Asked.{asked_of, item_asks}
 use Rattle.mux_engine.specs.Stands.{IsPlainItem, ArePlain, IsKnown}
 use Rattle.mux_engine.proofs.RowFacts.{RowIs}
 use Rattle.mux_engine.proofs.Says.{NotRefused}
@@ -33,9 +35,8 @@ abbrev pub ended_then : Option Ended → Option Ended → Option Ended
 ended_then (Some cause) before = Some cause
 ended_then None before = before
 
--- what the rows lose, whether one of them stops the listening, how the run ended in them, and how many replies of the
--- house they carry
-pub record Grows (k : ℕ) (rows rows' : List Row) (loss : List (ℕ × Option Why)) (stop : Bool) (ended : Option Ended) (n : ℕ) : Type 0 where
+-- what the rows lose, whether one of them stops the listening, how the run ended in them, and what they ask the house
+pub record Grows (k : ℕ) (rows rows' : List Row) (loss : List (ℕ × Option Why)) (stop : Bool) (ended : Option Ended) (asks : List Asked) : Type 0 where
   pub others : (j : ℕ) → k ≢ j → rows_of j rows' ≡ rows_of j rows
   pub same_entered : entered rows' ≡ entered rows
   pub end_is : end_of rows' ≡ ended_then ended (end_of rows)
@@ -44,10 +45,11 @@ pub record Grows (k : ℕ) (rows rows' : List Row) (loss : List (ℕ × Option W
   pub plain : ArePlain rows → ArePlain rows'
   pub known : IsKnown (rows_of k rows) → IsKnown (rows_of k rows')
   pub more_losses : losses rows' ≡ losses rows ++ loss
-  pub draws : replies_given rows' ≡ replies_given rows + n
+  pub draws : replies_given rows' ≡ replies_given rows + length asks
+  pub asked : asked_of rows' ≡ asked_of rows ++ asks
 
-pub grows_none : (k : ℕ) (rows : List Row) → Grows k rows rows [] false None 0
-grows_none k rows = record { others = λ j ne. refl; same_entered = refl; end_is = refl; ended_is = refl; listens_is = refl; plain = λ p. p; known = λ h. h; more_losses = sym (append-nil (losses rows)); draws = omega arith }
+pub grows_none : (k : ℕ) (rows : List Row) → Grows k rows rows [] false None []
+grows_none k rows = record { others = λ j ne. refl; same_entered = refl; end_is = refl; ended_is = refl; listens_is = refl; plain = λ p. p; known = λ h. h; more_losses = sym (append-nil (losses rows)); draws = omega arith; asked = sym (append-nil (asked_of rows)) }
 
 then_then : (a b c : Option Ended) → ended_then b (ended_then a c) ≡ ended_then (ended_then b a) c
 then_then a (Some cause) c = refl
@@ -63,7 +65,7 @@ not_both true false c = refl
 not_both false true c = refl
 not_both false false c = refl
 
-pub grows_on : (k : ℕ) (a b c : List Row) (x y z : List (ℕ × Option Why)) (s t : Bool) (e f : Option Ended) (m n : ℕ) → Grows k a b x s e m → Grows k b c y t f n → x ++ y ≡ z → Grows k a c z (s || t) (ended_then f e) (m + n)
+pub grows_on : (k : ℕ) (a b c : List Row) (x y z : List (ℕ × Option Why)) (s t : Bool) (e f : Option Ended) (m n : List Asked) → Grows k a b x s e m → Grows k b c y t f n → x ++ y ≡ z → Grows k a c z (s || t) (ended_then f e) (m ++ n)
 grows_on k a b c x y z s t e f m n g h j = record {
   others = λ i ne. h.others i ne ∙ g.others i ne;
   same_entered = h.same_entered ∙ g.same_entered;
@@ -73,7 +75,8 @@ grows_on k a b c x y z s t e f m n g h j = record {
   plain = λ p. h.plain (g.plain p);
   known = λ i. h.known (g.known i);
   more_losses = h.more_losses ∙ (ap (λ l. l ++ y) g.more_losses ∙ (append_assoc (losses a) x y ∙ ap (λ l. losses a ++ l) j));
-  draws = let p : replies_given c ≡ replies_given b + n = h.draws in let q : replies_given b ≡ replies_given a + m = g.draws in omega arith;
+  draws = let p : replies_given c ≡ replies_given b + length n = h.draws in let q : replies_given b ≡ replies_given a + length m = g.draws in omega (arith, length-append m n);
+  asked = h.asked ∙ (ap (λ l. l ++ n) g.asked ∙ append_assoc (asked_of a) m n);
 }
 
 -- ---- one row
@@ -145,9 +148,9 @@ known_row row own r h = record {
   out_is = ap (λ b. (loses row || b) || is_out own) r ∙ (ap (λ b. b || is_out own) (or_false (loses row)) ∙ ap (λ b. loses row || b) h.out_is);
 }
 
-pub grows_row : (k : ℕ) (item : Item) (down : List (List ℕ)) (f : Fate) (row : Row) (rows : List Row) (stop replies : Bool) → RowIs item k down f row → IsPlainItem item → NotAdmit item → NotRefused f → stops row (rows_of row.client rows) ≡ stop → has_reply item ≡ replies
-    → Grows k rows (row ∷ rows) (loss_of f item k) stop (end_by f) (count_if replies)
-grows_row k item down f row rows stop replies r plain admit fate stopped replied = record {
+pub grows_row : (k : ℕ) (item : Item) (down : List (List ℕ)) (f : Fate) (row : Row) (rows : List Row) (stop : Bool) → RowIs item k down f row → IsPlainItem item → NotAdmit item → NotRefused f → stops row (rows_of row.client rows) ≡ stop → length (item_asks item) ≡ count_if (has_reply item)
+    → Grows k rows (row ∷ rows) (loss_of f item k) stop (end_by f) (item_asks item)
+grows_row k item down f row rows stop r plain admit fate stopped counted = record {
   others = λ j ne. other_row k j row rows r.client_is ne;
   same_entered = ap (λ b. entered rows ++ elim b as (λ _. List ℕ) [ true ↦ row.client ∷ [] | false ↦ [] ]) (not_admit f item row r.fate_is r.item_is admit) ∙ append-nil (entered rows);
   end_is = end_at f row rows r.fate_is;
@@ -156,7 +159,8 @@ grows_row k item down f row rows stop replies r plain admit fate stopped replied
   plain = λ p. (record { item = subst IsPlainItem (sym r.item_is) plain; up = r.up_is; farewell = r.farewell_is }, p);
   known = λ h. subst IsKnown (sym (own_row k row rows r.client_is)) (known_row row (rows_of k rows) (ap is_refusal r.fate_is ∙ no_refusal f fate) h);
   more_losses = ap (λ l. losses rows ++ l) (loss_at f item row k r.fate_is r.item_is r.client_is);
-  draws = replies_row row rows replies (ap has_reply r.item_is ∙ replied);
+  draws = replies_row row rows (has_reply item) (ap has_reply r.item_is) ∙ ap (λ m. replies_given rows + m) (sym counted);
+  asked = ap (λ i. asked_of rows ++ item_asks i) r.item_is;
 }
 
 -- a row whose item isn't said stops nothing

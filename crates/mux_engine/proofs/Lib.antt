@@ -1,4 +1,5 @@
 pub mod Spoken
+pub mod Asks
 pub mod Decided
 pub mod Nexts
 pub mod Hearing
@@ -29,3 +30,4 @@ pub mod Turns
 pub mod Marks
 pub mod Turned
 pub mod Runs
+pub mod Alone

@@ -3,6 +3,7 @@ use Rattle.std.proofs.Common.{◌≡◌, ◌≢◌, ℕ, Bool, true, false, List
 use Rattle.std.specs.Prelude.{◌==◌}
 use Rattle.std.proofs.lemmas.Bool.{eq-eqb, eqb-true}
 use Rattle.std.proofs.lemmas.Bool.Decides.{eqb_tells}
+use Rattle.mux_outside.specs.House.{Asked}
 use Rattle.mux_outside.specs.declared.mark.Mark.{Mark}
 use Rattle.mux_history.specs.declared.ended.Ended.{Ended}
 use Rattle.mux_history.specs.Rows.{Row}
@@ -80,7 +81,7 @@ pub record Found (rows : List Row) (marks : List Mark) (k : ℕ) (cs : List Clie
   pub stands : StandsAt rows marks client
   pub queue : queue_in cs k ≡ client.queue
   pub loss : (f : ClientState → ClientState) → loss_at k f cs ≡ loss_between client.standing (f client).standing k
-  pub count : (look : ClientState → ℕ) → in_client 0 look cs k ≡ look client
+  pub asks : (look : ClientState → List Asked) → in_client [] look cs k ≡ look client
   pub flag : (look : ClientState → Bool) → in_client false look cs k ≡ look client
   pub end : (look : ClientState → Option Ended) → in_client None look cs k ≡ look client
 
@@ -97,7 +98,7 @@ found_head true rows marks k c cs e p at ih = record {
   stands = at;
   queue = head_here [] (λ c. c.queue) k c cs e;
   loss = λ f. head_here [] (λ c. loss_between c.standing (f c).standing k) k c cs e;
-  count = λ look. head_here 0 look k c cs e;
+  asks = λ look. head_here [] look k c cs e;
   flag = λ look. head_here false look k c cs e;
   end = λ look. head_here None look k c cs e;
 }
@@ -107,7 +108,7 @@ found_head false rows marks k c cs e p at ih = let h : Found rows marks k cs = i
   stands = h.stands;
   queue = head_other [] (λ c. c.queue) k c cs e ∙ h.queue;
   loss = λ f. head_other [] (λ c. loss_between c.standing (f c).standing k) k c cs e ∙ h.loss f;
-  count = λ look. head_other 0 look k c cs e ∙ h.count look;
+  asks = λ look. head_other [] look k c cs e ∙ h.asks look;
   flag = λ look. head_other false look k c cs e ∙ h.flag look;
   end = λ look. head_other None look k c cs e ∙ h.end look;
 }

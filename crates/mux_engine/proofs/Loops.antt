@@ -5,6 +5,7 @@ use Rattle.std.proofs.Math.Seq.{drop-cons}
 use Rattle.std.proofs.lemmas.Bool.{eq-eqb}
 use Rattle.std.proofs.lemmas.Bool.Decides.{eqb_tells}
 use Rattle.mux_outside.specs.Streams.{among, without}
+use Rattle.mux_outside.specs.House.{Asked}
 use Rattle.mux_outside.specs.declared.house.HouseReply.{HouseReply}
 use Rattle.mux_outside.specs.declared.mark.Mark.{Mark}
 use Rattle.mux_history.specs.declared.why.Why.{Why}
@@ -23,7 +24,7 @@ use Rattle.mux_engine.proofs.Queues.{waits_among, none_waits}
 use Rattle.mux_engine.proofs.Wires.{among_numbers}
 use Rattle.mux_engine.proofs.Offers.{serve_empty, without_other, AtStream, at_stream}
 
-pub wider : (rs : List HouseReply) (dn pid : ℕ) (start told : Option (List Mark)) (streams blocked held : List ℕ) (listens : Bool) (last given : ℕ) (todo : List ℕ) (s : State) (k : ℕ) → ServingBy rs dn pid start told streams blocked held listens last given todo s → ServingBy rs dn pid start told streams blocked held listens last given (k ∷ todo) s
+pub wider : (rs : List HouseReply) (dn : List Asked) (pid : ℕ) (start told : Option (List Mark)) (streams blocked held : List ℕ) (listens : Bool) (last given : ℕ) (todo : List ℕ) (s : State) (k : ℕ) → ServingBy rs dn pid start told streams blocked held listens last given todo s → ServingBy rs dn pid start told streams blocked held listens last given (k ∷ todo) s
 wider rs dn pid start told streams blocked held listens last given todo s k v = serve_empty rs dn pid start told streams blocked held listens last given todo (k ∷ todo) s v (λ t journal closed e st b a. inl (by_test t (k == t) a))
   where
     by_test : (t : ℕ) (b : Bool) → (b || among t todo) ≡ false → among t todo ≡ false
@@ -38,25 +39,25 @@ none_without k (j ∷ todo) = elim (eqb_tells j k) [
 ]
 
 -- the stream that was offered is done with
-pub narrower : (rs : List HouseReply) (dn pid : ℕ) (start told : Option (List Mark)) (streams blocked held : List ℕ) (listens : Bool) (last given : ℕ) (todo : List ℕ) (s : State) (k : ℕ) → ServingBy rs dn pid start told streams blocked held listens last given (without k (k ∷ todo)) s → ServingBy rs dn pid start told streams blocked held listens last given todo s
+pub narrower : (rs : List HouseReply) (dn : List Asked) (pid : ℕ) (start told : Option (List Mark)) (streams blocked held : List ℕ) (listens : Bool) (last given : ℕ) (todo : List ℕ) (s : State) (k : ℕ) → ServingBy rs dn pid start told streams blocked held listens last given (without k (k ∷ todo)) s → ServingBy rs dn pid start told streams blocked held listens last given todo s
 narrower rs dn pid start told streams blocked held listens last given todo s k v = serve_empty rs dn pid start told streams blocked held listens last given (without k (k ∷ todo)) todo s v (λ t journal closed e st b a. inl (elim (eqb_tells k t) [
   | inl q ↦ ap (λ i. among i (without k (k ∷ todo))) (sym q.1) ∙ none_without k (k ∷ todo)
   | inr q ↦ without_other k t (k ∷ todo) q.1 ∙ (ap (λ b. b || among t todo) q.0 ∙ a)
 ]))
 
 -- after one offer more is to be offered, or nothing
-pub on_more : (rs : List HouseReply) (dn pid : ℕ) (start told : Option (List Mark)) (streams blocked held : List ℕ) (listens : Bool) (last given : ℕ) (todo : List ℕ) (s : State) (k : ℕ) (more : Bool) → more ≡ true → ServingBy rs dn pid start told streams blocked held listens last given (cond more (k ∷ (k ∷ todo)) (without k (k ∷ todo))) s → ServingBy rs dn pid start told streams blocked held listens last given (k ∷ todo) s
+pub on_more : (rs : List HouseReply) (dn : List Asked) (pid : ℕ) (start told : Option (List Mark)) (streams blocked held : List ℕ) (listens : Bool) (last given : ℕ) (todo : List ℕ) (s : State) (k : ℕ) (more : Bool) → more ≡ true → ServingBy rs dn pid start told streams blocked held listens last given (cond more (k ∷ (k ∷ todo)) (without k (k ∷ todo))) s → ServingBy rs dn pid start told streams blocked held listens last given (k ∷ todo) s
 on_more rs dn pid start told streams blocked held listens last given todo s k more e v = serve_empty rs dn pid start told streams blocked held listens last given (k ∷ (k ∷ todo)) (k ∷ todo) s (subst (λ (m : Bool). ServingBy rs dn pid start told streams blocked held listens last given (cond m (k ∷ (k ∷ todo)) (without k (k ∷ todo))) s) e v) (λ t journal closed e st b a. inl (by_test t (k == t) a))
   where
     by_test : (t : ℕ) (b : Bool) → (b || among t todo) ≡ false → (b || (b || among t todo)) ≡ false
     by_test t true a = true_false a
     by_test t false a = a
 
-pub on_done : (rs : List HouseReply) (dn pid : ℕ) (start told : Option (List Mark)) (streams blocked held : List ℕ) (listens : Bool) (last given : ℕ) (todo : List ℕ) (s : State) (k : ℕ) (more : Bool) → more ≡ false → ServingBy rs dn pid start told streams blocked held listens last given (cond more (k ∷ (k ∷ todo)) (without k (k ∷ todo))) s → ServingBy rs dn pid start told streams blocked held listens last given todo s
+pub on_done : (rs : List HouseReply) (dn : List Asked) (pid : ℕ) (start told : Option (List Mark)) (streams blocked held : List ℕ) (listens : Bool) (last given : ℕ) (todo : List ℕ) (s : State) (k : ℕ) (more : Bool) → more ≡ false → ServingBy rs dn pid start told streams blocked held listens last given (cond more (k ∷ (k ∷ todo)) (without k (k ∷ todo))) s → ServingBy rs dn pid start told streams blocked held listens last given todo s
 on_done rs dn pid start told streams blocked held listens last given todo s k more e v = narrower rs dn pid start told streams blocked held listens last given todo s k (subst (λ (m : Bool). ServingBy rs dn pid start told streams blocked held listens last given (cond m (k ∷ (k ∷ todo)) (without k (k ∷ todo))) s) e v)
 
 -- a stream that is blocked is settled
-pub held_back : (rs : List HouseReply) (dn pid : ℕ) (start told : Option (List Mark)) (streams blocked held : List ℕ) (listens : Bool) (last given : ℕ) (todo : List ℕ) (s : State) (k : ℕ) → ServingBy rs dn pid start told streams blocked held listens last given (k ∷ todo) s → is_present s.clients k ≡ true → among k held ≡ true
+pub held_back : (rs : List HouseReply) (dn : List Asked) (pid : ℕ) (start told : Option (List Mark)) (streams blocked held : List ℕ) (listens : Bool) (last given : ℕ) (todo : List ℕ) (s : State) (k : ℕ) → ServingBy rs dn pid start told streams blocked held listens last given (k ∷ todo) s → is_present s.clients k ≡ true → among k held ≡ true
     → ServingBy rs dn pid start told streams blocked held listens last given todo s
 held_back rs dn pid start told streams blocked held listens last given todo s k v here h = serve_empty rs dn pid start told streams blocked held listens last given (k ∷ todo) todo s v (λ t journal closed e st b a. elim (eqb_tells k t) [
   | inl q ↦ inr (inr (inl (sym (b t (ap (is_present s.clients) (sym q.1) ∙ here)) ∙ (ap (λ i. among i blocked) (sym q.1) ∙ (ap (among k) (sym v.held_is) ∙ h)))))
@@ -68,7 +69,7 @@ not_empty [] e = refl
 not_empty (b ∷ q) e = true_false e
 
 -- only the streams that wait are left to be offered something
-pub only_waiting : (rs : List HouseReply) (dn pid : ℕ) (start told : Option (List Mark)) (streams blocked held : List ℕ) (listens : Bool) (last given : ℕ) (s : State) → ServingBy rs dn pid start told streams blocked held listens last given (numbers s.clients) s → ServingBy rs dn pid start told streams blocked held listens last given s.waiting s
+pub only_waiting : (rs : List HouseReply) (dn : List Asked) (pid : ℕ) (start told : Option (List Mark)) (streams blocked held : List ℕ) (listens : Bool) (last given : ℕ) (s : State) → ServingBy rs dn pid start told streams blocked held listens last given (numbers s.clients) s → ServingBy rs dn pid start told streams blocked held listens last given s.waiting s
 only_waiting rs dn pid start told streams blocked held listens last given s v = serve_empty rs dn pid start told streams blocked held listens last given (numbers s.clients) s.waiting s v (λ t journal closed e st b a. by_here t journal closed e st a (among t (numbers s.clients)) refl)
   where
     by_here : (t : ℕ) (journal : List Mark) (closed : List ℕ) → s.pid ≡ pid → StandsFor rs dn s journal closed → among t s.waiting ≡ false → (b : Bool) → among t (numbers s.clients) ≡ b → (among t (numbers s.clients) ≡ false) ⊎ IsSettled (setting pid rs) journal t
@@ -77,7 +78,7 @@ only_waiting rs dn pid start told streams blocked held listens last given s v = 
         let at : AtStream rs dn pid s journal closed t = at_stream rs dn pid s journal closed t e st (sym (among_numbers t s.clients) ∙ h) in
         inr (inl (sym at.queue ∙ not_empty (queue_in s.clients t) (sym (waits_among t s.clients st.apart) ∙ (ap (among t) (sym st.waiting_is) ∙ a))))
 
-pub waits_here : (rs : List HouseReply) (dn : ℕ) (s : State) (marks : List Mark) (closed : List ℕ) (t : ℕ) → StandsFor rs dn s marks closed → among t s.waiting ≡ true → is_present s.clients t ≡ true
+pub waits_here : (rs : List HouseReply) (dn : List Asked) (s : State) (marks : List Mark) (closed : List ℕ) (t : ℕ) → StandsFor rs dn s marks closed → among t s.waiting ≡ true → is_present s.clients t ≡ true
 waits_here rs dn s marks closed t st a = by_here (is_present s.clients t) refl
   where
     by_here : (b : Bool) → is_present s.clients t ≡ b → b ≡ true
@@ -102,10 +103,10 @@ drop_all (suc n) (x ∷ xs) le = drop_all n xs (omega arith)
 
 -- ---- clients that are closed
 
-pub first_out : (rs : List HouseReply) (dn : ℕ) (s : State) (marks : List Mark) (closed : List ℕ) (k : ℕ) → StandsFor rs dn s marks closed → IsFirst k s.leaving → is_out (rows_of k (log s.pid rs marks)) ≡ true
+pub first_out : (rs : List HouseReply) (dn : List Asked) (s : State) (marks : List Mark) (closed : List ℕ) (k : ℕ) → StandsFor rs dn s marks closed → IsFirst k s.leaving → is_out (rows_of k (log s.pid rs marks)) ≡ true
 first_out rs dn s marks closed k st first = loss_is_out k (log s.pid rs marks) (unfiltered k (not_closed closed) (losses (log s.pid rs marks)) (subst (λ ls. in_losses k ls ≡ true) st.leaving_are (first_in k s.leaving first)))
 
-first_nonzero : (rs : List HouseReply) (dn : ℕ) (s : State) (marks : List Mark) (closed : List ℕ) (k : ℕ) → StandsFor rs dn s marks closed → IsFirst k s.leaving → k ≢ 0
+first_nonzero : (rs : List HouseReply) (dn : List Asked) (s : State) (marks : List Mark) (closed : List ℕ) (k : ℕ) → StandsFor rs dn s marks closed → IsFirst k s.leaving → k ≢ 0
 first_nonzero rs dn s marks closed k st first e = true_false (sym (first_out rs dn s marks closed k st first) ∙ (ap (λ j. is_out (rows_of j (log s.pid rs marks))) e ∙ st.server_in))
 
 without_numbers : (k : ℕ) (cs : List ClientState) → without k (numbers cs) ≡ numbers (without_client k cs)
@@ -122,7 +123,7 @@ among_less k t xs a = elim (eqb_tells k t) [
   | inr q ↦ without_other k t xs q.1 ∙ a
 ]
 
-pub serve_closed : (rs : List HouseReply) (dn pid : ℕ) (start told : Option (List Mark)) (streams blocked held : List ℕ) (listens : Bool) (last given : ℕ) (todo : List ℕ) (s : State) (k : ℕ) → ServingBy rs dn pid start told streams blocked held listens last given todo s → IsFirst k s.leaving
+pub serve_closed : (rs : List HouseReply) (dn : List Asked) (pid : ℕ) (start told : Option (List Mark)) (streams blocked held : List ℕ) (listens : Bool) (last given : ℕ) (todo : List ℕ) (s : State) (k : ℕ) → ServingBy rs dn pid start told streams blocked held listens last given todo s → IsFirst k s.leaving
     → ServingBy rs dn pid start told (without k streams) (without k blocked) (without k held) listens last given todo (closed_by s k)
 serve_closed rs dn pid start told streams blocked held listens last given todo s k v first =
     let nz : k ≢ 0 = first_nonzero rs dn s v.journal v.closed k v.stands first in
@@ -169,8 +170,8 @@ pub first_none : (ls : List (ℕ × Option Why)) → first_of ls ≡ None → ls
 first_none [] e = refl
 first_none (l ∷ ls) e = absurd (cc)
 
-pub todo_is : (rs : List HouseReply) (dn pid : ℕ) (start told : Option (List Mark)) (streams blocked held : List ℕ) (listens : Bool) (last given : ℕ) (todo todo' : List ℕ) (s : State) → ServingBy rs dn pid start told streams blocked held listens last given todo s → todo ≡ todo' → ServingBy rs dn pid start told streams blocked held listens last given todo' s
+pub todo_is : (rs : List HouseReply) (dn : List Asked) (pid : ℕ) (start told : Option (List Mark)) (streams blocked held : List ℕ) (listens : Bool) (last given : ℕ) (todo todo' : List ℕ) (s : State) → ServingBy rs dn pid start told streams blocked held listens last given todo s → todo ≡ todo' → ServingBy rs dn pid start told streams blocked held listens last given todo' s
 todo_is rs dn pid start told streams blocked held listens last given todo todo' s v e = subst (λ x. ServingBy rs dn pid start told streams blocked held listens last given x s) e v
 
-pub told_is : (rs : List HouseReply) (dn pid : ℕ) (start told told' : Option (List Mark)) (streams blocked held : List ℕ) (listens : Bool) (last given : ℕ) (todo : List ℕ) (s : State) → ServingBy rs dn pid start told streams blocked held listens last given todo s → told' ≡ told → ServingBy rs dn pid start told' streams blocked held listens last given todo s
+pub told_is : (rs : List HouseReply) (dn : List Asked) (pid : ℕ) (start told told' : Option (List Mark)) (streams blocked held : List ℕ) (listens : Bool) (last given : ℕ) (todo : List ℕ) (s : State) → ServingBy rs dn pid start told streams blocked held listens last given todo s → told' ≡ told → ServingBy rs dn pid start told' streams blocked held listens last given todo s
 told_is rs dn pid start told told' streams blocked held listens last given todo s v e = subst (λ x. ServingBy rs dn pid start x streams blocked held listens last given todo s) (sym e) v

@@ -1,8 +1,9 @@
 -- An engine goes on by one mark of a client.
-use Rattle.std.proofs.Common.{◌≡◌, ◌≢◌, ◌+◌, ℕ, Bool, true, false, not, ◌&&◌, ◌||◌, List, [], ◌∷◌, ◌++◌, Option, None, refl, sym, ap, ◌∙◌, subst, inl, inr, cond, append-nil, arith}
+use Rattle.std.proofs.Common.{◌≡◌, ◌≢◌, ◌+◌, ℕ, Bool, true, false, not, ◌&&◌, ◌||◌, List, [], ◌∷◌, ◌++◌, Option, None, refl, sym, ap, ◌∙◌, subst, inl, inr, cond, append-nil, length, length-append}
 use Rattle.std.specs.Prelude.{filter, is_some}
 use Rattle.std.proofs.lemmas.Bool.Decides.{eqb_tells}
 use Rattle.mux_outside.specs.Streams.{among, without}
+use Rattle.mux_outside.specs.House.{Asked}
 use Rattle.mux_outside.specs.declared.house.HouseReply.{HouseReply}
 use Rattle.mux_outside.specs.declared.mark.Mark.{Mark}
 use Rattle.mux_history.specs.declared.why.Why.{Why}
@@ -14,6 +15,7 @@ use Rattle.mux_history.specs.Solo.{end_of}
 use Rattle.mux_history.specs.Journal.{bytes_of, bytes_in}
 use Rattle.mux_history.specs.Promises.{listens}
 use Rattle.mux_engine.specs.State.{ClientState, State}
+use Rattle.mux_engine.specs.Asked.{asked_of}
 use Rattle.mux_engine.specs.Step.{is_lost, at_client, is_present, waiting_in, served_in}
 use Rattle.mux_engine.specs.Stands.{log, StandsFor, AreApart, StandsAt, EachStands, ClientFits, ClientReads, IsKnown, ArePlain, not_closed, is_accepted, IsStrange}
 use Rattle.mux_engine.proofs.Fits.{out_is}
@@ -81,18 +83,19 @@ served_moved rows rows' marks k f cs false e en others stays own n apart each wa
     not_out true h = true_false (sym (stays h) ∙ e)
     not_out false h = refl
 
-pub moved : (rs : List HouseReply) (dn : ℕ) (s : State) (marks : List Mark) (closed : List ℕ) (k : ℕ) (f : ClientState → ClientState) (mark : Mark) (rows' : List Row) (loss : List (ℕ × Option Why)) (stop : Bool) (ended : Option Ended) (m : ℕ) (leaving : List (ℕ × Option Why)) (waiting : List ℕ)
+pub moved : (rs : List HouseReply) (dn : List Asked) (s : State) (marks : List Mark) (closed : List ℕ) (k : ℕ) (f : ClientState → ClientState) (mark : Mark) (rows' : List Row) (loss : List (ℕ × Option Why)) (stop : Bool) (ended : Option Ended) (m : List Asked) (leaving : List (ℕ × Option Why)) (waiting : List ℕ)
     → k ≢ 0 → StandsFor rs dn s marks closed → is_present s.clients k ≡ true → log s.pid rs (mark ∷ marks) ≡ rows' → KeepsNumber f
     → ((c : ClientState) → c.number ≡ k → StandsAt (log s.pid rs marks) marks c → StandsAt rows' (mark ∷ marks) (f c))
     → Grows k (log s.pid rs marks) rows' loss stop ended m → (is_out (rows_of k (log s.pid rs marks)) ≡ true → is_out (rows_of k rows') ≡ true)
     → IsOf k mark marks → filter (not_closed closed) loss ≡ loss → leaving ≡ s.leaving ++ loss → waiting ≡ waiting_in (at_client k f s.clients)
-    → StandsFor rs (dn + m) (record s { clients = at_client k f s.clients; leaving = leaving; waiting = waiting; listening = s.listening && not stop; ended = ended_then ended s.ended }) (mark ∷ marks) closed
+    → StandsFor rs (dn ++ m) (record s { clients = at_client k f s.clients; leaving = leaving; waiting = waiting; listening = s.listening && not stop; ended = ended_then ended s.ended }) (mark ∷ marks) closed
 moved rs dn s marks closed k f mark rows' loss stop ended m leaving waiting ne st here is n own grows stays of mine left wait =
     let rows : List Row = log s.pid rs marks in
     let same : (j : ℕ) → is_present (at_client k f s.clients) j ≡ is_present s.clients j = λ j. present_at k j f s.clients n in
     let on : is_ended rows' ≡ false → is_ended rows ≡ false = λ l. or_right (is_some ended) (is_ended rows) (sym grows.ended_is ∙ l) in
     record {
-      drawn_is = ap replies_given is ∙ (grows.draws ∙ ap (λ d. d + m) st.drawn_is);
+      drawn_is = ap replies_given is ∙ (grows.draws ∙ (ap (λ d. d + length m) st.drawn_is ∙ sym (length-append dn m)));
+      asked_is = ap asked_of is ∙ (grows.asked ∙ ap (λ d. d ++ m) st.asked_is);
       ended_is = ap (ended_then ended) st.ended_is ∙ (sym grows.end_is ∙ sym (ap end_of is));
       listening_is = ap (λ b. b && not stop) st.listening_is ∙ (both (listens rows) (not stop) ∙ (sym grows.listens_is ∙ sym (ap listens is)));
       apart = apart_at k f s.clients n st.apart;
@@ -134,15 +137,14 @@ and_true true = refl
 and_true false = refl
 
 -- the same where nothing is stopped and nothing ends
-pub moved_on : (rs : List HouseReply) (dn : ℕ) (s : State) (marks : List Mark) (closed : List ℕ) (k : ℕ) (f : ClientState → ClientState) (mark : Mark) (rows' : List Row) (loss : List (ℕ × Option Why)) (leaving : List (ℕ × Option Why)) (waiting : List ℕ)
+pub moved_on : (rs : List HouseReply) (dn : List Asked) (s : State) (marks : List Mark) (closed : List ℕ) (k : ℕ) (f : ClientState → ClientState) (mark : Mark) (rows' : List Row) (loss : List (ℕ × Option Why)) (leaving : List (ℕ × Option Why)) (waiting : List ℕ)
     → k ≢ 0 → StandsFor rs dn s marks closed → is_present s.clients k ≡ true → log s.pid rs (mark ∷ marks) ≡ rows' → KeepsNumber f
     → ((c : ClientState) → c.number ≡ k → StandsAt (log s.pid rs marks) marks c → StandsAt rows' (mark ∷ marks) (f c))
-    → Grows k (log s.pid rs marks) rows' loss false None 0 → (is_out (rows_of k (log s.pid rs marks)) ≡ true → is_out (rows_of k rows') ≡ true)
+    → Grows k (log s.pid rs marks) rows' loss false None [] → (is_out (rows_of k (log s.pid rs marks)) ≡ true → is_out (rows_of k rows') ≡ true)
     → IsOf k mark marks → filter (not_closed closed) loss ≡ loss → leaving ≡ s.leaving ++ loss → waiting ≡ waiting_in (at_client k f s.clients)
     → StandsFor rs dn (record s { clients = at_client k f s.clients; leaving = leaving; waiting = waiting }) (mark ∷ marks) closed
 moved_on rs dn s marks closed k f mark rows' loss leaving waiting ne st here is n own grows stays of mine left wait =
-    let more : StandsFor rs (dn + 0) (record s { clients = at_client k f s.clients; leaving = leaving; waiting = waiting; listening = s.listening && true }) (mark ∷ marks) closed =
-    moved rs dn s marks closed k f mark rows' loss false None 0 leaving waiting ne st here is n own grows stays of mine left wait in
-    let none : dn + 0 ≡ dn = omega arith in
-    subst (λ d. StandsFor rs d (record s { clients = at_client k f s.clients; leaving = leaving; waiting = waiting }) (mark ∷ marks) closed) none
-    (subst (λ b. StandsFor rs (dn + 0) (record s { clients = at_client k f s.clients; leaving = leaving; waiting = waiting; listening = b }) (mark ∷ marks) closed) (and_true s.listening) more)
+    let more : StandsFor rs (dn ++ []) (record s { clients = at_client k f s.clients; leaving = leaving; waiting = waiting; listening = s.listening && true }) (mark ∷ marks) closed =
+    moved rs dn s marks closed k f mark rows' loss false None [] leaving waiting ne st here is n own grows stays of mine left wait in
+    subst (λ d. StandsFor rs d (record s { clients = at_client k f s.clients; leaving = leaving; waiting = waiting }) (mark ∷ marks) closed) (append-nil dn)
+    (subst (λ b. StandsFor rs (dn ++ []) (record s { clients = at_client k f s.clients; leaving = leaving; waiting = waiting; listening = b }) (mark ∷ marks) closed) (and_true s.listening) more)

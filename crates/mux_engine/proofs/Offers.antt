@@ -6,6 +6,7 @@ use Rattle.std.proofs.lemmas.Bool.Decides.{eqb_tells}
 use Rattle.std.proofs.lemmas.List.{take-append-drop}
 use Rattle.std.proofs.lemmas.List.Folds.{list_any-append}
 use Rattle.mux_outside.specs.Streams.{among, without}
+use Rattle.mux_outside.specs.House.{Asked}
 use Rattle.mux_outside.specs.declared.house.HouseReply.{HouseReply}
 use Rattle.mux_outside.specs.declared.mark.Mark.{Mark}
 use Rattle.mux_outside.specs.declared.mark.Mark.TheVariants.{Waits, Accepts, Gets, Ends, Frees, Fails, Takes, Holds, WriteFails}
@@ -29,10 +30,10 @@ use Rattle.mux_engine.proofs.Queues.{zero_absent, queue_pending}
 use Rattle.mux_engine.proofs.Others.{mark_stream}
 use Rattle.mux_engine.proofs.Wires.{NotArrival, among_numbers, after_numbers, Next, PromiseAt, settled_other, log_out, stands_next}
 
-pub nonzero_here : (rs : List HouseReply) (dn : ℕ) (s : State) (marks : List Mark) (closed : List ℕ) (k : ℕ) → StandsFor rs dn s marks closed → is_present s.clients k ≡ true → k ≢ 0
+pub nonzero_here : (rs : List HouseReply) (dn : List Asked) (s : State) (marks : List Mark) (closed : List ℕ) (k : ℕ) → StandsFor rs dn s marks closed → is_present s.clients k ≡ true → k ≢ 0
 nonzero_here rs dn s marks closed k st here e = true_false (sym here ∙ (ap (is_present s.clients) e ∙ zero_absent (log s.pid rs marks) marks s.clients st.clients))
 
-pub accepted_here : (rs : List HouseReply) (dn : ℕ) (s : State) (marks : List Mark) (closed : List ℕ) (k : ℕ) → StandsFor rs dn s marks closed → is_present s.clients k ≡ true → is_accepted k marks ≡ true
+pub accepted_here : (rs : List HouseReply) (dn : List Asked) (s : State) (marks : List Mark) (closed : List ℕ) (k : ℕ) → StandsFor rs dn s marks closed → is_present s.clients k ≡ true → is_accepted k marks ≡ true
 accepted_here rs dn s marks closed k st here = by_accepted (is_accepted k marks) refl
   where
     by_accepted : (b : Bool) → is_accepted k marks ≡ b → b ≡ true
@@ -57,7 +58,7 @@ blocked_apart : (mark : Mark) (journal : List Mark) (t : ℕ) → mark_stream ma
 blocked_apart mark journal t ne = Rattle.mux_engine.proofs.Wires.blocked_other mark journal t ne
 
 -- a client that did not come yet has no part in a mark
-pub unseen_more : (rs : List HouseReply) (dn : ℕ) (s : State) (journal : List Mark) (closed blocked blocked' : List ℕ) (last : ℕ) (mark : Mark) → StandsFor rs dn s journal closed → NotArrival mark → (mark_stream mark ≢ 0 → is_accepted (mark_stream mark) journal ≡ true)
+pub unseen_more : (rs : List HouseReply) (dn : List Asked) (s : State) (journal : List Mark) (closed blocked blocked' : List ℕ) (last : ℕ) (mark : Mark) → StandsFor rs dn s journal closed → NotArrival mark → (mark_stream mark ≢ 0 → is_accepted (mark_stream mark) journal ≡ true)
     → ((j : ℕ) → last < j → IsUnseen journal blocked j) → ((j : ℕ) → mark_stream mark ≢ j → among j blocked' ≡ among j blocked) → (j : ℕ) → last < j → IsUnseen (mark ∷ journal) blocked' j
 unseen_more rs dn s journal closed blocked blocked' last mark st n acc unseen same j lt =
     let u : IsUnseen journal blocked j = unseen j lt in
@@ -68,7 +69,7 @@ unseen_more rs dn s journal closed blocked blocked' last mark st n acc unseen sa
     by_zero e (inl z) = let zero_is : j ≡ 0 = sym e ∙ z.1 in omega arith
     by_zero e (inr z) = let u : IsUnseen journal blocked j = unseen j lt in true_false (sym (acc z.1) ∙ (ap (λ i. is_accepted i journal) e ∙ u.not_accepted))
 
-pub plain_at : (rs : List HouseReply) (dn pid : ℕ) (s : State) (journal : List Mark) (closed : List ℕ) → s.pid ≡ pid → StandsFor rs dn s journal closed → ArePlain (log pid rs journal)
+pub plain_at : (rs : List HouseReply) (dn : List Asked) (pid : ℕ) (s : State) (journal : List Mark) (closed : List ℕ) → s.pid ≡ pid → StandsFor rs dn s journal closed → ArePlain (log pid rs journal)
 plain_at rs dn pid s journal closed e st = subst (λ p. ArePlain (log p rs journal)) e st.plain
 
 pub without_other : (k t : ℕ) (todo : List ℕ) → k ≢ t → among t (without k todo) ≡ among t todo
@@ -88,12 +89,12 @@ apart_or_left k t todo a = elim (eqb_tells k t) [
 same_number : (k : ℕ) → (k == k) ≡ true
 same_number k = eq-eqb k k refl
 
-pub record AtStream (rs : List HouseReply) (dn pid : ℕ) (s : State) (journal : List Mark) (closed : List ℕ) (k : ℕ) : Type 0 where
+pub record AtStream (rs : List HouseReply) (dn : List Asked) (pid : ℕ) (s : State) (journal : List Mark) (closed : List ℕ) (k : ℕ) : Type 0 where
   pub nonzero : k ≢ 0
   pub accepted : is_accepted k journal ≡ true
   pub queue : queue_in s.clients k ≡ pending k (log pid rs journal)
 
-pub at_stream : (rs : List HouseReply) (dn pid : ℕ) (s : State) (journal : List Mark) (closed : List ℕ) (k : ℕ) → s.pid ≡ pid → StandsFor rs dn s journal closed → is_present s.clients k ≡ true → AtStream rs dn pid s journal closed k
+pub at_stream : (rs : List HouseReply) (dn : List Asked) (pid : ℕ) (s : State) (journal : List Mark) (closed : List ℕ) (k : ℕ) → s.pid ≡ pid → StandsFor rs dn s journal closed → is_present s.clients k ≡ true → AtStream rs dn pid s journal closed k
 at_stream rs dn pid s journal closed k e st here = record {
   nonzero = nonzero_here rs dn s journal closed k st here;
   accepted = accepted_here rs dn s journal closed k st here;
@@ -101,39 +102,39 @@ at_stream rs dn pid s journal closed k e st here = record {
 }
 
 -- the stream of a client that is here is open
-pub here_open : (rs : List HouseReply) (dn pid : ℕ) (start told : Option (List Mark)) (streams blocked held : List ℕ) (listens : Bool) (last given : ℕ) (todo : List ℕ) (s : State) (k : ℕ) → ServingBy rs dn pid start told streams blocked held listens last given todo s → is_present s.clients k ≡ true → among k streams ≡ true
+pub here_open : (rs : List HouseReply) (dn : List Asked) (pid : ℕ) (start told : Option (List Mark)) (streams blocked held : List ℕ) (listens : Bool) (last given : ℕ) (todo : List ℕ) (s : State) (k : ℕ) → ServingBy rs dn pid start told streams blocked held listens last given todo s → is_present s.clients k ≡ true → among k streams ≡ true
 here_open rs dn pid start told streams blocked held listens last given todo s k v here = ap (among k) v.open_are ∙ (ap (λ b. (0 == k) || b) (among_numbers k s.clients ∙ here) ∙ or_true (0 == k))
 
 -- ---- bytes that were taken
 
-pub next_takes : (rs : List HouseReply) (dn pid : ℕ) (start told : Option (List Mark)) (streams blocked held : List ℕ) (listens : Bool) (last given : ℕ) (todo : List ℕ) (s : State) (v : ServingBy rs dn pid start told streams blocked held listens last given todo s) (k n : ℕ)
+pub next_takes : (rs : List HouseReply) (dn : List Asked) (pid : ℕ) (start told : Option (List Mark)) (streams blocked held : List ℕ) (listens : Bool) (last given : ℕ) (todo : List ℕ) (s : State) (v : ServingBy rs dn pid start told streams blocked held listens last given todo s) (k n : ℕ)
     → is_present s.clients k ≡ true → AreBytes (queue_in s.clients k) → 1 ≤ n → n ≤ length (queue_in s.clients k) → Next rs dn pid s v.journal streams blocked held last given (k ∷ todo) (Takes k (take n (queue_in s.clients k)))
 next_takes rs dn pid start told streams blocked held listens last given todo s v k n here are one fits =
     let bytes : List ℕ = queue_in s.clients k in
     let mark : Mark = Takes k (take n bytes) in
     let at : AtStream rs dn pid s v.journal v.closed k = at_stream rs dn pid s v.journal v.closed k v.pid_is v.stands here in
-    let st' : StandsFor rs dn (after s (drop dn rs) mark) (mark ∷ v.journal) v.closed = stands_next rs dn pid start told streams blocked held listens last given todo s mark v tt here in
+    let st' : StandsFor rs dn (after s (drop (length dn) rs) mark) (mark ∷ v.journal) v.closed = stands_next rs dn pid start told streams blocked held listens last given todo s mark v tt here in
     record {
       allowed = here;
       of_wire = (wire-keeps streams blocked last v.journal).write (wrote.Took n) k bytes are (omega arith) (here_open rs dn pid start told streams blocked held listens last given todo s k v here) (one, fits) v.of_wire;
       promise = record { takes = (drop n bytes, sym at.queue ∙ sym (take-append-drop n bytes)); waits = tt; open_streams = tt };
       waits = v.waits;
-      open_are = v.open_are ∙ ap (λ l. 0 ∷ l) (sym (after_numbers s (drop dn rs) mark tt));
+      open_are = v.open_are ∙ ap (λ l. 0 ∷ l) (sym (after_numbers s (drop (length dn) rs) mark tt));
       held_is = v.held_is;
-      blocked_is = λ t p. v.blocked_is t (sym (same_present s (drop dn rs) mark t tt) ∙ p);
+      blocked_is = λ t p. v.blocked_is t (sym (same_present s (drop (length dn) rs) mark t tt) ∙ p);
       failed_out = λ t w live. elim (eqb_tells k t) [
         | inl q ↦ true_false (sym w ∙ ap (λ b. elim b as (λ _. Bool) [ true ↦ false | false ↦ write_failed t v.journal ]) q.0)
         | inr q ↦ log_out pid rs mark v.journal t (v.failed_out t (sym (ap (λ b. elim b as (λ _. Bool) [ true ↦ false | false ↦ write_failed t v.journal ]) q.0) ∙ w) live)
       ];
       unseen = unseen_more rs dn s v.journal v.closed blocked blocked last mark v.stands tt (λ z. at.accepted) v.unseen (λ j ne. refl);
       settled = λ t a. let q : (k ≢ t) × (among t todo ≡ false) = apart_or_left k t todo a in
-          settled_other rs pid mark v.journal t (plain_at rs dn pid s v.journal v.closed v.pid_is v.stands) (plain_at rs dn pid (after s (drop dn rs) mark) (mark ∷ v.journal) v.closed v.pid_is st') q.0 (v.settled t q.1);
+          settled_other rs pid mark v.journal t (plain_at rs dn pid s v.journal v.closed v.pid_is v.stands) (plain_at rs dn pid (after s (drop (length dn) rs) mark) (mark ∷ v.journal) v.closed v.pid_is st') q.0 (v.settled t q.1);
     }
 
 -- ---- a stream that is blocked now
 
 -- the mark names no bytes, so it is the same whichever were handed in
-pub next_holds : (rs : List HouseReply) (dn pid : ℕ) (start told : Option (List Mark)) (streams blocked held : List ℕ) (listens : Bool) (last given : ℕ) (todo : List ℕ) (s : State) (v : ServingBy rs dn pid start told streams blocked held listens last given todo s) (k : ℕ)
+pub next_holds : (rs : List HouseReply) (dn : List Asked) (pid : ℕ) (start told : Option (List Mark)) (streams blocked held : List ℕ) (listens : Bool) (last given : ℕ) (todo : List ℕ) (s : State) (v : ServingBy rs dn pid start told streams blocked held listens last given todo s) (k : ℕ)
     → is_present s.clients k ≡ true → Next rs dn pid s v.journal streams (blocked ++ k ∷ []) (held ++ k ∷ []) last given (without k todo) (Holds k)
 next_holds rs dn pid start told streams blocked held listens last given todo s v k here =
     let mark : Mark = Holds k in
@@ -171,7 +172,7 @@ next_holds rs dn pid start told streams blocked held listens last given todo s v
 
 -- ---- a stream that failed
 
-lost_out : (rs : List HouseReply) (dn : ℕ) (s : State) (journal : List Mark) (closed : List ℕ) (k : ℕ) → k ≢ 0 → StandsFor rs dn s journal closed → s.ended ≡ None → is_out (rows_of k (log s.pid rs (WriteFails k ∷ journal))) ≡ true
+lost_out : (rs : List HouseReply) (dn : List Asked) (s : State) (journal : List Mark) (closed : List ℕ) (k : ℕ) → k ≢ 0 → StandsFor rs dn s journal closed → s.ended ≡ None → is_out (rows_of k (log s.pid rs (WriteFails k ∷ journal))) ≡ true
 lost_out rs dn s journal closed k nz st live =
     let rows : List Row = log s.pid rs journal in
     let on : is_ended rows ≡ false = sym (ended_is rs dn s journal closed st) ∙ ap is_some live in
@@ -185,20 +186,20 @@ lost_out rs dn s journal closed k nz st live =
         own_out k (Rattle.mux_engine.proofs.Goes.gone_row s.pid k rs (log s.pid rs journal)) (log s.pid rs journal) r.client_is (ap (λ f. Rattle.mux_engine.proofs.Fits.puts_out f (Rattle.mux_engine.proofs.Goes.gone_row s.pid k rs (log s.pid rs journal)).item) r.fate_is ∙ ap (Rattle.mux_engine.proofs.Fits.puts_out Rattle.mux_history.specs.Rows.Goes) r.item_is)
 
 -- the mark names no bytes here either
-pub next_write_fails : (rs : List HouseReply) (dn pid : ℕ) (start told : Option (List Mark)) (streams blocked held : List ℕ) (listens : Bool) (last given : ℕ) (todo : List ℕ) (s : State) (v : ServingBy rs dn pid start told streams blocked held listens last given todo s) (k : ℕ)
+pub next_write_fails : (rs : List HouseReply) (dn : List Asked) (pid : ℕ) (start told : Option (List Mark)) (streams blocked held : List ℕ) (listens : Bool) (last given : ℕ) (todo : List ℕ) (s : State) (v : ServingBy rs dn pid start told streams blocked held listens last given todo s) (k : ℕ)
     → is_present s.clients k ≡ true → Next rs dn pid s v.journal streams blocked held last given (without k todo) (WriteFails k)
 next_write_fails rs dn pid start told streams blocked held listens last given todo s v k here =
     let mark : Mark = WriteFails k in
     let at : AtStream rs dn pid s v.journal v.closed k = at_stream rs dn pid s v.journal v.closed k v.pid_is v.stands here in
-    let st' : StandsFor rs dn (after s (drop dn rs) mark) (mark ∷ v.journal) v.closed = stands_next rs dn pid start told streams blocked held listens last given todo s mark v tt (λ z. at.accepted) in
+    let st' : StandsFor rs dn (after s (drop (length dn) rs) mark) (mark ∷ v.journal) v.closed = stands_next rs dn pid start told streams blocked held listens last given todo s mark v tt (λ z. at.accepted) in
     record {
       allowed = λ z. at.accepted;
       of_wire = (wire-keeps streams blocked last v.journal).write wrote.Failed k (0 ∷ []) (omega arith, tt) (omega arith) (here_open rs dn pid start told streams blocked held listens last given todo s k v here) tt v.of_wire;
       promise = record { takes = tt; waits = tt; open_streams = tt };
       waits = v.waits;
-      open_are = v.open_are ∙ ap (λ l. 0 ∷ l) (sym (after_numbers s (drop dn rs) mark tt));
+      open_are = v.open_are ∙ ap (λ l. 0 ∷ l) (sym (after_numbers s (drop (length dn) rs) mark tt));
       held_is = v.held_is;
-      blocked_is = λ t p. v.blocked_is t (sym (same_present s (drop dn rs) mark t tt) ∙ p);
+      blocked_is = λ t p. v.blocked_is t (sym (same_present s (drop (length dn) rs) mark t tt) ∙ p);
       failed_out = λ t w live. elim (eqb_tells k t) [
         | inl q ↦ ap (λ i. is_out (rows_of i (log pid rs (mark ∷ v.journal)))) (sym q.1) ∙ (ap (λ p. is_out (rows_of k (log p rs (mark ∷ v.journal)))) (sym v.pid_is) ∙ lost_out rs dn s v.journal v.closed k at.nonzero v.stands live)
         | inr q ↦ log_out pid rs mark v.journal t (v.failed_out t (sym (ap (λ b. elim b as (λ _. Bool) [ true ↦ true | false ↦ write_failed t v.journal ]) q.0) ∙ w) live)
@@ -206,13 +207,13 @@ next_write_fails rs dn pid start told streams blocked held listens last given to
       unseen = unseen_more rs dn s v.journal v.closed blocked blocked last mark v.stands tt (λ z. at.accepted) v.unseen (λ j ne. refl);
       settled = λ t a. elim (eqb_tells k t) [
         | inl q ↦ inr (inr (ap (λ b. elim b as (λ _. Bool) [ true ↦ true | false ↦ write_failed t v.journal ]) q.0))
-        | inr q ↦ settled_other rs pid mark v.journal t (plain_at rs dn pid s v.journal v.closed v.pid_is v.stands) (plain_at rs dn pid (after s (drop dn rs) mark) (mark ∷ v.journal) v.closed (Rattle.mux_engine.proofs.Wires.after_pid s (drop dn rs) mark ∙ v.pid_is) st') q.1 (v.settled t (sym (without_other k t todo q.1) ∙ a))
+        | inr q ↦ settled_other rs pid mark v.journal t (plain_at rs dn pid s v.journal v.closed v.pid_is v.stands) (plain_at rs dn pid (after s (drop (length dn) rs) mark) (mark ∷ v.journal) v.closed (Rattle.mux_engine.proofs.Wires.after_pid s (drop (length dn) rs) mark ∙ v.pid_is) st') q.1 (v.settled t (sym (without_other k t todo q.1) ∙ a))
       ];
     }
 
 -- ---- a stream for which nothing waits
 
-pub serve_empty : (rs : List HouseReply) (dn pid : ℕ) (start told : Option (List Mark)) (streams blocked held : List ℕ) (listens : Bool) (last given : ℕ) (todo todo' : List ℕ) (s : State) → ServingBy rs dn pid start told streams blocked held listens last given todo s
+pub serve_empty : (rs : List HouseReply) (dn : List Asked) (pid : ℕ) (start told : Option (List Mark)) (streams blocked held : List ℕ) (listens : Bool) (last given : ℕ) (todo todo' : List ℕ) (s : State) → ServingBy rs dn pid start told streams blocked held listens last given todo s
     → ((t : ℕ) (journal : List Mark) (closed : List ℕ) → s.pid ≡ pid → StandsFor rs dn s journal closed → ((t : ℕ) → is_present s.clients t ≡ true → among t blocked ≡ is_blocked t journal) → among t todo' ≡ false → (among t todo ≡ false) ⊎ IsSettled (setting pid rs) journal t)
     → ServingBy rs dn pid start told streams blocked held listens last given todo' s
 serve_empty rs dn pid start told streams blocked held listens last given todo todo' s v h = record {

@@ -1,6 +1,7 @@
 -- A piece of a client's bytes, in rows.
-use Rattle.std.proofs.Common.{◌≡◌, ◌+◌, ℕ, Bool, true, false, not, List, [], ◌∷◌, ◌++◌, length, drop, Option, None, refl, sym, ap, ◌∙◌, subst, arith, inl, inr, cond}
+use Rattle.std.proofs.Common.{◌≡◌, ℕ, Bool, true, false, not, List, [], ◌∷◌, ◌++◌, length, drop, Option, None, refl, sym, ap, ◌∙◌, subst, inl, inr, cond}
 use Rattle.std.specs.Prelude.{is_some}
+use Rattle.mux_outside.specs.House.{Asked}
 use Rattle.mux_outside.specs.declared.house.HouseReply.{HouseReply}
 use Rattle.ssh_grammar.specs.Frames.{More}
 use Rattle.ssh_grammar.specs.Said.{Saying, Mode, InControl, Stopped, Parsed}
@@ -25,18 +26,18 @@ piece_rows pid replies k rows a bytes =
     rows_after pid replies k rows (drop (length (spoken InControl a).says) (spoken InControl (a ++ bytes)).says)
 
 -- a client whose state becomes another by these rows, and what they do to all
-pub record Moves (k : ℕ) (rows rows' : List Row) (bytes : List ℕ) (old new : ClientState) (stop : Bool) (ended : Option Ended) (n : ℕ) : Type 0 where
+pub record Moves (k : ℕ) (rows rows' : List Row) (bytes : List ℕ) (old new : ClientState) (stop : Bool) (ended : Option Ended) (asks : List Asked) : Type 0 where
   pub fits : ClientFits (rows_of k rows') new.standing new.queue
-  pub grows : Grows k rows rows' (loss_between old.standing new.standing k) stop ended n
+  pub grows : Grows k rows rows' (loss_between old.standing new.standing k) stop ended asks
   pub stays : is_lost old.standing ≡ true → new ≡ old
   pub reads : is_ended rows' ≡ false → ClientReads bytes new
 
 -- the same for a client whose bytes change nothing
-still : (k : ℕ) (rows rows' : List Row) (bytes : List ℕ) (c : ClientState) → rows' ≡ rows → ClientFits (rows_of k rows) c.standing c.queue → ClientReads bytes c → Moves k rows rows' bytes c c false None 0
+still : (k : ℕ) (rows rows' : List Row) (bytes : List ℕ) (c : ClientState) → rows' ≡ rows → ClientFits (rows_of k rows) c.standing c.queue → ClientReads bytes c → Moves k rows rows' bytes c c false None []
 still k rows rows' bytes c same fits reads =
-    subst (λ (l : List Row). Moves k rows l bytes c c false None 0) (sym same) record {
+    subst (λ (l : List Row). Moves k rows l bytes c c false None []) (sym same) record {
       fits = fits;
-      grows = subst (λ l. Grows k rows rows l false None 0) (sym (loss_same c.standing k)) (grows_none k rows);
+      grows = subst (λ l. Grows k rows rows l false None []) (sym (loss_same c.standing k)) (grows_none k rows);
       stays = λ h. refl;
       reads = λ l. reads;
     }
@@ -66,7 +67,7 @@ rest_more : (a bytes : List ℕ) (mode : Mode) → (spoken InControl a).mode ≡
 rest_more a bytes mode e = ap (λ (p : Parsed). p.rest) (spoken-append InControl a bytes) ∙ ap (λ m. (spoken m ((spoken InControl a).rest ++ bytes)).rest) e
 
 unread_moves : (pid k : ℕ) (replies : List HouseReply) (bytes a : List ℕ) (rows : List Row) (c : ClientState) (s : Standing) → c.standing ≡ s → is_read s ≡ false → is_ended rows ≡ false → ClientFits (rows_of k rows) c.standing c.queue → ClientReads a c
-    → Moves k rows (piece_rows pid replies k rows a bytes) (a ++ bytes) c c false None 0
+    → Moves k rows (piece_rows pid replies k rows a bytes) (a ++ bytes) c c false None []
 unread_moves pid k replies bytes a rows c Awaited e u live fits reads = absurd (cc)
 unread_moves pid k replies bytes a rows c Greeted e u live fits reads = absurd (cc)
 unread_moves pid k replies bytes a rows c Unread e u live fits reads =
@@ -117,12 +118,11 @@ read_moves pid k replies bytes a rows c read number live plain fits reads =
     let rest : (spoken InControl a).rest ≡ c.rest = sym (reads.rest_is read) in
     let r : Reads pid more (unheard c) p = reads_on_from pid more (unheard c) (c.rest ++ bytes) (read_at c.standing None read) in
     let xs : drop (length (spoken InControl a).says) (spoken InControl (a ++ bytes)).says ≡ p.says = says_more a bytes InControl mode ∙ ap (λ (l : List ℕ). (spoken InControl (l ++ bytes)).says) rest in
-    let all : Heeds k rows (rows_after pid replies k rows p.says) c.standing h (0 + asks_all pid more p.says (unheard c)) =
-    says_all pid k replies p.says more rows rows c.standing (unheard c) 0 (read_here c.standing read) refl r.reached (heeds_start k rows c number live plain fits) in
-    let sum : 0 + asks_all pid more p.says (unheard c) ≡ asks_all pid more p.says (unheard c) = omega arith in
+    let all : Heeds k rows (rows_after pid replies k rows p.says) c.standing h ([] ++ asks_all pid more p.says (unheard c)) =
+    says_all pid k replies p.says more rows rows c.standing (unheard c) [] (read_here c.standing read) refl r.reached (heeds_start k rows c number live plain fits) in
     subst (λ (l : List Saying). Moves k rows (rows_after pid replies k rows l) (a ++ bytes) c (after_heeded p.rest h) h.stops h.ended (asks_all pid more p.says (unheard c))) (sym xs) record {
       fits = all.fits;
-      grows = subst (λ m. Grows k rows (rows_after pid replies k rows p.says) (loss_between c.standing h.standing k) h.stops h.ended m) sum all.grows;
+      grows = all.grows;
       stays = λ l. absurd (let w : true ≡ false = sym l ∙ read_here c.standing read in cc);
       reads = λ on. record {
         mode_is = subst (IsReadIn h.standing) (sym (mode_more a bytes InControl mode ∙ ap (λ (l : List ℕ). (spoken InControl (l ++ bytes)).mode) rest)) (goes_in h.standing h.ended p.mode (sym all.live ∙ on) r.after);
@@ -149,7 +149,7 @@ got_moves pid k replies bytes a rows c number live plain fits reads = by_read (i
         (cond b (after_heeded p.rest (cond b (client_all pid more p.says (unheard c)) (unheard c))) c)
         (cond b (client_all pid more p.says (unheard c)) (unheard c)).stops
         (cond b (client_all pid more p.says (unheard c)) (unheard c)).ended
-        (cond b (asks_all pid more p.says (unheard c)) 0)
+        (cond b (asks_all pid more p.says (unheard c)) [])
     by_read true e = read_moves pid k replies bytes a rows c e number live plain fits reads
     by_read false e = unread_moves pid k replies bytes a rows c c.standing refl e live fits reads
 

@@ -1,9 +1,10 @@
 -- What waits for each stream, and what an event leaves alone.
-use Rattle.std.proofs.Common.{◌≡◌, ◌≢◌, ℕ, Bool, true, false, not, ◌||◌, List, [], ◌∷◌, ◌++◌, length, Some, None, refl, sym, ap, ◌∙◌, subst, inl, inr, cond, Result, Ok, Err, OnOk}
+use Rattle.std.proofs.Common.{◌≡◌, ◌≢◌, ℕ, Bool, true, false, not, ◌||◌, List, [], ◌∷◌, ◌++◌, length, Some, None, refl, sym, ap, ◌∙◌, subst, inl, inr, cond, Result, Ok, Err, OnOk, Option}
 use Rattle.std.specs.Prelude.{◌==◌, is_some, nat_lt}
 use Rattle.std.proofs.lemmas.Bool.{eqb-true}
 use Rattle.std.proofs.lemmas.Bool.Decides.{eqb_tells}
 use Rattle.mux_outside.specs.Streams.{among}
+use Rattle.mux_outside.specs.House.{Asked}
 use Rattle.mux_outside.specs.declared.house.HouseReply.{HouseReply}
 use Rattle.mux_outside.specs.declared.mark.Mark.{Mark}
 use Rattle.mux_history.specs.declared.ended.Ended.{Ended}
@@ -28,14 +29,14 @@ pub zero_absent : (rows : List Row) (marks : List Mark) (cs : List ClientState) 
 zero_absent rows marks [] each = refl
 zero_absent rows marks (c ∷ cs) each = ap (λ b. cond b true (is_present cs 0)) (test_other c.number 0 each.0.nonzero) ∙ zero_absent rows marks cs each.1
 
-client_pending : (rs : List HouseReply) (dn : ℕ) (s : State) (marks : List Mark) (closed : List ℕ) (k : ℕ) (here : Bool) → is_present s.clients k ≡ here → k ≢ 0 → StandsFor rs dn s marks closed → among k closed ≡ false → queue_in s.clients k ≡ pending_down (rows_of k (log s.pid rs marks))
+client_pending : (rs : List HouseReply) (dn : List Asked) (s : State) (marks : List Mark) (closed : List ℕ) (k : ℕ) (here : Bool) → is_present s.clients k ≡ here → k ≢ 0 → StandsFor rs dn s marks closed → among k closed ≡ false → queue_in s.clients k ≡ pending_down (rows_of k (log s.pid rs marks))
 client_pending rs dn s marks closed k true h nz st c =
     let w : Found (log s.pid rs marks) marks k s.clients = found (log s.pid rs marks) marks k s.clients st.clients h in
     w.queue ∙ (w.stands.fits.queue_is ∙ ap (λ j. pending_down (rows_of j (log s.pid rs marks))) w.number)
 client_pending rs dn s marks closed k false h nz st c = look_none [] (λ c. c.queue) k s.clients h ∙ sym (ap pending_down (st.absent k nz h c))
 
 -- what waits for a stream that is not closed is pending
-pub queue_pending : (rs : List HouseReply) (dn : ℕ) (s : State) (marks : List Mark) (closed : List ℕ) (k : ℕ) → StandsFor rs dn s marks closed → among k closed ≡ false → queue_in s.clients k ≡ pending k (log s.pid rs marks)
+pub queue_pending : (rs : List HouseReply) (dn : List Asked) (s : State) (marks : List Mark) (closed : List ℕ) (k : ℕ) → StandsFor rs dn s marks closed → among k closed ≡ false → queue_in s.clients k ≡ pending k (log s.pid rs marks)
 queue_pending rs dn s marks closed k st c = elim (eqb_tells k 0) [
   | inl q ↦ look_none [] (λ c. c.queue) k s.clients (ap (is_present s.clients) q.1 ∙ zero_absent (log s.pid rs marks) marks s.clients st.clients)
       ∙ (sym (nothing_up (log s.pid rs marks) st.plain) ∙ sym (ap (λ b. elim b as (λ _. List ℕ) [ true ↦ pending_up (log s.pid rs marks) | false ↦ pending_down (rows_of k (log s.pid rs marks)) ]) q.0))
@@ -63,7 +64,7 @@ pub waits_among : (k : ℕ) (cs : List ClientState) → AreApart cs → among k 
 waits_among k [] apart = refl
 waits_among k (c ∷ cs) apart = waits_head k c cs (c.number == k) (is_empty c.queue) refl refl (λ t. none_waits k cs (ap (is_present cs) (sym (eqb-true c.number k t)) ∙ apart.0)) (waits_among k cs apart.1)
 
-pub waits_output : (rs : List HouseReply) (dn : ℕ) (s : State) (marks : List Mark) (closed : List ℕ) (k : ℕ) → StandsFor rs dn s marks closed → among k closed ≡ false → among k s.waiting ≡ has_output (log s.pid rs marks) k
+pub waits_output : (rs : List HouseReply) (dn : List Asked) (s : State) (marks : List Mark) (closed : List ℕ) (k : ℕ) → StandsFor rs dn s marks closed → among k closed ≡ false → among k s.waiting ≡ has_output (log s.pid rs marks) k
 waits_output rs dn s marks closed k st c = ap (among k) st.waiting_is ∙ (waits_among k s.clients st.apart ∙ ap (λ q. not (is_empty q)) (queue_pending rs dn s marks closed k st c))
 
 -- ---- the other clients
@@ -119,5 +120,9 @@ pub on_ok : {T E P Q : Type 0} (r : Result T E) → (P → Q) → OnOk r P → O
 on_ok (Ok x) f p = f p
 on_ok (Err e) f p = tt
 
-pub same_steps : (May : HouseReply → Type 0) (old new : State) (e : Event) (mark : Mark) (j : ℕ) → Tells e mark → client_of e ≢ j → Steps May old new mark → SameClient j old new
-same_steps May old new e mark j t ne steps = subst (SameClient j old) (sym (steps.state [])) (same_after old (steps.given ++ []) e mark j t ne)
+pub on_all : {T E Q : Type 0} (r : Result T E) → Q → OnOk r Q
+on_all (Ok x) q = q
+on_all (Err e) q = tt
+
+pub same_steps : (May : HouseReply → Type 0) (before now : Option (List Asked)) (old new : State) (e : Event) (mark : Mark) (j : ℕ) → Tells e mark → client_of e ≢ j → Steps May before now old new mark → SameClient j old new
+same_steps May before now old new e mark j t ne steps = subst (SameClient j old) (sym (steps.state [])) (same_after old (steps.given ++ []) e mark j t ne)

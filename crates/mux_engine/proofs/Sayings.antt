@@ -1,6 +1,7 @@
 -- The rows of all that a client says by one more piece.
-use Rattle.std.proofs.Common.{◌≡◌, ◌≤◌, ◌-◌, ◌+◌, ℕ, zero, suc, Bool, true, false, ◌&&◌, ◌||◌, not, List, [], ◌∷◌, ◌++◌, length, drop, map, Option, Some, None, refl, sym, ap, ◌∙◌, subst, arith, inl, inr, ◌⊎◌, cond, append-nil}
+use Rattle.std.proofs.Common.{◌≡◌, ◌≤◌, ◌-◌, ◌+◌, ℕ, zero, suc, Bool, true, false, ◌&&◌, ◌||◌, not, List, [], ◌∷◌, ◌++◌, length, drop, map, Option, Some, None, refl, sym, ap, ◌∙◌, subst, arith, inl, inr, ◌⊎◌, cond, append-nil, append_assoc, length-append}
 use Rattle.std.specs.Prelude.{is_some}
+use Rattle.mux_outside.specs.House.{Asked}
 use Rattle.mux_outside.specs.declared.house.HouseReply.{HouseReply}
 use Rattle.ssh_grammar.specs.declared.fault.BadFrame.{BadFrame}
 use Rattle.ssh_grammar.specs.Frames.{Front, Frame, More, Faulty}
@@ -20,12 +21,14 @@ use Rattle.mux_history.specs.Promises.{stops}
 use Rattle.mux_engine.specs.declared.client.Standing.{Standing}
 use Rattle.mux_engine.specs.declared.client.Standing.TheVariants.{Awaited, Greeted, Unread, Lost}
 use Rattle.mux_engine.specs.State.{ClientState}
+use Rattle.mux_engine.specs.Asked.{saying_asks}
 use Rattle.mux_engine.specs.Answer as say
-use Rattle.mux_engine.specs.Heeded.{is_lost, is_read, is_greeted, standing_after, Heeded, unheard, end_in, heeded, client_said, asks_in, later_replies, reply_if, left_if, client_all, count_if, asks_all}
+use Rattle.mux_engine.specs.Heeded.{is_lost, is_read, is_greeted, standing_after, Heeded, unheard, end_in, heeded, client_said, asks_in, later_replies, reply_if, left_if, client_all, asks_next, asks_all}
 use Rattle.mux_engine.specs.Step.{loss_between, loss_in}
 use Rattle.mux_engine.specs.Stands.{setting, ArePlain, ClientFits, IsPlainItem}
 use Rattle.mux_engine.proofs.Says.{SaysRow, says_is, given_to, NoPayload, NotRefused, fine_answer}
 use Rattle.mux_engine.proofs.Fits.{fine_with, says_fits, out_is}
+use Rattle.mux_engine.proofs.Asks.{count_if, and_last, none_asks, asks_count, next_count}
 use Rattle.mux_engine.proofs.Grows.{Grows, grows_none, grows_on, grows_row, loss_of, own_row, end_by, ended_then}
 use Rattle.mux_engine.proofs.Spoken.{spoken-at, spoken-append}
 
@@ -111,7 +114,7 @@ replies_said k x false replies = refl
 -- ---- what is kept while a client is heard
 
 -- of a client that stood so before these rows, and stands so after those
-pub record Heeds (k : ℕ) (rows rows' : List Row) (s : Standing) (h : Heeded) (n : ℕ) : Type 0 where
+pub record Heeds (k : ℕ) (rows rows' : List Row) (s : Standing) (h : Heeded) (n : List Asked) : Type 0 where
   pub number : h.number ≡ k
   pub fits : ClientFits (rows_of k rows') h.standing h.queue
   pub grows : Grows k rows rows' (loss_between s h.standing k) h.stops h.ended n
@@ -119,11 +122,11 @@ pub record Heeds (k : ℕ) (rows rows' : List Row) (s : Standing) (h : Heeded) (
   pub reading : is_read h.standing ≡ true → h.ended ≡ None
   pub plain : ArePlain rows'
 
-pub heeds_start : (k : ℕ) (rows : List Row) (c : ClientState) → c.number ≡ k → is_ended rows ≡ false → ArePlain rows → ClientFits (rows_of k rows) c.standing c.queue → Heeds k rows rows c.standing (unheard c) 0
+pub heeds_start : (k : ℕ) (rows : List Row) (c : ClientState) → c.number ≡ k → is_ended rows ≡ false → ArePlain rows → ClientFits (rows_of k rows) c.standing c.queue → Heeds k rows rows c.standing (unheard c) []
 heeds_start k rows c number live plain fits = record {
   number = number;
   fits = fits;
-  grows = subst (λ l. Grows k rows rows l false None 0) (sym (loss_same c.standing k)) (grows_none k rows);
+  grows = subst (λ l. Grows k rows rows l false None []) (sym (loss_same c.standing k)) (grows_none k rows);
   live = live;
   reading = λ e. refl;
   plain = plain;
@@ -159,8 +162,8 @@ asks_here : (h : Heeded) (x : Saying) (g b : Bool) → is_read h.standing ≡ b 
 asks_here h x g b e t i = ap (λ (a : Bool). a && (is_greeted h.standing && say.asks x)) (e ∙ t) ∙ ap (λ a. a && say.asks x) (sym i)
 
 -- a client that is read
-says_read : (pid k : ℕ) (replies : List HouseReply) (x : Saying) (rows rows' : List Row) (s : Standing) (h : Heeded) (n : ℕ) → is_lost s ≡ false → is_read h.standing ≡ true → NoPayload x → Heeds k rows rows' s h n
-    → Heeds k rows (next_rows pid replies rows' k x) s (client_said pid (reply_if (asks_in h x) (drop (replies_given rows') replies)) x h) (n + count_if (asks_in h x))
+says_read : (pid k : ℕ) (replies : List HouseReply) (x : Saying) (rows rows' : List Row) (s : Standing) (h : Heeded) (n : List Asked) → is_lost s ≡ false → is_read h.standing ≡ true → NoPayload x → Heeds k rows rows' s h n
+    → Heeds k rows (next_rows pid replies rows' k x) s (client_said pid (reply_if (asks_in h x) (drop (replies_given rows') replies)) x h) (n ++ asks_next (drop (replies_given rows') replies) h x)
 says_read pid k replies x rows rows' s h n unlost read np it =
     let own : List Row = rows_of k rows' in
     let here : is_lost h.standing ≡ false = read_here h.standing read in
@@ -185,32 +188,36 @@ says_read pid k replies x rows rows' s h n unlost read np it =
     ∙ ap (λ (b : Bool). heeded x (say.answer pid k given b x) h) (sym greets))) in
     let mine : rows_of row.client rows' ≡ own = ap (λ j. rows_of j rows') r.is.client_is in
     let stop : stops row (rows_of row.client rows') ≡ (goes f && (is_greeted h.standing && say.stops x)) = says_stops k x given row (rows_of row.client rows') f (is_greeted h.standing) np r.is.item_is fate (ap greeted mine ∙ greets) in
-    let replied : has_reply (Says k x given) ≡ asks_in h x = replies_said k x (greeted own && say.asks x) (drop (replies_given rows') replies) ∙ sym asked in
+    let more : List HouseReply = drop (replies_given rows') replies in
+    let counted : length (saying_asks k x given) ≡ count_if (has_reply (Says k x given)) = asks_count k x (greeted own && say.asks x) more (and_last (greeted own) (say.asks x)) ∙ ap count_if (sym (replies_said k x (greeted own && say.asks x) more)) in
+    let asks : saying_asks k x given ≡ asks_next more h x = ap (λ j. saying_asks j x given) (sym it.number) ∙ ap (λ b. saying_asks h.number x (reply_if b more)) (sym asked) in
     let is' : Rattle.mux_engine.proofs.RowFacts.RowIs (Says k x given) k (fitting (waiting_down own) o.told) f row = record { item_is = r.is.item_is; client_is = r.is.client_is; up_is = r.is.up_is; farewell_is = r.is.farewell_is; down_is = r.is.down_is; fate_is = fate } in
-    let one = grows_row k (Says k x given) (fitting (waiting_down own) o.told) f row rows' (goes f && (is_greeted h.standing && say.stops x)) (asks_in h x) is' (plain_says k x given np) tt fine stop replied in
-    let two = subst (λ l. Grows k rows' (row ∷ rows') l (goes f && (is_greeted h.standing && say.stops x)) (end_by f) (count_if (asks_in h x))) (says_loss f k x given h.standing fine here) one in
-    let all = grows_on k rows rows' (row ∷ rows') (loss_between s h.standing k) (loss_between h.standing new.standing k) (loss_between s new.standing k) h.stops (goes f && (is_greeted h.standing && say.stops x)) h.ended (end_by f) n (count_if (asks_in h x)) it.grows two (loss_joins s h.standing new.standing k unlost here) in
-    subst (λ (l : List Row). Heeds k rows l s (client_said pid (reply_if (asks_in h x) (drop (replies_given rows') replies)) x h) (n + count_if (asks_in h x))) (sym (more_yes (setting pid replies) rows' (Says k x None) (next_live rows' (Says k x None) on ∙ ap not out)))
-    (subst (λ (z : Heeded). Heeds k rows (row ∷ rows') s z (n + count_if (asks_in h x))) (sym said) record {
+    let one = grows_row k (Says k x given) (fitting (waiting_down own) o.told) f row rows' (goes f && (is_greeted h.standing && say.stops x)) is' (plain_says k x given np) tt fine stop counted in
+    let two = subst (λ l. Grows k rows' (row ∷ rows') l (goes f && (is_greeted h.standing && say.stops x)) (end_by f) (asks_next more h x)) (says_loss f k x given h.standing fine here)
+    (subst (Grows k rows' (row ∷ rows') (loss_of f (Says k x given) k) (goes f && (is_greeted h.standing && say.stops x)) (end_by f)) asks one) in
+    let all = grows_on k rows rows' (row ∷ rows') (loss_between s h.standing k) (loss_between h.standing new.standing k) (loss_between s new.standing k) h.stops (goes f && (is_greeted h.standing && say.stops x)) h.ended (end_by f) n (asks_next more h x) it.grows two (loss_joins s h.standing new.standing k unlost here) in
+    subst (λ (l : List Row). Heeds k rows l s (client_said pid (reply_if (asks_in h x) (drop (replies_given rows') replies)) x h) (n ++ asks_next (drop (replies_given rows') replies) h x)) (sym (more_yes (setting pid replies) rows' (Says k x None) (next_live rows' (Says k x None) on ∙ ap not out)))
+    (subst (λ (z : Heeded). Heeds k rows (row ∷ rows') s z (n ++ asks_next (drop (replies_given rows') replies) h x)) (sym said) record {
       number = it.number;
       fits = subst (λ l. ClientFits l new.standing new.queue) (sym (own_row k row rows' r.is.client_is)) (says_fits k x given own h.standing h.queue o row here it.fits r.is);
-      grows = subst (λ (e : Option Ended). Grows k rows (row ∷ rows') (loss_between s new.standing k) new.stops e (n + count_if (asks_in h x))) (end_then f h.ended) all;
+      grows = subst (λ (e : Option Ended). Grows k rows (row ∷ rows') (loss_between s new.standing k) new.stops e (n ++ asks_next (drop (replies_given rows') replies) h x)) (end_then f h.ended) all;
       live = one.ended_is ∙ ended_some f h.ended (is_ended rows') it.live;
       reading = reads_on f x h.standing h.ended (it.reading read);
       plain = one.plain it.plain;
     })
 
 -- one that isn't
-says_unread : (pid k : ℕ) (replies : List HouseReply) (x : Saying) (rows rows' : List Row) (s : Standing) (h : Heeded) (n : ℕ) → is_read h.standing ≡ false → (is_lost h.standing ≡ true) ⊎ (is_some h.ended ≡ true) → Heeds k rows rows' s h n
-    → Heeds k rows (next_rows pid replies rows' k x) s (client_said pid (reply_if (asks_in h x) (drop (replies_given rows') replies)) x h) (n + count_if (asks_in h x))
+says_unread : (pid k : ℕ) (replies : List HouseReply) (x : Saying) (rows rows' : List Row) (s : Standing) (h : Heeded) (n : List Asked) → is_read h.standing ≡ false → (is_lost h.standing ≡ true) ⊎ (is_some h.ended ≡ true) → Heeds k rows rows' s h n
+    → Heeds k rows (next_rows pid replies rows' k x) s (client_said pid (reply_if (asks_in h x) (drop (replies_given rows') replies)) x h) (n ++ asks_next (drop (replies_given rows') replies) h x)
 says_unread pid k replies x rows rows' s h n unread out it =
     let still : more_of (setting pid replies) rows' (Says k x None) ≡ rows' = more_no (setting pid replies) rows' (Says k x None) (none out) in
     let said : client_said pid (reply_if (asks_in h x) (drop (replies_given rows') replies)) x h ≡ h =
     ap (λ b. cond b (heeded x (say.answer pid h.number (reply_if (asks_in h x) (drop (replies_given rows') replies)) (is_greeted h.standing) x) h) h) unread in
     let asked : asks_in h x ≡ false = ap (λ b. b && (is_greeted h.standing && say.asks x)) unread in
-    let count : n + count_if (asks_in h x) ≡ n = ap (λ b. n + count_if b) asked ∙ omega arith in
-    subst (λ (l : List Row). Heeds k rows l s (client_said pid (reply_if (asks_in h x) (drop (replies_given rows') replies)) x h) (n + count_if (asks_in h x))) (sym still)
-    (subst (λ (z : Heeded). Heeds k rows rows' s z (n + count_if (asks_in h x))) (sym said) (subst (λ m. Heeds k rows rows' s h m) (sym count) it))
+    let more : List HouseReply = drop (replies_given rows') replies in
+    let count : n ++ asks_next more h x ≡ n = ap (λ b. n ++ saying_asks h.number x (reply_if b more)) asked ∙ (ap (λ l. n ++ l) (none_asks h.number x) ∙ append-nil n) in
+    subst (λ (l : List Row). Heeds k rows l s (client_said pid (reply_if (asks_in h x) (drop (replies_given rows') replies)) x h) (n ++ asks_next (drop (replies_given rows') replies) h x)) (sym still)
+    (subst (λ (z : Heeded). Heeds k rows rows' s z (n ++ asks_next (drop (replies_given rows') replies) h x)) (sym said) (subst (λ m. Heeds k rows rows' s h m) (sym count) it))
   where
     none : (is_lost h.standing ≡ true) ⊎ (is_some h.ended ≡ true) → makes_next rows' (Says k x None) ≡ false
     none (inl l) = by_ended (is_ended rows') refl
@@ -220,11 +227,11 @@ says_unread pid k replies x rows rows' s h n unread out it =
         by_ended false e = next_live rows' (Says k x None) e ∙ ap not (out_is (rows_of k rows') ∙ (ap is_lost (sym it.fits.standing_is) ∙ l))
     none (inr e) = next_over rows' (Says k x None) (it.live ∙ e)
 
-says_one : (pid k : ℕ) (replies : List HouseReply) (x : Saying) (rows rows' : List Row) (s : Standing) (h : Heeded) (n : ℕ) → is_lost s ≡ false → IsReached h x → Heeds k rows rows' s h n
-    → Heeds k rows (next_rows pid replies rows' k x) s (client_said pid (reply_if (asks_in h x) (drop (replies_given rows') replies)) x h) (n + count_if (asks_in h x))
+says_one : (pid k : ℕ) (replies : List HouseReply) (x : Saying) (rows rows' : List Row) (s : Standing) (h : Heeded) (n : List Asked) → is_lost s ≡ false → IsReached h x → Heeds k rows rows' s h n
+    → Heeds k rows (next_rows pid replies rows' k x) s (client_said pid (reply_if (asks_in h x) (drop (replies_given rows') replies)) x h) (n ++ asks_next (drop (replies_given rows') replies) h x)
 says_one pid k replies x rows rows' s h n unlost reached it = by_read (is_read h.standing) refl
   where
-    by_read : (b : Bool) → is_read h.standing ≡ b → Heeds k rows (next_rows pid replies rows' k x) s (client_said pid (reply_if (asks_in h x) (drop (replies_given rows') replies)) x h) (n + count_if (asks_in h x))
+    by_read : (b : Bool) → is_read h.standing ≡ b → Heeds k rows (next_rows pid replies rows' k x) s (client_said pid (reply_if (asks_in h x) (drop (replies_given rows') replies)) x h) (n ++ asks_next (drop (replies_given rows') replies) h x)
     by_read true e = says_read pid k replies x rows rows' s h n unlost e (reached.no_payload e) it
     by_read false e = says_unread pid k replies x rows rows' s h n e (reached.out e) it
 
@@ -252,19 +259,20 @@ drop_left : (n m : ℕ) (b : Bool) (replies : List HouseReply) → m ≡ n + cou
 drop_left n m true replies e = ap (λ i. drop i replies) e ∙ drop_next n replies
 drop_left n m false replies e = let same : m ≡ n = omega arith in ap (λ i. drop i replies) same
 
-pub says_all : (pid k : ℕ) (replies : List HouseReply) (xs : List Saying) (more : List HouseReply) (rows rows' : List Row) (s : Standing) (h : Heeded) (n : ℕ) → is_lost s ≡ false → more ≡ drop (replies_given rows') replies → Reached pid more h xs → Heeds k rows rows' s h n
-    → Heeds k rows (rows_after pid replies k rows' xs) s (client_all pid more xs h) (n + asks_all pid more xs h)
-says_all pid k replies [] more rows rows' s h n unlost e r it = let same : n + 0 ≡ n = omega arith in subst (λ m. Heeds k rows rows' s h m) (sym same) it
+pub says_all : (pid k : ℕ) (replies : List HouseReply) (xs : List Saying) (more : List HouseReply) (rows rows' : List Row) (s : Standing) (h : Heeded) (n : List Asked) → is_lost s ≡ false → more ≡ drop (replies_given rows') replies → Reached pid more h xs → Heeds k rows rows' s h n
+    → Heeds k rows (rows_after pid replies k rows' xs) s (client_all pid more xs h) (n ++ asks_all pid more xs h)
+says_all pid k replies [] more rows rows' s h n unlost e r it = subst (λ m. Heeds k rows rows' s h m) (sym (append-nil n)) it
 says_all pid k replies (x ∷ xs) more rows rows' s h n unlost e r it =
     let b : Bool = asks_in h x in
     let h' : Heeded = client_said pid (reply_if b more) x h in
     let rows'' : List Row = next_rows pid replies rows' k x in
-    let one : Heeds k rows rows'' s h' (n + count_if b) =
-    subst (λ (m : List HouseReply). Heeds k rows rows'' s (client_said pid (reply_if b m) x h) (n + count_if b)) (sym e) (says_one pid k replies x rows rows' s h n unlost r.0 it) in
-    let given : replies_given rows'' ≡ replies_given rows' + count_if b = let p : replies_given rows'' ≡ replies_given rows + (n + count_if b) = one.grows.draws in let q : replies_given rows' ≡ replies_given rows + n = it.grows.draws in omega arith in
+    let new : List Asked = asks_next more h x in
+    let one : Heeds k rows rows'' s h' (n ++ new) =
+    subst (λ (m : List HouseReply). Heeds k rows rows'' s (client_said pid (reply_if b m) x h) (n ++ asks_next m h x)) (sym e) (says_one pid k replies x rows rows' s h n unlost r.0 it) in
+    let given : replies_given rows'' ≡ replies_given rows' + count_if b = let p : replies_given rows'' ≡ replies_given rows + length (n ++ new) = one.grows.draws in let q : replies_given rows' ≡ replies_given rows + length n = it.grows.draws in omega (arith, length-append n new, next_count more h x) in
     let left : left_if b more ≡ drop (replies_given rows'') replies = ap (left_if b) e ∙ sym (drop_left (replies_given rows') (replies_given rows'') b replies given) in
-    let all = says_all pid k replies xs (left_if b more) rows rows'' s h' (n + count_if b) unlost left r.1 one in
-    let sum : n + count_if b + asks_all pid (left_if b more) xs h' ≡ n + (count_if b + asks_all pid (left_if b more) xs h') = omega arith in
+    let all = says_all pid k replies xs (left_if b more) rows rows'' s h' (n ++ new) unlost left r.1 one in
+    let sum : (n ++ new) ++ asks_all pid (left_if b more) xs h' ≡ n ++ (new ++ asks_all pid (left_if b more) xs h') = append_assoc n new (asks_all pid (left_if b more) xs h') in
     subst (λ m. Heeds k rows (rows_after pid replies k rows'' xs) s (client_all pid (left_if b more) xs h') m) sum all
 
 -- ---- what is read of a piece

@@ -5,6 +5,7 @@ use Rattle.std.specs.Bool.{MatchBool}
 use Rattle.std.specs.Option.{option_map}
 use Rattle.mux_outside.specs.Counts.{Rose}
 use Rattle.mux_outside.specs.Streams.{among, without}
+use Rattle.mux_outside.specs.House.{Asked}
 use Rattle.mux_outside.specs.Wire.{TurnFits, TurnFaults, StreamFault, wait_marks, open_after, blocked_after, last_after}
 use Rattle.mux_outside.specs.declared.house.HouseReply.{HouseReply}
 use Rattle.mux_outside.specs.declared.mark.Mark.{Mark}
@@ -37,7 +38,7 @@ use Rattle.mux_engine.specs.Step.{numbers, Steps, after, asked_at, over, changed
 use Rattle.mux_engine.specs.Events.{Tells, IsNext}
 use Rattle.mux_engine.specs.declared.engine.Event.{Event}
 use Rattle.mux_engine.specs.Serving.{Serving, ServingBy, Promised, PromisedBy}
-use Rattle.mux_engine.proofs.Drawn.{through, through_mark}
+use Rattle.mux_engine.proofs.Drawn.{through_untold, through_mark}
 use Rattle.mux_engine.proofs.Others.{mark_stream}
 use Rattle.mux_engine.proofs.Wires.{serve_more, serve_next, promised_of}
 use Rattle.mux_engine.proofs.Turns.{next_waits, waiting_blocked}
@@ -54,13 +55,13 @@ no_marks None = refl
 no_marks (Some m) = ap (λ (l : List Mark). Some l) (append-nil m)
 
 -- a wait was told: it is the newest mark of the journal
-waited : (rs : List HouseReply) (dn pid : ℕ) (start told : Option (List Mark)) (streams blocked held : List ℕ) (hears : Bool) (last given : ℕ) (s : State) (v : ServingBy rs dn pid start told streams blocked held hears last given [] s) → s.leaving ≡ [] → s.ended ≡ None → hears ≡ s.listening
+waited : (rs : List HouseReply) (dn : List Asked) (pid : ℕ) (start told : Option (List Mark)) (streams blocked held : List ℕ) (hears : Bool) (last given : ℕ) (s : State) (v : ServingBy rs dn pid start told streams blocked held hears last given [] s) → s.leaving ≡ [] → s.ended ≡ None → hears ≡ s.listening
     → ServingBy rs dn pid start (option_map (λ m. m ++ Waits s.waiting Read streams hears ∷ []) told) streams blocked held hears last (given + 1) [] s
 waited rs dn pid start told streams blocked held hears last given s v none live hear = serve_next rs dn pid start told (option_map (λ m. m ++ Waits s.waiting Read streams hears ∷ []) told) streams streams blocked blocked held held hears last last given (given + 1) [] [] s (Waits s.waiting Read streams hears) v tt refl
     (next_waits rs dn pid start told streams blocked held hears last given s v none live hear)
 
 -- the journal with the marks of a turn is one that a wire can give
-of_turn : (rs : List HouseReply) (dn pid : ℕ) (start told : Option (List Mark)) (streams blocked held : List ℕ) (hears : Bool) (last given : ℕ) (s : State) (v : ServingBy rs dn pid start told streams blocked held hears last given [] s) → s.leaving ≡ [] → s.ended ≡ None
+of_turn : (rs : List HouseReply) (dn : List Asked) (pid : ℕ) (start told : Option (List Mark)) (streams blocked held : List ℕ) (hears : Bool) (last given : ℕ) (s : State) (v : ServingBy rs dn pid start told streams blocked held hears last given [] s) → s.leaving ≡ [] → s.ended ≡ None
     → (t : Turn) (bytes : List ℕ) → AreBytes bytes → TurnFits t Read hears last streams blocked bytes → OfWire (open_after t streams) (blocked_after t blocked) (last_after t last) (reverse (wait_marks t s.waiting Read streams hears bytes) ++ v.journal)
 of_turn rs dn pid start told streams blocked held hears last given s v none live t bytes are fits =
     (wire-keeps streams blocked last v.journal).turn t s.waiting Read hears bytes are (waiting_blocked rs dn pid start told streams blocked held hears last given s v none live) fits v.of_wire
@@ -69,8 +70,8 @@ of_turn rs dn pid start told streams blocked held hears last given s v none live
 pub record Turned (pid : ℕ) (start told now : Option (List Mark)) (streams blocked held streams' blocked' : List ℕ) (hears : Bool) (last last' given : ℕ) (s : State) (e : Event) (before rose : ℕ) : Type 0 where
   pub mark : Mark
   pub tells : Tells e mark
-  pub serving : (rs : List HouseReply) (dn : ℕ) → ServingBy rs dn pid start told streams blocked held hears last given [] s
-      → ServingBy rs (dn + asked_at s (drop dn rs) mark) pid start now streams' blocked' held hears last' (given + 1) (numbers (after s (drop dn rs) mark).clients) (after s (drop dn rs) mark)
+  pub serving : (rs : List HouseReply) (dn : List Asked) → ServingBy rs dn pid start told streams blocked held hears last given [] s
+      → ServingBy rs (dn ++ asked_at s (drop (length dn) rs) mark) pid start now streams' blocked' held hears last' (given + 1) (numbers (after s (drop (length dn) rs) mark).clients) (after s (drop (length dn) rs) mark)
   pub failed : (more : List HouseReply) → (after s more mark).ended ≡ Some ended.ServerFailed → Rose before rose
 
 -- ---- no client's bytes make the server fail
@@ -186,15 +187,15 @@ fail_on s more k a b c d live f e = by_server (k == 0) f (sym (ap (λ t. (cond t
     by_server false f e = absurd (let w : None ≡ Some ended.ServerFailed = sym live ∙ e in cc)
 
 -- what a stream told behind a wait
-says_mark : (rs : List HouseReply) (dn pid : ℕ) (start told now : Option (List Mark)) (streams blocked held : List ℕ) (hears : Bool) (last given : ℕ) (s : State) (v : ServingBy rs dn pid start told streams blocked held hears last given [] s) → s.leaving ≡ [] → s.ended ≡ None → hears ≡ s.listening
+says_mark : (rs : List HouseReply) (dn : List Asked) (pid : ℕ) (start told now : Option (List Mark)) (streams blocked held : List ℕ) (hears : Bool) (last given : ℕ) (s : State) (v : ServingBy rs dn pid start told streams blocked held hears last given [] s) → s.leaving ≡ [] → s.ended ≡ None → hears ≡ s.listening
     → (mark : Mark) → now ≡ option_map (λ m. m ++ (Waits s.waiting Read streams hears ∷ mark ∷ [])) told → OfStream mark → among (mark_stream mark) streams ≡ true
     → OfWire streams blocked last (mark ∷ Waits s.waiting Read streams hears ∷ v.journal)
-    → ServingBy rs (dn + asked_at s (drop dn rs) mark) pid start now streams blocked held hears last (given + 1) (numbers (after s (drop dn rs) mark).clients) (after s (drop dn rs) mark)
+    → ServingBy rs (dn ++ asked_at s (drop (length dn) rs) mark) pid start now streams blocked held hears last (given + 1) (numbers (after s (drop (length dn) rs) mark).clients) (after s (drop (length dn) rs) mark)
 unfolding waited serve_next serve_more
 says_mark rs dn pid start told now streams blocked held hears last given s v none live hear mark n o found of =
     let waits : Option (List Mark) = option_map (λ m. m ++ Waits s.waiting Read streams hears ∷ []) told in
     let w : ServingBy rs dn pid start waits streams blocked held hears last (given + 1) [] s = waited rs dn pid start told streams blocked held hears last given s v none live hear in
-    serve_more rs dn (dn + asked_at s (drop dn rs) mark) pid start waits now streams streams blocked blocked held held hears last last (given + 1) (given + 1) [] (numbers (after s (drop dn rs) mark).clients) s mark w refl
+    serve_more rs dn (dn ++ asked_at s (drop (length dn) rs) mark) pid start waits now streams streams blocked blocked held held hears last last (given + 1) (given + 1) [] (numbers (after s (drop (length dn) rs) mark).clients) s mark w refl
     (n ∙ two_marks (Waits s.waiting Read streams hears) mark told) (next_says rs dn pid start waits streams blocked held hears last (given + 1) s w mark o found of)
 
 pub turned : (pid : ℕ) (start told now : Option (List Mark)) (streams blocked held : List ℕ) (hears : Bool) (last given : ℕ) (s : State) → s.leaving ≡ [] → s.ended ≡ None → hears ≡ s.listening
@@ -206,7 +207,7 @@ turned pid start told now streams blocked held hears last given s none live hear
   tells = tells;
   serving = λ rs dn v. let waits : Option (List Mark) = option_map (λ m. m ++ Waits s.waiting Read streams hears ∷ []) told in
       let w : ServingBy rs dn pid start waits streams blocked held hears last (given + 1) [] s = waited rs dn pid start told streams blocked held hears last given s v none live hear in
-      serve_more rs dn (dn + asked_at s (drop dn rs) (Accepts k)) pid start waits now streams (streams ++ k ∷ []) blocked blocked held held hears last k (given + 1) (given + 1) [] (numbers (after s (drop dn rs) (Accepts k)).clients) s (Accepts k) w refl
+      serve_more rs dn (dn ++ asked_at s (drop (length dn) rs) (Accepts k)) pid start waits now streams (streams ++ k ∷ []) blocked blocked held held hears last k (given + 1) (given + 1) [] (numbers (after s (drop (length dn) rs) (Accepts k)).clients) s (Accepts k) w refl
       (n ∙ two_marks (Waits s.waiting Read streams hears) (Accepts k) told) (next_accepts rs dn pid start waits streams blocked held hears last (given + 1) s w k fits.2 live (of_turn rs dn pid start told streams blocked held hears last given s v none live (turn.Accepted k) bytes are fits));
   failed = λ more. accept_on s more k (Rose a b) live;
 }
@@ -232,24 +233,24 @@ turned pid start told now streams blocked held hears last given s none live hear
 turned pid start told now streams blocked held hears last given s none live hear turn.NoMemory bytes e a b c d are fits n tells f = absurd tells
 
 -- it goes on with what the house replies at its mark
-pub turned_serving : (May : HouseReply → Type 0) (pid : ℕ) (start told now : Option (List Mark)) (streams blocked held streams' blocked' : List ℕ) (hears : Bool) (last last' given : ℕ) (s new : State) (e : Event) (a b : ℕ)
-    → (t : Turned pid start told now streams blocked held streams' blocked' hears last last' given s e a b) → Serving May pid start told streams blocked held hears last given [] s → Steps May s new t.mark
-    → Serving May pid start now streams' blocked' held hears last' (given + 1) (numbers new.clients) new
-turned_serving May pid start told now streams blocked held streams' blocked' hears last last' given s new e a b t v steps =
-    through_mark (λ rs dn. ServingBy rs dn pid start told streams blocked held hears last given [] s) (λ rs dn x. ServingBy rs dn pid start now streams' blocked' held hears last' (given + 1) (numbers x.clients) x) s new t.mark t.serving steps v
+pub turned_serving : (May : HouseReply → Type 0) (before mid now' : Option (List Asked)) (pid : ℕ) (start told now : Option (List Mark)) (streams blocked held streams' blocked' : List ℕ) (hears : Bool) (last last' given : ℕ) (s new : State) (e : Event) (a b : ℕ)
+    → (t : Turned pid start told now streams blocked held streams' blocked' hears last last' given s e a b) → Serving May before mid pid start told streams blocked held hears last given [] s → Steps May mid now' s new t.mark
+    → Serving May before now' pid start now streams' blocked' held hears last' (given + 1) (numbers new.clients) new
+turned_serving May before mid now' pid start told now streams blocked held streams' blocked' hears last last' given s new e a b t v steps =
+    through_mark May before mid now' (λ rs dn. ServingBy rs dn pid start told streams blocked held hears last given [] s) (λ rs dn x. ServingBy rs dn pid start now streams' blocked' held hears last' (given + 1) (numbers x.clients) x) s new t.mark t.serving steps v
 
-pub turned_promised : (May : HouseReply → Type 0) (pid : ℕ) (start told now : Option (List Mark)) (streams blocked held streams' blocked' : List ℕ) (hears : Bool) (last last' given : ℕ) (s : State) (e : Event) (a b : ℕ)
-    → Turned pid start told now streams blocked held streams' blocked' hears last last' given s e a b → Serving May pid start told streams blocked held hears last given [] s → Promised May pid start now (given + 1)
-turned_promised May pid start told now streams blocked held streams' blocked' hears last last' given s e a b t =
-    through (λ rs dn. ServingBy rs dn pid start told streams blocked held hears last given [] s) (λ rs dn. PromisedBy rs pid start now (given + 1))
-    (λ rs dn w. promised_of rs (dn + asked_at s (drop dn rs) t.mark) pid start now streams' blocked' held hears last' (given + 1) (numbers (after s (drop dn rs) t.mark).clients) (after s (drop dn rs) t.mark) (t.serving rs dn w))
+pub turned_promised : (May : HouseReply → Type 0) (before mid : Option (List Asked)) (pid : ℕ) (start told now : Option (List Mark)) (streams blocked held streams' blocked' : List ℕ) (hears : Bool) (last last' given : ℕ) (s : State) (e : Event) (a b : ℕ)
+    → Turned pid start told now streams blocked held streams' blocked' hears last last' given s e a b → Serving May before mid pid start told streams blocked held hears last given [] s → Promised May pid start now (given + 1)
+turned_promised May before mid pid start told now streams blocked held streams' blocked' hears last last' given s e a b t v =
+    through_untold (λ rs dn. ServingBy rs dn pid start told streams blocked held hears last given [] s) (λ rs dn. PromisedBy rs pid start now (given + 1))
+    (λ rs dn w. promised_of rs (dn ++ asked_at s (drop (length dn) rs) t.mark) pid start now streams' blocked' held hears last' (given + 1) (numbers (after s (drop (length dn) rs) t.mark).clients) (after s (drop (length dn) rs) t.mark) (t.serving rs dn w)) v
 
-pub turned_failed : (May : HouseReply → Type 0) (pid : ℕ) (start told now : Option (List Mark)) (streams blocked held streams' blocked' : List ℕ) (hears : Bool) (last last' given : ℕ) (s new : State) (e : Event) (a b : ℕ)
-    → (t : Turned pid start told now streams blocked held streams' blocked' hears last last' given s e a b) → Steps May s new t.mark → new.ended ≡ Some ended.ServerFailed → Rose a b
-turned_failed May pid start told now streams blocked held streams' blocked' hears last last' given s new e a b t steps over =
+pub turned_failed : (May : HouseReply → Type 0) (mid now' : Option (List Asked)) (pid : ℕ) (start told now : Option (List Mark)) (streams blocked held streams' blocked' : List ℕ) (hears : Bool) (last last' given : ℕ) (s new : State) (e : Event) (a b : ℕ)
+    → (t : Turned pid start told now streams blocked held streams' blocked' hears last last' given s e a b) → Steps May mid now' s new t.mark → new.ended ≡ Some ended.ServerFailed → Rose a b
+turned_failed May mid now' pid start told now streams blocked held streams' blocked' hears last last' given s new e a b t steps over =
     t.failed (steps.given ++ []) (sym (ap (λ (x : State). x.ended) (steps.state [])) ∙ over)
 
-pub freed : (rs : List HouseReply) (dn pid : ℕ) (start told now : Option (List Mark)) (streams blocked held : List ℕ) (hears : Bool) (last given : ℕ) (s : State) (v : ServingBy rs dn pid start told streams blocked held hears last given [] s) → s.leaving ≡ [] → s.ended ≡ None → hears ≡ s.listening
+pub freed : (rs : List HouseReply) (dn : List Asked) (pid : ℕ) (start told now : Option (List Mark)) (streams blocked held : List ℕ) (hears : Bool) (last given : ℕ) (s : State) (v : ServingBy rs dn pid start told streams blocked held hears last given [] s) → s.leaving ≡ [] → s.ended ≡ None → hears ≡ s.listening
     → (k : ℕ) → IsTrue (among k streams) × IsTrue (among k blocked) → now ≡ option_map (λ m. m ++ (Waits s.waiting Read streams hears ∷ Frees k ∷ [])) told
     → ServingBy rs dn pid start now streams (without k blocked) (without k held) hears last (given + 1) (numbers s.clients) s
 unfolding waited serve_next serve_more
@@ -258,11 +259,11 @@ freed rs dn pid start told now streams blocked held hears last given s v none li
     serve_next rs dn pid start (option_map (λ m. m ++ Waits s.waiting Read streams hears ∷ []) told) now streams streams blocked (without k blocked) held (without k held) hears last last (given + 1) (given + 1) [] (numbers s.clients) s (Frees k) w tt
     (n ∙ two_marks (Waits s.waiting Read streams hears) (Frees k) told) (next_frees rs dn pid start (option_map (λ m. m ++ Waits s.waiting Read streams hears ∷ []) told) streams blocked held hears last (given + 1) s w k fits.0 (of_turn rs dn pid start told streams blocked held hears last given s v none live (turn.Writable k) [] tt fits))
 
-pub more_given : (rs : List HouseReply) (dn pid : ℕ) (start now : Option (List Mark)) (given more : ℕ) → given ≤ more → PromisedBy rs pid start now given → PromisedBy rs pid start now more
+pub more_given : (rs : List HouseReply) (dn : List Asked) (pid : ℕ) (start now : Option (List Mark)) (given more : ℕ) → given ≤ more → PromisedBy rs pid start now given → PromisedBy rs pid start now more
 more_given rs dn pid start now given more le p = record { journal = p.journal; tells = p.tells; of_wire = p.of_wire; kept = p.kept; waits = let w : Rattle.mux_history.specs.Promises.waits_in p.journal ≤ given = p.waits in omega arith }
 
 -- a turn that tells nothing
-pub told_nothing : (rs : List HouseReply) (dn pid : ℕ) (start told now : Option (List Mark)) (streams blocked held : List ℕ) (hears : Bool) (last given : ℕ) (s : State) (v : ServingBy rs dn pid start told streams blocked held hears last given [] s) → s.leaving ≡ [] → s.ended ≡ None → hears ≡ s.listening
+pub told_nothing : (rs : List HouseReply) (dn : List Asked) (pid : ℕ) (start told now : Option (List Mark)) (streams blocked held : List ℕ) (hears : Bool) (last given : ℕ) (s : State) (v : ServingBy rs dn pid start told streams blocked held hears last given [] s) → s.leaving ≡ [] → s.ended ≡ None → hears ≡ s.listening
     → (t : Turn) (bytes : List ℕ) → TurnFits t Read hears last streams blocked bytes → now ≡ option_map (λ m. m ++ wait_marks t s.waiting Read streams hears bytes) told → IsNext None t bytes → PromisedBy rs pid start now (given + 1)
 told_nothing rs dn pid start told now streams blocked held hears last given s v none live hear (turn.Writable k) bytes fits n tells =
     promised_of rs dn pid start now streams (without k blocked) (without k held) hears last (given + 1) (numbers s.clients) s (freed rs dn pid start told now streams blocked held hears last given s v none live hear k fits n)
@@ -283,7 +284,7 @@ on_ok (Ok x) S X h f = f h
 on_ok (Err e) S X h f = h
 
 -- the same of a state that is as expected, with all clients to be offered what waits
-pub seen_turned : (rs : List HouseReply) (dn pid : ℕ) (start told : Option (List Mark)) (streams streams' blocked blocked' held : List ℕ) (listens listens' : Bool) (last last' given : ℕ) (s s' : State) → ServingBy rs dn pid start told streams blocked held listens last given (numbers s.clients) s
+pub seen_turned : (rs : List HouseReply) (dn : List Asked) (pid : ℕ) (start told : Option (List Mark)) (streams streams' blocked blocked' held : List ℕ) (listens listens' : Bool) (last last' given : ℕ) (s s' : State) → ServingBy rs dn pid start told streams blocked held listens last given (numbers s.clients) s
     → streams' ≡ streams → blocked' ≡ blocked → listens' ≡ listens → last' ≡ last → s' ≡ s → ServingBy rs dn pid start told streams' blocked' held listens' last' given (numbers s'.clients) s'
 seen_turned rs dn pid start told streams streams' blocked blocked' held listens listens' last last' given s s' v a b d e f =
     seen_same rs dn pid start told streams streams' blocked blocked' held held listens listens' last last' given (numbers s'.clients) s s' (todo_is rs dn pid start told streams blocked held listens last given (numbers s.clients) (numbers s'.clients) s v (ap (λ (t : State). numbers t.clients) (sym f))) a b refl d e f

@@ -5,6 +5,7 @@ use Rattle.std.proofs.lemmas.Bool.{eq-eqb}
 use Rattle.std.proofs.lemmas.Bool.Decides.{eqb_tells}
 use Rattle.std.proofs.lemmas.List.Elements.{All-nil, All-cons}
 use Rattle.mux_outside.specs.Streams.{among}
+use Rattle.mux_outside.specs.House.{Asked}
 use Rattle.mux_outside.specs.declared.house.HouseReply.{HouseReply}
 use Rattle.mux_outside.specs.declared.mark.Mark.{Mark}
 use Rattle.mux_outside.specs.declared.mark.Mark.TheVariants.{Waits}
@@ -71,7 +72,7 @@ kept_loss k closed (l ∷ ls) c h = elim (eqb_tells l.0 k) [
     by_kept true ih = ap (λ b. (l.0 == k) || b) ih ∙ or_true (l.0 == k)
     by_kept false ih = ih
 
-pub none_lost : (rs : List HouseReply) (dn : ℕ) (s : State) (marks : List Mark) (closed : List ℕ) (k : ℕ) → StandsFor rs dn s marks closed → s.leaving ≡ [] → is_present s.clients k ≡ true → is_out (rows_of k (log s.pid rs marks)) ≡ false
+pub none_lost : (rs : List HouseReply) (dn : List Asked) (s : State) (marks : List Mark) (closed : List ℕ) (k : ℕ) → StandsFor rs dn s marks closed → s.leaving ≡ [] → is_present s.clients k ≡ true → is_out (rows_of k (log s.pid rs marks)) ≡ false
 none_lost rs dn s marks closed k st none here = by_out (is_out (rows_of k (log s.pid rs marks))) refl
   where
     by_out : (b : Bool) → is_out (rows_of k (log s.pid rs marks)) ≡ b → b ≡ false
@@ -109,7 +110,7 @@ not_nothing : (q : List ℕ) → not (is_empty q) ≡ true → q ≢ []
 not_nothing q e z = true_false (sym e ∙ ap (λ x. not (is_empty x)) z)
 
 -- each stream that waits is blocked
-waits_blocked : (rs : List HouseReply) (dn pid : ℕ) (start told : Option (List Mark)) (streams blocked held : List ℕ) (listens : Bool) (last given : ℕ) (s : State) (v : ServingBy rs dn pid start told streams blocked held listens last given [] s) → s.leaving ≡ [] → s.ended ≡ None → (t : ℕ) → among t s.waiting ≡ true → is_blocked t v.journal ≡ true
+waits_blocked : (rs : List HouseReply) (dn : List Asked) (pid : ℕ) (start told : Option (List Mark)) (streams blocked held : List ℕ) (listens : Bool) (last given : ℕ) (s : State) (v : ServingBy rs dn pid start told streams blocked held listens last given [] s) → s.leaving ≡ [] → s.ended ≡ None → (t : ℕ) → among t s.waiting ≡ true → is_blocked t v.journal ≡ true
 waits_blocked rs dn pid start told streams blocked held listens last given s v none live t a =
     let here : is_present s.clients t ≡ true = waits_here rs dn s v.journal v.closed t v.stands a in
     let at : AtStream rs dn pid s v.journal v.closed t = at_stream rs dn pid s v.journal v.closed t v.pid_is v.stands here in
@@ -119,21 +120,21 @@ waits_blocked rs dn pid start told streams blocked held listens last given s v n
       | inr r ↦ elim r [ inl b ↦ b | inr f ↦ true_false (sym (v.failed_out t f live) ∙ (ap (λ p. is_out (rows_of t (log p rs v.journal))) (sym v.pid_is) ∙ none_lost rs dn s v.journal v.closed t v.stands none here)) ]
     ]
 
-pub waiting_blocked : (rs : List HouseReply) (dn pid : ℕ) (start told : Option (List Mark)) (streams blocked held : List ℕ) (listens : Bool) (last given : ℕ) (s : State) → ServingBy rs dn pid start told streams blocked held listens last given [] s → s.leaving ≡ [] → s.ended ≡ None → All (λ t. IsTrue (among t blocked)) s.waiting
+pub waiting_blocked : (rs : List HouseReply) (dn : List Asked) (pid : ℕ) (start told : Option (List Mark)) (streams blocked held : List ℕ) (listens : Bool) (last given : ℕ) (s : State) → ServingBy rs dn pid start told streams blocked held listens last given [] s → s.leaving ≡ [] → s.ended ≡ None → All (λ t. IsTrue (among t blocked)) s.waiting
 waiting_blocked rs dn pid start told streams blocked held listens last given s v none live = all_of (λ t. IsTrue (among t blocked)) s.waiting
     (λ t a. v.blocked_is t (waits_here rs dn s v.journal v.closed t v.stands a) ∙ waits_blocked rs dn pid start told streams blocked held listens last given s v none live t a)
 
-pub waiting_open : (rs : List HouseReply) (dn pid : ℕ) (start told : Option (List Mark)) (streams blocked held : List ℕ) (listens : Bool) (last given : ℕ) (todo : List ℕ) (s : State) → ServingBy rs dn pid start told streams blocked held listens last given todo s → All (λ t. IsTrue (among t streams)) s.waiting
+pub waiting_open : (rs : List HouseReply) (dn : List Asked) (pid : ℕ) (start told : Option (List Mark)) (streams blocked held : List ℕ) (listens : Bool) (last given : ℕ) (todo : List ℕ) (s : State) → ServingBy rs dn pid start told streams blocked held listens last given todo s → All (λ t. IsTrue (among t streams)) s.waiting
 waiting_open rs dn pid start told streams blocked held listens last given todo s v = all_of (λ t. IsTrue (among t streams)) s.waiting
     (λ t a. ap (among t) v.open_are ∙ (ap (λ b. (0 == t) || b) (among_numbers t s.clients ∙ waits_here rs dn s v.journal v.closed t v.stands a) ∙ or_true (0 == t)))
 
-pub server_open : (rs : List HouseReply) (dn pid : ℕ) (start told : Option (List Mark)) (streams blocked held : List ℕ) (listens : Bool) (last given : ℕ) (todo : List ℕ) (s : State) → ServingBy rs dn pid start told streams blocked held listens last given todo s → IsTrue (among 0 streams)
+pub server_open : (rs : List HouseReply) (dn : List Asked) (pid : ℕ) (start told : Option (List Mark)) (streams blocked held : List ℕ) (listens : Bool) (last given : ℕ) (todo : List ℕ) (s : State) → ServingBy rs dn pid start told streams blocked held listens last given todo s → IsTrue (among 0 streams)
 server_open rs dn pid start told streams blocked held listens last given todo s v = ap (among 0) v.open_are
 
-plain_here : (rs : List HouseReply) (dn pid : ℕ) (start told : Option (List Mark)) (streams blocked held : List ℕ) (listens : Bool) (last given : ℕ) (todo : List ℕ) (s : State) (v : ServingBy rs dn pid start told streams blocked held listens last given todo s) → ArePlain (log pid rs v.journal)
+plain_here : (rs : List HouseReply) (dn : List Asked) (pid : ℕ) (start told : Option (List Mark)) (streams blocked held : List ℕ) (listens : Bool) (last given : ℕ) (todo : List ℕ) (s : State) (v : ServingBy rs dn pid start told streams blocked held listens last given todo s) → ArePlain (log pid rs v.journal)
 plain_here rs dn pid start told streams blocked held listens last given todo s v = subst (λ p. ArePlain (log p rs v.journal)) v.pid_is v.stands.plain
 
-pub next_waits : (rs : List HouseReply) (dn pid : ℕ) (start told : Option (List Mark)) (streams blocked held : List ℕ) (hears : Bool) (last given : ℕ) (s : State) (v : ServingBy rs dn pid start told streams blocked held hears last given [] s) → s.leaving ≡ [] → s.ended ≡ None → hears ≡ s.listening
+pub next_waits : (rs : List HouseReply) (dn : List Asked) (pid : ℕ) (start told : Option (List Mark)) (streams blocked held : List ℕ) (hears : Bool) (last given : ℕ) (s : State) (v : ServingBy rs dn pid start told streams blocked held hears last given [] s) → s.leaving ≡ [] → s.ended ≡ None → hears ≡ s.listening
     → Next rs dn pid s v.journal streams blocked held last (given + 1) [] (Waits s.waiting Read streams hears)
 next_waits rs dn pid start told streams blocked held hears last given s v none live hear =
     let rows : List Row = log pid rs v.journal in

@@ -1,9 +1,10 @@
 -- One mark more, between a wire and an engine that serves it.
-use Rattle.std.proofs.Common.{◌≡◌, ◌≢◌, ◌<◌, ◌+◌, ℕ, Bool, true, false, not, ◌&&◌, ◌||◌, List, [], ◌∷◌, ◌++◌, length, drop, Option, Some, None, refl, sym, ap, ◌∙◌, subst, inl, inr, cond, append_assoc, arith}
+use Rattle.std.proofs.Common.{◌≡◌, ◌≢◌, ◌<◌, ℕ, Bool, true, false, not, ◌&&◌, ◌||◌, List, [], ◌∷◌, ◌++◌, length, drop, Option, Some, None, refl, sym, ap, ◌∙◌, subst, inl, inr, cond, append_assoc, arith, append-nil}
 use Rattle.std.specs.Prelude.{◌==◌, is_some, reverse, nat_lt}
 use Rattle.std.specs.Option.{option_map}
 use Rattle.std.proofs.lemmas.List.{reverse-append}
 use Rattle.mux_outside.specs.Streams.{among}
+use Rattle.mux_outside.specs.House.{Asked}
 use Rattle.mux_outside.specs.declared.house.HouseReply.{HouseReply}
 use Rattle.mux_outside.specs.declared.mark.Mark.{Mark}
 use Rattle.mux_outside.specs.declared.mark.Mark.TheVariants.{Waits, Accepts, Gets, Ends, Frees, Fails, Takes, Holds, WriteFails}
@@ -181,14 +182,14 @@ abbrev pub IsQuiet : Mark → Type 0
 IsQuiet (Gets k bytes) = ⊥
 IsQuiet mark = Unit {0}
 
-abbrev none : ℕ
-none = 0
+abbrev none : List Asked
+none = []
 
-no_more : (dn : ℕ) (b : Bool) → dn + cond b none none ≡ dn
-no_more dn true = omega arith
-no_more dn false = omega arith
+no_more : (dn : List Asked) (b : Bool) → dn ++ cond b none none ≡ dn
+no_more dn true = append-nil dn
+no_more dn false = append-nil dn
 
-pub quiet : (dn : ℕ) (s : State) (more : List HouseReply) (mark : Mark) → IsQuiet mark → dn + asked_at s more mark ≡ dn
+pub quiet : (dn : List Asked) (s : State) (more : List HouseReply) (mark : Mark) → IsQuiet mark → dn ++ asked_at s more mark ≡ dn
 quiet dn s more (Gets k bytes) q = absurd q
 quiet dn s more (Waits waiting want streams listens) q = no_more dn (is_some s.ended)
 quiet dn s more (Accepts k) q = no_more dn (is_some s.ended)
@@ -275,51 +276,51 @@ pub of_streams : (streams blocked : List ℕ) (last : ℕ) (journal : List Mark)
 of_streams streams blocked last journal of = record { lawful = of.lawful; asked = of.asked }
 
 -- what is to be shown of a mark
-pub record Next (rs : List HouseReply) (dn pid : ℕ) (s : State) (journal : List Mark) (streams blocked held : List ℕ) (last given : ℕ) (todo : List ℕ) (mark : Mark) : Type 0 where
+pub record Next (rs : List HouseReply) (dn : List Asked) (pid : ℕ) (s : State) (journal : List Mark) (streams blocked held : List ℕ) (last given : ℕ) (todo : List ℕ) (mark : Mark) : Type 0 where
   pub allowed : IsAllowed s journal mark
   pub of_wire : OfWire streams blocked last (mark ∷ journal)
   pub promise : PromiseAt rs pid journal mark
   pub waits : waits_in (mark ∷ journal) ≡ given
-  pub open_are : streams ≡ 0 ∷ numbers (after s (drop dn rs) mark).clients
+  pub open_are : streams ≡ 0 ∷ numbers (after s (drop (length dn) rs) mark).clients
   pub held_is : held ≡ blocked
-  pub blocked_is : (t : ℕ) → is_present (after s (drop dn rs) mark).clients t ≡ true → among t blocked ≡ is_blocked t (mark ∷ journal)
+  pub blocked_is : (t : ℕ) → is_present (after s (drop (length dn) rs) mark).clients t ≡ true → among t blocked ≡ is_blocked t (mark ∷ journal)
   pub failed_out : (t : ℕ) → write_failed t (mark ∷ journal) ≡ true → s.ended ≡ None → is_out (rows_of t (log pid rs (mark ∷ journal))) ≡ true
   pub unseen : (k : ℕ) → last < k → IsUnseen (mark ∷ journal) blocked k
   pub settled : (t : ℕ) → among t todo ≡ false → IsSettled (setting pid rs) (mark ∷ journal) t
 
-pub stands_next : (rs : List HouseReply) (dn pid : ℕ) (start told : Option (List Mark)) (streams blocked held : List ℕ) (listens : Bool) (last given : ℕ) (todo : List ℕ) (s : State) (mark : Mark) (v : ServingBy rs dn pid start told streams blocked held listens last given todo s)
-    → IsQuiet mark → IsAllowed s v.journal mark → StandsFor rs dn (after s (drop dn rs) mark) (mark ∷ v.journal) v.closed
+pub stands_next : (rs : List HouseReply) (dn : List Asked) (pid : ℕ) (start told : Option (List Mark)) (streams blocked held : List ℕ) (listens : Bool) (last given : ℕ) (todo : List ℕ) (s : State) (mark : Mark) (v : ServingBy rs dn pid start told streams blocked held listens last given todo s)
+    → IsQuiet mark → IsAllowed s v.journal mark → StandsFor rs dn (after s (drop (length dn) rs) mark) (mark ∷ v.journal) v.closed
 stands_next rs dn pid start told streams blocked held listens last given todo s mark v q al =
-    subst (λ x. StandsFor rs x (after s (drop dn rs) mark) (mark ∷ v.journal) v.closed) (quiet dn s (drop dn rs) mark q) (goes_on rs dn s mark v.journal v.closed v.stands al)
+    subst (λ x. StandsFor rs x (after s (drop (length dn) rs) mark) (mark ∷ v.journal) v.closed) (quiet dn s (drop (length dn) rs) mark q) (goes_on rs dn s mark v.journal v.closed v.stands al)
 
 -- with the replies of the house that the mark draws
-unfoldable pub serve_more : (rs : List HouseReply) (dn dn' pid : ℕ) (start told now : Option (List Mark)) (streams streams' blocked blocked' held held' : List ℕ) (listens : Bool) (last last' given given' : ℕ) (todo todo' : List ℕ) (s : State) (mark : Mark) (v : ServingBy rs dn pid start told streams blocked held listens last given todo s)
-    → dn + asked_at s (drop dn rs) mark ≡ dn' → now ≡ option_map (λ m. m ++ mark ∷ []) told → Next rs dn pid s v.journal streams' blocked' held' last' given' todo' mark → ServingBy rs dn' pid start now streams' blocked' held' listens last' given' todo' (after s (drop dn rs) mark)
+unfoldable pub serve_more : (rs : List HouseReply) (dn dn' : List Asked) (pid : ℕ) (start told now : Option (List Mark)) (streams streams' blocked blocked' held held' : List ℕ) (listens : Bool) (last last' given given' : ℕ) (todo todo' : List ℕ) (s : State) (mark : Mark) (v : ServingBy rs dn pid start told streams blocked held listens last given todo s)
+    → dn ++ asked_at s (drop (length dn) rs) mark ≡ dn' → now ≡ option_map (λ m. m ++ mark ∷ []) told → Next rs dn pid s v.journal streams' blocked' held' last' given' todo' mark → ServingBy rs dn' pid start now streams' blocked' held' listens last' given' todo' (after s (drop (length dn) rs) mark)
 serve_more rs dn dn' pid start told now streams streams' blocked blocked' held held' listens last last' given given' todo todo' s mark v d e n = record {
   journal = mark ∷ v.journal;
   closed = v.closed;
-  pid_is = after_pid s (drop dn rs) mark ∙ v.pid_is;
+  pid_is = after_pid s (drop (length dn) rs) mark ∙ v.pid_is;
   tells = tells_more start told now v.journal (mark ∷ []) v.tells e;
   of_wire = n.of_wire;
-  stands = subst (λ x. StandsFor rs x (after s (drop dn rs) mark) (mark ∷ v.journal) v.closed) d (goes_on rs dn s mark v.journal v.closed v.stands n.allowed);
+  stands = subst (λ x. StandsFor rs x (after s (drop (length dn) rs) mark) (mark ∷ v.journal) v.closed) d (goes_on rs dn s mark v.journal v.closed v.stands n.allowed);
   kept = kept_more rs pid v.journal mark v.kept n.promise;
   waits = n.waits;
   open_are = n.open_are;
   held_is = n.held_is;
   blocked_is = n.blocked_is;
-  failed_out = λ t w live. n.failed_out t w (after_live s (drop dn rs) mark live);
+  failed_out = λ t w live. n.failed_out t w (after_live s (drop (length dn) rs) mark live);
   unseen = n.unseen;
   settled = n.settled;
-  hears = λ h. v.hears (after_hears s (drop dn rs) mark h);
+  hears = λ h. v.hears (after_hears s (drop (length dn) rs) mark h);
 }
 
-unfoldable pub serve_next : (rs : List HouseReply) (dn pid : ℕ) (start told now : Option (List Mark)) (streams streams' blocked blocked' held held' : List ℕ) (listens : Bool) (last last' given given' : ℕ) (todo todo' : List ℕ) (s : State) (mark : Mark) (v : ServingBy rs dn pid start told streams blocked held listens last given todo s)
-    → IsQuiet mark → now ≡ option_map (λ m. m ++ mark ∷ []) told → Next rs dn pid s v.journal streams' blocked' held' last' given' todo' mark → ServingBy rs dn pid start now streams' blocked' held' listens last' given' todo' (after s (drop dn rs) mark)
+unfoldable pub serve_next : (rs : List HouseReply) (dn : List Asked) (pid : ℕ) (start told now : Option (List Mark)) (streams streams' blocked blocked' held held' : List ℕ) (listens : Bool) (last last' given given' : ℕ) (todo todo' : List ℕ) (s : State) (mark : Mark) (v : ServingBy rs dn pid start told streams blocked held listens last given todo s)
+    → IsQuiet mark → now ≡ option_map (λ m. m ++ mark ∷ []) told → Next rs dn pid s v.journal streams' blocked' held' last' given' todo' mark → ServingBy rs dn pid start now streams' blocked' held' listens last' given' todo' (after s (drop (length dn) rs) mark)
 serve_next rs dn pid start told now streams streams' blocked blocked' held held' listens last last' given given' todo todo' s mark v q e n =
-    serve_more rs dn dn pid start told now streams streams' blocked blocked' held held' listens last last' given given' todo todo' s mark v (quiet dn s (drop dn rs) mark q) e n
+    serve_more rs dn dn pid start told now streams streams' blocked blocked' held held' listens last last' given given' todo todo' s mark v (quiet dn s (drop (length dn) rs) mark q) e n
 
 -- with no memory left, what was promised stays
-pub promised_next : (rs : List HouseReply) (dn pid : ℕ) (start told now : Option (List Mark)) (streams streams' blocked blocked' held held' : List ℕ) (listens : Bool) (last last' given given' : ℕ) (todo todo' : List ℕ) (s : State) (mark : Mark) (v : ServingBy rs dn pid start told streams blocked held listens last given todo s)
+pub promised_next : (rs : List HouseReply) (dn : List Asked) (pid : ℕ) (start told now : Option (List Mark)) (streams streams' blocked blocked' held held' : List ℕ) (listens : Bool) (last last' given given' : ℕ) (todo todo' : List ℕ) (s : State) (mark : Mark) (v : ServingBy rs dn pid start told streams blocked held listens last given todo s)
     → now ≡ option_map (λ m. m ++ mark ∷ []) told → Next rs dn pid s v.journal streams' blocked' held' last' given' todo' mark → PromisedBy rs pid start now given'
 promised_next rs dn pid start told now streams streams' blocked blocked' held held' listens last last' given given' todo todo' s mark v e n = record {
   journal = mark ∷ v.journal;
@@ -329,7 +330,7 @@ promised_next rs dn pid start told now streams streams' blocked blocked' held he
   waits = let w : waits_in (mark ∷ v.journal) ≡ given' = n.waits in omega arith;
 }
 
-pub promised_of : (rs : List HouseReply) (dn pid : ℕ) (start told : Option (List Mark)) (streams blocked held : List ℕ) (listens : Bool) (last given : ℕ) (todo : List ℕ) (s : State) → ServingBy rs dn pid start told streams blocked held listens last given todo s → PromisedBy rs pid start told given
+pub promised_of : (rs : List HouseReply) (dn : List Asked) (pid : ℕ) (start told : Option (List Mark)) (streams blocked held : List ℕ) (listens : Bool) (last given : ℕ) (todo : List ℕ) (s : State) → ServingBy rs dn pid start told streams blocked held listens last given todo s → PromisedBy rs pid start told given
 promised_of rs dn pid start told streams blocked held listens last given todo s v = record {
   journal = v.journal;
   tells = v.tells;

@@ -1,5 +1,6 @@
 -- One client of an engine: what it says, and what it takes.
-use Rattle.std.specs.Prelude.{ℕ, ◌+◌, ◌||◌, ◌&&◌, Bool, true, false, List, [], ◌∷◌, ◌++◌, length, drop, if◌then◌else◌, Option, Some, None}
+use Rattle.std.specs.Prelude.{ℕ, ◌||◌, ◌&&◌, Bool, true, false, List, [], ◌∷◌, ◌++◌, length, drop, if◌then◌else◌, Option, Some, None}
+use Rattle.mux_outside.specs.House.{Asked}
 use Rattle.mux_outside.specs.declared.house.HouseReply.{HouseReply}
 use Rattle.mux_outside.specs.declared.house.HouseReply.TheVariants as reply
 use Rattle.ssh_grammar.specs.Said.{Saying, InControl}
@@ -10,6 +11,7 @@ use Rattle.mux_history.specs.Said.{Outcome}
 use Rattle.mux_history.specs.NotBuilt.{spoken}
 use Rattle.mux_history.specs.Log.{goes, fitting, overflow, fate_with}
 use Rattle.mux_engine.specs.State.{ClientState}
+use Rattle.mux_engine.specs.Asked.{saying_asks}
 use Rattle.mux_engine.specs.Answer.{answer, asks, stops, stands_by, hello}
 use Rattle.mux_engine.specs.declared.client.Standing.{Standing}
 use Rattle.mux_engine.specs.declared.client.Standing.TheVariants.{Awaited, Greeted, Unread, Lost}
@@ -107,15 +109,15 @@ client_all pid replies [] h = h
 client_all pid replies (x ∷ xs) h =
     client_all pid (left_if (asks_in h x) replies) xs (client_said pid (reply_if (asks_in h x) replies) x h)
 
--- how often the house is asked
-abbrev pub count_if : Bool → ℕ
-count_if true = 1
-count_if false = 0
+-- what the house is asked by one saying, with the next reply
+abbrev pub asks_next : List HouseReply → Heeded → Saying → List Asked
+asks_next replies h x = saying_asks h.number x (reply_if (asks_in h x) replies)
 
-abbrev pub asks_all : ℕ → List HouseReply → List Saying → Heeded → ℕ
-asks_all pid replies [] h = 0
+-- and by all that the client says
+abbrev pub asks_all : ℕ → List HouseReply → List Saying → Heeded → List Asked
+asks_all pid replies [] h = []
 asks_all pid replies (x ∷ xs) h =
-    count_if (asks_in h x) + asks_all pid (left_if (asks_in h x) replies) xs (client_said pid (reply_if (asks_in h x) replies) x h)
+    asks_next replies h x ++ asks_all pid (left_if (asks_in h x) replies) xs (client_said pid (reply_if (asks_in h x) replies) x h)
 
 -- the bytes that are left are kept while the client is read
 abbrev pub rest_if : Bool → List ℕ → List ℕ
@@ -135,10 +137,10 @@ abbrev pub client_got : ℕ → List HouseReply → List ℕ → ClientState →
 client_got pid replies bytes c =
     if is_read c.standing then after_heeded (spoken InControl (c.rest ++ bytes)).rest (client_hears pid replies bytes c) else c
 
--- how often the house is asked by them
-abbrev pub client_asks : ℕ → List HouseReply → List ℕ → ClientState → ℕ
+-- what the house is asked by them
+abbrev pub client_asks : ℕ → List HouseReply → List ℕ → ClientState → List Asked
 client_asks pid replies bytes c =
-    if is_read c.standing then asks_all pid replies (spoken InControl (c.rest ++ bytes)).says (unheard c) else 0
+    if is_read c.standing then asks_all pid replies (spoken InControl (c.rest ++ bytes)).says (unheard c) else []
 
 abbrev pub lost_client : ClientState → ClientState
 lost_client c = if is_lost c.standing then c else record c { standing = Lost None; rest = [] }

@@ -1,4 +1,5 @@
 pub mod State
+pub mod Asked
 pub mod Answer
 pub mod Heeded
 pub mod Decisions

@@ -1,6 +1,7 @@
 -- What holds between an engine and its wire while it is served.
 use Rattle.std.specs.Prelude.{◌≡◌, ◌≢◌, ◌≤◌, ◌<◌, ℕ, Bool, true, false, List, ◌∷◌, ◌++◌, length, Option, None}
 use Rattle.mux_outside.specs.Streams.{among}
+use Rattle.mux_outside.specs.House.{Asked}
 use Rattle.mux_outside.specs.declared.house.HouseReply.{HouseReply}
 use Rattle.mux_outside.specs.declared.mark.Mark.{Mark}
 use Rattle.mux_history.specs.declared.ended.Ended.{Ended}
@@ -17,6 +18,7 @@ use Rattle.mux_isolation.specs.Bounds.{IsLog}
 use Rattle.mux_isolation.specs.Bytes.{TakesAlike}
 use Rattle.mux_isolation.specs.ControlPhase.{KeepsControl}
 use Rattle.mux_engine.specs.State.{State}
+use Rattle.mux_engine.specs.Asked.{asked_of, TellsAsks}
 use Rattle.mux_engine.specs.Step.{is_present, numbers}
 use Rattle.mux_engine.specs.Stands.{setting, log, StandsFor, is_accepted}
 
@@ -40,8 +42,9 @@ pub record EndsRight (setting : Setting) (turns : ℕ) (journal : List Mark) (an
 -- only right behind a wait for that; there are fresh numbers, and replies that the house may give, one to each ask of the
 -- journal; for these all is written and kept open as it must be; what the stream of each admitted client took begins what
 -- its unshared connection gives it; the rows of the journal, also those that want of memory cut, keep all that is promised
--- of them; and the run ends right, but for want of memory
-pub record IsRun (May : HouseReply → Type 0) (pid turns : ℕ) (start told : Option (List Mark)) (answer : Ended) : Type 0 where
+-- of them; and but for want of memory the run ends right, and the house, which told `before` and tells `now`, was told
+-- exactly the asks of these rows
+pub record IsRun (May : HouseReply → Type 0) (pid turns : ℕ) (before now : Option (List Asked)) (start told : Option (List Mark)) (answer : Ended) : Type 0 where
   pub journal : List Mark
   pub picks : List ℕ
   pub replies : List HouseReply
@@ -54,15 +57,20 @@ pub record IsRun (May : HouseReply → Type 0) (pid turns : ℕ) (start told : O
   pub keeps : (rows : List Row) → IsLog (setting_with picks replies pid) journal rows → KeepsControl (setting_with picks replies pid) rows
   pub waits : waits_in journal ≤ turns
   pub asked : answer ≢ OutOfMemory → replies_given (log_of_journal (setting_with picks replies pid) journal) ≡ length replies
+  pub house : answer ≢ OutOfMemory → TellsAsks before now (asked_of (log_of_journal (setting_with picks replies pid) journal))
   pub ends : answer ≢ OutOfMemory → EndsRight (setting_with picks replies pid) turns journal answer
 
 -- ---- while it goes on
 
--- there are replies that the house may give: these come first, whatever it replies to later asks
-pub record Replied (May : HouseReply → Type 0) (P : List HouseReply → ℕ → Type 0) : Type 0 where
+-- there are replies that the house may give, one to each of the asks that it was told: these come first, whatever it
+-- replies to later asks
+pub record Replied (May : HouseReply → Type 0) (Told : List Asked → Type 0) (P : List HouseReply → List Asked → Type 0) : Type 0 where
   pub replies : List HouseReply
+  pub asks : List Asked
   pub may : MayGive May replies
-  pub at : (later : List HouseReply) → P (replies ++ later) (length replies)
+  pub each : length asks ≡ length replies
+  pub told : Told asks
+  pub at : (later : List HouseReply) → P (replies ++ later) asks
 
 -- what was promised of each mark
 pub record Kept (pid : ℕ) (replies : List HouseReply) (journal : List Mark) : Type 0 where
@@ -75,10 +83,10 @@ pub record IsUnseen (journal : List Mark) (blocked : List ℕ) (k : ℕ) : Type 
   pub never_blocked : is_blocked k journal ≡ false
   pub not_blocked : among k blocked ≡ false
 
--- with these replies, of which so many were drawn, the engine stands for what the wire told since the start, in which
--- `given` turns were asked for; the journal is one that a wire can give; the clients that are here are those whose
--- streams are open; the streams that are not in `todo` were offered what waits for them
-pub record ServingBy (replies : List HouseReply) (drawn : ℕ) (pid : ℕ) (start told : Option (List Mark)) (streams blocked held : List ℕ) (listens : Bool) (last given : ℕ) (todo : List ℕ) (s : State) : Type 0 where
+-- with these replies, of which one was drawn to each of these asks, the engine stands for what the wire told since the
+-- start, in which `given` turns were asked for; the journal is one that a wire can give; the clients that are here are
+-- those whose streams are open; the streams that are not in `todo` were offered what waits for them
+pub record ServingBy (replies : List HouseReply) (drawn : List Asked) (pid : ℕ) (start told : Option (List Mark)) (streams blocked held : List ℕ) (listens : Bool) (last given : ℕ) (todo : List ℕ) (s : State) : Type 0 where
   pub journal : List Mark
   pub closed : List ℕ
   pub pid_is : s.pid ≡ pid
@@ -95,10 +103,10 @@ pub record ServingBy (replies : List HouseReply) (drawn : ℕ) (pid : ℕ) (star
   pub settled : (t : ℕ) → among t todo ≡ false → IsSettled (setting pid replies) journal t
   pub hears : s.listening ≡ true → listens ≡ true
 
--- the same for the replies that the house gave
-abbrev pub Serving : (HouseReply → Type 0) → ℕ → Option (List Mark) → Option (List Mark) → List ℕ → List ℕ → List ℕ → Bool → ℕ → ℕ → List ℕ → State → Type 0
-Serving May pid start told streams blocked held listens last given todo s =
-    Replied May (λ replies drawn. ServingBy replies drawn pid start told streams blocked held listens last given todo s)
+-- the same for the replies that the house gave to all that it was asked since the start
+abbrev pub Serving : (HouseReply → Type 0) → Option (List Asked) → Option (List Asked) → ℕ → Option (List Mark) → Option (List Mark) → List ℕ → List ℕ → List ℕ → Bool → ℕ → ℕ → List ℕ → State → Type 0
+Serving May before now pid start told streams blocked held listens last given todo s =
+    Replied May (TellsAsks before now) (λ replies drawn. ServingBy replies drawn pid start told streams blocked held listens last given todo s)
 
 -- the same, whatever came before
 pub record IsServed (told : Option (List Mark)) (streams blocked held : List ℕ) (listens : Bool) (last : ℕ) (s : State) : Type 0 where
@@ -107,7 +115,7 @@ pub record IsServed (told : Option (List Mark)) (streams blocked held : List ℕ
   pub todo : List ℕ
   pub pid : ℕ
   pub replies : List HouseReply
-  pub drawn : ℕ
+  pub drawn : List Asked
   pub serving : ServingBy replies drawn pid start told streams blocked held listens last given todo s
 
 -- the same, with these streams still to be offered what waits for them
@@ -116,15 +124,16 @@ pub record IsServedBut (told : Option (List Mark)) (streams blocked held : List 
   pub given : ℕ
   pub pid : ℕ
   pub replies : List HouseReply
-  pub drawn : ℕ
+  pub drawn : List Asked
   pub serving : ServingBy replies drawn pid start told streams blocked held listens last given todo s
 
 -- the same for the replies that the house gave, with all clients still to be offered what waits for them
-pub record IsRunning (May : HouseReply → Type 0) (told : Option (List Mark)) (streams blocked held : List ℕ) (listens : Bool) (last : ℕ) (s : State) : Type 0 where
+pub record IsRunning (May : HouseReply → Type 0) (now : Option (List Asked)) (told : Option (List Mark)) (streams blocked held : List ℕ) (listens : Bool) (last : ℕ) (s : State) : Type 0 where
   pub start : Option (List Mark)
   pub given : ℕ
   pub pid : ℕ
-  pub serving : Serving May pid start told streams blocked held listens last given (numbers s.clients) s
+  pub before : Option (List Asked)
+  pub serving : Serving May before now pid start told streams blocked held listens last given (numbers s.clients) s
 
 -- what is left of it for want of memory
 pub record PromisedBy (replies : List HouseReply) (pid : ℕ) (start told : Option (List Mark)) (given : ℕ) : Type 0 where
@@ -135,17 +144,18 @@ pub record PromisedBy (replies : List HouseReply) (pid : ℕ) (start told : Opti
   pub waits : waits_in journal ≤ given
 
 abbrev pub Promised : (HouseReply → Type 0) → ℕ → Option (List Mark) → Option (List Mark) → ℕ → Type 0
-Promised May pid start told given = Replied May (λ replies drawn. PromisedBy replies pid start told given)
+Promised May pid start told given = Replied May (λ asks. Unit {0}) (λ replies drawn. PromisedBy replies pid start told given)
 
 -- what is known of a run that ended
-pub record RanBy (replies : List HouseReply) (drawn : ℕ) (pid turns : ℕ) (start told : Option (List Mark)) (answer : Ended) : Type 0 where
+pub record RanBy (replies : List HouseReply) (drawn : List Asked) (pid turns : ℕ) (start told : Option (List Mark)) (answer : Ended) : Type 0 where
   pub journal : List Mark
   pub tells : Tells start told journal
   pub of_wire : IsOfWire journal
   pub kept : Kept pid replies journal
   pub waits : waits_in journal ≤ turns
-  pub asked : replies_given (log pid replies journal) ≡ drawn
+  pub count : replies_given (log pid replies journal) ≡ length drawn
+  pub asked : asked_of (log pid replies journal) ≡ drawn
   pub ends : EndsRight (setting pid replies) turns journal answer
 
-abbrev pub Ran : (HouseReply → Type 0) → ℕ → ℕ → Option (List Mark) → Option (List Mark) → Ended → Type 0
-Ran May pid turns start told answer = Replied May (λ replies drawn. RanBy replies drawn pid turns start told answer)
+abbrev pub Ran : (HouseReply → Type 0) → Option (List Asked) → Option (List Asked) → ℕ → ℕ → Option (List Mark) → Option (List Mark) → Ended → Type 0
+Ran May before now pid turns start told answer = Replied May (TellsAsks before now) (λ replies drawn. RanBy replies drawn pid turns start told answer)

@@ -1,5 +1,6 @@
 -- An engine stands for a journal, the newest mark first, and for the clients that were closed: one clause a part.
 use Rattle.std.specs.Prelude.{◌≡◌, ◌≢◌, ℕ, Bool, true, false, not, List, [], ◌∷◌, ◌++◌, ◌==◌, length, filter, Option, Some, None, if◌then◌else◌}
+use Rattle.mux_outside.specs.House.{Asked}
 use Rattle.mux_outside.specs.declared.house.HouseReply.{HouseReply}
 use Rattle.ssh_grammar.specs.Said.{Mode, InControl, Stopped}
 use Rattle.mux_outside.specs.Streams.{among}
@@ -21,6 +22,7 @@ use Rattle.mux_history.specs.Promises.{listens, MayGive}
 use Rattle.mux_engine.specs.declared.client.Standing.{Standing}
 use Rattle.mux_engine.specs.declared.client.Standing.TheVariants.{Awaited, Greeted, Unread, Lost}
 use Rattle.mux_engine.specs.State.{ClientState, State}
+use Rattle.mux_engine.specs.Asked.{asked_of, TellsAsks}
 use Rattle.mux_engine.specs.Answer.{stands_by}
 use Rattle.mux_engine.specs.Step.{is_lost, is_read, is_greeted, is_present, waiting_in, served_in}
 
@@ -108,9 +110,10 @@ pub record IsStrange (s : State) (marks : List Mark) (closed : List ℕ) (k : �
   pub not_closed_yet : among k closed ≡ false
   pub no_bytes : k ≢ 0 → bytes_of k marks ≡ []
 
--- with these replies of the house, of which so many were drawn
-pub record StandsFor (replies : List HouseReply) (drawn : ℕ) (s : State) (marks : List Mark) (closed : List ℕ) : Type 0 where
-  pub drawn_is : replies_given (log s.pid replies marks) ≡ drawn
+-- with these replies of the house, of which one was drawn to each of these asks
+pub record StandsFor (replies : List HouseReply) (drawn : List Asked) (s : State) (marks : List Mark) (closed : List ℕ) : Type 0 where
+  pub drawn_is : replies_given (log s.pid replies marks) ≡ length drawn
+  pub asked_is : asked_of (log s.pid replies marks) ≡ drawn
   pub ended_is : s.ended ≡ end_of (log s.pid replies marks)
   pub listening_is : s.listening ≡ listens (log s.pid replies marks)
   pub apart : AreApart s.clients
@@ -132,11 +135,12 @@ pub record StandsFor (replies : List HouseReply) (drawn : ℕ) (s : State) (mark
   pub plain : ArePlain (log s.pid replies marks)
   pub known : (k : ℕ) → among k (entered (log s.pid replies marks)) ≡ true → IsKnown (rows_of k (log s.pid replies marks))
 
--- the house gave these replies to all that it was asked so far, and whatever it will reply to later asks, the engine
--- stands for the marks and for the clients that were closed
-abbrev pub Stands : List HouseReply → State → List Mark → List ℕ → Type 0
-Stands given s marks closed =
-    (later : List HouseReply) → StandsFor (given ++ later) (length given) s marks closed
+-- the house gave these replies to all that it was asked so far, one to each ask, and whatever it will reply to later
+-- asks, the engine stands for the marks and for the clients that were closed
+pub record Stands (given : List HouseReply) (s : State) (marks : List Mark) (closed : List ℕ) : Type 0 where
+  pub asks : List Asked
+  pub each : length asks ≡ length given
+  pub at : (later : List HouseReply) → StandsFor (given ++ later) asks s marks closed
 
 -- ---- one step more
 
@@ -152,17 +156,21 @@ IsAllowed s marks (Frees k) = Unit {0}
 IsAllowed s marks (Holds k) = Unit {0}
 IsAllowed s marks (Waits waiting want streams listens) = Unit {0}
 
--- the house gave some replies more, each of which it may give, and the engine stands for the journal with the mark
-pub record GoesBy (May : HouseReply → Type 0) (given : List HouseReply) (s : State) (marks : List Mark) (closed : List ℕ) : Type 0 where
+-- the house gave some replies more, each of which it may give, and the engine stands for the journal with the mark; the
+-- house, which told `before` and tells `now`, was told exactly these asks, which are those that the new rows have
+pub record GoesBy (May : HouseReply → Type 0) (before now : Option (List Asked)) (given : List HouseReply) (old new : State) (mark : Mark) (marks : List Mark) (closed : List ℕ) : Type 0 where
   pub more : List HouseReply
+  pub asks : List Asked
   pub may : MayGive May more
-  pub stands : Stands (given ++ more) s marks closed
+  pub stands : Stands (given ++ more) new (mark ∷ marks) closed
+  pub told : TellsAsks before now asks
+  pub asked : (later : List HouseReply) → asked_of (log new.pid ((given ++ more) ++ later) (mark ∷ marks)) ≡ asked_of (log old.pid ((given ++ more) ++ later) marks) ++ asks
 
 -- from every journal that the engine stood for, it stands afterwards for that journal with the mark
-abbrev pub GoesOn : (HouseReply → Type 0) → State → State → Mark → Type 0
-GoesOn May old new mark =
+abbrev pub GoesOn : (HouseReply → Type 0) → Option (List Asked) → Option (List Asked) → State → State → Mark → Type 0
+GoesOn May before now old new mark =
     (given : List HouseReply) (marks : List Mark) (closed : List ℕ)
-    → Stands given old marks closed → IsAllowed old marks mark → GoesBy May given new (mark ∷ marks) closed
+    → Stands given old marks closed → IsAllowed old marks mark → GoesBy May before now given old new mark marks closed
 
 -- the same where the house isn't asked
 abbrev pub GoesAlone : State → State → Mark → Type 0

@@ -1,5 +1,6 @@
 -- One step of an engine.
 use Rattle.std.specs.Prelude.{◌≡◌, ℕ, ◌&&◌, Bool, true, false, not, List, [], ◌∷◌, ◌++◌, length, filter, if◌then◌else◌, ◌==◌, suc, Option, Some, None, is_some, nat_lt}
+use Rattle.mux_outside.specs.House.{Asked}
 use Rattle.mux_outside.specs.declared.house.HouseReply.{HouseReply}
 use Rattle.mux_outside.specs.Streams.{without}
 use Rattle.mux_outside.specs.declared.mark.Mark.{Mark}
@@ -10,9 +11,10 @@ use Rattle.mux_history.specs.declared.ended.Ended.TheVariants as ended
 use Rattle.mux_history.specs.Promises.{is_empty, MayGive}
 use Rattle.mux_engine.specs.declared.client.Heard.{Heard}
 use Rattle.mux_engine.specs.State.{ClientState, State}
+use Rattle.mux_engine.specs.Asked.{TellsAsks}
 use Rattle.mux_engine.specs.declared.client.Standing.{Standing}
 use Rattle.mux_engine.specs.declared.client.Standing.TheVariants.{Lost}
-pub use Rattle.mux_engine.specs.Heeded.{is_lost, is_read, is_greeted, new_client, refused_client, standing_after, Heeded, unheard, end_in, heeded, client_said, asks_in, next_reply, later_replies, reply_if, left_if, client_all, count_if, asks_all, rest_if, after_heeded, client_hears, client_got, client_asks, lost_client, client_took}
+pub use Rattle.mux_engine.specs.Heeded.{is_lost, is_read, is_greeted, new_client, refused_client, standing_after, Heeded, unheard, end_in, heeded, client_said, asks_in, next_reply, later_replies, reply_if, left_if, client_all, asks_next, asks_all, rest_if, after_heeded, client_hears, client_got, client_asks, lost_client, client_took}
 
 -- ---- the clients
 
@@ -101,8 +103,8 @@ gained s k replies bytes = record (changed s k (client_got s.pid replies bytes))
   ended = ended_at k (client_hears s.pid replies bytes) s.clients;
 }
 
-abbrev pub gained_asks : State → ℕ → List HouseReply → List ℕ → ℕ
-gained_asks s k replies bytes = in_client 0 (client_asks s.pid replies bytes) s.clients k
+abbrev pub gained_asks : State → ℕ → List HouseReply → List ℕ → List Asked
+gained_asks s k replies bytes = in_client [] (client_asks s.pid replies bytes) s.clients k
 
 -- an event while the run goes on, with the replies of the house
 abbrev pub stepped : State → List HouseReply → Mark → State
@@ -116,10 +118,10 @@ stepped s replies (Holds k) = s
 stepped s replies (Takes k bytes) = s
 stepped s replies (Waits waiting want streams listens) = s
 
--- how often the house is asked at a mark
-abbrev pub stepped_asks : State → List HouseReply → Mark → ℕ
-stepped_asks s replies (Gets k bytes) = if k == 0 then 0 else gained_asks s k replies bytes
-stepped_asks s replies mark = 0
+-- what the house is asked at a mark while the run goes on
+abbrev pub stepped_asks : State → List HouseReply → Mark → List Asked
+stepped_asks s replies (Gets k bytes) = if k == 0 then [] else gained_asks s k replies bytes
+stepped_asks s replies mark = []
 
 -- so many bytes that a stream took
 abbrev pub taken : State → ℕ → ℕ → State
@@ -137,16 +139,19 @@ after s replies (Frees k) = s
 after s replies (Holds k) = s
 after s replies (Waits waiting want streams listens) = s
 
--- how often the house is asked at a mark
-abbrev pub asked_at : State → List HouseReply → Mark → ℕ
-asked_at s replies mark = if is_some s.ended then 0 else stepped_asks s replies mark
+-- what the house is asked at a mark
+abbrev pub asked_at : State → List HouseReply → Mark → List Asked
+asked_at s replies mark = if is_some s.ended then [] else stepped_asks s replies mark
 
--- the house was asked exactly so often, it may give what it gave, and the state is that after the mark, whatever it
--- will reply to later asks
-pub record Steps (May : HouseReply → Type 0) (old new : State) (mark : Mark) : Type 0 where
+-- the house was told exactly these asks, with a reply to each, it may give what it gave, and the state is that after the
+-- mark, whatever it will reply to later asks; `before` and `now` are what the house tells
+pub record Steps (May : HouseReply → Type 0) (before now : Option (List Asked)) (old new : State) (mark : Mark) : Type 0 where
   pub given : List HouseReply
+  pub asks : List Asked
   pub may : MayGive May given
-  pub asked : (later : List HouseReply) → asked_at old (given ++ later) mark ≡ length given
+  pub each : length asks ≡ length given
+  pub told : TellsAsks before now asks
+  pub asked : (later : List HouseReply) → asked_at old (given ++ later) mark ≡ asks
   pub state : (later : List HouseReply) → new ≡ after old (given ++ later) mark
 
 -- a client whose stream was closed
@@ -173,18 +178,24 @@ first_of [] = None
 first_of (l ∷ ls) = Some l
 
 -- one client's new bytes, among all clients: the same with what is lost by them
-pub record HearsAt (May : HouseReply → Type 0) (pid k : ℕ) (bytes : List ℕ) (old new : List ClientState) (leaving leaving' : List (ℕ × Option Why)) (heard : Heard) : Type 0 where
+pub record HearsAt (May : HouseReply → Type 0) (before now : Option (List Asked)) (pid k : ℕ) (bytes : List ℕ) (old new : List ClientState) (leaving leaving' : List (ℕ × Option Why)) (heard : Heard) : Type 0 where
   pub given : List HouseReply
+  pub asks : List Asked
   pub may : MayGive May given
-  pub asked : (later : List HouseReply) → in_client 0 (client_asks pid (given ++ later) bytes) old k ≡ length given
+  pub each : length asks ≡ length given
+  pub told : TellsAsks before now asks
+  pub asked : (later : List HouseReply) → in_client [] (client_asks pid (given ++ later) bytes) old k ≡ asks
   pub clients : (later : List HouseReply) → new ≡ at_client k (client_got pid (given ++ later) bytes) old
   pub lost : (later : List HouseReply) → leaving' ≡ leaving ++ loss_at k (client_got pid (given ++ later) bytes) old
   pub stops : (later : List HouseReply) → heard.stops ≡ stops_at k (client_hears pid (given ++ later) bytes) old
   pub ended : (later : List HouseReply) → heard.ended ≡ ended_at k (client_hears pid (given ++ later) bytes) old
 
 -- the same of the whole state
-pub record Gains (May : HouseReply → Type 0) (old new : State) (k : ℕ) (bytes : List ℕ) : Type 0 where
+pub record Gains (May : HouseReply → Type 0) (before now : Option (List Asked)) (old new : State) (k : ℕ) (bytes : List ℕ) : Type 0 where
   pub given : List HouseReply
+  pub asks : List Asked
   pub may : MayGive May given
-  pub asked : (later : List HouseReply) → gained_asks old k (given ++ later) bytes ≡ length given
+  pub each : length asks ≡ length given
+  pub told : TellsAsks before now asks
+  pub asked : (later : List HouseReply) → gained_asks old k (given ++ later) bytes ≡ asks
   pub state : (later : List HouseReply) → new ≡ gained old k (given ++ later) bytes

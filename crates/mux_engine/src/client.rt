@@ -215,7 +215,7 @@ impl Client {
         house: &mut H,
     ) -> Result<bool, OutOfMemory>
         requires { is_read self.old.standing ≡ true }
-        ensures { IfOk result (λ more. SaysNext H.may pid more (first_frame framing.Control self.old.rest) self.old heard.old self.new heard.new) }
+        ensures { IfOk result (λ more. SaysNext H.may (H.told house.old) (H.told house.new) pid more (first_frame framing.Control self.old.rest) self.old heard.old self.new heard.new) }
     {
         let greeted = self.is_greeted();
         match self.framer.next() {
@@ -240,7 +240,7 @@ impl Client {
         bytes: &[u8],
         house: &mut H,
     ) -> Result<Heard, OutOfMemory>
-        ensures { IfOk result (λ heard. Hears H.may pid bytes.now self.old self.new heard) }
+        ensures { IfOk result (λ heard. Hears H.may (H.told house.old) (H.told house.new) pid bytes.now self.old self.new heard) }
     {
         let mut heard = Heard {
             stops: false,

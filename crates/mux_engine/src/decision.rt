@@ -1,8 +1,10 @@
-ghost use Rattle.std.specs.Prelude.{◌≡◌, ℕ, List, true, false, Some, None};
+ghost use Rattle.std.specs.Prelude.{◌≡◌, ℕ, List, [], ◌∷◌, true, false, Some, None};
 ghost use Rattle.mux_outside.specs.declared.house.HouseReply.{HouseReply as TheReply};
 ghost use Rattle.ssh_grammar.specs.Frames.{frame_answer};
 ghost use Rattle.mux_history.specs.Controls.{type_of as kind_of, house_answer};
 ghost use Rattle.mux_messages.specs.Control.{control_of, Skipped};
+ghost use Rattle.mux_outside.specs.House.{asked};
+ghost use Rattle.mux_engine.specs.Asked.{TellsAsks};
 ghost use Rattle.mux_engine.specs.Decisions.{Decides, DecidesBy};
 
 use mux_history::{Ended, Why};
@@ -97,7 +99,8 @@ fn decide_first(body: &[u8]) -> Decision
 
 // The answer of the house; a port is no answer to a close.
 fn ask<H: House>(house: &mut H, client: u64, opening: bool, id: u32, what: &FwdAsk<'_>) -> Small
-    ensures { (given : TheReply) × (H.may given × (result ≡ frame_answer (house_answer opening id given))) }
+    ensures { (given : TheReply) × (H.may given × (result ≡ frame_answer (house_answer opening id given))
+        × TellsAsks (H.told house.old) (H.told house.new) (asked client opening what.now given ∷ [])) }
 {
     match house.ask(client, opening, what) {
         HouseReply::Done => ok(id),
@@ -108,7 +111,7 @@ fn ask<H: House>(house: &mut H, client: u64, opening: bool, id: u32, what: &FwdA
 
 // What becomes of a control message after the HELLO.
 fn decide_later<H: House>(client: u64, pid: u32, body: &[u8], house: &mut H) -> Decision
-    ensures { DecidesBy H.may pid client true body.now result }
+    ensures { DecidesBy H.may (H.told house.old) (H.told house.new) pid client true body.now result }
 {
     match read_control(body) {
         Ok(Control::Hello { .. }) => Decision::silent(Fate::Drops(Why::SecondHello)),
@@ -143,7 +146,7 @@ pub fn decide<H: House>(
     body: &[u8],
     house: &mut H,
 ) -> Decision
-    ensures { DecidesBy H.may pid client greeted body.now result }
+    ensures { DecidesBy H.may (H.told house.old) (H.told house.new) pid client greeted body.now result }
 {
     if greeted {
         return decide_later(client, pid, body, house);

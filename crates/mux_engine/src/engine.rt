@@ -152,7 +152,7 @@ fn got_at<H: House>(
     bytes: &[u8],
     house: &mut H,
 ) -> Result<Heard, OutOfMemory>
-    ensures { IfOk result (λ heard. HearsAt H.may pid number bytes.now clients.old clients.new leaving.old.items leaving.new.items heard) }
+    ensures { IfOk result (λ heard. HearsAt H.may (H.told house.old) (H.told house.new) pid number bytes.now clients.old clients.new leaving.old.items leaving.new.items heard) }
 {
     let i = index_of(clients, number);
     if i < clients.len() {
@@ -236,7 +236,7 @@ impl Engine {
 
     fn got<H: House>(&mut self, client: u64, bytes: &[u8], house: &mut H) -> Result<(), OutOfMemory>
         requires { self.old.ended ≡ None }
-        ensures { OnOk result (Gains H.may self.old self.new client bytes.now) }
+        ensures { OnOk result (Gains H.may (H.told house.old) (H.told house.new) self.old self.new client bytes.now) }
     {
         let heard = got_at(
             &mut self.clients,
@@ -260,7 +260,7 @@ impl Engine {
 
     fn step<H: House>(&mut self, e: Event<'_>, house: &mut H) -> Result<(), OutOfMemory>
         requires { self.old.ended ≡ None }
-        ensures { OnOk result ((mark : TheMark) → Tells e.entry mark → Steps H.may self.old self.new mark) }
+        ensures { OnOk result ((mark : TheMark) → Tells e.entry mark → Steps H.may (H.told house.old) (H.told house.new) self.old self.new mark) }
     {
         match e {
             Event::Accepted(client) => self.enter(client),
@@ -281,7 +281,7 @@ impl Engine {
     }
 
     fn do_event<H: House>(&mut self, e: Event<'_>, house: &mut H) -> Result<Went, OutOfMemory>
-        ensures step { OnOk result ((mark : TheMark) → Tells e.entry mark → Steps H.may self.old self.new mark) }
+        ensures step { OnOk result ((mark : TheMark) → Tells e.entry mark → Steps H.may (H.told house.old) (H.told house.new) self.old self.new mark) }
         ensures went { IfOk result (λ went. went ≡ went_of self.new.ended) }
     {
         if self.ended.is_none() {
@@ -342,11 +342,12 @@ impl Engine {
         })
     }
 
-    /// Takes in what happened at a stream. A client is accepted once, with a number from 1 on, and all other
-    /// events of clients name one that was accepted. Once there was no memory there is none for any later event.
+    /// Takes in what happened at a stream, and tells the house what the client asks by it. A client is accepted once,
+    /// with a number from 1 on, and all other events of clients name one that was accepted. Once there was no memory
+    /// there is none for any later event.
     pub fn event<H: House>(&mut self, e: Event<'_>, house: &mut H) -> Result<Went, OutOfMemory>
-        ensures stands { OnOk result ((mark : TheMark) → Tells e.entry mark → GoesOn H.may self.old self.new mark) }
-        ensures step { OnOk result ((mark : TheMark) → Tells e.entry mark → Steps H.may self.old self.new mark) }
+        ensures stands { OnOk result ((mark : TheMark) → Tells e.entry mark → GoesOn H.may (H.told house.old) (H.told house.new) self.old self.new mark) }
+        ensures step { OnOk result ((mark : TheMark) → Tells e.entry mark → Steps H.may (H.told house.old) (H.told house.new) self.old self.new mark) }
         ensures others { OnOk result ((mark : TheMark) → Tells e.entry mark → (k : ℕ) → client_of e.entry ≢ k → SameClient k self.old self.new) }
         ensures went { IfOk result (λ went. went ≡ went_of self.new.ended) }
         ensures starved { self.old.starved ≡ true → IsErr result }

@@ -9,6 +9,7 @@ ghost use Rattle.mux_engine.specs.Step.{is_present, numbers, queue_in, new_state
 ghost use Rattle.mux_engine.specs.Events.{went_of, IsNext, Tells};
 ghost use Rattle.mux_outside.specs.declared.mark.Mark.TheVariants.{Gets, Ends, Fails};
 ghost use Rattle.mux_outside.specs.declared.house.HouseReply.{HouseReply as TheReply};
+ghost use Rattle.mux_outside.specs.House.{Asked as TheAsked};
 ghost use Rattle.mux_engine.specs.Serving.{IsRun, IsRunning, Serving, ServingBy, IsServed, IsServedBut, Promised, PromisedBy, Ran};
 
 use crate::engine::{Engine, Event, Went};
@@ -28,7 +29,7 @@ fn offer_once<W: Wire, H: House>(
     requires served { IsServed (W.told wire.old) (W.streams wire.old) (W.blocked wire.old) held.old (W.listens wire.old) (W.last wire.old) engine.old }
     requires here { is_present engine.old.clients stream ≡ true }
     requires free { among stream (W.blocked wire.old) ≡ false }
-    ensures serving { (replies : List TheReply) (drawn pid : ℕ) (start : Option (List TheMark)) (given : ℕ) (todo : List ℕ) →
+    ensures serving { (replies : List TheReply) (drawn : List TheAsked) (pid : ℕ) (start : Option (List TheMark)) (given : ℕ) (todo : List ℕ) →
         ServingBy replies drawn pid start (W.told wire.old) (W.streams wire.old) (W.blocked wire.old) held.old (W.listens wire.old) (W.last wire.old) given todo engine.old →
         MatchResult result
         (λ more. ServingBy replies drawn pid start (W.told wire.new) (W.streams wire.new) (W.blocked wire.new) held.new (W.listens wire.new) (W.last wire.new) given (if more then stream ∷ todo else without stream todo) engine.new)
@@ -37,6 +38,7 @@ fn offer_once<W: Wire, H: House>(
     ensures less { IfOk result (λ more. more ≡ true → length (queue_in engine.new.clients stream) < length (queue_in engine.old.clients stream)) }
     ensures free { IfOk result (λ more. more ≡ true → among stream (W.blocked wire.new) ≡ false) }
     ensures ended { OnOk result (engine.new.ended ≡ engine.old.ended) }
+    ensures asked { OnOk result (H.told house.new ≡ H.told house.old) }
     ensures faults { W.server_faults wire.new ≡ W.server_faults wire.old }
     ensures openings { W.openings wire.new ≡ W.openings wire.old }
 {
@@ -71,13 +73,14 @@ fn offer<W: Wire, H: House>(
 ) -> Result<(), OutOfMemory>
     requires served { IsServed (W.told wire.old) (W.streams wire.old) (W.blocked wire.old) held.old (W.listens wire.old) (W.last wire.old) engine.old }
     requires here { is_present engine.old.clients stream ≡ true }
-    ensures serving { (replies : List TheReply) (drawn pid : ℕ) (start : Option (List TheMark)) (given : ℕ) (todo : List ℕ) →
+    ensures serving { (replies : List TheReply) (drawn : List TheAsked) (pid : ℕ) (start : Option (List TheMark)) (given : ℕ) (todo : List ℕ) →
         ServingBy replies drawn pid start (W.told wire.old) (W.streams wire.old) (W.blocked wire.old) held.old (W.listens wire.old) (W.last wire.old) given (stream ∷ todo) engine.old →
         MatchResult result
         (λ done. ServingBy replies drawn pid start (W.told wire.new) (W.streams wire.new) (W.blocked wire.new) held.new (W.listens wire.new) (W.last wire.new) given todo engine.new)
         (λ e. PromisedBy replies pid start (W.told wire.new) given) }
     ensures here { OnOk result (numbers engine.new.clients ≡ numbers engine.old.clients) }
     ensures ended { OnOk result (engine.new.ended ≡ engine.old.ended) }
+    ensures asked { OnOk result (H.told house.new ≡ H.told house.old) }
     ensures faults { W.server_faults wire.new ≡ W.server_faults wire.old }
     ensures openings { W.openings wire.new ≡ W.openings wire.old }
 {
@@ -97,12 +100,13 @@ fn flush<W: Wire, H: House>(
     held: &mut Streams,
 ) -> Result<(), OutOfMemory>
     requires served { IsServedBut (W.told wire.old) (W.streams wire.old) (W.blocked wire.old) held.old (W.listens wire.old) (W.last wire.old) (numbers engine.old.clients) engine.old }
-    ensures serving { (replies : List TheReply) (drawn pid : ℕ) (start : Option (List TheMark)) (given : ℕ) →
+    ensures serving { (replies : List TheReply) (drawn : List TheAsked) (pid : ℕ) (start : Option (List TheMark)) (given : ℕ) →
         ServingBy replies drawn pid start (W.told wire.old) (W.streams wire.old) (W.blocked wire.old) held.old (W.listens wire.old) (W.last wire.old) given (numbers engine.old.clients) engine.old →
         MatchResult result
         (λ done. ServingBy replies drawn pid start (W.told wire.new) (W.streams wire.new) (W.blocked wire.new) held.new (W.listens wire.new) (W.last wire.new) given [] engine.new)
         (λ e. PromisedBy replies pid start (W.told wire.new) given) }
     ensures ended { OnOk result (engine.new.ended ≡ engine.old.ended) }
+    ensures asked { OnOk result (H.told house.new ≡ H.told house.old) }
     ensures faults { W.server_faults wire.new ≡ W.server_faults wire.old }
     ensures openings { W.openings wire.new ≡ W.openings wire.old }
 {
@@ -115,7 +119,7 @@ fn flush<W: Wire, H: House>(
 
 // Closes the streams of the clients that are lost.
 fn close_lost<W: Wire>(engine: &mut Engine, wire: &mut W, held: &mut Streams)
-    ensures serving { (replies : List TheReply) (drawn pid : ℕ) (start : Option (List TheMark)) (given : ℕ) →
+    ensures serving { (replies : List TheReply) (drawn : List TheAsked) (pid : ℕ) (start : Option (List TheMark)) (given : ℕ) →
         ServingBy replies drawn pid start (W.told wire.old) (W.streams wire.old) (W.blocked wire.old) held.old (W.listens wire.old) (W.last wire.old) given [] engine.old →
         ServingBy replies drawn pid start (W.told wire.new) (W.streams wire.new) (W.blocked wire.new) held.new (W.listens wire.new) (W.last wire.new) given [] engine.new }
     ensures closed { engine.new.leaving ≡ [] }
@@ -133,7 +137,7 @@ fn close_lost<W: Wire>(engine: &mut Engine, wire: &mut W, held: &mut Streams)
 // Accepts no more clients where the engine wants none.
 fn hush<W: Wire>(engine: &Engine, wire: &mut W)
     requires hears { engine.now.listening ≡ true → W.listens wire.old ≡ true }
-    ensures serving { (replies : List TheReply) (drawn pid : ℕ) (start : Option (List TheMark)) (held : List ℕ) (given : ℕ) →
+    ensures serving { (replies : List TheReply) (drawn : List TheAsked) (pid : ℕ) (start : Option (List TheMark)) (held : List ℕ) (given : ℕ) →
         ServingBy replies drawn pid start (W.told wire.old) (W.streams wire.old) (W.blocked wire.old) held (W.listens wire.old) (W.last wire.old) given [] engine.now →
         ServingBy replies drawn pid start (W.told wire.new) (W.streams wire.new) (W.blocked wire.new) held (W.listens wire.new) (W.last wire.new) given [] engine.now }
     ensures hears { W.listens wire.new ≡ engine.now.listening }
@@ -155,7 +159,7 @@ fn settle<W: Wire, H: House>(
     held: &mut Streams,
 ) -> Result<(), OutOfMemory>
     requires served { IsServedBut (W.told wire.old) (W.streams wire.old) (W.blocked wire.old) held.old (W.listens wire.old) (W.last wire.old) (numbers engine.old.clients) engine.old }
-    ensures serving { (replies : List TheReply) (drawn pid : ℕ) (start : Option (List TheMark)) (given : ℕ) →
+    ensures serving { (replies : List TheReply) (drawn : List TheAsked) (pid : ℕ) (start : Option (List TheMark)) (given : ℕ) →
         ServingBy replies drawn pid start (W.told wire.old) (W.streams wire.old) (W.blocked wire.old) held.old (W.listens wire.old) (W.last wire.old) given (numbers engine.old.clients) engine.old →
         MatchResult result
         (λ done. ServingBy replies drawn pid start (W.told wire.new) (W.streams wire.new) (W.blocked wire.new) held.new (W.listens wire.new) (W.last wire.new) given [] engine.new)
@@ -163,6 +167,7 @@ fn settle<W: Wire, H: House>(
     ensures closed { OnOk result (engine.new.leaving ≡ []) }
     ensures hears { OnOk result (W.listens wire.new ≡ engine.new.listening) }
     ensures ended { OnOk result (engine.new.ended ≡ engine.old.ended) }
+    ensures asked { OnOk result (H.told house.new ≡ H.told house.old) }
     ensures faults { W.server_faults wire.new ≡ W.server_faults wire.old }
     ensures openings { W.openings wire.new ≡ W.openings wire.old }
 {
@@ -232,10 +237,10 @@ fn turn<W: Wire, H: House>(
     requires closed { engine.old.leaving ≡ [] }
     requires on { engine.old.ended ≡ None }
     requires hears { W.listens wire.old ≡ engine.old.listening }
-    ensures serving { (pid : ℕ) (start : Option (List TheMark)) (given : ℕ) →
-        Serving H.may pid start (W.told wire.old) (W.streams wire.old) (W.blocked wire.old) held.old (W.listens wire.old) (W.last wire.old) given [] engine.old →
+    ensures serving { (before : Option (List TheAsked)) (pid : ℕ) (start : Option (List TheMark)) (given : ℕ) →
+        Serving H.may before (H.told house.old) pid start (W.told wire.old) (W.streams wire.old) (W.blocked wire.old) held.old (W.listens wire.old) (W.last wire.old) given [] engine.old →
         MatchResult result
-        (λ went. Serving H.may pid start (W.told wire.new) (W.streams wire.new) (W.blocked wire.new) held.new (W.listens wire.new) (W.last wire.new) (given + 1) (numbers engine.new.clients) engine.new)
+        (λ went. Serving H.may before (H.told house.new) pid start (W.told wire.new) (W.streams wire.new) (W.blocked wire.new) held.new (W.listens wire.new) (W.last wire.new) (given + 1) (numbers engine.new.clients) engine.new)
         (λ e. Promised H.may pid start (W.told wire.new) (given + 1)) }
     ensures went { IfOk result (λ went. went ≡ went_of engine.new.ended) }
     ensures failed { OnOk result (engine.new.ended ≡ Some ServerFailed → Rose (W.server_faults wire.old) (W.server_faults wire.new)) }
@@ -263,12 +268,12 @@ fn run<W: Wire, H: House>(
     house: &mut H,
     turns: u64,
 ) -> Result<Ended, OutOfMemory>
-    requires running { IsRunning H.may (W.told wire.old) (W.streams wire.old) (W.blocked wire.old) [] (W.listens wire.old) (W.last wire.old) engine.old }
+    requires running { IsRunning H.may (H.told house.old) (W.told wire.old) (W.streams wire.old) (W.blocked wire.old) [] (W.listens wire.old) (W.last wire.old) engine.old }
     requires on { engine.old.ended ≡ None }
-    ensures ran { (pid : ℕ) (start : Option (List TheMark)) →
-        Serving H.may pid start (W.told wire.old) (W.streams wire.old) (W.blocked wire.old) [] (W.listens wire.old) (W.last wire.old) 0 (numbers engine.old.clients) engine.old →
+    ensures ran { (before : Option (List TheAsked)) (pid : ℕ) (start : Option (List TheMark)) →
+        Serving H.may before (H.told house.old) pid start (W.told wire.old) (W.streams wire.old) (W.blocked wire.old) [] (W.listens wire.old) (W.last wire.old) 0 (numbers engine.old.clients) engine.old →
         MatchResult result
-        (λ answer. Ran H.may pid turns start (W.told wire.new) answer)
+        (λ answer. Ran H.may before (H.told house.new) pid turns start (W.told wire.new) answer)
         (λ e. Promised H.may pid start (W.told wire.new) turns) }
     ensures failed { IfOk result (λ answer. answer ≡ ServerFailed → Rose (W.server_faults wire.old) (W.server_faults wire.new)) }
     ensures openings { W.openings wire.new ≡ W.openings wire.old }
@@ -290,7 +295,7 @@ fn run<W: Wire, H: House>(
 }
 
 /// Serves a wire with a new engine until the run ends, for so many turns at most: why it ended. What the wire tells of
-/// this run is written and kept open as it must be, and ends as it must.
+/// this run is written and kept open as it must be, and ends as it must; the house is told each ask of its clients.
 pub fn serve<W: Wire, H: House>(
     alloc: Global,
     engine: &mut Engine,
@@ -302,7 +307,7 @@ pub fn serve<W: Wire, H: House>(
     requires server_alone { W.streams wire.old ≡ 0 ∷ [] }
     requires none_blocked { W.blocked wire.old ≡ [] }
     requires listens { W.listens wire.old ≡ true }
-    ensures kept { IsRun H.may engine.old.pid turns (W.told wire.old) (W.told wire.new) result }
+    ensures kept { IsRun H.may engine.old.pid turns (H.told house.old) (H.told house.new) (W.told wire.old) (W.told wire.new) result }
     ensures failed { result ≡ ServerFailed → Rose (W.server_faults wire.old) (W.server_faults wire.new) }
     ensures openings { W.openings wire.new ≡ W.openings wire.old }
 {

@@ -1,4 +1,6 @@
 // What no clause says: that there is memory for a whole run, and which bytes its clients read.
+ghost use Rattle.std.specs.Prelude.{None};
+
 use super::*;
 use mux_history::Ended;
 use mux_outside::{
@@ -55,6 +57,8 @@ struct OpenHouse;
 
 impl House for OpenHouse {
     ghost may = { λ reply. Unit {0} };
+
+    ghost told = { λ house. None };
 
     fn ask(&mut self, _client: u64, opening: bool, what: &FwdAsk<'_>) -> HouseReply {
         if opening {

@@ -1,6 +1,7 @@
 pub mod Calls
 pub mod Counts
 pub mod Files
+pub mod House
 pub mod Marks
 pub mod Piece
 pub mod Runner

@@ -7,6 +7,7 @@ use Rattle.conf_rules.specs.declared.causes.ResolveError.TheVariants.{At, OutOfM
 use Rattle.conf_rules.specs.Diagnostics as ends
 use Rattle.conf_rules.specs.Diagnostics.{Ending}
 use Rattle.conf_rules.specs.Outcome.{Outcome, Ends, Writes, Opens, Drills}
+use Rattle.mux_outside.specs.House.{Asked}
 use Rattle.mux_outside.specs.declared.house.HouseReply.{HouseReply}
 use Rattle.mux_outside.specs.declared.mark.Mark.{Mark}
 use Rattle.mux_outside.specs.declared.mark.Opening.{Opening}
@@ -108,14 +109,14 @@ unopened None status before now h = h
 pub opened_after : (outcome : Option Outcome) (status : Status) (ending : Ending) (b n : Option (List ℕ)) (f f' : ℕ) (before now : Option (List Opening)) → Reports status ending b n f f' → OpensOnce outcome (status_of ending) before now → OpensOnce outcome status before now
 opened_after outcome status ending b n f f' before now r h = carried (λ s. OpensOnce outcome s before now) status ending (reported status ending b n f f' r) (unopened outcome (status_of ending) before now h) h
 
-starved : (May : HouseReply → Type 0) (pid turns : ℕ) (start told : Option (List Mark)) (status : Status) → Shares May pid turns start told status → Shares May pid turns start told statuses.Memory
-starved May pid turns start told statuses.Open h = inl h
-starved May pid turns start told statuses.Memory h = h
-starved May pid turns start told status h = inr (record { answer = h.answer; has_status = inl refl; run = h.run })
+starved : (May : HouseReply → Type 0) (pid turns : ℕ) (before now : Option (List Asked)) (start told : Option (List Mark)) (status : Status) → Shares May pid turns before now start told status → Shares May pid turns before now start told statuses.Memory
+starved May pid turns before now start told statuses.Open h = inl h
+starved May pid turns before now start told statuses.Memory h = h
+starved May pid turns before now start told status h = inr (record { answer = h.answer; has_status = inl refl; run = h.run })
 
-pub shared_after : (shares : Bool) (May : HouseReply → Type 0) (pid turns : ℕ) (start told : Option (List Mark)) (status : Status) (ending : Ending) (b n : Option (List ℕ)) (f f' : ℕ) → Reports status ending b n f f' → OnTrue shares (Shares May pid turns start told (status_of ending)) → OnTrue shares (Shares May pid turns start told status)
-shared_after true May pid turns start told status ending b n f f' r h = carried (λ s. Shares May pid turns start told s) status ending (reported status ending b n f f' r) (starved May pid turns start told (status_of ending) h) h
-shared_after false May pid turns start told status ending b n f f' r h = tt
+pub shared_after : (shares : Bool) (May : HouseReply → Type 0) (pid turns : ℕ) (before now : Option (List Asked)) (start told : Option (List Mark)) (status : Status) (ending : Ending) (b n : Option (List ℕ)) (f f' : ℕ) → Reports status ending b n f f' → OnTrue shares (Shares May pid turns before now start told (status_of ending)) → OnTrue shares (Shares May pid turns before now start told status)
+shared_after true May pid turns before now start told status ending b n f f' r h = carried (λ s. Shares May pid turns before now start told s) status ending (reported status ending b n f f' r) (starved May pid turns before now start told (status_of ending) h) h
+shared_after false May pid turns before now start told status ending b n f f' r h = tt
 
 pub wire_after : (shares : Bool) (status : Status) (ending : Ending) (b n : Option (List ℕ)) (f f' s s' c c' : ℕ) → Reports status ending b n f f' → OnTrue shares (WireCause (status_of ending) s s' c c') → OnTrue shares (WireCause status s s' c c')
 wire_after true status ending b n f f' s s' c c' r h = carried (λ x. WireCause x s s' c c') status ending (reported status ending b n f f' r) tt h

@@ -1,5 +1,5 @@
 -- A master that is served opens its control path as it stands.
-use Rattle.std.proofs.Common.{◌≡◌, ◌+◌, ℕ, Bool, true, false, not, eqb, ◌&&◌, ◌||◌, List, [], ◌∷◌, ◌++◌, Option, Some, None, Result, Ok, Err, refl, sym, ap, subst, codes, bytes_eq, ◌∙◌}
+use Rattle.std.proofs.Common.{◌≡◌, ◌+◌, ℕ, Bool, true, false, not, eqb, ◌&&◌, ◌||◌, List, [], ◌∷◌, Result, Ok, refl, sym, subst, codes, bytes_eq}
 use Rattle.std.specs.List.{list_any}
 use Rattle.std.proofs.lemmas.Bool.{ne_eqb, eq-eqb}
 use Rattle.conf_rules.specs.declared.asked.Asked.{Asked}
@@ -15,7 +15,7 @@ use Rattle.conf_rules.specs.Keywords.{meaning_of}
 use Rattle.conf_rules.specs.Values.{values_of, value_of}
 use Rattle.conf_rules.specs.Sources.{all_lines}
 use Rattle.conf_rules.specs.Entries.{entry_of}
-use Rattle.conf_rules.specs.Resolution.{rows_from, rows_by, all_rows, row_of, line_limit, view_at}
+use Rattle.conf_rules.specs.Resolution.{rows_from, rows_by, all_rows, row_of, line_limit}
 use Rattle.conf_rules.specs.Listing.{control_path_at}
 use Rattle.conf_rules.specs.Outcome.{Machine, Opens, command_outcome}
 use Rattle.conf_words.specs.declared.reader.WordsError.{WordsError}

@@ -1,5 +1,5 @@
 -- What a master leaves behind, and what comes of its words.
-use Rattle.std.proofs.Common.{◌≡◌, ◌++◌, ◌⊎◌, inl, inr, ℕ, Bool, true, false, IsTrue, List, [], ◌∷◌, Option, Some, None, Result, Ok, Err, refl, sym, ap, subst, ◌∙◌, arith}
+use Rattle.std.proofs.Common.{◌≡◌, ◌++◌, inr, ℕ, Bool, true, false, List, [], ◌∷◌, Option, Some, None, Result, Ok, Err, refl, sym, ap, subst, ◌∙◌, arith}
 use Rattle.std.specs.Bool.{OnFalse, OnTrue}
 use Rattle.std.specs.Option.{option_map}
 use Rattle.std.specs.Prelude.{is_some}
@@ -19,6 +19,7 @@ use Rattle.mux_history.specs.declared.ended.Ended.{Ended}
 use Rattle.mux_history.specs.declared.ended.Ended.TheVariants as ends
 use Rattle.mux_outside.specs.Counts.{Rose}
 use Rattle.mux_outside.specs.declared.facts.Facts.{Facts}
+use Rattle.mux_outside.specs.House.{Asked as HouseAsk}
 use Rattle.mux_outside.specs.declared.house.HouseReply.{HouseReply}
 use Rattle.mux_outside.specs.declared.mark.Mark.{Mark}
 use Rattle.mux_outside.specs.declared.mark.Opening.{Opening}
@@ -27,11 +28,11 @@ use Rattle.ssh_mux_cli.specs.declared.ending.Ending.{Ending}
 use Rattle.ssh_mux_cli.specs.declared.ending.Ending.TheVariants as endings
 use Rattle.ssh_mux_cli.specs.declared.status.Status.{Status}
 use Rattle.ssh_mux_cli.specs.declared.status.Status.TheVariants as statuses
-use Rattle.ssh_mux_cli.specs.Answers.{Comes, so_far, IsDue}
+use Rattle.ssh_mux_cli.specs.Answers.{Comes, so_far}
 use Rattle.ssh_mux_cli.specs.Causes.{FilesCause, OutCause}
-use Rattle.ssh_mux_cli.specs.Master.{IsServed, only_word, EndsMaster, ends_sharing}
+use Rattle.ssh_mux_cli.specs.Master.{only_word, EndsMaster}
 use Rattle.ssh_mux_cli.specs.Out.{OutTakes}
-use Rattle.ssh_mux_cli.specs.Outcomes.{file_outcome, from_outcome, list_outcome, answer_outcome, outcome, machine, opens, reads_files}
+use Rattle.ssh_mux_cli.specs.Outcomes.{list_outcome, answer_outcome, outcome, machine, opens}
 use Rattle.ssh_mux_cli.specs.Sharing.{opened, OpensAt, OpensOnce, Shares, end_status, WireCause}
 use Rattle.ssh_mux_cli.proofs.MasterLemmas.{served, opens as opens_plain}
 
@@ -47,9 +48,9 @@ not_opened (Some os) now e = e ∙ ap (λ x. Some x) (append-nil os)
 
 -- ---- how a run that was served ends
 
-pub shares_end : (May : HouseReply → Type 0) (pid turns : ℕ) (start told : Option (List Mark)) (status : Status) (ended : Ended) → status ≡ end_status ended → IsRun May pid turns start told ended → Shares May pid turns start told status
-shares_end May pid turns start told status ended e run = subst (λ s. Shares May pid turns start told s) (sym e) (by_end ended run) where
-  by_end : (x : Ended) → IsRun May pid turns start told x → Shares May pid turns start told (end_status x)
+pub shares_end : (May : HouseReply → Type 0) (pid turns : ℕ) (before now : Option (List HouseAsk)) (start told : Option (List Mark)) (status : Status) (ended : Ended) → status ≡ end_status ended → IsRun May pid turns before now start told ended → Shares May pid turns before now start told status
+shares_end May pid turns before now start told status ended e run = subst (λ s. Shares May pid turns before now start told s) (sym e) (by_end ended run) where
+  by_end : (x : Ended) → IsRun May pid turns before now start told x → Shares May pid turns before now start told (end_status x)
   by_end ends.OutOfMemory run = inr (record { answer = ends.OutOfMemory; has_status = inr refl; run = run })
   by_end ends.ServerEnd run = record { answer = ends.ServerEnd; has_status = inr refl; run = run }
   by_end ends.Disconnected run = record { answer = ends.Disconnected; has_status = inr refl; run = run }

@@ -6,6 +6,7 @@ use Rattle.mux_engine.specs.Serving.{IsRun}
 use Rattle.mux_history.specs.declared.ended.Ended.{Ended}
 use Rattle.mux_history.specs.declared.ended.Ended.TheVariants as ends
 use Rattle.mux_outside.specs.Counts.{Rose}
+use Rattle.mux_outside.specs.House.{Asked}
 use Rattle.mux_outside.specs.declared.house.HouseReply.{HouseReply}
 use Rattle.mux_outside.specs.declared.mark.Mark.{Mark}
 use Rattle.mux_outside.specs.declared.mark.Opening.{Opening}
@@ -49,18 +50,27 @@ end_status ends.NotBuilt = NotBuilt
 
 -- a run that keeps its promises, with an end that has this status; want of memory may come behind
 -- it, for the line of that status
-pub record IsShared (May : HouseReply → Type 0) (pid turns : ℕ) (start told : Option (List Mark))
-    (status : Status) : Type 0 where
+pub record IsShared (May : HouseReply → Type 0) (pid turns : ℕ) (before now : Option (List Asked))
+    (start told : Option (List Mark)) (status : Status) : Type 0 where
   pub answer : Ended
   pub has_status : (status ≡ Memory) ⊎ (status ≡ end_status answer)
-  pub run : IsRun May pid turns start told answer
+  pub run : IsRun May pid turns before now start told answer
 
--- where the sockets weren't opened nothing is served
+-- nothing is served: the wire and the house tell what they told before
+pub record IsUnserved (before now : Option (List Asked)) (start told : Option (List Mark)) : Type 0 where
+  pub same_wire : told ≡ start
+  pub same_house : now ≡ before
+
+-- where the sockets weren't opened nothing is served; `before` and `now` are what the house tells,
+-- `start` and `told` what the wire does
 abbrev pub Shares :
-    (HouseReply → Type 0) → ℕ → ℕ → Option (List Mark) → Option (List Mark) → Status → Type 0
-Shares May pid turns start told Open = told ≡ start
-Shares May pid turns start told Memory = (told ≡ start) ⊎ IsShared May pid turns start told Memory
-Shares May pid turns start told status = IsShared May pid turns start told status
+    (HouseReply → Type 0) → ℕ → ℕ → Option (List Asked) → Option (List Asked)
+    → Option (List Mark) → Option (List Mark) → Status → Type 0
+Shares May pid turns before now start told Open = IsUnserved before now start told
+Shares May pid turns before now start told Memory =
+    IsUnserved before now start told ⊎ IsShared May pid turns before now start told Memory
+Shares May pid turns before now start told status =
+    IsShared May pid turns before now start told status
 
 -- the process id that clients are told: 0 where none is known
 abbrev pub pid_of : Option ℕ → ℕ

@@ -42,7 +42,7 @@ pub fn share<W: Wire, H: House>(
     ensures ends { EndsMaster result }
     ensures opened { OpensAt (or_text [] (only_word asked.now.lines)) transport.now (so_far result)
         (W.openings wire.old) (W.openings wire.new) }
-    ensures served { Shares H.may (pid_of pid) turns
+    ensures served { Shares H.may (pid_of pid) turns (H.told house.old) (H.told house.new)
         (W.told wire.old) (W.told wire.new) (so_far result) }
     ensures cause { WireCause (so_far result) (W.server_faults wire.old) (W.server_faults wire.new)
         (W.client_faults wire.old) (W.client_faults wire.new) }
@@ -74,7 +74,7 @@ fn open_and_serve<W: Wire, H: House>(
     ensures ends { EndsMaster result }
     ensures opened { OpensAt control.now transport.now (so_far result)
         (W.openings wire.old) (W.openings wire.new) }
-    ensures served { Shares H.may pid turns
+    ensures served { Shares H.may pid turns (H.told house.old) (H.told house.new)
         (W.told wire.old) (W.told wire.new) (so_far result) }
     ensures cause { WireCause (so_far result) (W.server_faults wire.old) (W.server_faults wire.new)
         (W.client_faults wire.old) (W.client_faults wire.new) }
@@ -99,7 +99,7 @@ fn serve_open<W: Wire, H: House>(
     requires listens { W.listens wire.old ≡ true }
     ensures ends { EndsMaster result }
     ensures openings { W.openings wire.new ≡ W.openings wire.old }
-    ensures served { Shares H.may pid turns
+    ensures served { Shares H.may pid turns (H.told house.old) (H.told house.new)
         (W.told wire.old) (W.told wire.new) (so_far result) }
     ensures cause { WireCause (so_far result) (W.server_faults wire.old) (W.server_faults wire.new)
         (W.client_faults wire.old) (W.client_faults wire.new) }

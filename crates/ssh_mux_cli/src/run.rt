@@ -48,7 +48,8 @@ pub fn run<W: Wire, F: Files, R: Runner, S: Sink, H: House>(
     ensures opened { OpensOnce (outcome (F.told files.old) facts.now words.now) result
         (W.openings wire.old) (W.openings wire.new) }
     ensures shared { OnTrue (opens (outcome (F.told files.old) facts.now words.now))
-        (Shares H.may (pid_of facts.now.pid) turns (W.told wire.old) (W.told wire.new) result) }
+        (Shares H.may (pid_of facts.now.pid) turns (H.told house.old) (H.told house.new)
+        (W.told wire.old) (W.told wire.new) result) }
     ensures wire_cause { OnTrue (opens (outcome (F.told files.old) facts.now words.now))
         (WireCause result (W.server_faults wire.old) (W.server_faults wire.new)
         (W.client_faults wire.old) (W.client_faults wire.new)) }
@@ -86,7 +87,7 @@ fn obey<W: Wire, F: Files, S: Sink, H: House>(
     ensures opened { OpensOnce (outcome (F.told files.old) facts.now words.now) (so_far result)
         (W.openings wire.old) (W.openings wire.new) }
     ensures shared { OnTrue (opens (outcome (F.told files.old) facts.now words.now))
-        (Shares H.may (pid_of facts.now.pid) turns
+        (Shares H.may (pid_of facts.now.pid) turns (H.told house.old) (H.told house.new)
         (W.told wire.old) (W.told wire.new) (so_far result)) }
     ensures wire_cause { OnTrue (opens (outcome (F.told files.old) facts.now words.now))
         (WireCause (so_far result) (W.server_faults wire.old) (W.server_faults wire.new)

@@ -15,6 +15,7 @@ loop-stream-init g c =
       numbers_are = Rattle.std.proofs.Common.refl;
       here = λ t a. waits_here w.replies w.drawn s w.serving.journal w.serving.closed t w.serving.stands (subst (λ (l : List ℕ). among t l ≡ true) items a);
       ended = Rattle.std.proofs.Common.refl;
+      asked = Rattle.std.proofs.Common.refl;
       faults = Rattle.std.proofs.Common.refl;
       openings = Rattle.std.proofs.Common.refl;
     }
@@ -49,6 +50,7 @@ loop-stream-preserved g c =
       numbers_are = c.in_ok-offer.ensures.here ∙ c.loop-stream.invariant.numbers_are;
       here = c.loop-stream.invariant.here;
       ended = c.in_ok-offer.ensures.ended ∙ c.loop-stream.invariant.ended;
+      asked = c.in_ok-offer.ensures.asked ∙ c.loop-stream.invariant.asked;
       faults = c.offer.ensures.faults ∙ c.loop-stream.invariant.faults;
       openings = c.offer.ensures.openings ∙ c.loop-stream.invariant.openings;
     }

@@ -28,6 +28,7 @@ loop-preserved g c = record {
   numbers_are = c.in_ok-offer_once.ensures.here ∙ c.loop.invariant.numbers_are;
   free = c.in_ok-offer_once.ensures.free c.if-branch.true;
   ended = c.in_ok-offer_once.ensures.ended ∙ c.loop.invariant.ended;
+  asked = c.in_ok-offer_once.ensures.asked ∙ c.loop.invariant.asked;
   faults = c.offer_once.ensures.faults ∙ c.loop.invariant.faults;
   openings = c.offer_once.ensures.openings ∙ c.loop.invariant.openings;
 }
@@ -44,6 +45,7 @@ loop-init g c = let w = c.requires.served in record {
   numbers_are = refl;
   free = ap (among c.args.stream) (sym w.serving.held_is) ∙ sym c.if-contains.ensures;
   ended = refl;
+  asked = refl;
   faults = refl;
   openings = refl;
 }

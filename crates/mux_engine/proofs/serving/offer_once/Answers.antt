@@ -9,7 +9,7 @@ use Rattle.mux_engine.specs.State.{State}
 use Rattle.mux_engine.specs.Step.{queue_in, taken, after, numbers}
 use Rattle.mux_engine.proofs.Wires.{serve_next, promised_next, after_numbers}
 use Rattle.mux_engine.proofs.Offers.{here_open, next_takes, next_holds, next_write_fails}
-use Rattle.mux_engine.proofs.Arms.{seen_same, took_less, took_numbers, failed_ended, client_fault, failed_state, here_nonzero, nothing_left, empty_is, on_err}
+use Rattle.mux_engine.proofs.Arms.{seen_same, took_less, took_numbers, failed_ended, client_fault, failed_state, failed_told, here_nonzero, nothing_left, empty_is, on_err}
 use Rattle.mux_engine.proofs.serving.offer_once.Goals as goal
 
 pub returns-then-is_empty-clause-serving : goal.returns-then-is_empty-clause-serving
@@ -38,7 +38,7 @@ returns-in-Took-clause-serving g c rs dn pid start given todo v =
     let are : AreBytes bytes = subst AreBytes e c.queue_of-bytes.ensures.bytes in
     let mark : Mark = Takes k (take n bytes) in
     let told : g.W.Wire.told c.write.new.self ≡ option_map (λ m. m ++ mark ∷ []) (g.W.Wire.told c.args.wire.now) = c.in-Took.ensures.told ∙ ap (λ (b : List ℕ). option_map (λ m. m ++ Takes k (take n b) ∷ []) (g.W.Wire.told c.args.wire.now)) e in
-    seen_same _ _ _ start _ _ _ _ _ _ _ _ _ _ _ given _ (after s (drop dn rs) mark) c.took.new.self
+    seen_same _ _ _ start _ _ _ _ _ _ _ _ _ _ _ given _ (after s (drop (length dn) rs) mark) c.took.new.self
     (serve_next _ _ _ start _ _ _ (g.W.Wire.streams c.args.wire.now) _ (g.W.Wire.blocked c.args.wire.now) _ c.args.held.now _ _ (g.W.Wire.last c.args.wire.now) given given todo (k ∷ todo) s mark v tt told (next_takes _ _ _ _ _ _ _ _ _ _ _ _ s v k n c.requires.here are c.in-Took.ensures.wrote.0 fits))
     c.in-Took.ensures.streams c.in-Took.ensures.blocked refl c.in-Took.ensures.listens c.in-Took.ensures.last
     (c.took.ensures.step ∙ ap (taken s k) (sym (length-take-le n bytes fits)))
@@ -61,16 +61,22 @@ pub returns-in_ok-event-in-Failed-clause-serving : goal.returns-in_ok-event-in-F
 returns-in_ok-event-in-Failed-clause-serving g c rs dn pid start given todo v =
     let s : State = c.args.engine.now in let k : ℕ = c.args.stream in
     let nz : k ≢ 0 = here_nonzero _ _ _ _ _ _ _ _ _ _ _ _ s k v c.requires.here in
-    seen_same _ _ _ start _ _ _ _ _ _ _ _ _ _ _ given _ (after s (drop dn rs) (WriteFails k)) c.event.new.self
+    seen_same _ _ _ start _ _ _ _ _ _ _ _ _ _ _ given _ (after s (drop (length dn) rs) (WriteFails k)) c.event.new.self
     (serve_next _ _ _ start _ _ _ (g.W.Wire.streams c.args.wire.now) _ (g.W.Wire.blocked c.args.wire.now) _ c.args.held.now _ _ (g.W.Wire.last c.args.wire.now) given given todo (without k todo) s (WriteFails k) v tt c.in-Failed.ensures.told (next_write_fails _ _ _ _ _ _ _ _ _ _ _ _ s v k c.requires.here))
     c.in-Failed.ensures.streams c.in-Failed.ensures.blocked refl c.in-Failed.ensures.listens c.in-Failed.ensures.last
-    (failed_state c.args.engine.now c.event.new.self k (drop dn rs) (c.in_ok-event-in-Failed.ensures.step (WriteFails k) (nz, inr refl)))
+    (failed_state c.args.engine.now c.event.new.self k (drop (length dn) rs) (c.in_ok-event-in-Failed.ensures.step (WriteFails k) (nz, inr refl)))
 
 pub returns-in_ok-event-in-Failed-clause-here : goal.returns-in_ok-event-in-Failed-clause-here
 returns-in_ok-event-in-Failed-clause-here g c =
     let w = c.requires.served in let k : ℕ = c.args.stream in
     let nz : k ≢ 0 = here_nonzero _ _ _ _ _ _ _ _ _ _ _ _ c.args.engine.now k w.serving c.requires.here in
     ap (λ (t : State). numbers t.clients) (failed_state c.args.engine.now c.event.new.self k [] (c.in_ok-event-in-Failed.ensures.step (WriteFails k) (nz, inr refl))) ∙ after_numbers c.args.engine.now [] (WriteFails k) tt
+
+pub returns-in_ok-event-in-Failed-clause-asked : goal.returns-in_ok-event-in-Failed-clause-asked
+returns-in_ok-event-in-Failed-clause-asked g c =
+    let w = c.requires.served in let k : ℕ = c.args.stream in
+    let nz : k ≢ 0 = here_nonzero _ _ _ _ _ _ _ _ _ _ _ _ c.args.engine.now k w.serving c.requires.here in
+    failed_told (g.H.House.told c.args.house.now) (g.H.House.told c.event.new.house) c.args.engine.now c.event.new.self k (c.in_ok-event-in-Failed.ensures.step (WriteFails k) (nz, inr refl))
 
 pub returns-in_ok-event-in-Failed-clause-ended : goal.returns-in_ok-event-in-Failed-clause-ended
 returns-in_ok-event-in-Failed-clause-ended g c =

@@ -7,15 +7,16 @@ run-requires-clause-running g c = let s : State = c.args.engine.now in record {
   start = g.W.Wire.told c.args.wire.now;
   given = 0;
   pid = s.pid;
-  serving = starting g.H.House.may s (g.W.Wire.told c.args.wire.now) _ _ _ _ c.requires.fresh c.requires.server_alone c.requires.none_blocked c.requires.listens;
+  before = g.H.House.told c.args.house.now;
+  serving = starting g.H.House.may (g.H.House.told c.args.house.now) s (g.W.Wire.told c.args.wire.now) _ _ _ _ c.requires.fresh c.requires.server_alone c.requires.none_blocked c.requires.listens;
 }
 
 pub returns-in-Ok-clause-kept : goal.returns-in-Ok-clause-kept
 returns-in-Ok-clause-kept g c = let s : State = c.args.engine.now in
-    run_of g.H.House.may s.pid c.args.turns (g.W.Wire.told c.args.wire.now) _ _
-    (c.in-Ok.ensures.ran s.pid (g.W.Wire.told c.args.wire.now) (starting g.H.House.may s (g.W.Wire.told c.args.wire.now) _ _ _ _ c.requires.fresh c.requires.server_alone c.requires.none_blocked c.requires.listens))
+    run_of g.H.House.may (g.H.House.told c.args.house.now) _ s.pid c.args.turns (g.W.Wire.told c.args.wire.now) _ _
+    (c.in-Ok.ensures.ran (g.H.House.told c.args.house.now) s.pid (g.W.Wire.told c.args.wire.now) (starting g.H.House.may (g.H.House.told c.args.house.now) s (g.W.Wire.told c.args.wire.now) _ _ _ _ c.requires.fresh c.requires.server_alone c.requires.none_blocked c.requires.listens))
 
 pub returns-in-Err-clause-kept : goal.returns-in-Err-clause-kept
 returns-in-Err-clause-kept g c = let s : State = c.args.engine.now in
-    run_starved g.H.House.may s.pid c.args.turns (g.W.Wire.told c.args.wire.now) _
-    (c.in-Err.ensures.ran s.pid (g.W.Wire.told c.args.wire.now) (starting g.H.House.may s (g.W.Wire.told c.args.wire.now) _ _ _ _ c.requires.fresh c.requires.server_alone c.requires.none_blocked c.requires.listens))
+    run_starved g.H.House.may (g.H.House.told c.args.house.now) _ s.pid c.args.turns (g.W.Wire.told c.args.wire.now) _
+    (c.in-Err.ensures.ran (g.H.House.told c.args.house.now) s.pid (g.W.Wire.told c.args.wire.now) (starting g.H.House.may (g.H.House.told c.args.house.now) s (g.W.Wire.told c.args.wire.now) _ _ _ _ c.requires.fresh c.requires.server_alone c.requires.none_blocked c.requires.listens))

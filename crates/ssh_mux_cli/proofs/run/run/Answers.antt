@@ -20,7 +20,7 @@ pub returns-in-Err-clause-opened : goal.returns-in-Err-clause-opened
 returns-in-Err-clause-opened g c = opened_after _ _ _ _ _ _ _ _ _ c.report.ensures c.in-Err.ensures.opened
 
 pub returns-in-Err-clause-shared : goal.returns-in-Err-clause-shared
-returns-in-Err-clause-shared g c = shared_after _ _ _ _ _ _ _ _ _ _ _ _ c.report.ensures c.in-Err.ensures.shared
+returns-in-Err-clause-shared g c = shared_after _ _ _ _ _ _ _ _ _ _ _ _ _ _ c.report.ensures c.in-Err.ensures.shared
 
 pub returns-in-Err-clause-wire_cause : goal.returns-in-Err-clause-wire_cause
 returns-in-Err-clause-wire_cause g c = wire_after _ _ _ _ _ _ _ _ _ _ _ c.report.ensures c.in-Err.ensures.wire_cause
