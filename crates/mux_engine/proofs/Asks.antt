@@ -1,5 +1,5 @@
 -- What the house is asked, and what it tells.
-use Rattle.std.proofs.Common.{◌≡◌, ◌&&◌, ℕ, Bool, true, false, List, [], ◌∷◌, ◌++◌, length, Option, Some, None, refl, sym, ap, ◌∙◌, append_assoc, append-nil}
+use Rattle.std.proofs.Common.{◌≡◌, ◌&&◌, ℕ, Bool, true, false, List, [], ◌∷◌, ◌+◌, ◌++◌, length, Option, Some, None, refl, sym, ap, ◌∙◌, append_assoc, append-nil, length-append}
 use Rattle.std.specs.Prelude.{is_some, Result, Ok, Err}
 use Rattle.std.specs.Option.{option_map}
 use Rattle.mux_outside.specs.House.{Asked}
@@ -51,6 +51,10 @@ next_count more h x = asks_count h.number x (asks_in h x) more (asks_there h x)
 pub each_said : (k : ℕ) (given : Option HouseReply) (h : Heeded) (x : Saying) → is_some given ≡ asks_in h x → length (saying_asks k x given) ≡ length (reply_list given)
 each_said k None h x e = ap length (none_asks k x)
 each_said k (Some given) h x e = asks_count k x true (given ∷ []) (λ t. asks_there h x (sym e))
+
+-- and so do more asks and more replies
+pub both_lengths : (a b : List Asked) (c d : List HouseReply) → length a ≡ length c → length b ≡ length d → length (a ++ b) ≡ length (c ++ d)
+both_lengths a b c d e f = length-append a b ∙ (ap (λ n. n + length b) e ∙ (ap (λ n. length c + n) f ∙ sym (length-append c d)))
 
 -- ---- what the house tells
 

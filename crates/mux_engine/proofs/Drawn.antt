@@ -1,7 +1,6 @@
 -- What the house replied comes first of all that it will reply.
-use Rattle.std.proofs.Common.{◌≡◌, ◌+◌, ℕ, Bool, true, false, List, [], ◌∷◌, ◌++◌, length, drop, refl, sym, ap, ◌∙◌, subst, cond, append_assoc, append-nil}
+use Rattle.std.proofs.Common.{◌≡◌, ℕ, Bool, true, false, List, [], ◌∷◌, ◌++◌, length, drop, refl, sym, ap, ◌∙◌, subst, cond, append_assoc, append-nil}
 use Rattle.std.specs.Prelude.{is_some, Option}
-use Rattle.std.proofs.lemmas.List.{length-append}
 use Rattle.mux_outside.specs.House.{Asked}
 use Rattle.mux_outside.specs.declared.house.HouseReply.{HouseReply}
 use Rattle.mux_outside.specs.declared.mark.Mark.{Mark}
@@ -13,7 +12,7 @@ use Rattle.mux_engine.specs.Step.{Steps, after, asked_at, taken}
 use Rattle.mux_engine.specs.Stands.{log, StandsFor, Stands, GoesOn, GoesAlone, IsAllowed}
 use Rattle.mux_engine.specs.Serving.{Replied}
 use Rattle.mux_engine.proofs.GoesOn.{goes_on}
-use Rattle.mux_engine.proofs.Asks.{tells_then}
+use Rattle.mux_engine.proofs.Asks.{both_lengths, tells_then}
 
 pub drop_given : (given more : List HouseReply) → drop (length given) (given ++ more) ≡ more
 drop_given [] more = refl
@@ -22,9 +21,6 @@ drop_given (r ∷ given) more = drop_given given more
 pub may_join : (May : HouseReply → Type 0) (a b : List HouseReply) → MayGive May a → MayGive May b → MayGive May (a ++ b)
 may_join May [] b p q = q
 may_join May (r ∷ a) b p q = (p.0, may_join May a b p.1 q)
-
-both_lengths : (a b : List Asked) (c d : List HouseReply) → length a ≡ length c → length b ≡ length d → length (a ++ b) ≡ length (c ++ d)
-both_lengths a b c d e f = length-append a b ∙ (ap (λ n. n + length b) e ∙ (ap (λ n. length c + n) f ∙ sym (length-append c d)))
 
 -- what holds after a mark that draws these replies, whatever comes later
 pub carry : (P : List HouseReply → List Asked → State → Type 0) (given more later : List HouseReply) (dn asks : List Asked) (old new : State) (mark : Mark) → length dn ≡ length given

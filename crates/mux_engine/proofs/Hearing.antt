@@ -1,7 +1,7 @@
 -- A client that is heard: what it has said is done, and what is left of its bytes will do the rest.
-use Rattle.std.proofs.Common.{◌≡◌, ◌&&◌, ◌+◌, ◌-◌, ◌<◌, ℕ, Bool, true, false, List, [], ◌∷◌, ◌++◌, length, Option, Some, None, if◌then◌else◌, refl, sym, ap, ◌∙◌, subst, arith}
+use Rattle.std.proofs.Common.{◌≡◌, ◌&&◌, ◌-◌, ◌<◌, ℕ, Bool, true, false, List, [], ◌∷◌, ◌++◌, length, Option, Some, None, if◌then◌else◌, refl, sym, ap, ◌∙◌, subst, arith}
 use Rattle.std.proofs.lemmas.Bool.{false≢true}
-use Rattle.std.proofs.Common.{append_assoc, append-nil, length-append}
+use Rattle.std.proofs.Common.{append_assoc, append-nil}
 use Rattle.std.specs.Prelude.{is_some}
 use Rattle.mux_outside.specs.House.{Asked}
 use Rattle.mux_outside.specs.declared.house.HouseReply.{HouseReply}
@@ -23,7 +23,7 @@ use Rattle.mux_engine.specs.Decisions.{reply_list, heeded_by, SaysBody, SaysFaul
 use Rattle.proxy_frames.specs.State.{FramerState}
 use Rattle.proxy_frames.specs.Steps.{pushed}
 use Rattle.mux_engine.proofs.Spoken.{spoken-at}
-use Rattle.mux_engine.proofs.Asks.{none_asks, each_said, tells_none, tells_then}
+use Rattle.mux_engine.proofs.Asks.{none_asks, each_said, both_lengths, tells_none, tells_then}
 use Rattle.mux_engine.proofs.Nexts.{client_of}
 
 -- what was heard so far, with the replies that the house gave to it
@@ -166,7 +166,7 @@ hearing_body May start mid told pid all body rest first now heard new heard' rea
     record {
       used = before.used ++ reply_list says.given;
       asks = before.asks ++ asks;
-      each = length-append before.asks asks ∙ (ap (λ (n : ℕ). n + length asks) before.each ∙ (ap (λ (n : ℕ). length before.used + n) (each_said now.number says.given h (Body body) says.asked) ∙ sym (length-append before.used (reply_list says.given))));
+      each = both_lengths before.asks asks before.used (reply_list says.given) before.each (each_said now.number says.given h (Body body) says.asked);
       tells = tells_then start mid told before.asks asks before.tells says.told;
       may = may_both before.used (reply_list says.given) before.may says.may;
       said = λ later.
