@@ -1,5 +1,5 @@
 -- An engine stands for a journal, the newest mark first, and for the clients that were closed: one clause a part.
-use Rattle.std.specs.Prelude.{◌≡◌, ◌≢◌, ℕ, Bool, true, false, not, List, [], ◌∷◌, ◌++◌, ◌==◌, length, filter, Option, Some, None, if◌then◌else◌}
+use Rattle.std.specs.Prelude.{◌≡◌, ◌≢◌, ℕ, Bool, true, false, not, List, [], ◌∷◌, ◌++◌, length, filter, Option, Some, None}
 use Rattle.mux_outside.specs.House.{Asked}
 use Rattle.mux_outside.specs.declared.house.HouseReply.{HouseReply}
 use Rattle.ssh_grammar.specs.Said.{Mode, InControl, Stopped}
@@ -18,6 +18,7 @@ use Rattle.mux_history.specs.Choices.{replies_given}
 use Rattle.mux_history.specs.Log.{Setting, served, entered}
 use Rattle.mux_history.specs.Solo.{end_of}
 use Rattle.mux_history.specs.Journal.{bytes_of, log_of_journal}
+pub use Rattle.mux_history.specs.Journal.{is_accepted}
 use Rattle.mux_history.specs.Promises.{listens, MayGive}
 use Rattle.mux_engine.specs.declared.client.Standing.{Standing}
 use Rattle.mux_engine.specs.declared.client.Standing.TheVariants.{Awaited, Greeted, Unread, Lost}
@@ -90,12 +91,6 @@ AreApart [] = Unit {0}
 AreApart (c ∷ cs) = (is_present cs c.number ≡ false) × AreApart cs
 
 -- ---- all of them
-
--- a client was accepted
-abbrev pub is_accepted : ℕ → List Mark → Bool
-is_accepted k [] = false
-is_accepted k (Accepts j ∷ before) = if j == k then true else is_accepted k before
-is_accepted k (mark ∷ before) = is_accepted k before
 
 abbrev pub not_closed : List ℕ → ℕ × Option Why → Bool
 not_closed closed l = not (among l.0 closed)
