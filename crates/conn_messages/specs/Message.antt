@@ -1,6 +1,5 @@
 -- A message as the grammar sees it: its strings and data as lists of bytes.
-use Rattle.std.specs.Prelude.{ℕ, List, ◌++◌, Result, false}
-use Rattle.ssh_fields.specs.Fields.{u32, str}
+use Rattle.std.specs.Prelude.{ℕ, Result, false}
 use Rattle.conn_messages.specs.declared.message.Global.{Global}
 use Rattle.conn_messages.specs.declared.message.Global.TheVariants as global
 use Rattle.conn_messages.specs.declared.message.Opens.{Opens}
@@ -10,19 +9,24 @@ use Rattle.conn_messages.specs.declared.message.Message.TheVariants as message
 use Rattle.ssh_grammar.specs.declared.fault.Bad.{Bad}
 use Rattle.ssh_grammar.specs.Gives.{Gives}
 use Rattle.ssh_grammar.specs.Messages as grammar
+use Rattle.ssh_grammar.specs.SpellMessage.{spell_key}
 use Rattle.ssh_grammar.specs.ReadMessage.{with_reading, Form, OfNone, forms}
 use Rattle.ssh_grammar.specs.Tables.{by_number}
 
 abbrev pub global_of : Global → grammar.Global
-global_of (global.Forward address port) = grammar.Forward address.now port
-global_of (global.Cancel address port) = grammar.Cancel address.now port
+global_of (global.Forward address port) = grammar.Forward (grammar.Tcp address.now port)
+global_of (global.Cancel address port) = grammar.Cancel (grammar.Tcp address.now port)
+global_of (global.PathForward path) = grammar.Forward (grammar.Path path.now)
+global_of (global.PathCancel path) = grammar.Cancel (grammar.Path path.now)
 global_of global.KeepAlive = grammar.KeepAlive
 global_of global.Other = grammar.OtherName
 
 abbrev pub opens_of : Opens → grammar.Opens
 opens_of opens.Session = grammar.Session
-opens_of (opens.Direct host port) = grammar.Direct host.now port
-opens_of (opens.Forwarded address port) = grammar.Forwarded address.now port
+opens_of (opens.Direct host port) = grammar.Direct (grammar.Tcp host.now port)
+opens_of (opens.Forwarded address port) = grammar.Forwarded (grammar.Tcp address.now port)
+opens_of (opens.DirectPath path) = grammar.Direct (grammar.Path path.now)
+opens_of (opens.ForwardedPath path) = grammar.Forwarded (grammar.Path path.now)
 opens_of opens.Other = grammar.OtherType
 
 abbrev pub message_of : Message → grammar.Message
@@ -54,7 +58,7 @@ GivesTo recipient result reading = Gives message_of result (with_reading reading
 abbrev pub form_of : ℕ → Form
 form_of number = by_number (forms number) number OfNone
 
--- a `cancel-tcpip-forward` that wants no reply
-abbrev pub cancel_of : List ℕ → ℕ → grammar.Message
-cancel_of address port =
-    grammar.Plain (grammar.GlobalRequest grammar.cancel_name false (str address ++ u32 port) (grammar.Cancel address port))
+-- a cancel that wants no reply
+abbrev pub cancel_of : grammar.Key → grammar.Message
+cancel_of key =
+    grammar.Plain (grammar.GlobalRequest (grammar.cancel_name_of key) false (spell_key key) (grammar.Cancel key))

@@ -15,7 +15,8 @@ pub use places::{recipient_at, sender_at};
 pub use read::read_message;
 pub use ssh_grammar::Bad;
 pub use write::{
-    LONGEST_ADDRESS, LONGEST_TEXT, cancel_forward, close, open_failure, request_failure,
+    LONGEST_ADDRESS, LONGEST_TEXT, cancel_forward, cancel_path, close, open_failure,
+    request_failure,
 };
 
 #[cfg(test)]

@@ -1,11 +1,15 @@
 /// What a global request is about: its data, read further for these names alone (RFC 4254, sections 4
-/// and 7.1).
+/// and 7.1; OpenSSH's PROTOCOL, section 2.4).
 #[derive(Clone, Copy, Debug)]
 pub enum Global<'a> {
     /// `tcpip-forward`
     Forward { address: &'a [u8], port: u32 },
     /// `cancel-tcpip-forward`
     Cancel { address: &'a [u8], port: u32 },
+    /// `streamlocal-forward@openssh.com`
+    PathForward { path: &'a [u8] },
+    /// `cancel-streamlocal-forward@openssh.com`
+    PathCancel { path: &'a [u8] },
     /// `keepalive@openssh.com`
     KeepAlive,
     /// Every other name.
@@ -13,7 +17,7 @@ pub enum Global<'a> {
 }
 
 /// What an open is about: its data, read further for these types alone (RFC 4254, sections 6.1 and
-/// 7.2).
+/// 7.2; OpenSSH's PROTOCOL, section 2.4).
 #[derive(Clone, Copy, Debug)]
 pub enum Opens<'a> {
     /// `session`
@@ -22,6 +26,10 @@ pub enum Opens<'a> {
     Direct { host: &'a [u8], port: u32 },
     /// `forwarded-tcpip`: what was connected to.
     Forwarded { address: &'a [u8], port: u32 },
+    /// `direct-streamlocal@openssh.com`: the path to connect to.
+    DirectPath { path: &'a [u8] },
+    /// `forwarded-streamlocal@openssh.com`: the path that was connected to.
+    ForwardedPath { path: &'a [u8] },
     /// Every other type.
     Other,
 }

@@ -2,7 +2,7 @@ use super::*;
 
 /// A payload with one byte too many behind it; the fault where its last byte is missing, and the fault
 /// with the byte too many. Where its last field is data, neither is a fault.
-const ROWS: [(&[u8], Option<Bad>, Option<Bad>); 23] = [
+const ROWS: [(&[u8], Option<Bad>, Option<Bad>); 27] = [
     (b"\x01\x00\x00\x00\x0b\xff", None, None),
     (b"\x02\xff", Some(Bad::Empty), None),
     (b"\x03\x00\x00\x00\x05\xff", None, None),
@@ -11,6 +11,16 @@ const ROWS: [(&[u8], Option<Bad>, Option<Bad>); 23] = [
         b"\x50\x00\x00\x00\x15keepalive@openssh.com\x01\xff",
         Some(Bad::Short { at: 26 }),
         None,
+    ),
+    (
+        b"\x50\x00\x00\x00\x1fstreamlocal-forward@openssh.com\x01\x00\x00\x00\x02/s\xff",
+        Some(Bad::Short { at: 37 }),
+        Some(Bad::Extra { at: 43 }),
+    ),
+    (
+        b"\x50\x00\x00\x00\x26cancel-streamlocal-forward@openssh.com\x00\x00\x00\x00\x02/s\xff",
+        Some(Bad::Short { at: 44 }),
+        Some(Bad::Extra { at: 50 }),
     ),
     (
         b"\x50\x00\x00\x00\x0dtcpip-forward\x01\x00\x00\x00\x09127.0.0.1\x00\x00\x1f\x90\xff",
@@ -43,6 +53,16 @@ const ROWS: [(&[u8], Option<Bad>, Option<Bad>); 23] = [
         b"\x5a\x00\x00\x00\x0fforwarded-tcpip\x00\x00\x00\x05\x00\x20\x00\x00\x00\x00\x80\x00\x00\x00\x00\x01a\x00\x00\x00\x50\x00\x00\x00\x01o\x00\x00\x00\x01\xff",
         Some(Bad::Short { at: 46 }),
         Some(Bad::Extra { at: 50 }),
+    ),
+    (
+        b"\x5a\x00\x00\x00\x1edirect-streamlocal@openssh.com\x00\x00\x00\x04\x00\x20\x00\x00\x00\x00\x80\x00\x00\x00\x00\x02/s\x00\x00\x00\x00\x00\x00\x00\x00\xff",
+        Some(Bad::Short { at: 57 }),
+        Some(Bad::Extra { at: 61 }),
+    ),
+    (
+        b"\x5a\x00\x00\x00\x21forwarded-streamlocal@openssh.com\x00\x00\x00\x09\x00\x20\x00\x00\x00\x00\x80\x00\x00\x00\x00\x02/s\x00\x00\x00\x00\xff",
+        Some(Bad::Short { at: 56 }),
+        Some(Bad::Extra { at: 60 }),
     ),
     (
         b"\x5b\x00\x00\x00\x05\x00\x00\x00\x06\x00\x20\x00\x00\x00\x00\x80\x00\xff",
@@ -120,6 +140,10 @@ fn own_messages_are_written_to_the_byte(rt: HostRuntime) {
     assert_eq!(rt;
         cancel_forward(b"", 8080).as_bytes(),
         b"\x50\x00\x00\x00\x14cancel-tcpip-forward\x00\x00\x00\x00\x00\x00\x00\x1f\x90".as_slice()
+    );
+    assert_eq!(rt;
+        cancel_path(b"/s").as_bytes(),
+        b"\x50\x00\x00\x00\x26cancel-streamlocal-forward@openssh.com\x00\x00\x00\x00\x02/s".as_slice()
     );
 }
 

@@ -10,8 +10,11 @@ use ssh_grammar::numbers::*;
 /// The longest text that goes with the reason of a failed open.
 pub const LONGEST_TEXT: usize = 64;
 
-/// The longest address that is forwarded.
+/// The longest address or path that is forwarded.
 pub const LONGEST_ADDRESS: usize = 255;
+
+/// The boolean of a request that wants no reply.
+const NO_REPLY: &[u8] = &[0];
 
 /// CHANNEL_OPEN_FAILURE with an empty language tag (RFC 4254, section 5.1).
 pub fn open_failure(recipient: u32, reason: u32, text: &[u8]) -> Small
@@ -48,13 +51,26 @@ pub fn request_failure() -> Small
 /// A `cancel-tcpip-forward` that wants no reply (RFC 4254, section 7.1).
 pub fn cancel_forward(address: &[u8], port: u32) -> Small
     requires { length address.now ≤ LONGEST_ADDRESS }
-    ensures spelled { result ≡ spelling.cancel_forward address.now port }
-    ensures read_back { reading result ≡ Ok (cancel_of address.now port) }
+    ensures spelled { result ≡ spelling.cancel_forward (grammar.Tcp address.now port) }
+    ensures read_back { reading result ≡ Ok (cancel_of (grammar.Tcp address.now port)) }
 {
     let mut payload = Small::copy(&[GLOBAL_REQUEST]);
     payload.push_string(b"cancel-tcpip-forward");
-    payload.push(&[0]);
+    payload.push(NO_REPLY);
     payload.push_string(address);
     payload.push_u32(port);
+    payload
+}
+
+/// A `cancel-streamlocal-forward@openssh.com` that wants no reply (OpenSSH's PROTOCOL, section 2.4).
+pub fn cancel_path(path: &[u8]) -> Small
+    requires { length path.now ≤ LONGEST_ADDRESS }
+    ensures spelled { result ≡ spelling.cancel_forward (grammar.Path path.now) }
+    ensures read_back { reading result ≡ Ok (cancel_of (grammar.Path path.now)) }
+{
+    let mut payload = Small::copy(&[GLOBAL_REQUEST]);
+    payload.push_string(b"cancel-streamlocal-forward@openssh.com");
+    payload.push(NO_REPLY);
+    payload.push_string(path);
     payload
 }

@@ -19,7 +19,7 @@ use Rattle.mux_engine.specs.Events.{went_of}
 use Rattle.mux_engine.specs.declared.engine.Went.TheVariants.{On, Ended as Over}
 use Rattle.mux_engine.specs.Stands.{log, StandsFor}
 use Rattle.mux_history.specs.Policy.{any_policy}
-use Rattle.mux_isolation.proofs.ControlPhase.{control-kept, control-takes}
+use Rattle.mux_control.proofs.ControlPhase.{control-kept, control-takes}
 use Rattle.mux_engine.specs.Serving.{Serving, ServingBy, IsServedBut, Promised, PromisedBy, Ran, RanBy, IsRun}
 use Rattle.mux_engine.proofs.Moved.{true_false}
 use Rattle.mux_engine.proofs.Asks.{tells_none}

@@ -14,9 +14,9 @@ use Rattle.mux_history.specs.Log.{Setting}
 use Rattle.mux_history.specs.Journal.{IsLawful, Tells, is_blocked, log_of_journal}
 use Rattle.mux_history.specs.Promises.{Written, OpenStreams, Settled, IsSettled, ConnectionEnds, MayGive, Throughout, waits_in, write_failed}
 use Rattle.mux_history.specs.Wires.{OfWire, ReadsWhenAsked}
-use Rattle.mux_isolation.specs.Bounds.{IsLog}
+use Rattle.mux_bounds.specs.Bounds.{IsLog}
 use Rattle.mux_isolation.specs.Bytes.{TakesAlike}
-use Rattle.mux_isolation.specs.ControlPhase.{KeepsControl}
+use Rattle.mux_control.specs.ControlPhase.{KeepsControl}
 use Rattle.mux_engine.specs.State.{State}
 use Rattle.mux_engine.specs.Asked.{asked_of, TellsAsks}
 use Rattle.mux_engine.specs.Step.{is_present, numbers}

@@ -7,7 +7,7 @@ use Rattle.mux_history.specs.Gist.{Confirms}
 use Rattle.ssh_grammar.specs.declared.side.Side.TheVariants.{Down, Up}
 use Rattle.mux_history.proofs.Finds.{Each, filter-no, filter-yes, find-no, find-yes}
 use Rattle.mux_history.proofs.Local.{is_of}
-use Rattle.mux_history.proofs.Bools.{same-number, self}
+use Rattle.mux_history.proofs.Bools.{same-number}
 
 -- what holds of each channel
 pub record Sound (x : Channel) : Type 0 where

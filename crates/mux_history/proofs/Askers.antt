@@ -7,6 +7,7 @@ use Rattle.std.proofs.lemmas.Option.{slice_get_within}
 use Rattle.std.proofs.lemmas.Bool.Decides.{nat_tests}
 use Rattle.mux_history.specs.Gist.{Confirmation, Gist, Open, Refuses, Requests, Succeeds, Transport, Within, read_gist}
 use Rattle.mux_history.specs.Heard.{Breaks, Dest, Disconnects, ToClient, ToMaster, dest, dest_asker, dest_gist, dest_success, heard_for, heard_master}
+use Rattle.mux_history.specs.Keys.{learns_port}
 use Rattle.mux_history.specs.Ledger.{asked}
 use Rattle.mux_history.specs.Log.{admits, bare, heard_row, said_by_client, treat}
 use Rattle.mux_history.specs.Policy.{Policy}
@@ -184,9 +185,9 @@ success-never rest a e = by_what a.what e
     by_bad true e = cc
     by_bad false e = cc
 
-    by_what : (g : Global) → (elim g as (λ _. Dest) [ Forward address port ↦ elim (port == 0 && not (length rest == 4)) as (λ _. Dest) [ true ↦ Breaks (broke.BadReply (length rest)) | false ↦ ToClient a.client ] | _ ↦ ToClient a.client ]) ≡ ToMaster → ⊥
-    by_what (Forward address port) e = by_bad (port == 0 && not (length rest == 4)) e
-    by_what (Cancel address port) e = cc
+    by_what : (g : Global) → (elim g as (λ _. Dest) [ Forward key ↦ elim (learns_port key && not (length rest == 4)) as (λ _. Dest) [ true ↦ Breaks (broke.BadReply (length rest)) | false ↦ ToClient a.client ] | _ ↦ ToClient a.client ]) ≡ ToMaster → ⊥
+    by_what (Forward key) e = by_bad (learns_port key && not (length rest == 4)) e
+    by_what (Cancel key) e = cc
     by_what KeepAlive e = cc
     by_what OtherName e = cc
 

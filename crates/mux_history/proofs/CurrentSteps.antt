@@ -1,14 +1,15 @@
 -- The forwardings that are asked or live go on by one row: what is over stays out.
 use Rattle.std.proofs.Common.{◌≡◌, ℕ, List, [], ◌∷◌, ◌++◌, length, true, false, Bool, refl, ◌∙◌, ap, map, sym, Some, None, Ok, Err}
-use Rattle.std.specs.Prelude.{◌==◌, ◌&&◌, filter, not, is_none, Result, bytes_eq}
+use Rattle.std.specs.Prelude.{◌==◌, ◌&&◌, filter, not, is_none, Result}
 use Rattle.std.proofs.lemmas.List.Elements.{filter-append}
 use Rattle.mux_history.specs.Channels.{is_number}
-use Rattle.mux_history.specs.Forwardings.{Forwarding, bound, change_first, current, dropped, forwarded, forwardings_of, is_free_at, is_request, of_client, replied, requested, stopped}
+use Rattle.mux_history.specs.Forwardings.{Forwarding, change_first, current, dropped, forwarded, forwardings_of, is_free_at, is_request, of_client, replied, requested, stopped}
 use Rattle.mux_history.specs.Gist.{Gist, Refuses, Requests, Succeeds, read_gist, reading}
+use Rattle.mux_history.specs.Keys.{bound, has_key}
 use Rattle.mux_history.specs.Requests.{asks, is_sent, replies}
 use Rattle.mux_history.specs.Rows.{Heard, Item, Row, Says, loses, rows_of}
 use Rattle.mux_history.specs.Steps.{CurrentStep, SamePlaces, next_current}
-use Rattle.ssh_grammar.specs.Messages.{Cancel, Forward, KeepAlive, OtherName}
+use Rattle.ssh_grammar.specs.Messages.{Cancel, Forward, KeepAlive, Key, OtherName}
 use Rattle.ssh_grammar.specs.Said.{Payload}
 use Rattle.ssh_grammar.specs.declared.fault.Bad.{Bad}
 use Rattle.mux_history.proofs.Finds.{filter-no, filter-yes}
@@ -76,7 +77,7 @@ on-first test g never (f ∷ fs) = by_case (on-first test g never fs) (is_on f) 
 replied-stays : (n : ℕ) (m : Gist) → StaysOver (replied n m)
 replied-stays n (Succeeds rest) f over = by_case (is_request f n) (is_number f.cancel n)
   where
-    by_case : (a b : Bool) → (elim a as (λ _. Forwarding) [ true ↦ record f { live = Some (bound f.port rest) } | false ↦ elim b as (λ _. Forwarding) [ true ↦ record f { over = true } | false ↦ f ] ]).over ≡ true
+    by_case : (a b : Bool) → (elim a as (λ _. Forwarding) [ true ↦ record f { live = Some (bound f.key rest) } | false ↦ elim b as (λ _. Forwarding) [ true ↦ record f { over = true } | false ↦ f ] ]).over ≡ true
     by_case true b = over
     by_case false true = refl
     by_case false false = over
@@ -91,8 +92,8 @@ replied-stays n m f over = over
 of-client-stays : (k : ℕ) (g : Forwarding → Forwarding) → StaysOver g → StaysOver (of_client k g)
 of-client-stays k g stays f over = elim (f.client == k) as (λ b. (elim b as (λ _. Forwarding) [ true ↦ g f | false ↦ f ]).over ≡ true) [ true ↦ stays f over | false ↦ over ]
 
-free-on : (k : ℕ) (address : List ℕ) (port : ℕ) (f : Forwarding) → is_on f ≡ false → is_free_at k address port f ≡ false
-free-on k address port f off = ap (λ b. (f.client == k) && (b && (is_none f.cancel && (is_number f.live port && bytes_eq f.address address)))) off ∙ by_client (f.client == k)
+free-on : (k : ℕ) (key : Key) (f : Forwarding) → is_on f ≡ false → is_free_at k key f ≡ false
+free-on k key f off = ap (λ b. (f.client == k) && (b && (is_none f.cancel && (has_key f.live key)))) off ∙ by_client (f.client == k)
   where
     by_client : (b : Bool) → (b && false) ≡ false
     by_client true = refl
@@ -102,8 +103,8 @@ on-append : (fs new : List Forwarding) → filter is_on (fs ++ new) ≡ filter i
 on-append fs new = filter-append is_on fs new ∙ (ap (λ ys. ys ++ filter is_on new) (sym (on-twice fs)) ∙ sym (filter-append is_on (filter is_on fs) new))
 
 on-requested : (k n : ℕ) (m : Gist) (fs : List Forwarding) → filter is_on (requested k n m fs) ≡ filter is_on (requested k n m (filter is_on fs))
-on-requested k n (Requests (Forward address port) wants) fs = on-append fs _
-on-requested k n (Requests (Cancel address port) wants) fs = on-first (is_free_at k address port) (stopped wants n) (free-on k address port) fs
+on-requested k n (Requests (Forward key) wants) fs = on-append fs _
+on-requested k n (Requests (Cancel key) wants) fs = on-first (is_free_at k key) (stopped wants n) (free-on k key) fs
 on-requested k n (Requests KeepAlive wants) fs = sym (on-twice fs)
 on-requested k n (Requests OtherName wants) fs = sym (on-twice fs)
 on-requested k n m fs = sym (on-twice fs)

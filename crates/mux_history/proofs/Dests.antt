@@ -5,10 +5,11 @@ use Rattle.mux_history.specs.Channels.{Channel, holder, live_in}
 use Rattle.mux_history.specs.Forwardings.{Forwarding, live_at}
 use Rattle.mux_history.specs.Gist.{Act, Confirmation, Fails, Gist, Open, Refuses, Requests, Succeeds, Transport, Within, read_gist, recipient_of}
 use Rattle.mux_history.specs.Heard.{Breaks, Dest, ToClient, ToMaster, dest, dest_asker, dest_confirmation, dest_gist, dest_open, dest_success, dest_within, is_pending, pending_open}
+use Rattle.mux_history.specs.Keys.{learns_port}
 use Rattle.mux_history.specs.Ledger.{breach}
 use Rattle.mux_history.specs.Requests.{Ask, asker}
 use Rattle.mux_history.specs.Rows.{Row}
-use Rattle.ssh_grammar.specs.Messages.{Cancel, Forward, Forwarded, Global, KeepAlive, Opens, OtherName}
+use Rattle.ssh_grammar.specs.Messages.{Cancel, Forward, Forwarded, Global, KeepAlive, Key, Opens, OtherName}
 use Rattle.ssh_grammar.specs.SpellMessage.{wants}
 use Rattle.ssh_grammar.specs.declared.fault.Bad.{Bad}
 use Rattle.ssh_grammar.specs.declared.fault.Breach.{Breach}
@@ -23,23 +24,22 @@ dest-err rows p bad reads = ap (λ r. elim r as (λ _. Dest) [ Err bad ↦ Break
 
 -- an open that goes to a client, by a forwarding that is live
 pub record Offered (rows : List Row) (s : ℕ) (what : Opens) (k : ℕ) : Type 0 where
-  pub address : List ℕ
-  pub port : ℕ
-  pub is : what ≡ Forwarded address port
+  pub key : Key
+  pub is : what ≡ Forwarded key
   pub forwarding : Forwarding
-  pub live : live_at rows address port ≡ Some forwarding
+  pub live : live_at rows key ≡ Some forwarding
   pub client : forwarding.client ≡ k
   pub unused : live_in rows s ≡ None
 
 pub offered : (rows : List Row) (s : ℕ) (what : Opens) (k : ℕ) → dest_open rows s what ≡ ToClient k → Offered rows s what k
-offered rows s (Forwarded address port) k e = by_live (live_in rows s) refl e
+offered rows s (Forwarded key) k e = by_live (live_in rows s) refl e
   where
-    by_at : (o : Option Forwarding) → live_at rows address port ≡ o → live_in rows s ≡ None → (elim o as (λ _. Dest) [ Some f ↦ ToClient f.client | None ↦ ToMaster ]) ≡ ToClient k → Offered rows s (Forwarded address port) k
+    by_at : (o : Option Forwarding) → live_at rows key ≡ o → live_in rows s ≡ None → (elim o as (λ _. Dest) [ Some f ↦ ToClient f.client | None ↦ ToMaster ]) ≡ ToClient k → Offered rows s (Forwarded key) k
     by_at None at unused e = cc
-    by_at (Some f) at unused e = record { address = address; port = port; is = refl; forwarding = f; live = at; client = cc; unused = unused }
+    by_at (Some f) at unused e = record { key = key; is = refl; forwarding = f; live = at; client = cc; unused = unused }
 
-    by_live : (o : Option Channel) → live_in rows s ≡ o → (elim o as (λ _. Dest) [ Some x ↦ Breaks (broke.NumberInUse s) | None ↦ elim (live_at rows address port) as (λ _. Dest) [ Some f ↦ ToClient f.client | None ↦ ToMaster ] ]) ≡ ToClient k → Offered rows s (Forwarded address port) k
-    by_live None unused e = by_at (live_at rows address port) refl unused e
+    by_live : (o : Option Channel) → live_in rows s ≡ o → (elim o as (λ _. Dest) [ Some x ↦ Breaks (broke.NumberInUse s) | None ↦ elim (live_at rows key) as (λ _. Dest) [ Some f ↦ ToClient f.client | None ↦ ToMaster ] ]) ≡ ToClient k → Offered rows s (Forwarded key) k
+    by_live None unused e = by_at (live_at rows key) refl unused e
     by_live (Some x) used e = cc
 offered rows s what k e = by_live (live_in rows s) e
   where
@@ -161,9 +161,9 @@ success-to rest k a e = by_what a.what e
     by_bad true e = cc
     by_bad false e = cc
 
-    by_what : (g : Global) → (elim g as (λ _. Dest) [ Forward address port ↦ elim (port == 0 && not (length rest == 4)) as (λ _. Dest) [ true ↦ Breaks (broke.BadReply (length rest)) | false ↦ ToClient a.client ] | _ ↦ ToClient a.client ]) ≡ ToClient k → a.client ≡ k
-    by_what (Forward address port) e = by_bad (port == 0 && not (length rest == 4)) e
-    by_what (Cancel address port) e = cc
+    by_what : (g : Global) → (elim g as (λ _. Dest) [ Forward key ↦ elim (learns_port key && not (length rest == 4)) as (λ _. Dest) [ true ↦ Breaks (broke.BadReply (length rest)) | false ↦ ToClient a.client ] | _ ↦ ToClient a.client ]) ≡ ToClient k → a.client ≡ k
+    by_what (Forward key) e = by_bad (learns_port key && not (length rest == 4)) e
+    by_what (Cancel key) e = cc
     by_what KeepAlive e = cc
     by_what OtherName e = cc
 

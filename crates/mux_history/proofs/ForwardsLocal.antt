@@ -1,15 +1,16 @@
 -- The forwardings of a client are those of its rows.
 use Rattle.std.proofs.Common.{◌≡◌, ℕ, List, [], ◌∷◌, ◌++◌, length, true, false, Bool, refl, ◌∙◌, ap, arith, map, sym, Some, None, Ok, Err}
-use Rattle.std.specs.Prelude.{◌==◌, ◌&&◌, filter, find, not, Result, bytes_eq}
+use Rattle.std.specs.Prelude.{◌==◌, filter, find, not, Result}
 use Rattle.std.proofs.lemmas.List.{append-nil}
 use Rattle.std.proofs.lemmas.List.Elements.{filter-append}
 use Rattle.std.proofs.lemmas.Bool.Decides.{nat_tests}
 use Rattle.mux_history.specs.Channels.{is_number}
-use Rattle.mux_history.specs.Forwardings.{Forwarding, bound, change_first, dropped, forwarded, forwardings_of, is_free_at, is_request, live_at, of_client, replied, requested, stopped}
+use Rattle.mux_history.specs.Forwardings.{Forwarding, change_first, dropped, forwarded, forwardings_of, is_free_at, is_request, live_at, of_client, replied, requested, stopped}
 use Rattle.mux_history.specs.Gist.{Gist, Refuses, Requests, Succeeds, read_gist, reading}
+use Rattle.mux_history.specs.Keys.{bound, has_key}
 use Rattle.mux_history.specs.Requests.{asks, is_sent, replies}
 use Rattle.mux_history.specs.Rows.{Heard, Item, Row, Says, loses, rows_of}
-use Rattle.ssh_grammar.specs.Messages.{Cancel, Forward, KeepAlive, OtherName}
+use Rattle.ssh_grammar.specs.Messages.{Cancel, Forward, KeepAlive, Key, OtherName}
 use Rattle.ssh_grammar.specs.Said.{Payload}
 use Rattle.ssh_grammar.specs.SpellMessage.{wants}
 use Rattle.ssh_grammar.specs.declared.fault.Bad.{Bad}
@@ -67,7 +68,7 @@ of-client-other k c g other f mine = rw (apart f.client c k mine other, of_clien
 replied-keeps : (n : ℕ) (m : Gist) (f : Forwarding) → (replied n m f).client ≡ f.client
 replied-keeps n (Succeeds rest) f = by_case (is_request f n) (is_number f.cancel n)
   where
-    by_case : (a b : Bool) → (elim a as (λ _. Forwarding) [ true ↦ record f { live = Some (bound f.port rest) } | false ↦ elim b as (λ _. Forwarding) [ true ↦ record f { over = true } | false ↦ f ] ]).client ≡ f.client
+    by_case : (a b : Bool) → (elim a as (λ _. Forwarding) [ true ↦ record f { live = Some (bound f.key rest) } | false ↦ elim b as (λ _. Forwarding) [ true ↦ record f { over = true } | false ↦ f ] ]).client ≡ f.client
     by_case true b = refl
     by_case false true = refl
     by_case false false = refl
@@ -117,27 +118,27 @@ first-other k test g keeps never (f ∷ fs) = by_case (first-other k test g keep
     by_case ih false e true t = ap (filter (for_of k)) (pick_yes f fs t) ∙ (filter-no (for_of k) (g f) fs (ap (λ c. c == k) (keeps f) ∙ e) ∙ sym (filter-no (for_of k) f fs e))
     by_case ih false e false t = ap (filter (for_of k)) (pick_no f fs t) ∙ (filter-no (for_of k) f (change_first test g fs) e ∙ (ih ∙ sym (filter-no (for_of k) f fs e)))
 
-free-mine : (k c : ℕ) → (c == k) ≡ true → (address : List ℕ) (port : ℕ) (f : Forwarding) → (f.client == k) ≡ false → is_free_at c address port f ≡ false
-free-mine k c e address port f other = rw (differ f.client c k e other, is_free_at) refl
+free-mine : (k c : ℕ) → (c == k) ≡ true → (key : Key) (f : Forwarding) → (f.client == k) ≡ false → is_free_at c key f ≡ false
+free-mine k c e key f other = rw (differ f.client c k e other, is_free_at) refl
   where
     differ : (a c k : ℕ) → (c == k) ≡ true → (a == k) ≡ false → (a == c) ≡ false
     differ a c k e f = grind (arith, nat_tests)
 
-free-other : (k c : ℕ) → (c == k) ≡ false → (address : List ℕ) (port : ℕ) (f : Forwarding) → (f.client == k) ≡ true → is_free_at c address port f ≡ false
-free-other k c e address port f mine = rw (apart f.client c k mine e, is_free_at) refl
+free-other : (k c : ℕ) → (c == k) ≡ false → (key : Key) (f : Forwarding) → (f.client == k) ≡ true → is_free_at c key f ≡ false
+free-other k c e key f mine = rw (apart f.client c k mine e, is_free_at) refl
 
 -- ---- what a row does
 
 requested-mine : (k c n : ℕ) (m : Gist) (fs : List Forwarding) → (c == k) ≡ true → filter (for_of k) (requested c n m fs) ≡ requested c n m (filter (for_of k) fs)
-requested-mine k c n (Requests (Forward address port) wants) fs e = filter-append (for_of k) fs _ ∙ ap (λ ys. filter (for_of k) fs ++ ys) (filter-yes (for_of k) (record { client = c; address = address; port = port; request = n; live = None; cancel = None; over = false }) [] e)
-requested-mine k c n (Requests (Cancel address port) wants) fs e = first-mine k (is_free_at c address port) (stopped wants n) (stopped-keeps wants n) (free-mine k c e address port) fs
+requested-mine k c n (Requests (Forward key) wants) fs e = filter-append (for_of k) fs _ ∙ ap (λ ys. filter (for_of k) fs ++ ys) (filter-yes (for_of k) (record { client = c; key = key; request = n; live = None; cancel = None; over = false }) [] e)
+requested-mine k c n (Requests (Cancel key) wants) fs e = first-mine k (is_free_at c key) (stopped wants n) (stopped-keeps wants n) (free-mine k c e key) fs
 requested-mine k c n (Requests KeepAlive wants) fs e = refl
 requested-mine k c n (Requests OtherName wants) fs e = refl
 requested-mine k c n m fs e = refl
 
 requested-other : (k c n : ℕ) (m : Gist) (fs : List Forwarding) → (c == k) ≡ false → filter (for_of k) (requested c n m fs) ≡ filter (for_of k) fs
-requested-other k c n (Requests (Forward address port) wants) fs e = filter-append (for_of k) fs _ ∙ (ap (λ ys. filter (for_of k) fs ++ ys) (filter-no (for_of k) (record { client = c; address = address; port = port; request = n; live = None; cancel = None; over = false }) [] e) ∙ append-nil (filter (for_of k) fs))
-requested-other k c n (Requests (Cancel address port) wants) fs e = first-other k (is_free_at c address port) (stopped wants n) (stopped-keeps wants n) (free-other k c e address port) fs
+requested-other k c n (Requests (Forward key) wants) fs e = filter-append (for_of k) fs _ ∙ (ap (λ ys. filter (for_of k) fs ++ ys) (filter-no (for_of k) (record { client = c; key = key; request = n; live = None; cancel = None; over = false }) [] e) ∙ append-nil (filter (for_of k) fs))
+requested-other k c n (Requests (Cancel key) wants) fs e = first-other k (is_free_at c key) (stopped wants n) (stopped-keeps wants n) (free-other k c e key) fs
 requested-other k c n (Requests KeepAlive wants) fs e = refl
 requested-other k c n (Requests OtherName wants) fs e = refl
 requested-other k c n m fs e = refl
@@ -208,7 +209,7 @@ forwardings-local k (row ∷ before) = by_case (forwardings-local k before) (row
         ∙ (ih ∙ sym (ap forwardings_of (filter-no (λ (r : Row). r.client == k) row before e))))
 
 -- the earliest that is live at a place, where it is a client's, is the earliest of the client's
-pub live-local : (k : ℕ) (rows : List Row) (address : List ℕ) (port : ℕ) (f : Forwarding) → live_at rows address port ≡ Some f → f.client ≡ k → live_at (rows_of k rows) address port ≡ Some f
-live-local k rows address port f live mine =
-    ap (λ fs. find (λ (f : Forwarding). is_number f.live port && bytes_eq f.address address) (filter (λ (f : Forwarding). not f.over) fs)) (sym (forwardings-local k rows))
-    ∙ find-part (λ (f : Forwarding). not f.over) (for_of k) (λ (f : Forwarding). is_number f.live port && bytes_eq f.address address) f (forwardings_of rows) live (is-of f.client k mine)
+pub live-local : (k : ℕ) (rows : List Row) (key : Key) (f : Forwarding) → live_at rows key ≡ Some f → f.client ≡ k → live_at (rows_of k rows) key ≡ Some f
+live-local k rows key f live mine =
+    ap (λ fs. find (λ (f : Forwarding). has_key f.live key) (filter (λ (f : Forwarding). not f.over) fs)) (sym (forwardings-local k rows))
+    ∙ find-part (λ (f : Forwarding). not f.over) (for_of k) (λ (f : Forwarding). has_key f.live key) f (forwardings_of rows) live (is-of f.client k mine)

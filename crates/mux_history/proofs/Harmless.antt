@@ -2,17 +2,18 @@
 use Rattle.std.proofs.Common.{◌≡◌, ℕ, List, [], ◌∷◌, ◌++◌, length, true, false, Bool, Option, Some, None, Ok, Err}
 use Rattle.std.specs.Prelude.{filter, not, Result, flat_map, nat_lt, is_none, codes}
 use Rattle.mux_history.specs.Channels.{Channel, any_by, held_of, is_closes, is_confirmed, is_up}
-use Rattle.mux_history.specs.Farewell.{farewell, late, late_refusal, late_success, leave_channel, leave_forwarding, to_number, with_ask}
-use Rattle.mux_history.specs.Forwardings.{Forwarding, bound, forwarded, forwardings_of}
+use Rattle.mux_history.specs.Farewell.{cancel_live, farewell, late, late_refusal, late_success, leave_channel, leave_forwarding, to_number, with_ask}
+use Rattle.mux_history.specs.Forwardings.{Forwarding, forwarded, forwardings_of}
 use Rattle.mux_history.specs.Gist.{Confirmation, Gist, Open, Refuses, Requests, Succeeds, Within, read_gist}
 use Rattle.mux_history.specs.Heard.{for_client, for_lost, for_master, heard_for, heard_gist, heard_master}
 use Rattle.mux_history.specs.Kept.{Every, IsMasters}
+use Rattle.mux_history.specs.Keys.{bound}
 use Rattle.mux_history.specs.Requests.{Ask, asker}
 use Rattle.mux_history.specs.Rows.{Row, is_lost}
 use Rattle.mux_history.specs.Said.{Outcome, sends, silent, tells}
 use Rattle.ssh_fields.specs.Fields.{str, u32}
 use Rattle.ssh_grammar.specs.Frames.{frame_payload}
-use Rattle.ssh_grammar.specs.Messages.{Cancel, Forward, Global}
+use Rattle.ssh_grammar.specs.Messages.{Cancel, Forward, Global, Key}
 use Rattle.ssh_grammar.specs.SpellMessage.{cancel_forward, close, open_failure, request_failure}
 use Rattle.ssh_grammar.specs.declared.fault.Bad.{Bad}
 use Rattle.ssh_grammar.specs.declared.side.Side.TheVariants.{Up}
@@ -30,8 +31,8 @@ harmless-refusal m reads = gist-always IsMasters request_failure m tt reads
 pub harmless-failure : (s reason : ℕ) (text : List ℕ) → Harmless (open_failure s reason text)
 harmless-failure s reason text m reads = gist-always IsMasters (open_failure s reason text) m (failure-always IsMasters (u32 s ++ (u32 reason ++ (str text ++ str []))) (λ n. tt)) reads
 
-pub harmless-cancel : (address : List ℕ) (port : ℕ) → Harmless (cancel_forward address port)
-harmless-cancel address port m reads = gist-always IsMasters (cancel_forward address port) m (cancel-always IsMasters address port (λ a p. tt)) reads
+pub harmless-cancel : (key : Key) → Harmless (cancel_forward key)
+harmless-cancel key m reads = gist-always IsMasters (cancel_forward key) m (cancel-always IsMasters key (λ key. tt)) reads
 
 pub every-append : (P : List ℕ → Type 0) (xs ys : List (List ℕ)) → Every P xs → Every P ys → Every P (xs ++ ys)
 every-append P [] ys a b = b
@@ -61,8 +62,12 @@ harmless-parts (x ∷ xs) = every-append Harmless (leave_channel x) (flat_map le
 pub harmless-forwarding : (f : Forwarding) → Every Harmless (leave_forwarding f)
 harmless-forwarding f = by_case (is_none f.cancel)
   where
-    by_case : (b : Bool) → Every Harmless (elim b as (λ _. List (List ℕ)) [ true ↦ to_number f.live (λ port. cancel_forward f.address port) | false ↦ [] ])
-    by_case true = every-to f.live _ (λ port. harmless-cancel f.address port)
+    by_live : (live : Option Key) → Every Harmless (cancel_live live)
+    by_live None = tt
+    by_live (Some key) = (harmless-cancel key, tt)
+
+    by_case : (b : Bool) → Every Harmless (elim b as (λ _. List (List ℕ)) [ true ↦ cancel_live f.live | false ↦ [] ])
+    by_case true = by_live f.live
     by_case false = tt
 
 pub harmless-forwardings : (fs : List Forwarding) → Every Harmless (flat_map leave_forwarding fs)
@@ -77,11 +82,11 @@ harmless-asked None f each = tt
 harmless-asked (Some a) f each = each a.what
 
 pub harmless-success : (rest : List ℕ) (g : Global) → Every Harmless (late_success rest g)
-harmless-success rest (Forward address port) = (harmless-cancel address (bound port rest), tt)
+harmless-success rest (Forward key) = (harmless-cancel (bound key rest), tt)
 harmless-success rest g = tt
 
 pub harmless-late-refusal : (g : Global) → Every Harmless (late_refusal g)
-harmless-late-refusal (Cancel address port) = (harmless-cancel address port, tt)
+harmless-late-refusal (Cancel key) = (harmless-cancel key, tt)
 harmless-late-refusal g = tt
 
 pub harmless-late : (m : Gist) (own : List Row) → Every Harmless (late m own)

@@ -29,6 +29,7 @@ pub mod Readings
 pub mod Renumbered
 pub mod RightLogs
 pub mod Rooms
+pub mod SameKeys
 pub mod Sends
 pub mod Steps
 pub mod Wires

@@ -3,10 +3,10 @@ use Rattle.std.proofs.Common.{◌≡◌, ℕ, ◌+◌, List, [], ◌∷◌, ◌+
 use Rattle.ssh_fields.specs.Fields.{u32, str, take_bool, take_u32, take_str}
 use Rattle.ssh_grammar.specs.declared.fault.Bad.{Bad}
 use Rattle.ssh_grammar.specs.declared.fault.Bad.TheVariants as bad
-use Rattle.ssh_grammar.specs.Messages.{Message, PlainMessage, Plain, To, GlobalRequest, Global, Cancel, OpenFailure, Close, cancel_name}
+use Rattle.ssh_grammar.specs.Messages.{Key, Tcp, Path, Message, PlainMessage, Plain, To, GlobalRequest, Global, Cancel, OpenFailure, Close, cancel_name, cancel_path_name}
 use Rattle.ssh_grammar.specs.SpellMessage.{cancel_forward}
 use Rattle.ssh_fields.proofs.Fields.{take_str-str}
-use Rattle.ssh_grammar.specs.ReadMessage.{Reading, on_bool, on_u32, on_str, on_end, with_reading, read_message, read_open_failure, read_global_request, read_global, read_key}
+use Rattle.ssh_grammar.specs.ReadMessage.{Reading, on_bool, on_u32, on_str, on_end, with_reading, read_message, read_open_failure, read_global_request, read_global, read_key, read_path}
 use Rattle.mux_history.specs.Gist.{Gist, Requests, Within, Fails, Closes, gist, gist_to, gist_of_plain, read_gist, reading}
 
 -- ---- a payload and its gist
@@ -86,10 +86,16 @@ request-always P rest each =
     with-always (λ m. P (gist_of_plain m)) (read_global name rest at) (GlobalRequest name want rest) (λ what. each what want))))
 
 -- the master's cancel reads as one
-pub cancel-always : (P : Gist → Type 0) (address : List ℕ) (port : ℕ) → ((address : List ℕ) (port : ℕ) → P (Requests (Cancel address port) false)) → Always (λ m. P (gist m)) (read_message (cancel_forward address port))
-cancel-always P address port each =
+pub cancel-always : (P : Gist → Type 0) (key : Key) → ((key : Key) → P (Requests (Cancel key) false)) → Always (λ m. P (gist m)) (read_message (cancel_forward key))
+cancel-always P (Tcp address port) each =
     then-always (λ m. P (gist m)) (read_global_request (str cancel_name ++ (0 ∷ (str address ++ u32 port)))) Plain
     (subst (λ t. Always (λ m. P (gist_of_plain m)) (elim t as (λ _. Reading PlainMessage) [ None ↦ Err (bad.Short 1) | Some p ↦ on_bool p.1 (1 + 4 + length p.0) (λ want rest at. with_reading (read_global p.0 rest at) (GlobalRequest p.0 want rest)) ]))
     (sym (take_str-str cancel_name (0 ∷ (str address ++ u32 port)) (omega arith)))
     (then-always (λ m. P (gist_of_plain m)) (read_key (str address ++ u32 port) 26 Cancel) (GlobalRequest cancel_name false (str address ++ u32 port))
-    (str-always (λ what. P (Requests what false)) (str address ++ u32 port) 26 _ (λ a rest at. u32-always (λ what. P (Requests what false)) rest at _ (λ p rest at. end-always (λ what. P (Requests what false)) rest at (Cancel a p) (each a p))))))
+    (str-always (λ what. P (Requests what false)) (str address ++ u32 port) 26 _ (λ a rest at. u32-always (λ what. P (Requests what false)) rest at _ (λ p rest at. end-always (λ what. P (Requests what false)) rest at (Cancel (Tcp a p)) (each (Tcp a p)))))))
+cancel-always P (Path path) each =
+    then-always (λ m. P (gist m)) (read_global_request (str cancel_path_name ++ (0 ∷ str path))) Plain
+    (subst (λ t. Always (λ m. P (gist_of_plain m)) (elim t as (λ _. Reading PlainMessage) [ None ↦ Err (bad.Short 1) | Some p ↦ on_bool p.1 (1 + 4 + length p.0) (λ want rest at. with_reading (read_global p.0 rest at) (GlobalRequest p.0 want rest)) ]))
+    (sym (take_str-str cancel_path_name (0 ∷ str path) (omega arith)))
+    (then-always (λ m. P (gist_of_plain m)) (read_path (str path) 44 Cancel) (GlobalRequest cancel_path_name false (str path))
+    (str-always (λ what. P (Requests what false)) (str path) 44 _ (λ a rest at. end-always (λ what. P (Requests what false)) rest at (Cancel (Path a)) (each (Path a))))))

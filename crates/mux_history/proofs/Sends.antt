@@ -1,6 +1,6 @@
 -- What each row sends up, and how its messages move channels.
 use Rattle.std.proofs.Common.{◌≡◌, ℕ, List, [], ◌∷◌, length, true, false, Bool, refl, Option, Some, None, inl, inr, Ok, Err}
-use Rattle.std.specs.Prelude.{◌==◌, ◌&&◌, ◌⊎◌, Result, nat_lt, nat_le, codes}
+use Rattle.std.specs.Prelude.{◌==◌, ◌&&◌, ◌⊎◌, Result, nat_lt, codes}
 use Rattle.mux_history.specs.Channels.{Channel, held_of, is_held, is_number, with_down, with_own, with_up, with_ups}
 use Rattle.mux_history.specs.Controls.{answers_ask, said_body, said_first, said_later}
 use Rattle.mux_history.specs.Farewell.{farewell}
@@ -8,6 +8,7 @@ use Rattle.mux_history.specs.Forwardings.{current, is_free_at}
 use Rattle.mux_history.specs.Gist.{Confirmation, Gist, Open, Refuses, Requests, Succeeds, Transport, Within, read_gist, reading, sender_of}
 use Rattle.mux_history.specs.Heard.{heard_for, heard_master}
 use Rattle.mux_history.specs.Kept.{Every}
+use Rattle.mux_history.specs.Keys.{is_askable}
 use Rattle.mux_history.specs.Ledger.{breach}
 use Rattle.mux_history.specs.Log.{admits, all_told, bare, open_matters, queued, row_of}
 use Rattle.mux_history.specs.Policy.{Policy, permits}
@@ -67,8 +68,8 @@ sent-by policy k own pick p (Requests what wants) = by_full (is_full_of_asks wan
     by_if false = inl refl
 
     by_what : (g : Global) → Sent own pick p (Requests what wants) (said_request policy k own p g wants).sent
-    by_what (Forward address port) = by_if (wants && (nat_le (length address) 255 && (permits policy.listens address port && nat_lt (length (current own)) 64)))
-    by_what (Cancel address port) = by_if (any_of (is_free_at k address port) (current own))
+    by_what (Forward key) = by_if (wants && (is_askable key && (permits policy.listens key && nat_lt (length (current own)) 64)))
+    by_what (Cancel key) = by_if (any_of (is_free_at k key) (current own))
     by_what KeepAlive = by_if true
     by_what OtherName = inl refl
 
@@ -83,7 +84,7 @@ sent-by policy k own pick p (Open what c w max) = by_unused (with_own own c) ref
 
     by_type : (t : Opens) → with_own own c ≡ None → Sent own pick p (Open what c w max) (said_open policy own pick p c t).sent
     by_type Session unused = by_room (nat_lt (length (held_of own)) 256) unused
-    by_type (Direct host port) unused = elim (permits policy.opens host port) as (λ b. Sent own pick p (Open what c w max) (elim b as (λ _. Outcome) [ true ↦ sends_open own pick p c | false ↦ fails_open c 1 (codes "not permitted") ]).sent) [ true ↦ by_room (nat_lt (length (held_of own)) 256) unused | false ↦ inl refl ]
+    by_type (Direct key) unused = elim (permits policy.opens key) as (λ b. Sent own pick p (Open what c w max) (elim b as (λ _. Outcome) [ true ↦ sends_open own pick p c | false ↦ fails_open c 1 (codes "not permitted") ]).sent) [ true ↦ by_room (nat_lt (length (held_of own)) 256) unused | false ↦ inl refl ]
     by_type t unused = inl refl
 
     by_unused : (o : Option Channel) → with_own own c ≡ o → Sent own pick p (Open what c w max) (on_unused c (said_open policy own pick p c what) o).sent

@@ -2,13 +2,14 @@
 use Rattle.std.specs.Prelude.{ℕ, List, [], ◌∷◌, ◌++◌, Option, Some, None, Bool, true, false, not, ◌&&◌, ◌||◌, length, filter, is_none, flat_map, nat_lt}
 use Rattle.ssh_grammar.specs.declared.side.Side.TheVariants.{Up}
 use Rattle.ssh_grammar.specs.declared.numbers.TheConstants.{CONNECT_FAILED}
-use Rattle.ssh_grammar.specs.Messages.{Global, Forward, Cancel}
+use Rattle.ssh_grammar.specs.Messages.{Key, Global, Forward, Cancel}
 use Rattle.ssh_grammar.specs.SpellMessage.{close, open_failure, cancel_forward, client_is_gone}
 use Rattle.mux_history.specs.Gist.{Gist, Succeeds, Refuses, Confirmation}
 use Rattle.mux_history.specs.Rows.{Row, any_of, is_lost, is_admit}
 use Rattle.mux_history.specs.Channels.{Channel, held_of, is_confirmed, is_up, any_by, is_closes, is_held}
 use Rattle.mux_history.specs.Requests.{Ask, asks, replies, asker}
-use Rattle.mux_history.specs.Forwardings.{Forwarding, bound, forwarded, forwardings_of}
+use Rattle.mux_history.specs.Keys.{bound}
+use Rattle.mux_history.specs.Forwardings.{Forwarding, forwarded, forwardings_of}
 
 -- ---- at once
 
@@ -24,12 +25,14 @@ leave_channel x = elim (is_confirmed x) [
   | false ↦ elim (is_up x.by) [ true ↦ [] | false ↦ to_number x.remote (λ s. open_failure s CONNECT_FAILED client_is_gone) ]
 ]
 
--- a cancel without reply of a live forwarding that no unanswered cancel means
+-- a cancel without reply of a key that is live
+abbrev pub cancel_live : Option Key → List (List ℕ)
+cancel_live None = []
+cancel_live (Some key) = cancel_forward key ∷ []
+
+-- the same of a forwarding that no unanswered cancel means
 abbrev pub leave_forwarding : Forwarding → List (List ℕ)
-leave_forwarding f = elim (is_none f.cancel) [
-  | true ↦ to_number f.live (λ port. cancel_forward f.address port)
-  | false ↦ []
-]
+leave_forwarding f = elim (is_none f.cancel) [ true ↦ cancel_live f.live | false ↦ [] ]
 
 -- for the row that loses the client, with its other outputs, after the client's rows before it: channels in the order in
 -- which they began, then forwardings in order of asking; the loss itself has not ended the forwardings here
@@ -41,12 +44,12 @@ farewell row own =
 
 -- after a success: a forwarding that was asked is cancelled
 abbrev pub late_success : List ℕ → Global → List (List ℕ)
-late_success rest (Forward address port) = cancel_forward address (bound port rest) ∷ []
+late_success rest (Forward key) = cancel_forward (bound key rest) ∷ []
 late_success rest _ = []
 
 -- after a failure: a cancel that was asked is said again, without reply
 abbrev pub late_refusal : Global → List (List ℕ)
-late_refusal (Cancel address port) = cancel_forward address port ∷ []
+late_refusal (Cancel key) = cancel_forward key ∷ []
 late_refusal _ = []
 
 -- what follows for the request that is answered

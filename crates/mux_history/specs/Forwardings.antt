@@ -1,28 +1,23 @@
--- Remote forwardings (RFC 4254, section 7.1), looked up in the rows. A request is known by its place among its client's
--- sent wanted requests.
-use Rattle.std.specs.Prelude.{ℕ, ◌==◌, List, [], ◌∷◌, ◌++◌, Option, Some, None, Bool, true, false, not, ◌&&◌, length, map, filter, find, bytes_eq, is_none}
-use Rattle.ssh_fields.specs.Fields.{u32_at}
-use Rattle.ssh_grammar.specs.Messages.{Forward, Cancel}
+-- Remote forwardings of ports (RFC 4254, section 7.1) and of paths (OpenSSH's PROTOCOL, section 2.4), looked up in the
+-- rows. A request is known by its place among its client's sent wanted requests.
+use Rattle.std.specs.Prelude.{ℕ, ◌==◌, List, [], ◌∷◌, ◌++◌, Option, Some, None, Bool, true, false, not, ◌&&◌, length, map, filter, find, is_none}
+use Rattle.ssh_grammar.specs.Messages.{Key, Forward, Cancel}
 use Rattle.ssh_grammar.specs.Said.{Payload}
 use Rattle.mux_history.specs.Gist.{Gist, Requests, Succeeds, Refuses, reading}
 use Rattle.mux_history.specs.Rows.{Row, rows_of, loses, Says, Heard}
 use Rattle.mux_history.specs.Channels.{is_number}
+use Rattle.mux_history.specs.Keys.{has_key, bound}
 use Rattle.mux_history.specs.Requests.{asks, replies, is_sent}
 
--- a forwarding: its client, the address and port that were asked, the place of its request, its port once the server's
--- success came, and the place of the unanswered cancel that means it
+-- a forwarding: its client, the key that was asked, the place of its request, its key once the server's success came,
+-- and the place of the unanswered cancel that means it
 pub record Forwarding : Type 0 where
   pub client : ℕ
-  pub address : List ℕ
-  pub port : ℕ
+  pub key : Key
   pub request : ℕ
-  pub live : Option ℕ
+  pub live : Option Key
   pub cancel : Option ℕ
   pub over : Bool
-
--- the port that is listened on: the one asked, or the one in the success where 0 was asked
-abbrev pub bound : ℕ → List ℕ → ℕ
-bound port rest = elim (port == 0) [ true ↦ u32_at 0 rest | false ↦ port ]
 
 -- the forwarding was asked at this place, and has no success yet
 abbrev pub is_request : Forwarding → ℕ → Bool
@@ -32,7 +27,7 @@ is_request f place = (f.request == place) && is_none f.live
 -- there; a refusal ends what was asked there and leaves what was to be cancelled there
 abbrev pub replied : ℕ → Gist → Forwarding → Forwarding
 replied place (Succeeds rest) f = elim (is_request f place) [
-  | true ↦ record f { live = Some (bound f.port rest) }
+  | true ↦ record f { live = Some (bound f.key rest) }
   | false ↦ elim (is_number f.cancel place) [ true ↦ record f { over = true } | false ↦ f ]
 ]
 replied place Refuses f = elim (is_request f place) [
@@ -41,10 +36,9 @@ replied place Refuses f = elim (is_request f place) [
 ]
 replied place _ f = f
 
--- live with this address and port, and no unanswered cancel means it
-abbrev pub is_free_at : ℕ → List ℕ → ℕ → Forwarding → Bool
-is_free_at k address port f =
-    (f.client == k) && (not f.over && (is_none f.cancel && (is_number f.live port && bytes_eq f.address address)))
+-- live with this key, and no unanswered cancel means it
+abbrev pub is_free_at : ℕ → Key → Forwarding → Bool
+is_free_at k key f = (f.client == k) && (not f.over && (is_none f.cancel && has_key f.live key))
 
 -- what a cancel leaves of the forwarding that it means: one that wants no reply ends it at once
 abbrev pub stopped : Bool → ℕ → Forwarding → Forwarding
@@ -61,10 +55,10 @@ change_first test change (f ∷ fs) = elim (test f) [
 
 -- what a client's request that is sent makes of the forwardings
 abbrev pub requested : ℕ → ℕ → Gist → List Forwarding → List Forwarding
-requested k place (Requests (Forward address port) wants) fs =
-    fs ++ record { client = k; address = address; port = port; request = place; live = None; cancel = None; over = false } ∷ []
-requested k place (Requests (Cancel address port) wants) fs =
-    change_first (is_free_at k address port) (stopped wants place) fs
+requested k place (Requests (Forward key) wants) fs =
+    fs ++ record { client = k; key = key; request = place; live = None; cancel = None; over = false } ∷ []
+requested k place (Requests (Cancel key) wants) fs =
+    change_first (is_free_at k key) (stopped wants place) fs
 requested k place _ fs = fs
 
 -- a change of one client's forwardings
@@ -96,6 +90,6 @@ forwardings_of (row ∷ before) =
 abbrev pub current : List Row → List Forwarding
 current rows = filter (λ f. not f.over) (forwardings_of rows)
 
--- the earliest forwarding that is live with this address and port
-abbrev pub live_at : List Row → List ℕ → ℕ → Option Forwarding
-live_at rows address port = find (λ f. is_number f.live port && bytes_eq f.address address) (current rows)
+-- the earliest forwarding that is live with this key
+abbrev pub live_at : List Row → Key → Option Forwarding
+live_at rows key = find (λ f. has_key f.live key) (current rows)

@@ -15,6 +15,7 @@ use Rattle.mux_history.specs.Rows.{Row, is_lost, Item, Heard, Goes, End}
 use Rattle.mux_history.specs.Channels.{Channel, held_of, holder, live_in, is_confirmed, is_up}
 use Rattle.mux_history.specs.Ledger.{breach}
 use Rattle.mux_history.specs.Requests.{Ask, asker}
+use Rattle.mux_history.specs.Keys.{learns_port}
 use Rattle.mux_history.specs.Forwardings.{live_at}
 use Rattle.mux_history.specs.Farewell.{late}
 use Rattle.mux_history.specs.Said.{Outcome, silent, sends, tells}
@@ -36,15 +37,15 @@ dest_asker (Some a) f = f a
 -- a success must have four bytes where a port is to be learnt
 abbrev pub dest_success : List ℕ → Ask → Dest
 dest_success rest a = elim a.what [
-  | Forward address port ↦ elim (port == 0 && not (length rest == 4)) [ true ↦ Breaks (broke.BadReply (length rest)) | false ↦ ToClient a.client ]
+  | Forward key ↦ elim (learns_port key && not (length rest == 4)) [ true ↦ Breaks (broke.BadReply (length rest)) | false ↦ ToClient a.client ]
   | _ ↦ ToClient a.client
 ]
 
 -- a number of the server that is live may not be used again; a forwarded connection goes to the client of the earliest live forwarding
 abbrev pub dest_open : List Row → ℕ → Opens → Dest
-dest_open rows s (Forwarded address port) = elim (live_in rows s) [
+dest_open rows s (Forwarded key) = elim (live_in rows s) [
   | Some x ↦ Breaks (broke.NumberInUse s)
-  | None ↦ elim (live_at rows address port) [ Some f ↦ ToClient f.client | None ↦ ToMaster ]
+  | None ↦ elim (live_at rows key) [ Some f ↦ ToClient f.client | None ↦ ToMaster ]
 ]
 dest_open rows s _ = elim (live_in rows s) [ Some x ↦ Breaks (broke.NumberInUse s) | None ↦ ToMaster ]
 

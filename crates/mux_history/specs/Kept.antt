@@ -71,16 +71,16 @@ pub record Window (before : List Row) (row : Row) : Type 0 where
 
 -- ---- Permission: no forwarding passes its permission list, and each forwarded open meets a live forwarding
 
--- a direct channel and a forwarding that is asked are on their lists
+-- a direct channel and a forwarding that is asked are on their lists, be it by address and port or by path
 abbrev pub IsPermitted : Policy → Gist → Type 0
-IsPermitted policy (Open (Direct host port) c window maximum) = permits policy.opens host port ≡ true
-IsPermitted policy (Requests (Forward address port) wants) = permits policy.listens address port ≡ true
+IsPermitted policy (Open (Direct key) c window maximum) = permits policy.opens key ≡ true
+IsPermitted policy (Requests (Forward key) wants) = permits policy.listens key ≡ true
 IsPermitted policy m = Unit {0}
 
--- a forwarded open is for the client of the earliest live forwarding
+-- a forwarded open is for the client of the earliest live forwarding of its key
 abbrev pub MeetsLive : List Row → ℕ → Gist → Type 0
-MeetsLive before k (Open (Forwarded address port) s window maximum) =
-    option_map (λ f. f.client) (live_at before address port) ≡ Some k
+MeetsLive before k (Open (Forwarded key) s window maximum) =
+    option_map (λ f. f.client) (live_at before key) ≡ Some k
 MeetsLive before k m = Unit {0}
 
 -- what a row sends and tells is permitted
@@ -118,7 +118,7 @@ pub record Asker (before : List Row) (row : Row) : Type 0 where
 abbrev pub IsMasters : Gist → Type 0
 IsMasters (Within s Closes) = Unit {0}
 IsMasters (Within s Fails) = Unit {0}
-IsMasters (Requests (Cancel address port) wants) = Unit {0}
+IsMasters (Requests (Cancel key) wants) = Unit {0}
 IsMasters Refuses = Unit {0}
 IsMasters m = ⊥
 

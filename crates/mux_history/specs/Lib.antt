@@ -6,6 +6,7 @@ pub mod Channels
 pub mod Ledger
 pub mod Requests
 pub mod Policy
+pub mod Keys
 pub mod Forwardings
 pub mod Farewell
 pub mod Said
@@ -24,6 +25,7 @@ pub mod Kept
 pub mod Worked
 pub mod WorkedProxy
 pub mod WorkedForwards
+pub mod WorkedPaths
 pub mod WorkedLosses
 pub mod Settings
 pub mod Laws

@@ -1,11 +1,12 @@
 -- What may be opened and what may be listened on, and how the entries of a permission list are read.
 use Rattle.std.specs.Prelude.{ℕ, ◌+◌, ◌-◌, ◌*◌, List, [], ◌∷◌, Option, Some, None, Result, Ok, Err, Bool, true, false, ◌&&◌, ◌||◌, ◌==◌, bytes_eq, nat_le, codes}
+use Rattle.ssh_grammar.specs.Messages.{Key, Tcp, Path}
 use Rattle.mux_history.specs.Rows.{any_of}
 
--- `None` stands for each host, and for each port
-pub record Entry : Type 0 where
-  pub host : Option (List ℕ)
-  pub port : Option ℕ
+-- hosts and ports, where `None` stands for each of them; or a path
+pub data Entry : Type 0 where
+  Ports : (host : Option (List ℕ)) (port : Option ℕ) → Entry
+  Paths : (path : List ℕ) → Entry
 
 -- all, or what some entry permits
 pub data Allow : Type 0 where
@@ -29,22 +30,22 @@ abbrev pub has_port : Option ℕ → ℕ → Bool
 has_port None port = true
 has_port (Some p) port = p == port
 
--- some entry permits it
-abbrev pub permits_any : List Entry → List ℕ → ℕ → Bool
-permits_any [] host port = false
-permits_any (e ∷ entries) host port =
-    (has_host e.host host && has_port e.port port) || permits_any entries host port
+-- the entry is for this key: one for ports is for no path, and one for a path is for no port
+abbrev pub is_for : Key → Entry → Bool
+is_for (Tcp address port) (Ports host asked) = has_host host address && has_port asked port
+is_for (Path path) (Paths asked) = bytes_eq asked path
+is_for _ _ = false
 
--- hosts are compared by bytes; the port asked is the one that is looked at, 0 included
-abbrev pub permits : Allow → List ℕ → ℕ → Bool
-permits Anything host port = true
-permits (Entries entries) host port = permits_any entries host port
+-- hosts and paths are compared by bytes; the port asked is the one that is looked at, 0 included
+abbrev pub permits : Allow → Key → Bool
+permits Anything key = true
+permits (Entries entries) key = any_of (is_for key) entries
 
 -- all is permitted
 abbrev pub any_policy : Policy
 any_policy = record { opens = Anything; listens = Anything }
 
--- ---- how a list is read: `any`, `none`, or entries `host:port`, `[address]:port` and `port`
+-- ---- how a list is read: `any`, `none`, or entries `/path`, `host:port`, `[address]:port` and `port`
 
 -- a decimal number up to 65,535; leading zeros are allowed
 abbrev pub digits : ℕ → List ℕ → Option ℕ
@@ -66,17 +67,17 @@ read_port text = elim (bytes_eq text (codes "*")) [
   | false ↦ elim (read_number text) [ None ↦ None | Some n ↦ Some (Some n) ]
 ]
 
--- `*`, or a text that isn't empty
+-- `*`, or a text that isn't empty and doesn't begin with a slash
 abbrev pub read_host : List ℕ → Option (Option (List ℕ))
 read_host [] = None
 read_host (b ∷ text) = elim (bytes_eq (b ∷ text) (codes "*")) [
   | true ↦ Some None
-  | false ↦ Some (Some (b ∷ text))
+  | false ↦ elim (b == 47) [ true ↦ None | false ↦ Some (Some (b ∷ text)) ]
 ]
 
 -- both parts of an entry
 abbrev pub entry_of : Option (Option (List ℕ)) → Option (Option ℕ) → Option Entry
-entry_of (Some host) (Some port) = Some (record { host = host; port = port })
+entry_of (Some host) (Some port) = Some (Ports host port)
 entry_of _ _ = None
 
 -- the text before the last byte of a kind, and the text after it
@@ -110,10 +111,13 @@ read_bare text = elim (before_last 58 text) [
   | Some parts ↦ elim (any_of is_mark parts.0) [ true ↦ None | false ↦ entry_of (read_host parts.0) (read_port parts.1) ]
 ]
 
--- an entry, by its first byte
+-- an entry, by its first byte: one that begins with a slash is a path
 abbrev pub read_entry : List ℕ → Option Entry
 read_entry [] = None
-read_entry (b ∷ text) = elim (b == 91) [ true ↦ read_bracketed text | false ↦ read_bare (b ∷ text) ]
+read_entry (b ∷ text) = elim (b == 47) [
+  | true ↦ Some (Paths (b ∷ text))
+  | false ↦ elim (b == 91) [ true ↦ read_bracketed text | false ↦ read_bare (b ∷ text) ]
+]
 
 -- the entries, or the place of the first text that is none
 abbrev pub read_entries : ℕ → List (List ℕ) → Result (List Entry) ℕ

@@ -6,7 +6,7 @@ use Rattle.ssh_grammar.specs.declared.numbers.TheConstants.{DISCONNECT, REQUEST_
 use Rattle.ssh_grammar.specs.Messages.{Opens, Session, Direct, Global, Forward, Cancel, KeepAlive, OtherName}
 use Rattle.ssh_grammar.specs.SpellMessage.{with_sender, open_failure, not_permitted, unknown_type, too_many_channels}
 use Rattle.ssh_grammar.specs.Frames.{frame_payload}
-use Rattle.mux_history.specs.declared.limits.TheConstants.{MAX_ADDRESS, MAX_CHANNELS, MAX_FORWARDINGS, MAX_GLOBAL_REQUESTS}
+use Rattle.mux_history.specs.declared.limits.TheConstants.{MAX_CHANNELS, MAX_FORWARDINGS, MAX_GLOBAL_REQUESTS}
 use Rattle.mux_history.specs.declared.why.Why.{Why}
 use Rattle.mux_history.specs.declared.why.Why.TheVariants as why
 use Rattle.mux_history.specs.Gist.{Gist, Transport, Requests, Succeeds, Refuses, Open, Confirmation, Within, Act, Fails, read_gist}
@@ -15,6 +15,7 @@ use Rattle.mux_history.specs.Channels.{Channel, held_of, is_confirmed, is_up, is
 use Rattle.mux_history.specs.Ledger.{breach}
 use Rattle.mux_history.specs.Requests.{unanswered_asks}
 use Rattle.mux_history.specs.Policy.{Policy, permits}
+use Rattle.mux_history.specs.Keys.{is_askable}
 use Rattle.mux_history.specs.Forwardings.{current, is_free_at}
 
 -- what an item does before answers, the queue's bound and the farewell: payloads up, frames down, and a fate
@@ -68,7 +69,7 @@ sends_open own pick p sender = elim (nat_lt (length (held_of own)) MAX_CHANNELS)
 -- sessions and permitted direct channels alone
 abbrev pub said_open : Policy → List Row → ℕ → List ℕ → ℕ → Opens → Outcome
 said_open policy own pick p sender Session = sends_open own pick p sender
-said_open policy own pick p sender (Direct host port) = elim (permits policy.opens host port) [
+said_open policy own pick p sender (Direct key) = elim (permits policy.opens key) [
   | true ↦ sends_open own pick p sender
   | false ↦ fails_open sender ADMINISTRATIVELY_PROHIBITED not_permitted
 ]
@@ -117,10 +118,9 @@ sends_if false p = silent
 abbrev pub said_request : Policy → ℕ → List Row → List ℕ → Global → Bool → Outcome
 said_request policy k own p KeepAlive wants = sends p
 said_request policy k own p OtherName wants = silent
-said_request policy k own p (Forward address port) wants =
-    sends_if (wants && (nat_le (length address) MAX_ADDRESS && (permits policy.listens address port && nat_lt (length (current own)) MAX_FORWARDINGS))) p
-said_request policy k own p (Cancel address port) wants =
-    sends_if (any_of (is_free_at k address port) (current own)) p
+said_request policy k own p (Forward key) wants =
+    sends_if (wants && (is_askable key && (permits policy.listens key && nat_lt (length (current own)) MAX_FORWARDINGS))) p
+said_request policy k own p (Cancel key) wants = sends_if (any_of (is_free_at k key) (current own)) p
 
 -- one wanted request too many
 abbrev pub is_full_of_asks : Bool → List Row → Bool

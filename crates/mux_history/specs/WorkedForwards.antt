@@ -3,7 +3,7 @@ use Rattle.std.specs.Prelude.{ℕ, List, [], ◌∷◌, ◌++◌, Some, None, co
 use Rattle.mux_outside.specs.declared.mark.Mark.{Mark}
 use Rattle.mux_outside.specs.declared.mark.Mark.TheVariants.{Gets, Ends, WriteFails}
 use Rattle.ssh_fields.specs.Fields.{u32}
-use Rattle.mux_history.specs.Policy.{Policy, Anything, Entries}
+use Rattle.mux_history.specs.Policy.{Policy, Anything, Ports, Entries}
 use Rattle.mux_history.specs.Worked.{hex, enters}
 
 -- asks for a forwarding of a port at any address
@@ -55,7 +55,7 @@ connected_twice = connected ++ Gets 0 (connects_to 40002 9) ∷ []
 -- one port may be listened on
 abbrev pub port_8080_only : Policy
 port_8080_only =
-    record { opens = Anything; listens = Entries (record { host = None; port = Some 8080 } ∷ []) }
+    record { opens = Anything; listens = Entries (Ports None (Some 8080) ∷ []) }
 
 -- two ports are asked for
 abbrev pub one_of_two_ports : List Mark

@@ -4,7 +4,7 @@ use Rattle.mux_outside.specs.declared.mark.Mark.{Mark}
 use Rattle.mux_outside.specs.declared.mark.Mark.TheVariants.{Gets, Ends, Fails}
 use Rattle.ssh_fields.specs.Fields.{u32}
 use Rattle.mux_history.specs.Rows.{Row}
-use Rattle.mux_history.specs.Policy.{Policy, Anything, Entries, any_policy}
+use Rattle.mux_history.specs.Policy.{Policy, Anything, Ports, Entries, any_policy}
 use Rattle.mux_history.specs.Choices.{FromLists}
 use Rattle.mux_history.specs.Log.{Setting}
 use Rattle.mux_history.specs.Worked.{hex, sent, enters}
@@ -72,7 +72,7 @@ foreign_data = confirmed ++ Gets 1 (hex (codes "0000000b 00 5e 00000005 00000001
 -- one host and port may be opened
 abbrev pub database_only : Policy
 database_only =
-    record { opens = Entries (record { host = Some (codes "db"); port = Some 5432 } ∷ []); listens = Anything }
+    record { opens = Entries (Ports (Some (codes "db")) (Some 5432) ∷ []); listens = Anything }
 
 -- an open to another
 abbrev pub to_web : List ℕ

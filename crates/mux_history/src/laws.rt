@@ -2,6 +2,7 @@
 //! the law.
 
 ghost use Rattle.mux_history.specs.Laws.{OthersStay, LookUpsAreLocal, Locality, HeldGoesOn, AnswersOnlyGrow, AccountsGoOn, WrittenAddsUp, JournalsGiveRightLogs, NumbersAreApart, PicksAreTaken, RoomsNeverFall, OneIndexServes};
+ghost use Rattle.mux_history.specs.Keys.{KeysAreToldApart};
 ghost use Rattle.mux_history.specs.Wires.{WiresKeepTheLaw};
 ghost use Rattle.mux_history.specs.Steps.{CurrentGoesOn, MattersGoOn, AskersGoOn, UnrepliedAreLocal, PendingGoesOn, TakesLeaveTheRest};
 
@@ -102,4 +103,9 @@ pub fn takes_leave_the_rest()
 /// that: each turn, each answer to a write and each close that its law allows keeps it so.
 pub fn journals_of_wires_are_lawful()
     ensures { WiresKeepTheLaw }
+{}
+
+/// The same key is told by its kind, its bytes and its port; an address and a path never are the same.
+pub fn keys_are_told_apart()
+    ensures { KeysAreToldApart }
 {}

@@ -9,7 +9,7 @@ pub const MAX_CHANNELS: usize = 256;
 /// Forwardings of a client, asked or live.
 pub const MAX_FORWARDINGS: usize = 64;
 
-/// Bytes of a forwarding's address.
+/// Bytes of a forwarding's address or path.
 pub const MAX_ADDRESS: usize = 255;
 
 /// Wanted global requests of a client without an answer.

@@ -6,5 +6,6 @@ mod control;
 mod forwards;
 mod limits;
 mod losses;
+mod paths;
 mod policy;
 mod proxy;

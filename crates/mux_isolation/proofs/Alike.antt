@@ -6,6 +6,7 @@ use Rattle.mux_history.specs.Channels.{Channel, channels_of, held_of, is_confirm
 use Rattle.mux_history.specs.Choices.{said_number}
 use Rattle.mux_history.specs.Forwardings.{current, forwardings_of, is_free_at}
 use Rattle.mux_history.specs.Gist.{Act, Asks, Confirmation, Gist, Open, Refuses, Requests, Succeeds, Transport, Within, sender_of}
+use Rattle.mux_history.specs.Keys.{is_askable}
 use Rattle.mux_history.specs.Ledger.{breach}
 use Rattle.mux_history.specs.Pending.{waiting_down}
 use Rattle.mux_history.specs.Policy.{Policy, permits}
@@ -105,8 +106,8 @@ module _ (own own' : List Row) (alike : Alike own own') where
   requests-said : (policy : Policy) (k : ℕ) (p : List ℕ) (what : Global) (wants : Bool) → said_request policy k own' p what wants ≡ said_request policy k own p what wants
   requests-said policy k p KeepAlive wants = refl
   requests-said policy k p OtherName wants = refl
-  requests-said policy k p (Forward address port) wants = ap (λ fs. sends_if (wants && (nat_le (length address) 255 && (permits policy.listens address port && nat_lt (length fs) 64))) p) current-alike
-  requests-said policy k p (Cancel address port) wants = ap (λ fs. sends_if (any_of (is_free_at k address port) fs) p) current-alike
+  requests-said policy k p (Forward key) wants = ap (λ fs. sends_if (wants && (is_askable key && (permits policy.listens key && nat_lt (length fs) 64))) p) current-alike
+  requests-said policy k p (Cancel key) wants = ap (λ fs. sends_if (any_of (is_free_at k key) fs) p) current-alike
 
   sends-said : (pick c : ℕ) (p : List ℕ) → Resent pick c p → sends_as c p ≡ numbered (Some c) (sends_as pick p)
   sends-said pick c p again = ap sends (sym again)
@@ -120,7 +121,7 @@ module _ (own own' : List Row) (alike : Alike own own') where
 
   open-said : (policy : Policy) (pick c : ℕ) (p : List ℕ) (what : Opens) → Resent pick c p → said_open policy own' c p c what ≡ numbered (Some c) (said_open policy own pick p c what)
   open-said policy pick c p Session again = sends_open-said pick c p again
-  open-said policy pick c p (Direct host port) again = by_case (permits policy.opens host port)
+  open-said policy pick c p (Direct key) again = by_case (permits policy.opens key)
     where
       by_case : (b : Bool) → (elim b as (λ _. Outcome) [ true ↦ sends_open own' c p c | false ↦ fails_open c 1 (codes "not permitted") ]) ≡ numbered (Some c) (elim b as (λ _. Outcome) [ true ↦ sends_open own pick p c | false ↦ fails_open c 1 (codes "not permitted") ])
       by_case true = sends_open-said pick c p again

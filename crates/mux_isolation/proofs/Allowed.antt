@@ -1,12 +1,13 @@
 -- What goes up is within its window and permitted.
 use Rattle.std.proofs.Common.{◌≡◌, ℕ, List, [], length, true, false, Bool, refl, sym, Option, Some, None, subst, Ok, Err}
-use Rattle.std.specs.Prelude.{◌==◌, ◌&&◌, Result, nat_lt, nat_le, codes}
+use Rattle.std.specs.Prelude.{◌==◌, ◌&&◌, Result, nat_lt, codes}
 use Rattle.mux_history.specs.Channels.{Channel, held_of, with_own}
 use Rattle.mux_history.specs.Controls.{greeted, said_body}
 use Rattle.mux_history.specs.Forwardings.{current, is_free_at}
 use Rattle.mux_history.specs.Gist.{Act, Carries, Closes, Confirmation, Fails, Gist, Open, Refuses, Requests, Succeeds, Transport, Within, read_gist}
 use Rattle.mux_history.specs.Heard.{Breaks, Dest, Disconnects, ToClient, ToMaster, dest, heard_for, heard_master}
 use Rattle.mux_history.specs.Kept.{Every, Fits, ForEach, IsMasters}
+use Rattle.mux_history.specs.Keys.{is_askable}
 use Rattle.mux_history.specs.Ledger.{breach}
 use Rattle.mux_history.specs.Log.{admits, bare, heard_row, row_of, treat}
 use Rattle.mux_history.specs.Policy.{Policy, permits}
@@ -36,7 +37,7 @@ SendOk policy own q = (m : Gist) → read_gist q ≡ Ok m → MaySend policy own
 harmless-may : (policy : Policy) (own : List Row) (m : Gist) → IsMasters m → MaySend policy own m
 harmless-may policy own (Within s Closes) h = tt
 harmless-may policy own (Within s Fails) h = tt
-harmless-may policy own (Requests (Cancel address port) wants) h = tt
+harmless-may policy own (Requests (Cancel key) wants) h = tt
 harmless-may policy own Refuses h = tt
 harmless-may policy own (Within s act) h = absurd h
 harmless-may policy own (Requests what wants) h = absurd h
@@ -66,8 +67,8 @@ up-said policy k own pick p (Requests what wants) bytes reads = by_full (is_full
     third false b c d e = cc
 
     by_what : (g : Global) → what ≡ g → Every (SendOk policy own) (said_request policy k own p g wants).sent
-    by_what (Forward address port) is = by_if (wants && (nat_le (length address) 255 && (permits policy.listens address port && nat_lt (length (current own)) 64))) (λ e. subst (λ (g : Global). MaySend policy own (Requests g wants)) (sym is) (third wants (nat_le (length address) 255) (permits policy.listens address port) (nat_lt (length (current own)) 64) e))
-    by_what (Cancel address port) is = by_if (any_of (is_free_at k address port) (current own)) (λ e. subst (λ (g : Global). MaySend policy own (Requests g wants)) (sym is) tt)
+    by_what (Forward key) is = by_if (wants && (is_askable key && (permits policy.listens key && nat_lt (length (current own)) 64))) (λ e. subst (λ (g : Global). MaySend policy own (Requests g wants)) (sym is) (third wants (is_askable key) (permits policy.listens key) (nat_lt (length (current own)) 64) e))
+    by_what (Cancel key) is = by_if (any_of (is_free_at k key) (current own)) (λ e. subst (λ (g : Global). MaySend policy own (Requests g wants)) (sym is) tt)
     by_what KeepAlive is = by_if true (λ e. subst (λ (g : Global). MaySend policy own (Requests g wants)) (sym is) tt)
     by_what OtherName is = tt
 
@@ -85,9 +86,9 @@ up-said policy k own pick p (Open what c w max) bytes reads = by_unused (with_ow
 
     by_type : (t : Opens) → what ≡ t → Every (SendOk policy own) (said_open policy own pick p c t).sent
     by_type Session is = by_room (subst (λ (t : Opens). MaySend policy own (Open t (word pick) w max)) (sym is) tt) (nat_lt (length (held_of own)) 256)
-    by_type (Direct host port) is = by_permit (permits policy.opens host port) refl
+    by_type (Direct key) is = by_permit (permits policy.opens key) refl
       where
-        by_permit : (b : Bool) → permits policy.opens host port ≡ b → Every (SendOk policy own) (elim b as (λ _. Outcome) [ true ↦ sends_open own pick p c | false ↦ fails_open c 1 (codes "not permitted") ]).sent
+        by_permit : (b : Bool) → permits policy.opens key ≡ b → Every (SendOk policy own) (elim b as (λ _. Outcome) [ true ↦ sends_open own pick p c | false ↦ fails_open c 1 (codes "not permitted") ]).sent
         by_permit true e = by_room (subst (λ (t : Opens). MaySend policy own (Open t (word pick) w max)) (sym is) e) (nat_lt (length (held_of own)) 256)
         by_permit false e = tt
     by_type t is = tt

@@ -1,11 +1,12 @@
 -- What the server says to a client goes to it alone too, and does the same.
 use Rattle.std.proofs.Common.{◌≡◌, ℕ, List, [], ◌∷◌, length, true, false, Bool, refl, ◌∙◌, ap, map, sym, Option, Some, None, subst, Ok, Err}
-use Rattle.std.specs.Prelude.{◌==◌, ◌&&◌, filter, find, not, Result, option_map, bytes_eq, nat_lt, codes, slice_get}
+use Rattle.std.specs.Prelude.{◌==◌, ◌&&◌, filter, find, not, Result, option_map, nat_lt, codes, slice_get}
 use Rattle.mux_history.specs.Channels.{Channel, channels_of, holder, is_held, is_number, live_in}
 use Rattle.mux_history.specs.Farewell.{late, late_refusal, late_success, with_ask}
 use Rattle.mux_history.specs.Forwardings.{Forwarding, live_at}
 use Rattle.mux_history.specs.Gist.{Act, Confirmation, Fails, Gist, Open, Refuses, Requests, Succeeds, Transport, Within, read_gist, recipient_of}
 use Rattle.mux_history.specs.Heard.{Breaks, Dest, Disconnects, ToClient, ToMaster, dest, dest_asker, dest_confirmation, dest_gist, dest_open, dest_success, dest_within, for_client, for_lost, heard_for, heard_gist, is_pending, own_number, renamed}
+use Rattle.mux_history.specs.Keys.{has_key}
 use Rattle.mux_history.specs.Ledger.{breach}
 use Rattle.mux_history.specs.Log.{heard_row, row_of, treat}
 use Rattle.mux_history.specs.Policy.{Policy}
@@ -14,6 +15,7 @@ use Rattle.mux_history.specs.Rows.{Goes, Heard, Row, is_lost, rows_of}
 use Rattle.mux_history.specs.Said.{Outcome, sends, silent, tells}
 use Rattle.mux_history.specs.Solo.{item_for}
 use Rattle.ssh_grammar.specs.Frames.{frame_payload}
+use Rattle.ssh_grammar.specs.Messages.{Key}
 use Rattle.ssh_grammar.specs.SpellMessage.{open_failure, wants, with_recipient}
 use Rattle.ssh_grammar.specs.declared.fault.Bad.{Bad}
 use Rattle.ssh_grammar.specs.declared.side.Side.TheVariants.{Down}
@@ -90,8 +92,8 @@ module _ (before : List Row) (good : AreApart (channels_of before)) (orderly : O
   asker-alone : asker (alone (rows_of k before)) ≡ asker (rows_of k before)
   asker-alone = ap (λ xs. slice_get xs (length (replies (alone (rows_of k before))))) (asks-alone (rows_of k before)) ∙ ap (λ rs. slice_get (asks (rows_of k before)) (length rs)) (replies-alone (rows_of k before) small)
 
-  live-at-alone : (address : List ℕ) (port : ℕ) → live_at (alone (rows_of k before)) address port ≡ live_at (rows_of k before) address port
-  live-at-alone address port = ap (λ fs. find (λ (f : Forwarding). is_number f.live port && bytes_eq f.address address) (filter (λ (f : Forwarding). not f.over) fs)) (forwardings-alone k (rows_of k before) (all-of k before) small)
+  live-at-alone : (key : Key) → live_at (alone (rows_of k before)) key ≡ live_at (rows_of k before) key
+  live-at-alone key = ap (λ fs. find (λ (f : Forwarding). has_key f.live key) (filter (λ (f : Forwarding). not f.over) fs)) (forwardings-alone k (rows_of k before) (all-of k before) small)
 
   -- ---- the payload that the client sees
 
@@ -219,8 +221,8 @@ module _ (before : List Row) (good : AreApart (channels_of before)) (orderly : O
   none-to (Open what s w max) none to =
       let f : Offered before s what k = offered before s what k to in
       ap (dest_open (alone (rows_of k before)) s) f.is
-      ∙ (ap (λ o. elim o as (λ _. Dest) [ Some x ↦ Breaks (broke.NumberInUse s) | None ↦ elim (live_at (alone (rows_of k before)) f.address f.port) as (λ _. Dest) [ Some f ↦ ToClient f.client | None ↦ ToMaster ] ]) (live-alone s f.unused)
-      ∙ (ap (λ o. elim o as (λ _. Dest) [ Some f ↦ ToClient f.client | None ↦ ToMaster ]) (live-at-alone f.address f.port ∙ live-local k before f.address f.port f.forwarding f.live f.client)
+      ∙ (ap (λ o. elim o as (λ _. Dest) [ Some x ↦ Breaks (broke.NumberInUse s) | None ↦ elim (live_at (alone (rows_of k before)) f.key) as (λ _. Dest) [ Some f ↦ ToClient f.client | None ↦ ToMaster ] ]) (live-alone s f.unused)
+      ∙ (ap (λ o. elim o as (λ _. Dest) [ Some f ↦ ToClient f.client | None ↦ ToMaster ]) (live-at-alone f.key ∙ live-local k before f.key f.forwarding f.live f.client)
       ∙ ap ToClient f.client))
   none-to (Succeeds rest) none to =
       let a : Asked before k = succeeds-asked before rest k to in

@@ -15,8 +15,8 @@ use Rattle.ssh_grammar.specs.declared.side.Side.TheVariants.{Down, Up}
 -- from the client's rows before it
 abbrev pub MaySend : Policy → List Row → Gist → Type 0
 MaySend policy own (Within s (Carries size)) = Fits Up size (confirmed_at own s)
-MaySend policy own (Open (Direct host port) c window maximum) = permits policy.opens host port ≡ true
-MaySend policy own (Requests (Forward address port) wants) = permits policy.listens address port ≡ true
+MaySend policy own (Open (Direct key) c window maximum) = permits policy.opens key ≡ true
+MaySend policy own (Requests (Forward key) wants) = permits policy.listens key ≡ true
 MaySend policy own m = Unit {0}
 
 abbrev pub SendsAllowed : Policy → List Row → Row → Type 0
@@ -24,7 +24,7 @@ SendsAllowed policy before row = EachSays (MaySend policy (rows_of row.client be
 
 abbrev pub MayTell : List Row → ℕ → Gist → Type 0
 MayTell before k (Within c (Carries size)) = Fits Down size (with_own (rows_of k before) c)
-MayTell before k (Open (Forwarded address port) s window maximum) = option_map (λ f. f.client) (live_at before address port) ≡ Some k
+MayTell before k (Open (Forwarded key) s window maximum) = option_map (λ f. f.client) (live_at before key) ≡ Some k
 MayTell before k m = Unit {0}
 
 abbrev pub TellsAllowed : List Row → Row → Type 0
@@ -37,8 +37,8 @@ send-fits policy own (Within s (Carries size)) may = may
 send-fits policy own m may = tt
 
 send-permitted : (policy : Policy) (own : List Row) (m : Gist) → MaySend policy own m → IsPermitted policy m
-send-permitted policy own (Open (Direct host port) c window maximum) may = may
-send-permitted policy own (Requests (Forward address port) wants) may = may
+send-permitted policy own (Open (Direct key) c window maximum) may = may
+send-permitted policy own (Requests (Forward key) wants) may = may
 send-permitted policy own m may = tt
 
 tell-fits : (before : List Row) (k : ℕ) (m : Gist) → MayTell before k m → DownFits (rows_of k before) m
@@ -46,7 +46,7 @@ tell-fits before k (Within c (Carries size)) may = may
 tell-fits before k m may = tt
 
 tell-meets : (before : List Row) (k : ℕ) (m : Gist) → MayTell before k m → MeetsLive before k m
-tell-meets before k (Open (Forwarded address port) s window maximum) may = may
+tell-meets before k (Open (Forwarded key) s window maximum) may = may
 tell-meets before k m may = tt
 
 says-each : (P Q : Gist → Type 0) → ((m : Gist) → P m → Q m) → (ps : List (List ℕ)) → EachSays P ps → EachSays Q ps

@@ -7,6 +7,7 @@ use Rattle.mux_history.specs.Forwardings.{Forwarding, current, is_free_at}
 use Rattle.mux_history.specs.Gist.{Act, Carries, Closes, Confirmation, Fails, Gist, Open, Refuses, Requests, Succeeds, Transport, Within, read_gist, reading, recipient_of}
 use Rattle.mux_history.specs.Heard.{Breaks, Dest, Disconnects, ToClient, ToMaster, dest, dest_gist, for_client, for_lost, for_master, heard_for, heard_gist, heard_master, renamed}
 use Rattle.mux_history.specs.Kept.{Every, Fits, ForEach, IsMasters}
+use Rattle.mux_history.specs.Keys.{is_askable}
 use Rattle.mux_history.specs.Ledger.{breach}
 use Rattle.mux_history.specs.Log.{admits, all_told, bare, fitting, goes, heard_row, new_answers, open_matters, row_of, treat}
 use Rattle.mux_history.specs.Pending.{waiting_down}
@@ -111,8 +112,8 @@ module _ (before : List Row) (k : ℕ) where
       by_if false = tt
 
       by_what : (g : Global) → Every (TellOk before k) (said_request policy k own p g wants).told
-      by_what (Forward address port) = by_if (wants && (nat_le (length address) 255 && (permits policy.listens address port && nat_lt (length (current own)) 64)))
-      by_what (Cancel address port) = by_if (any_of (is_free_at k address port) (current own))
+      by_what (Forward key) = by_if (wants && (is_askable key && (permits policy.listens key && nat_lt (length (current own)) 64)))
+      by_what (Cancel key) = by_if (any_of (is_free_at k key) (current own))
       by_what KeepAlive = tt
       by_what OtherName = tt
 
@@ -127,7 +128,7 @@ module _ (before : List Row) (k : ℕ) where
 
       by_type : (t : Opens) → Every (TellOk before k) (said_open policy own pick p c t).told
       by_type Session = by_room (nat_lt (length (held_of own)) 256)
-      by_type (Direct host port) = elim (permits policy.opens host port) as (λ b. Every (TellOk before k) (elim b as (λ _. Outcome) [ true ↦ sends_open own pick p c | false ↦ fails_open c 1 (codes "not permitted") ]).told) [ true ↦ by_room (nat_lt (length (held_of own)) 256) | false ↦ (fails-tell c 1 (codes "not permitted"), tt) ]
+      by_type (Direct key) = elim (permits policy.opens key) as (λ b. Every (TellOk before k) (elim b as (λ _. Outcome) [ true ↦ sends_open own pick p c | false ↦ fails_open c 1 (codes "not permitted") ]).told) [ true ↦ by_room (nat_lt (length (held_of own)) 256) | false ↦ (fails-tell c 1 (codes "not permitted"), tt) ]
       by_type t = (fails-tell c 3 (codes "unknown channel type"), tt)
 
       by_unused : (o : Option Channel) → Every (TellOk before k) (on_unused c (said_open policy own pick p c what) o).told

@@ -11,12 +11,13 @@ use Rattle.ssh_grammar.specs.declared.fault.Breach.{Breach}
 use Rattle.ssh_grammar.specs.declared.fault.Breach.TheVariants.{AfterClose, AfterEof, NotOpen, Overflow, TooManyAsks, Unasked}
 use Rattle.ssh_grammar.specs.declared.numbers.TheConstants.{ADMINISTRATIVELY_PROHIBITED, RESOURCE_SHORTAGE}
 use Rattle.ssh_grammar.specs.declared.side.Side.TheVariants.{Up}
-use Rattle.mux_history.specs.declared.limits.TheConstants.{MAX_ADDRESS, MAX_CHANNELS, MAX_CHANNEL_REQUESTS, MAX_FORWARDINGS, MAX_GLOBAL_REQUESTS, MAX_WINDOW}
+use Rattle.mux_history.specs.declared.limits.TheConstants.{MAX_CHANNELS, MAX_CHANNEL_REQUESTS, MAX_FORWARDINGS, MAX_GLOBAL_REQUESTS, MAX_WINDOW}
 use Rattle.mux_history.specs.declared.why.Why.TheVariants as why
 use Rattle.mux_history.specs.Channels.{Channel, held_of, is_number, is_up, with_own}
 use Rattle.mux_history.specs.Controls.{greeted, said_body}
 use Rattle.mux_history.specs.Forwardings.{Forwarding, current, is_free_at}
 use Rattle.mux_history.specs.Gist.{Act, Answers, Asks, Carries, Confirmation, Ends, Gist, Grants, Open, Refuses, Requests, Succeeds, Transport, Within, read_gist}
+use Rattle.mux_history.specs.Keys.{is_askable}
 use Rattle.mux_history.specs.Ledger.{breach, packet_breach}
 use Rattle.mux_history.specs.Log.{said_by_client}
 use Rattle.mux_history.specs.Pending.{pending_down}
@@ -141,7 +142,7 @@ module _ (own others : List Row) (same : own_view own ≡ own_view others) where
 
   said-open : (policy : Policy) (pick : ℕ) (p : List ℕ) (sender : ℕ) (what : Opens) → said_open policy own pick p sender what ≡ said_open policy others pick p sender what
   said-open policy pick p sender Session = sends-open pick p sender
-  said-open policy pick p sender (Direct host port) = by_case (permits policy.opens host port)
+  said-open policy pick p sender (Direct key) = by_case (permits policy.opens key)
     where
       by_case : (b : Bool) → (elim b as (λ _. Outcome) [ true ↦ sends_open own pick p sender | false ↦ fails_open sender ADMINISTRATIVELY_PROHIBITED not_permitted ]) ≡ (elim b as (λ _. Outcome) [ true ↦ sends_open others pick p sender | false ↦ fails_open sender ADMINISTRATIVELY_PROHIBITED not_permitted ])
       by_case true = sends-open pick p sender
@@ -149,8 +150,8 @@ module _ (own others : List Row) (same : own_view own ≡ own_view others) where
   said-open policy pick p sender what = refl
 
   said-request : (policy : Policy) (k : ℕ) (p : List ℕ) (what : Global) (wants : Bool) → said_request policy k own p what wants ≡ said_request policy k others p what wants
-  said-request policy k p (Forward address port) wants = ap (λ (fs : List Forwarding). sends_if (wants && (nat_le (length address) MAX_ADDRESS && (permits policy.listens address port && nat_lt (length fs) MAX_FORWARDINGS))) p) forwardings
-  said-request policy k p (Cancel address port) wants = ap (λ (fs : List Forwarding). sends_if (any_of (is_free_at k address port) fs) p) forwardings
+  said-request policy k p (Forward key) wants = ap (λ (fs : List Forwarding). sends_if (wants && (is_askable key && (permits policy.listens key && nat_lt (length fs) MAX_FORWARDINGS))) p) forwardings
+  said-request policy k p (Cancel key) wants = ap (λ (fs : List Forwarding). sends_if (any_of (is_free_at k key) fs) p) forwardings
   said-request policy k p KeepAlive wants = refl
   said-request policy k p OtherName wants = refl
 

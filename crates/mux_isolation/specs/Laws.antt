@@ -1,19 +1,16 @@
 -- Laws over all runs: each holds of every right log of a lawful wire, whatever numbers are picked and whatever the
 -- house replies.
-use Rattle.std.specs.Prelude.{ℕ, ◌+◌, ◌==◌, ◌≡◌, ◌≤◌, List, [], ◌∷◌, false, length}
-use Rattle.mux_history.specs.declared.limits.TheConstants.{MAX_CHANNELS, MAX_CLIENTS, MAX_FORWARDINGS, MAX_GLOBAL_REQUESTS, MAX_QUEUE}
+use Rattle.std.specs.Prelude.{ℕ, ◌==◌, ◌≡◌, ◌≤◌, List, ◌∷◌, false}
+use Rattle.mux_history.specs.declared.limits.TheConstants.{MAX_QUEUE}
 use Rattle.mux_history.specs.Policy.{Policy}
-use Rattle.mux_history.specs.Rows.{Row, rows_of, is_ended, Item, Admit, Heard}
+use Rattle.mux_history.specs.Rows.{Row, rows_of, Item, Admit, Heard}
 use Rattle.mux_history.specs.Pending.{waiting_down}
 use Rattle.ssh_grammar.specs.declared.side.Side.{Side}
-use Rattle.mux_history.specs.Channels.{Channel, held_of}
+use Rattle.mux_history.specs.Channels.{Channel}
 use Rattle.mux_history.specs.Ledger.{room, unanswered}
-use Rattle.mux_history.specs.Requests.{asks, replies}
-use Rattle.mux_history.specs.Forwardings.{current}
 use Rattle.mux_history.specs.Farewell.{has_open_matters}
 use Rattle.mux_history.specs.Heard.{ToClient, dest}
-use Rattle.mux_history.specs.Log.{admits, makes_row, open_matters, treat}
-use Rattle.mux_history.specs.Right.{IsAdmitted}
+use Rattle.mux_history.specs.Log.{admits, makes_row, treat}
 use Rattle.mux_history.specs.Kept.{AtEach, ForEach, Window, Permission, Asker, OwnWords, Unshared, Kept}
 use Rattle.mux_history.specs.Laws.{IsOf, OverRight}
 use Rattle.mux_isolation.specs.View.{room_in, unanswered_in, view_of, way_of}
@@ -38,51 +35,12 @@ AskersAreServed = OverRight (λ setting rows. ForEach Asker rows)
 abbrev pub MasterSaysLittle : Type 0
 MasterSaysLittle = OverRight (λ setting rows. ForEach OwnWords rows)
 
--- nothing is left of a client: no channel, no request without a reply, no forwarding
-pub record HasNothing (own : List Row) : Type 0 where
-  pub channels : held_of own ≡ []
-  pub requests : length (asks own) ≤ length (replies own)
-  pub forwardings : current own ≡ []
-
--- an admitted client whose matters are closed has nothing left
-abbrev pub NothingIsLeft : Type 0
-NothingIsLeft =
-    OverRight (λ setting rows. (k : ℕ) → IsAdmitted k rows → has_open_matters (rows_of k rows) ≡ false → HasNothing (rows_of k rows))
-
 -- what waits for each client is at most 33,554,432 bytes
 abbrev pub WaitsBounded : List Row → Type 0
 WaitsBounded rows = (k : ℕ) → waiting_down (rows_of k rows) ≤ MAX_QUEUE
 
 abbrev pub QueuesAreBounded : Type 0
 QueuesAreBounded = OverRight (λ setting rows. AtEach WaitsBounded rows)
-
--- a client holds at most 256 channels
-abbrev pub ChannelsBounded : List Row → Type 0
-ChannelsBounded rows = (k : ℕ) → length (held_of (rows_of k rows)) ≤ MAX_CHANNELS
-
-abbrev pub ChannelsAreFew : Type 0
-ChannelsAreFew = OverRight (λ setting rows. AtEach ChannelsBounded rows)
-
--- a client has at most 64 forwardings, asked or live
-abbrev pub ForwardingsBounded : List Row → Type 0
-ForwardingsBounded rows = (k : ℕ) → length (current (rows_of k rows)) ≤ MAX_FORWARDINGS
-
-abbrev pub ForwardingsAreFew : Type 0
-ForwardingsAreFew = OverRight (λ setting rows. AtEach ForwardingsBounded rows)
-
--- at most 1,024 global requests of a client that were sent have no reply
-abbrev pub RequestsBounded : List Row → Type 0
-RequestsBounded rows = (k : ℕ) → length (asks (rows_of k rows)) ≤ length (replies (rows_of k rows)) + MAX_GLOBAL_REQUESTS
-
-abbrev pub RequestsAreFew : Type 0
-RequestsAreFew = OverRight (λ setting rows. AtEach RequestsBounded rows)
-
--- at most 64 clients have open matters
-abbrev pub MattersBounded : List Row → Type 0
-MattersBounded rows = open_matters rows ≤ MAX_CLIENTS
-
-abbrev pub ClientsAreFew : Type 0
-ClientsAreFew = OverRight (λ setting rows. AtEach MattersBounded rows)
 
 -- every right log keeps all that a run promises of its rows
 abbrev pub AllIsKept : Type 0
@@ -107,13 +65,6 @@ IdleRowsLeaveViews =
 -- a log that is cut to the client's rows shows the same of it
 abbrev pub CutsKeepViews : Type 0
 CutsKeepViews = (k : ℕ) (rows : List Row) → view_of k (rows_of k rows) ≡ view_of k rows
-
--- while the run goes on no reply of a client came before its request
-abbrev pub RepliesAwaited : List Row → Type 0
-RepliesAwaited rows = is_ended rows ≡ false → (k : ℕ) → (view_of k rows).waiting.early ≡ []
-
-abbrev pub RepliesAreAwaited : Type 0
-RepliesAreAwaited = OverRight (λ setting rows. AtEach RepliesAwaited rows)
 
 -- two rows are the same, and so are the views after them
 pub record SameStep (k : ℕ) (rows others : List Row) (row other : Row) : Type 0 where

@@ -1,11 +1,7 @@
-ghost use Rattle.mux_isolation.specs.Laws.{Isolation, WindowsAreKept, PermissionsAreKept, AskersAreServed};
-ghost use Rattle.mux_isolation.specs.Laws.{MasterSaysLittle, NothingIsLeft, AllIsKept};
-ghost use Rattle.mux_isolation.specs.Laws.{QueuesAreBounded, ChannelsAreFew, ForwardingsAreFew, RequestsAreFew, ClientsAreFew};
-ghost use Rattle.mux_isolation.specs.Laws.{ViewsShowRooms, IdleRowsLeaveViews, CutsKeepViews, RepliesAreAwaited, RowsFollowViews};
+ghost use Rattle.mux_isolation.specs.Laws.{Isolation, WindowsAreKept, PermissionsAreKept, AskersAreServed, MasterSaysLittle, AllIsKept};
+ghost use Rattle.mux_isolation.specs.Laws.{QueuesAreBounded, ViewsShowRooms, IdleRowsLeaveViews, CutsKeepViews, RowsFollowViews};
 ghost use Rattle.mux_isolation.specs.Renaming.{RowsAreRenamed, ViewsAreRenamed, CutsCutItems};
 ghost use Rattle.mux_isolation.specs.Bytes.{BytesAreUnshared, TakesAreUnshared};
-ghost use Rattle.mux_isolation.specs.ControlPhase.{ControlPhaseIsKept};
-ghost use Rattle.mux_isolation.specs.Bounds.{RowsAddLittle, MarksAddLittle, ServerQueueIsBounded, RunsAreBounded, RestsAreShort};
 
 /// What an admitted client is told and what is sent for it is what an unshared connection gives from its
 /// own bytes and the server's messages for its channels, up to the numbers that stand for its own.
@@ -63,47 +59,15 @@ pub fn master_says_little()
     ensures { MasterSaysLittle }
 {}
 
-/// A client whose matters are closed has no channel, no request without a reply and no forwarding left.
-pub fn nothing_is_left()
-    ensures { NothingIsLeft }
-{}
-
 /// At no row do more than 33,554,432 bytes wait for a client.
 pub fn queues_are_bounded()
     ensures { QueuesAreBounded }
-{}
-
-/// At no row does a client hold more than 256 channels.
-pub fn channels_are_few()
-    ensures { ChannelsAreFew }
-{}
-
-/// At no row does a client have more than 64 forwardings, asked or live.
-pub fn forwardings_are_few()
-    ensures { ForwardingsAreFew }
-{}
-
-/// At no row have more than 1,024 global requests of a client been sent without a reply.
-pub fn requests_are_few()
-    ensures { RequestsAreFew }
-{}
-
-/// At no row do more than 64 clients have open matters.
-pub fn clients_are_few()
-    ensures { ClientsAreFew }
 {}
 
 /// Every right log keeps all that a run promises of its rows: windows, permissions, askers, numbers apart,
 /// and the unshared connection of each admitted client.
 pub fn all_is_kept()
     ensures { AllIsKept }
-{}
-
-/// Where the control phase alone is served, the log of every lawful journal keeps all that a run promises of
-/// its rows, whatever the house replies, also where want of memory cut it: what each admitted client is told
-/// is what an unshared connection gives, the server is given nothing, and the limits hold.
-pub fn control_phase_is_kept()
-    ensures { ControlPhaseIsKept }
 {}
 
 /// What is seen of a channel shows the rooms of both directions and how many requests have no reply.
@@ -121,42 +85,8 @@ pub fn cuts_keep_views()
     ensures { CutsKeepViews }
 {}
 
-/// While the run goes on, no reply of a client came before its request: the view has none that is
-/// early.
-pub fn replies_are_awaited()
-    ensures { RepliesAreAwaited }
-{}
-
 /// What a client's row gives, and what is seen of the client after it, is known from its item, its pick
 /// and what is seen of it before.
 pub fn rows_follow_views()
     ensures { RowsFollowViews }
-{}
-
-/// A row adds at most 290,180 bytes to what waits for the server: one payload, and one farewell.
-pub fn rows_add_little()
-    ensures { RowsAddLittle }
-{}
-
-/// The rows of one mark of at most 65,536 bytes add at most 3,981,321 bytes to what waits for the
-/// server, also where want of memory cut them.
-pub fn marks_add_little()
-    ensures { MarksAddLittle }
-{}
-
-/// Where bytes are read and clients accepted only while less than 4,194,304 bytes wait for the server,
-/// less than 8,388,608 bytes wait for it ever.
-pub fn server_queue_is_bounded()
-    ensures { ServerQueueIsBounded }
-{}
-
-/// Over any wire, which reads and accepts only right behind a wait for that, and where each wait keeps
-/// what a run promises of it, less than 8,388,608 bytes wait for the server ever.
-pub fn runs_are_bounded()
-    ensures { RunsAreBounded }
-{}
-
-/// Of a stream that is read on, at most 262,147 bytes are not cut yet.
-pub fn rests_are_short()
-    ensures { RestsAreShort }
 {}

@@ -1,14 +1,14 @@
 -- What reads as a message is spelled so.
 use Rattle.std.proofs.Common.{◌≡◌, ℕ, ◌≤◌, List, [], ◌∷◌, ◌++◌, Result, Ok, Err, IfOk, refl, sym, ◌∙◌, ap, subst, arith}
 use Rattle.std.specs.List.{AllByRecursion}
-use Rattle.std.proofs.lemmas.List.{append-nil}
+use Rattle.std.proofs.lemmas.List.{append-nil, append_assoc}
 use Rattle.ssh_fields.specs.Fields.{AreBytes, u32, str, is_true}
 use Rattle.ssh_grammar.specs.declared.fault.Bad.{Bad}
 use Rattle.ssh_grammar.specs.declared.numbers.TheConstants as number
-use Rattle.ssh_grammar.specs.Messages.{Global, Forward, Cancel, KeepAlive, OtherName, Opens, Session, Direct, Forwarded, OtherType, PlainMessage, RequestSuccess, RequestFailure, ChannelMessage, Eof, Close, Success, Failure, Plain, To, forward_name, cancel_name, keepalive_name, session_type, direct_type, forwarded_type}
-use Rattle.ssh_grammar.specs.ReadMessage.{on_end, with_reading, read_key, read_global, read_ends, read_opens, read_transport, read_global_request, read_open, read_confirmation, read_open_failure, read_adjust, read_data, read_extended, read_request, read_as, OfPlain, OfChannel, OfNone, forms, read_message}
+use Rattle.ssh_grammar.specs.Messages.{Key, Tcp, Path, Global, Forward, Cancel, OtherName, Opens, Direct, Forwarded, OtherType, PlainMessage, RequestSuccess, RequestFailure, ChannelMessage, Eof, Close, Success, Failure, Plain, To}
+use Rattle.ssh_grammar.specs.ReadMessage.{on_end, with_reading, read_key, read_path, globals, read_global, read_ends, read_direct_path, read_forwarded_path, types, read_opens, read_transport, read_global_request, read_open, read_confirmation, read_open_failure, read_adjust, read_data, read_extended, read_request, read_as, OfPlain, OfChannel, OfNone, forms, read_message}
 use Rattle.ssh_grammar.specs.SpellMessage.{fields_of, wants, number_of, spell_plain}
-use Rattle.ssh_grammar.specs.IsMessage.{IsKey, IsEnds, IsGlobal, IsOpens, IsPlain, IsChannelMessage, Spells}
+use Rattle.ssh_grammar.specs.IsMessage.{IsKey, IsEnds, IsForwardedPath, IsGlobal, IsOpens, IsPlain, IsChannelMessage, Spells}
 use Rattle.ssh_grammar.proofs.Steps.{u32_step, str_step, bool_step}
 use Rattle.ssh_grammar.proofs.Tables.{by_number-holds, by_name-holds}
 
@@ -30,36 +30,80 @@ with_step P Q (Err e) f h go = tt
 
 -- ---- data that is read further
 
-key_is : (what : List ℕ → ℕ → Global) (rest : List ℕ) (at : ℕ) (Q : Global → Type 0) → AreBytes rest → ((address : List ℕ) (port : ℕ) → IsKey rest address port → Q (what address port)) → IfOk (read_key rest at what) Q
+key_is : (what : Key → Global) (rest : List ℕ) (at : ℕ) (Q : Global → Type 0) → AreBytes rest → ((address : List ℕ) (port : ℕ) → IsKey rest (Tcp address port) → Q (what (Tcp address port))) → IfOk (read_key rest at what) Q
 key_is what rest at Q h go = str_step Q _ _ rest h (λ address r0 fits0 e0 h0. u32_step Q _ _ r0 h0 (λ port r1 fits1 e1 _.
-    end_step Q r1 _ (what address port) (λ n. go address port (record {
-      address_fits = fits0;
-      port_fits = fits1;
+    end_step Q r1 _ (what (Tcp address port)) (λ n. go address port (record {
+      fits = (fits0, fits1);
       spelled = e0 ∙ ap (λ x. str address ++ x) (e1 ∙ ap (λ x. u32 port ++ x) n);
     }))))
 
-global_is : (name rest : List ℕ) (at : ℕ) → AreBytes rest → IfOk (read_global name rest at) (λ what. IsGlobal name rest what)
-global_is name rest at h = by_name-holds (λ r. IfOk r (IsGlobal name rest)) ((forward_name, read_key rest at Forward) ∷ (cancel_name, read_key rest at Cancel) ∷ (keepalive_name, Ok KeepAlive) ∷ []) name (Ok OtherName)
-    (λ same. key_is Forward rest at (IsGlobal name rest) h (λ address port is. (same, is)), (λ same. key_is Cancel rest at (IsGlobal name rest) h (λ address port is. (same, is)), (λ same. same, tt)))
-    (λ apart. (apart.0, apart.1.0, apart.1.1.0))
+path_is : (what : Key → Global) (rest : List ℕ) (at : ℕ) (Q : Global → Type 0) → AreBytes rest → ((path : List ℕ) → IsKey rest (Path path) → Q (what (Path path))) → IfOk (read_path rest at what) Q
+path_is what rest at Q h go = str_step Q _ _ rest h (λ path r0 fits0 e0 h0.
+    end_step Q r0 _ (what (Path path)) (λ n. go path (record {
+      fits = fits0;
+      spelled = e0 ∙ (ap (λ x. str path ++ x) n ∙ append-nil (str path));
+    })))
 
-ends_is : (what : List ℕ → ℕ → Opens) (rest : List ℕ) (at : ℕ) (Q : Opens → Type 0) → AreBytes rest → ((host : List ℕ) (port : ℕ) → IsEnds rest host port → Q (what host port)) → IfOk (read_ends rest at what) Q
+global_is : (name rest : List ℕ) (at : ℕ) → AreBytes rest → IfOk (read_global name rest at) (λ what. IsGlobal name rest what)
+global_is name rest at h = by_name-holds (λ r. IfOk r (IsGlobal name rest)) (globals rest at) name (Ok OtherName) (
+  λ same. key_is Forward rest at (IsGlobal name rest) h (λ address port is. (same, is)),
+  (
+    λ same. key_is Cancel rest at (IsGlobal name rest) h (λ address port is. (same, is)),
+    (
+      λ same. path_is Forward rest at (IsGlobal name rest) h (λ path is. (same, is)),
+      (λ same. path_is Cancel rest at (IsGlobal name rest) h (λ path is. (same, is)), (λ same. same, tt)),
+    ),
+  ),
+)
+    (λ apart. (apart.0, apart.1.0, apart.1.1.0, apart.1.1.1.0, apart.1.1.1.1.0))
+
+ends_is : (what : Key → Opens) (rest : List ℕ) (at : ℕ) (Q : Opens → Type 0) → AreBytes rest → ((host : List ℕ) (port : ℕ) → IsEnds rest (Tcp host port) → Q (what (Tcp host port))) → IfOk (read_ends rest at what) Q
 ends_is what rest at Q h go = str_step Q _ _ rest h (λ host r0 fits0 e0 h0. u32_step Q _ _ r0 h0 (λ port r1 fits1 e1 h1.
     str_step Q _ _ r1 h1 (λ from r2 fits2 e2 h2. u32_step Q _ _ r2 h2 (λ from_port r3 fits3 e3 _.
-    end_step Q r3 _ (what host port) (λ n. go host port (record {
+    end_step Q r3 _ (what (Tcp host port)) (λ n. go host port (record {
       originator = from;
       originator_port = from_port;
-      host_fits = fits0;
-      port_fits = fits1;
+      fits = (fits0, fits1);
       originator_fits = fits2;
       originator_port_fits = fits3;
-      spelled = e0 ∙ ap (λ x. str host ++ x) (e1 ∙ ap (λ x. u32 port ++ x) (e2 ∙ ap (λ x. str from ++ x) (e3 ∙ ap (λ x. u32 from_port ++ x) n)));
+      spelled = (e0 ∙ ap (λ x. str host ++ x) (e1 ∙ ap (λ x. u32 port ++ x) (e2 ∙ ap (λ x. str from ++ x) (e3 ∙ ap (λ x. u32 from_port ++ x) n)))) ∙ sym (append_assoc (str host) (u32 port) (str from ++ u32 from_port));
     }))))))
 
+direct_path_is : (rest : List ℕ) (at : ℕ) (Q : Opens → Type 0) → AreBytes rest → ((path : List ℕ) → IsEnds rest (Path path) → Q (Direct (Path path))) → IfOk (read_direct_path rest at) Q
+direct_path_is rest at Q h go = str_step Q _ _ rest h (λ path r0 fits0 e0 h0. str_step Q _ _ r0 h0 (λ reserved r1 fits1 e1 h1. u32_step Q _ _ r1 h1 (λ number r2 fits2 e2 _.
+    end_step Q r2 _ (Direct (Path path)) (λ n. go path (record {
+      originator = reserved;
+      originator_port = number;
+      fits = fits0;
+      originator_fits = fits1;
+      originator_port_fits = fits2;
+      spelled = e0 ∙ ap (λ x. str path ++ x) (e1 ∙ ap (λ x. str reserved ++ x) (e2 ∙ ap (λ x. u32 number ++ x) n));
+    })))))
+
+forwarded_path_is : (rest : List ℕ) (at : ℕ) (Q : Opens → Type 0) → AreBytes rest → ((path : List ℕ) → IsForwardedPath rest path → Q (Forwarded (Path path))) → IfOk (read_forwarded_path rest at) Q
+forwarded_path_is rest at Q h go = str_step Q _ _ rest h (λ path r0 fits0 e0 h0. str_step Q _ _ r0 h0 (λ reserved r1 fits1 e1 _.
+    end_step Q r1 _ (Forwarded (Path path)) (λ n. go path (record {
+      reserved = reserved;
+      fits = fits0;
+      reserved_fits = fits1;
+      spelled = e0 ∙ ap (λ x. str path ++ x) (e1 ∙ (ap (λ x. str reserved ++ x) n ∙ append-nil (str reserved)));
+    }))))
+
 opens_is : (kind rest : List ℕ) (at : ℕ) → AreBytes rest → IfOk (read_opens kind rest at) (λ what. IsOpens kind rest what)
-opens_is kind rest at h = by_name-holds (λ r. IfOk r (IsOpens kind rest)) ((session_type, Ok Session) ∷ (direct_type, read_ends rest at Direct) ∷ (forwarded_type, read_ends rest at Forwarded) ∷ []) kind (Ok OtherType)
-    (λ same. same, (λ same. ends_is Direct rest at (IsOpens kind rest) h (λ host port is. (same, is)), (λ same. ends_is Forwarded rest at (IsOpens kind rest) h (λ host port is. (same, is)), tt)))
-    (λ apart. (apart.0, apart.1.0, apart.1.1.0))
+opens_is kind rest at h = by_name-holds (λ r. IfOk r (IsOpens kind rest)) (types rest at) kind (Ok OtherType) (
+  λ same. same,
+  (
+    λ same. ends_is Direct rest at (IsOpens kind rest) h (λ host port is. (same, is)),
+    (
+      λ same. ends_is Forwarded rest at (IsOpens kind rest) h (λ host port is. (same, is)),
+      (
+        λ same. direct_path_is rest at (IsOpens kind rest) h (λ path is. (same, is)),
+        (λ same. forwarded_path_is rest at (IsOpens kind rest) h (λ path is. (same, is)), tt),
+      ),
+    ),
+  ),
+)
+    (λ apart. (apart.0, apart.1.0, apart.1.1.0, apart.1.1.1.0, apart.1.1.1.1.0))
 
 -- ---- the messages to no channel
 

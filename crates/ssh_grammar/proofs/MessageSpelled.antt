@@ -1,12 +1,12 @@
 -- What is spelled as a message reads as it.
 use Rattle.std.proofs.Common.{◌≡◌, ℕ, zero, suc, ◌+◌, ◌<◌, ◌^◌, List, [], ◌∷◌, ◌++◌, length, Bool, Result, Ok, refl, sym, ◌∙◌, ap, arith}
-use Rattle.std.proofs.lemmas.List.{append-nil}
+use Rattle.std.proofs.lemmas.List.{append-nil, append_assoc}
 use Rattle.ssh_fields.specs.Fields.{u32, str, is_true}
 use Rattle.ssh_grammar.specs.declared.fault.Bad.{Bad}
-use Rattle.ssh_grammar.specs.Messages.{Global, Forward, Cancel, KeepAlive, OtherName, Opens, Session, Direct, Forwarded, OtherType, PlainMessage, Transport, GlobalRequest, RequestSuccess, RequestFailure, Open, ChannelMessage, Confirmation, OpenFailure, Adjust, Data, Extended, Eof, Close, Request, Success, Failure, Message, Plain, To, forward_name, cancel_name, keepalive_name, session_type, direct_type, forwarded_type}
-use Rattle.ssh_grammar.specs.ReadMessage.{on_end, with_reading, read_key, read_global, read_ends, read_opens, read_global_request, read_open, read_confirmation, read_open_failure, read_adjust, read_data, read_extended, read_request, read_as, OfChannel, read_message}
+use Rattle.ssh_grammar.specs.Messages.{Key, Tcp, Path, Global, Forward, Cancel, KeepAlive, OtherName, Opens, Session, Direct, Forwarded, OtherType, PlainMessage, Transport, GlobalRequest, RequestSuccess, RequestFailure, Open, ChannelMessage, Confirmation, OpenFailure, Adjust, Data, Extended, Eof, Close, Request, Success, Failure, Message, Plain, To}
+use Rattle.ssh_grammar.specs.ReadMessage.{on_end, with_reading, read_key, read_path, globals, read_global, read_ends, read_direct_path, read_forwarded_path, types, read_opens, read_global_request, read_open, read_confirmation, read_open_failure, read_adjust, read_data, read_extended, read_request, read_as, OfChannel, read_message}
 use Rattle.ssh_grammar.specs.SpellMessage.{wants, spell_plain, spell_with}
-use Rattle.ssh_grammar.specs.IsMessage.{IsKey, IsEnds, IsGlobal, IsOpens, IsPlain, IsChannelMessage, IsMessage, Spells}
+use Rattle.ssh_grammar.specs.IsMessage.{IsKey, IsEnds, IsForwardedPath, IsGlobal, IsOpens, IsPlain, IsChannelMessage, IsMessage, Spells}
 use Rattle.ssh_grammar.proofs.Steps.{u32_read, str_read, bool_read}
 use Rattle.ssh_grammar.proofs.Tables.{by_name-other}
 
@@ -15,25 +15,40 @@ end_read bytes at m e = ap (λ x. on_end x at m) e
 
 -- ---- data that is read further
 
-key_read : (what : List ℕ → ℕ → Global) (rest address : List ℕ) (port at : ℕ) → IsKey rest address port → read_key rest at what ≡ Ok (what address port)
-key_read what rest address port at is = str_read _ _ _ rest address (u32 port) is.address_fits is.spelled (λ r0 e0.
-    u32_read _ _ _ r0 port [] is.port_fits e0 (λ r1 e1. end_read r1 _ (what address port) e1))
+key_read : (what : Key → Global) (rest address : List ℕ) (port at : ℕ) → IsKey rest (Tcp address port) → read_key rest at what ≡ Ok (what (Tcp address port))
+key_read what rest address port at is = str_read _ _ _ rest address (u32 port) is.fits.0 is.spelled (λ r0 e0.
+    u32_read _ _ _ r0 port [] is.fits.1 e0 (λ r1 e1. end_read r1 _ (what (Tcp address port)) e1))
+
+path_read : (what : Key → Global) (rest path : List ℕ) (at : ℕ) → IsKey rest (Path path) → read_path rest at what ≡ Ok (what (Path path))
+path_read what rest path at is = str_read _ _ _ rest path [] is.fits (is.spelled ∙ sym (append-nil (str path))) (λ r0 e0. end_read r0 _ (what (Path path)) e0)
 
 global_read : (name rest : List ℕ) (at : ℕ) (what : Global) → IsGlobal name rest what → read_global name rest at ≡ Ok what
-global_read name rest at (Forward address port) is = ap (λ x. read_global x rest at) is.0 ∙ key_read Forward rest address port at is.1
-global_read name rest at (Cancel address port) is = ap (λ x. read_global x rest at) is.0 ∙ key_read Cancel rest address port at is.1
+global_read name rest at (Forward (Tcp address port)) is = ap (λ x. read_global x rest at) is.0 ∙ key_read Forward rest address port at is.1
+global_read name rest at (Forward (Path path)) is = ap (λ x. read_global x rest at) is.0 ∙ path_read Forward rest path at is.1
+global_read name rest at (Cancel (Tcp address port)) is = ap (λ x. read_global x rest at) is.0 ∙ key_read Cancel rest address port at is.1
+global_read name rest at (Cancel (Path path)) is = ap (λ x. read_global x rest at) is.0 ∙ path_read Cancel rest path at is.1
 global_read name rest at KeepAlive is = ap (λ x. read_global x rest at) is
-global_read name rest at OtherName is = by_name-other ((forward_name, read_key rest at Forward) ∷ (cancel_name, read_key rest at Cancel) ∷ (keepalive_name, Ok KeepAlive) ∷ []) name (Ok OtherName) (is.0, (is.1, (is.2, tt)))
+global_read name rest at OtherName is = by_name-other (globals rest at) name (Ok OtherName) (is.0, (is.1, (is.2, (is.3, (is.4, tt)))))
 
-ends_read : (what : List ℕ → ℕ → Opens) (rest host : List ℕ) (port at : ℕ) → IsEnds rest host port → read_ends rest at what ≡ Ok (what host port)
-ends_read what rest host port at is = str_read _ _ _ rest host _ is.host_fits is.spelled (λ r0 e0. u32_read _ _ _ r0 port _ is.port_fits e0 (λ r1 e1.
-    str_read _ _ _ r1 is.originator _ is.originator_fits e1 (λ r2 e2. u32_read _ _ _ r2 is.originator_port [] is.originator_port_fits e2 (λ r3 e3. end_read r3 _ (what host port) e3))))
+ends_read : (what : Key → Opens) (rest host : List ℕ) (port at : ℕ) → IsEnds rest (Tcp host port) → read_ends rest at what ≡ Ok (what (Tcp host port))
+ends_read what rest host port at is = str_read _ _ _ rest host _ is.fits.0 (is.spelled ∙ append_assoc (str host) (u32 port) (str is.originator ++ u32 is.originator_port)) (λ r0 e0. u32_read _ _ _ r0 port _ is.fits.1 e0 (λ r1 e1.
+    str_read _ _ _ r1 is.originator _ is.originator_fits e1 (λ r2 e2. u32_read _ _ _ r2 is.originator_port [] is.originator_port_fits e2 (λ r3 e3. end_read r3 _ (what (Tcp host port)) e3))))
+
+direct_path_read : (rest path : List ℕ) (at : ℕ) → IsEnds rest (Path path) → read_direct_path rest at ≡ Ok (Direct (Path path))
+direct_path_read rest path at is = str_read _ _ _ rest path _ is.fits is.spelled (λ r0 e0.
+    str_read _ _ _ r0 is.originator _ is.originator_fits e0 (λ r1 e1. u32_read _ _ _ r1 is.originator_port [] is.originator_port_fits e1 (λ r2 e2. end_read r2 _ (Direct (Path path)) e2)))
+
+forwarded_path_read : (rest path : List ℕ) (at : ℕ) → IsForwardedPath rest path → read_forwarded_path rest at ≡ Ok (Forwarded (Path path))
+forwarded_path_read rest path at is = str_read _ _ _ rest path _ is.fits is.spelled (λ r0 e0.
+    str_read _ _ _ r0 is.reserved [] is.reserved_fits (e0 ∙ sym (append-nil (str is.reserved))) (λ r1 e1. end_read r1 _ (Forwarded (Path path)) e1))
 
 opens_read : (kind rest : List ℕ) (at : ℕ) (what : Opens) → IsOpens kind rest what → read_opens kind rest at ≡ Ok what
 opens_read kind rest at Session is = ap (λ x. read_opens x rest at) is
-opens_read kind rest at (Direct host port) is = ap (λ x. read_opens x rest at) is.0 ∙ ends_read Direct rest host port at is.1
-opens_read kind rest at (Forwarded host port) is = ap (λ x. read_opens x rest at) is.0 ∙ ends_read Forwarded rest host port at is.1
-opens_read kind rest at OtherType is = by_name-other ((session_type, Ok Session) ∷ (direct_type, read_ends rest at Direct) ∷ (forwarded_type, read_ends rest at Forwarded) ∷ []) kind (Ok OtherType) (is.0, (is.1, (is.2, tt)))
+opens_read kind rest at (Direct (Tcp host port)) is = ap (λ x. read_opens x rest at) is.0 ∙ ends_read Direct rest host port at is.1
+opens_read kind rest at (Direct (Path path)) is = ap (λ x. read_opens x rest at) is.0 ∙ direct_path_read rest path at is.1
+opens_read kind rest at (Forwarded (Tcp host port)) is = ap (λ x. read_opens x rest at) is.0 ∙ ends_read Forwarded rest host port at is.1
+opens_read kind rest at (Forwarded (Path path)) is = ap (λ x. read_opens x rest at) is.0 ∙ forwarded_path_read rest path at is.1
+opens_read kind rest at OtherType is = by_name-other (types rest at) kind (Ok OtherType) (is.0, (is.1, (is.2, (is.3, (is.4, tt)))))
 
 -- ---- the messages to no channel
 

@@ -1,10 +1,9 @@
 -- What the master writes of its own reads as what it means.
-use Rattle.std.proofs.Common.{◌≡◌, ℕ, List, [], ◌++◌, Ok, false, refl, arith}
-use Rattle.ssh_fields.specs.Fields.{u32, str}
-use Rattle.ssh_grammar.specs.Messages.{Cancel, GlobalRequest, RequestFailure, OpenFailure, Close, Plain, To, cancel_name}
+use Rattle.std.proofs.Common.{◌≡◌, ℕ, List, [], Ok, false, refl, arith}
+use Rattle.ssh_grammar.specs.Messages.{Key, Tcp, Path, Cancel, GlobalRequest, RequestFailure, OpenFailure, Close, Plain, To, cancel_name_of}
 use Rattle.ssh_grammar.specs.ReadMessage.{read_message}
-use Rattle.ssh_grammar.specs.SpellMessage.{open_failure, close, request_failure, cancel_forward}
-use Rattle.ssh_grammar.specs.IsMessage.{IsNumber, IsString}
+use Rattle.ssh_grammar.specs.SpellMessage.{open_failure, close, request_failure, spell_key, cancel_forward}
+use Rattle.ssh_grammar.specs.IsMessage.{IsNumber, IsString, KeyFits}
 use Rattle.ssh_grammar.proofs.MessageSpelled.{spelled_reads}
 
 pub open_failure_reads : (recipient reason : ℕ) (text : List ℕ) → IsNumber recipient → IsNumber reason → IsString text → read_message (open_failure recipient reason text) ≡ Ok (To recipient (OpenFailure reason text []))
@@ -16,6 +15,10 @@ close_reads recipient h = spelled_reads (To recipient Close) _ (record { is_mess
 pub request_failure_reads : read_message request_failure ≡ Ok (Plain RequestFailure)
 request_failure_reads = refl
 
-pub cancel_forward_reads : (address : List ℕ) (port : ℕ) → IsString address → IsNumber port → read_message (cancel_forward address port) ≡ Ok (Plain (GlobalRequest cancel_name false (str address ++ u32 port) (Cancel address port)))
-cancel_forward_reads address port h k = spelled_reads (Plain (GlobalRequest cancel_name false (str address ++ u32 port) (Cancel address port))) _
-    (record { is_message = (omega arith, (refl, record { address_fits = h; port_fits = k; spelled = refl })); flag = 0; boolean = refl; spelled = refl })
+pub cancel_forward_reads : (key : Key) → KeyFits key → read_message (cancel_forward key) ≡ Ok (Plain (GlobalRequest (cancel_name_of key) false (spell_key key) (Cancel key)))
+cancel_forward_reads key h = spelled_reads (Plain (GlobalRequest (cancel_name_of key) false (spell_key key) (Cancel key))) _
+    (record { is_message = (name_fits key, (refl, record { fits = h; spelled = refl })); flag = 0; boolean = refl; spelled = refl })
+  where
+    name_fits : (key : Key) → IsString (cancel_name_of key)
+    name_fits (Tcp address port) = omega arith
+    name_fits (Path path) = omega arith

@@ -1,18 +1,24 @@
 -- The messages of the connection protocol (RFC 4254) with all their fields, in the order of their numbers.
 use Rattle.std.specs.Prelude.{ℕ, List, Bool, codes}
 
+-- what is listened on or connected to: an address and a port (RFC 4254, section 7), or the path of a Unix socket
+-- (OpenSSH's PROTOCOL, section 2.4)
+pub data Key : Type 0 where
+  Tcp : (address : List ℕ) (port : ℕ) → Key
+  Path : (path : List ℕ) → Key
+
 -- what a global request is about (RFC 4254, sections 4 and 7.1): its data, read further for these names alone
 pub data Global : Type 0 where
-  Forward : (address : List ℕ) (port : ℕ) → Global
-  Cancel : (address : List ℕ) (port : ℕ) → Global
+  Forward : (key : Key) → Global
+  Cancel : (key : Key) → Global
   KeepAlive : Global
   OtherName : Global
 
 -- what an open is about (RFC 4254, sections 6.1 and 7.2): its data, read further for these types alone
 pub data Opens : Type 0 where
   Session : Opens
-  Direct : (host : List ℕ) (port : ℕ) → Opens
-  Forwarded : (address : List ℕ) (port : ℕ) → Opens
+  Direct : (key : Key) → Opens
+  Forwarded : (key : Key) → Opens
   OtherType : Opens
 
 -- the messages to no channel that is open yet; `rest` is the data as it came, and `what` that data read further
@@ -51,6 +57,14 @@ forward_name = codes "tcpip-forward"
 abbrev pub cancel_name : List ℕ
 cancel_name = codes "cancel-tcpip-forward"
 
+-- asks for a forwarding of a path
+abbrev pub forward_path_name : List ℕ
+forward_path_name = codes "streamlocal-forward@openssh.com"
+
+-- cancels one
+abbrev pub cancel_path_name : List ℕ
+cancel_path_name = codes "cancel-streamlocal-forward@openssh.com"
+
 -- asks for a sign of life
 abbrev pub keepalive_name : List ℕ
 keepalive_name = codes "keepalive@openssh.com"
@@ -66,3 +80,29 @@ direct_type = codes "direct-tcpip"
 -- a connection that came to a forwarding
 abbrev pub forwarded_type : List ℕ
 forwarded_type = codes "forwarded-tcpip"
+
+-- a connection to a path that the client makes
+abbrev pub direct_path_type : List ℕ
+direct_path_type = codes "direct-streamlocal@openssh.com"
+
+-- a connection that came to a path
+abbrev pub forwarded_path_type : List ℕ
+forwarded_path_type = codes "forwarded-streamlocal@openssh.com"
+
+-- ---- the names and types by the kind of key
+
+abbrev pub forward_name_of : Key → List ℕ
+forward_name_of (Tcp address port) = forward_name
+forward_name_of (Path path) = forward_path_name
+
+abbrev pub cancel_name_of : Key → List ℕ
+cancel_name_of (Tcp address port) = cancel_name
+cancel_name_of (Path path) = cancel_path_name
+
+abbrev pub direct_type_of : Key → List ℕ
+direct_type_of (Tcp address port) = direct_type
+direct_type_of (Path path) = direct_path_type
+
+abbrev pub forwarded_type_of : Key → List ℕ
+forwarded_type_of (Tcp address port) = forwarded_type
+forwarded_type_of (Path path) = forwarded_path_type

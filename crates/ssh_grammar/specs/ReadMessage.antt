@@ -6,7 +6,7 @@ use Rattle.ssh_grammar.specs.declared.fault.Bad.{Bad}
 use Rattle.ssh_grammar.specs.declared.fault.Bad.TheVariants as bad
 use Rattle.ssh_grammar.specs.declared.numbers.TheConstants as number
 use Rattle.ssh_grammar.specs.Tables.{by_number, by_name}
-use Rattle.ssh_grammar.specs.Messages.{Global, Forward, Cancel, KeepAlive, OtherName, Opens, Session, Direct, Forwarded, OtherType, PlainMessage, Transport, GlobalRequest, RequestSuccess, RequestFailure, Open, ChannelMessage, Confirmation, OpenFailure, Adjust, Data, Extended, Eof, Close, Request, Success, Failure, Message, Plain, To, forward_name, cancel_name, keepalive_name, session_type, direct_type, forwarded_type}
+use Rattle.ssh_grammar.specs.Messages.{Key, Tcp, Path, Global, Forward, Cancel, KeepAlive, OtherName, Opens, Session, Direct, Forwarded, OtherType, PlainMessage, Transport, GlobalRequest, RequestSuccess, RequestFailure, Open, ChannelMessage, Confirmation, OpenFailure, Adjust, Data, Extended, Eof, Close, Request, Success, Failure, Message, Plain, To, forward_name, cancel_name, forward_path_name, cancel_path_name, keepalive_name, session_type, direct_type, forwarded_type, direct_path_type, forwarded_path_type}
 
 -- a value, or a fault
 abbrev pub Reading : Type 0 → Type 0
@@ -37,24 +37,56 @@ on_end (b ∷ bytes) at m = Err (bad.Extra at)
 -- ---- data that is read further
 
 -- an address and a port, and nothing after them
-abbrev pub read_key : List ℕ → ℕ → (List ℕ → ℕ → Global) → Reading Global
+abbrev pub read_key : List ℕ → ℕ → (Key → Global) → Reading Global
 read_key rest at what =
-    on_str rest at (λ address rest at. on_u32 rest at (λ port rest at. on_end rest at (what address port)))
+    on_str rest at (λ address rest at. on_u32 rest at (λ port rest at. on_end rest at (what (Tcp address port))))
+
+-- a path, and nothing after it
+abbrev pub read_path : List ℕ → ℕ → (Key → Global) → Reading Global
+read_path rest at what = on_str rest at (λ path rest at. on_end rest at (what (Path path)))
+
+-- the names of global requests whose data are read further, or known without data
+abbrev pub globals : List ℕ → ℕ → List (List ℕ × Reading Global)
+globals rest at =
+    (forward_name, read_key rest at Forward)
+    ∷ (cancel_name, read_key rest at Cancel)
+    ∷ (forward_path_name, read_path rest at Forward)
+    ∷ (cancel_path_name, read_path rest at Cancel)
+    ∷ (keepalive_name, Ok KeepAlive)
+    ∷ []
 
 -- a global request's data, by its name (RFC 4254, section 7.1)
 abbrev pub read_global : List ℕ → List ℕ → ℕ → Reading Global
-read_global name rest at =
-    by_name ((forward_name, read_key rest at Forward) ∷ (cancel_name, read_key rest at Cancel) ∷ (keepalive_name, Ok KeepAlive) ∷ []) name (Ok OtherName)
+read_global name rest at = by_name (globals rest at) name (Ok OtherName)
 
 -- a host and a port, those of the originator, and nothing after them
-abbrev pub read_ends : List ℕ → ℕ → (List ℕ → ℕ → Opens) → Reading Opens
+abbrev pub read_ends : List ℕ → ℕ → (Key → Opens) → Reading Opens
 read_ends rest at what =
-    on_str rest at (λ host rest at. on_u32 rest at (λ port rest at. on_str rest at (λ from rest at. on_u32 rest at (λ from_port rest at. on_end rest at (what host port)))))
+    on_str rest at (λ host rest at. on_u32 rest at (λ port rest at. on_str rest at (λ from rest at. on_u32 rest at (λ from_port rest at. on_end rest at (what (Tcp host port))))))
+
+-- a path, a reserved text and a reserved number, and nothing after them
+abbrev pub read_direct_path : List ℕ → ℕ → Reading Opens
+read_direct_path rest at =
+    on_str rest at (λ path rest at. on_str rest at (λ reserved rest at. on_u32 rest at (λ number rest at. on_end rest at (Direct (Path path)))))
+
+-- a path and a reserved text, and nothing after them
+abbrev pub read_forwarded_path : List ℕ → ℕ → Reading Opens
+read_forwarded_path rest at =
+    on_str rest at (λ path rest at. on_str rest at (λ reserved rest at. on_end rest at (Forwarded (Path path))))
+
+-- the types of opens whose data are read further, or known without data
+abbrev pub types : List ℕ → ℕ → List (List ℕ × Reading Opens)
+types rest at =
+    (session_type, Ok Session)
+    ∷ (direct_type, read_ends rest at Direct)
+    ∷ (forwarded_type, read_ends rest at Forwarded)
+    ∷ (direct_path_type, read_direct_path rest at)
+    ∷ (forwarded_path_type, read_forwarded_path rest at)
+    ∷ []
 
 -- an open's data, by its type (RFC 4254, sections 6.1 and 7.2)
 abbrev pub read_opens : List ℕ → List ℕ → ℕ → Reading Opens
-read_opens kind rest at =
-    by_name ((session_type, Ok Session) ∷ (direct_type, read_ends rest at Direct) ∷ (forwarded_type, read_ends rest at Forwarded) ∷ []) kind (Ok OtherType)
+read_opens kind rest at = by_name (types rest at) kind (Ok OtherType)
 
 -- what was read, changed
 abbrev pub with_reading : {A : Type 0} → {B : Type 0} → Reading A → (A → B) → Reading B

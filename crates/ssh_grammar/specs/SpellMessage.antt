@@ -3,7 +3,7 @@
 use Rattle.std.specs.Prelude.{ℕ, ◌+◌, List, [], ◌∷◌, ◌++◌, length, Option, Some, None, Ok, Err, Bool, true, false, codes}
 use Rattle.ssh_fields.specs.Fields.{u32, str, with_u32}
 use Rattle.ssh_grammar.specs.declared.numbers.TheConstants as number
-use Rattle.ssh_grammar.specs.Messages.{Cancel, PlainMessage, Transport, GlobalRequest, RequestSuccess, RequestFailure, Open, ChannelMessage, Confirmation, OpenFailure, Adjust, Data, Extended, Eof, Close, Request, Success, Failure, Message, Plain, To, cancel_name}
+use Rattle.ssh_grammar.specs.Messages.{Key, Tcp, Path, Cancel, PlainMessage, Transport, GlobalRequest, RequestSuccess, RequestFailure, Open, ChannelMessage, Confirmation, OpenFailure, Adjust, Data, Extended, Eof, Close, Request, Success, Failure, Message, Plain, To, cancel_name_of}
 use Rattle.ssh_grammar.specs.ReadMessage.{read_message}
 
 -- ---- the spelling
@@ -125,9 +125,14 @@ close recipient = spell (To recipient Close)
 abbrev pub request_failure : List ℕ
 request_failure = spell (Plain RequestFailure)
 
+-- a key as data
+abbrev pub spell_key : Key → List ℕ
+spell_key (Tcp address port) = str address ++ u32 port
+spell_key (Path path) = str path
+
 -- a forwarding is cancelled, without reply (section 7.1)
-abbrev pub cancel_forward : List ℕ → ℕ → List ℕ
-cancel_forward address port = spell (Plain (GlobalRequest cancel_name false (str address ++ u32 port) (Cancel address port)))
+abbrev pub cancel_forward : Key → List ℕ
+cancel_forward key = spell (Plain (GlobalRequest (cancel_name_of key) false (spell_key key) (Cancel key)))
 
 -- the texts that go with the reasons of a failed open
 abbrev pub not_permitted : List ℕ

@@ -4,7 +4,7 @@ ghost use Rattle.std.specs.Prelude.{◌≡◌, [], ◌∷◌, codes, Ok, Err};
 ghost use Rattle.mux_history.specs.Policy.{read_list, Anything, Entries};
 ghost use Rattle.mux_history.specs.WorkedPolicy.{texts, entries};
 
-/// An entry names a host and a port, or a port alone.
+/// An entry names a host and a port, or a port alone, or a path.
 pub fn entries_name_hosts_and_ports()
     ensures { read_list texts ≡ Ok entries }
 {}
@@ -24,6 +24,7 @@ pub fn a_bad_entry_is_named_by_its_place()
     ensures host { read_list (codes ":80" ∷ []) ≡ Err 0 }
     ensures colons { read_list (codes "fe80::1:22" ∷ []) ≡ Err 0 }
     ensures address { read_list (codes "[]:22" ∷ []) ≡ Err 0 }
+    ensures slash { read_list (codes "[/run/s]:80" ∷ []) ≡ Err 0 }
     ensures bare { read_list (codes "db" ∷ []) ≡ Err 0 }
     ensures nothing { read_list ([] ∷ []) ≡ Err 0 }
 {}

@@ -1,0 +1,273 @@
+-- What waits for the server is bounded over all runs.
+use Rattle.std.proofs.Common.{◌≡◌, ℕ, ◌+◌, ◌*◌, ◌≤◌, ◌<◌, List, [], ◌∷◌, ◌++◌, length, true, false, Bool, refl, ◌∙◌, ap, arith, sym, subst, inl, inr, zero, suc, take}
+use Rattle.std.specs.Prelude.{◌==◌, ◌⊎◌}
+use Rattle.mux_outside.specs.declared.house.HouseReply.{HouseReply}
+use Rattle.mux_outside.specs.declared.mark.Mark.{Mark}
+use Rattle.mux_outside.specs.declared.mark.Mark.TheVariants as wire
+use Rattle.ssh_grammar.specs.Said.{InControl, InProxy, parse}
+use Rattle.mux_history.specs.Journal.{IsLawful, LawfulMark, bytes_of, items_in, log_of_journal, new_heard, new_sayings, server_end}
+use Rattle.mux_history.specs.Log.{bare, is_took, makes_next, makes_row, more_all, more_of}
+use Rattle.mux_history.specs.Pending.{pending_up}
+use Rattle.mux_history.specs.Policy.{Policy}
+use Rattle.mux_history.specs.Promises.{Throughout}
+use Rattle.mux_history.specs.Right.{AreFresh}
+use Rattle.mux_history.specs.Wires.{reads}
+use Rattle.mux_history.specs.Rows.{Admit, Gone, Item, Row, ServerFailed, Took, is_ended}
+use Rattle.mux_history.specs.Said.{silent}
+use Rattle.mux_bounds.specs.Bounds.{AddsAtOnce, IsLog, ReadsWithRoom, StaysBelow}
+use Rattle.std.proofs.lemmas.List.{take_all}
+use Rattle.mux_history.proofs.Journals.{logs-right}
+use Rattle.mux_history.proofs.RightLogs.{LogKnown, right-known}
+use Rattle.mux_bounds.proofs.AddsLittle.{grows-by}
+use Rattle.mux_bounds.proofs.Entries.{EachItem, by-more, cut-first, log-first, next, setting, tails}
+use Rattle.mux_bounds.proofs.Lengths.{new-bodies, new-bytes, new_says, payloads_bytes}
+use Rattle.mux_bounds.proofs.Potentials.{Facts, IsMute, heard-cost, heard-mute, live-grows, live_cost, owed-grows, owed_cost, said-cost, total, with_live, with_owed}
+use Rattle.mux_bounds.proofs.Totals.{live, live-few, owed, owed-all-few}
+
+module _ (policy : Policy) (pid : ℕ) (picks : List ℕ) (given : List HouseReply) where
+  abbrev log : List Mark → List Row
+  log marks = log_of_journal (setting policy pid picks given) marks
+
+  abbrev waits : List Row → ℕ
+  waits rows = length (pending_up rows)
+
+  -- ---- after the end
+
+  -- only what is taken makes rows
+  abbrev Over : List Row → List Row → Type 0
+  Over rows after = (waits after ≤ waits rows) × (is_ended after ≡ true)
+
+  over-one : (rows : List Row) (item : Item) → is_ended rows ≡ true → Over rows (more_of (setting policy pid picks given) rows item)
+  over-one rows item ended = by-more policy pid picks given (Over rows) rows item (λ stays. (omega arith, ended)) (λ makes. took item (takes makes))
+    where
+      takes : makes_next rows item ≡ true → is_took item ≡ true
+      takes makes = sym (ap (λ b. elim b as (λ _. Bool) [ true ↦ is_took item | false ↦ makes_row rows item ]) ended) ∙ makes
+
+      took : (i : Item) → is_took i ≡ true → Over rows (next policy pid picks given rows i ∷ rows)
+      took (Took stream size) e = (let g = grows-by (bare (Took stream size) stream silent) rows in omega (arith, g), ended)
+      took i e = cc
+
+  over-all : (rows : List Row) (xs : List Item) → is_ended rows ≡ true → Over rows (more_all (setting policy pid picks given) rows xs)
+  over-all rows [] ended = (omega arith, ended)
+  over-all rows (item ∷ xs) ended =
+      let one = over-one rows item ended in
+      let rest = over-all (more_of (setting policy pid picks given) rows item) xs one.1 in
+      let a = one.0 in
+      let b = rest.0 in
+      (omega (arith, a, b), rest.1)
+
+  -- ---- one mark, or some of its items
+
+  abbrev cut : List Mark → Mark → ℕ → List Row
+  cut before mark n = more_all (setting policy pid picks given) (log before) (take n (items_in before mark))
+
+  record Known (marks : List Mark) : Type 0 where
+    lawful : IsLawful marks
+    fresh : AreFresh (log marks)
+
+  log-known : (marks : List Mark) → Known marks → LogKnown policy pid (log marks)
+  log-known marks known = right-known policy pid picks given marks 0 (log marks) known.lawful ((logs-right policy pid picks given marks).whole known.fresh)
+
+  facts-of : (marks : List Mark) → Known marks → Facts policy pid (log marks)
+  facts-of marks known = let each = (log-known marks known).each in record { known = each; first = log-first policy pid picks given marks each known.lawful }
+
+  record KnownCut (before : List Mark) (mark : Mark) (n : ℕ) : Type 0 where
+    lawful : LawfulMark before mark × IsLawful before
+    fresh : AreFresh (cut before mark n)
+
+  cut-known : (before : List Mark) (mark : Mark) (n : ℕ) → KnownCut before mark n → LogKnown policy pid (cut before mark n)
+  cut-known before mark n known = let r = (logs-right policy pid picks given (mark ∷ before)).cut (cut before mark n) (n, refl) known.fresh in right-known policy pid picks given (mark ∷ before) r.0 (cut before mark n) known.lawful r.1
+
+  cut-facts : (before : List Mark) (mark : Mark) (n : ℕ) → KnownCut before mark n → Facts policy pid (cut before mark n)
+  cut-facts before mark n known = let each = (cut-known before mark n known).each in record { known = each; first = cut-first policy pid picks given before mark n each known.lawful.0 known.lawful.1 }
+
+  known-before : (before : List Mark) (mark : Mark) (n : ℕ) → KnownCut before mark n → Known before
+  known-before before mark n known = record {
+    lawful = known.lawful.1;
+    fresh = tails policy pid picks given AreFresh (λ row rs h. h.1) (log before) (take n (items_in before mark)) known.fresh;
+  }
+
+  -- what a mark does: no one reads, the server says something, or a client does or comes
+  abbrev Still : List Mark → Mark → ℕ → Type 0
+  Still before mark n = with_owed (cut before mark n) ≤ with_owed (log before)
+
+  record Hears (before : List Mark) (mark : Mark) (n : ℕ) : Type 0 where
+    reads : reads mark ≡ true
+    grows : with_owed (cut before mark n) ≤ with_owed (log before) + 983049
+
+  record Says (before : List Mark) (mark : Mark) (n : ℕ) : Type 0 where
+    reads : reads mark ≡ true
+    grows : with_live (cut before mark n) ≤ with_live (log before) + 327683
+
+  abbrev Moves : List Mark → Mark → ℕ → Type 0
+  Moves before mark n = Still before mark n ⊎ (Hears before mark n ⊎ Says before mark n)
+
+  total-take : (cost : Item → ℕ) (n : ℕ) (xs : List Item) → total cost (take n xs) ≤ total cost xs
+  total-take cost zero xs = omega arith
+  total-take cost (suc n) [] = omega arith
+  total-take cost (suc n) (x ∷ xs) = let t = total-take cost n xs in omega (arith, t)
+
+  mute-take : (n : ℕ) (xs : List Item) → EachItem IsMute xs → EachItem IsMute (take n xs)
+  mute-take zero xs all = tt
+  mute-take (suc n) [] all = tt
+  mute-take (suc n) (x ∷ xs) all = (all.0, mute-take n xs all.1)
+
+  still-mark : (before : List Mark) (mark : Mark) (n : ℕ) → Facts policy pid (cut before mark n) → EachItem IsMute (items_in before mark) → total owed_cost (items_in before mark) ≡ 0 → Still before mark n
+  still-mark before mark n facts mute none =
+      let g = owed-grows policy pid picks given (log before) (take n (items_in before mark)) (mute-take n (items_in before mark) mute) facts in
+      let t = total-take owed_cost n (items_in before mark) in
+      omega (arith, g, t, none)
+
+  server-mute : (rest : List ℕ) → EachItem IsMute (server_end rest ∷ [])
+  server-mute [] = (tt, tt)
+  server-mute (b ∷ rest) = (tt, tt)
+
+  server-free : (rest : List ℕ) → total owed_cost (server_end rest ∷ []) ≡ 0
+  server-free [] = refl
+  server-free (b ∷ rest) = refl
+
+  gone-mute : (stream : ℕ) (item : Item) → EachItem IsMute (item ∷ []) → EachItem IsMute (elim (stream == 0) as (λ _. List Item) [ true ↦ item ∷ [] | false ↦ Gone stream ∷ [] ])
+  gone-mute stream item mute = elim (stream == 0) as (λ b. EachItem IsMute (elim b as (λ _. List Item) [ true ↦ item ∷ [] | false ↦ Gone stream ∷ [] ])) [ true ↦ mute | false ↦ (tt, tt) ]
+
+  gone-free : (stream : ℕ) (item : Item) → total owed_cost (item ∷ []) ≡ 0 → total owed_cost (elim (stream == 0) as (λ _. List Item) [ true ↦ item ∷ [] | false ↦ Gone stream ∷ [] ]) ≡ 0
+  gone-free stream item none = elim (stream == 0) as (λ b. total owed_cost (elim b as (λ _. List Item) [ true ↦ item ∷ [] | false ↦ Gone stream ∷ [] ]) ≡ 0) [ true ↦ none | false ↦ refl ]
+
+  gets-mark : (before : List Mark) (stream : ℕ) (bytes : List ℕ) (n : ℕ) → length bytes ≤ 65536 → Facts policy pid (cut before (wire.Gets stream bytes) n) → Moves before (wire.Gets stream bytes) n
+  gets-mark before stream bytes n short facts = by_stream (stream == 0) refl
+    where
+      items-are : (b : Bool) → (stream == 0) ≡ b → items_in before (wire.Gets stream bytes) ≡ (elim b as (λ _. List Item) [ true ↦ new_heard (bytes_of 0 before) (bytes_of 0 before ++ bytes) | false ↦ new_sayings stream (bytes_of stream before) (bytes_of stream before ++ bytes) ])
+      items-are b e = ap (λ c. elim c as (λ _. List Item) [ true ↦ new_heard (bytes_of 0 before) (bytes_of 0 before ++ bytes) | false ↦ new_sayings stream (bytes_of stream before) (bytes_of stream before ++ bytes) ]) e
+
+      by_stream : (b : Bool) → (stream == 0) ≡ b → Moves before (wire.Gets stream bytes) n
+      by_stream true e = inr (inl (record {
+        reads = refl;
+        grows =
+            let mute : EachItem IsMute (items_in before (wire.Gets stream bytes)) = subst (EachItem IsMute) (sym (items-are true e)) (heard-mute (new_says InProxy (bytes_of 0 before) bytes)) in
+            let g = owed-grows policy pid picks given (log before) (take n (items_in before (wire.Gets stream bytes))) (mute-take n (items_in before (wire.Gets stream bytes)) mute) facts in
+            let t = total-take owed_cost n (items_in before (wire.Gets stream bytes)) in
+            let c : total owed_cost (items_in before (wire.Gets stream bytes)) ≡ 3 * payloads_bytes (new_says InProxy (bytes_of 0 before) bytes) = ap (total owed_cost) (items-are true e) ∙ heard-cost (new_says InProxy (bytes_of 0 before) bytes) (new-bodies (bytes_of 0 before) bytes) in
+            let m = new-bytes InProxy (bytes_of 0 before) bytes in
+            omega (arith, g, t, c, m, short);
+      }))
+      by_stream false e = inr (inr (record {
+        reads = refl;
+        grows =
+            let g = live-grows policy pid picks given (log before) (take n (items_in before (wire.Gets stream bytes))) facts in
+            let t = total-take live_cost n (items_in before (wire.Gets stream bytes)) in
+            let c : total live_cost (items_in before (wire.Gets stream bytes)) ≡ payloads_bytes (new_says InControl (bytes_of stream before) bytes) = ap (total live_cost) (items-are false e) ∙ said-cost stream (new_says InControl (bytes_of stream before) bytes) in
+            let m = new-bytes InControl (bytes_of stream before) bytes in
+            omega (arith, g, t, c, m, short);
+      }))
+
+  moves : (before : List Mark) (mark : Mark) (n : ℕ) → LawfulMark before mark → Facts policy pid (cut before mark n) → Moves before mark n
+  moves before (wire.Accepts k) n lawful facts = inr (inr (record { reads = refl; grows = let g = live-grows policy pid picks given (log before) (take n (Admit k ∷ [])) facts in let t = total-take live_cost n (Admit k ∷ []) in omega (arith, g, t) }))
+  moves before (wire.Gets stream bytes) n lawful facts = gets-mark before stream bytes n lawful.2 facts
+  moves before (wire.Ends stream) n lawful facts = inl (still-mark before (wire.Ends stream) n facts (gone-mute stream (server_end (parse InProxy (bytes_of 0 before)).rest) (server-mute (parse InProxy (bytes_of 0 before)).rest)) (gone-free stream (server_end (parse InProxy (bytes_of 0 before)).rest) (server-free (parse InProxy (bytes_of 0 before)).rest)))
+  moves before (wire.Fails stream) n lawful facts = inl (still-mark before (wire.Fails stream) n facts (gone-mute stream ServerFailed (tt, tt)) (gone-free stream ServerFailed refl))
+  moves before (wire.WriteFails stream) n lawful facts = inl (still-mark before (wire.WriteFails stream) n facts (gone-mute stream ServerFailed (tt, tt)) (gone-free stream ServerFailed refl))
+  moves before (wire.Takes stream bytes) n lawful facts = inl (still-mark before (wire.Takes stream bytes) n facts (tt, tt) refl)
+  moves before (wire.Holds stream) n lawful facts = inl (still-mark before (wire.Holds stream) n facts tt refl)
+  moves before (wire.Frees stream) n lawful facts = inl (still-mark before (wire.Frees stream) n facts tt refl)
+  moves before (wire.Waits waiting want streams listening) n lawful facts = inl (still-mark before (wire.Waits waiting want streams listening) n facts tt refl)
+
+  -- ---- what one mark adds
+
+  adds-cut : (before : List Mark) (mark : Mark) (n : ℕ) → KnownCut before mark n → waits (cut before mark n) ≤ waits (log before) + 4096009
+  adds-cut before mark n known = by_end (is_ended (log before)) refl
+    where
+      was : Known before
+      was = known-before before mark n known
+
+      few : live (log before) ≤ 64
+      few = live-few policy pid (log before) (log-known before was)
+
+      by_end : (b : Bool) → is_ended (log before) ≡ b → waits (cut before mark n) ≤ waits (log before) + 4096009
+      by_end true e = let o = (over-all (log before) (take n (items_in before mark)) e).0 in omega (arith, o)
+      by_end false e = by_move (moves before mark n known.lawful.0 (cut-facts before mark n known)) (owed-all-few policy pid (log before) (log-known before was) (facts-of before was).first e)
+        where
+          by_move : Moves before mark n → owed (log before) ≤ 4096 → waits (cut before mark n) ≤ waits (log before) + 4096009
+          by_move (inl still) late = let f = few in omega (arith, still, late, f)
+          by_move (inr (inl hears)) late = let f = few in let g = hears.grows in omega (arith, g, late, f)
+          by_move (inr (inr says)) late = let f = few in let g = says.grows in omega (arith, g, late, f)
+
+  -- ---- all marks
+
+  record Bound (rows : List Row) : Type 0 where
+    waits : waits rows ≤ 8290313
+    going : is_ended rows ≡ false → with_owed rows ≤ 8290313
+
+  bound-next : (before : List Mark) (mark : Mark) (n : ℕ) → KnownCut before mark n → (reads mark ≡ true → waits (log before) < 4194304) → Bound (log before) → Bound (cut before mark n)
+  bound-next before mark n known room bound = by_end (is_ended (log before)) refl
+    where
+      was : Known before
+      was = known-before before mark n known
+
+      few : live (log before) ≤ 64
+      few = live-few policy pid (log before) (log-known before was)
+
+      late-after : is_ended (cut before mark n) ≡ false → owed (cut before mark n) ≤ 4096
+      late-after going = owed-all-few policy pid (cut before mark n) (cut-known before mark n known) (cut-facts before mark n known).first going
+
+      by_end : (b : Bool) → is_ended (log before) ≡ b → Bound (cut before mark n)
+      by_end true e =
+          let o = over-all (log before) (take n (items_in before mark)) e in
+          let w = o.0 in
+          let h = bound.waits in
+          record {
+            waits = omega (arith, w, h);
+            going = λ going. absurd (let bad : true ≡ false = sym o.1 ∙ going in let g = bad in cc);
+          }
+      by_end false e = by_move (moves before mark n known.lawful.0 (cut-facts before mark n known)) (owed-all-few policy pid (log before) (log-known before was) (facts-of before was).first e)
+        where
+          by_move : Moves before mark n → owed (log before) ≤ 4096 → Bound (cut before mark n)
+          by_move (inl still) late = let h = bound.going e in record { waits = omega (arith, still, h); going = λ going. omega (arith, still, h) }
+          by_move (inr (inl hears)) late =
+              let f = few in
+              let g = hears.grows in
+              let r = room hears.reads in
+              record { waits = omega (arith, g, late, f, r); going = λ going. omega (arith, g, late, f, r) }
+          by_move (inr (inr says)) late =
+              let f = few in
+              let g = says.grows in
+              let r = room says.reads in
+              record { waits = omega (arith, g, late, f, r); going = λ going. (let l = late-after going in omega (arith, g, l, f, r)) }
+
+  -- all items of a mark
+  all-of-mark : (before : List Mark) (mark : Mark) → cut before mark (length (items_in before mark)) ≡ log (mark ∷ before)
+  all-of-mark before mark = ap (more_all (setting policy pid picks given) (log before)) (take_all (length (items_in before mark)) (items_in before mark) (omega arith))
+
+  whole-known : (before : List Mark) (mark : Mark) → Known (mark ∷ before) → KnownCut before mark (length (items_in before mark))
+  whole-known before mark known = record { lawful = known.lawful; fresh = subst AreFresh (sym (all-of-mark before mark)) known.fresh }
+
+  bounds : (marks : List Mark) → Known marks → Throughout (ReadsWithRoom (setting policy pid picks given)) marks → Bound (log marks)
+  bounds [] known rooms = record { waits = omega arith; going = λ going. omega arith }
+  bounds (mark ∷ before) known rooms =
+      let whole = whole-known before mark known in
+      subst Bound (all-of-mark before mark) (bound-next before mark (length (items_in before mark)) whole rooms.0 (bounds before (known-before before mark (length (items_in before mark)) whole) rooms.1))
+
+  -- ---- every log
+
+  -- it is made of the log before the newest mark and some of that mark's items
+  cut-of : (before : List Mark) (mark : Mark) (rows : List Row) → IsLog (setting policy pid picks given) (mark ∷ before) rows → (n : ℕ) × (rows ≡ cut before mark n)
+  cut-of before mark rows (inl whole) = (length (items_in before mark), whole ∙ sym (all-of-mark before mark))
+  cut-of before mark rows (inr part) = (part.0, part.1)
+
+  nothing-yet : (rows : List Row) → IsLog (setting policy pid picks given) [] rows → rows ≡ []
+  nothing-yet rows (inl whole) = whole
+  nothing-yet rows (inr part) = part
+
+  pub adds-at-once : (marks : List Mark) (rows : List Row) → IsLawful marks → IsLog (setting policy pid picks given) marks rows → AreFresh rows → AddsAtOnce (setting policy pid picks given) marks rows
+  adds-at-once [] rows lawful is fresh = ap pending_up (nothing-yet rows is)
+  adds-at-once (mark ∷ before) rows lawful is fresh =
+      let c = cut-of before mark rows is in
+      subst (λ rs. waits rs ≤ waits (log before) + 4096009) (sym c.1) (adds-cut before mark c.0 (record { lawful = lawful; fresh = subst AreFresh c.1 fresh }))
+
+  below : (rows : List Row) → Bound rows → StaysBelow rows
+  below rows bound = let b = bound.waits in record { within = omega (arith, b); below = omega (arith, b) }
+
+  pub stays-below : (marks : List Mark) (rows : List Row) → IsLawful marks → IsLog (setting policy pid picks given) marks rows → AreFresh rows → Throughout (ReadsWithRoom (setting policy pid picks given)) marks → StaysBelow rows
+  stays-below [] rows lawful is fresh rooms = subst StaysBelow (sym (nothing-yet rows is)) (record { within = omega arith; below = omega arith })
+  stays-below (mark ∷ before) rows lawful is fresh rooms =
+      let c = cut-of before mark rows is in
+      let known : KnownCut before mark c.0 = record { lawful = lawful; fresh = subst AreFresh c.1 fresh } in
+      subst StaysBelow (sym c.1) (below (cut before mark c.0) (bound-next before mark c.0 known rooms.0 (bounds before (known-before before mark c.0 known) rooms.1)))

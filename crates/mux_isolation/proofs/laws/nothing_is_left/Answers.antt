@@ -1,7 +1,0 @@
--- Closed matters leave nothing.
-use Rattle.mux_history.proofs.RightLogs.{right-known}
-use Rattle.mux_isolation.proofs.Closed.{nothing-left}
-use Rattle.mux_isolation.proofs.laws.nothing_is_left.Goals as goal
-
-pub returns : goal.returns
-returns c = λ policy pid picks given marks left rows lawful right. nothing-left policy pid rows (right-known policy pid picks given marks left rows lawful right)
