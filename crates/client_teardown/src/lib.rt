@@ -4,6 +4,7 @@
 //! be let go where none is left, so the room for what is sent is reserved before.
 #![tactic(auto)]
 
+mod cancel;
 mod farewell;
 mod later;
 mod message;

@@ -1,5 +1,5 @@
 -- For the crates above: what a client that is lost leaves of an account.
-use Rattle.std.proofs.Common.{◌≡◌, ◌∷◌, true, false, Bool, refl, sym, ap, ◌∙◌, subst, Option, Some, None}
+use Rattle.std.proofs.Common.{◌≡◌, true, false, Bool, refl, sym, ap, ◌∙◌, Option, Some, None}
 use Rattle.std.specs.Prelude.{◌&&◌}
 use Rattle.ssh_grammar.specs.declared.side.Side.{Side}
 use Rattle.ssh_grammar.specs.declared.side.Side.TheVariants.{Up, Down}
@@ -10,7 +10,7 @@ use Rattle.mux_history.specs.Channels.{Channel, any_by, is_closes, is_confirmed,
 use Rattle.mux_history.specs.Ledger.{breach}
 use Rattle.mux_history.specs.Laws.{with_act}
 use Rattle.mux_history.proofs.Rooms.{accounted-act, may-of}
-use Rattle.window_ledger.specs.Stands.{AreAccounts, IsStateOf, account_of, both_closed, is_answered, speech_of}
+use Rattle.window_ledger.specs.Stands.{IsStateOf, account_of, both_closed, is_answered, speech_of}
 use Rattle.window_ledger.specs.Leaving.{is_closed, is_over_in, left_state, said_close_in}
 use Rattle.window_ledger.specs.declared.account.Account.{Account}
 use Rattle.window_ledger.specs.declared.account.Speech.{Speech}
