@@ -1,0 +1,3 @@
+pub mod Sending
+pub mod Lists
+pub mod Leaves
