@@ -6,6 +6,7 @@ mod forwards;
 mod key;
 mod listed;
 mod policy;
+mod steps;
 
 pub use forwards::{ForwardRefused, Forwards};
 pub use key::{Key, OwnKey};
