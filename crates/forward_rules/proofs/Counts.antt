@@ -3,7 +3,7 @@ use Rattle.std.proofs.Common.{◌≡◌, ◌≤◌, ◌<◌, ◌+◌, ℕ, List,
 use Rattle.std.specs.Prelude.{filter, find, ◌==◌}
 use Rattle.mux_history.specs.declared.limits.TheConstants.{MAX_FORWARDINGS}
 use Rattle.mux_history.proofs.Bools.{same-number}
-use Rattle.mux_history.proofs.Finds.{filter-no, filter-yes, find-no, find-yes}
+use Rattle.mux_history.proofs.Finds.{filter-no, filter-yes, find-no}
 use Rattle.mux_history.specs.Channels.{is_number}
 use Rattle.ssh_grammar.specs.Messages.{Key}
 use Rattle.forward_rules.specs.State.{Forward}

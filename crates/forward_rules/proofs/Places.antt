@@ -1,5 +1,5 @@
 -- The first that passes, by its place: it is found, changed or taken out there.
-use Rattle.std.proofs.Common.{◌≡◌, ◌≤◌, ◌<◌, ◌+◌, ℕ, List, [], ◌∷◌, length, map, position, remove, true, false, Bool, Option, Some, None, refl, ◌∙◌, ap, sym, arith, suc, zero, slice_set, slice_index_or, cond, not, nat_lt}
+use Rattle.std.proofs.Common.{◌≡◌, ◌≤◌, ◌<◌, ◌+◌, ℕ, List, [], ◌∷◌, length, map, position, remove, true, false, Bool, Some, None, refl, ◌∙◌, ap, sym, arith, suc, zero, slice_set, slice_index_or, cond, not, nat_lt}
 use Rattle.std.specs.Prelude.{filter, find}
 use Rattle.std.specs.List.{position_or_len}
 use Rattle.std.proofs.lemmas.Bool.Decides.{nat_tests}

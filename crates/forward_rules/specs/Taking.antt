@@ -1,5 +1,5 @@
 -- What adding a forwarding answers, and what taking them out one by one gives.
-use Rattle.std.specs.Prelude.{◌≡◌, ◌≤◌, ◌<◌, ℕ, ◌&&◌, Bool, true, false, List, find, Option, Some, None, option_map, is_some, Result, Ok, Err}
+use Rattle.std.specs.Prelude.{◌≡◌, ◌≤◌, ◌<◌, ℕ, ◌&&◌, Bool, false, List, find, Option, Some, None, is_some, Result, Ok, Err}
 use Rattle.ssh_grammar.specs.Messages as grammar
 use Rattle.mux_history.specs.declared.limits.TheConstants.{MAX_FORWARDINGS}
 use Rattle.forward_rules.specs.Keys.{own_key_of}

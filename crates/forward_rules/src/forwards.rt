@@ -1,7 +1,7 @@
-ghost use Rattle.std.specs.Prelude.{◌≡◌, ◌≤◌, ◌<◌, ◌+◌, ◌++◌, [], ◌∷◌, length, map, position, true, false, option_map, IfSome, IfNone, OnSome, OnOk, OnErr};
+ghost use Rattle.std.specs.Prelude.{◌≡◌, ◌≤◌, ◌<◌, ◌+◌, ◌++◌, [], ◌∷◌, length, filter, map, not, position, true, false, option_map, IfSome, IfNone, OnSome, OnOk, OnErr};
 ghost use Rattle.mux_history.specs.declared.limits.TheConstants.{MAX_FORWARDINGS};
 ghost use Rattle.forward_rules.specs.Keys.{key_of, own_key_of, IsShort};
-ghost use Rattle.forward_rules.specs.Step.{asked, answered, cancelled, cancels, cancel_answered, earlier, first_cancel, is_asked_at, is_free_at, is_leaving_at, some_free, owner_at, count_of, without_cancel_of, without_client};
+ghost use Rattle.forward_rules.specs.Step.{asked, answered, cancelled, cancels, cancel_answered, earlier, first_cancel, is_asked_at, is_cancelled_at, is_free_at, is_leaving_at, some_free, owner_at, count_of, settled_at, without_cancel_of, without_client};
 ghost use Rattle.forward_rules.specs.Listing.{forward_of};
 ghost use Rattle.forward_rules.specs.Taking.{AddsAs, after_taking, first_live, is_live_of, taken_of, told_of};
 
@@ -10,14 +10,15 @@ use crate::listed::Listed;
 use mux_history::limits::MAX_FORWARDINGS;
 use std::alloc::Global;
 use std::marker::Model;
+use thiserror::Error;
 
 /// Why no forwarding is added.
-#[derive(Clone, Copy, Debug, PartialEq, Eq)]
+#[derive(Clone, Copy, Debug, PartialEq, Eq, Error)]
 pub enum ForwardRefused {
     /// The client has so many forwardings, asked or live: 64.
-    Full {
-        count: usize,
-    },
+    #[error("the client has {count} forwardings")]
+    Full { count: usize },
+    #[error("out of memory")]
     OutOfMemory,
 }
 
@@ -119,9 +120,9 @@ impl Forwards {
             return;
         };
         if done {
-            self.listed.retain(|f| !f.is_cancelled_by(client, rank));
+            self.end(client, rank);
         }
-        settle_in(&mut self.listed, client, rank);
+        self.settle(client, Some(rank));
     }
 
     /// The client of the earliest live forwarding of this key.
@@ -154,9 +155,7 @@ impl Forwards {
             return None;
         };
         let taken = self.listed.remove(place);
-        if let Some(rank) = taken.cancel {
-            settle_in(&mut self.listed, client, rank);
-        }
+        self.settle(client, taken.cancel);
         Some((taken.key, taken.cancel.is_some()))
     }
 
@@ -165,6 +164,22 @@ impl Forwards {
         ensures { self.new ≡ without_client client self.old }
     {
         self.listed.retain(|f| f.client != client);
+    }
+
+    /// What the client's cancel with so many before it means is over.
+    fn end(&mut self, client: u64, rank: usize)
+        ensures { self.new ≡ filter (λ f. not (is_cancelled_at client rank f)) self.old }
+    {
+        self.listed.retain(|f| !f.is_cancelled_by(client, rank));
+    }
+
+    /// The client's cancel with so many before it, where there is one, is none any more.
+    fn settle(&mut self, client: u64, cancel: Option<usize>)
+        ensures { self.new ≡ settled_at client cancel false self.old }
+    {
+        if let Some(rank) = cancel {
+            settle_in(&mut self.listed, client, rank);
+        }
     }
 }
 
@@ -186,9 +201,7 @@ fn free_in(listed: &[Listed], client: u64, key: Key<'_>) -> Option<usize>
 fn live_in(listed: &[Listed], client: u64) -> Option<usize>
     ensures { result ≡ position (λ f. is_live_of client (forward_of f)) listed.now }
 {
-    listed
-        .iter()
-        .position(|f| f.client == client && f.live)
+    listed.iter().position(|f| f.client == client && f.live)
 }
 
 fn owner_in(listed: &[Listed], key: Key<'_>) -> Option<u64>

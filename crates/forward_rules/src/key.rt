@@ -40,9 +40,13 @@ impl OwnKey {
         ensures { result ≡ is_key (own_key_of self.now) (key_of key.entry) }
     {
         match (self, key) {
-            (OwnKey::Tcp { address, port }, Key::Tcp { address: a, port: p }) => {
-                *port == p && address.as_bytes() == a
-            }
+            (
+                OwnKey::Tcp { address, port },
+                Key::Tcp {
+                    address: a,
+                    port: p,
+                },
+            ) => { *port == p && address.as_bytes() == a }
             (OwnKey::Path(path), Key::Path(p)) => path.as_bytes() == p,
             _ => false,
         }

@@ -1,4 +1,4 @@
-use Rattle.std.proofs.Common.{rules, ◌≡◌, ◌∙◌, ◌<◌, ◌++◌, length, map, take, drop, ap, sym, subst, arith, List, ℕ, slice_index_or, slice_set, get_or, ◌+◌}
+use Rattle.std.proofs.Common.{rules, ◌≡◌, ◌∙◌, ◌<◌, ◌++◌, length, map, take, drop, ap, sym, arith, List, ℕ, slice_index_or, slice_set, ◌+◌}
 use Rattle.std.proofs.lemmas.List.{drop-map, get_or-map, length-map, map-set, take-map}
 use Rattle.std.proofs.lemmas.List.Edits.{map_over_more}
 use Rattle.forward_rules.specs.State.{Forward}

@@ -1,9 +1,9 @@
-use Rattle.std.proofs.Common.{rules, ◌≡◌, ◌∙◌, ap, sym, subst, position, length, map, refl, true, ℕ, List, Option, Some, None, slice_index_or, slice_set}
+use Rattle.std.proofs.Common.{rules, ◌≡◌, ◌∙◌, ap, sym, subst, position, map, refl, true, ℕ, List, Option, Some, None, slice_index_or, slice_set}
 use Rattle.ssh_grammar.specs.Messages.{Key}
 use Rattle.forward_rules.specs.Keys.{key_of}
 use Rattle.forward_rules.specs.Listing.{forward_of}
 use Rattle.forward_rules.specs.State.{Forward}
-use Rattle.forward_rules.specs.Step.{answered, change_first, is_asked_at, with_port, without_first}
+use Rattle.forward_rules.specs.Step.{answered, is_asked_at, with_port}
 use Rattle.forward_rules.specs.Taking.{AreFew}
 use Rattle.forward_rules.specs.declared.listed.Listed.{Listed}
 use Rattle.forward_rules.proofs.Counts.{few-first, few-without}
@@ -14,7 +14,6 @@ use Rattle.forward_rules.proofs.forwards.Forwards.answer.Goals as goal
 none-asked : (k : ℕ) (key : Key) (port : Option ℕ) (fs : List Forward) → NonePasses (is_asked_at k key) fs → fs ≡ answered k key port fs
 none-asked k key None fs none = sym none.without
 none-asked k key (Some port) fs none = sym (none.changed (λ f. record f { live = true; key = with_port port f.key }))
-
 
 begun : (k port : ℕ) (key : Key) (fs : List Listed) (i : ℕ) (x d : Listed) → position (sees (is_asked_at k key)) fs ≡ Some i → forward_of x ≡ record (forward_of d) { live = true; key = with_port port (forward_of d).key } → d ≡ slice_index_or fs i d → map forward_of (slice_set fs i x) ≡ answered k key (Some port) (map forward_of fs)
 begun k port key fs i x d h is at =

@@ -1,8 +1,8 @@
-use Rattle.std.proofs.Common.{rules, ◌≡◌, ◌≤◌, ◌∙◌, ap, sym, subst, position, length, map, refl, true, false, Bool, ℕ, List, Option, Some, None, slice_index_or, slice_set}
-use Rattle.std.specs.Prelude.{find, is_some, is_none, ◌&&◌, ◌==◌}
+use Rattle.std.proofs.Common.{rules, ◌≡◌, ◌∙◌, ap, sym, subst, position, map, refl, true, false, Bool, ℕ, List, Some, None, slice_index_or, slice_set}
+use Rattle.std.specs.Prelude.{is_some, is_none, ◌&&◌}
 use Rattle.mux_history.specs.Keys.{is_key}
 use Rattle.mux_history.proofs.SameKeys.{key-is}
-use Rattle.mux_history.proofs.Sends.{and-left, and-right}
+use Rattle.mux_history.proofs.Sends.{and-right}
 use Rattle.ssh_grammar.specs.Messages.{Key}
 use Rattle.forward_rules.specs.Keys.{IsShort, key_of, own_key_of}
 use Rattle.forward_rules.specs.Listing.{forward_of}
@@ -36,6 +36,7 @@ short-found k key fs i d h = subst IsShort (key-is (own_key_of f.key) key same) 
   where
     f : Listed
     f = slice_index_or fs i d
+
     same : is_key (own_key_of (slice_index_or fs i d).key) key ≡ true
     same =
         let all = passes (is_free_at k key) fs i d h in

@@ -1,8 +1,7 @@
-use Rattle.std.proofs.Common.{rules, ◌≡◌, List, [], ◌∷◌, ℕ, Bool, true, false, map, ap, sym, subst, ◌∙◌, refl}
-use Rattle.std.specs.Prelude.{not, ◌==◌, filter}
+use Rattle.std.proofs.Common.{rules, ◌≡◌, map, ap, sym, subst, ◌∙◌}
+use Rattle.std.specs.Prelude.{not, ◌==◌}
 use Rattle.std.proofs.lemmas.Fn.{filter_same}
 use Rattle.forward_rules.specs.declared.listed.Listed.{Listed}
-use Rattle.forward_rules.specs.State.{Forward}
 use Rattle.forward_rules.specs.Listing.{forward_of}
 use Rattle.forward_rules.specs.Step.{is_of, without_client}
 use Rattle.forward_rules.specs.Taking.{AreFew}
