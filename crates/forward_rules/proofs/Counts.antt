@@ -8,7 +8,7 @@ use Rattle.mux_history.specs.Channels.{is_number}
 use Rattle.ssh_grammar.specs.Messages.{Key}
 use Rattle.forward_rules.specs.State.{Forward}
 use Rattle.forward_rules.specs.Step.{asked, change_first, count_of, is_of, moved_up, without_cancel, without_cancel_of, without_first}
-use Rattle.forward_rules.specs.Taking.{AreFew}
+use Rattle.forward_rules.specs.Taking.{AreFew, moved_up_of}
 use Rattle.forward_rules.proofs.Places.{change-at, without-at}
 
 -- one more in front
@@ -81,6 +81,17 @@ settled-client k r f = by_case (is_of k f)
 
 pub few-settled : (k r : ℕ) (fs : List Forward) → AreFew fs → AreFew (map (without_cancel_of k r) fs)
 few-settled k r fs few j = let e = same-map (without_cancel_of k r) (settled-client k r) fs j in let l = few j in omega (arith, e, l)
+
+-- and so does one that moves up
+pub moved-client : (k r : ℕ) (f : Forward) → (moved_up_of k r f).client ≡ f.client
+moved-client k r f = by_case (is_of k f)
+  where
+    by_case : (b : Bool) → (elim b as (λ _. Forward) [ true ↦ record f { cancel = moved_up r f.cancel } | false ↦ f ]).client ≡ f.client
+    by_case true = refl
+    by_case false = refl
+
+pub few-moved : (k r : ℕ) (fs : List Forward) → AreFew fs → AreFew (map (moved_up_of k r) fs)
+few-moved k r fs few j = let e = same-map (moved_up_of k r) (moved-client k r) fs j in let l = few j in omega (arith, e, l)
 
 -- ---- taken out
 

@@ -1,9 +1,9 @@
 ghost use Rattle.std.specs.Prelude.{◌≡◌, ◌≤◌, ◌<◌, ◌+◌, ◌++◌, [], ◌∷◌, length, filter, map, not, position, true, false, option_map, IfSome, IfNone, OnSome, OnOk, OnErr};
 ghost use Rattle.mux_history.specs.declared.limits.TheConstants.{MAX_FORWARDINGS};
 ghost use Rattle.forward_rules.specs.Keys.{key_of, own_key_of, IsShort};
-ghost use Rattle.forward_rules.specs.Step.{asked, answered, cancelled, cancels, cancel_answered, earlier, first_cancel, is_asked_at, is_cancelled_at, is_free_at, is_leaving_at, some_free, owner_at, count_of, settled_at, without_cancel_of, without_client};
+ghost use Rattle.forward_rules.specs.Step.{asked, answered, cancelled, cancels, cancel_answered, earlier, first_cancel, is_asked_at, is_cancelled_at, is_free_at, is_leaving_at, some_free, owner_at, count_of, without_cancel_of, without_client};
 ghost use Rattle.forward_rules.specs.Listing.{forward_of};
-ghost use Rattle.forward_rules.specs.Taking.{AddsAs, after_taking, first_live, is_live_of, taken_of, told_of};
+ghost use Rattle.forward_rules.specs.Taking.{AddsAs, after_taking, closed_up, first_live, is_live_of, moved_up_of, taken_of, told_of};
 
 use crate::key::{Key, OwnKey};
 use crate::listed::Listed;
@@ -122,7 +122,7 @@ impl Forwards {
         if done {
             self.end(client, rank);
         }
-        self.settle(client, Some(rank));
+        self.settle(client, rank);
     }
 
     /// The client of the earliest live forwarding of this key.
@@ -155,7 +155,7 @@ impl Forwards {
             return None;
         };
         let taken = self.listed.remove(place);
-        self.settle(client, taken.cancel);
+        self.close_up(client, taken.cancel);
         Some((taken.key, taken.cancel.is_some()))
     }
 
@@ -173,12 +173,19 @@ impl Forwards {
         self.listed.retain(|f| !f.is_cancelled_by(client, rank));
     }
 
-    /// The client's cancel with so many before it, where there is one, is none any more.
-    fn settle(&mut self, client: u64, cancel: Option<usize>)
-        ensures { self.new ≡ settled_at client cancel false self.old }
+    /// The client's cancel with so many before it is none any more.
+    fn settle(&mut self, client: u64, rank: usize)
+        ensures { self.new ≡ map (without_cancel_of client rank) self.old }
+    {
+        settle_in(&mut self.listed, client, rank);
+    }
+
+    /// What this cancel meant is taken out, where there is one.
+    fn close_up(&mut self, client: u64, cancel: Option<usize>)
+        ensures { self.new ≡ closed_up client cancel self.old }
     {
         if let Some(rank) = cancel {
-            settle_in(&mut self.listed, client, rank);
+            move_up_in(&mut self.listed, client, rank);
         }
     }
 }
@@ -269,5 +276,14 @@ fn settle_in(listed: &mut [Listed], client: u64, rank: usize)
 {
     for f in listed.iter_mut() {
         f.settle(client, rank);
+    }
+}
+
+/// One cancel of the client fewer was sent before those that came after this one.
+fn move_up_in(listed: &mut [Listed], client: u64, rank: usize)
+    ensures { map forward_of listed.new ≡ map (moved_up_of client rank) (map forward_of listed.old) }
+{
+    for f in listed.iter_mut() {
+        f.move_up(client, rank);
     }
 }

@@ -2,6 +2,7 @@ ghost use Rattle.std.specs.Prelude.{◌≡◌, true};
 ghost use Rattle.forward_rules.specs.Keys.{key_of, own_key_of};
 ghost use Rattle.forward_rules.specs.Listing.{forward_of};
 ghost use Rattle.forward_rules.specs.Step.{is_asked_at, is_cancelled_at, is_free_at, is_leaving_at, is_live_at, with_port, without_cancel_of};
+ghost use Rattle.forward_rules.specs.Taking.{moved_up_of};
 
 use crate::key::Key;
 use crate::listed::Listed;
@@ -50,17 +51,27 @@ impl Listed {
         self.live = true;
     }
 
-    /// The client's cancel with so many before it is none any more.
-    pub fn settle(&mut self, client: u64, rank: usize)
-        ensures { forward_of self.new ≡ without_cancel_of client rank (forward_of self.old) }
+    /// One cancel of the client fewer was sent before the one that means it, if that came after this one.
+    pub fn move_up(&mut self, client: u64, rank: usize)
+        ensures { forward_of self.new ≡ moved_up_of client rank (forward_of self.old) }
     {
         if self.client != client {
             return;
         }
         self.cancel = match self.cancel {
-            Some(r) if r == rank => None,
-            Some(r) if rank < r => Some(r - 1),
+            Some(later) if rank < later => Some(later - 1),
             unmoved => unmoved,
         };
+    }
+
+    /// The client's cancel with so many before it is none any more.
+    pub fn settle(&mut self, client: u64, rank: usize)
+        ensures { forward_of self.new ≡ without_cancel_of client rank (forward_of self.old) }
+    {
+        if self.is_cancelled_by(client, rank) {
+            self.cancel = None;
+        } else {
+            self.move_up(client, rank);
+        }
     }
 }

@@ -1,12 +1,12 @@
-use Rattle.std.proofs.Common.{rules, ◌≡◌, ◌+◌, ◌∙◌, ap, sym, subst, position, map, refl, false, ℕ, List, Option, Some, None, slice_index_or}
+use Rattle.std.proofs.Common.{rules, ◌≡◌, ◌+◌, ◌∙◌, ap, sym, subst, position, map, refl, ℕ, List, Option, Some, None, slice_index_or}
 use Rattle.std.specs.Prelude.{option_map, is_some}
 use Rattle.mux_history.proofs.Sends.{and-left}
 use Rattle.forward_rules.specs.Listing.{forward_of}
 use Rattle.forward_rules.specs.State.{Forward}
-use Rattle.forward_rules.specs.Step.{count_of, is_of, settled_at, without_cancel_of, without_client, without_first}
-use Rattle.forward_rules.specs.Taking.{AreFew, after_taking, first_live, is_live_of, rest_after, told_of}
+use Rattle.forward_rules.specs.Step.{count_of, is_of, without_client, without_first}
+use Rattle.forward_rules.specs.Taking.{AreFew, after_taking, closed_up, first_live, is_live_of, moved_up_of, rest_after, told_of}
 use Rattle.forward_rules.specs.declared.listed.Listed.{Listed}
-use Rattle.forward_rules.proofs.Counts.{few-without, one-less, same-map, settled-client}
+use Rattle.forward_rules.proofs.Counts.{few-without, one-less, same-map, moved-client}
 use Rattle.forward_rules.proofs.Places.{found, missed, remove-found, sees}
 use Rattle.forward_rules.proofs.forwards.Forwards.take_of.Goals as goal
 
@@ -15,19 +15,19 @@ none-live : (k : ℕ) (fs : List Listed) → position (sees (is_live_of k)) fs �
 none-live k fs h = (missed (is_live_of k) fs h).found
 
 -- what stays of the rest
-same-settled : (k : ℕ) (cancel : Option ℕ) (fs : List Forward) (j : ℕ) → count_of (settled_at k cancel false fs) j ≡ count_of fs j
-same-settled k None fs j = refl
-same-settled k (Some r) fs j = same-map (without_cancel_of k r) (settled-client k r) fs j
+same-closed : (k : ℕ) (cancel : Option ℕ) (fs : List Forward) (j : ℕ) → count_of (closed_up k cancel fs) j ≡ count_of fs j
+same-closed k None fs j = refl
+same-closed k (Some r) fs j = same-map (moved_up_of k r) (moved-client k r) fs j
 
 -- where one is
 one-live : (k : ℕ) (fs : List Listed) (i : ℕ) (x : Listed) → position (sees (is_live_of k)) fs ≡ Some i → x ≡ slice_index_or fs i x → first_live k (map forward_of fs) ≡ Some (forward_of x)
 one-live k fs i x h is = found (is_live_of k) fs i x h ∙ ap (λ (f : Listed). Some (forward_of f)) (sym is)
 
-taking : (k : ℕ) (fs : List Listed) (x : Listed) → first_live k (map forward_of fs) ≡ Some (forward_of x) → settled_at k x.cancel false (without_first (is_live_of k) (map forward_of fs)) ≡ after_taking k (map forward_of fs)
+taking : (k : ℕ) (fs : List Listed) (x : Listed) → first_live k (map forward_of fs) ≡ Some (forward_of x) → closed_up k x.cancel (without_first (is_live_of k) (map forward_of fs)) ≡ after_taking k (map forward_of fs)
 taking k fs x h = sym (ap (rest_after k (map forward_of fs)) h)
 
-fewer : (k : ℕ) (fs : List Listed) (x : Listed) → first_live k (map forward_of fs) ≡ Some (forward_of x) → count_of (settled_at k x.cancel false (without_first (is_live_of k) (map forward_of fs))) k + 1 ≡ count_of (map forward_of fs) k
-fewer k fs x h = ap (λ n. n + 1) (same-settled k x.cancel (without_first (is_live_of k) (map forward_of fs)) k) ∙ one-less (is_live_of k) k (λ f t. and-left (is_of k f) f.live t) (map forward_of fs) (forward_of x) h
+fewer : (k : ℕ) (fs : List Listed) (x : Listed) → first_live k (map forward_of fs) ≡ Some (forward_of x) → count_of (closed_up k x.cancel (without_first (is_live_of k) (map forward_of fs))) k + 1 ≡ count_of (map forward_of fs) k
+fewer k fs x h = ap (λ n. n + 1) (same-closed k x.cancel (without_first (is_live_of k) (map forward_of fs)) k) ∙ one-less (is_live_of k) k (λ f t. and-left (is_of k f) f.live t) (map forward_of fs) (forward_of x) h
 
 pub returns-in_default-clause-exact : goal.returns-in_default-clause-exact
 returns-in_default-clause-exact c =
@@ -55,11 +55,11 @@ returns-clause-step c =
     let h : position (sees (is_live_of c.args.client)) c.self.inside.listed.items ≡ Some c.in-Some.place = search rules in
     let x = c.remove-taken.result in
     let removed : map forward_of c.remove-taken.new.self.items ≡ without_first (is_live_of c.args.client) (map forward_of c.self.inside.listed.items) = ap (map forward_of) c.remove-taken.ensures.items ∙ remove-found (is_live_of c.args.client) c.self.inside.listed.items c.in-Some.place h in
-    rw (← c.self.view_is) (c.settle.ensures ∙ (ap (settled_at c.args.client x.cancel false) removed ∙ taking c.args.client c.self.inside.listed.items x (one-live c.args.client c.self.inside.listed.items c.in-Some.place x h c.remove-taken.ensures.value)))
+    rw (← c.self.view_is) (c.close_up.ensures ∙ (ap (closed_up c.args.client x.cancel) removed ∙ taking c.args.client c.self.inside.listed.items x (one-live c.args.client c.self.inside.listed.items c.in-Some.place x h c.remove-taken.ensures.value)))
 
 pub returns-clause-fewer : goal.returns-clause-fewer
 returns-clause-fewer c =
     let h : position (sees (is_live_of c.args.client)) c.self.inside.listed.items ≡ Some c.in-Some.place = search rules in
     let x = c.remove-taken.result in
     let removed : map forward_of c.remove-taken.new.self.items ≡ without_first (is_live_of c.args.client) (map forward_of c.self.inside.listed.items) = ap (map forward_of) c.remove-taken.ensures.items ∙ remove-found (is_live_of c.args.client) c.self.inside.listed.items c.in-Some.place h in
-    rw (← c.self.view_is) (ap (λ (fs : List Forward). count_of fs c.args.client + 1) (c.settle.ensures ∙ ap (settled_at c.args.client x.cancel false) removed) ∙ fewer c.args.client c.self.inside.listed.items x (one-live c.args.client c.self.inside.listed.items c.in-Some.place x h c.remove-taken.ensures.value))
+    rw (← c.self.view_is) (ap (λ (fs : List Forward). count_of fs c.args.client + 1) (c.close_up.ensures ∙ ap (closed_up c.args.client x.cancel) removed) ∙ fewer c.args.client c.self.inside.listed.items x (one-live c.args.client c.self.inside.listed.items c.in-Some.place x h c.remove-taken.ensures.value))
