@@ -1,12 +1,12 @@
 -- In a table no number names two channels.
-use Rattle.std.proofs.Common.{◌≡◌, ◌≢◌, ℕ, Bool, true, false, cond, List, [], ◌∷◌, refl, ap, sym, ◌∙◌, subst}
-use Rattle.std.specs.Prelude.{Option, Some, None, ◌==◌, ◌&&◌, nat_eq}
+use Rattle.std.proofs.Common.{◌≡◌, ◌≢◌, ℕ, Bool, true, false, List, [], ◌∷◌, refl, ap, sym, ◌∙◌, subst}
+use Rattle.std.specs.Prelude.{Option, Some, None, ◌==◌}
 use Rattle.std.specs.List.{AllByRecursion}
-use Rattle.std.proofs.lemmas.Bool.{and_from, eq-eqb, eqb-true, ne_eqb, true≢false}
+use Rattle.std.proofs.lemmas.Bool.{and_from, eq-eqb, ne_eqb}
 use Rattle.std.proofs.lemmas.Option.{none-some, same_Some}
-use Rattle.indexmap.specs.IndexMap.{IndexMap, get}
+use Rattle.indexmap.specs.IndexMap.{IndexMap}
 use Rattle.mux_history.specs.Channels.{is_number}
-use Rattle.channel_table.specs.Entries.{AreApart, AreSound, AreTwo, Entry, entry_at, has_own, has_remote, is_at}
+use Rattle.channel_table.specs.Entries.{AreApart, AreSound, AreTwo, Entry, entry_at, has_own, is_at}
 use Rattle.channel_table.specs.Indices.{Agrees, AreDistinct, owner_at, owner_in, remote_at, remote_in}
 use Rattle.channel_table.proofs.Agree.{own-named, remote-named}
 

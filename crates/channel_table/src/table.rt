@@ -198,7 +198,8 @@ impl Table {
 
     /// The account of the channel that was admitted under a number.
     pub fn ledger_of(&self, number: u32) -> Option<Ledger>
-        ensures { result ≡ ledger_at self.now number }
+        ensures ledger { result ≡ ledger_at self.now number }
+        ensures sound { AreSound self.now }
     {
         Some(self.slots.get(number)?.ledger)
     }
