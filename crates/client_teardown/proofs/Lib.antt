@@ -2,4 +2,5 @@ pub mod Sending
 pub mod Lists
 pub mod Leaves
 pub mod Noting
+pub mod Stepping
 pub mod Cancels
