@@ -4,3 +4,4 @@ pub mod Leaves
 pub mod Noting
 pub mod Stepping
 pub mod Cancels
+pub mod Meaning
