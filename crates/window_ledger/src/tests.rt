@@ -1,5 +1,4 @@
 use super::*;
-use crate::act::Act;
 use Act::{Close, Data, Eof, Grant, Reply, Request};
 use Breach::{AfterClose, AfterEof, Overflow, PastPacket, PastWindow, Unasked};
 use Side::{Down, Up};
@@ -153,4 +152,15 @@ fn at_most_1024_requests_of_a_direction_are_unanswered(rt: HostRuntime) {
     assert_eq!(rt; ledger.request(Down, true), Ok(()));
     assert_eq!(rt; ledger.reply(Down), Ok(()));
     assert_eq!(rt; ledger.request(Up, true), Ok(()));
+}
+
+#[test]
+fn a_client_that_is_lost_leaves_its_close(rt: HostRuntime) {
+    let mut ledger = Ledger::opened(Up, 1, 2);
+    assert_eq!(rt; (ledger.left(), ledger.said_close()), (ledger, false));
+    ledger.confirm(3, 4);
+    let mut closed = ledger;
+    assert_eq!(rt; closed.take(Up, Close), Ok(()));
+    assert_eq!(rt; (ledger.said_close(), closed.said_close()), (false, true));
+    assert_eq!(rt; (ledger.left(), closed.left()), (closed, closed));
 }
