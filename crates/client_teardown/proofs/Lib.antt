@@ -1,0 +1,5 @@
+pub mod Sending
+pub mod Lists
+pub mod Leaves
+pub mod Noting
+pub mod Cancels
