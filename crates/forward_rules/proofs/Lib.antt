@@ -2,4 +2,5 @@ pub mod Places
 pub mod Walks
 pub mod Counts
 pub mod Taken
+pub mod Replies
 pub mod Lists
