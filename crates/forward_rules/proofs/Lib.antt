@@ -3,4 +3,5 @@ pub mod Walks
 pub mod Counts
 pub mod Taken
 pub mod Replies
+pub mod FirstAsked
 pub mod Lists
