@@ -3,11 +3,13 @@
 //! line is refused.
 #![tactic(auto)]
 
+mod bytes;
 mod heads;
 #[cfg(test)]
 mod tests;
 mod words;
 
+pub use bytes::{first, split_at_first};
 pub use conf_rules::LexError;
 pub use heads::{Head, split_head};
 pub use words::split_words;
