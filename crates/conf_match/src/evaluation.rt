@@ -18,6 +18,7 @@ use std::alloc::Global;
 pub enum EvalError {
     /// The runner failed.
     RunFault,
+    /// The tokens of a command can't be expanded, or a user isn't known.
     Token(TokenError),
     OutOfMemory,
 }
@@ -135,7 +136,8 @@ fn one<R: Runner>(
     Ok(if criterion.negated { !holds } else { holds })
 }
 
-/// Whether criteria hold, tried from the left to the first one that doesn't.
+/// Whether criteria hold, tried from the left to the first one that doesn't; only so far are commands run. The runner's fault
+/// comes only where its count rose.
 pub fn eval<R: Runner>(
     alloc: Global,
     criteria: &Criteria,
