@@ -1,12 +1,10 @@
 -- Criteria that held so far, and the commands that were run for them.
 use Rattle.std.proofs.Common.{◌≡◌, ℕ, Bool, true, false, List, [], ◌∷◌, ◌++◌, Option, Some, None, Result, Ok, Err, refl, sym, ap, ◌∙◌, append_assoc, append-nil}
-use Rattle.conf_rules.specs.declared.criterion.Kind.{Kind}
-use Rattle.conf_rules.specs.declared.criterion.Kind.TheVariants.{All, Canonical, Final, Exec, Host, OriginalHost, Tagged, User, LocalUser}
 use Rattle.conf_rules.specs.declared.criterion.Criterion.{Criterion}
 use Rattle.conf_rules.specs.declared.causes.TokenError.{TokenError}
 use Rattle.conf_rules.specs.Texts.{Bytes}
 use Rattle.conf_rules.specs.Tokens.{View}
-use Rattle.conf_rules.specs.Evaluation.{Verdict, plain_verdict, criterion_verdict, verdict}
+use Rattle.conf_rules.specs.Evaluation.{Verdict, criterion_verdict, verdict}
 use Rattle.conf_match.specs.declared.evaluation.EvalError.{EvalError}
 use Rattle.conf_match.specs.declared.evaluation.EvalError.TheVariants.{RunFault, Token, OutOfMemory}
 use Rattle.conf_match.specs.Evaluated.{Evaluated, RanAll, RanSome, Ran}

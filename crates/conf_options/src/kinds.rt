@@ -93,24 +93,110 @@ fn is_unchecked_of(length: usize, word: &[u8]) -> bool
         7 => is_any(word, &[b"ciphers"]),
         8 => is_any(word, &[b"protocol"]),
         9 => is_any(word, &[b"stdinnull"]),
-        10 => is_any(word, &[b"escapechar", b"logverbose", b"rekeylimit", b"useroaming"]),
+        10 => is_any(
+            word,
+            &[b"escapechar", b"logverbose", b"rekeylimit", b"useroaming"],
+        ),
         11 => is_any(word, &[b"sessiontype"]),
         12 => is_any(word, &[b"tunneldevice"]),
-        13 => is_any(word, &[b"controlmaster", b"kexalgorithms", b"xauthlocation"]),
-        14 => is_any(word, &[b"addkeystoagent", b"channeltimeout", b"controlpersist", b"gssapitrustdns", b"pkcs11provider", b"proxyusefdpass", b"syslogfacility", b"updatehostkeys"]),
-        15 => is_any(word, &[b"fingerprinthash", b"requiredrsasize", b"revokedhostkeys"]),
-        16 => is_any(word, &[b"canonicaldomains", b"compressionlevel", b"enablesshkeysign", b"permitremoteopen", b"verifyhostkeydns"]),
-        17 => is_any(word, &[b"forwardx11timeout", b"forwardx11trusted", b"gssapikeyexchange", b"hostbasedkeytypes", b"hostkeyalgorithms", b"knownhostscommand", b"rsaauthentication", b"useprivilegedport"]),
+        13 => is_any(
+            word,
+            &[b"controlmaster", b"kexalgorithms", b"xauthlocation"],
+        ),
+        14 => is_any(
+            word,
+            &[
+                b"addkeystoagent",
+                b"channeltimeout",
+                b"controlpersist",
+                b"gssapitrustdns",
+                b"pkcs11provider",
+                b"proxyusefdpass",
+                b"syslogfacility",
+                b"updatehostkeys",
+            ],
+        ),
+        15 => is_any(
+            word,
+            &[b"fingerprinthash", b"requiredrsasize", b"revokedhostkeys"],
+        ),
+        16 => is_any(
+            word,
+            &[
+                b"canonicaldomains",
+                b"compressionlevel",
+                b"enablesshkeysign",
+                b"permitremoteopen",
+                b"verifyhostkeydns",
+            ],
+        ),
+        17 => is_any(
+            word,
+            &[
+                b"forwardx11timeout",
+                b"forwardx11trusted",
+                b"gssapikeyexchange",
+                b"hostbasedkeytypes",
+                b"hostkeyalgorithms",
+                b"knownhostscommand",
+                b"rsaauthentication",
+                b"useprivilegedport",
+            ],
+        ),
         18 => is_any(word, &[b"userknownhostsfile"]),
-        19 => is_any(word, &[b"canonicalizemaxdots", b"gssapikexalgorithms", b"securitykeyprovider", b"streamlocalbindmask"]),
-        20 => is_any(word, &[b"canonicalizehostname", b"globalknownhostsfile", b"gssapiauthentication"]),
-        21 => is_any(word, &[b"casignaturealgorithms", b"kbdinteractivedevices", b"streamlocalbindunlink"]),
-        22 => is_any(word, &[b"obscurekeystroketiming", b"pubkeyacceptedkeytypes"]),
-        23 => is_any(word, &[b"enableescapecommandline", b"forkafterauthentication", b"rhostsrsaauthentication"]),
-        24 => is_any(word, &[b"preferredauthentications", b"pubkeyacceptedalgorithms"]),
-        25 => is_any(word, &[b"canonicalizefallbacklocal", b"gssapidelegatecredentials"]),
+        19 => is_any(
+            word,
+            &[
+                b"canonicalizemaxdots",
+                b"gssapikexalgorithms",
+                b"securitykeyprovider",
+                b"streamlocalbindmask",
+            ],
+        ),
+        20 => is_any(
+            word,
+            &[
+                b"canonicalizehostname",
+                b"globalknownhostsfile",
+                b"gssapiauthentication",
+            ],
+        ),
+        21 => is_any(
+            word,
+            &[
+                b"casignaturealgorithms",
+                b"kbdinteractivedevices",
+                b"streamlocalbindunlink",
+            ],
+        ),
+        22 => is_any(
+            word,
+            &[b"obscurekeystroketiming", b"pubkeyacceptedkeytypes"],
+        ),
+        23 => is_any(
+            word,
+            &[
+                b"enableescapecommandline",
+                b"forkafterauthentication",
+                b"rhostsrsaauthentication",
+            ],
+        ),
+        24 => is_any(
+            word,
+            &[b"preferredauthentications", b"pubkeyacceptedalgorithms"],
+        ),
+        25 => is_any(
+            word,
+            &[b"canonicalizefallbacklocal", b"gssapidelegatecredentials"],
+        ),
         26 => false,
-        27 => is_any(word, &[b"canonicalizepermittedcnames", b"hostbasedacceptedalgorithms"]),
+        27 => is_any(
+            word,
+            &[
+                b"canonicalizepermittedcnames",
+                b"hostbasedacceptedalgorithms",
+            ],
+        ),
         28 => is_any(word, &[b"kbdinteractiveauthentication"]),
         29 => false,
         30 => false,
@@ -143,7 +229,7 @@ fn is_unchecked(word: &[u8]) -> bool
     is_unchecked_of(word.len(), word)
 }
 
-/// What a keyword is, in any case.
+/// What a keyword is, in any case. It takes no memory.
 #[tactic(auto, unfolding(conf_rules::specs::Keywords::meaning_of))]
 pub fn kind_of(keyword: &[u8]) -> KeyKind
     ensures { result ≡ meaning_of keyword.now }

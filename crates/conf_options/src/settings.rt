@@ -13,7 +13,7 @@ use ssh_fields::{OutOfMemory, Text};
 use std::alloc::Global;
 use std::marker::Model;
 
-/// Values of keys, of which those are kept that count.
+/// Values of keys in the order in which they came, of which those are kept that count. Each value is one of its key.
 #[derive(Drop)]
 pub struct Settings {
     alloc: Global,
@@ -199,21 +199,23 @@ impl Settings {
         first_of(self.all.as_slice(), key)
     }
 
-    /// The value of a key at a place.
+    /// The value of a key at a place, counted from 0.
     pub fn nth(&self, key: Key, i: usize) -> Option<&Value>
         ensures { option_copied result ≡ slice_get (values_among key self.now) i }
     {
         nth_of(self.all.as_slice(), key, i)
     }
 
-    /// The port, or 22.
+    /// The first Port, or 22.
     pub fn port(&self) -> u16
         ensures { result ≡ number_in 22 (slice_get (values_among keys.Port self.now) 0) }
     {
         port_of(self.all.as_slice())
     }
 
-    /// Takes a value, where it counts; `true` where that changed what is kept. An `Err` changes nothing.
+    /// Takes a value, where it counts: the first of its key, or of both proxy keys; each one of a key that collects; patterns of
+    /// `SendEnv`, of which those behind a dash remove earlier ones. `true` exactly where what is kept changed. An `Err` changes
+    /// nothing.
     pub fn offer(&mut self, key: Key, value: Value) -> Result<bool, OutOfMemory>
         requires { fits key value ≡ true }
         ensures keeps { OnOk result ((given : List Given) → Keeps self.old given → Keeps self.new (given ++ (key, value) ∷ [])) }

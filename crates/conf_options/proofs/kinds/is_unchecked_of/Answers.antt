@@ -1,4 +1,4 @@
-use Rattle.std.proofs.Common.{refl, arith, ◌∙◌}
+use Rattle.std.proofs.Common.{refl, arith}
 use Rattle.conf_rules.specs.Keywords.{unchecked}
 use Rattle.conf_options.specs.Lengths.{texts_of_length}
 use Rattle.conf_options.proofs.KindLemmas.{no-texts}
@@ -135,5 +135,6 @@ returns-in-31 c = rw c.in-31.is c.is_any-in-31.ensures
 pub returns-in-32 : goal.returns-in-32
 unfolding texts_of_length unchecked
 returns-in-32 c = rw c.in-32.is c.is_any-in-32.ensures
+
 pub returns-in_default : goal.returns-in_default
 returns-in_default c = no-texts c.args.word.now c.args.length (omega arith)
