@@ -1,11 +1,11 @@
 -- A client's channels are left one after the other: what one step makes of what is still to do.
-use Rattle.std.proofs.Common.{◌≡◌, ℕ, zero, suc, ◌+◌, ◌<◌, Bool, true, false, cond, not, ◌||◌, List, [], ◌∷◌, drop, length, map, refl, ap, sym, ◌∙◌, subst, arith}
-use Rattle.std.specs.Prelude.{Option, Some, None, filter, slice_get, ◌==◌}
+use Rattle.std.proofs.Common.{◌≡◌, ℕ, zero, suc, ◌+◌, Bool, true, false, cond, not, ◌||◌, List, [], ◌∷◌, drop, length, map, refl, ap, sym, ◌∙◌, subst, arith}
+use Rattle.std.specs.Prelude.{Some, None, filter, slice_get}
 use Rattle.std.specs.List.{AllByRecursion}
 use Rattle.std.proofs.lemmas.Bool.{eq-eqb}
 use Rattle.std.proofs.lemmas.Option.{none-some, same_Some}
 use Rattle.mux_history.proofs.Finds.{filter-no, filter-yes}
-use Rattle.channel_table.specs.Entries.{AreApart, AreTwo, Entry, at_number, changed_at, count_of, entry_at, freed, is_at, is_of, nth_entry}
+use Rattle.channel_table.specs.Entries.{AreApart, AreTwo, Entry, at_number, changed_at, count_of, freed, is_at, is_of, nth_entry}
 use Rattle.channel_table.proofs.Lookups.{none-behind}
 use Rattle.channel_table.proofs.Steps.{changed-none, without-none}
 use Rattle.client_teardown.specs.Leaving.{closing, is_open, left_entries, left_entry, stays}
@@ -149,6 +149,31 @@ freed-later k i (y ∷ ys) e apart h = by i h (is_of k y) refl (λ j g. freed-la
         let later = sym (nth-other k y ys t i) ∙ h in
         ap (λ zs. drop i (filter (is_of k) zs)) (freed-other e.number y ys (ne i later))
         ∙ (ap (drop i) (filter-no (is_of k) y (freed e.number ys) t) ∙ (ih i later ∙ sym (ap (drop (suc i)) (filter-no (is_of k) y ys t))))
+
+pub freed-count : (k i : ℕ) (es : List Entry) (e : Entry) → AreApart es → nth_entry es k i ≡ Some e → count_of (freed e.number es) k + 1 ≡ count_of es k
+freed-count k zero [] e apart h = absurd (none-some e h)
+freed-count k (suc i) [] e apart h = absurd (none-some e h)
+freed-count k i (y ∷ ys) e apart h = by i h (is_of k y) refl (λ j g. freed-count k j ys e apart.1 g) (λ j g. (nth-of (AreTwo y) k j ys e g apart.0).number)
+  where
+    mine : (zs : List Entry) → is_of k y ≡ true → count_of (y ∷ zs) k ≡ count_of zs k + 1
+    mine zs t = let same : count_of (y ∷ zs) k ≡ suc (count_of zs k) = ap length (filter-yes (is_of k) y zs t) in omega (arith, same)
+
+    other : (zs : List Entry) → is_of k y ≡ false → count_of (y ∷ zs) k ≡ count_of zs k
+    other zs t = ap length (filter-no (is_of k) y zs t)
+
+    by : (i : ℕ) → nth_entry (y ∷ ys) k i ≡ Some e → (b : Bool) → is_of k y ≡ b → ((j : ℕ) → nth_entry ys k j ≡ Some e → count_of (freed e.number ys) k + 1 ≡ count_of ys k) → ((j : ℕ) → nth_entry ys k j ≡ Some e → is_at e.number y ≡ false) → count_of (freed e.number (y ∷ ys)) k + 1 ≡ count_of (y ∷ ys) k
+    by zero h true t ih ne =
+        let same : y ≡ e = same_Some y e (sym (nth-mine k y ys t zero) ∙ h) in
+        let gone : count_of (freed e.number (y ∷ ys)) k ≡ count_of ys k = ap (λ (z : Entry). count_of (freed z.number (y ∷ ys)) k) (sym same) ∙ ap (λ zs. count_of zs k) (freed-first y ys apart) in
+        omega (arith, gone, mine ys t)
+    by (suc i) h true t ih ne =
+        let later = sym (nth-mine k y ys t (suc i)) ∙ h in
+        let kept : count_of (freed e.number (y ∷ ys)) k ≡ count_of (y ∷ freed e.number ys) k = ap (λ zs. count_of zs k) (freed-other e.number y ys (ne i later)) in
+        omega (arith, kept, mine (freed e.number ys) t, mine ys t, ih i later)
+    by i h false t ih ne =
+        let later = sym (nth-other k y ys t i) ∙ h in
+        let kept : count_of (freed e.number (y ∷ ys)) k ≡ count_of (y ∷ freed e.number ys) k = ap (λ zs. count_of zs k) (freed-other e.number y ys (ne i later)) in
+        omega (arith, kept, other (freed e.number ys) t, other ys t, ih i later)
 
 -- ---- no channel is at the place
 

@@ -1,6 +1,6 @@
 -- The channel under a number, and the CLOSE that is noted in its account.
-use Rattle.std.proofs.Common.{◌≡◌, ℕ, Bool, true, false, List, [], ◌∷◌, refl, ap, sym, ◌∙◌, subst}
-use Rattle.std.specs.Prelude.{Option, Some, None, find, option_map, ◌==◌}
+use Rattle.std.proofs.Common.{◌≡◌, ℕ, Bool, true, false, List, [], ◌∷◌, refl, ap, sym, ◌∙◌}
+use Rattle.std.specs.Prelude.{Option, Some, None, option_map}
 use Rattle.std.proofs.lemmas.Bool.{eqb-true}
 use Rattle.std.proofs.lemmas.Option.{none-some, same_Some}
 use Rattle.window_ledger.specs.declared.ledger.Ledger.{Ledger}
@@ -76,7 +76,7 @@ none-noted es n none = sym (changed-none n closing es none)
 
 -- ---- one channel of a client that is lost
 
-left-at : (es : List Entry) (n : ℕ) (b : Bool) → stays_at es n ≡ b → left_at n es ≡ elim b as (λ _. List Entry) [ true ↦ changed_at n closing es | false ↦ freed n es ]
+pub left-at : (es : List Entry) (n : ℕ) (b : Bool) → stays_at es n ≡ b → left_at n es ≡ elim b as (λ _. List Entry) [ true ↦ changed_at n closing es | false ↦ freed n es ]
 left-at es n b h = ap (λ c. elim c as (λ _. List Entry) [ true ↦ changed_at n closing es | false ↦ freed n es ]) h
 
 pub none-left_at : (es : List Entry) (n : ℕ) → entry_at es n ≡ None → es ≡ left_at n es

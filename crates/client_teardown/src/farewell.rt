@@ -108,7 +108,10 @@ fn leave_forwards(forwards: &mut Forwards, client: u64, up: &mut Queue)
     ensures forwardings { forwards.new ≡ without_client client forwards.old }
     ensures spare { up.old.spare ≤ up.new.spare + FORWARDS_ROOM }
 {
-    while let Some((key, is_leaving)) = forwards.take_of(client) {
+    for _ in 0..forwards.count(client) {
+        let Some((key, is_leaving)) = forwards.take_of(client) else {
+            break;
+        };
         if !is_leaving {
             up.push_reserved(cancel(lent(&key)).as_bytes());
         }

@@ -7,8 +7,12 @@
 mod cancel;
 mod farewell;
 mod later;
+pub mod laws;
 mod message;
 
 pub use farewell::{FAREWELL_ROOM, tear_down};
 pub use later::{LATE_ROOM, late};
 pub use message::Late;
+
+#[cfg(test)]
+mod tests;

@@ -6,12 +6,10 @@ use Rattle.client_teardown.proofs.Cancels.{cancels_told}
 use Rattle.client_teardown.proofs.Sending.{frames}
 use Rattle.client_teardown.proofs.farewell.leave_forwards.Given as goal
 
-abbrev pub invariant-loop-key : goal.invariant-loop-key
-invariant-loop-key l = record {
+abbrev pub invariant-loop : goal.invariant-loop
+invariant-loop l = record {
   sent : l.up.waiting ++ frames (cancels_told (told_one_by_one l.client l.forwards)) ≡ l.initial.up.waiting ++ frames (forward_farewells l.client l.initial.forwards);
   others : without_client l.client l.forwards ≡ without_client l.client l.initial.forwards;
-  spare : l.initial.up.spare + 308 * count_of l.forwards l.client ≤ l.up.spare + 308 * count_of l.initial.forwards l.client;
+  remaining : count_of l.forwards l.client + l.counter ≡ l.end;
+  spare : l.initial.up.spare ≤ l.up.spare + 308 * l.counter;
 }
-
-abbrev pub decreases-loop-key : goal.decreases-loop-key
-decreases-loop-key l = count_of l.forwards l.client
