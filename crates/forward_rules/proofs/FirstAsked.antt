@@ -1,5 +1,5 @@
 -- A reply to a forwarding's request: the first that is asked with its key is the one whose request is answered.
-use Rattle.std.proofs.Common.{◌≡◌, ◌≤◌, ◌<◌, ◌+◌, ℕ, List, [], ◌∷◌, length, map, true, false, Bool, refl, ◌∙◌, ap, sym, subst, Option, Some, None, arith, suc}
+use Rattle.std.proofs.Common.{◌≡◌, ◌≤◌, ◌<◌, ℕ, List, [], ◌∷◌, length, map, true, false, Bool, refl, ◌∙◌, ap, sym, subst, Option, Some, None, arith, suc}
 use Rattle.std.specs.Prelude.{filter, find, ◌==◌, ◌&&◌, not, is_some, is_none, slice_get, unwrap_or}
 use Rattle.std.specs.List.{AllByRecursion}
 use Rattle.std.proofs.lemmas.Bool.Decides.{nat_tests}
@@ -131,6 +131,7 @@ later-first k place own g (h ∷ hs) mine idle le two there = by_case (later-fir
   where
     late : (a b : ℕ) → b ≤ a → (c : ℕ) → (c == b) ≡ true → a < c → ⊥
     late a b le c e lt = grind (arith, nat_tests)
+
     by_case : (is_some (find (asks_at k place) hs) ≡ true → ⊥) → (b : Bool) → asks_at k place h ≡ b → ⊥
     by_case ih true t =
         let client = and-left (h.client == k) (is_request h place) t in
@@ -145,6 +146,7 @@ first-asked k key own (f ∷ fs) (g ∷ gs) listed waits two asked there = by_ca
   where
     tail : asks_at k (own k).replied g ≡ false → is_some (find (asks_at k (own k).replied) gs) ≡ true
     tail miss = sym (ap is_some (find-no (asks_at k (own k).replied) g gs miss)) ∙ there
+
     -- one that is asked by the client at another place was asked before, and has a reply
     not-asked : asks_at k (own k).replied g ≡ false → (b : Bool) → is_asked_at k key f ≡ b → is_asked_at k key f ≡ false
     not-asked miss false e = e
@@ -157,6 +159,7 @@ first-asked k key own (f ∷ fs) (g ∷ gs) listed waits two asked there = by_ca
         idle-is : (o : Option Key) → not (is_some o) ≡ true → o ≡ None
         idle-is None h = refl
         idle-is (Some key) h = absurd (cc)
+
     by_case : (is_some (find (asks_at k (own k).replied) gs) ≡ true → SameFirst (is_asked_at k key) (asks_at k (own k).replied) fs gs) → (b : Bool) → asks_at k (own k).replied g ≡ b → (is_asked_at k key f ≡ asks_at k (own k).replied g) × (asks_at k (own k).replied g ≡ false → SameFirst (is_asked_at k key) (asks_at k (own k).replied) fs gs)
     by_case ih true t = (asked-is k key own f g listed.0 waits.0 asked t ∙ sym t, λ miss. absurd (let clash : true ≡ false = sym t ∙ miss in cc))
     by_case ih false t = (not-asked t (is_asked_at k key f) refl ∙ sym t, λ miss. ih (tail miss))
@@ -180,12 +183,16 @@ only-one k place g (h ∷ hs) at two ends = ((by_case (asks_at k place h) refl, 
   where
     twice : (a b p : ℕ) → (a == p) ≡ true → (b == p) ≡ true → a < b → ⊥
     twice a b p e f lt = grind (arith, nat_tests)
+
     idle : (x : Forwarding) → asks_at k place x ≡ true → x.live ≡ None
     idle x t = none-is x.live (and-right (x.request == place) (is_none x.live) (and-right (x.client == k) (is_request x place) t))
+
     here : (x : Forwarding) → asks_at k place x ≡ true → (x.request == place) ≡ true
     here x t = and-left (x.request == place) (is_none x.live) (and-right (x.client == k) (is_request x place) t)
+
     client : (x : Forwarding) → asks_at k place x ≡ true → x.client ≡ k
     client x t = same-number x.client k (and-left (x.client == k) (is_request x place) t)
+
     by_case : (b : Bool) → asks_at k place h ≡ b → asks_at k place h ≡ false
     by_case false t = t
     by_case true t = absurd (twice g.request h.request place (here g at) (here h t) (two.0.asked (client g at ∙ sym (client h t)) (idle g at) (idle h t)))
@@ -351,9 +358,11 @@ cancels-without j k key own (f ∷ fs) (g ∷ gs) listed waits = by_case (cancel
     none-of : (a : Bool) → (a && false) ≡ false
     none-of true = refl
     none-of false = refl
+
     idle-is : (o : Option Key) → not (is_some o) ≡ true → o ≡ None
     idle-is None h = refl
     idle-is (Some key) h = absurd (cc)
+
     by_case : cancels j (without_first (is_asked_at k key) fs) ≡ cancels j fs → (b : Bool) → is_asked_at k key f ≡ b → cancels j (without_first (is_asked_at k key) (f ∷ fs)) ≡ cancels j (f ∷ fs)
     by_case ih true e =
         let dead : not f.live ≡ true = and-left (not f.live) (is_key f.key key) (and-right (is_of k f) (not f.live && is_key f.key key) e) in
@@ -388,10 +397,13 @@ success-fits k key rest chosen fs gs own next lost fit here turn port = record {
   where
     begun : Forward → Forward
     begun f = record f { live = true; key = with_port chosen f.key }
+
     first : SameFirst (is_asked_at k key) (asks_at k (own k).replied) fs gs
     first = first-asked k key own fs gs fit.listed fit.awaited fit.two turn.asked (asked-there k key own gs turn.asked (fit.each k here))
+
     same : filter is_on (map (after k (own k).replied (Some rest)) gs) ≡ history.change_first (asks_at k (own k).replied) (begins rest) gs
     same = success-first k (own k).replied rest gs (all-on fs gs fit.listed) (no-ends k key own gs turn.asked fit.awaited) fit.two
+
     fits : (f : Forward) (g : Forwarding) → is_asked_at k key f ≡ true → asks_at k (own k).replied g ≡ true → Fits f g → Fits (record f { live = true; key = with_port chosen f.key }) (begins rest g)
     fits f g p q fg =
         let idle = none-is g.live (and-right (g.request == (own k).replied) (is_none g.live) (and-right (g.client == k) (is_request g (own k).replied) q)) in
@@ -419,6 +431,7 @@ refusal-fits k key fs gs own next lost fit here turn = record {
   where
     first : SameFirst (is_asked_at k key) (asks_at k (own k).replied) fs gs
     first = first-asked k key own fs gs fit.listed fit.awaited fit.two turn.asked (asked-there k key own gs turn.asked (fit.each k here))
+
     same : filter is_on (map (after k (own k).replied None) gs) ≡ dropped_first (asks_at k (own k).replied) gs
     same = refusal-first k (own k).replied gs (all-on fs gs fit.listed) (no-ends k key own gs turn.asked fit.awaited) fit.two
 
@@ -456,5 +469,6 @@ lost-fits k what o fs gs own next lost fit turn gone = record {
     others [] (g ∷ gs) listed gone = absurd listed
     others (f ∷ fs) [] listed gone = absurd listed
     others (f ∷ fs) (g ∷ gs) listed gone = ((ap (λ b. b && is_request g (own k).replied) (ap (λ i. i == k) (sym listed.0.client) ∙ gone.0), ap (λ b. b && is_number g.cancel (own k).replied) (ap (λ i. i == k) (sym listed.0.client) ∙ gone.0)), others fs gs listed.1 gone.1)
+
     same : filter is_on (map (after k (own k).replied o) gs) ≡ gs
     same = none-answered k (own k).replied o gs (all-on fs gs fit.listed) (others fs gs fit.listed gone)

@@ -4,4 +4,5 @@ pub mod Counts
 pub mod Taken
 pub mod Replies
 pub mod FirstAsked
+pub mod FirstCancel
 pub mod Lists

@@ -8,7 +8,6 @@ use Rattle.mux_history.specs.Channels.{is_number}
 use Rattle.mux_history.specs.Forwardings.{Forwarding, is_request, of_client, replied}
 use Rattle.mux_history.specs.Gist.{Gist, Refuses, Succeeds}
 use Rattle.mux_history.specs.Keys.{bound}
-use Rattle.mux_history.specs.Requests.{Ask}
 use Rattle.mux_history.proofs.Bools.{same-number}
 use Rattle.mux_history.proofs.CurrentSteps.{is_on}
 use Rattle.mux_history.proofs.Finds.{filter-no, filter-yes, find-no, find-yes}
@@ -62,9 +61,11 @@ none-at k place o g asks ends = by_client (g.client == k) refl
     right : (a b : Bool) → a ≡ true → (a && b) ≡ false → b ≡ false
     right true b e h = h
     right false b e h = cc
+
     unchanged : (p : Option (List ℕ)) → is_request g place ≡ false → is_number g.cancel place ≡ false → replied place (reply_of p) g ≡ g
     unchanged (Some rest) r c = ap (λ (b : Bool). elim b as (λ _. Forwarding) [ true ↦ record g { live = Some (bound g.key rest) } | false ↦ elim (is_number g.cancel place) as (λ _. Forwarding) [ true ↦ record g { over = true } | false ↦ g ] ]) r ∙ ap (λ (b : Bool). elim b as (λ _. Forwarding) [ true ↦ record g { over = true } | false ↦ g ]) c
     unchanged None r c = ap (λ (b : Bool). elim b as (λ _. Forwarding) [ true ↦ record g { over = true } | false ↦ elim (is_number g.cancel place) as (λ _. Forwarding) [ true ↦ record g { cancel = None } | false ↦ g ] ]) r ∙ ap (λ (b : Bool). elim b as (λ _. Forwarding) [ true ↦ record g { cancel = None } | false ↦ g ]) c
+
     by_client : (b : Bool) → (g.client == k) ≡ b → after k place o g ≡ g
     by_client true e = ap (λ (b : Bool). elim b as (λ _. Forwarding) [ true ↦ replied place (reply_of o) g | false ↦ g ]) e ∙ unchanged o (right (g.client == k) (is_request g place) e asks) (right (g.client == k) (is_number g.cancel place) e ends)
     by_client false e = ap (λ (b : Bool). elim b as (λ _. Forwarding) [ true ↦ replied place (reply_of o) g | false ↦ g ]) e
@@ -132,10 +133,13 @@ two-after k place o g h two = record {
   where
     client-of : (f : Forwarding) → (after k place o f).client ≡ f.client
     client-of f = after-cases (λ x. x.client ≡ f.client) k place o f refl (λ rest. refl) refl refl
+
     request : (f : Forwarding) → (after k place o f).request ≡ f.request
     request f = after-cases (λ x. x.request ≡ f.request) k place o f refl (λ rest. refl) refl refl
+
     back : (f : Forwarding) → (after k place o f).live ≡ None → f.live ≡ None
     back f = after-cases (λ x. x.live ≡ None → f.live ≡ None) k place o f (λ e. e) (λ rest e. absurd (cc)) (λ e. e) (λ e. e)
+
     cancel-back : (f : Forwarding) (q : ℕ) → (after k place o f).cancel ≡ Some q → f.cancel ≡ Some q
     cancel-back f q = after-cases (λ x. x.cancel ≡ Some q → f.cancel ≡ Some q) k place o f (λ e. e) (λ rest e. e) (λ e. e) (λ e. absurd (cc))
 
@@ -146,6 +150,7 @@ each-two k place o (g ∷ gs) two = by_case (each-two k place o gs two.1) (is_on
     others : (hs : List Forwarding) → AllByRecursion (AreTwo g) hs → AllByRecursion (AreTwo (after k place o g)) (map (after k place o) hs)
     others [] all = tt
     others (h ∷ hs) all = (two-after k place o g h all.0, others hs all.1)
+
     by_case : EachTwo (filter is_on (map (after k place o) gs)) → (b : Bool) → is_on (after k place o g) ≡ b → EachTwo (filter is_on (map (after k place o) (g ∷ gs)))
     by_case ih true e = subst EachTwo (sym (filter-yes is_on (after k place o g) (map (after k place o) gs) e)) (all-filter (AreTwo (after k place o g)) is_on (map (after k place o) gs) (others gs two.0), ih)
     by_case ih false e = subst EachTwo (sym (filter-no is_on (after k place o g) (map (after k place o) gs) e)) ih
@@ -182,13 +187,17 @@ awaits-after k what own next o g turn waits on = by_client (g.client == k) refl
   where
     place : ℕ
     place = (own k).replied
+
     client-of : (after k place o g).client ≡ g.client
     client-of = after-cases (λ x. x.client ≡ g.client) k place o g refl (λ rest. refl) refl refl
+
     Goal : Type 0
     Goal = IsAwaited (next (after k (own k).replied o g).client) (after k (own k).replied o g)
+
     -- it stays as it is
     stays : after k (own k).replied o g ≡ g → IsAwaited (next g.client) g → IsAwaited (next (after k (own k).replied o g).client) (after k (own k).replied o g)
     stays same w = subst (λ (x : Forwarding). IsAwaited (next x.client) x) (sym same) w
+
     -- of the client's, with one more reply
     more : g.client ≡ k → is_request g (own k).replied ≡ false → is_number g.cancel (own k).replied ≡ false → IsAwaited (next g.client) g
     more same r c = subst (λ x. IsAwaited x g) (sym (ap next same ∙ turn.mine)) (record {
@@ -196,6 +205,7 @@ awaits-after k what own next o g turn waits on = by_client (g.client == k) refl
       leaving = λ q there. let w = subst (λ j. ((own j).replied ≤ q) × (slice_get (own j).asked q ≡ Some (record { client = g.client; what = Cancel (unwrap_or g.live g.key) }))) same (waits.leaving q there) in (past (own k).replied q w.0 (number-false (own k).replied q g.cancel c there), w.1);
       either = waits.either;
     })
+
     by_own : g.client ≡ k → (g.client == k) ≡ true → (b : Bool) → is_request g (own k).replied ≡ b → (c : Bool) → is_number g.cancel (own k).replied ≡ c → (p : Option (List ℕ)) → is_on (after k (own k).replied p g) ≡ true → IsAwaited (next (after k (own k).replied p g).client) (after k (own k).replied p g)
     by_own same e true r c n (Some rest) up =
         subst (λ (x : Forwarding). IsAwaited (next x.client) x) (sym (success-at k (own k).replied rest g (ap (λ b. b && is_request g (own k).replied) e ∙ r))) (record {
@@ -212,6 +222,7 @@ awaits-after k what own next o g turn waits on = by_client (g.client == k) refl
           either = λ none. refl;
         })
     by_own same e false r false n p up = subst (λ (x : Forwarding). IsAwaited (next x.client) x) (sym (none-at k (own k).replied p g (ap (λ b. b && is_request g (own k).replied) e ∙ r) (ap (λ b. b && is_number g.cancel (own k).replied) e ∙ n))) (more same r n)
+
     by_client : (b : Bool) → (g.client == k) ≡ b → IsAwaited (next (after k (own k).replied o g).client) (after k (own k).replied o g)
     by_client true e = by_own (same-number g.client k e) e (is_request g (own k).replied) refl (is_number g.cancel (own k).replied) refl o on
     by_client false e = stays (none-at k (own k).replied o g (ap (λ b. b && is_request g (own k).replied) e) (ap (λ b. b && is_number g.cancel (own k).replied) e)) (subst (λ x. IsAwaited x g) (sym (turn.others g.client (flip g.client k e))) waits)
@@ -240,6 +251,7 @@ has-after k place j o own test stays (g ∷ gs) on waits there = by_theirs (has-
     behind true a false c t h r = ap (λ hs. is_some (find test (filter (is_theirs j) hs))) (filter-yes is_on (after k place o g) (map (after k place o) gs) a) ∙ (ap (λ hs. is_some (find test hs)) (filter-no (is_theirs j) (after k place o g) (filter is_on (map (after k place o) gs)) c) ∙ r)
     behind true a true c true h r = ap (λ hs. is_some (find test (filter (is_theirs j) hs))) (filter-yes is_on (after k place o g) (map (after k place o) gs) a) ∙ (ap (λ hs. is_some (find test hs)) (filter-yes (is_theirs j) (after k place o g) (filter is_on (map (after k place o) gs)) c) ∙ ap is_some (find-yes test (after k place o g) (filter (is_theirs j) (filter is_on (map (after k place o) gs))) h))
     behind true a true c false h r = ap (λ hs. is_some (find test (filter (is_theirs j) hs))) (filter-yes is_on (after k place o g) (map (after k place o) gs) a) ∙ (ap (λ hs. is_some (find test hs)) (filter-yes (is_theirs j) (after k place o g) (filter is_on (map (after k place o) gs)) c) ∙ (ap is_some (find-no test (after k place o g) (filter (is_theirs j) (filter is_on (map (after k place o) gs))) h) ∙ r))
+
     by_theirs : (is_some (find test (filter (is_theirs j) gs)) ≡ true → is_some (find test (filter (is_theirs j) (filter is_on (map (after k place o) gs)))) ≡ true) → (b : Bool) → is_theirs j g ≡ b → (c : Bool) → test g ≡ c → is_some (find test (filter (is_theirs j) (filter is_on (map (after k place o) (g ∷ gs))))) ≡ true
     by_theirs ih true t true e =
         let same = stays g waits.0 t e in
@@ -256,13 +268,17 @@ asked-stays k place j other o own differ g waits theirs at = none-at k place o g
   where
     none : g.live ≡ None
     none = none-is g.live (and-left (is_none g.live) (g.request == other) at)
+
     same-client : (a b c : ℕ) → (c == b) ≡ true → (c == a) ≡ true → (a == b) ≡ true
     same-client a b c p q = grind (arith, nat_tests)
+
     not-here : (r n p : ℕ) → (r == n) ≡ true → (n == p) ≡ false → (r == p) ≡ false
     not-here r n p a b = grind (arith, nat_tests)
+
     asks : (b : Bool) → (g.client == k) ≡ b → asks_at k place g ≡ false
     asks true e = ap (λ b. b && is_request g place) e ∙ ap (λ b. b && is_none g.live) (not-here g.request other place (and-right (is_none g.live) (g.request == other) at) (differ (same-client k j g.client theirs e)))
     asks false e = ap (λ b. b && is_request g place) e
+
     ends : (b : Bool) → (g.client == k) ≡ b → ends_at k place g ≡ false
     ends true e = ap (λ b. b && is_number g.cancel place) e ∙ ap (λ p. is_number p place) (waits.either none)
     ends false e = ap (λ b. b && is_number g.cancel place) e
@@ -276,12 +292,15 @@ leaving-stays k place j other o own differ g waits theirs at = none-at k place o
   where
     here : g.cancel ≡ Some other
     here = number-is g.cancel other at
+
     same-client : (a b c : ℕ) → (c == b) ≡ true → (c == a) ≡ true → (a == b) ≡ true
     same-client a b c p q = grind (arith, nat_tests)
+
     asks : (b : Bool) → (g.client == k) ≡ b → (c : Bool) → is_request g place ≡ c → asks_at k place g ≡ false
     asks true e true r = absurd (let none = waits.either (none-is g.live (and-right (g.request == place) (is_none g.live) r)) in let clash : None ≡ Some other = sym none ∙ here in cc)
     asks true e false r = ap (λ b. b && is_request g place) e ∙ r
     asks false e c r = ap (λ b. b && is_request g place) e
+
     ends : (b : Bool) → (g.client == k) ≡ b → ends_at k place g ≡ false
     ends true e = ap (λ b. b && is_number g.cancel place) e ∙ (ap (λ p. is_number p place) here ∙ differ (same-client k j g.client theirs e))
     ends false e = ap (λ b. b && is_number g.cancel place) e
@@ -291,15 +310,19 @@ each-has k what own next o gs turn on waits j each = by_client (k == j) refl
   where
     Goal : Type 0
     Goal = EachHas (next j) (filter (λ g. g.client == j) (filter is_on (map (after k (own k).replied o) gs)))
+
     has : (other : ℕ) (w : Global) → ((k == j) ≡ true → (other == (own k).replied) ≡ false) → HasAt other w (filter (λ g. g.client == j) gs) → HasAt other w (filter (λ g. g.client == j) (filter is_on (map (after k (own k).replied o) gs)))
     has other (Forward key) differ there = has-after k (own k).replied j o own (is_asked_at other) (asked-stays k (own k).replied j other o own differ) gs on waits there
     has other (Cancel key) differ there = has-after k (own k).replied j o own (is_leaving_at other) (leaving-stays k (own k).replied j other o own differ) gs on waits there
     has other KeepAlive differ there = tt
     has other OtherName differ there = tt
+
     beyond : (a b : ℕ) → a + 1 ≤ b → (b == a) ≡ false
     beyond a b le = grind (arith, nat_tests)
+
     before : (a b : ℕ) → a + 1 ≤ b → a ≤ b
     before a b le = omega arith
+
     by_client : (b : Bool) → (k == j) ≡ b → EachHas (next j) (filter (λ g. g.client == j) (filter is_on (map (after k (own k).replied o) gs)))
     by_client true e = λ other a le got.
         let same : k ≡ j = same-number k j e in
