@@ -1,0 +1,12 @@
+//! Permissions and remote forwardings: what the permission lists let a client open and listen on, and which client a
+//! forwarded connection goes to.
+#![tactic(auto)]
+
+mod forwards;
+mod key;
+mod listed;
+mod policy;
+
+pub use forwards::{ForwardRefused, Forwards};
+pub use key::{Key, OwnKey};
+pub use policy::{Policy, PolicyError};
