@@ -23,7 +23,7 @@ pub mod Granted
 pub mod ReplyTold
 pub mod LeftTable
 pub mod Loss
-pub mod Gone
+pub mod Losses
 pub mod Failing
 pub mod HearsOpen
 pub mod Awaiting
@@ -38,7 +38,7 @@ pub mod Asked
 pub mod Cancelled
 pub mod Removed
 pub mod Requests
-pub mod Clients
+pub mod Waiting
 pub mod SaysRequests
 pub mod Refused
 pub mod Asking

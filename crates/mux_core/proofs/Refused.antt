@@ -34,7 +34,7 @@ use Rattle.mux_core.specs.Stands.{AreOnce, AsksFit, ClientFits, ClientsFit, Look
 use Rattle.mux_core.specs.Calls.{SaysIn, SaysRow, Shows}
 use Rattle.mux_core.specs.Requesting.{SaysRoomy, after_refusal, is_full, refusal, refusal_now, waiting_of, with_waiting}
 use Rattle.mux_core.proofs.Answering.{Waits, if_none, refused-answers, refused-waits}
-use Rattle.mux_core.proofs.Clients.{changes, changes-at, waits-are, with-map}
+use Rattle.mux_core.proofs.Waiting.{changes, changes-at, waits-are, with-map}
 use Rattle.mux_core.proofs.Quiet.{own-same}
 use Rattle.mux_core.proofs.Says.{said_as, same-queue, takes-unsent, unsent-held}
 use Rattle.mux_core.proofs.Served.{IsServed, open-by, served}

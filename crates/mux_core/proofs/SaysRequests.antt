@@ -44,7 +44,7 @@ use Rattle.mux_core.specs.Stands.{AreOnce, AsksFit, ClientFits, ClientsFit, Look
 use Rattle.mux_core.specs.Calls.{SaysAs, SaysIn, SaysRow, Shows}
 use Rattle.mux_core.specs.Requesting.{SaysRoomy, after_refusal, is_full, more_awaited, refusal, refusal_now, waiting_of, with_waiting}
 use Rattle.mux_core.proofs.Answering.{Waits, if_none, refused-answers, refused-waits, sent-answers}
-use Rattle.mux_core.proofs.Clients.{changes, how-many, waits-are, with-map}
+use Rattle.mux_core.proofs.Waiting.{changes, how-many, waits-are, with-map}
 use Rattle.mux_core.proofs.Quiet.{IsQuiet, own-same}
 use Rattle.mux_core.proofs.Says.{said_as, same-queue, takes-unsent, tells-own, unsent-held}
 use Rattle.mux_core.proofs.SaysWithin.{dropped-row, said-ok}
