@@ -1,11 +1,12 @@
 -- The indices after each step on the list of channels, and what look-ups in them find.
 use Rattle.std.proofs.Common.{◌≡◌, ◌≢◌, ℕ, zero, suc, ◌+◌, ◌<◌, ◌≤◌, ◌↔◌, ◌⊎◌, Bool, true, false, cond, not, ◌&&◌, List, [], ◌∷◌, ◌++◌, length, map, refl, ap, sym, ◌∙◌, subst, ⊎_elim, arith, length-append}
-use Rattle.std.specs.Prelude.{Option, Some, None, find, filter, IsSome, is_some, ◌==◌, nat_eq}
+use Rattle.std.specs.Prelude.{Option, Some, None, find, option_map, ◌==◌, nat_eq}
 use Rattle.std.proofs.lemmas.Bool.{eqb-true, eqb-false, eq-eqb, ne_eqb, cases_eq, and_parts, and_from, true≢false}
 use Rattle.std.proofs.lemmas.Option.{none-some, same_Some}
 use Rattle.indexmap.specs.IndexMap.{IndexMap, get}
-use Rattle.channel_table.specs.Entries.{Entry, is_number, is_at, is_of, has_own, has_remote, entry_at, number_in, number_of_own, number_of_remote, numbers_of, freed, changed_at, with_own, with_remote, with_ledger}
-use Rattle.channel_table.specs.Indices.{paired, owner_in, owner_at, remote_in, remote_at, pair_eq, IsOwnIndex, IsRemoteIndex, AreDistinct, AreInOrder, Agrees, AreSound, listed}
+use Rattle.mux_history.specs.Channels.{is_number}
+use Rattle.channel_table.specs.Entries.{Entry, changed_at, entry_at, freed, has_own, has_remote, is_at, number_of_own, number_of_remote}
+use Rattle.channel_table.specs.Indices.{paired, owner_in, owner_at, remote_in, remote_at, pair_eq, IsOwnIndex, IsRemoteIndex, AreDistinct}
 use Rattle.channel_table.proofs.Inverse.{IsInverse, IsExact, IsInverse-same, IsInverse-put, IsInverse-take}
 use Rattle.channel_table.proofs.Steps.{Keeps, at-append_same, at-append_other, at-without_same, at-without_other, at-changed_same, at-changed_other, number-at}
 
@@ -90,6 +91,9 @@ none-at p (y ∷ ys) n x f at = by (p y) refl (is_at n y) refl (none-at p ys n x
     by false e true g ih = subst (λ z. p z ≡ false) (same_Some y x (rw g at at)) e
     by false e false g ih = ih (rw e at f) (rw g at at)
 
+abbrev pub number_in : Option Entry → Option ℕ
+number_in o = option_map (λ (x : Entry). x.number) o
+
 -- a look-up in the index finds the number of the first one that passes
 pub found-index : {Q : Type 0} (p : Entry → Bool) (name : Option Entry → Option Q) (q : Q) (index : Q → Option ℕ) (xs : List Entry) → AreDistinct xs → IsInverse index (λ n. name (entry_at xs n)) → ((x : Entry) → p x ≡ true → name (Some x) ≡ Some q) → ((o : Option Entry) → name o ≡ Some q → (x : Entry) × (o ≡ Some x) × (p x ≡ true)) → index q ≡ number_in (find p xs)
 found-index p name q index xs d inverse names tests = by (find p xs) refl (index q) refl
@@ -143,13 +147,3 @@ module _ {S : Type 0} where
 
   pub remote-lookup : (m : IndexMap ℕ ℕ S) (xs : List Entry) (s : ℕ) → AreDistinct xs → IsRemoteIndex m xs → get nat_eq m s ≡ number_of_remote xs s
   remote-lookup m xs s d i = found-index (has_remote s) remote_in s (get nat_eq m) xs d i (remote-named s) (remote-tests s)
-
--- two names of one channel in an index are one
-pub sound_table : {S T U : Type 0} (own : IndexMap (ℕ × ℕ) ℕ S) (remote : IndexMap ℕ ℕ T) (clients : IndexMap ℕ (List ℕ) U) (xs ys : List Entry) → xs ≡ ys → Agrees own remote clients xs → AreSound ys
-sound_table own remote clients xs ys e a =
-    subst AreSound e (record {
-      distinct = a.distinct;
-      owners = λ n m q f g. same_Some n m (sym ((a.owns q.0 q.1 n).1 f) ∙ (a.owns q.0 q.1 m).1 g);
-      remotes = λ n m s f g. same_Some n m (sym ((a.remotes s n).1 f) ∙ (a.remotes s m).1 g);
-      few = a.few;
-    })

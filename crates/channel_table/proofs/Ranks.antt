@@ -7,7 +7,7 @@ use Rattle.std.proofs.lemmas.Option.{none-some, slice_get_read, slice_get_past}
 use Rattle.channel_table.specs.declared.slots.Slot.{Slot}
 use Rattle.channel_table.specs.declared.slots.Slot.TheVariants.{Free, Held}
 use Rattle.channel_table.specs.declared.slots.Opened.{Opened}
-use Rattle.channel_table.specs.Entries.{Entry, is_at, entry_at, freed, changed_at}
+use Rattle.channel_table.specs.Entries.{Entry, at_number, changed_at, entry_at, freed, is_at}
 use Rattle.channel_table.specs.Indices.{AreDistinct}
 use Rattle.channel_table.specs.Slots.{Ranked, ranked, placed, ranked_from, entries_of, free_count, AreOpenedBefore}
 use Rattle.channel_table.proofs.Lists.{filter-map}
@@ -108,7 +108,7 @@ placed-append x z (y ∷ ys) l =
 
 -- another entry under this number
 abbrev pub replaced : ℕ → Entry → Ranked → Ranked
-replaced m z y = record y { entry = cond (is_at m y.entry) z y.entry }
+replaced m z y = record y { entry = at_number m (λ _. z) y.entry }
 
 -- which keeps the order
 pub map-placed : (m : ℕ) (z : Entry) (x : Ranked) (ys : List Ranked) → map (replaced m z) (placed x ys) ≡ placed (replaced m z x) (map (replaced m z) ys)
@@ -217,7 +217,7 @@ pub map-above : (m n : ℕ) (x : Entry) (ys : List Ranked) → m < n → Above n
 map-above m n x [] l a = refl
 map-above m n x (y ∷ ys) l a =
     let ne : is_at m y.entry ≡ false = ne_eqb y.entry.number m (λ e. omega (arith, a.0)) in
-    rw ne (ap (λ zs. y ∷ zs) (map-above m n x ys l a.1))
+    rw (ne, at_number) (ap (λ zs. y ∷ zs) (map-above m n x ys l a.1))
 
 same_held : (f g : Opened) → Some (Held f) ≡ Some (Held g) → f ≡ g
 same_held f g e = cc
@@ -235,13 +235,13 @@ slots-set (Held f ∷ slots) n zero m g h e held r =
     let at : n ≡ m = omega arith in
     let rank : f.rank ≡ h.rank = ap (λ (o : Opened). o.rank) (same_held f g held) ∙ sym r in
     let rest = ranked_from (n + 1) slots in
-    let here : replaced m z (ranked n f) ≡ ranked n h = rw (eq-eqb n m at) (subst (λ k. record { rank = f.rank; entry = z } ≡ ranked k h) (sym at) (ap (λ k. record { rank = k; entry = z }) rank)) in
+    let here : replaced m z (ranked n f) ≡ ranked n h = rw (eq-eqb n m at, at_number) (subst (λ k. record { rank = f.rank; entry = z } ≡ ranked k h) (sym at) (ap (λ k. record { rank = k; entry = z }) rank)) in
     sym (map-placed m z (ranked n f) rest ∙ (ap (λ x. placed x (map (replaced m z) rest)) here ∙ ap (placed (ranked n h)) (map-above m (n + 1) z rest (omega arith) (Above-slots (n + 1) slots))))
 slots-set (Held f ∷ slots) n (suc i) m g h e held r =
     let z = (ranked m h).entry in
     let change = replaced m z in
     let rest = ranked_from (n + 1) slots in
-    let here : change (ranked n f) ≡ ranked n f = rw (ne_eqb n m (λ d. omega arith)) refl in
+    let here : change (ranked n f) ≡ ranked n f = rw (ne_eqb n m (λ d. omega arith), at_number) refl in
     ap (placed (ranked n f)) (slots-set slots (n + 1) i m g h (omega arith) held r)
     ∙ (ap (λ x. placed x (map change rest)) (sym here) ∙ sym (map-placed m z (ranked n f) rest))
 

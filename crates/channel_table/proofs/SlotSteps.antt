@@ -6,7 +6,8 @@ use Rattle.std.proofs.lemmas.Option.{none-some, same_Some, slice_get_read, slice
 use Rattle.channel_table.specs.declared.slots.Slot.{Slot}
 use Rattle.channel_table.specs.declared.slots.Slot.TheVariants.{Free, Held}
 use Rattle.channel_table.specs.declared.slots.Opened.{Opened}
-use Rattle.channel_table.specs.Entries.{Entry, is_at, entry_at, freed, changed_at, IsFresh, most_slots}
+use Rattle.channel_table.specs.Entries.{Entry, is_at, entry_at, freed, changed_at, IsFree}
+use Rattle.mux_history.specs.declared.limits.TheConstants.{NUMBERS_END}
 use Rattle.channel_table.specs.Slots.{Ranked, ranked, ranked_from, entries_of, free_count, placed, IsLinked, AreOpenedBefore, AreSlots}
 use Rattle.channel_table.proofs.Lists.{slice_get-set_same, slice_get-set_other, slice_get-push, filter-map}
 use Rattle.channel_table.proofs.Ranks.{entry, entry_in, at_entries, slots-open, slots-free, slots-set, length-slots, other_than, replaced, rank_held}
@@ -31,10 +32,10 @@ front-linked (suc a) slots front n e at l =
 pub front-slots : (slots : List Slot) (front : Option ℕ) (opened n : ℕ) → AreSlots slots front opened → front ≡ Some n → IsFront slots n
 front-slots slots front opened n s at = front-linked (free_count slots) slots front n refl at s.linked
 
-pub front-fresh : (slots : List Slot) (front : Option ℕ) (opened n : ℕ) → AreSlots slots front opened → front ≡ Some n → IsFresh (entries_of slots) n
+pub front-fresh : (slots : List Slot) (front : Option ℕ) (opened n : ℕ) → AreSlots slots front opened → front ≡ Some n → IsFree (entries_of slots) n
 front-fresh slots front opened n s at =
     let f = front-slots slots front opened n s at in
-    (omega (arith, s.few, slice_get_within slots n (Free f.next) f.free), at_entries slots n ∙ ap (entry_in n) f.free)
+    record { below = omega (arith, s.few, slice_get_within slots n (Free f.next) f.free); unused = at_entries slots n ∙ ap (entry_in n) f.free }
 
 -- ---- a new slot
 
@@ -46,23 +47,13 @@ ranked-push n (Held h ∷ slots) next = ap (λ rest. placed (ranked n h) rest) (
 pub entries-push : (slots : List Slot) (next : Option ℕ) → entries_of (slots ++ Free next ∷ []) ≡ entries_of slots
 entries-push slots next = ap (map entry) (ranked-push 0 slots next)
 
--- where no slot is free there are as many channels as slots
-pub length-full : (slots : List Slot) (front : Option ℕ) (opened : ℕ) → AreSlots slots front opened → front ≡ None → length (entries_of slots) ≡ length slots
-length-full slots front opened s none =
-    let no : free_count slots ≡ 0 = IsLinked-none (free_count slots) slots (subst (IsLinked (free_count slots) slots) none s.linked) in
-    length-map entry (ranked_from 0 slots) ∙ omega (arith, length-slots 0 slots)
-  where
-    length-map : {X Y : Type 0} (f : X → Y) (xs : List X) → length (map f xs) ≡ length xs
-    length-map f [] = refl
-    length-map f (x ∷ xs) = ap suc (length-map f xs)
-
-pub push-slots : (slots : List Slot) (front : Option ℕ) (opened n : ℕ) → AreSlots slots front opened → front ≡ None → length (entries_of slots) < most_slots → n ≡ length slots → AreSlots (slots ++ Free None ∷ []) (Some n) opened
+pub push-slots : (slots : List Slot) (front : Option ℕ) (opened n : ℕ) → AreSlots slots front opened → front ≡ None → length slots < NUMBERS_END → n ≡ length slots → AreSlots (slots ++ Free None ∷ []) (Some n) opened
 push-slots slots front opened n s none room at =
     let no : free_count slots ≡ 0 = IsLinked-none (free_count slots) slots (subst (IsLinked (free_count slots) slots) none s.linked) in
     let one : free_count (slots ++ Free None ∷ []) ≡ 1 = free_count-push slots None ∙ omega arith in
     let slot : slice_get (slots ++ Free None ∷ []) n ≡ Some (Free None) = subst (λ k. slice_get (slots ++ Free None ∷ []) k ≡ Some (Free None)) (sym at) (slice_get-push slots (Free None)) in
     record {
-      few = omega (arith, length-append slots (Free None ∷ []), length-full slots front opened s none);
+      few = omega (arith, length-append slots (Free None ∷ []), room);
       linked = subst (λ a. IsLinked a (slots ++ Free None ∷ []) (Some n)) (sym one) (n, (None, (refl, slot, refl)));
       before = before-push opened slots None s.before;
     }
@@ -117,7 +108,7 @@ set-slots slots front opened n g h s held rank =
 
 map-replaced : (n : ℕ) (x : Entry) (ys : List Ranked) → map entry (map (replaced n x) ys) ≡ changed_at n (λ _. x) (map entry ys)
 map-replaced n x [] = refl
-map-replaced n x (y ∷ ys) = ap (λ zs. cond (is_at n y.entry) x y.entry ∷ zs) (map-replaced n x ys)
+map-replaced n x (y ∷ ys) = ap (λ zs. elim (is_at n y.entry) as (λ _. Entry) [ true ↦ x | false ↦ y.entry ] ∷ zs) (map-replaced n x ys)
 
 pub set-entries : (slots : List Slot) (n : ℕ) (g h : Opened) → slice_get slots n ≡ Some (Held g) → h.rank ≡ g.rank → entries_of (set slots n (Held h)) ≡ changed_at n (λ _. (ranked n h).entry) (entries_of slots)
 set-entries slots n g h held rank =

@@ -3,8 +3,8 @@ use Rattle.std.proofs.Common.{◌≡◌, ◌≢◌, ℕ, zero, suc, ◌+◌, ◌
 use Rattle.std.specs.Prelude.{Option, Some, None, find, filter, All, Contains, IsSome, ◌==◌, nat_eq}
 use Rattle.std.proofs.lemmas.Bool.{eqb-true, eqb-false, eq-eqb, ne_eqb, cases_eq, cases_Bool, true≢false}
 use Rattle.std.proofs.lemmas.Option.{none-some, same_Some}
-use Rattle.channel_table.specs.Entries.{Entry, is_at, is_of, entry_at, freed, changed_at, numbers_of}
-use Rattle.channel_table.specs.Indices.{AreDistinct}
+use Rattle.channel_table.specs.Entries.{Entry, changed_at, entry_at, freed, is_at, is_of}
+use Rattle.channel_table.specs.Indices.{AreDistinct, numbers_of}
 use Rattle.channel_table.proofs.Lists.{filter-map}
 
 -- ---- under each number

@@ -86,7 +86,9 @@ impl Table {
         ensures ok { IfOk result (λ number. self.new ≡ self.old ++ remote_entry number client remote ledger ∷ []) }
         ensures unchanged { OnErr result (self.new ≡ self.old) }
     {
-        self.refuse_remote(remote)?;
+        if let Some(holder) = self.holder(remote) {
+            return Err(Refused::RemoteInUse { holder });
+        }
         self.refuse_full(client)?;
         let number = make_room(&mut self.slots, &mut self.clients, client)?;
         insert_remote(&mut self.remote, remote, number)?;
@@ -132,7 +134,9 @@ impl Table {
         ensures ok { OnOk result (self.new ≡ changed_at number (with_remote remote) self.old) }
         ensures unchanged { OnErr result (self.new ≡ self.old) }
     {
-        self.refuse_remote(remote)?;
+        if let Some(holder) = self.holder(remote) {
+            return Err(Refused::RemoteInUse { holder });
+        }
         let Some(opened) = self.slots.get(number) else {
             return Ok(());
         };
@@ -258,16 +262,6 @@ impl Table {
         ensures { IsRemoteIndex result.now self.now }
     {
         &self.remote
-    }
-
-    // The refusal of a number of the server's, if a channel has it.
-    fn refuse_remote(&self, remote: u32) -> Result<(), Refused>
-        ensures { SetsRemote self.now remote result }
-    {
-        match self.holder(remote) {
-            None => Ok(()),
-            Some(holder) => Err(Refused::RemoteInUse { holder }),
-        }
     }
 
     // The refusal of one more channel, if the client has all that it may have.

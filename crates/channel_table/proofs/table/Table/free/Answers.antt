@@ -1,5 +1,5 @@
 use Rattle.std.proofs.Common.{◌∙◌, ap, sym}
-use Rattle.channel_table.specs.Entries.{freed, entry_at}
+use Rattle.channel_table.specs.Entries.{entry_at}
 use Rattle.channel_table.specs.Slots.{ranked}
 use Rattle.channel_table.proofs.Steps.{without-none}
 use Rattle.channel_table.proofs.Admits.{Agrees-free}
