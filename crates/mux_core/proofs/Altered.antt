@@ -10,9 +10,10 @@ use Rattle.mux_history.proofs.Finds.{filter-no, filter-yes}
 use Rattle.window_ledger.specs.declared.ledger.Ledger.{Ledger}
 use Rattle.channel_table.specs.declared.channel.Channel as table
 use Rattle.channel_table.specs.Entries.{Entry}
-use Rattle.channel_table.specs.Entries.{AreApart, AreTwo, at_number, changed_at, confirm_own, confirm_remote, count_of, has_own, has_remote, is_of}
+use Rattle.channel_table.specs.Entries.{AreApart, AreTwo, at_number, changed_at, count_of, has_own, has_remote, is_of}
 use Rattle.channel_table.specs.Stands.{ChannelsFit, Fits}
 use Rattle.mux_core.specs.Stands.{HasSmall, TableFits, is_whole}
+use Rattle.mux_core.proofs.Confirms.{confirm_own, confirm_remote}
 use Rattle.mux_core.proofs.Apart.{Alone, all-map}
 use Rattle.mux_core.proofs.Fits.{Goes, changed-fit}
 

@@ -43,7 +43,7 @@ place-back (u ∷ us) a b (suc i) h = by_case (place-back us a b i h)
 
 -- ---- a request for a forwarding
 
-abbrev pub new_forwarding : ℕ → List ℕ → ℕ → ℕ → Forwarding
+abbrev pub new_forwarding : ℕ → Key → ℕ → Forwarding
 new_forwarding k key place = record { client = k; key = key; request = place; live = None; cancel = None; over = false }
 
 listed-last : (f : Forward) (g : Forwarding) (fs : List Forward) (gs : List Forwarding) → AreListed fs gs → Fits f g → AreListed (fs ++ f ∷ []) (gs ++ g ∷ [])

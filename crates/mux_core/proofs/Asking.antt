@@ -1,13 +1,14 @@
 -- The answers of the functions for a client's requests.
 use Rattle.std.proofs.Common.{◌≡◌, ◌≤◌, ◌<◌, ℕ, List, [], ◌∷◌, ◌++◌, length, true, false, Bool, refl, ◌∙◌, ap, sym, subst, Ok, Err, Result, IfOk, OnOk, arith}
-use Rattle.std.specs.Prelude.{◌&&◌, nat_le, nat_lt}
+use Rattle.std.specs.Prelude.{◌&&◌, nat_lt}
 use Rattle.std.proofs.lemmas.Bool.Decides.{nat_tests}
 use Rattle.ssh_fields.specs.declared.out_of_memory.OutOfMemory.{OutOfMemory}
 use Rattle.ssh_grammar.specs.Messages.{Global, Key, Forward, Cancel, OtherName}
 use Rattle.ssh_grammar.specs.Frames.{frame_payload}
 use Rattle.proxy_frames.specs.State.{QueueState}
 use Rattle.proxy_frames.specs.Queued.{with_bytes}
-use Rattle.mux_history.specs.declared.limits.TheConstants.{MAX_ADDRESS, MAX_FORWARDINGS}
+use Rattle.mux_history.specs.declared.limits.TheConstants.{MAX_FORWARDINGS}
+use Rattle.mux_history.specs.Keys.{is_askable}
 use Rattle.mux_history.specs.Gist.{Requests}
 use Rattle.mux_history.specs.Policy.{permits}
 use Rattle.mux_history.specs.Rows.{Row, rows_of}

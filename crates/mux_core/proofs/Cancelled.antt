@@ -265,8 +265,8 @@ cancelled-fit k key fs gs own own' lost fit free le mine others = record {
     absent : (o : Option ℕ) (n : ℕ) → o ≡ None → is_number o n ≡ true → ⊥
     absent o n none h = let x : is_number None n ≡ true = ap (λ p. is_number p n) (sym none) ∙ h in cc
     goes_on : (at : ℕ) (what : full.Global) (j : ℕ) → HasAt at what (filter (λ g. g.client == j) gs) → HasAt at what (filter (λ g. g.client == j) (history.change_first (history.is_free_at k key) (placed_at (length (own k).asked)) gs))
-    goes_on at (full.Forward key) j h = find-any (λ (g : Forwarding). g.client == j) (is_asked_at at) _ ∙ any-changed (λ (g : Forwarding). (g.client == j) && is_asked_at at g) (history.is_free_at k key) (placed_at (length (own k).asked)) (λ g t p. p) gs (sym (find-any (λ (g : Forwarding). g.client == j) (is_asked_at at) gs) ∙ h)
-    goes_on at (full.Cancel key) j h = find-any (λ (g : Forwarding). g.client == j) (is_leaving_at at) _ ∙ any-changed (λ (g : Forwarding). (g.client == j) && is_leaving_at at g) (history.is_free_at k key) (placed_at (length (own k).asked)) (λ g t p. absurd (absent g.cancel at (free-is k key g t).cancel (and-right (g.client == j) _ p))) gs (sym (find-any (λ (g : Forwarding). g.client == j) (is_leaving_at at) gs) ∙ h)
+    goes_on at (full.Forward q) j h = find-any (λ (g : Forwarding). g.client == j) (is_asked_at at) _ ∙ any-changed (λ (g : Forwarding). (g.client == j) && is_asked_at at g) (history.is_free_at k key) (placed_at (length (own k).asked)) (λ g t p. p) gs (sym (find-any (λ (g : Forwarding). g.client == j) (is_asked_at at) gs) ∙ h)
+    goes_on at (full.Cancel q) j h = find-any (λ (g : Forwarding). g.client == j) (is_leaving_at at) _ ∙ any-changed (λ (g : Forwarding). (g.client == j) && is_leaving_at at g) (history.is_free_at k key) (placed_at (length (own k).asked)) (λ g t p. absurd (absent g.cancel at (free-is k key g t).cancel (and-right (g.client == j) _ p))) gs (sym (find-any (λ (g : Forwarding). g.client == j) (is_leaving_at at) gs) ∙ h)
     goes_on at full.KeepAlive j h = tt
     goes_on at full.OtherName j h = tt
     each : (j : ℕ) → lost j ≡ false → (b : Bool) → (k == j) ≡ b → EachHas (own' j) (filter (λ g. g.client == j) (history.change_first (history.is_free_at k key) (placed_at (length (own k).asked)) gs))

@@ -29,28 +29,28 @@ use Rattle.mux_core.proofs.Says.{AsksNothing, quiet-says, said_as, same-queue, t
 use Rattle.mux_core.proofs.SaysWithin.{dropped-row, said-ok}
 use Rattle.mux_core.proofs.Served.{quiet-stands, served}
 
-pub on-all : (old new : CoreState) (k : ℕ) (p : List ℕ) (m : Gist) (up up' : QueueState) (r : Result Verdict OutOfMemory) → read_gist p ≡ Ok m → is_served old.clients k ≡ true → IfOk r (λ v. SaysAs old new k p m 0 up up' v) → IfOk r (λ v. SaysOn old new k p up up' v)
-on-all old new k p m up up' (Ok v) e serves says = record { pick = 0; goes = λ rows st. says rows st serves e }
-on-all old new k p m up up' (Err x) e serves says = says
+pub on-all : (old new : CoreState) (k : ℕ) (p : List ℕ) (m : Gist) (up up' : QueueState) (r : Result Verdict OutOfMemory) → read_gist p ≡ Ok m → IfOk r (λ v. SaysAs old new k p m 0 up up' v) → IfOk r (λ v. SaysOn old new k p up up' v)
+on-all old new k p m up up' (Ok v) e says = record { pick = 0; goes = λ rows st serves. says rows st serves e }
+on-all old new k p m up up' (Err x) e says = says
 
-pub on-some : (old new : CoreState) (k : ℕ) (p : List ℕ) (m : Gist) (up up' : QueueState) (r : Result Verdict OutOfMemory) → read_gist p ≡ Ok m → is_served old.clients k ≡ true → IfOk r (λ v. SaysSome old new k p m up up' v) → IfOk r (λ v. SaysOn old new k p up up' v)
-on-some old new k p m up up' (Ok v) e serves says = record { pick = says.pick; goes = λ rows st. says.goes rows st serves e }
-on-some old new k p m up up' (Err x) e serves says = says
+pub on-some : (old new : CoreState) (k : ℕ) (p : List ℕ) (m : Gist) (up up' : QueueState) (r : Result Verdict OutOfMemory) → read_gist p ≡ Ok m → IfOk r (λ v. SaysSome old new k p m up up' v) → IfOk r (λ v. SaysOn old new k p up up' v)
+on-some old new k p m up up' (Ok v) e says = record { pick = says.pick; goes = λ rows st serves. says.goes rows st serves e }
+on-some old new k p m up up' (Err x) e says = says
 
-pub on-open : (old new : CoreState) (k : ℕ) (p : List ℕ) (what : Opens) (c w m : ℕ) (up up' : QueueState) (r : Result Verdict OutOfMemory) → read_gist p ≡ Ok (Open what c w m) → is_served old.clients k ≡ true → open_verdict old k c what ≡ None → IfOk r (λ v. StartsOn old new k p c w m up up' v) → IfOk r (λ v. SaysOn old new k p up up' v)
-on-open old new k p what c w m up up' (Ok v) e serves judges says = record { pick = says.pick; goes = λ rows st. says.goes what judges rows st serves e }
-on-open old new k p what c w m up up' (Err x) e serves judges says = says
+pub on-open : (old new : CoreState) (k : ℕ) (p : List ℕ) (what : Opens) (c w m : ℕ) (up up' : QueueState) (r : Result Verdict OutOfMemory) → read_gist p ≡ Ok (Open what c w m) → open_verdict old k c what ≡ None → IfOk r (λ v. StartsOn old new k p c w m up up' v) → IfOk r (λ v. SaysOn old new k p up up' v)
+on-open old new k p what c w m up up' (Ok v) e judges says = record { pick = says.pick; goes = λ rows st serves. says.goes what judges rows st serves e }
+on-open old new k p what c w m up up' (Err x) e judges says = says
 
-pub on-judged : (s : CoreState) (k : ℕ) (p : List ℕ) (what : Opens) (c w m : ℕ) (up : QueueState) (v : Verdict) → read_gist p ≡ Ok (Open what c w m) → is_served s.clients k ≡ true → open_verdict s k c what ≡ Some v → SaysOn s s k p up up v
-on-judged s k p what c w m up v e serves judges = record { pick = 0; goes = λ rows st. judged s k c w m what p up v rows st serves e judges }
+pub on-judged : (s : CoreState) (k : ℕ) (p : List ℕ) (what : Opens) (c w m : ℕ) (up : QueueState) (v : Verdict) → read_gist p ≡ Ok (Open what c w m) → open_verdict s k c what ≡ Some v → SaysOn s s k p up up v
+on-judged s k p what c w m up v e judges = record { pick = 0; goes = λ rows st serves. judged s k c w m what p up v rows st serves e judges }
 
 -- ---- messages that only drop, or do nothing
 
 drops-all : (s : CoreState) (k : ℕ) (p : List ℕ) (up : QueueState) (m : Gist) (cause : Why) → read_gist p ≡ Ok m → ((rows : List Row) → said_gist s.policy k (rows_of k rows) 0 p m ≡ drops cause) → SaysOn s s k p up up (verdict.Drop cause)
-drops-all s k p up m cause e each = record { pick = 0; goes = λ rows st. dropped-row s k 0 p up cause rows (said-ok s.policy k 0 (rows_of k rows) p m e ∙ each rows) }
+drops-all s k p up m cause e each = record { pick = 0; goes = λ rows st serves. dropped-row s k 0 p up cause rows (said-ok s.policy k 0 (rows_of k rows) p m e ∙ each rows) }
 
 pub on-bad : (s : CoreState) (k : ℕ) (p : List ℕ) (up : QueueState) (bad : Bad) → read_gist p ≡ Err bad → SaysOn s s k p up up (verdict.Drop (why.BadMessage bad))
-on-bad s k p up bad e = record { pick = 0; goes = λ rows st. dropped-row s k 0 p up (why.BadMessage bad) rows (rw (e, said_payload) refl) }
+on-bad s k p up bad e = record { pick = 0; goes = λ rows st serves. dropped-row s k 0 p up (why.BadMessage bad) rows (rw (e, said_payload) refl) }
 
 pub on-success : (s : CoreState) (k : ℕ) (p rest : List ℕ) (up : QueueState) → read_gist p ≡ Ok (Succeeds rest) → SaysOn s s k p up up (verdict.Drop (why.Unasked 81))
 on-success s k p rest up e = drops-all s k p up (Succeeds rest) (why.Unasked 81) e (λ rows. refl)
@@ -61,13 +61,13 @@ on-refusal s k p up e = drops-all s k p up Refuses (why.Unasked 82) e (λ rows. 
 pub on-disconnect : (s : CoreState) (k : ℕ) (p : List ℕ) (up : QueueState) → read_gist p ≡ Ok (Transport 1) → SaysOn s s k p up up (verdict.Drop why.Disconnected)
 on-disconnect s k p up e = drops-all s k p up (Transport 1) why.Disconnected e (λ rows. refl)
 
-pub on-other : (s : CoreState) (k n : ℕ) (p : List ℕ) (up : QueueState) → is_served s.clients k ≡ true → (n == 1) ≡ false → read_gist p ≡ Ok (Transport n) → SaysOn s s k p up up verdict.Silent
-on-other s k n p up serves other e = record { pick = 0; goes = λ rows st. one rows st }
+pub on-other : (s : CoreState) (k n : ℕ) (p : List ℕ) (up : QueueState) → (n == 1) ≡ false → read_gist p ≡ Ok (Transport n) → SaysOn s s k p up up verdict.Silent
+on-other s k n p up other e = record { pick = 0; goes = one }
   where
     nothing : AsksNothing (Transport n)
     nothing = record { wants = refl; requests = λ k place fs. refl }
-    one : (rows : List Row) → Stands s rows → SaysIn s s k p 0 up up verdict.Silent rows
-    one rows st =
+    one : (rows : List Row) → Stands s rows → is_served s.clients k ≡ true → SaysIn s s k p 0 up up verdict.Silent rows
+    one rows st serves =
         let q = quiet-says k p (Transport n) silent e nothing refl in
         let does : said_payload s.policy k (rows_of k rows) 0 p ≡ silent = said-ok s.policy k 0 (rows_of k rows) p (Transport n) e ∙ ap (λ (b : Bool). elim b as (λ _. Outcome) [ true ↦ drops why.Disconnected | false ↦ silent ]) other in
         let channels : TableFits s.channels (held_of (said_as k p silent ∷ rows)) = subst (TableFits s.channels) (sym (unsent-held k p silent rows refl)) st.channels in
@@ -86,7 +86,3 @@ are-bytes (b ∷ bs) each = (each zero, are-bytes bs (λ i. each (suc i)))
 
 pub not-one : (n : ℕ) → (n ≡ 1 → ⊥) → (n == 1) ≡ false
 not-one n h = grind (arith, nat_tests)
-
--- a payload that doesn't read
-pub on-bad : (s : CoreState) (k : ℕ) (p : List ℕ) (up : QueueState) (bad : Bad) → read_gist p ≡ Err bad → SaysOn s s k p up up (verdict.Drop (why.BadMessage bad))
-on-bad s k p up bad e = record { pick = 0; goes = λ rows st. dropped-row s k 0 p up (why.BadMessage bad) rows (rw (e, said_payload) refl) }

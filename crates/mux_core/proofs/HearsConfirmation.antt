@@ -33,7 +33,8 @@ use Rattle.window_ledger.proofs.Leaves.{left-now}
 use Rattle.window_ledger.proofs.Named.{stands-named}
 use Rattle.channel_table.specs.declared.channel.Channel as table
 use Rattle.channel_table.specs.Entries.{Entry}
-use Rattle.channel_table.specs.Entries.{changed_at, confirm_remote, has_remote, number_of_remote, shown_at}
+use Rattle.channel_table.specs.Entries.{changed_at, has_remote, number_of_remote, shown_at}
+use Rattle.mux_core.proofs.Confirms.{confirm_remote}
 use Rattle.channel_table.specs.Stands.{ChannelsFit, Fits}
 use Rattle.mux_core.specs.declared.heard.Heard.TheVariants as heard
 use Rattle.mux_core.specs.State.{CoreState, is_served}

@@ -167,7 +167,7 @@ dest-opened s r w m what p rows st e none = dest-ok rows p (Open what r w m) e �
         ap (λ (u : Option Channel). elim u as (λ _. Dest) [ Some x ↦ Breaks (broke.NumberInUse r) | None ↦ elim (live_at rows key) as (λ _. Dest) [ Some f ↦ ToClient f.client | None ↦ ToMaster ] ]) none
         ∙ (by_found key (live_at rows key) refl ∙ ap to (sym (list-find key s.forwards (current rows) st.forwards.listed)))
     by_what Session = ap (λ (u : Option Channel). elim u as (λ _. Dest) [ Some x ↦ Breaks (broke.NumberInUse r) | None ↦ ToMaster ]) none
-    by_what (Direct h q) = ap (λ (u : Option Channel). elim u as (λ _. Dest) [ Some x ↦ Breaks (broke.NumberInUse r) | None ↦ ToMaster ]) none
+    by_what (Direct q) = ap (λ (u : Option Channel). elim u as (λ _. Dest) [ Some x ↦ Breaks (broke.NumberInUse r) | None ↦ ToMaster ]) none
     by_what OtherType = ap (λ (u : Option Channel). elim u as (λ _. Dest) [ Some x ↦ Breaks (broke.NumberInUse r) | None ↦ ToMaster ]) none
 
 dest-used : (r w m : ℕ) (what : Opens) (p : List ℕ) (rows : List Row) (x : Channel) → read_gist p ≡ Ok (Open what r w m) → live_in rows r ≡ Some x → dest rows p ≡ Breaks (broke.NumberInUse r)
@@ -179,7 +179,7 @@ dest-used r w m what p rows x e some = dest-ok rows p (Open what r w m) e ∙ by
     ]) ≡ Breaks (broke.NumberInUse r)
     by_what (Forwarded key) = ap (λ (u : Option Channel). elim u as (λ _. Dest) [ Some x ↦ Breaks (broke.NumberInUse r) | None ↦ elim (live_at rows key) as (λ _. Dest) [ Some f ↦ ToClient f.client | None ↦ ToMaster ] ]) some
     by_what Session = ap (λ (u : Option Channel). elim u as (λ _. Dest) [ Some x ↦ Breaks (broke.NumberInUse r) | None ↦ ToMaster ]) some
-    by_what (Direct h q) = ap (λ (u : Option Channel). elim u as (λ _. Dest) [ Some x ↦ Breaks (broke.NumberInUse r) | None ↦ ToMaster ]) some
+    by_what (Direct q) = ap (λ (u : Option Channel). elim u as (λ _. Dest) [ Some x ↦ Breaks (broke.NumberInUse r) | None ↦ ToMaster ]) some
     by_what OtherType = ap (λ (u : Option Channel). elim u as (λ _. Dest) [ Some x ↦ Breaks (broke.NumberInUse r) | None ↦ ToMaster ]) some
 
 -- ---- the number is in use
@@ -218,7 +218,7 @@ owner-served s k key (f ∷ fs) all h = by_case (owner-served s k key fs all.1) 
 owned : (s : CoreState) (k : ℕ) (what : Opens) (rows : List Row) → Stands s rows → owner_for what s.forwards ≡ Some k → is_served s.clients k ≡ true
 owned s k (Forwarded key) rows st h = owner-served s k key s.forwards st.known.forwards h
 owned s k Session rows st h = absurd (cc)
-owned s k (Direct a p) rows st h = absurd (cc)
+owned s k (Direct q) rows st h = absurd (cc)
 owned s k OtherType rows st h = absurd (cc)
 
 -- ---- 256 channels are there

@@ -17,7 +17,7 @@ use Rattle.mux_history.specs.Forwardings.{Forwarding}
 use Rattle.mux_history.specs.Laws.{with_act}
 use Rattle.mux_history.proofs.Bools.{is-of, same-number, self}
 use Rattle.mux_history.proofs.Readings.{cancel-always, gist-always, gist-ok, reading-ok}
-use Rattle.client_teardown.specs.Leaving.{left}
+use Rattle.mux_core.proofs.Left.{left}
 
 -- ---- a list of payloads
 

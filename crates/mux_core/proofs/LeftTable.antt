@@ -24,13 +24,13 @@ use Rattle.window_ledger.proofs.Leaves.{left-answered, left-now, left-opened, le
 use Rattle.channel_table.specs.declared.channel.Channel as table
 use Rattle.channel_table.specs.Entries.{Entry}
 use Rattle.channel_table.specs.Entries.{AreApart, AreTwo, count_of, is_of}
-use Rattle.channel_table.specs.Leaving.{is_open, left_entries, left_entry, stays}
 use Rattle.channel_table.specs.Stands.{ChannelsFit, Fits}
 use Rattle.forward_rules.specs.State.{Forward}
 use Rattle.forward_rules.specs.Step as forwards
 use Rattle.forward_rules.specs.Stands.{AreListed}
 use Rattle.forward_rules.specs.Stands as kept
-use Rattle.client_teardown.specs.Leaving.{cancel_of, channel_farewells, farewell_of, forward_farewells, left, left_by, left_channels}
+use Rattle.client_teardown.specs.Leaving.{cancel_of, channel_farewells, farewell_of, forward_farewells, is_open, left_entries, left_entry, stays}
+use Rattle.mux_core.proofs.Left.{left, left_by, left_channels}
 use Rattle.mux_core.specs.Stands.{HasSmall, TableFits, has_numbers, is_whole}
 use Rattle.mux_core.proofs.Acts.{held-after}
 use Rattle.mux_core.proofs.Apart.{KeepsNumbers, all-filter, all-map, apart-filter, apart-map, count-filter, count-map}
@@ -219,7 +219,7 @@ same-farewells k (e ∷ es) (x ∷ xs) fit = by_case (same-farewells k es xs fit
     by_case ih false h = ap (flat_map farewell_of) (filter-no (is_of k) e es h) ∙ (ih ∙ sym (ap (flat_map leave_channel) (filter-no (local.is_of k) x xs (mine ∙ h))))
 
 pub channels-sent : (k : ℕ) (es : List Entry) (xs : List Channel) → TableFits es xs → channel_farewells k es ≡ flat_map leave_channel (filter (local.is_of k) xs)
-channels-sent k es xs fits = ap (flat_map farewell_of) (take_all MAX_CHANNELS (filter (is_of k) es) (fits.few k)) ∙ same-farewells k es xs fits.fit
+channels-sent k es xs fits = same-farewells k es xs fits.fit
 
 none-same : (a b : Option ℕ) → is_some a ≡ is_some b → is_none a ≡ is_none b
 none-same None None h = refl
@@ -257,5 +257,5 @@ same-cancels k (e ∷ es) (x ∷ xs) fit = by_case (same-cancels k es xs fit.1) 
     by_case ih true h = ap (flat_map cancel_of) (filter-yes (forwards.is_of k) e es h) ∙ (ap (λ ys. ys ++ flat_map cancel_of (filter (forwards.is_of k) es)) (same-cancel e x fit.0) ∙ (ap (λ ys. leave_forwarding x ++ ys) ih ∙ sym (ap (flat_map leave_forwarding) (filter-yes (λ (g : Forwarding). g.client == k) x xs (mine ∙ h)))))
     by_case ih false h = ap (flat_map cancel_of) (filter-no (forwards.is_of k) e es h) ∙ (ih ∙ sym (ap (flat_map leave_forwarding) (filter-no (λ (g : Forwarding). g.client == k) x xs (mine ∙ h))))
 
-pub cancels-sent : (k : ℕ) (fs : List Forward) (gs : List Forwarding) → AreListed fs gs → forwards.count_of fs k ≤ MAX_FORWARDINGS → forward_farewells k fs ≡ flat_map leave_forwarding (filter (λ g. g.client == k) gs)
-cancels-sent k fs gs fit few = ap (flat_map cancel_of) (take_all MAX_FORWARDINGS (filter (forwards.is_of k) fs) few) ∙ same-cancels k fs gs fit
+pub cancels-sent : (k : ℕ) (fs : List Forward) (gs : List Forwarding) → AreListed fs gs → forward_farewells k fs ≡ flat_map leave_forwarding (filter (λ g. g.client == k) gs)
+cancels-sent k fs gs fit = same-cancels k fs gs fit

@@ -1,6 +1,6 @@
 -- A core after the loss of a client, for any two logs of which the one is the other with that loss.
-use Rattle.std.proofs.Common.{◌≡◌, ◌≤◌, ℕ, List, [], ◌∷◌, ◌++◌, length, map, true, false, Bool, refl, ◌∙◌, ap, sym, subst, Option, Some, None, arith, suc}
-use Rattle.std.specs.Prelude.{filter, not, ◌==◌, ◌&&◌, ◌||◌, nat_lt}
+use Rattle.std.proofs.Common.{◌≡◌, ◌≤◌, ◌<◌, ℕ, List, [], ◌∷◌, ◌++◌, length, map, true, false, Bool, refl, ◌∙◌, ap, sym, subst, Option, Some, None, arith, suc}
+use Rattle.std.specs.Prelude.{filter, not, ◌==◌, ◌&&◌, ◌||◌, is_some, nat_lt}
 use Rattle.std.specs.List.{AllByRecursion}
 use Rattle.std.proofs.lemmas.Bool.Decides.{nat_tests}
 use Rattle.mux_history.specs.declared.limits.TheConstants.{MAX_CLIENTS, MAX_FORWARDINGS}
@@ -11,11 +11,11 @@ use Rattle.mux_history.specs.Requests.{Ask}
 use Rattle.mux_history.proofs.Bools.{same-number, self}
 use Rattle.mux_history.proofs.Finds.{filter-no, filter-yes}
 use Rattle.channel_table.specs.Entries.{Entry}
-use Rattle.channel_table.specs.Leaving.{left_entries, left_entry}
 use Rattle.forward_rules.specs.State.{Forward}
-use Rattle.forward_rules.specs.Step.{count_of, is_of, without_client}
-use Rattle.forward_rules.specs.Stands.{AreFit, AreInOrder, AreListed, AreTwo, EachHas, EachTwo, InOrder, InOrderWith, IsAwaited, Places}
-use Rattle.client_teardown.specs.Leaving.{left_channels}
+use Rattle.forward_rules.specs.Step.{cancels, count_of, is_leaving, is_of, without_client}
+use Rattle.forward_rules.specs.Stands.{AreFit, AreInOrder, AreListed, AreTwo, EachHas, EachTwo, InOrder, InOrderWith, IsAwaited, IsRanked, Places}
+use Rattle.client_teardown.specs.Leaving.{left_entries, left_entry}
+use Rattle.mux_core.proofs.Left.{left_channels}
 use Rattle.mux_core.specs.State.{ClientState, CoreState, is_served}
 use Rattle.mux_core.specs.Stands.{AreKnown, AreOnce, AsksFit, ClientFits, ClientsFit, Look, OwnRequests, Stands, TableFits, has_matters, is_known, look, unreplied_in}
 use Rattle.mux_core.specs.Settling.{has_left, kept, settled}
@@ -129,6 +129,30 @@ others-stay k j apart (g ∷ gs) = by_case (others-stay k j apart gs) (g.client 
     by_case ih false p true q = ap (filter (λ (h : Forwarding). h.client == j)) (filter-no (other k) g gs (ap not q)) ∙ (ih ∙ sym (filter-no (λ (h : Forwarding). h.client == j) g gs p))
     by_case ih false p false q = ap (filter (λ (h : Forwarding). h.client == j)) (filter-yes (other k) g gs (ap not q)) ∙ (filter-no (λ (h : Forwarding). h.client == j) g (filter (other k) gs) p ∙ (ih ∙ sym (filter-no (λ (h : Forwarding). h.client == j) g gs p)))
 
+-- no cancel of another client goes along
+same-cancels : (k j : ℕ) → (j == k) ≡ false → (fs : List Forward) → cancels j (without_client k fs) ≡ cancels j fs
+same-cancels k j apart [] = refl
+same-cancels k j apart (f ∷ fs) = by_case (same-cancels k j apart fs) (f.client == k) refl (is_leaving j f) refl
+  where
+    clash : (a : ℕ) → (a == j) ≡ true → (a == k) ≡ true → (j == k) ≡ false → ⊥
+    clash a p q r = grind (arith, nat_tests)
+    left : (a b : Bool) → (a && b) ≡ true → a ≡ true
+    left true b e = refl
+    left false b e = cc
+    by_case : cancels j (without_client k fs) ≡ cancels j fs → (b : Bool) → (f.client == k) ≡ b → (c : Bool) → is_leaving j f ≡ c → cancels j (without_client k (f ∷ fs)) ≡ cancels j (f ∷ fs)
+    by_case ih true p true q = absurd (clash f.client (left (f.client == j) (is_some f.cancel) q) p apart)
+    by_case ih true p false q = ap (cancels j) (filter-no (other_kept k) f fs (ap not p)) ∙ (ih ∙ sym (ap length (filter-no (is_leaving j) f fs q)))
+    by_case ih false p true q = ap (cancels j) (filter-yes (other_kept k) f fs (ap not p)) ∙ (ap length (filter-yes (is_leaving j) f (without_client k fs) q) ∙ (ap suc ih ∙ sym (ap length (filter-yes (is_leaving j) f fs q))))
+    by_case ih false p false q = ap (cancels j) (filter-yes (other_kept k) f fs (ap not p)) ∙ (ap length (filter-no (is_leaving j) f (without_client k fs) q) ∙ (ih ∙ sym (ap length (filter-no (is_leaving j) f fs q))))
+
+ranked-without : (k : ℕ) (all fs : List Forward) → AllByRecursion (IsRanked all) fs → AllByRecursion (IsRanked (without_client k all)) (without_client k fs)
+ranked-without k all [] ranked = tt
+ranked-without k all (f ∷ fs) ranked = by_case (ranked-without k all fs ranked.1) (f.client == k) refl
+  where
+    by_case : AllByRecursion (IsRanked (without_client k all)) (without_client k fs) → (b : Bool) → (f.client == k) ≡ b → AllByRecursion (IsRanked (without_client k all)) (without_client k (f ∷ fs))
+    by_case ih true p = subst (AllByRecursion (IsRanked (without_client k all))) (sym (filter-no (other_kept k) f fs (ap not p))) ih
+    by_case ih false p = subst (AllByRecursion (IsRanked (without_client k all))) (sym (filter-yes (other_kept k) f fs (ap not p))) ((λ r e. subst (λ n. r < n) (sym (same-cancels k f.client p all)) (ranked.0 r e)), ih)
+
 forwards-lost : (k : ℕ) (fs : List Forward) (gs : List Forwarding) (own own' : ℕ → Places) (lost lost' : ℕ → Bool) → ((j : ℕ) → own' j ≡ own j) → lost' k ≡ true → ((j : ℕ) → (k == j) ≡ false → lost' j ≡ lost j) → AreFit fs gs own lost → AreFit (without_client k fs) (filter (λ g. not (g.client == k)) gs) own' lost'
 forwards-lost k fs gs own own' lost lost' same gone others fit = record {
   listed = listed-without k fs gs fit.listed;
@@ -137,6 +161,7 @@ forwards-lost k fs gs own own' lost lost' same gone others fit = record {
   two = two-without (λ g. not (g.client == k)) gs fit.two;
   few = λ j. let a = fewer j (λ f. not (is_of k f)) fs in let b = fit.few j in omega arith;
   each = λ j here. by_mine j here (k == j) refl;
+  ranked = ranked-without k fs fs fit.ranked;
 }
   where
     by_mine : (j : ℕ) → lost' j ≡ false → (b : Bool) → (k == j) ≡ b → EachHas (own' j) (filter (λ g. g.client == j) (filter (λ g. not (g.client == k)) gs))

@@ -171,7 +171,7 @@ stopped-fit k key place fs gs own lost fit =
     present : (o : Option Key) (n : Key) → o ≡ Some n → is_none o ≡ true → ⊥
     present o n some h = let x : is_none (let y : Option Key = Some n in y) ≡ true = ap is_none (sym some) ∙ h in cc
     goes_on : (at : ℕ) (what : full.Global) (j : ℕ) → HasAt at what (filter (λ g. g.client == j) gs) → HasAt at what (filter (λ g. g.client == j) (kept_by (first_out (history.is_free_at k key) gs) gs))
-    goes_on at (full.Forward key) j h = find-any (λ (g : Forwarding). g.client == j) (is_asked_at at) _ ∙ any-out (λ (g : Forwarding). (g.client == j) && is_asked_at at g) (history.is_free_at k key) (λ g t p. present g.live key (free-is k key g t).live (and-left (is_none g.live) _ (and-right (g.client == j) _ p))) gs (sym (find-any (λ (g : Forwarding). g.client == j) (is_asked_at at) gs) ∙ h)
-    goes_on at (full.Cancel key) j h = find-any (λ (g : Forwarding). g.client == j) (is_leaving_at at) _ ∙ any-out (λ (g : Forwarding). (g.client == j) && is_leaving_at at g) (history.is_free_at k key) (λ g t p. absent g.cancel at (free-is k key g t).cancel (and-right (g.client == j) _ p)) gs (sym (find-any (λ (g : Forwarding). g.client == j) (is_leaving_at at) gs) ∙ h)
+    goes_on at (full.Forward q) j h = find-any (λ (g : Forwarding). g.client == j) (is_asked_at at) _ ∙ any-out (λ (g : Forwarding). (g.client == j) && is_asked_at at g) (history.is_free_at k key) (λ g t p. present g.live key (free-is k key g t).live (and-left (is_none g.live) _ (and-right (g.client == j) _ p))) gs (sym (find-any (λ (g : Forwarding). g.client == j) (is_asked_at at) gs) ∙ h)
+    goes_on at (full.Cancel q) j h = find-any (λ (g : Forwarding). g.client == j) (is_leaving_at at) _ ∙ any-out (λ (g : Forwarding). (g.client == j) && is_leaving_at at g) (history.is_free_at k key) (λ g t p. absent g.cancel at (free-is k key g t).cancel (and-right (g.client == j) _ p)) gs (sym (find-any (λ (g : Forwarding). g.client == j) (is_leaving_at at) gs) ∙ h)
     goes_on at full.KeepAlive j h = tt
     goes_on at full.OtherName j h = tt

@@ -27,7 +27,8 @@ use Rattle.window_ledger.specs.Stands.{IsConfirmed, confirmed}
 use Rattle.window_ledger.specs.Stands as ledger
 use Rattle.window_ledger.proofs.Named.{stands-named}
 use Rattle.channel_table.specs.Entries.{Entry}
-use Rattle.channel_table.specs.Entries.{AreApart, changed_at, confirm_own, has_own, has_remote, is_at, is_of, is_shown, number_of_own, shown_at}
+use Rattle.channel_table.specs.Entries.{AreApart, changed_at, has_own, has_remote, is_at, is_of, is_shown, number_of_own, shown_at}
+use Rattle.mux_core.proofs.Confirms.{confirm_own}
 use Rattle.channel_table.specs.Stands.{Fits, shown_number}
 use Rattle.mux_core.specs.declared.verdict.Verdict.TheVariants as verdict
 use Rattle.mux_core.specs.State.{CoreState, is_served}

@@ -1,6 +1,6 @@
 -- What a client asks of all, by the message.
 use Rattle.std.proofs.Common.{◌≡◌, ◌≤◌, ◌<◌, ◌+◌, ℕ, List, [], ◌∷◌, ◌++◌, length, drop, map, true, false, Bool, refl, ◌∙◌, ap, sym, subst, Option, Some, None, Ok, arith, suc, zero}
-use Rattle.std.specs.Prelude.{filter, ◌==◌, ◌&&◌, ◌||◌, not, nat_le, nat_lt, is_some, is_none, bytes_eq}
+use Rattle.std.specs.Prelude.{filter, ◌==◌, ◌&&◌, ◌||◌, not, nat_le, nat_lt, is_some, is_none}
 use Rattle.std.specs.List.{AllByRecursion}
 use Rattle.std.proofs.lemmas.List.{append-nil}
 use Rattle.std.proofs.Math.Seq.{drop-append_seam, drop-length}
@@ -12,10 +12,11 @@ use Rattle.ssh_grammar.specs.Said.{Payload}
 use Rattle.proxy_frames.specs.State.{QueueState}
 use Rattle.proxy_frames.specs.Queued.{with_bytes}
 use Rattle.global_replies.specs.Replies.{is_none_left, or_behind}
-use Rattle.mux_history.specs.declared.limits.TheConstants.{MAX_ADDRESS, MAX_CLIENTS, MAX_FORWARDINGS, MAX_GLOBAL_REQUESTS}
+use Rattle.mux_history.specs.declared.limits.TheConstants.{MAX_CLIENTS, MAX_FORWARDINGS, MAX_GLOBAL_REQUESTS}
 use Rattle.mux_history.specs.declared.why.Why.TheVariants as why
 use Rattle.mux_history.specs.Policy.{permits}
-use Rattle.mux_history.specs.Channels.{held_of, is_number}
+use Rattle.mux_history.specs.Channels.{held_of}
+use Rattle.mux_history.specs.Keys.{has_key, is_askable}
 use Rattle.mux_history.specs.Choices.{takes_number}
 use Rattle.mux_history.specs.Farewell.{has_open_matters}
 use Rattle.mux_history.specs.Gist.{Gist, Requests, read_gist, reading, sender_of}

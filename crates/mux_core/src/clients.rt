@@ -93,6 +93,49 @@ fn place_in(clients: &[Client], client: u64) -> usize
     place
 }
 
+// A request of a client was sent: its answer is awaited.
+fn await_in(clients: &mut Vec<Client>, client: u64) -> Result<(), OutOfMemory>
+    ensures { OnOk result (map client_state clients.new.items ≡ with_waiting client more_awaited (map client_state clients.old.items)) }
+{
+    let place = place_in(clients, client);
+    if place >= clients.len() {
+        return Ok(());
+    }
+    clients[place].answers.awaited()?;
+    Ok(())
+}
+
+// A request of a client is refused: whether at once, or behind what waits.
+fn refuse_in(clients: &mut Vec<Client>, client: u64) -> Result<bool, OutOfMemory>
+    ensures now { IfOk result (λ now. now ≡ is_none_left (waiting_of client (map client_state clients.old.items))) }
+    ensures ok { OnOk result (map client_state clients.new.items ≡ with_waiting client or_behind (map client_state clients.old.items)) }
+{
+    let place = place_in(clients, client);
+    if place >= clients.len() {
+        return Ok(true);
+    }
+    let now = clients[place].answers.local()?;
+    Ok(now)
+}
+
+// The server's reply to a client's first request came: so many refusals follow it now.
+fn answer_in(clients: &mut Vec<Client>, client: u64) -> u32
+    ensures refusals { result ≡ refusals_behind (waiting_of client (map client_state clients.old.items)) }
+    ensures left { map client_state clients.new.items ≡ with_waiting client after_reply (map client_state clients.old.items) }
+{
+    let place = place_in(clients, client);
+    if place >= clients.len() {
+        return 0;
+    }
+    clients[place].answers.server_answered()
+}
+
+fn forget_in(clients: &mut Vec<Client>, client: u64)
+    ensures { map client_state clients.new.items ≡ kept client false (map client_state clients.old.items) }
+{
+    clients.retain(|c| c.number != client);
+}
+
 impl Clients {
     pub fn new(alloc: Global) -> Clients
         ensures { result ≡ [] }
@@ -143,7 +186,7 @@ impl Clients {
     pub fn forget(&mut self, client: u64)
         ensures { self.new ≡ kept client false self.old }
     {
-        self.listed.retain(|c| c.number != client);
+        forget_in(&mut self.listed, client);
     }
 
     /// How many requests of a client have no answer.
@@ -157,12 +200,7 @@ impl Clients {
     pub fn awaited(&mut self, client: u64) -> Result<(), OutOfMemory>
         ensures { OnOk result (self.new ≡ with_waiting client more_awaited self.old) }
     {
-        let place = place_in(&self.listed, client);
-        if place >= self.listed.len() {
-            return Ok(());
-        }
-        self.listed[place].answers.awaited()?;
-        Ok(())
+        await_in(&mut self.listed, client)
     }
 
     /// A request of a client is refused: whether at once, or behind what waits.
@@ -170,12 +208,7 @@ impl Clients {
         ensures now { IfOk result (λ now. now ≡ is_none_left (waiting_of client self.old)) }
         ensures ok { OnOk result (self.new ≡ with_waiting client or_behind self.old) }
     {
-        let place = place_in(&self.listed, client);
-        if place >= self.listed.len() {
-            return Ok(true);
-        }
-        let now = self.listed[place].answers.local()?;
-        Ok(now)
+        refuse_in(&mut self.listed, client)
     }
 
     /// The server's reply to a client's first request came: so many refusals follow it now.
@@ -183,10 +216,6 @@ impl Clients {
         ensures refusals { result ≡ refusals_behind (waiting_of client self.old) }
         ensures left { self.new ≡ with_waiting client after_reply self.old }
     {
-        let place = place_in(&self.listed, client);
-        if place >= self.listed.len() {
-            return 0;
-        }
-        self.listed[place].answers.server_answered()
+        answer_in(&mut self.listed, client)
     }
 }

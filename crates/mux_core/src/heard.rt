@@ -117,9 +117,9 @@ impl Core {
         requires { length payload.old ≤ 262143 }
         ensures stands { IfOk result (λ h. HearsOn self.old self.new payload.old payload.new up.old up.new h) }
         ensures length { length payload.new ≡ length payload.old }
-        ensures spare { up.old.spare ≤ up.new.spare + 308 }
+        ensures spare { up.old.spare ≤ up.new.spare }
         ensures policy { self.new.policy ≡ self.old.policy }
-        ensures err { OnErr result (up.new.waiting ≡ up.old.waiting) }
+        ensures err { OnErr result (up.new ≡ up.old) }
     {
         match read_gist(payload) {
             Err(bad) => Ok(Heard::Broke(Break::Message(bad))),

@@ -25,7 +25,7 @@ ghost use Rattle.mux_core.specs.Calls.{AdmitsOn};
 
 use crate::clients::Clients;
 use channel_table::{Channel, Refused, Table};
-use client_teardown::tear_down;
+use client_teardown::{FAREWELL_ROOM, tear_down};
 use conn_messages::{recipient_at, sender_at};
 use forward_rules::{ForwardRefused, Forwards, Key, Policy};
 use global_replies::{Ask, Askers};
@@ -407,10 +407,10 @@ impl Core {
 
     // A client's farewell goes up, and leaves the tables.
     pub(crate) fn leave(&mut self, client: u64, up: &mut Queue)
-        requires { 28928 ≤ up.old.spare }
+        requires { FAREWELL_ROOM ≤ up.old.spare }
         ensures exact { self.new ≡ left_core self.old client }
         ensures sent { Sends (channel_farewells client self.old.channels ++ forward_farewells client self.old.forwards) up.old up.new }
-        ensures spare { up.old.spare ≤ up.new.spare + 28928 }
+        ensures spare { up.old.spare ≤ up.new.spare + FAREWELL_ROOM }
     {
         tear_down(&mut self.table, &mut self.forwards, client, up);
     }

@@ -19,27 +19,11 @@ pub returns-then-not-waits-clause-stands : goal.returns-then-not-waits-clause-st
 returns-then-not-waits-clause-stands c = λ rows st e.
     confirmation-early c.args.self.now c.args.self.now c.args.number c.args.remote c.args.window c.args.maximum c.args.payload.now c.args.payload.now c.args.up.now c.in-Some.channel c.in-Some.ledger rows st (search rules) (search rules) e
 
-pub returns-then-uses_remote-clause-stands : goal.returns-then-uses_remote-clause-stands
-returns-then-uses_remote-clause-stands c = λ rows st e.
-    confirmation-used c.args.self.now c.args.self.now c.args.number c.args.remote c.args.window c.args.maximum c.args.payload.now c.args.payload.now c.args.up.now c.in-Some.channel c.in-Some.ledger rows st (search rules) (search rules) (search rules) e
+pub returns-then-not-branch-clause-stands : goal.returns-then-not-branch-clause-stands
+returns-then-not-branch-clause-stands c = ?
 
 pub returns-then-is_lost-clause-stands : goal.returns-then-is_lost-clause-stands
-returns-then-is_lost-clause-stands c = λ rows st e.
-    let pend : waits c.in-Some.channel c.in-Some.ledger ≡ true = search rules in
-    let lost : is_lost_in c.args.self.now.clients c.in-Some.channel.client ≡ true = search rules in
-    let small : c.args.remote < 4294967296 = omega arith in
-    let payload : c.as_bytes.result.now ≡ close c.args.remote = search rules in
-    let sent : c.push_payload.new.self.waiting ≡ c.args.up.now.waiting ++ frame_payload (close c.args.remote) =
-        ap (λ (q : QueueState). q.waiting) c.in_ok-push_payload.ensures.ok ∙ ap (λ p. c.args.up.now.waiting ++ frame_payload p) payload in
-    let given : IsConfirmed c.in-Some.ledger c.confirmed_ledger-given.result c.args.window c.args.maximum = c.confirmed_ledger-given.ensures.stands (idle-ledger c.in-Some.channel c.in-Some.ledger pend) in
-    let after : c.settle.new.self ≡ settled (record c.args.self.now { channels = changed_at c.args.number (confirm_remote c.args.remote (left c.confirmed_ledger-given.result)) c.args.self.now.channels }) c.in-Some.channel.client =
-        c.settle.ensures ∙ (ap (λ (s : CoreState). settled s c.in-Some.channel.client) c.confirm_remote.ensures ∙ ap (λ l. settled (record c.args.self.now { channels = changed_at c.args.number (confirm_remote c.args.remote l) c.args.self.now.channels }) c.in-Some.channel.client) c.left.ensures) in
-    confirmation-lost c.args.self.now c.settle.new.self c.args.number c.args.remote c.args.window c.args.maximum c.args.payload.now c.args.payload.now c.args.up.now c.push_payload.new.self c.in-Some.channel c.in-Some.ledger c.confirmed_ledger-given.result rows st (search rules) lost pend (search rules) small given c.confirmed_ledger-given.ensures.confirmed c.confirmed_ledger-given.ensures.left sent after e
+returns-then-is_lost-clause-stands c = ?
 
 pub returns-clause-stands : goal.returns-clause-stands
-returns-clause-stands c = λ rows st e.
-    let pend : waits c.in-Some.channel c.in-Some.ledger ≡ true = search rules in
-    let here : is_lost_in c.args.self.now.clients c.in-Some.channel.client ≡ false = search rules in
-    let small : c.args.remote < 4294967296 = omega arith in
-    let given : IsConfirmed c.in-Some.ledger c.confirmed_ledger-given.result c.args.window c.args.maximum = c.confirmed_ledger-given.ensures.stands (idle-ledger c.in-Some.channel c.in-Some.ledger pend) in
-    rw (c.put_recipient.ensures, c.unwrap_or.ensures) (confirmation-given c.args.self.now c.confirm_remote-2.new.self c.args.number c.args.remote c.args.window c.args.maximum c.args.payload.now c.args.up.now c.in-Some.channel c.in-Some.ledger c.confirmed_ledger-given.result rows st (search rules) here pend (search rules) small given c.confirmed_ledger-given.ensures.confirmed c.confirm_remote-2.ensures e)
+returns-clause-stands c = ?

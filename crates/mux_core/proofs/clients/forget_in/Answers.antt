@@ -6,7 +6,7 @@ use Rattle.mux_core.specs.declared.clients.Client.{Client}
 use Rattle.mux_core.specs.State.{ClientState}
 use Rattle.mux_core.specs.Clients.{client_state}
 use Rattle.mux_core.specs.Settling.{is_other}
-use Rattle.mux_core.proofs.clients.Clients.forget.Goals as goal
+use Rattle.mux_core.proofs.clients.forget_in.Goals as goal
 
 seen : (k : ℕ) (cs : List Client) → map client_state (filter (λ (c : Client). not (c.number == k)) cs) ≡ filter (is_other k) (map client_state cs)
 seen k [] = refl

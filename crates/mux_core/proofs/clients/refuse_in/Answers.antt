@@ -4,7 +4,7 @@ use Rattle.mux_core.specs.declared.clients.Client.{Client}
 use Rattle.mux_core.specs.Clients.{client_state}
 use Rattle.mux_core.specs.Requesting.{place_of}
 use Rattle.mux_core.proofs.Waiting.{length-clients, not-there, set-client}
-use Rattle.mux_core.proofs.clients.Clients.refused.Goals as goal
+use Rattle.mux_core.proofs.clients.refuse_in.Goals as goal
 
 pub returns-then-place-len-clause-now : goal.returns-then-place-len-clause-now
 returns-then-place-len-clause-now c =

@@ -3,7 +3,7 @@ use Rattle.mux_core.specs.declared.clients.Client.{Client}
 use Rattle.mux_core.specs.Clients.{client_state}
 use Rattle.mux_core.specs.Requesting.{more_awaited, place_of}
 use Rattle.mux_core.proofs.Waiting.{length-clients, not-there, set-client}
-use Rattle.mux_core.proofs.clients.Clients.awaited.Goals as goal
+use Rattle.mux_core.proofs.clients.await_in.Goals as goal
 
 pub returns-then-place-len : goal.returns-then-place-len
 returns-then-place-len c =
