@@ -1,5 +1,5 @@
 -- A list of forwardings stands for those of a history that are asked or live.
-use Rattle.std.specs.Prelude.{◌≡◌, ◌≤◌, ◌<◌, ℕ, ◌==◌, ◌&&◌, Bool, true, false, List, [], ◌∷◌, length, filter, find, Option, Some, None, is_some, is_none, unwrap_or, nat_lt, slice_get}
+use Rattle.std.specs.Prelude.{◌≡◌, ◌≤◌, ◌<◌, ℕ, ◌==◌, ◌&&◌, Bool, true, false, List, [], ◌∷◌, length, filter, find, Some, None, is_some, is_none, unwrap_or, nat_lt, slice_get}
 use Rattle.std.specs.List.{AllByRecursion}
 use Rattle.ssh_grammar.specs.Messages as full
 use Rattle.mux_history.specs.declared.limits.TheConstants.{MAX_FORWARDINGS}

@@ -1,5 +1,5 @@
 -- What each call does with the forwardings that are asked or live, in order of asking.
-use Rattle.std.specs.Prelude.{ℕ, ◌-◌, ◌+◌, ◌==◌, ◌&&◌, Bool, true, false, not, List, [], ◌∷◌, length, filter, find, map, Option, Some, None, is_none, is_some, option_map, nat_lt, min}
+use Rattle.std.specs.Prelude.{ℕ, ◌-◌, ◌==◌, ◌&&◌, Bool, true, false, not, List, [], ◌∷◌, length, filter, find, map, Option, Some, None, is_none, is_some, option_map, nat_lt, min}
 use Rattle.ssh_grammar.specs.Messages.{Key, Tcp, Path}
 use Rattle.mux_history.specs.Channels.{is_number}
 use Rattle.mux_history.specs.Keys.{is_key}

@@ -1,5 +1,5 @@
 -- What adding a forwarding answers, and what taking them out one by one gives.
-use Rattle.std.specs.Prelude.{◌≡◌, ◌≤◌, ◌<◌, ℕ, ◌&&◌, Bool, true, false, List, map, filter, find, Option, Some, None, option_map, is_some, Result, Ok, Err}
+use Rattle.std.specs.Prelude.{◌≡◌, ◌≤◌, ◌<◌, ℕ, ◌&&◌, Bool, true, false, List, filter, find, map, Option, Some, None, is_some, Result, Ok, Err}
 use Rattle.ssh_grammar.specs.Messages as grammar
 use Rattle.mux_history.specs.declared.limits.TheConstants.{MAX_FORWARDINGS}
 use Rattle.forward_rules.specs.Keys.{own_key_of}
@@ -41,7 +41,7 @@ taken_of t = (own_key_of t.0, t.1)
 abbrev pub moved_up_of : ℕ → ℕ → Forward → Forward
 moved_up_of k r f = elim (is_of k f) [ true ↦ record f { cancel = moved_up r f.cancel } | false ↦ f ]
 
--- where a cancel of it was sent
+-- where there was one
 abbrev pub closed_up : ℕ → Option ℕ → List Forward → List Forward
 closed_up k None fs = fs
 closed_up k (Some r) fs = map (moved_up_of k r) fs
@@ -53,3 +53,7 @@ rest_after k fs (Some f) = closed_up k f.cancel (without_first (is_live_of k) fs
 
 abbrev pub after_taking : ℕ → List Forward → List Forward
 after_taking k fs = rest_after k fs (first_live k fs)
+
+-- what taking tells one after the other, until there is none
+abbrev pub told_one_by_one : ℕ → List Forward → List (grammar.Key × Bool)
+told_one_by_one k fs = map told_of (filter (is_live_of k) fs)

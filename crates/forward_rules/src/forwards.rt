@@ -1,20 +1,24 @@
-ghost use Rattle.std.specs.Prelude.{◌≡◌, ◌≤◌, ◌<◌, ◌+◌, ◌++◌, [], ◌∷◌, length, map, true, false, option_map, IfSome, IfNone, OnSome, OnOk, OnErr};
+ghost use Rattle.std.specs.Prelude.{◌≡◌, ◌≤◌, ◌<◌, ◌+◌, ◌++◌, [], ◌∷◌, length, filter, map, not, position, true, false, option_map, IfSome, IfNone, OnSome, OnOk, OnErr};
 ghost use Rattle.mux_history.specs.declared.limits.TheConstants.{MAX_FORWARDINGS};
 ghost use Rattle.forward_rules.specs.Keys.{key_of, own_key_of, IsShort};
-ghost use Rattle.forward_rules.specs.Step.{asked, answered, cancelled, cancel_answered, some_free, owner_at, count_of, without_client};
+ghost use Rattle.forward_rules.specs.Step.{asked, answered, cancelled, cancels, cancel_answered, earlier, first_cancel, is_asked_at, is_cancelled_at, is_free_at, is_leaving_at, some_free, owner_at, count_of, without_cancel_of, without_client};
 ghost use Rattle.forward_rules.specs.Listing.{forward_of};
-ghost use Rattle.forward_rules.specs.Taking.{AddsAs, after_taking, first_live, taken_of, told_of};
+ghost use Rattle.forward_rules.specs.Taking.{AddsAs, after_taking, closed_up, first_live, is_live_of, moved_up_of, taken_of, told_of};
 
 use crate::key::{Key, OwnKey};
 use crate::listed::Listed;
+use mux_history::limits::MAX_FORWARDINGS;
 use std::alloc::Global;
 use std::marker::Model;
+use thiserror::Error;
 
 /// Why no forwarding is added.
-#[derive(Clone, Copy, Debug, PartialEq, Eq)]
+#[derive(Clone, Copy, Debug, PartialEq, Eq, Error)]
 pub enum ForwardRefused {
     /// The client has so many forwardings, asked or live: 64.
+    #[error("the client has {count} forwardings")]
     Full { count: usize },
+    #[error("out of memory")]
     OutOfMemory,
 }
 
@@ -54,7 +58,20 @@ impl Forwards {
         ensures ok { OnOk result (self.new ≡ self.old ++ asked client (key_of key.entry) ∷ []) }
         ensures unchanged { OnErr result (self.new ≡ self.old) }
     {
-        unreachable!()
+        let count = self.count(client);
+        if count >= MAX_FORWARDINGS {
+            return Err(ForwardRefused::Full { count });
+        }
+        let listed = Listed {
+            client,
+            key: OwnKey::copy(key),
+            live: false,
+            cancel: None,
+        };
+        if self.listed.push(listed).is_err() {
+            return Err(ForwardRefused::OutOfMemory);
+        }
+        Ok(())
     }
 
     /// The server's answer to the client's request for this key; of several the one asked first is meant. With a port it
@@ -63,7 +80,15 @@ impl Forwards {
     pub fn answer(&mut self, client: u64, key: Key<'_>, bound: Option<u32>)
         ensures { self.new ≡ answered client (key_of key.entry) bound self.old }
     {
-        unreachable!()
+        let Some(place) = asked_in(&self.listed, client, key) else {
+            return;
+        };
+        match bound {
+            Some(port) => self.listed[place].begin(port),
+            None => {
+                let _ = self.listed.remove(place);
+            }
+        }
     }
 
     /// A client cancels its earliest live forwarding of this key that no unanswered cancel means; false where there is
@@ -74,7 +99,16 @@ impl Forwards {
         ensures short { result ≡ true → IsShort (key_of key.entry) }
         ensures none { result ≡ false → self.new ≡ self.old }
     {
-        unreachable!()
+        let Some(place) = free_in(&self.listed, client, key) else {
+            return false;
+        };
+        if want {
+            let rank = cancels_in(&self.listed, client);
+            self.listed[place].cancel = Some(rank);
+        } else {
+            let _ = self.listed.remove(place);
+        }
+        true
     }
 
     /// The server's answer to the client's cancel of this key; of several the one sent first is meant. Its forwarding
@@ -82,14 +116,20 @@ impl Forwards {
     pub fn cancel_answer(&mut self, client: u64, key: Key<'_>, done: bool)
         ensures { self.new ≡ cancel_answered client (key_of key.entry) done self.old }
     {
-        unreachable!()
+        let Some(rank) = first_cancel_in(&self.listed, client, key) else {
+            return;
+        };
+        if done {
+            self.end(client, rank);
+        }
+        self.settle(client, rank);
     }
 
     /// The client of the earliest live forwarding of this key.
     pub fn owner_of(&self, key: Key<'_>) -> Option<u64>
         ensures { result ≡ owner_at (key_of key.entry) self.now }
     {
-        unreachable!()
+        owner_in(&self.listed, key)
     }
 
     /// How many forwardings of a client are asked or live.
@@ -97,7 +137,7 @@ impl Forwards {
         ensures exact { result ≡ count_of self.now client }
         ensures few { result ≤ MAX_FORWARDINGS }
     {
-        unreachable!()
+        count_in(&self.listed, client)
     }
 
     /// Takes a client's earliest live forwarding out: its key, and whether a cancel of it has no reply. Where it has no
@@ -110,7 +150,13 @@ impl Forwards {
         ensures few { count_of self.old client ≤ MAX_FORWARDINGS }
         ensures none { IfNone result (self.new ≡ without_client client self.old) }
     {
-        unreachable!()
+        let Some(place) = live_in(&self.listed, client) else {
+            self.leave(client);
+            return None;
+        };
+        let taken = self.listed.remove(place);
+        self.close_up(client, taken.cancel);
+        Some((taken.key, taken.cancel.is_some()))
     }
 
     /// Takes all forwardings of a client out.
@@ -118,5 +164,126 @@ impl Forwards {
         ensures { self.new ≡ without_client client self.old }
     {
         self.listed.retain(|f| f.client != client);
+    }
+
+    /// What the client's cancel with so many before it means is over.
+    fn end(&mut self, client: u64, rank: usize)
+        ensures { self.new ≡ filter (λ f. not (is_cancelled_at client rank f)) self.old }
+    {
+        self.listed.retain(|f| !f.is_cancelled_by(client, rank));
+    }
+
+    /// The client's cancel with so many before it is none any more.
+    fn settle(&mut self, client: u64, rank: usize)
+        ensures { self.new ≡ map (without_cancel_of client rank) self.old }
+    {
+        settle_in(&mut self.listed, client, rank);
+    }
+
+    /// What this cancel meant is taken out, where there is one.
+    fn close_up(&mut self, client: u64, cancel: Option<usize>)
+        ensures { self.new ≡ closed_up client cancel self.old }
+    {
+        if let Some(rank) = cancel {
+            move_up_in(&mut self.listed, client, rank);
+        }
+    }
+}
+
+/// The place of the client's first that has this key and is asked.
+fn asked_in(listed: &[Listed], client: u64, key: Key<'_>) -> Option<usize>
+    ensures { result ≡ position (λ f. is_asked_at client (key_of key.entry) (forward_of f)) listed.now }
+{
+    listed.iter().position(|f| f.is_asked(client, key))
+}
+
+/// The place of the client's first that is live with this key, and that no unanswered cancel means.
+fn free_in(listed: &[Listed], client: u64, key: Key<'_>) -> Option<usize>
+    ensures { result ≡ position (λ f. is_free_at client (key_of key.entry) (forward_of f)) listed.now }
+{
+    listed.iter().position(|f| f.is_free(client, key))
+}
+
+/// The place of the client's first that is live.
+fn live_in(listed: &[Listed], client: u64) -> Option<usize>
+    ensures { result ≡ position (λ f. is_live_of client (forward_of f)) listed.now }
+{
+    listed.iter().position(|f| f.client == client && f.live)
+}
+
+fn owner_in(listed: &[Listed], key: Key<'_>) -> Option<u64>
+    ensures { result ≡ owner_at (key_of key.entry) (map forward_of listed.now) }
+{
+    for f in listed {
+        if f.is_live(key) {
+            return Some(f.client);
+        }
+    }
+    None
+}
+
+fn count_in(listed: &[Listed], client: u64) -> usize
+    ensures { result ≡ count_of (map forward_of listed.now) client }
+{
+    let mut count = 0;
+    for f in listed {
+        if f.client == client {
+            count += 1;
+        }
+    }
+    count
+}
+
+/// How many cancels of a client have no reply.
+fn cancels_in(listed: &[Listed], client: u64) -> usize
+    ensures { result ≡ cancels client (map forward_of listed.now) }
+{
+    let mut count = 0;
+    for f in listed {
+        if f.client == client && f.cancel.is_some() {
+            count += 1;
+        }
+    }
+    count
+}
+
+/// How many cancels of the client were sent before the first of this key that has no reply.
+fn first_cancel_in(listed: &[Listed], client: u64, key: Key<'_>) -> Option<usize>
+    ensures { result ≡ first_cancel (is_leaving_at client (key_of key.entry)) (map forward_of listed.now) }
+{
+    let mut first = None;
+    for f in listed {
+        if f.is_leaving(client, key) {
+            first = earlier(first, f.cancel);
+        }
+    }
+    first
+}
+
+fn earlier(a: Option<usize>, b: Option<usize>) -> Option<usize>
+    ensures { result ≡ earlier a b }
+{
+    match (a, b) {
+        (None, b) => b,
+        (a, None) => a,
+        (Some(a), Some(b)) => Some(a.min(b)),
+    }
+}
+
+/// The client's cancel with so many before it is none any more.
+fn settle_in(listed: &mut [Listed], client: u64, rank: usize)
+    ensures { map forward_of listed.new ≡ map (without_cancel_of client rank) (map forward_of listed.old) }
+{
+    for f in listed.iter_mut() {
+        f.settle(client, rank);
+    }
+}
+
+/// One cancel of the client fewer was sent before those that came after this one.
+fn move_up_in(listed: &mut [Listed], client: u64, rank: usize)
+    ensures { map forward_of listed.new ≡ map (moved_up_of client rank) (map forward_of listed.old) }
+{
+    for f in listed.iter_mut() {
+        f.move_up(client, rank);
     }
 }

@@ -1,6 +1,7 @@
-ghost use Rattle.std.specs.Prelude.{◌≡◌, ◌≤◌, length};
+ghost use Rattle.std.specs.Prelude.{◌≡◌};
 ghost use Rattle.mux_history.specs.Keys.{is_key};
-ghost use Rattle.forward_rules.specs.Keys.{key_of, own_key_of, text_of, IsShort};
+ghost use Rattle.forward_rules.specs.Keys.{key_of, own_key_of, IsShort};
+ghost use Rattle.forward_rules.specs.Step.{with_port};
 
 use ssh_fields::Small;
 
@@ -34,7 +35,7 @@ impl OwnKey {
         }
     }
 
-    /// Whether it is this key, by bytes.
+    /// Whether it is this key: of its kind, with its bytes and its port.
     pub fn is(&self, key: Key<'_>) -> bool
         ensures { result ≡ is_key (own_key_of self.now) (key_of key.entry) }
     {
@@ -48,6 +49,17 @@ impl OwnKey {
             ) => { *port == p && address.as_bytes() == a }
             (OwnKey::Path(path), Key::Path(p)) => path.as_bytes() == p,
             _ => false,
+        }
+    }
+
+    /// Where port 0 was asked, the port that the server chose.
+    pub(crate) fn bind(&mut self, chosen: u32)
+        ensures { own_key_of self.new ≡ with_port chosen (own_key_of self.old) }
+    {
+        if let OwnKey::Tcp { port, .. } = self {
+            if *port == 0 {
+                *port = chosen;
+            }
         }
     }
 }

@@ -2,10 +2,13 @@
 //! forwarded connection goes to.
 #![tactic(auto)]
 
+mod entry;
 mod forwards;
 mod key;
 mod listed;
 mod policy;
+mod reading;
+mod steps;
 
 pub use forwards::{ForwardRefused, Forwards};
 pub use key::{Key, OwnKey};

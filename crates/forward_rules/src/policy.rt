@@ -1,38 +1,25 @@
-ghost use Rattle.std.specs.Prelude.{◌≡◌, map};
+ghost use Rattle.std.specs.Prelude.{◌≡◌};
 ghost use Rattle.ssh_grammar.specs.Messages as grammar;
 ghost use Rattle.mux_history.specs.Policy.{permits};
-ghost use Rattle.forward_rules.specs.Allows.{allow_of, entry_of, read_policy, ReadsAs};
+ghost use Rattle.forward_rules.specs.Allows.{error_in, read_policy, ReadsAs};
 
-use ssh_fields::{Text, Texts};
+use crate::entry::Allowed;
+use crate::key::Key;
+use crate::reading::{ListFault, read_list};
+use ssh_fields::Texts;
 use std::alloc::Global;
 use std::marker::Model;
+use thiserror::Error;
 
-/// Which text of the permission lists is no entry.
-#[derive(Clone, Copy, Debug, PartialEq, Eq)]
+/// Why permission lists are not read.
+#[derive(Clone, Copy, Debug, PartialEq, Eq, Error)]
 pub enum PolicyError {
-    /// The first one, those of the list for opens before those of the list for forwardings; its place in its list,
-    /// counted from 0.
+    /// The first text that is no entry, those of the list for opens before those of the list for forwardings; `at` is
+    /// its place in its list, counted from 0.
+    #[error("text {at} of a permission list is no entry, for opens: {for_open}")]
     BadEntry { for_open: bool, at: usize },
+    #[error("out of memory")]
     OutOfMemory,
-}
-
-/// An entry of a permission list, where `None` stands for each host and each port.
-#[derive(Drop)]
-pub enum Entry {
-    /// `host:port`, `[address]:port` or `port`.
-    Ports {
-        host: Option<Text>,
-        port: Option<u32>,
-    },
-    /// A text that begins with a slash.
-    Path(Text),
-}
-
-/// What a permission list permits.
-#[derive(Drop)]
-pub enum Allowed {
-    Anything,
-    Entries(Vec<Entry>),
 }
 
 /// What clients may open, and what they may have listened on.
@@ -51,40 +38,61 @@ impl Model for Policy {
     ghost view = { λ a. record { opens = allow_of a.opens; listens = allow_of a.listens } };
 }
 
+/// The list in which the first bad text stands, and its place there.
+fn bad_in(for_open: bool, fault: ListFault) -> PolicyError
+    ensures { result ≡ error_in for_open fault }
+{
+    match fault {
+        ListFault::Bad { at } => PolicyError::BadEntry { for_open, at },
+        ListFault::OutOfMemory => PolicyError::OutOfMemory,
+    }
+}
+
 impl Policy {
     /// Reads the texts of `--permit-open` and of `--permit-listen`: `any`, `none`, or entries `/path`, `host:port`,
     /// `[address]:port` and `port`, with `*` for host or port. A list without texts permits all.
     pub fn read(alloc: Global, opens: &Texts, listens: &Texts) -> Result<Policy, PolicyError>
         ensures { ReadsAs result (read_policy opens.now listens.now) }
     {
-        unreachable!()
+        let opens = match read_list(alloc, opens.as_slice()) {
+            Ok(allowed) => allowed,
+            Err(fault) => return Err(bad_in(true, fault)),
+        };
+        let listens = match read_list(alloc, listens.as_slice()) {
+            Ok(allowed) => allowed,
+            Err(fault) => return Err(bad_in(false, fault)),
+        };
+        Ok(Policy { opens, listens })
     }
 
     /// Whether a channel may be opened to this host and port (`direct-tcpip`).
     pub fn permits_open(&self, host: &[u8], port: u32) -> bool
         ensures { result ≡ permits self.now.opens (grammar.Tcp host.now port) }
     {
-        unreachable!()
+        self.opens.permits(Key::Tcp {
+            address: host,
+            port,
+        })
     }
 
     /// Whether a channel may be opened to this path (`direct-streamlocal@openssh.com`).
     pub fn permits_open_path(&self, path: &[u8]) -> bool
         ensures { result ≡ permits self.now.opens (grammar.Path path.now) }
     {
-        unreachable!()
+        self.opens.permits(Key::Path(path))
     }
 
     /// Whether this address and port may be listened on (`tcpip-forward`).
     pub fn permits_listen(&self, address: &[u8], port: u32) -> bool
         ensures { result ≡ permits self.now.listens (grammar.Tcp address.now port) }
     {
-        unreachable!()
+        self.listens.permits(Key::Tcp { address, port })
     }
 
     /// Whether this path may be listened on (`streamlocal-forward@openssh.com`).
     pub fn permits_listen_path(&self, path: &[u8]) -> bool
         ensures { result ≡ permits self.now.listens (grammar.Path path.now) }
     {
-        unreachable!()
+        self.listens.permits(Key::Path(path))
     }
 }

@@ -1,0 +1,5 @@
+pub mod Places
+pub mod Walks
+pub mod Counts
+pub mod Taken
+pub mod Lists
