@@ -44,3 +44,4 @@ pub mod Waiting
 pub mod SaysRequests
 pub mod Refused
 pub mod Asking
+pub mod Naming
