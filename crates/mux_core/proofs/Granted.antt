@@ -39,12 +39,12 @@ Waiting k own g = (g.client == k) ≡ true → IsAwaited own g
 same-place : (a b : Ask) → Some a ≡ Some b → a ≡ b
 same-place a b h = cc
 
-none-is : (o : Option Key) → is_none o ≡ true → o ≡ None
+pub none-is : (o : Option Key) → is_none o ≡ true → o ≡ None
 none-is None h = refl
 none-is (Some n) h = absurd (cc)
 
 -- the key of the one that is granted is that of the request
-asked-key : (k place : ℕ) (key : Key) (own : Places) (f : Forward) (g : Forwarding) → Fits f g → IsAwaited own g → slice_get own.asked place ≡ Some (record { client = k; what = full.Forward key }) → (g.client == k) ≡ true → is_none g.live ≡ true → (g.request == place) ≡ true → is_asked_at k key f ≡ true
+pub asked-key : (k place : ℕ) (key : Key) (own : Places) (f : Forward) (g : Forwarding) → Fits f g → IsAwaited own g → slice_get own.asked place ≡ Some (record { client = k; what = full.Forward key }) → (g.client == k) ≡ true → is_none g.live ≡ true → (g.request == place) ≡ true → is_asked_at k key f ≡ true
 asked-key k place key own f g fits waits asked mine idle at =
     let none = none-is g.live idle in
     let here : slice_get own.asked place ≡ Some (record { client = g.client; what = full.Forward g.key }) = subst (λ i. slice_get own.asked i ≡ Some (record { client = g.client; what = full.Forward g.key })) (same-number g.request place at) (waits.asked none).1 in
@@ -58,7 +58,7 @@ asked-key k place key own f g fits waits asked mine idle at =
     ∙ is-key f.key key same)
 
 -- none of those that come later waits there
-later-none : (k place : ℕ) (rest : List ℕ) (g : Forwarding) (gs : List Forwarding) → (g.client == k) ≡ true → is_none g.live ≡ true → (g.request == place) ≡ true → AllByRecursion (AreTwo g) gs → map (granted k place rest) gs ≡ gs
+pub later-none : (k place : ℕ) (rest : List ℕ) (g : Forwarding) (gs : List Forwarding) → (g.client == k) ≡ true → is_none g.live ≡ true → (g.request == place) ≡ true → AllByRecursion (AreTwo g) gs → map (granted k place rest) gs ≡ gs
 later-none k place rest g [] mine idle at two = refl
 later-none k place rest g (h ∷ hs) mine idle at two = ap (λ x. x ∷ map (granted k place rest) hs) (one (h.client == k) refl (is_none h.live) refl (h.request == place) refl) ∙ ap (λ xs. h ∷ xs) (later-none k place rest g hs mine idle at two.1)
   where
@@ -73,7 +73,7 @@ later-none k place rest g (h ∷ hs) mine idle at two = ap (λ x. x ∷ map (gra
     one true p true q false r = same true true false p q r refl
 
 -- one that is found in the rest was asked before none of the front
-before : (k place : ℕ) (g : Forwarding) (gs : List Forwarding) → (g.client == k) ≡ true → is_none g.live ≡ true → place ≤ g.request → AllByRecursion (AreTwo g) gs → is_some (find (asks_at k place) gs) ≡ true → ⊥
+pub before : (k place : ℕ) (g : Forwarding) (gs : List Forwarding) → (g.client == k) ≡ true → is_none g.live ≡ true → place ≤ g.request → AllByRecursion (AreTwo g) gs → is_some (find (asks_at k place) gs) ≡ true → ⊥
 before k place g [] mine idle le two there = cc
 before k place g (h ∷ hs) mine idle le two there = by_case (before k place g hs mine idle le two.1) (asks_at k place h) refl
   where

@@ -45,3 +45,8 @@ pub mod SaysRequests
 pub mod Refused
 pub mod Asking
 pub mod Naming
+pub mod Replied
+pub mod Alike
+pub mod Granting
+pub mod Dropped
+pub mod Refusing

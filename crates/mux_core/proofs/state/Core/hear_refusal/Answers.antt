@@ -1,3 +1,6 @@
+use Rattle.mux_core.proofs.Granting.{granted-fit}
+use Rattle.mux_core.proofs.Refusing.{refused-fit}
+use Rattle.mux_core.proofs.Replied.{neither-idle, nobody-fit, idle-all}
 use Rattle.mux_core.proofs.state.Core.hear_refusal.Goals as goal
 
 pub returns-in_default-clause-stands : goal.returns-in_default-clause-stands
@@ -7,4 +10,4 @@ pub returns-then-is_lost-clause-stands : goal.returns-then-is_lost-clause-stands
 returns-then-is_lost-clause-stands c = ?
 
 pub returns-clause-stands : goal.returns-clause-stands
-returns-clause-stands c = ?
+returns-clause-stands c = let x = nobody-fit in let v = refused-fit in let w = granted-fit in let y = neither-idle in let z = idle-all in ?
