@@ -50,3 +50,6 @@ pub mod Alike
 pub mod Granting
 pub mod Dropped
 pub mod Refusing
+pub mod Ranking
+pub mod Released
+pub mod Ended

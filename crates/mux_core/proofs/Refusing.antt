@@ -25,12 +25,11 @@ use Rattle.mux_core.proofs.Replied.{IsBystander, Replies, after, awaited-all, ea
 
 -- ---- the first that was asked with a key is the one at the place
 
-out_of : (Forward → Bool) → List Forward → List Bool
+abbrev out_of : (Forward → Bool) → List Forward → List Bool
 out_of test [] = []
 out_of test (f ∷ fs) = elim (test f) [ true ↦ false ∷ [] | false ↦ true ∷ out_of test fs ]
 
 without-kept : (test : Forward → Bool) (fs : List Forward) → without_first test fs ≡ kept_by (out_of test fs) fs
-unfolding out_of
 without-kept test [] = refl
 without-kept test (f ∷ fs) = by_test (without-kept test fs) (test f)
   where
@@ -39,14 +38,12 @@ without-kept test (f ∷ fs) = by_test (without-kept test fs) (test f)
     by_test ih false = ap (λ es. f ∷ es) ih
 
 out-at : (test : Forward → Bool) (f : Forward) (fs : List Forward) (b : Bool) → test f ≡ b → out_of test (f ∷ fs) ≡ elim b as (λ _. List Bool) [ true ↦ false ∷ [] | false ↦ true ∷ out_of test fs ]
-unfolding out_of
 out-at test f fs b h = ap (λ (c : Bool). elim c as (λ _. List Bool) [ true ↦ false ∷ [] | false ↦ true ∷ out_of test fs ]) h
 
 first-at : (test : Forwarding → Bool) (g : Forwarding) (gs : List Forwarding) (b : Bool) → test g ≡ b → first_out test (g ∷ gs) ≡ elim b as (λ _. List Bool) [ true ↦ false ∷ [] | false ↦ true ∷ first_out test gs ]
 first-at test g gs b h = ap (λ (c : Bool). elim c as (λ _. List Bool) [ true ↦ false ∷ [] | false ↦ true ∷ first_out test gs ]) h
 
 asked-out : (k place : ℕ) (key : Key) (own : Places) (fs : List Forward) (gs : List Forwarding) → AreListed fs gs → AllByRecursion (Waiting k own) gs → EachTwo gs → own.replied ≡ place → slice_get own.asked place ≡ Some (record { client = k; what = full.Forward key }) → is_some (find (asks_at k place) gs) ≡ true → out_of (is_asked_at k key) fs ≡ first_out (asks_at k place) gs
-unfolding out_of
 asked-out k place key own [] [] listed waits two at asked there = refl
 asked-out k place key own [] (g ∷ gs) listed waits two at asked there = absurd listed
 asked-out k place key own (f ∷ fs) [] listed waits two at asked there = absurd listed
