@@ -53,3 +53,4 @@ pub mod Refusing
 pub mod Ranking
 pub mod Released
 pub mod Ended
+pub mod HearsReply

@@ -46,25 +46,25 @@ refused_row k p = said_as k p silent
 
 -- ---- clients of which one has its answers changed
 
-number-same : (k : ℕ) (h : List Bool → List Bool) (c : ClientState) → (changes k h c).number ≡ c.number
+pub number-same : (k : ℕ) (h : List Bool → List Bool) (c : ClientState) → (changes k h c).number ≡ c.number
 number-same k h c = elim (c.number == k) as (λ b. (elim b as (λ _. ClientState) [ true ↦ record c { waiting = h c.waiting } | false ↦ c ]).number ≡ c.number) [ true ↦ refl | false ↦ refl ]
 
-lost-same : (k : ℕ) (h : List Bool → List Bool) (c : ClientState) → (changes k h c).lost ≡ c.lost
+pub lost-same : (k : ℕ) (h : List Bool → List Bool) (c : ClientState) → (changes k h c).lost ≡ c.lost
 lost-same k h c = elim (c.number == k) as (λ b. (elim b as (λ _. ClientState) [ true ↦ record c { waiting = h c.waiting } | false ↦ c ]).lost ≡ c.lost) [ true ↦ refl | false ↦ refl ]
 
-numbers-same : (k : ℕ) (h : List Bool → List Bool) (cs : List ClientState) → map (λ (c : ClientState). c.number) (map (changes k h) cs) ≡ map (λ (c : ClientState). c.number) cs
+pub numbers-same : (k : ℕ) (h : List Bool → List Bool) (cs : List ClientState) → map (λ (c : ClientState). c.number) (map (changes k h) cs) ≡ map (λ (c : ClientState). c.number) cs
 numbers-same k h [] = refl
 numbers-same k h (c ∷ cs) = ap (λ n. n ∷ map (λ (c : ClientState). c.number) (map (changes k h) cs)) (number-same k h c) ∙ ap (λ ns. c.number ∷ ns) (numbers-same k h cs)
 
-known-same : (k j : ℕ) (h : List Bool → List Bool) (cs : List ClientState) → is_known (map (changes k h) cs) j ≡ is_known cs j
+pub known-same : (k j : ℕ) (h : List Bool → List Bool) (cs : List ClientState) → is_known (map (changes k h) cs) j ≡ is_known cs j
 known-same k j h [] = refl
 known-same k j h (c ∷ cs) = ap (λ n. (n == j) || is_known (map (changes k h) cs) j) (number-same k h c) ∙ ap (λ b. (c.number == j) || b) (known-same k j h cs)
 
-served-same : (k j : ℕ) (h : List Bool → List Bool) (cs : List ClientState) → is_served (map (changes k h) cs) j ≡ is_served cs j
+pub served-same : (k j : ℕ) (h : List Bool → List Bool) (cs : List ClientState) → is_served (map (changes k h) cs) j ≡ is_served cs j
 served-same k j h [] = refl
 served-same k j h (c ∷ cs) = ap (λ n. ((n == j) && not (changes k h c).lost) || is_served (map (changes k h) cs) j) (number-same k h c) ∙ (ap (λ b. ((c.number == j) && not b) || is_served (map (changes k h) cs) j) (lost-same k h c) ∙ ap (λ b. ((c.number == j) && not c.lost) || b) (served-same k j h cs))
 
-once-same : (k : ℕ) (h : List Bool → List Bool) (cs : List ClientState) → AreOnce cs → AreOnce (map (changes k h) cs)
+pub once-same : (k : ℕ) (h : List Bool → List Bool) (cs : List ClientState) → AreOnce cs → AreOnce (map (changes k h) cs)
 once-same k h [] once = tt
 once-same k h (c ∷ cs) once = (each cs once.0, once-same k h cs once.1)
   where
@@ -72,7 +72,7 @@ once-same k h (c ∷ cs) once = (each cs once.0, once-same k h cs once.1)
     each [] all = tt
     each (d ∷ ds) all = (ap (λ n. n == (changes k h d).number) (number-same k h c) ∙ (ap (λ n. c.number == n) (number-same k h d) ∙ all.0), each ds all.1)
 
-length-same : (k : ℕ) (h : List Bool → List Bool) (cs : List ClientState) → length (map (changes k h) cs) ≡ length cs
+pub length-same : (k : ℕ) (h : List Bool → List Bool) (cs : List ClientState) → length (map (changes k h) cs) ≡ length cs
 length-same k h [] = refl
 length-same k h (c ∷ cs) = ap suc (length-same k h cs)
 

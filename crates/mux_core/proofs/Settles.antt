@@ -174,7 +174,7 @@ known-settle s k known elsewhere = by_left (has_left s k) refl
 
 -- ---- the row of a client that is lost
 
-listed : (j : ℕ) (m : ℕ → Bool) (js : List ℕ) (cs : List ClientState) → map (λ (c : ClientState). c.number) cs ≡ filter m js → is_known cs j ≡ true → m j ≡ true
+pub listed : (j : ℕ) (m : ℕ → Bool) (js : List ℕ) (cs : List ClientState) → map (λ (c : ClientState). c.number) cs ≡ filter m js → is_known cs j ≡ true → m j ≡ true
 listed j m js cs e known = within (filter m js) (passing js) (sym (any-map cs) ∙ known ∙ refl) e
   where
     Passes : ℕ → Type 0
@@ -209,7 +209,7 @@ lost-there l k (c ∷ cs) all h = by_case (lost-there l k cs all.1) (c.number ==
     by_case ih true n false d h = ih (sym (ap (λ b. b || is_lost_in cs k) (ap (λ b. b && c.lost) n ∙ d)) ∙ h)
     by_case ih false n d e h = ih (sym (ap (λ b. (b && c.lost) || is_lost_in cs k) n) ∙ h)
 
-lost-known : (k : ℕ) (cs : List ClientState) → is_lost_in cs k ≡ true → is_known cs k ≡ true
+pub lost-known : (k : ℕ) (cs : List ClientState) → is_lost_in cs k ≡ true → is_known cs k ≡ true
 lost-known k [] h = h
 lost-known k (c ∷ cs) h = by_case (lost-known k cs) (c.number == k) refl h
   where
@@ -218,7 +218,7 @@ lost-known k (c ∷ cs) h = by_case (lost-known k cs) (c.number == k) refl h
     by_case ih false n h = ap (λ b. b || is_known cs k) n ∙ ih (sym (ap (λ b. (b && c.lost) || is_lost_in cs k) n) ∙ h)
 
 -- a client that is served is not lost, so none with a forwarding is
-elsewhere : (l : Look) (s : CoreState) (k : ℕ) → AllByRecursion (ClientFits l) s.clients → l.lost k ≡ true → AllByRecursion (λ f. is_served s.clients f.client ≡ true) s.forwards → AllByRecursion (λ f. (f.client == k) ≡ false) s.forwards
+pub elsewhere : (l : Look) (s : CoreState) (k : ℕ) → AllByRecursion (ClientFits l) s.clients → l.lost k ≡ true → AllByRecursion (λ f. is_served s.clients f.client ≡ true) s.forwards → AllByRecursion (λ f. (f.client == k) ≡ false) s.forwards
 elsewhere l s k all lost known = each s.forwards known
   where
     one : (f : Forward) → is_served s.clients f.client ≡ true → (f.client == k) ≡ false
