@@ -54,3 +54,4 @@ pub mod Ranking
 pub mod Released
 pub mod Ended
 pub mod HearsReply
+pub mod HearsReplies

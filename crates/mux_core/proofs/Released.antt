@@ -187,7 +187,7 @@ order-after k place rank (f ∷ fs) (g ∷ gs) all order = (order-with k place r
 
 -- ---- how many
 
-client-after : (k rank : ℕ) (f : Forward) → (without_cancel_of k rank f).client ≡ f.client
+pub client-after : (k rank : ℕ) (f : Forward) → (without_cancel_of k rank f).client ≡ f.client
 client-after k rank f = by_client (is_of k f) (is_number f.cancel rank)
   where
     by_client : (b c : Bool) → (elim b as (λ _. Forward) [ true ↦ elim c as (λ _. Forward) [ true ↦ record f { cancel = None } | false ↦ record f { cancel = moved_up rank f.cancel } ] | false ↦ f ]).client ≡ f.client

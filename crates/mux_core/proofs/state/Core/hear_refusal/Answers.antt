@@ -1,16 +1,19 @@
-use Rattle.mux_core.proofs.Ended.{success-fit, failure-fit}
-use Rattle.mux_core.proofs.HearsReply.{served-stands, lost-reply-stands}
-use Rattle.mux_core.proofs.Ranking.{first-is, same-cancelled}
-use Rattle.mux_core.proofs.Released.{moved-fit}
-use Rattle.mux_core.proofs.Refusing.{refused-fit}
-use Rattle.mux_core.proofs.Replied.{neither-idle, nobody-fit, idle-all}
+use Rattle.std.proofs.Common.{rules, ◌≡◌, sym, ap, ◌∙◌, None, true, false}
+use Rattle.global_replies.specs.Asks.{what_of}
+use Rattle.global_replies.specs.Replies.{FirstAsked}
+use Rattle.mux_core.specs.Gists.{request_of}
+use Rattle.mux_core.proofs.HearsReplies.{none-asked, refusal-late, refusal-nobody, refusal-served}
 use Rattle.mux_core.proofs.state.Core.hear_refusal.Goals as goal
 
 pub returns-in_default-clause-stands : goal.returns-in_default-clause-stands
-returns-in_default-clause-stands c = ?
+returns-in_default-clause-stands c = λ rows st e.
+    let none : FirstAsked c.args.self.now.asks None = search rules in
+    refusal-nobody c.args.self.now c.take_asker.new.self c.args.payload.now c.args.payload.now c.args.up.now rows st (none-asked c.args.self.now.asks none) e
 
 pub returns-then-is_lost-clause-stands : goal.returns-then-is_lost-clause-stands
-returns-then-is_lost-clause-stands c = ?
+returns-then-is_lost-clause-stands c =
+    refusal-late c.args.self.now c.take_asker.new.self c.hear_late.new.self c.in-Some.client c.in-Some.ask (request_of c.asked-request.result) _ c.args.payload.now c.args.up.now c.hear_late.new.up c.hear_late.result c.in-Some.ensures.first c.take_asker.ensures.rest c.asked-request.ensures.exact (sym c.if-is_lost.ensures) c.late_refusal.ensures.exact c.hear_late.ensures.to c.hear_late.ensures.ok c.hear_late.ensures.sent
 
 pub returns-clause-stands : goal.returns-clause-stands
-returns-clause-stands c = let x = nobody-fit in let u = moved-fit in let v = refused-fit in let w = success-fit in let w2 = served-stands in let w3 = lost-reply-stands in let y = neither-idle in let z = idle-all in ?
+returns-clause-stands c =
+    refusal-served c.args.self.now c.take_asker.new.self c.fail.new.self c.pass_on.new.self c.in-Some.client c.in-Some.ask (request_of c.asked-request.result) c.args.payload.now c.args.up.now c.pass_on.result c.in-Some.ensures.first c.take_asker.ensures.rest c.asked-request.ensures.exact (sym c.if-is_lost.ensures) c.fail.ensures c.pass_on.ensures.left c.pass_on.ensures.to
