@@ -131,7 +131,7 @@ failed-held s k r w m what p q rows st none e f =
 
 -- ---- whose it is
 
-list-find : (key : Key) (fs : List Forward) (gs : List Forwarding) → AreListed fs gs → option_map (λ (f : Forward). f.client) (find (is_live_at key) fs) ≡ option_map (λ (g : Forwarding). g.client) (find (λ (g : Forwarding). has_key g.live key) gs)
+pub list-find : (key : Key) (fs : List Forward) (gs : List Forwarding) → AreListed fs gs → option_map (λ (f : Forward). f.client) (find (is_live_at key) fs) ≡ option_map (λ (g : Forwarding). g.client) (find (λ (g : Forwarding). has_key g.live key) gs)
 list-find key [] [] fit = refl
 list-find key [] (g ∷ gs) fit = absurd fit
 list-find key (f ∷ fs) [] fit = absurd fit
@@ -207,7 +207,7 @@ open-refused s r w m what p p' up up' rows st free nobody e f sent =
 
 -- ---- the owner of a live forwarding is served
 
-owner-served : (s : CoreState) (k : ℕ) (key : Key) (fs : List Forward) → AllByRecursion (λ f. is_served s.clients f.client ≡ true) fs → option_map (λ (f : Forward). f.client) (find (is_live_at key) fs) ≡ Some k → is_served s.clients k ≡ true
+pub owner-served : (s : CoreState) (k : ℕ) (key : Key) (fs : List Forward) → AllByRecursion (λ f. is_served s.clients f.client ≡ true) fs → option_map (λ (f : Forward). f.client) (find (is_live_at key) fs) ≡ Some k → is_served s.clients k ≡ true
 owner-served s k key [] all h = absurd (cc)
 owner-served s k key (f ∷ fs) all h = by_case (owner-served s k key fs all.1) (is_live_at key f) refl
   where

@@ -55,3 +55,4 @@ pub mod Released
 pub mod Ended
 pub mod HearsReply
 pub mod HearsReplies
+pub mod Telling
