@@ -1,14 +1,14 @@
 -- The indices agree with the list after each step.
-use Rattle.std.proofs.Common.{◌≡◌, ◌≢◌, ℕ, ◌+◌, ◌<◌, ◌≤◌, ◌^◌, Bool, true, false, cond, not, List, [], ◌∷◌, ◌++◌, refl, ap, sym, ◌∙◌, subst, arith}
-use Rattle.std.specs.Prelude.{Option, Some, None, find, filter, is_some, option_map, ◌==◌, nat_eq, nat_lt, if◌then◌else◌}
+use Rattle.std.proofs.Common.{◌≡◌, ℕ, ◌<◌, ◌^◌, Bool, true, false, cond, not, List, [], ◌∷◌, ◌++◌, refl, ap, sym, ◌∙◌, arith}
+use Rattle.std.specs.Prelude.{Option, Some, None, find, filter, option_map, ◌==◌, nat_eq, nat_lt, if◌then◌else◌}
 use Rattle.std.proofs.lemmas.Bool.{eqb-false}
 use Rattle.std.proofs.lemmas.Bool.Decides.{nat_tests}
-use Rattle.std.proofs.lemmas.Option.{none-some, same_Some}
+use Rattle.std.proofs.lemmas.Option.{none-some}
 use Rattle.window_ledger.specs.declared.ledger.Ledger.{Ledger}
 use Rattle.indexmap.specs.IndexMap.{IndexMap, get}
 use Rattle.mux_history.specs.declared.limits.TheConstants.{MAX_CHANNELS, NUMBERS_END}
 use Rattle.channel_table.specs.declared.channel.Refused.TheVariants.{Full}
-use Rattle.channel_table.specs.Entries.{Entry, changed_at, count_of, entry_at, freed, full_refusal, has_own, has_remote, holder_of, number_of_own, own_entry, remote_entry, unless, with_ledger, with_own, with_remote}
+use Rattle.channel_table.specs.Entries.{Entry, changed_at, count_of, entry_at, freed, full_refusal, has_remote, holder_of, number_of_own, own_entry, remote_entry, unless, with_ledger, with_own, with_remote}
 use Rattle.channel_table.specs.Indices.{Agrees, AreInOrder, is_key, listed, numbers_of, owner_at, owner_in, pair_eq, paired, remote_at, remote_in}
 use Rattle.channel_table.proofs.Inverse.{IsInverse-drop, IsInverse-move, IsInverse-put, IsInverse-same}
 use Rattle.channel_table.proofs.Steps.{AreDistinct-append, AreDistinct-changed, AreDistinct-without, Keeps, numbers-append, numbers-changed, numbers-others, numbers-without}

@@ -1,14 +1,14 @@
 -- The indices after each step on the list of channels, and what look-ups in them find.
-use Rattle.std.proofs.Common.{◌≡◌, ◌≢◌, ℕ, zero, suc, ◌+◌, ◌<◌, ◌≤◌, ◌↔◌, ◌⊎◌, Bool, true, false, cond, not, ◌&&◌, List, [], ◌∷◌, ◌++◌, length, map, refl, ap, sym, ◌∙◌, subst, ⊎_elim, arith, length-append}
+use Rattle.std.proofs.Common.{◌≡◌, ◌≢◌, ℕ, Bool, true, false, List, [], ◌∷◌, ◌++◌, refl, ap, sym, ◌∙◌, subst, ⊎_elim}
 use Rattle.std.specs.Prelude.{Option, Some, None, find, option_map, ◌==◌, nat_eq}
-use Rattle.std.proofs.lemmas.Bool.{eqb-true, eqb-false, eq-eqb, ne_eqb, cases_eq, and_parts, and_from, true≢false}
+use Rattle.std.proofs.lemmas.Bool.{eqb-true, eq-eqb, ne_eqb, cases_eq, and_parts, and_from, true≢false}
 use Rattle.std.proofs.lemmas.Option.{none-some, same_Some}
 use Rattle.indexmap.specs.IndexMap.{IndexMap, get}
 use Rattle.mux_history.specs.Channels.{is_number}
 use Rattle.channel_table.specs.Entries.{Entry, changed_at, entry_at, freed, has_own, has_remote, is_at, number_of_own, number_of_remote}
-use Rattle.channel_table.specs.Indices.{paired, owner_in, owner_at, remote_in, remote_at, pair_eq, IsOwnIndex, IsRemoteIndex, AreDistinct}
-use Rattle.channel_table.proofs.Inverse.{IsInverse, IsExact, IsInverse-same, IsInverse-put, IsInverse-take}
-use Rattle.channel_table.proofs.Steps.{Keeps, at-append_same, at-append_other, at-without_same, at-without_other, at-changed_same, at-changed_other, number-at}
+use Rattle.channel_table.specs.Indices.{paired, owner_in, remote_in, pair_eq, IsOwnIndex, IsRemoteIndex, AreDistinct}
+use Rattle.channel_table.proofs.Inverse.{IsInverse, IsExact}
+use Rattle.channel_table.proofs.Steps.{Keeps, at-append_same, at-append_other, at-without_same, at-without_other, at-changed_same, at-changed_other}
 
 -- ---- `==` on keys
 

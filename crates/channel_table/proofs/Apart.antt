@@ -1,12 +1,12 @@
 -- In a table no number names two channels.
-use Rattle.std.proofs.Common.{◌≡◌, ◌≢◌, ℕ, Bool, true, false, cond, List, [], ◌∷◌, refl, ap, sym, ◌∙◌, subst}
-use Rattle.std.specs.Prelude.{Option, Some, None, ◌==◌, ◌&&◌, nat_eq}
+use Rattle.std.proofs.Common.{◌≡◌, ◌≢◌, ℕ, Bool, true, false, List, [], ◌∷◌, refl, ap, sym, ◌∙◌, subst}
+use Rattle.std.specs.Prelude.{Option, Some, None, ◌==◌}
 use Rattle.std.specs.List.{AllByRecursion}
-use Rattle.std.proofs.lemmas.Bool.{and_from, eq-eqb, eqb-true, ne_eqb, true≢false}
+use Rattle.std.proofs.lemmas.Bool.{and_from, eq-eqb, ne_eqb}
 use Rattle.std.proofs.lemmas.Option.{none-some, same_Some}
-use Rattle.indexmap.specs.IndexMap.{IndexMap, get}
+use Rattle.indexmap.specs.IndexMap.{IndexMap}
 use Rattle.mux_history.specs.Channels.{is_number}
-use Rattle.channel_table.specs.Entries.{AreApart, AreSound, AreTwo, Entry, entry_at, has_own, has_remote, is_at}
+use Rattle.channel_table.specs.Entries.{AreApart, AreSound, AreTwo, Entry, entry_at, has_own, is_at}
 use Rattle.channel_table.specs.Indices.{Agrees, AreDistinct, owner_at, owner_in, remote_at, remote_in}
 use Rattle.channel_table.proofs.Agree.{own-named, remote-named}
 
@@ -33,6 +33,7 @@ two-all x xs (y ∷ ys) at owners remotes all = (two, two-all x xs ys at owners 
     remote : (s : ℕ) → is_number x.channel.remote s ≡ true → (b : Bool) → is_number y.channel.remote s ≡ b → is_number y.channel.remote s ≡ false
     remote s h true e = absurd (all.0.1 (remotes x.number y.number s (ap remote_in at ∙ remote-named s x h) (ap remote_in all.0.0 ∙ remote-named s y e)))
     remote s h false e = e
+
     own : (c : ℕ) → (x.channel.client == y.channel.client) ≡ true → is_number x.channel.own c ≡ true → (b : Bool) → is_number y.channel.own c ≡ b → is_number y.channel.own c ≡ false
     own c same h true e =
         let k = y.channel.client in
@@ -40,6 +41,7 @@ two-all x xs (y ∷ ys) at owners remotes all = (two, two-all x xs ys at owners 
         let theirs : has_own k c y ≡ true = and_from (k == k) (is_number y.channel.own c) (eq-eqb k k refl) e in
         absurd (all.0.1 (owners x.number y.number (k, c) (ap owner_in at ∙ own-named k c x mine) (ap owner_in all.0.0 ∙ own-named k c y theirs)))
     own c same h false e = e
+
     two : AreTwo x y
     two = record {
       number = ne_eqb x.number y.number all.0.1;
@@ -68,9 +70,10 @@ one-tail {Q} name nothing x xs none one n m q f g = one n m q (more n (entry_at 
 
 apart : (xs : List Entry) → AreDistinct xs → AreOne owner_at xs → AreOne remote_at xs → AreApart xs
 apart [] d owners remotes = tt
-apart (x ∷ xs) d owners remotes =
-    ( two-all x (x ∷ xs) xs (rw (eq-eqb x.number x.number refl) refl) owners remotes (behind x xs xs d.0 (each-at xs d.1))
-    , apart xs d.1 (one-tail owner_in refl x xs d.0 owners) (one-tail remote_in refl x xs d.0 remotes) )
+apart (x ∷ xs) d owners remotes = (
+  two-all x (x ∷ xs) xs (rw (eq-eqb x.number x.number refl) refl) owners remotes (behind x xs xs d.0 (each-at xs d.1)),
+  apart xs d.1 (one-tail owner_in refl x xs d.0 owners) (one-tail remote_in refl x xs d.0 remotes),
+)
 
 -- what every table promises, as a function reads it
 pub sound-table : {S T U : Type 0} (own : IndexMap (ℕ × ℕ) ℕ S) (remote : IndexMap ℕ ℕ T) (clients : IndexMap ℕ (List ℕ) U) (xs ys : List Entry) → xs ≡ ys → Agrees own remote clients xs → AreSound ys

@@ -1,6 +1,6 @@
 -- What two look-ups, one after the other, find.
-use Rattle.std.proofs.Common.{◌≡◌, ℕ, Bool, true, false, cond, List, [], ◌∷◌, refl, ap, sym, ◌∙◌, subst}
-use Rattle.std.specs.Prelude.{Option, Some, None, find, is_some, option_map, ◌==◌, ◌&&◌}
+use Rattle.std.proofs.Common.{◌≡◌, ℕ, Bool, true, false, List, [], ◌∷◌, refl, ap, sym, ◌∙◌, subst}
+use Rattle.std.specs.Prelude.{Option, Some, None, find, is_some, option_map}
 use Rattle.std.specs.List.{AllByRecursion}
 use Rattle.std.proofs.lemmas.Bool.{eq-eqb, eqb-false, eqb-true, ne_eqb}
 use Rattle.std.proofs.lemmas.Option.{none-some, same_Some}
@@ -12,7 +12,7 @@ some-none None e = refl
 some-none (Some a) e = cc
 
 -- no channel behind one has its number
-none-behind : (x : Entry) (xs : List Entry) → AllByRecursion (AreTwo x) xs → find (is_at x.number) xs ≡ None
+pub none-behind : (x : Entry) (xs : List Entry) → AllByRecursion (AreTwo x) xs → find (is_at x.number) xs ≡ None
 none-behind x [] all = refl
 none-behind x (y ∷ ys) all =
     let ne : is_at x.number y ≡ false = ne_eqb y.number x.number (λ e. eqb-false x.number y.number all.0.number (sym e)) in

@@ -1,16 +1,15 @@
 -- The channels of slots, in order of opening: what a write in one slot changes in their list.
-use Rattle.std.proofs.Common.{◌≡◌, ◌≢◌, ℕ, zero, suc, ◌+◌, ◌<◌, ◌≤◌, Bool, true, false, cond, not, List, [], ◌∷◌, ◌++◌, length, map, set, refl, ap, sym, ◌∙◌, subst, get_or, arith, add-zero, add-one}
-use Rattle.std.specs.Prelude.{Option, Some, None, slice_get, find, filter, ◌==◌, nat_lt}
+use Rattle.std.proofs.Common.{◌≡◌, ℕ, zero, suc, ◌+◌, ◌<◌, ◌≤◌, Bool, true, false, cond, not, List, [], ◌∷◌, ◌++◌, length, map, set, refl, ap, sym, ◌∙◌, subst, get_or, arith}
+use Rattle.std.specs.Prelude.{Option, Some, None, slice_get, filter, nat_lt}
 use Rattle.std.proofs.lemmas.Bool.Decides.{nat_tests}
-use Rattle.std.proofs.lemmas.Bool.{cases_Bool, eqb-true, eqb-false, eq-eqb, ne_eqb}
+use Rattle.std.proofs.lemmas.Bool.{eqb-false, eq-eqb, ne_eqb}
 use Rattle.std.proofs.lemmas.Option.{none-some, slice_get_read, slice_get_past}
 use Rattle.channel_table.specs.declared.slots.Slot.{Slot}
 use Rattle.channel_table.specs.declared.slots.Slot.TheVariants.{Free, Held}
 use Rattle.channel_table.specs.declared.slots.Opened.{Opened}
-use Rattle.channel_table.specs.Entries.{Entry, at_number, changed_at, entry_at, freed, is_at}
+use Rattle.channel_table.specs.Entries.{Entry, at_number, entry_at, is_at}
 use Rattle.channel_table.specs.Indices.{AreDistinct}
 use Rattle.channel_table.specs.Slots.{Ranked, ranked, placed, ranked_from, entries_of, free_count, AreOpenedBefore}
-use Rattle.channel_table.proofs.Lists.{filter-map}
 
 -- all of them were opened before so many channels
 abbrev pub AllBefore : ℕ → List Ranked → Type 0

@@ -1,6 +1,6 @@
 -- What each write in a slot makes of the slots, and of the list of their channels.
-use Rattle.std.proofs.Common.{◌≡◌, ◌≢◌, ℕ, zero, suc, ◌+◌, ◌<◌, ◌≤◌, Bool, true, false, cond, not, List, [], ◌∷◌, ◌++◌, length, map, set, refl, ap, sym, ◌∙◌, subst, get_or, arith, length-set, length-append}
-use Rattle.std.specs.Prelude.{Option, Some, None, slice_get, filter, IsSome}
+use Rattle.std.proofs.Common.{◌≡◌, ℕ, zero, suc, ◌+◌, ◌<◌, true, false, not, List, [], ◌∷◌, ◌++◌, length, map, set, refl, ap, sym, ◌∙◌, subst, get_or, arith, length-set, length-append}
+use Rattle.std.specs.Prelude.{Option, Some, None, slice_get, IsSome}
 use Rattle.std.proofs.lemmas.List.{map-append}
 use Rattle.std.proofs.lemmas.Option.{none-some, same_Some, slice_get_read, slice_get_within}
 use Rattle.channel_table.specs.declared.slots.Slot.{Slot}
@@ -9,8 +9,8 @@ use Rattle.channel_table.specs.declared.slots.Opened.{Opened}
 use Rattle.channel_table.specs.Entries.{Entry, is_at, entry_at, freed, changed_at, IsFree}
 use Rattle.mux_history.specs.declared.limits.TheConstants.{NUMBERS_END}
 use Rattle.channel_table.specs.Slots.{Ranked, ranked, ranked_from, entries_of, free_count, placed, IsLinked, AreOpenedBefore, AreSlots}
-use Rattle.channel_table.proofs.Lists.{slice_get-set_same, slice_get-set_other, slice_get-push, filter-map}
-use Rattle.channel_table.proofs.Ranks.{entry, entry_in, at_entries, slots-open, slots-free, slots-set, length-slots, other_than, replaced, rank_held}
+use Rattle.channel_table.proofs.Lists.{slice_get-set_same, slice_get-push, filter-map}
+use Rattle.channel_table.proofs.Ranks.{entry, entry_in, at_entries, slots-open, slots-free, slots-set, replaced, rank_held}
 use Rattle.channel_table.proofs.Links.{IsLinked-held, IsLinked-shorter, IsLinked-none, free_count-push, free_count-open, free_count-free, free_count-set, before-push, before-more, before-free, before-set}
 
 -- ---- the front one of the free slots

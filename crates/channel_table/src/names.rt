@@ -8,6 +8,7 @@ use crate::channel::Refused;
 use crate::numbers::Numbers;
 use crate::slots::Slots;
 use indexmap::IndexMap;
+use mux_history::limits::MAX_CHANNELS;
 use ssh_fields::OutOfMemory;
 
 /// Makes sure that a client has a list of its channels.
@@ -25,7 +26,7 @@ pub fn make_list(clients: &mut IndexMap<u64, Numbers>, client: u64) -> Result<()
 /// Adds a number to a client's list.
 pub fn add_number(clients: &mut IndexMap<u64, Numbers>, client: u64, number: u32)
     requires there { IsSome (get nat_eq clients.old client) }
-    requires room { length (listed (get nat_eq clients.old client)) < 256 }
+    requires room { length (listed (get nat_eq clients.old client)) < MAX_CHANNELS }
     ensures { (k : ℕ) → listed (get nat_eq clients.new k) ≡ (if nat_eq client k
         then listed (get nat_eq clients.old k) ++ number ∷ [] else listed (get nat_eq clients.old k)) }
 {

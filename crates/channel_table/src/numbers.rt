@@ -1,13 +1,11 @@
 ghost use Rattle.std.specs.Prelude.{◌≡◌, ◌≤◌, ◌<◌, ◌==◌, [], ◌∷◌, ◌++◌, length, not, filter, IfOk, slice_get};
 
+use mux_history::limits::MAX_CHANNELS;
 use ssh_fields::OutOfMemory;
 use std::alloc::Global;
 use std::marker::Model;
 
-/// How many channels a client may have.
-pub const MOST_CHANNELS: u32 = 256;
-
-/// The numbers of a client's channels, in order of opening, with room for as many as it may have.
+/// The numbers of a client's channels, in the order in which they began, with room for as many as it may have.
 #[derive(Drop)]
 pub struct Numbers {
     numbers: Vec<u32>,
@@ -15,12 +13,13 @@ pub struct Numbers {
 
 impl Model for Numbers {
     ghost use Rattle.std.specs.Prelude.{List, ℕ, ◌≤◌, length, vec_capacity};
+    ghost use Rattle.mux_history.specs.declared.limits.TheConstants.{MAX_CHANNELS};
 
     ghost Value = { List ℕ };
 
     ghost view = { λ a. a.numbers.items };
 
-    ghost invariant = { λ a. (256 ≤ vec_capacity a.numbers) × (length a.numbers.items ≤ 256) };
+    ghost invariant = { λ a. (MAX_CHANNELS ≤ vec_capacity a.numbers) × (length a.numbers.items ≤ MAX_CHANNELS) };
 }
 
 impl Numbers {
@@ -28,7 +27,7 @@ impl Numbers {
         ensures { IfOk result (λ a. a ≡ []) }
     {
         Ok(Numbers {
-            numbers: Vec::with_capacity(alloc, MOST_CHANNELS as usize)?,
+            numbers: Vec::with_capacity(alloc, MAX_CHANNELS)?,
         })
     }
 
@@ -51,7 +50,7 @@ impl Numbers {
     }
 
     pub fn push(&mut self, number: u32)
-        requires { length self.old < 256 }
+        requires { length self.old < MAX_CHANNELS }
         ensures { self.new ≡ self.old ++ number ∷ [] }
     {
         self.numbers.push_reserved(number);

@@ -5,9 +5,10 @@ use crate::channel::{Channel, Refused};
 use crate::names::{
     add_number, drop_number, insert_own, insert_remote, make_room, remove_own, remove_remote,
 };
-use crate::numbers::{MOST_CHANNELS, Numbers};
+use crate::numbers::Numbers;
 use crate::slots::Slots;
 use indexmap::IndexMap;
+use mux_history::limits::MAX_CHANNELS;
 use ssh_fields::OutOfMemory;
 use ssh_grammar::Side;
 use std::alloc::Global;
@@ -197,7 +198,8 @@ impl Table {
 
     /// The account of the channel that was admitted under a number.
     pub fn ledger_of(&self, number: u32) -> Option<Ledger>
-        ensures { result ≡ ledger_at self.now number }
+        ensures ledger { result ≡ ledger_at self.now number }
+        ensures sound { AreSound self.now }
     {
         Some(self.slots.get(number)?.ledger)
     }
@@ -269,7 +271,7 @@ impl Table {
         ensures { RefusesAs result (full_refusal self.now client) }
     {
         let count = self.count(client);
-        if count >= MOST_CHANNELS {
+        if count as usize >= MAX_CHANNELS {
             return Err(Refused::Full { count });
         }
         Ok(())

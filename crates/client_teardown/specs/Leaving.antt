@@ -7,8 +7,10 @@ use Rattle.proxy_frames.specs.State.{QueueState}
 use Rattle.mux_history.specs.Channels.{is_up}
 use Rattle.mux_history.specs.Farewell.{to_number}
 use Rattle.mux_history.specs.Pending.{joined}
+use Rattle.window_ledger.specs.declared.ledger.Ledger.{Ledger}
 use Rattle.window_ledger.specs.Leaving as account
 use Rattle.window_ledger.specs.Stands.{confirmed}
+use Rattle.channel_table.specs.declared.channel.Channel.{Channel}
 use Rattle.channel_table.specs.Entries.{Entry, changed_at, is_of}
 use Rattle.forward_rules.specs.Keys.{IsShort, key_of}
 use Rattle.forward_rules.specs.State.{Forward}
@@ -26,12 +28,16 @@ with_payloads payloads q = record q { waiting = q.waiting ++ joined (map frame_p
 abbrev pub Sends : List (List ℕ) → QueueState → QueueState → Type 0
 Sends payloads up up' = up'.waiting ≡ up.waiting ++ joined (map frame_payload payloads)
 
--- CLOSE on a confirmed channel on which the client has not sent it; OPEN_FAILURE for a server's open without an answer
-abbrev pub farewell_of : Entry → List (List ℕ)
-farewell_of e = elim (confirmed e.ledger) [
-  | true ↦ elim (account.said_close e.ledger) [ true ↦ [] | false ↦ to_number e.channel.remote close ]
-  | false ↦ elim (is_up e.channel.by) [ true ↦ [] | false ↦ to_number e.channel.remote (λ s. open_failure s CONNECT_FAILED client_is_gone) ]
+-- in one channel: CLOSE where it is confirmed and the client has not sent it, OPEN_FAILURE on a server's open without an
+-- answer
+abbrev pub farewell_for : Channel → Ledger → List (List ℕ)
+farewell_for c ledger = elim (confirmed ledger) [
+  | true ↦ elim (account.said_close ledger) [ true ↦ [] | false ↦ to_number c.remote close ]
+  | false ↦ elim (is_up c.by) [ true ↦ [] | false ↦ to_number c.remote (λ s. open_failure s CONNECT_FAILED client_is_gone) ]
 ]
+
+abbrev pub farewell_of : Entry → List (List ℕ)
+farewell_of e = farewell_for e.channel e.ledger
 
 -- of a client's channels, in the order in which they began
 abbrev pub channel_farewells : ℕ → List Entry → List (List ℕ)
@@ -55,10 +61,14 @@ closing e = record e { ledger = account.left e.ledger }
 abbrev pub left_entry : ℕ → Entry → Entry
 left_entry k e = elim (e.channel.client == k) [ true ↦ closing e | false ↦ e ]
 
--- its number stays held: the server has not closed it yet, or has not answered the client's open
-abbrev pub is_open : Entry → Bool
-is_open e = elim (confirmed e.ledger) [ true ↦ not (account.is_over e.ledger) | false ↦ is_up e.channel.by ]
+-- it is still held: the server has not closed it yet, or has not answered the client's open
+abbrev pub is_open_in : Channel → Ledger → Bool
+is_open_in c ledger = elim (confirmed ledger) [ true ↦ not (account.is_over ledger) | false ↦ is_up c.by ]
 
+abbrev pub is_open : Entry → Bool
+is_open e = is_open_in e.channel e.ledger
+
+-- it is of another client, or still held
 abbrev pub stays : ℕ → Entry → Bool
 stays k e = not (e.channel.client == k) || is_open e
 

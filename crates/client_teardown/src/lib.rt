@@ -4,10 +4,15 @@
 //! be let go where none is left, so the room for what is sent is reserved before.
 #![tactic(auto)]
 
+mod cancel;
 mod farewell;
 mod later;
+pub mod laws;
 mod message;
 
 pub use farewell::{FAREWELL_ROOM, tear_down};
 pub use later::{LATE_ROOM, late};
 pub use message::Late;
+
+#[cfg(test)]
+mod tests;

@@ -1,16 +1,16 @@
 -- For the crates above: what a client that is lost leaves of an account.
-use Rattle.std.proofs.Common.{◌≡◌, ◌∷◌, true, false, Bool, refl, sym, ap, ◌∙◌, subst, Option, Some, None}
+use Rattle.std.proofs.Common.{◌≡◌, true, false, Bool, refl, sym, ap, ◌∙◌, Option, Some, None}
 use Rattle.std.specs.Prelude.{◌&&◌}
 use Rattle.ssh_grammar.specs.declared.side.Side.{Side}
 use Rattle.ssh_grammar.specs.declared.side.Side.TheVariants.{Up, Down}
 use Rattle.ssh_grammar.specs.declared.fault.Breach.{Breach}
 use Rattle.ssh_grammar.specs.declared.fault.Breach.TheVariants.{AfterClose, NotOpen}
 use Rattle.mux_history.specs.Gist.{Closes}
-use Rattle.mux_history.specs.Channels.{Channel, any_by, is_closes, is_confirmed, is_ends}
+use Rattle.mux_history.specs.Channels.{Channel, any_act, any_by, is_closes, is_confirmed, is_confirms, is_ends}
 use Rattle.mux_history.specs.Ledger.{breach}
 use Rattle.mux_history.specs.Laws.{with_act}
 use Rattle.mux_history.proofs.Rooms.{accounted-act, may-of}
-use Rattle.window_ledger.specs.Stands.{AreAccounts, IsStateOf, account_of, both_closed, is_answered, speech_of}
+use Rattle.window_ledger.specs.Stands.{IsStateOf, account_of, both_closed, is_answered, speech_of}
 use Rattle.window_ledger.specs.Leaving.{is_closed, is_over_in, left_state, said_close_in}
 use Rattle.window_ledger.specs.declared.account.Account.{Account}
 use Rattle.window_ledger.specs.declared.account.Speech.{Speech}
@@ -71,3 +71,8 @@ left-answered (Confirmed up down) = refl
 pub left-opened : (state : State) → is_answered state ≡ false → left_state state ≡ state
 left-opened (Opened by window maximum) h = refl
 left-opened (Confirmed up down) h = absurd (cc)
+
+-- its open was confirmed exactly where the channel's was
+pub confirmed-is : (state : State) (x : Channel) → IsStateOf state x → is_answered state ≡ is_confirmed x
+confirmed-is (Opened by window maximum) x is = sym (ap (any_act is_confirms) is.fresh)
+confirmed-is (Confirmed up down) x is = sym is.answered
