@@ -56,3 +56,4 @@ pub mod Ended
 pub mod HearsReply
 pub mod HearsReplies
 pub mod Telling
+pub mod Carried

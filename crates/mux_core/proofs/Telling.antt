@@ -32,7 +32,7 @@ use Rattle.mux_core.specs.declared.heard.Heard.TheVariants as heard
 use Rattle.mux_core.specs.State.{CoreState, is_served}
 use Rattle.mux_core.specs.Stands.{Stands, is_known}
 use Rattle.mux_core.specs.Calls.{HearsAs, HearsClient, HearsEnd, HearsGist, HearsIn, HearsMaster, HearsOn, HearsWith, IsLetIn}
-use Rattle.mux_core.proofs.Found.{FoundFit}
+use Rattle.mux_core.proofs.Fits.{FoundFit}
 use Rattle.mux_core.proofs.HearsOpens.{list-find, owner-served}
 use Rattle.mux_core.proofs.HearsReply.{asked-first, nobody-asked}
 use Rattle.mux_core.proofs.HearsWithin.{entry-known, holder-fit}

@@ -1,4 +1,4 @@
-use Rattle.std.proofs.Common.{◌≡◌, true, ap, refl}
+use Rattle.std.proofs.Common.{◌≡◌, rules}
 use Rattle.ssh_grammar.specs.declared.side.Side.TheVariants.{Down}
 use Rattle.mux_history.specs.Gist.{Confirmation, Fails, Open, Refuses, Requests, Succeeds, Transport, Within}
 use Rattle.window_ledger.specs.Act.{act_of}
@@ -19,7 +19,7 @@ pub returns-in-Ok-Refuses-clause-stands : goal.returns-in-Ok-Refuses-clause-stan
 returns-in-Ok-Refuses-clause-stands c = hears-result c.args.self.now c.hear_refusal.new.self c.args.payload.now c.args.payload.now Refuses c.args.up.now c.hear_refusal.new.up c.hear_refusal.result (search rules) c.hear_refusal.ensures.stands
 
 pub returns-in-Ok-Open-clause-stands : goal.returns-in-Ok-Open-clause-stands
-returns-in-Ok-Open-clause-stands c = hears-result c.args.self.now c.hear_open.new.self c.args.payload.now c.hear_open.new.payload (Open (opening_of c.in-Ok-Open.what) c.in-Ok-Open.sender c.in-Ok-Open.window c.in-Ok-Open.maximum) c.args.up.now c.hear_open.new.up c.hear_open.result (search rules) c.hear_open.ensures.stands
+returns-in-Ok-Open-clause-stands c = hears-result c.args.self.now c.hear_open.new.self c.args.payload.now c.args.payload.now (Open (opening_of c.in-Ok-Open.what) c.in-Ok-Open.sender c.in-Ok-Open.window c.in-Ok-Open.maximum) c.args.up.now c.hear_open.new.up c.hear_open.result (search rules) c.hear_open.ensures.stands
 
 pub returns-in-Ok-Confirmation-clause-stands : goal.returns-in-Ok-Confirmation-clause-stands
 returns-in-Ok-Confirmation-clause-stands c = hears-result c.args.self.now c.hear_confirmation.new.self c.args.payload.now c.hear_confirmation.new.payload (Confirmation c.in-Ok-Confirmation.recipient c.in-Ok-Confirmation.sender c.in-Ok-Confirmation.window c.in-Ok-Confirmation.maximum) c.args.up.now c.hear_confirmation.new.up c.hear_confirmation.result (search rules) c.hear_confirmation.ensures.stands
