@@ -1,7 +1,7 @@
 ghost use Rattle.std.specs.Prelude.{◌≡◌, ◌≤◌, ◌<◌, ◌+◌, ◌++◌, [], ◌∷◌, length, filter, map, not, position, true, false, option_map, IfSome, IfNone, OnSome, OnOk, OnErr};
 ghost use Rattle.mux_history.specs.declared.limits.TheConstants.{MAX_FORWARDINGS};
 ghost use Rattle.forward_rules.specs.Keys.{key_of, own_key_of, IsShort};
-ghost use Rattle.forward_rules.specs.Step.{asked, answered, cancelled, cancels, cancel_answered, earlier, first_cancel, is_asked_at, is_cancelled_at, is_free_at, is_leaving_at, some_free, owner_at, count_of, without_cancel_of, without_client};
+ghost use Rattle.forward_rules.specs.Step.{asked, answered, cancelled, cancels, cancel_answered, earlier, first_cancel, is_asked_at, is_cancelled_at, is_free_at, is_leaving_at, is_live_at, some_free, owner_at, count_of, without_cancel_of, without_client};
 ghost use Rattle.forward_rules.specs.Listing.{forward_of};
 ghost use Rattle.forward_rules.specs.Taking.{AddsAs, after_taking, closed_up, first_live, is_live_of, moved_up_of, taken_of, told_of};
 
@@ -129,7 +129,8 @@ impl Forwards {
     pub fn owner_of(&self, key: Key<'_>) -> Option<u64>
         ensures { result ≡ owner_at (key_of key.entry) self.now }
     {
-        owner_in(&self.listed, key)
+        let place = live_in(&self.listed, key)?;
+        Some(self.listed[place].client)
     }
 
     /// How many forwardings of a client are asked or live.
@@ -150,7 +151,7 @@ impl Forwards {
         ensures few { count_of self.old client ≤ MAX_FORWARDINGS }
         ensures none { IfNone result (self.new ≡ without_client client self.old) }
     {
-        let Some(place) = live_in(&self.listed, client) else {
+        let Some(place) = live_of(&self.listed, client) else {
             self.leave(client);
             return None;
         };
@@ -204,22 +205,18 @@ fn free_in(listed: &[Listed], client: u64, key: Key<'_>) -> Option<usize>
     listed.iter().position(|f| f.is_free(client, key))
 }
 
+/// The place of the first that is live with this key.
+fn live_in(listed: &[Listed], key: Key<'_>) -> Option<usize>
+    ensures { result ≡ position (λ f. is_live_at (key_of key.entry) (forward_of f)) listed.now }
+{
+    listed.iter().position(|f| f.is_live(key))
+}
+
 /// The place of the client's first that is live.
-fn live_in(listed: &[Listed], client: u64) -> Option<usize>
+fn live_of(listed: &[Listed], client: u64) -> Option<usize>
     ensures { result ≡ position (λ f. is_live_of client (forward_of f)) listed.now }
 {
     listed.iter().position(|f| f.client == client && f.live)
-}
-
-fn owner_in(listed: &[Listed], key: Key<'_>) -> Option<u64>
-    ensures { result ≡ owner_at (key_of key.entry) (map forward_of listed.now) }
-{
-    for f in listed {
-        if f.is_live(key) {
-            return Some(f.client);
-        }
-    }
-    None
 }
 
 fn count_in(listed: &[Listed], client: u64) -> usize

@@ -13,3 +13,6 @@ mod steps;
 pub use forwards::{ForwardRefused, Forwards};
 pub use key::{Key, OwnKey};
 pub use policy::{Policy, PolicyError};
+
+#[cfg(test)]
+mod tests;
