@@ -44,6 +44,12 @@ abbrev pub or_behind : List Bool → List Bool
 or_behind [] = []
 or_behind (sent ∷ flags) = (sent ∷ flags) ++ false ∷ []
 
+-- the first was sent
+abbrev pub IsAwaited : List Bool → Type 0
+IsAwaited [] = ⊥
+IsAwaited (true ∷ flags) = Unit {0}
+IsAwaited (false ∷ flags) = ⊥
+
 -- the refusals at the front
 abbrev pub leading : List Bool → ℕ
 leading [] = 0

@@ -1,5 +1,6 @@
 ghost use Rattle.std.specs.Prelude.{◌≡◌, ◌++◌, [], ◌∷◌, ◌≤◌, length, drop, true, false, IfOk, OnOk, OnErr};
 ghost use Rattle.global_replies.specs.Replies.{is_none_left, or_behind, refusals_behind, after_reply, leading, without_leading};
+ghost use Rattle.global_replies.specs.Stands.{AnswerGoesOn, LeavesUnanswered, RefusalGoesOn, SentGoesOn};
 
 use ssh_fields::OutOfMemory;
 use std::alloc::Global;
@@ -53,6 +54,7 @@ impl ClientAnswers {
 
     /// A wanted request of the client is sent: its reply is awaited. An `Err` also comes where 2^32 - 1 requests wait.
     pub fn awaited(&mut self) -> Result<(), OutOfMemory>
+        ensures stands { OnOk result (SentGoesOn self.old self.new) }
         ensures ok { OnOk result (self.new ≡ self.old ++ true ∷ []) }
         ensures unchanged { OnErr result (self.new ≡ self.old) }
     {
@@ -66,6 +68,7 @@ impl ClientAnswers {
     /// A wanted request of the client is refused: true where nothing waits, so that the refusal goes out now; else it
     /// waits behind what waits. An `Err` also comes where 2^32 - 1 requests wait.
     pub fn local(&mut self) -> Result<bool, OutOfMemory>
+        ensures stands { IfOk result (RefusalGoesOn self.old self.new) }
         ensures now { IfOk result (λ now. now ≡ is_none_left self.old) }
         ensures ok { OnOk result (self.new ≡ or_behind self.old) }
         ensures unchanged { OnErr result (self.new ≡ self.old) }
@@ -83,6 +86,7 @@ impl ClientAnswers {
     /// The server's reply to the client's first request came, and is the client's: so many refusals follow it now.
     /// Where nothing waits nothing follows.
     pub fn server_answered(&mut self) -> u32
+        ensures stands { AnswerGoesOn self.old self.new result }
         ensures refusals { result ≡ refusals_behind self.old }
         ensures left { self.new ≡ after_reply self.old }
     {
@@ -96,7 +100,8 @@ impl ClientAnswers {
 
     /// How many wanted requests have no answer so far, sent and refused ones together.
     pub fn waiting(&self) -> u32
-        ensures { result ≡ length self.now }
+        ensures stands { LeavesUnanswered self.now result }
+        ensures exact { result ≡ length self.now }
     {
         self.waiting.len() as u32
     }

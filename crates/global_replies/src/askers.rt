@@ -1,6 +1,7 @@
 ghost use Rattle.std.specs.Prelude.{◌≡◌, ◌++◌, [], ◌∷◌, ◌≤◌, map, length, filter, IfSome, OnOk, OnErr};
 ghost use Rattle.global_replies.specs.Asks.{IsShort};
 ghost use Rattle.global_replies.specs.Replies.{asked_of, request_of, FirstAsked, rest_of, is_of};
+ghost use Rattle.global_replies.specs.Stands.{AskGoesOn, ReplyGoesOn};
 
 use crate::ask::{Ask, Asked};
 use ssh_fields::OutOfMemory;
@@ -43,6 +44,7 @@ impl Askers {
     /// 2^32 - 1 requests wait.
     pub fn ask(&mut self, client: u64, what: Ask) -> Result<(), OutOfMemory>
         requires { IsShort what }
+        ensures stands { OnOk result (AskGoesOn self.old self.new (request_of client what)) }
         ensures ok { OnOk result (self.new ≡ self.old ++ request_of client what ∷ []) }
         ensures unchanged { OnErr result (self.new ≡ self.old) }
     {
@@ -55,6 +57,7 @@ impl Askers {
 
     /// The server's next reply answers the request that waits longest: it is taken out. None where none waits.
     pub fn answered(&mut self) -> Option<(u64, Ask)>
+        ensures stands { ReplyGoesOn self.old self.new result }
         ensures first { FirstAsked self.old result }
         ensures rest { self.new ≡ rest_of self.old }
         ensures short { IfSome result (λ a. IsShort a.1) }
