@@ -1,5 +1,5 @@
 -- What is sent for a client that is lost, and what it leaves, in the words of the history.
-use Rattle.std.specs.Prelude.{◌≡◌, ◌==◌, ℕ, Bool, true, false, List, [], ◌∷◌, ◌++◌, filter, flat_map, map}
+use Rattle.std.specs.Prelude.{◌≡◌, ◌==◌, ℕ, true, false, List, [], ◌∷◌, ◌++◌, filter, flat_map, map}
 use Rattle.ssh_grammar.specs.declared.side.Side.TheVariants.{Up}
 use Rattle.ssh_grammar.specs.Messages as grammar
 use Rattle.mux_history.specs.Channels.{Channel, any_by, is_closes, is_confirmed, is_held, is_up}

@@ -1,7 +1,7 @@
 ghost use Rattle.std.specs.Prelude.{◌≡◌, ℕ, ◌+◌, ◌-◌, ◌<◌, ◌≤◌, ◌^◌, length, take_while, position};
 ghost use Rattle.std.specs.List.{prefix_len, suffix_len};
 ghost use Rattle.conf_rules.specs.Heads.{is_blank, is_ending, is_keyword, is_zero, second_equals, after_keyword, said_at, uncommented, head_of};
-ghost use Rattle.conf_lexer.specs.Gives.{Shows};
+ghost use Rattle.conf_rules.specs.Results.{Shows};
 ghost use Rattle.conf_lexer.specs.Shown.{heading};
 
 use conf_rules::LexError;

@@ -1,4 +1,4 @@
-use crate::{Head, LexError, split_head, split_words};
+use crate::{Head, LexError, first, next_line, split_at_first, split_head, split_words};
 use ssh_fields::Text;
 use std::alloc::Global;
 use std::test::Fail;
@@ -59,4 +59,23 @@ fn a_line_is_a_keyword_and_a_rest(rt: HostRuntime) -> Result<(), Fail> {
         }
     }
     Ok(())
+}
+
+#[test]
+fn lines_of_a_text_come_one_by_one(rt: HostRuntime) {
+    let text = b"ab\n\nc";
+    assert_eq!(rt; next_line(text, 0), Some((2, 3)));
+    assert_eq!(rt; next_line(text, 3), Some((3, 4)));
+    assert_eq!(rt; next_line(text, 4), Some((5, 5)));
+    assert_eq!(rt; next_line(text, 5), None);
+    assert_eq!(rt; next_line(b"a\n", 0), Some((1, 2)));
+    assert_eq!(rt; next_line(b"", 0), None);
+}
+
+#[test]
+fn bytes_are_split_at_the_first(rt: HostRuntime) {
+    assert!(rt; matches!(first(b"ab"), Some((b'a', b"b"))));
+    assert!(rt; first(b"").is_none());
+    assert!(rt; matches!(split_at_first(b'=', b"a=b=c"), Some((b"a", b"b=c"))));
+    assert!(rt; split_at_first(b'=', b"abc").is_none());
 }

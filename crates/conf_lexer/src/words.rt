@@ -1,10 +1,12 @@
-ghost use Rattle.std.specs.Prelude.{◌≡◌, ℕ, ◌+◌, ◌-◌, ◌<◌, ◌≤◌, ◌^◌, [], ◌∷◌, length, MatchOption};
+ghost use Rattle.std.specs.Prelude.{◌≡◌, ℕ, ◌+◌, ◌-◌, ◌<◌, ◌≤◌, ◌^◌, length};
 ghost use Rattle.std.specs.Option.{option_map};
 ghost use Rattle.conf_rules.specs.declared.quoting.Quoting.TheVariants.{Between};
 ghost use Rattle.conf_rules.specs.Words.{is_escapable, inside, move_of, words_from, words_of};
 ghost use Rattle.conf_lexer.specs.Reading.{escaped};
-ghost use Rattle.conf_lexer.specs.Gives.{Gives};
+ghost use Rattle.conf_rules.specs.Results.{Gives};
+ghost use Rattle.conf_rules.specs.Wants.{lex_wants_memory};
 
+use crate::bytes::first;
 use conf_rules::{LexError, Move, Quoting};
 use ssh_fields::{Text, Texts};
 use std::alloc::Global;
@@ -48,16 +50,6 @@ fn move_of(quoting: Quoting, at: usize, byte: u8) -> Move
     }
 }
 
-/// The first byte, and what follows it.
-fn first(bytes: &[u8]) -> Option<(u8, &[u8])>
-    ensures { MatchOption result (bytes.now ≡ []) (λ x. bytes.now ≡ x.0 ∷ x.1.now) }
-{
-    match bytes {
-        [] => None,
-        [byte, rest @ ..] => Some((*byte, rest)),
-    }
-}
-
 /// The byte that a backslash stands for, where this byte is one and is read so, and what follows.
 #[tactic(auto, unfolding(crate::specs::Reading::escaped))]
 fn escaped(quoting: Quoting, byte: u8, after: &[u8]) -> Option<(u8, &[u8])>
@@ -69,7 +61,7 @@ fn escaped(quoting: Quoting, byte: u8, after: &[u8]) -> Option<(u8, &[u8])>
 
 /// All words, or none.
 fn all_words(alloc: Global, rest: &[u8]) -> Result<Texts, LexError>
-    ensures { Gives result (words_from Between 0 rest.now) }
+    ensures { Gives lex_wants_memory result (words_from Between 0 rest.now) }
 {
     let mut words = Texts::new(alloc);
     let mut word = Text::new(alloc);
@@ -112,7 +104,7 @@ fn all_words(alloc: Global, rest: &[u8]) -> Result<Texts, LexError>
 /// The words of a rest (ssh_config(5)): blanks part them, quotes enclose blanks, a backslash stands for a quote, a backslash
 /// or a space, and a number sign at a word's start ends them. `at` of a refusal is a byte's place in `rest`.
 pub fn split_words(alloc: Global, rest: &[u8]) -> Result<Texts, LexError>
-    ensures exact { Gives result (words_of rest.now) }
+    ensures exact { Gives lex_wants_memory result (words_of rest.now) }
 {
     let words = all_words(alloc, rest)?;
     if words.len() == 0 {

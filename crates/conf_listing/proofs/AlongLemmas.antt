@@ -1,7 +1,7 @@
 -- The rows of one file and those of all places go on alike, line by line.
 use Rattle.std.proofs.Common.{◌≡◌, ℕ, ◌+◌, ◌-◌, ◌<◌, ◌≤◌, true, false, List, [], ◌∷◌, ◌++◌, length, Option, None, Result, Ok, Err, refl, sym, ap, ◌∙◌, map, inl, inr, arith}
 use Rattle.std.specs.Prelude.{nat_le}
-use Rattle.std.specs.List.{list_all}
+use Rattle.std.specs.List.{list_all, list_any}
 use Rattle.std.proofs.lemmas.Bool.{cases_lt, lt-ltb, le-ltb, le-leb, lt-leb}
 use Rattle.std.proofs.lemmas.List.{length-append, length-map}
 use Rattle.mux_outside.specs.declared.facts.Facts.{Facts}
@@ -16,7 +16,7 @@ use Rattle.conf_rules.specs.Told.{Told}
 use Rattle.conf_rules.specs.Includes.{UserFile}
 use Rattle.conf_rules.specs.Sources.{Line, lines_in, included, is_opening, own_block, block_behind, depth_limit}
 use Rattle.conf_rules.specs.Rows.{Row as Place}
-use Rattle.conf_rules.specs.Resolution.{counted, rows_from, refusal_in, line_limit}
+use Rattle.conf_rules.specs.Resolution.{counted, rows_from, rows_behind, wants_second, refusal_in, line_limit}
 use Rattle.conf_listing.specs.declared.rows.Row.{Row}
 use Rattle.conf_listing.specs.Served.{served_line, served_entry}
 use Rattle.conf_listing.specs.OneFile.{names_it, is_active_in, standing, line_row, file_rows}
@@ -25,9 +25,9 @@ use Rattle.conf_listing.specs.Answers.{told_by, answer_of, unless_refused, ended
 use Rattle.conf_listing.specs.declared.keys.TheConstants.{SERVED}
 use Rattle.conf_rules.specs.Listing.{listing_over}
 use Rattle.conf_listing.proofs.ServedLemmas.{is_plain_entry, served-plain}
-use Rattle.conf_listing.proofs.ValueLemmas.{brief, is_plain_row, both}
+use Rattle.conf_listing.proofs.ValueLemmas.{brief, counting-first, is_plain_row, both}
 use Rattle.conf_listing.proofs.ListingLemmas.{listing-same}
-use Rattle.conf_listing.proofs.PlaceLemmas.{here, at, file_line, said, refused, next_rows, next-rows, next-said, next-refused, counted-line, next-lines, active-same, refusal-behind}
+use Rattle.conf_listing.proofs.PlaceLemmas.{here, at, file_line, said, refused, next_rows, next-rows, next-said, next-refused, counted-line, next-lines, active-same, refusal-behind, behind-none, behind-refused, said-once}
 
 -- n places that aren't refused, and their rows
 pub record Along (places : List Place) (rows : List Row) (n : ℕ) : Type 0 where
@@ -35,6 +35,7 @@ pub record Along (places : List Place) (rows : List Row) (n : ℕ) : Type 0 wher
   pub plain : list_all is_plain_row rows ≡ true
   pub count : length places ≡ n
   pub none : refusal_in places ≡ None
+  pub once : list_any wants_second places ≡ false
 
 rows-count : (places : List Place) (rows : List Row) (n : ℕ) → Along places rows n → length rows ≡ n
 rows-count places rows n a = sym (ap length a.briefly) ∙ length-map places brief ∙ a.count
@@ -60,12 +61,13 @@ answer-refused told file places n block bytes c none =
 
 place-refused : (told : Told) (file : Bytes) (places : List Place) (n : ℕ) (block : Option ℕ) (bytes : Bytes) (rest : List Bytes) (c : Cause) → refusal_in places ≡ None
     → counted told served_entry places (file_line file n block bytes) n ≡ Err c
-    → answer_of told file (rows_from told served_entry places (at n) (lines_in (included UserFile told depth_limit 0) here file n (n + 1) block (bytes ∷ rest))) ≡ Err (At file (n + 1) c)
+    → answer_of told file (rows_behind told served_entry (rows_from told served_entry places (at n) (lines_in (included UserFile told depth_limit 0) here file n (n + 1) block (bytes ∷ rest)))) ≡ Err (At file (n + 1) c)
 place-refused told file places n block bytes rest c none e =
     let line = file_line file n block bytes in
     let more = tail_lines told file n block bytes rest in
     ap (answer_of told file)
-    (ap (rows_from told served_entry places (at n)) (first-line told file n block bytes rest) ∙ next-rows told places n line more ∙ ap (next_rows told places n line more) e ∙ next-refused told places n line more c)
+    (ap (rows_behind told served_entry) (ap (rows_from told served_entry places (at n)) (first-line told file n block bytes rest) ∙ next-rows told places n line more ∙ ap (next_rows told places n line more) e ∙ next-refused told places n line more c)
+    ∙ behind-refused told places line c)
     ∙ answer-refused told file places n block bytes c none
 
 row-refused : (file original : Bytes) (user : Option Bytes) (rows : List Row) (n : ℕ) (block : Option ℕ) (bytes : Bytes) (rest : List Bytes) (c : Cause) → length rows ≡ n
@@ -128,13 +130,15 @@ along-more told file original places rows n block bytes e named a plain =
     let place = said told places (file_line file n block bytes) e in
     let active : is_active_in (map brief places) (standing (is_opening bytes) block) ≡ is_active_in rows (standing (is_opening bytes) block) = ap (λ rs. is_active_in rs (standing (is_opening bytes) block)) a.briefly in
     let row : brief place ≡ row_said original rows block bytes e =
-    ap (λ o. record { entry = e; applies = names_it o e; active = place.active }) named
+    ap (λ x. record { entry = x; applies = place.applies; active = place.active }) (counting-first e)
+    ∙ ap (λ o. record { entry = e; applies = names_it o e; active = place.active }) named
     ∙ ap (λ b. record { entry = e; applies = names_it original e; active = b }) (active-same places (is_opening bytes) block ∙ active) in
     record {
       briefly = map-more places place ∙ ap (λ rs. rs ++ brief place ∷ []) a.briefly ∙ ap (λ r. rows ++ r ∷ []) row;
       plain = list-all-more rows _ a.plain plain;
       count = length-append places (place ∷ []) ∙ ap (λ k. k + 1) a.count;
       none = refusal-behind places place a.none;
+      once = said-once told places (file_line file n block bytes) e plain a.once;
     }
 
 -- ---- all lines
@@ -142,7 +146,7 @@ along-more told file original places rows n block bytes e named a plain =
 -- the answers from a line on
 unfoldable pub Alike : List Pair → Facts → Bytes → Bytes → List Place → List Row → ℕ → Option ℕ → List Bytes → Type 0
 Alike files facts file original places rows n block lines =
-    answer_of (told_by files facts file original) file (rows_from (told_by files facts file original) served_entry places (at n) (lines_in (included UserFile (told_by files facts file original) depth_limit 0) here file n (n + 1) block lines))
+    answer_of (told_by files facts file original) file (rows_behind (told_by files facts file original) served_entry (rows_from (told_by files facts file original) served_entry places (at n) (lines_in (included UserFile (told_by files facts file original) depth_limit 0) here file n (n + 1) block lines)))
     ≡ (file_rows file original rows block lines >>= finished file original facts.local_user)
 
 -- a line that has been read, with what the later lines give
@@ -158,7 +162,7 @@ by-line files facts file original places rows n block bytes rest (Err c) a few e
     ∙ sym (row-refused file original facts.local_user rows n block bytes rest c (rows-count places rows n a) (row-under original rows n _ bytes (Err c) (rows-count places rows n a) few e))
 by-line files facts file original places rows n block bytes rest (Ok entry) a few e later =
     let told = told_by files facts file original in
-    ap (answer_of told file) (place-said told file places n block bytes rest entry e (counted-line files facts file original places n block bytes ∙ rw (under n few) e))
+    ap (λ rs. answer_of told file (rows_behind told served_entry rs)) (place-said told file places n block bytes rest entry e (counted-line files facts file original places n block bytes ∙ rw (under n few) e))
     ∙ later entry (along-more told file original places rows n block bytes entry refl a (served-plain bytes entry e))
     ∙ sym (row-says file original facts.local_user rows n block bytes rest entry (rows-count places rows n a) (row-under original rows n _ bytes (Ok entry) (rows-count places rows n a) few e))
 
@@ -174,7 +178,8 @@ pub along : (files : List Pair) (facts : Facts) (file original : Bytes) (lines :
 unfolding Alike lines_in rows_from file_rows
 along files facts file original [] places rows n block a =
     let told = told_by files facts file original in
-    ap (λ o. unless_refused o (ended file (listing_over SERVED told places))) a.none
+    ap (answer_of told file) (behind-none told places a.once)
+    ∙ ap (λ o. unless_refused o (ended file (listing_over SERVED told places))) a.none
     ∙ listing-same told file original facts.local_user places rows (record { name = refl; local = refl; briefly = a.briefly; plain = a.plain })
 along files facts file original (bytes ∷ rest) places rows n block a = elim (cases_lt n line_limit) [
   | inl few ↦ by-line files facts file original places rows n block bytes rest (served_line bytes) a few refl (λ e more. along files facts file original rest _ _ (n + 1) (block_behind (is_opening bytes) n block) more)

@@ -17,7 +17,7 @@ use Rattle.conf_rules.specs.Heads.{lines_of}
 use Rattle.conf_rules.specs.Includes.{UserFile}
 use Rattle.conf_rules.specs.Sources.{lines_in, included, depth_limit, size_limit, refused_at, file_lines, named_lines, all_lines}
 use Rattle.conf_rules.specs.Entries.{entry_of}
-use Rattle.conf_rules.specs.Resolution.{rows_from, rows_by, row_of}
+use Rattle.conf_rules.specs.Resolution.{rows_from, rows_behind, rows_by, row_of}
 use Rattle.conf_listing.specs.declared.errors.LineError.TheVariants as line_errors
 use Rattle.conf_listing.specs.Served.{served_entry}
 use Rattle.conf_listing.specs.Results.{Gives, Refuses, is_file_fault}
@@ -31,18 +31,18 @@ use Rattle.conf_listing.proofs.AlongLemmas.{Alike, along}
 
 -- a text that is too large, or else its lines
 by-size : (files : List Pair) (facts : Facts) (file original text : Bytes) (large : Bool)
-    → answer_of (told_by files facts file original) file (rows_from (told_by files facts file original) served_entry [] (at 0)
-    (cond large (refused_at here file 0 causes.TooLarge) (lines_in (included UserFile (told_by files facts file original) depth_limit 0) here file 0 1 None (lines_of text))))
+    → answer_of (told_by files facts file original) file (rows_behind (told_by files facts file original) served_entry (rows_from (told_by files facts file original) served_entry [] (at 0)
+    (cond large (refused_at here file 0 causes.TooLarge) (lines_in (included UserFile (told_by files facts file original) depth_limit 0) here file 0 1 None (lines_of text)))))
     ≡ cond large (Err (At file 0 causes.TooLarge)) (file_rows file original [] None (lines_of text) >>= finished file original facts.local_user)
-unfolding Alike rows_from row_of served_entry entry_of
+unfolding Alike rows_behind rows_from row_of served_entry entry_of
 by-size files facts file original text true = refl
-by-size files facts file original text false = along files facts file original (lines_of text) [] [] 0 None (record { briefly = refl; plain = refl; count = refl; none = refl })
+by-size files facts file original text false = along files facts file original (lines_of text) [] [] 0 None (record { briefly = refl; plain = refl; count = refl; none = refl; once = refl })
 
 -- what stands at the file's path
 by-content : (files : List Pair) (facts : Facts) (file original : Bytes) (content : Option Bytes)
-    → answer_of (told_by files facts file original) file (rows_from (told_by files facts file original) served_entry [] (at 0) (named_lines (told_by files facts file original) 0 file content))
+    → answer_of (told_by files facts file original) file (rows_behind (told_by files facts file original) served_entry (rows_from (told_by files facts file original) served_entry [] (at 0) (named_lines (told_by files facts file original) 0 file content)))
     ≡ found_listing file original facts.local_user content
-unfolding rows_from row_of served_entry entry_of file_lines text_listing
+unfolding rows_behind rows_from row_of served_entry entry_of file_lines text_listing
 by-content files facts file original None = refl
 by-content files facts file original (Some text) = by-size files facts file original text (nat_lt size_limit (length text))
 

@@ -1,5 +1,5 @@
 -- The lines of one file are read alike by themselves and among all places.
-use Rattle.std.proofs.Common.{◌≡◌, ℕ, zero, suc, ◌+◌, ◌-◌, ◌<◌, ◌≤◌, Bool, true, false, cond, ◌&&◌, List, [], ◌∷◌, ◌++◌, length, Option, Some, None, Result, Ok, Err, refl, sym, ap, ◌∙◌, map, zero-add, add-zero, inl, inr, arith}
+use Rattle.std.proofs.Common.{◌≡◌, ℕ, zero, suc, ◌+◌, ◌-◌, ◌<◌, ◌≤◌, Bool, true, false, cond, ◌&&◌, ◌||◌, List, [], ◌∷◌, ◌++◌, length, Option, Some, None, Result, Ok, Err, refl, sym, ap, ◌∙◌, map, zero-add, add-zero, inl, inr, arith}
 use Rattle.std.specs.Prelude.{nat_le}
 use Rattle.std.specs.List.{list_all, list_any, slice_get}
 use Rattle.mux_outside.specs.declared.facts.Facts.{Facts}
@@ -14,13 +14,14 @@ use Rattle.conf_rules.specs.Told.{Told}
 use Rattle.conf_rules.specs.Includes.{UserFile}
 use Rattle.conf_rules.specs.Sources.{Line, Spelled, Where, lines_in, included, is_opening, own_block, block_behind, depth_limit}
 use Rattle.conf_rules.specs.Rows.{Row as Place, First, Place as Position}
-use Rattle.conf_rules.specs.Resolution.{effect_of, is_active, applies_at, row_applies, counted, row_with, row_of, rows_from, is_refused, refusal_at, or_later, refusal_in, line_limit}
+use Rattle.conf_rules.specs.Resolution.{effect_of, is_active, applies_at, row_applies, counted, row_with, row_of, rows_from, rows_behind, wants_second, refuses, is_refused, refusal_at, or_later, refusal_in, line_limit}
 use Rattle.conf_listing.specs.Served.{is_pattern, served_line, served_entry}
 use Rattle.conf_listing.specs.OneFile.{names_it, has_applied, is_active_in, standing}
 use Rattle.conf_listing.specs.Answers.{told_by}
 use Rattle.conf_listing.proofs.PatternLemmas.{names-answer}
 use Rattle.conf_listing.proofs.ServedLemmas.{is_plain_entry, served-alone}
 use Rattle.conf_listing.proofs.ValueLemmas.{brief}
+use Rattle.conf_listing.proofs.NameLemmas.{neither}
 
 -- ---- blocks
 
@@ -28,6 +29,10 @@ row-at : (places : List Place) (i : ℕ) → row_applies (slice_get places i) �
 row-at [] i = refl
 row-at (p ∷ ps) zero = refl
 row-at (p ∷ ps) (suc i) = row-at ps i
+
+or-true : (b : Bool) → (b || true) ≡ true
+or-true true = refl
+or-true false = refl
 
 and-true : (b : Bool) → (b && true) ≡ b
 and-true true = refl
@@ -87,7 +92,7 @@ file_line file n block bytes = record { source = UserFile; file = file; number =
 pub next_rows : Told → List Place → ℕ → Line → List Line → Result Entry Cause → List Place
 next_rows told places n line more r =
     let active = is_active places First line in
-    let row = row_with line active (effect_of told First places active r) in
+    let row = row_with line active false (effect_of told First places active r) in
     cond (is_refused row.entry) (places ++ row ∷ []) (rows_from told served_entry (places ++ row ∷ []) (at (n + 1)) more)
 
 pub next-rows : (told : Told) (places : List Place) (n : ℕ) (line : Line) (more : List Line) → rows_from told served_entry places (at n) (line ∷ more) ≡ next_rows told places n line more (counted told served_entry places line n)
@@ -96,7 +101,7 @@ next-rows told places n line more = refl
 
 -- the row of a line that says this
 abbrev pub said : Told → List Place → Line → Entry → Place
-said told places line e = record { line = line; entry = Ok e; applies = names_it told.asked.original e; active = is_active places First line; ran = [] }
+said told places line e = record { line = line; entry = Ok e; applies = names_it told.asked.original e; active = is_active places First line; again = false; ran = [] }
 
 pub next-said : (told : Told) (places : List Place) (n : ℕ) (line : Line) (more : List Line) (e : Entry) → is_plain_entry e ≡ true
     → next_rows told places n line more (Ok e) ≡ rows_from told served_entry (places ++ said told places line e ∷ []) (at (n + 1)) more
@@ -105,7 +110,7 @@ next-said told places n line more e plain = rw (effect-plain told places (is_act
 
 -- the row of a line that is refused
 abbrev pub refused : List Place → Line → Cause → Place
-refused places line c = record { line = line; entry = Err c; applies = false; active = is_active places First line; ran = [] }
+refused places line c = record { line = line; entry = Err c; applies = false; active = is_active places First line; again = false; ran = [] }
 
 pub next-refused : (told : Told) (places : List Place) (n : ℕ) (line : Line) (more : List Line) (c : Cause) → next_rows told places n line more (Err c) ≡ places ++ refused places line c ∷ []
 unfolding next_rows
@@ -123,3 +128,38 @@ pub next-lines : (told : Told) (file : Bytes) (n : ℕ) (block : Option ℕ) (by
     ≡ file_line file n block bytes ∷ lines_in (included UserFile told depth_limit 0) here file (n + 1) (n + 1 + 1) (block_behind (is_opening bytes) n block) rest
 unfolding lines_in included
 next-lines told file n block bytes rest e h = rw (served-alone UserFile told bytes e h, add-zero (n + 1)) refl
+
+-- ---- one pass
+
+either-way : {A : Type 0} (b : Bool) (x : A) → cond b x x ≡ x
+either-way true x = refl
+either-way false x = refl
+
+-- rows of which none asks for a second pass are all
+pub behind-none : (told : Told) (places : List Place) → list_any wants_second places ≡ false → rows_behind told served_entry places ≡ places
+unfolding rows_behind
+behind-none told places none = rw none (either-way (list_any refuses places) places)
+
+any-behind : (test : Place → Bool) (places : List Place) (row : Place) (b : Bool) → test row ≡ b → list_any test places ≡ false → list_any test (places ++ row ∷ []) ≡ b
+any-behind test [] row true one none = rw one refl
+any-behind test [] row false one none = rw one refl
+any-behind test (p ∷ ps) row b one none = let h = neither (test p) (list_any test ps) none in rw h.0 (any-behind test ps row b one h.1)
+
+true-behind : (test : Place → Bool) (places : List Place) (row : Place) → test row ≡ true → list_any test (places ++ row ∷ []) ≡ true
+true-behind test [] row one = rw one refl
+true-behind test (p ∷ ps) row one = rw (true-behind test ps row one) (or-true (test p))
+
+-- rows of which one is refused are all
+pub behind-refused : (told : Told) (places : List Place) (line : Line) (c : Cause) → rows_behind told served_entry (places ++ refused places line c ∷ []) ≡ places ++ refused places line c ∷ []
+unfolding rows_behind
+behind-refused told places line c = rw (true-behind refuses places (refused places line c) refl) refl
+
+plain-once : (told : Told) (places : List Place) (line : Line) (e : Entry) → is_plain_entry e ≡ true → wants_second (said told places line e) ≡ false
+plain-once told places line Nothing plain = refl
+plain-once told places line (Block names) plain = refl
+plain-once told places line (Tests criteria) plain = absurd cc
+plain-once told places line (Gives key value) plain = refl
+
+-- a plain line asks for no second pass
+pub said-once : (told : Told) (places : List Place) (line : Line) (e : Entry) → is_plain_entry e ≡ true → list_any wants_second places ≡ false → list_any wants_second (places ++ said told places line e ∷ []) ≡ false
+said-once told places line e plain none = any-behind wants_second places (said told places line e) false (plain-once told places line e plain) none

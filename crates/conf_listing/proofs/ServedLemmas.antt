@@ -15,7 +15,9 @@ use Rattle.conf_rules.specs.declared.causes.LexError.{LexError}
 use Rattle.conf_rules.specs.Results.{◌>>=◌, as_error}
 use Rattle.conf_rules.specs.Texts.{Bytes, has, same_word, lower}
 use Rattle.conf_rules.specs.Keys.{same_key, key_of}
-use Rattle.conf_rules.specs.Keywords.{Meaning, Sets, Host, Include, meaning_of, unchecked}
+use Rattle.conf_rules.specs.declared.key_kind.KeyKind.{KeyKind}
+use Rattle.conf_rules.specs.declared.key_kind.KeyKind.TheVariants as key_kinds
+use Rattle.conf_rules.specs.Keywords.{meaning_of, unchecked}
 use Rattle.conf_rules.specs.Kinds.{HostWord, kind}
 use Rattle.conf_rules.specs.Values.{values_of, value_of, has_name_tokens}
 use Rattle.conf_rules.specs.Heads.{Heading, Comment, Says, head_of}
@@ -80,9 +82,9 @@ unfolding served_setting
 key-checked true key rest e h = setting-checked key (split rest) e h
 key-checked false key rest e h = absurd cc
 
-keyword-checked : (m : Meaning) (rest : Bytes) (e : Entry) → served_keyword m rest ≡ Ok e → is_plain_entry e ≡ true
-keyword-checked (Sets key) rest e h = key-checked (is_served key) key rest e h
-keyword-checked Host rest e h = block-checked (split rest) e h
+keyword-checked : (m : KeyKind) (rest : Bytes) (e : Entry) → served_keyword m rest ≡ Ok e → is_plain_entry e ≡ true
+keyword-checked (key_kinds.Key key) rest e h = key-checked (is_served key) key rest e h
+keyword-checked key_kinds.Host rest e h = block-checked (split rest) e h
 keyword-checked m rest e h = absurd cc
 
 heading-checked : (read : Result Heading LexError) (e : Entry) → (as_error causes.Lex read >>= served_heading) ≡ Ok e → is_plain_entry e ≡ true
@@ -98,7 +100,7 @@ served-plain bytes e h = heading-checked (head_of bytes) e h
 -- ---- includes
 
 -- an Include keyword is no other
-include-meaning : (keyword : Bytes) → same_word keyword (codes "include") ≡ true → meaning_of keyword ≡ Include
+include-meaning : (keyword : Bytes) → same_word keyword (codes "include") ≡ true → meaning_of keyword ≡ key_kinds.Include
 unfolding meaning_of key_of unchecked
 include-meaning keyword same =
     let lowered : lower keyword ≡ lower (codes "include") = (bytes_eq-Decides (lower keyword) (lower (codes "include"))).0 same in
@@ -106,7 +108,7 @@ include-meaning keyword same =
 
 included-checked : (t : Bool) (source : Source) (told : Told) (keyword rest : Bytes) (e : Entry) → same_word keyword (codes "include") ≡ t → served_keyword (meaning_of keyword) rest ≡ Ok e
     → named_in source told (Ok (Says keyword rest)) ≡ Ok []
-included-checked true source told keyword rest e same h = absurd (let k : served_keyword Include rest ≡ Ok e = sym (ap (λ m. served_keyword m rest) (include-meaning keyword same)) ∙ h in cc)
+included-checked true source told keyword rest e same h = absurd (let k : served_keyword key_kinds.Include rest ≡ Ok e = sym (ap (λ m. served_keyword m rest) (include-meaning keyword same)) ∙ h in cc)
 included-checked false source told keyword rest e same h = rw same refl
 
 named-checked : (source : Source) (told : Told) (read : Result Heading LexError) (e : Entry) → (as_error causes.Lex read >>= served_heading) ≡ Ok e → named_in source told read ≡ Ok []

@@ -11,7 +11,7 @@ use Rattle.conf_rules.specs.declared.entry.Entry.TheVariants.{Nothing, Block, Te
 use Rattle.conf_rules.specs.declared.causes.Cause.{Cause}
 use Rattle.conf_rules.specs.Texts.{Bytes, has}
 use Rattle.conf_rules.specs.Keys.{same_key}
-use Rattle.conf_rules.specs.Rows.{Row as Place, entry_gives, given, values_among, first_of, word_in}
+use Rattle.conf_rules.specs.Rows.{Row as Place, entry_gives, given, values_among, first_of, word_in, is_collected}
 use Rattle.conf_listing.specs.declared.rows.Row.{Row}
 use Rattle.conf_listing.specs.Shown.{entry_value, row_value, row_values, first_value}
 use Rattle.conf_listing.proofs.ServedLemmas.{is_plain_word, is_plain_entry}
@@ -21,22 +21,42 @@ abbrev pub entry_in : Result Entry Cause → Entry
 entry_in (Ok entry) = entry
 entry_in (Err cause) = Nothing
 
+-- the same as far as it counts: what is collected counts once
+abbrev pub counting : Bool → Result Entry Cause → Entry
+counting again (Ok (Gives key value)) = cond (again && is_collected key) Nothing (Gives key value)
+counting again read = entry_in read
+
+-- in a first pass all counts
+pub counting-first : (e : Entry) → counting false (Ok e) ≡ e
+counting-first Nothing = refl
+counting-first (Block names) = refl
+counting-first (Tests criteria) = refl
+counting-first (Gives key value) = refl
+
 -- a row without its line
 abbrev pub brief : Place → Row
-brief row = record { entry = entry_in row.entry; applies = row.applies; active = row.active }
+brief row = record { entry = counting row.again row.entry; applies = row.applies; active = row.active }
 
-given-more : (t : Bool) (key : Key) (entry : Result Entry Cause) (more : List (Key × Value)) → values_among key (cond t (entry_gives entry) [] ++ more) ≡ cons_option (cond t (entry_value key (entry_in entry)) None) (values_among key more)
-given-more false key entry more = refl
-given-more true key (Err cause) more = refl
-given-more true key (Ok Nothing) more = refl
-given-more true key (Ok (Block names)) more = refl
-given-more true key (Ok (Tests criteria)) more = refl
-given-more true key (Ok (Gives other v)) more = elim (same_key key other) as (λ t. cond t (v ∷ values_among key more) (values_among key more) ≡ cons_option (cond t (Some v) None) (values_among key more)) [ true ↦ refl | false ↦ refl ]
+gives-more : (s : Bool) (v : Value) (more : List Value) → cond s (v ∷ more) more ≡ cons_option (cond s (Some v) None) more
+gives-more true v more = refl
+gives-more false v more = refl
+
+counts-more : (s : Bool) (key other : Key) (v : Value) (more : List (Key × Value)) → values_among key (cond s [] ((other, v) ∷ []) ++ more) ≡ cons_option (entry_value key (cond s Nothing (Gives other v))) (values_among key more)
+counts-more true key other v more = refl
+counts-more false key other v more = gives-more (same_key key other) v (values_among key more)
+
+given-more : (t again : Bool) (key : Key) (entry : Result Entry Cause) (more : List (Key × Value)) → values_among key (cond t (entry_gives again entry) [] ++ more) ≡ cons_option (cond t (entry_value key (counting again entry)) None) (values_among key more)
+given-more false again key entry more = refl
+given-more true again key (Err cause) more = refl
+given-more true again key (Ok Nothing) more = refl
+given-more true again key (Ok (Block names)) more = refl
+given-more true again key (Ok (Tests criteria)) more = refl
+given-more true again key (Ok (Gives other v)) more = counts-more (again && is_collected other) key other v more
 
 -- the values of a key at all places are those of the rows
 pub same-values : (key : Key) (places : List Place) → values_among key (flat_map given places) ≡ row_values key (map brief places)
 same-values key [] = refl
-same-values key (p ∷ ps) = given-more p.active key p.entry (flat_map given ps) ∙ ap (cons_option (row_value key (brief p))) (same-values key ps)
+same-values key (p ∷ ps) = given-more p.active p.again key p.entry (flat_map given ps) ∙ ap (cons_option (row_value key (brief p))) (same-values key ps)
 
 -- the first of several is the first of all
 pub first-of : (vs : List Value) → slice_get (first_of vs) 0 ≡ slice_get vs 0

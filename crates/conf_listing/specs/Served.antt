@@ -10,7 +10,9 @@ use Rattle.conf_rules.specs.declared.causes.Cause.TheVariants as causes
 use Rattle.conf_rules.specs.Results.{◌>>=◌, as_error}
 use Rattle.conf_rules.specs.Texts.{Bytes, has}
 use Rattle.conf_rules.specs.Heads.{Heading, Comment, Says, head_of}
-use Rattle.conf_rules.specs.Keywords.{Meaning, Sets, Host, meaning_of}
+use Rattle.conf_rules.specs.declared.key_kind.KeyKind.{KeyKind}
+use Rattle.conf_rules.specs.declared.key_kind.KeyKind.TheVariants as key_kinds
+use Rattle.conf_rules.specs.Keywords.{meaning_of}
 use Rattle.conf_rules.specs.Kinds.{ValueKind, HostWord, kind}
 use Rattle.conf_rules.specs.Values.{values_of}
 use Rattle.conf_rules.specs.Sources.{Line, Content, Spelled}
@@ -56,9 +58,9 @@ unfoldable pub served_setting : Key → Bytes → ReadEntry
 served_setting key rest = split rest >>= λ words. served_values (kind key) words >>= λ value. Ok (Gives key value)
 
 -- a line by what its keyword is
-abbrev pub served_keyword : Meaning → Bytes → ReadEntry
-served_keyword (Sets key) rest = if is_served key then served_setting key rest else Err causes.NotBuilt
-served_keyword Host rest = split rest >>= names_entry
+abbrev pub served_keyword : KeyKind → Bytes → ReadEntry
+served_keyword (key_kinds.Key key) rest = if is_served key then served_setting key rest else Err causes.NotBuilt
+served_keyword key_kinds.Host rest = split rest >>= names_entry
 served_keyword meaning rest = Err causes.NotBuilt
 
 -- a line by its head

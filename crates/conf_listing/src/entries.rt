@@ -1,6 +1,7 @@
 ghost use Rattle.std.specs.Prelude.{◌≡◌, ℕ, false, IfErr};
 ghost use Rattle.std.specs.List.{list_any};
-ghost use Rattle.conf_rules.specs.Keywords.{Sets, Host, meaning_of};
+ghost use Rattle.conf_rules.specs.declared.key_kind.KeyKind.TheVariants as key_kinds;
+ghost use Rattle.conf_rules.specs.Keywords.{meaning_of};
 ghost use Rattle.conf_listing.specs.Served.{is_pattern_byte, is_pattern, served_setting, served_keyword, served_line};
 ghost use Rattle.conf_listing.specs.Results.{GivesLine, is_line_fault};
 
@@ -32,7 +33,7 @@ fn has_pattern(words: &Texts) -> bool
 /// A line of a key.
 #[tactic(auto, unfolding(crate::specs::Served::served_setting))]
 fn setting(alloc: Global, key: Key, rest: &[u8]) -> Result<Entry, LineError>
-    ensures read { GivesLine result (served_keyword (Sets key) rest.now) }
+    ensures read { GivesLine result (served_keyword (key_kinds.Key key) rest.now) }
     ensures no_fault { IfErr result (λ e. is_line_fault e ≡ false) }
 {
     let Some(form) = form_of(key) else {
@@ -45,7 +46,7 @@ fn setting(alloc: Global, key: Key, rest: &[u8]) -> Result<Entry, LineError>
 
 /// A Host line.
 fn block(alloc: Global, rest: &[u8]) -> Result<Entry, LineError>
-    ensures read { GivesLine result (served_keyword Host rest.now) }
+    ensures read { GivesLine result (served_keyword key_kinds.Host rest.now) }
     ensures no_fault { IfErr result (λ e. is_line_fault e ≡ false) }
 {
     let words = split_words(alloc, rest)?;

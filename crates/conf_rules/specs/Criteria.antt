@@ -2,36 +2,32 @@
 use Rattle.std.specs.Prelude.{ℕ, ◌+◌, Bool, true, false, if◌then◌else◌, List, [], ◌∷◌, Option, Some, None, Result, Ok, Err, codes}
 use Rattle.std.specs.List.{list_any}
 use Rattle.conf_rules.specs.declared.criterion.Kind.{Kind}
-use Rattle.conf_rules.specs.declared.criterion.Kind.TheVariants.{All, Canonical, Exec, Host, OriginalHost, Tagged, User, LocalUser}
+use Rattle.conf_rules.specs.declared.criterion.Kind.TheVariants.{All, Canonical, Final, Exec, Host, OriginalHost, Tagged, User, LocalUser}
 use Rattle.conf_rules.specs.declared.criterion.Criterion.{Criterion}
+use Rattle.conf_rules.specs.declared.criterion.Named.{Named}
+use Rattle.conf_rules.specs.declared.criterion.Named.TheVariants.{Valued, Plain, NotSupported, NoName}
 use Rattle.conf_rules.specs.declared.causes.MatchError.{MatchError}
 use Rattle.conf_rules.specs.declared.causes.MatchError.TheVariants.{Unknown, AllNotAlone, NoValue, Unsupported}
 use Rattle.conf_rules.specs.Results.{◌>>=◌}
 use Rattle.conf_rules.specs.Texts.{Bytes, same_word, behind, split_at_first}
 
--- what a criterion's name is: one that takes a value, one that takes none, one that isn't supported, or no name
-pub data Named : Type 0 where
-  Valued : Kind → Named
-  Plain : Kind → Named
-  NotSupported : Named
-  NoName : Named
-
--- criteria that need facts that aren't known, or a second pass
+-- criteria that need facts that aren't known
 abbrev pub not_supported : List Bytes
-not_supported = codes "final" ∷ codes "localnetwork" ∷ codes "sessiontype" ∷ codes "command" ∷ codes "version" ∷ []
+not_supported = codes "localnetwork" ∷ codes "sessiontype" ∷ codes "command" ∷ codes "version" ∷ []
 
 -- what a name is, in any case
 abbrev pub named : Bytes → Named
 named name =
     if same_word name (codes "all") then Plain All
     else (if same_word name (codes "canonical") then Plain Canonical
+    else (if same_word name (codes "final") then Plain Final
     else (if same_word name (codes "exec") then Valued Exec
     else (if same_word name (codes "host") then Valued Host
     else (if same_word name (codes "originalhost") then Valued OriginalHost
     else (if same_word name (codes "tagged") then Valued Tagged
     else (if same_word name (codes "user") then Valued User
     else (if same_word name (codes "localuser") then Valued LocalUser
-    else (if list_any (same_word name) not_supported then NotSupported else NoName))))))))
+    else (if list_any (same_word name) not_supported then NotSupported else NoName)))))))))
 
 -- a criterion's own word: whether it is negated, its name, and the text behind its first equals sign
 pub record Spelled : Type 0 where
@@ -61,6 +57,7 @@ with_criterion negated kind value later = later >>= λ cs. Ok (record { negated 
 -- whether `all` may stand behind a criterion
 abbrev pub opens_all : Kind → Bool
 opens_all Canonical = true
+opens_all Final = true
 opens_all kind = false
 
 -- `all`, with the words behind it: it is the last criterion, and stands where it may

@@ -10,7 +10,9 @@ use Rattle.conf_rules.specs.Heads.{Heading, Comment, Says, head_of}
 use Rattle.conf_rules.specs.Words.{words_of}
 use Rattle.conf_rules.specs.Patterns.{list_takes}
 use Rattle.conf_rules.specs.Kinds.{is_raw}
-use Rattle.conf_rules.specs.Keywords.{Meaning, Sets, Host, Match, Include, Unchecked, Unknown, meaning_of}
+use Rattle.conf_rules.specs.declared.key_kind.KeyKind.{KeyKind}
+use Rattle.conf_rules.specs.declared.key_kind.KeyKind.TheVariants as kinds
+use Rattle.conf_rules.specs.Keywords.{meaning_of}
 use Rattle.conf_rules.specs.Values.{value_for}
 use Rattle.conf_rules.specs.Criteria.{read_criteria}
 use Rattle.conf_rules.specs.Includes.{Source, CommandLine}
@@ -31,10 +33,6 @@ SplitWords = Result (List Bytes) Cause
 abbrev pub takes_keyword : Option Bytes → Bytes → Bool
 takes_keyword None keyword = false
 takes_keyword (Some patterns) keyword = list_takes (lower patterns) (lower keyword)
-
--- whether IgnoreUnknown, set earlier, takes a keyword
-abbrev pub is_ignored : List Row → Bytes → Bool
-is_ignored rows keyword = takes_keyword (word_in (value IgnoreUnknown rows)) keyword
 
 -- the words of a rest
 abbrev pub split : Bytes → SplitWords
@@ -71,26 +69,27 @@ abbrev pub in_file : Source → ReadEntry → ReadEntry
 in_file CommandLine entry = Err causes.NotOnCommandLine
 in_file source entry = entry
 
--- what a keyword with a rest, or with its words, says behind rows; what an Include line names stands behind it
-abbrev pub keyword_entry : List Row → Source → Bytes → Bytes → SplitWords → Meaning → ReadEntry
-keyword_entry rows source keyword rest words (Sets key) = key_entry key rest words
-keyword_entry rows source keyword rest words Host = in_file source (block_entry words)
-keyword_entry rows source keyword rest words Match = in_file source (tests_entry words)
-keyword_entry rows source keyword rest words Include = in_file source (words_entry words)
-keyword_entry rows source keyword rest words Unchecked = Ok Nothing
-keyword_entry rows source keyword rest words Unknown = unknown_entry (is_ignored rows keyword) keyword words
+-- What a keyword with a rest, or with its words, says where these patterns are ignored; what an Include line names stands behind
+-- it.
+abbrev pub keyword_entry : Option Bytes → Source → Bytes → Bytes → SplitWords → KeyKind → ReadEntry
+keyword_entry ignored source keyword rest words (kinds.Key key) = key_entry key rest words
+keyword_entry ignored source keyword rest words kinds.Host = in_file source (block_entry words)
+keyword_entry ignored source keyword rest words kinds.Match = in_file source (tests_entry words)
+keyword_entry ignored source keyword rest words kinds.Include = in_file source (words_entry words)
+keyword_entry ignored source keyword rest words kinds.Unchecked = Ok Nothing
+keyword_entry ignored source keyword rest words kinds.Unknown = unknown_entry (takes_keyword ignored keyword) keyword words
 
 -- what a heading says
-abbrev pub headed_entry : List Row → Source → Heading → ReadEntry
-headed_entry rows source Comment = Ok Nothing
-headed_entry rows source (Says keyword rest) = keyword_entry rows source keyword rest (split rest) (meaning_of keyword)
+abbrev pub headed_entry : Option Bytes → Source → Heading → ReadEntry
+headed_entry ignored source Comment = Ok Nothing
+headed_entry ignored source (Says keyword rest) = keyword_entry ignored source keyword rest (split rest) (meaning_of keyword)
 
 -- what the content of a line says
-abbrev pub content_entry : List Row → Source → Content → ReadEntry
-content_entry rows source (Spelled bytes) = as_error causes.Lex (head_of bytes) >>= headed_entry rows source
-content_entry rows source (Parts keyword words) = keyword_entry rows source keyword [] (Ok words) (meaning_of keyword)
-content_entry rows source (Refused cause) = Err cause
+abbrev pub content_entry : Option Bytes → Source → Content → ReadEntry
+content_entry ignored source (Spelled bytes) = as_error causes.Lex (head_of bytes) >>= headed_entry ignored source
+content_entry ignored source (Parts keyword words) = keyword_entry ignored source keyword [] (Ok words) (meaning_of keyword)
+content_entry ignored source (Refused cause) = Err cause
 
--- what a line says behind rows
+-- what a line says behind rows: an unknown keyword that IgnoreUnknown, set earlier, takes is ignored
 unfoldable pub entry_of : List Row → Line → ReadEntry
-entry_of rows line = content_entry rows line.source line.content
+entry_of rows line = content_entry (word_in (value IgnoreUnknown rows)) line.source line.content

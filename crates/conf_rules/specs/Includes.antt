@@ -1,10 +1,10 @@
 -- The files that an Include line names.
-use Rattle.std.specs.Prelude.{Option, Some, None, false, not, if◌then◌else◌, List, [], ◌∷◌, ◌++◌, map, filter, flat_map, Result, Ok, Err, codes}
+use Rattle.std.specs.Prelude.{Option, Some, None, Bool, false, not, ◌==◌, if◌then◌else◌, List, [], ◌∷◌, ◌++◌, map, filter, flat_map, Result, Ok, Err, codes}
 use Rattle.conf_rules.specs.declared.causes.LexError.{LexError}
 use Rattle.conf_rules.specs.declared.causes.TokenError.{TokenError}
 use Rattle.conf_rules.specs.declared.token_set.TokenSet.TheVariants.{Included}
 use Rattle.conf_rules.specs.Results.{◌>>=◌}
-use Rattle.conf_rules.specs.Texts.{Bytes, is_empty, same_word, split_at_each}
+use Rattle.conf_rules.specs.Texts.{Bytes, is_empty, same_word, split_at_each, split_last}
 use Rattle.conf_rules.specs.Order.{sorted}
 use Rattle.conf_rules.specs.Heads.{Heading, Says, head_of}
 use Rattle.conf_rules.specs.Words.{words_of}
@@ -20,7 +20,7 @@ pub data Source : Type 0 where
 
 -- facts alone, since the list of files depends on no configured value
 abbrev pub facts_view : Told → View
-facts_view told = record { original = told.asked.original; host = []; jump = []; tag = []; port = 22; user = None; «alias» = None; facts = told.facts }
+facts_view told = record { original = told.asked.original; host = []; jump = []; tag = []; port = 22; user = None; «alias» = None; facts = told.facts; last = false; name = told.asked.original }
 
 -- a path that isn't absolute is taken from the folder of its source
 abbrev pub absolute : Source → Facts → Bytes → Result Bytes TokenError
@@ -58,9 +58,16 @@ along told (component ∷ components) bases = along told components (flat_map (b
 abbrev pub components_of : Bytes → List Bytes
 components_of path = filter (λ component. not (is_empty component)) (split_at_each 47 path)
 
--- the paths that an absolute path stands for; of one with globs those in the order of their bytes
+-- whether a path ends with a slash
+abbrev pub ends_with_slash : Bytes → Bool
+ends_with_slash path = elim (split_last path) [ None ↦ false | Some p ↦ p.1 == 47 ]
+
+-- The paths that an absolute path stands for; of one with globs those in the order of their bytes, but none where a slash at its
+-- end asks for directories alone.
 unfoldable pub globbed : Told → Bytes → List Bytes
-globbed told path = if is_glob path then sorted (along told (components_of path) ([] ∷ [])) else path ∷ []
+globbed told path =
+    let found = sorted (along told (components_of path) ([] ∷ [])) in
+    if is_glob path then (if ends_with_slash path then [] else found) else path ∷ []
 
 -- a file: its path and what it holds
 pub record ConfFile : Type 0 where

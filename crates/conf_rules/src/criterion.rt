@@ -20,12 +20,26 @@ pub enum ListAnswer {
 pub enum Kind {
     All,
     Canonical,
+    Final,
     Exec,
     Host,
     OriginalHost,
     Tagged,
     User,
     LocalUser,
+}
+
+/// What a criterion's name is.
+#[derive(Clone, Copy, Debug, Drop, PartialEq, Eq)]
+pub enum Named {
+    /// It takes a value.
+    Valued(Kind),
+    /// It takes none.
+    Plain(Kind),
+    /// It needs facts that aren't known.
+    NotSupported,
+    /// It is no criterion's name.
+    NoName,
 }
 
 /// A criterion of `Match`. The value is empty where the criterion takes none.
@@ -72,6 +86,13 @@ impl Criteria {
         ensures { result ≡ length self.now }
     {
         self.criteria.len()
+    }
+
+    /// All of them.
+    pub fn as_slice(&self) -> &[Criterion]
+        ensures { result.now ≡ self.now }
+    {
+        self.criteria.as_slice()
     }
 
     /// The criterion at a place.

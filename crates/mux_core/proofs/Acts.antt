@@ -1,12 +1,10 @@
 -- One act in the channel of one entry.
-use Rattle.std.proofs.Common.{◌≡◌, ◌≤◌, ◌<◌, ℕ, List, [], ◌∷◌, map, true, false, Bool, refl, ◌∙◌, ap, sym, subst, Option, Some, None, arith}
-use Rattle.std.specs.Prelude.{filter, find, not, ◌==◌, ◌&&◌, ◌||◌}
+use Rattle.std.proofs.Common.{◌≡◌, ◌<◌, ℕ, List, [], ◌∷◌, map, true, false, Bool, refl, ◌∙◌, ap, sym, subst, arith}
+use Rattle.std.specs.Prelude.{filter, not, ◌==◌, ◌&&◌, ◌||◌}
 use Rattle.std.specs.List.{AllByRecursion}
 use Rattle.ssh_grammar.specs.declared.side.Side.{Side}
-use Rattle.ssh_grammar.specs.declared.side.Side.TheVariants.{Up, Down}
-use Rattle.mux_history.specs.declared.limits.TheConstants.{MAX_CHANNELS}
 use Rattle.mux_history.specs.Gist.{Act}
-use Rattle.mux_history.specs.Channels.{Channel, any_act, any_by, is_closes, is_fails, is_held, is_number}
+use Rattle.mux_history.specs.Channels.{Channel, any_act, is_fails, is_held}
 use Rattle.mux_history.specs.Laws.{with_act}
 use Rattle.mux_history.specs.Said.{is_failing}
 use Rattle.window_ledger.specs.Act.{act_of}
@@ -17,13 +15,13 @@ use Rattle.window_ledger.specs.Stands.{GoesOn, both_closed, confirmed}
 use Rattle.window_ledger.specs.Stands as ledger
 use Rattle.channel_table.specs.declared.channel.Channel as table
 use Rattle.channel_table.specs.Entries.{Entry}
-use Rattle.channel_table.specs.Entries.{AreApart, at_number, changed_at, count_of, with_ledger}
-use Rattle.channel_table.specs.Stands.{ChannelsFit, Fits, shown_number}
+use Rattle.channel_table.specs.Entries.{at_number, changed_at, with_ledger}
+use Rattle.channel_table.specs.Stands.{Fits}
 use Rattle.mux_history.specs.declared.limits.TheConstants.{NUMBERS_END}
 use Rattle.mux_core.specs.Stands.{HasSmall, TableFits, has_numbers, is_whole}
 use Rattle.mux_core.specs.Lookups.{acted, stays_in}
-use Rattle.mux_core.proofs.Apart.{Alone, KeepsNumbers, all-both, all-filter, all-map, all-of, apart-filter, apart-map, count-filter, count-map}
-use Rattle.mux_core.proofs.Fits.{Goes, changed-fit}
+use Rattle.mux_core.proofs.Apart.{Alone, KeepsNumbers, all-filter, all-map, apart-filter, apart-map, count-filter, count-map}
+use Rattle.channel_table.proofs.Fits.{Goes, changed-fit}
 
 -- what is known of the ledger after it
 pub record ActsOn (way : Side) (a : Act) (old new : Ledger) (over : Bool) : Type 0 where
@@ -38,6 +36,7 @@ held-after way a x fine held = by_fails (any_act is_fails x.acts) refl
   where
     closes : Bool
     closes = both_closed (with_act way a x)
+
     by_fails : (b : Bool) → any_act is_fails x.acts ≡ b → is_held (with_act way a x) ≡ not (both_closed (with_act way a x))
     by_fails true e = absurd (let c : is_held x ≡ false = rw (e, is_held) refl in let d = sym held ∙ c in cc)
     by_fails false e = ap (λ b. not ((b || any_act is_fails x.acts) || both_closed (with_act way a x))) fine ∙ ap (λ b. not (b || both_closed (with_act way a x))) e
@@ -60,7 +59,11 @@ fits-after : (way : Side) (a : Act) (e0 : Entry) (l : Ledger) (over : Bool) (x :
 fits-after way a e0 l over x acts fits open_ =
     let stands = acts.goes x fits.ledger in
     record {
-      client = fits.client; by = fits.by; own = fits.own; number = fits.number; remote = fits.remote;
+      client = fits.client;
+      by = fits.by;
+      own = fits.own;
+      number = fits.number;
+      remote = fits.remote;
       ledger = stands;
       held = held-after way a x acts.fine fits.held ∙ ap not (sym (acts.ends (with_act way a x) stands) ∙ open_);
     }
@@ -70,6 +73,7 @@ goes-one way a r g e0 l over does acts e x one fits = by_number (e.number == e0.
   where
     here : (e.number == e0.number) ≡ true → Fits e0 x
     here h = subst (λ f. Fits f x) (one.same h) fits
+
     after_ : (e.number == e0.number) ≡ true → (o : Bool) → over ≡ o → Goes (stays_in e0.number over) (with_ledger l e) (with_act way a x)
     after_ h false o = record {
       stays = λ _. subst (λ f. Fits (with_ledger l f) (with_act way a x)) (sym (one.same h)) (fits-after way a e0 l over x acts (here h) o);
@@ -79,6 +83,7 @@ goes-one way a r g e0 l over does acts e x one fits = by_number (e.number == e0.
       stays = λ k. absurd (let c : stays_in e0.number over (with_ledger l e) ≡ false = ap (λ b. not (b && (e.number == e0.number))) o ∙ ap not h in let d = sym k ∙ c in cc);
       gone = λ _. held-after way a x acts.fine fits.held ∙ ap not (sym (acts.ends (with_act way a x) (acts.goes x (here h).ledger)) ∙ o);
     }
+
     by_number : (b : Bool) → (e.number == e0.number) ≡ b → Goes (stays_in e0.number over) (at_number e0.number (with_ledger l) e) (g x)
     by_number true h = subst (λ f. Goes (stays_in e0.number over) f (g x)) (sym (at-it e0.number l e h)) (subst (Goes (stays_in e0.number over) (with_ledger l e)) (sym (does.it e x fits (one.test ∙ h))) (after_ h over refl))
     by_number false h = subst (λ f. Goes (stays_in e0.number over) f (g x)) (sym (at-other e0.number l e h)) (subst (Goes (stays_in e0.number over) e) (sym (does.others e x fits (one.test ∙ h))) (record {

@@ -1,17 +1,17 @@
 -- A client comes.
-use Rattle.std.proofs.Common.{◌≡◌, ◌≢◌, ◌≤◌, ◌<◌, ◌+◌, ℕ, List, [], ◌∷◌, ◌++◌, length, map, true, false, Bool, refl, ◌∙◌, ap, sym, subst, Option, Some, None, arith, suc}
+use Rattle.std.proofs.Common.{◌≡◌, ◌≢◌, ◌≤◌, ◌<◌, ◌+◌, ℕ, List, [], ◌∷◌, ◌++◌, length, map, true, false, Bool, refl, ◌∙◌, ap, sym, subst, None, arith, suc}
 use Rattle.std.specs.Prelude.{filter, ◌==◌, ◌&&◌, ◌||◌, not, nat_lt}
 use Rattle.std.specs.List.{AllByRecursion}
 use Rattle.std.proofs.lemmas.List.{append-nil}
 use Rattle.std.proofs.lemmas.List.Elements.{filter-append}
 use Rattle.std.proofs.lemmas.Bool.Decides.{nat_tests}
 use Rattle.mux_history.specs.declared.limits.TheConstants.{MAX_CLIENTS}
-use Rattle.mux_history.specs.Rows.{Admit, Fate, Refused, Row, any_of, is_admit, is_lost, rows_of}
+use Rattle.mux_history.specs.Rows.{Admit, Refused, Row, any_of, is_admit, is_lost, rows_of}
 use Rattle.mux_history.specs.Channels.{Channel, after_item, held_of, is_held}
 use Rattle.mux_history.specs.Farewell.{has_open_matters}
-use Rattle.mux_history.specs.Forwardings.{Forwarding, current}
-use Rattle.mux_history.specs.Log.{admits, bare, entered, matters_of, open_matters}
-use Rattle.mux_history.specs.Requests.{Ask, asks, asks_of, replies, wanted}
+use Rattle.mux_history.specs.Forwardings.{current}
+use Rattle.mux_history.specs.Log.{bare, entered, matters_of, open_matters}
+use Rattle.mux_history.specs.Requests.{Ask, asks, replies, wanted}
 use Rattle.mux_history.specs.Said.{Outcome, tells}
 use Rattle.ssh_grammar.specs.declared.numbers.TheConstants.{VERSION}
 use Rattle.ssh_grammar.specs.Control.{Greets}
@@ -21,7 +21,7 @@ use Rattle.mux_core.specs.Calls.{AdmitsOn}
 use Rattle.mux_history.proofs.Bools.{same-number, self}
 use Rattle.mux_history.proofs.Finds.{filter-no, filter-yes}
 use Rattle.mux_history.proofs.OwnRows.{idle_row, own_row}
-use Rattle.mux_isolation.specs.View.{Waiting, left_of}
+use Rattle.mux_isolation.specs.View.{left_of}
 use Rattle.mux_core.specs.State.{ClientState, CoreState, is_served}
 use Rattle.channel_table.specs.Entries.{Entry}
 use Rattle.forward_rules.specs.State as kept
@@ -39,6 +39,7 @@ count-matters rows (j ∷ js) = by_case (count-matters rows js) (has_matters row
   where
     more : (n : ℕ) → n + 1 ≡ suc n
     more n = omega arith
+
     by_case : matters_of rows js ≡ length (filter (has_matters rows) js) → (b : Bool) → has_matters rows j ≡ b → matters_of rows (j ∷ js) ≡ length (filter (has_matters rows) (j ∷ js))
     by_case ih true h = ap (λ (b : Bool). elim b as (λ _. ℕ) [ true ↦ matters_of rows js + 1 | false ↦ matters_of rows js ]) h ∙ (ap (λ n. n + 1) ih ∙ (more (length (filter (has_matters rows) js)) ∙ sym (ap length (filter-yes (has_matters rows) j js h))))
     by_case ih false h = ap (λ (b : Bool). elim b as (λ _. ℕ) [ true ↦ matters_of rows js + 1 | false ↦ matters_of rows js ]) h ∙ (ih ∙ sym (ap length (filter-no (has_matters rows) j js h)))
@@ -67,11 +68,14 @@ in-rows j (row ∷ rows) h = by_admit (in-rows j rows) (is_admit row) refl (row.
         assoc : (a b c : Bool) → (a || (b || c)) ≡ ((a || b) || c)
         assoc true b c = refl
         assoc false b c = refl
+
     none : (a : Bool) → (a || false) ≡ a
     none true = refl
     none false = refl
+
     here : (b : Bool) → is_admit row ≡ b → any_of (λ i. i == j) (entered (row ∷ rows)) ≡ (any_of (λ i. i == j) (entered rows) || any_of (λ i. i == j) (elim b as (λ _. List ℕ) [ true ↦ row.client ∷ [] | false ↦ [] ]))
     here b e = split (entered rows) (elim (is_admit row) as (λ _. List ℕ) [ true ↦ row.client ∷ [] | false ↦ [] ]) ∙ ap (λ (b : Bool). any_of (λ i. i == j) (entered rows) || any_of (λ i. i == j) (elim b as (λ _. List ℕ) [ true ↦ row.client ∷ [] | false ↦ [] ])) e
+
     by_admit : (any_of (λ i. i == j) (entered rows) ≡ true → any_of is_admit (rows_of j rows) ≡ true) → (b : Bool) → is_admit row ≡ b → (c : Bool) → (row.client == j) ≡ c → any_of is_admit (rows_of j (row ∷ rows)) ≡ true
     by_admit ih true a true c = ap (any_of is_admit) (own_row j row rows c) ∙ ap (λ b. b || any_of is_admit (rows_of j rows)) a
     by_admit ih true a false c = ap (any_of is_admit) (idle_row j row rows c) ∙ ih (sym (here true a ∙ (ap (λ b. any_of (λ i. i == j) (entered rows) || (b || false)) c ∙ none (any_of (λ i. i == j) (entered rows)))) ∙ h)
@@ -111,6 +115,7 @@ refused-matters k rows new j = by_case (k == j) refl
   where
     row : Row
     row = bare (Admit k) k (record { sent = []; told = []; ends = Refused })
+
     by_case : (b : Bool) → (k == j) ≡ b → has_matters (bare (Admit k) k (record { sent = []; told = []; ends = Refused }) ∷ rows) j ≡ has_matters rows j
     by_case false e = ap has_open_matters (idle_row j (bare (Admit k) k (record { sent = []; told = []; ends = Refused })) rows e)
     by_case true e =
@@ -246,10 +251,10 @@ admitted-stands s k frame rows st nonzero new room =
       forwards = subst (λ f. AreFit s.forwards (current rows) f (look (admit_row k frame ∷ rows)).lost) (sym own) (subst (AreFit s.forwards (current rows) (look rows).own) (sym lost) st.forwards);
       clients = record {
         numbers =
-          numbers-append k s.clients
-          ∙ (ap (λ ns. ns ++ k ∷ []) (st.clients.numbers ∙ sym (filter-on k (has_matters rows) (has_matters (admit_row k frame ∷ rows)) same (entered rows) (all-others k (entered rows) (not-in k rows new))))
-          ∙ (ap (λ ks. filter (has_matters (admit_row k frame ∷ rows)) (entered rows) ++ ks) (sym (filter-yes (has_matters (admit_row k frame ∷ rows)) k [] here))
-          ∙ sym (filter-append (has_matters (admit_row k frame ∷ rows)) (entered rows) (k ∷ []))));
+            numbers-append k s.clients
+            ∙ (ap (λ ns. ns ++ k ∷ []) (st.clients.numbers ∙ sym (filter-on k (has_matters rows) (has_matters (admit_row k frame ∷ rows)) same (entered rows) (all-others k (entered rows) (not-in k rows new))))
+            ∙ (ap (λ ks. filter (has_matters (admit_row k frame ∷ rows)) (entered rows) ++ ks) (sym (filter-yes (has_matters (admit_row k frame ∷ rows)) k [] here))
+            ∙ sym (filter-append (has_matters (admit_row k frame ∷ rows)) (entered rows) (k ∷ []))));
         each = all-last (ClientFits (look (admit_row k frame ∷ rows))) (new_client k) (comes k frame rows nonzero new) s.clients (old s.clients others st.clients.each);
         once = once-append k s.clients others st.clients.once;
         few = let e = length-append k s.clients in omega arith;
@@ -274,7 +279,7 @@ on-admit s new k true exact after = λ rows st fresh.
     record {
       exact = sym room;
       stands = subst (λ o. Stands new (bare (Admit k) k o ∷ rows)) (sym (ap (λ (b : Bool). elim b as (λ _. Outcome) [ true ↦ tells (frame_answer (Greets VERSION)) | false ↦ record { sent = []; told = []; ends = Refused } ]) room))
-        (subst (λ u. Stands u (admit_row k (frame_answer (Greets VERSION)) ∷ rows)) (sym after) (admitted-stands s k (frame_answer (Greets VERSION)) rows st fresh.nonzero fresh.fresh few));
+          (subst (λ u. Stands u (admit_row k (frame_answer (Greets VERSION)) ∷ rows)) (sym after) (admitted-stands s k (frame_answer (Greets VERSION)) rows st fresh.nonzero fresh.fresh few));
     }
   where
     below : (n : ℕ) → true ≡ nat_lt n MAX_CLIENTS → n < MAX_CLIENTS
@@ -284,5 +289,5 @@ on-admit s new k false exact after = λ rows st fresh.
     record {
       exact = sym full;
       stands = subst (λ o. Stands new (bare (Admit k) k o ∷ rows)) (sym (ap (λ (b : Bool). elim b as (λ _. Outcome) [ true ↦ tells (frame_answer (Greets VERSION)) | false ↦ record { sent = []; told = []; ends = Refused } ]) full))
-        (subst (λ u. Stands u (bare (Admit k) k (record { sent = []; told = []; ends = Refused }) ∷ rows)) (sym after) (refused-stands s k rows st fresh.fresh));
+          (subst (λ u. Stands u (bare (Admit k) k (record { sent = []; told = []; ends = Refused }) ∷ rows)) (sym after) (refused-stands s k rows st fresh.fresh));
     }

@@ -1,6 +1,6 @@
 -- Forwardings of which neither the client nor the cancel changes: their order, and how many there are.
-use Rattle.std.proofs.Common.{◌≡◌, ◌≤◌, ◌<◌, ℕ, List, [], ◌∷◌, length, map, true, false, Bool, refl, ◌∙◌, ap, sym, subst, Option, Some, None, suc}
-use Rattle.std.specs.Prelude.{filter, find, ◌==◌, ◌&&◌, ◌||◌, is_some, nat_lt}
+use Rattle.std.proofs.Common.{◌≡◌, ◌<◌, ℕ, List, [], ◌∷◌, length, map, true, false, Bool, refl, ◌∙◌, ap, sym, subst, suc}
+use Rattle.std.specs.Prelude.{filter, ◌==◌, ◌&&◌, is_some}
 use Rattle.std.specs.List.{AllByRecursion}
 use Rattle.ssh_grammar.specs.Messages as full
 use Rattle.mux_history.specs.Rows.{any_of}

@@ -1,21 +1,20 @@
 -- One entry of the table altered, its numbers too.
-use Rattle.std.proofs.Common.{◌≡◌, ◌≤◌, ◌<◌, ℕ, List, [], ◌∷◌, length, map, true, false, Bool, refl, ◌∙◌, ap, sym, subst, Option, Some, None, arith, suc}
-use Rattle.std.specs.Prelude.{filter, find, not, ◌==◌, ◌&&◌}
+use Rattle.std.proofs.Common.{◌≡◌, ◌<◌, ℕ, List, [], ◌∷◌, length, map, true, false, Bool, refl, ◌∙◌, ap, sym, subst, arith, suc}
+use Rattle.std.specs.Prelude.{filter, ◌==◌, ◌&&◌}
 use Rattle.std.specs.List.{AllByRecursion}
 use Rattle.std.proofs.lemmas.Bool.Decides.{nat_tests}
-use Rattle.mux_history.specs.declared.limits.TheConstants.{MAX_CHANNELS, NUMBERS_END}
+use Rattle.mux_history.specs.declared.limits.TheConstants.{NUMBERS_END}
 use Rattle.mux_history.specs.Channels.{Channel, is_held, is_number}
-use Rattle.mux_history.proofs.Bools.{is-of, same-number}
+use Rattle.mux_history.proofs.Bools.{same-number}
 use Rattle.mux_history.proofs.Finds.{filter-no, filter-yes}
 use Rattle.window_ledger.specs.declared.ledger.Ledger.{Ledger}
-use Rattle.channel_table.specs.declared.channel.Channel as table
 use Rattle.channel_table.specs.Entries.{Entry}
 use Rattle.channel_table.specs.Entries.{AreApart, AreTwo, at_number, changed_at, count_of, has_own, has_remote, is_of}
 use Rattle.channel_table.specs.Stands.{ChannelsFit, Fits}
 use Rattle.mux_core.specs.Stands.{HasSmall, TableFits, is_whole}
 use Rattle.mux_core.proofs.Confirms.{confirm_own, confirm_remote}
-use Rattle.mux_core.proofs.Apart.{Alone, all-map}
-use Rattle.mux_core.proofs.Fits.{Goes, changed-fit}
+use Rattle.mux_core.proofs.Apart.{Alone}
+use Rattle.channel_table.proofs.Fits.{Goes, changed-fit}
 
 pub at-it : (n : ℕ) (h : Entry → Entry) (e : Entry) → (e.number == n) ≡ true → at_number n h e ≡ h e
 at-it n h e p = rw (p, at_number) refl
@@ -42,6 +41,7 @@ count-altered f keeps k (e ∷ es) = by_case (count-altered f keeps k es) (is_of
   where
     mine : is_of k (f e) ≡ is_of k e
     mine = ap (λ i. i == k) (keeps e)
+
     by_case : count_of (map f es) k ≡ count_of es k → (b : Bool) → is_of k e ≡ b → count_of (map f (e ∷ es)) k ≡ count_of (e ∷ es) k
     by_case ih true h = ap length (filter-yes (is_of k) (f e) (map f es) (mine ∙ h)) ∙ (ap (λ n. suc n) ih ∙ sym (ap length (filter-yes (is_of k) e es h)))
     by_case ih false h = ap length (filter-no (is_of k) (f e) (map f es) (mine ∙ h)) ∙ (ih ∙ sym (ap length (filter-no (is_of k) e es h)))
@@ -63,12 +63,14 @@ altered-table P r h g e0 es xs it others client number whole small apart known o
     pairs : (fs : List Entry) → AllByRecursion P fs → AllByRecursion (Alone r e0) fs → AllByRecursion (λ e. P e × Alone r e0 e) fs
     pairs [] a b = tt
     pairs (f ∷ fs) a b = ((a.0, b.0), pairs fs a.1 b.1)
+
     keeps : (e : Entry) → (at_number e0.number h e).channel.client ≡ e.channel.client
     keeps e = by_number (e.number == e0.number) refl
       where
         by_number : (b : Bool) → (e.number == e0.number) ≡ b → (at_number e0.number h e).channel.client ≡ e.channel.client
         by_number true p = ap (λ (f : Entry). f.channel.client) (at-it e0.number h e p) ∙ client e
         by_number false p = ap (λ (f : Entry). f.channel.client) (at-other e0.number h e p)
+
     under : (fs : List Entry) → AllByRecursion (Alone r e0) fs → AllByRecursion (λ e. e.number < NUMBERS_END) fs → AllByRecursion (λ e. e.number < NUMBERS_END) (changed_at e0.number h fs)
     under [] a b = tt
     under (f ∷ fs) a b = (by_number (f.number == e0.number) refl, under fs a.1 b.1)
@@ -76,6 +78,7 @@ altered-table P r h g e0 es xs it others client number whole small apart known o
         by_number : (c : Bool) → (f.number == e0.number) ≡ c → (at_number e0.number h f).number < NUMBERS_END
         by_number true p = subst (λ n. n < NUMBERS_END) (sym (ap (λ (g : Entry). g.number) (at-it e0.number h f p) ∙ (ap (λ (g : Entry). (h g).number) (a.0.same p) ∙ (number ∙ sym (ap (λ (g : Entry). g.number) (a.0.same p)))))) b.0
         by_number false p = subst (λ n. n < NUMBERS_END) (sym (ap (λ (g : Entry). g.number) (at-other e0.number h f p))) b.0
+
     goes : (e : Entry) (x : Channel) → P e × Alone r e0 e → Fits e x → Goes (λ _. true) (at_number e0.number h e) (g x)
     goes e x both fit = by_number (e.number == e0.number) refl
       where
@@ -112,6 +115,7 @@ apart-remote n s l es free apart = apart-all (λ e. has_remote s e ≡ false) (a
         by_number : (b : Bool) → (e.number == n) ≡ b → f (at_number n (confirm_remote s l) e) ≡ f e
         by_number true p = ap f (at-it n (confirm_remote s l) e p) ∙ same
         by_number false p = ap f (at-other n (confirm_remote s l) e p)
+
     two : (a b : Entry) → has_remote s a ≡ false → has_remote s b ≡ false → AreTwo a b → AreTwo (at_number n (confirm_remote s l) a) (at_number n (confirm_remote s l) b)
     two a b fa fb t = record {
       number = ap (λ i. i == (at_number n (confirm_remote s l) b).number) (keep (λ e. e.number) a refl) ∙ (ap (λ i. a.number == i) (keep (λ e. e.number) b refl) ∙ t.number);
@@ -128,6 +132,7 @@ apart-remote n s l es free apart = apart-all (λ e. has_remote s e ≡ false) (a
           where
             there : is_number a.channel.remote u ≡ true
             there = sym (ap (λ (e : Entry). is_number e.channel.remote u) (at-other n (confirm_remote s l) a p)) ∙ h
+
             by_same : (z : Bool) → (s == u) ≡ z → (s == u) ≡ false
             by_same true e = absurd (let c : is_number a.channel.remote u ≡ false = subst (λ i. is_number a.channel.remote i ≡ false) (same-number s u e) fa in let d = sym there ∙ c in cc)
             by_same false e = e
@@ -148,8 +153,10 @@ apart-own n k c l es free apart = apart-all (TakesOwn n k c) (at_number n (confi
         by_number : (b : Bool) → (e.number == n) ≡ b → f (at_number n (confirm_own c l) e) ≡ f e
         by_number true p = ap f (at-it n (confirm_own c l) e p) ∙ same
         by_number false p = ap f (at-other n (confirm_own c l) e p)
+
     unused : (e : Entry) → TakesOwn n k c e → (e.channel.client == k) ≡ true → is_number e.channel.own c ≡ false
     unused e t mine = sym (ap (λ b. b && is_number e.channel.own c) mine) ∙ t.free
+
     two : (a b : Entry) → TakesOwn n k c a → TakesOwn n k c b → AreTwo a b → AreTwo (at_number n (confirm_own c l) a) (at_number n (confirm_own c l) b)
     two a b fa fb t = record {
       number = ap (λ i. i == (at_number n (confirm_own c l) b).number) (keep (λ e. e.number) a refl) ∙ (ap (λ i. a.number == i) (keep (λ e. e.number) b refl) ∙ t.number);
@@ -167,8 +174,10 @@ apart-own n k c l es free apart = apart-all (TakesOwn n k c) (at_number n (confi
           where
             there : is_number a.channel.own d ≡ true
             there = sym (ap (λ (e : Entry). is_number e.channel.own d) (at-other n (confirm_own c l) a p)) ∙ h
+
             mine : (a.channel.client == k) ≡ true
             mine = ap (λ i. i == k) (same-number a.channel.client b.channel.client same) ∙ fb.mine q
+
             by_same : (z : Bool) → (c == d) ≡ z → (c == d) ≡ false
             by_same true e = absurd (let f : is_number a.channel.own d ≡ false = subst (λ i. is_number a.channel.own i ≡ false) (same-number c d e) (unused a fa mine) in let g = sym there ∙ f in cc)
             by_same false e = e

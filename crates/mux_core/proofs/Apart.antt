@@ -1,14 +1,14 @@
 -- Entries that share no number: which of them passes, and what keeps them so.
-use Rattle.std.proofs.Common.{◌≡◌, ◌≤◌, ◌+◌, ℕ, List, [], ◌∷◌, length, map, true, false, Bool, refl, ◌∙◌, ap, sym, subst, Option, Some, None, arith, suc}
+use Rattle.std.proofs.Common.{◌≡◌, ◌≤◌, ℕ, List, [], ◌∷◌, length, map, true, false, Bool, refl, ◌∙◌, ap, sym, subst, Some, None, arith, suc}
 use Rattle.std.specs.Prelude.{filter, find, ◌==◌}
 use Rattle.std.specs.List.{AllByRecursion}
 use Rattle.std.proofs.lemmas.Bool.Decides.{nat_tests}
 use Rattle.mux_history.specs.Channels.{is_number}
-use Rattle.mux_history.proofs.Bools.{same-number, self}
+use Rattle.mux_history.proofs.Bools.{self}
 use Rattle.mux_history.proofs.Finds.{filter-no, filter-yes, find-no, find-yes}
 use Rattle.channel_table.specs.declared.channel.Channel.{Channel}
 use Rattle.channel_table.specs.Entries.{Entry}
-use Rattle.channel_table.specs.Entries.{AreApart, AreTwo, count_of, is_at, is_of}
+use Rattle.channel_table.specs.Entries.{AreApart, AreTwo, count_of, is_of}
 
 -- ---- all of a list
 
@@ -79,6 +79,7 @@ alone r sole e0 (e ∷ es) apart h = by_case (alone r sole e0 es apart.1) (r e) 
       test = sole e f two t ∙ sym (ap (λ (x : Entry). f.number == x.number) (sym same) ∙ turned e.number f.number two.number);
       same = λ h. absurd (let g : (f.number == e.number) ≡ false = turned e.number f.number two.number in let k : (f.number == e.number) ≡ true = ap (λ (x : Entry). f.number == x.number) same ∙ h in let c = sym k ∙ g in cc);
     }
+
     by_case : (find r es ≡ Some e0 → AllByRecursion (Alone r e0) es) → (b : Bool) → r e ≡ b → AllByRecursion (Alone r e0) (e ∷ es)
     by_case ih true t =
         let same : e ≡ e0 = let g = sym (find-yes r e es t) ∙ h in cc in
@@ -123,6 +124,7 @@ count-map f keeps k (e ∷ es) = by_case (count-map f keeps k es) (is_of k e) re
   where
     mine : is_of k (f e) ≡ is_of k e
     mine = ap (λ (c : Channel). c.client == k) (keeps e).1
+
     by_case : count_of (map f es) k ≡ count_of es k → (b : Bool) → is_of k e ≡ b → count_of (map f (e ∷ es)) k ≡ count_of (e ∷ es) k
     by_case ih true h = ap length (filter-yes (is_of k) (f e) (map f es) (mine ∙ h)) ∙ (ap (λ n. suc n) ih ∙ sym (ap length (filter-yes (is_of k) e es h)))
     by_case ih false h = ap length (filter-no (is_of k) (f e) (map f es) (mine ∙ h)) ∙ (ih ∙ sym (ap length (filter-no (is_of k) e es h)))

@@ -1,28 +1,25 @@
 -- A request for a forwarding, and one that cancels one, are sent: the list stands for the forwardings after them.
-use Rattle.std.proofs.Common.{◌≡◌, ◌≤◌, ◌<◌, ◌+◌, ℕ, List, [], ◌∷◌, ◌++◌, length, map, true, false, Bool, refl, ◌∙◌, ap, sym, subst, Option, Some, None, arith, suc, zero}
-use Rattle.std.specs.Prelude.{filter, find, ◌==◌, ◌&&◌, ◌||◌, ◌⊎◌, not, is_some, is_none, unwrap_or, bytes_eq, nat_lt, slice_get}
+use Rattle.std.proofs.Common.{◌≡◌, ◌≤◌, ◌<◌, ℕ, List, [], ◌∷◌, ◌++◌, length, true, false, Bool, refl, ◌∙◌, ap, sym, subst, Some, None, arith, suc, zero}
+use Rattle.std.specs.Prelude.{filter, ◌==◌, ◌&&◌, ◌||◌, ◌⊎◌, slice_get}
 use Rattle.std.proofs.Common.{inl, inr}
 use Rattle.std.specs.List.{AllByRecursion}
-use Rattle.std.proofs.lemmas.Bool.Decides.{nat_tests}
 use Rattle.std.proofs.lemmas.Option.{slice_get_within}
 use Rattle.std.proofs.lemmas.List.{append-nil}
 use Rattle.std.proofs.lemmas.List.Elements.{filter-append}
 use Rattle.ssh_grammar.specs.Messages.{Key}
 use Rattle.ssh_grammar.specs.Messages as full
 use Rattle.mux_history.specs.declared.limits.TheConstants.{MAX_FORWARDINGS}
-use Rattle.mux_history.specs.Channels.{is_number}
 use Rattle.mux_history.specs.Rows.{any_of}
 use Rattle.mux_history.specs.Requests.{Ask}
-use Rattle.mux_history.specs.Forwardings.{Forwarding, stopped}
-use Rattle.mux_history.specs.Forwardings as history
+use Rattle.mux_history.specs.Forwardings.{Forwarding}
 use Rattle.mux_history.proofs.Bools.{is-of, same-number, self}
 use Rattle.mux_history.proofs.Finds.{filter-no, filter-yes}
 use Rattle.forward_rules.specs.State.{Forward}
-use Rattle.forward_rules.specs.Step.{asked, cancels, change_first, count_of, is_free_at, is_leaving, is_of}
-use Rattle.forward_rules.specs.Stands.{AreFit, AreInOrder, AreListed, AreTwo, EachHas, EachTwo, Fits, HasAt, InOrder, InOrderWith, IsAwaited, IsRanked, Places, is_asked_at, is_leaving_at}
+use Rattle.forward_rules.specs.Step.{asked, cancels, count_of, is_leaving, is_of}
+use Rattle.forward_rules.specs.Stands.{AreFit, AreInOrder, AreListed, AreTwo, EachHas, EachTwo, Fits, HasAt, InOrderWith, IsAwaited, IsRanked, Places, is_asked_at, is_leaving_at}
 use Rattle.mux_core.proofs.Answering.{asked_more}
-use Rattle.mux_core.proofs.Pairs.{IsFree, and-left, and-right, any-append, any-changed, any-first, find-any, free-is, free-same, none-of, or-first, or-found, or-second}
-use Rattle.mux_core.proofs.Requested.{all-last, awaited-more, get-back}
+use Rattle.mux_core.proofs.Pairs.{any-append, find-any, or-first, or-second}
+use Rattle.mux_core.proofs.Requested.{all-last, awaited-more}
 
 -- ---- places
 
@@ -101,34 +98,44 @@ asked-fit k key fs gs own own' lost fit room le mine others = record {
   where
     what : full.Global
     what = full.Forward key
+
     a : Ask
     a = record { client = k; what = full.Forward key }
+
     f : Forward
     f = asked k key
+
     new : Forwarding
     new = new_forwarding k key (length (own k).asked)
+
     here : IsAwaited (own' k) (new_forwarding k key (length (own k).asked))
     here = subst (λ x. IsAwaited x (new_forwarding k key (length (own k).asked))) (sym (mine k (self k))) (record {
       asked = λ h. (le, get-last (own k).asked (record { client = k; what = full.Forward key }));
       leaving = λ q h. absurd (cc);
       either = λ h. refl;
     })
+
     one : (g : Forwarding) → IsAwaited (own g.client) g → (b : Bool) → (k == g.client) ≡ b → IsAwaited (own' g.client) g
     one g w true h = subst (λ x. IsAwaited x g) (sym (mine g.client h)) (awaited-more (own g.client) (record { client = k; what = full.Forward key }) g w)
     one g w false h = subst (λ x. IsAwaited x g) (sym (others g.client h)) w
+
     before : (g : Forwarding) → IsAwaited (own g.client) g → AreTwo g (new_forwarding k key (length (own k).asked))
     before g w = record {
       asked = λ same idle none. subst (λ j. g.request < length (own j).asked) same (slice_get_within (own g.client).asked g.request _ (w.asked idle).1);
       leaving = λ q same p n. absurd (let x : None ≡ Some q = n in cc);
     }
+
     few : (j : ℕ) (b : Bool) → (k == j) ≡ b → count_of (fs ++ asked k key ∷ []) j ≤ MAX_FORWARDINGS
     few j true h = subst (λ n. n ≤ MAX_FORWARDINGS) (sym (count-last (is_of j) (asked k key) fs true h)) (let r = subst (λ i. count_of fs i < MAX_FORWARDINGS) (same-number k j h) room in omega arith)
     few j false h = subst (λ n. n ≤ MAX_FORWARDINGS) (sym (count-last (is_of j) (asked k key) fs false h)) (fit.few j)
+
     never : (b : Bool) → (b && false) ≡ false
     never true = refl
     never false = refl
+
     same-cancels : (j : ℕ) → cancels j (fs ++ asked k key ∷ []) ≡ cancels j fs
     same-cancels j = count-last (is_leaving j) (asked k key) fs false (never (k == j))
+
     each : (j : ℕ) → lost j ≡ false → (b : Bool) → (k == j) ≡ b → EachHas (own' j) (filter (λ g. g.client == j) (gs ++ new_forwarding k key (length (own k).asked) ∷ []))
     each j lives false h = subst (λ x. EachHas x (filter (λ g. g.client == j) (gs ++ new_forwarding k key (length (own k).asked) ∷ []))) (sym (others j h)) (λ place b past at. has-append place b.what j gs (new_forwarding k key (length (own k).asked) ∷ []) (fit.each j lives place b past at))
     each j lives true h = subst (λ x. EachHas x (filter (λ g. g.client == j) (gs ++ new_forwarding k key (length (own k).asked) ∷ []))) (sym (mine j h)) (λ place b past at. by_place place b past (place-back (own j).asked (record { client = k; what = full.Forward key }) b place at))
@@ -139,6 +146,7 @@ asked-fit k key fs gs own own' lost fit room le mine others = record {
             find-any (λ (g : Forwarding). g.client == j) (is_asked_at place) (gs ++ new_forwarding k key (length (own k).asked) ∷ [])
             ∙ (any-append (λ (g : Forwarding). (g.client == j) && is_asked_at place g) gs (new_forwarding k key (length (own k).asked) ∷ [])
             ∙ or-second (any_of (λ (g : Forwarding). (g.client == j) && is_asked_at place g) gs) _ (ap (λ b. (b && (length (own k).asked == place)) || false) h ∙ ap (λ b. b || false) there))
+
         by_place : (place : ℕ) (b : Ask) → (own j).replied ≤ place → (slice_get (own j).asked place ≡ Some b) ⊎ ((place ≡ length (own j).asked) × (record { client = k; what = full.Forward key } ≡ b)) → HasAt place b.what (filter (λ g. g.client == j) (gs ++ new_forwarding k key (length (own k).asked) ∷ []))
         by_place place b past (inl old) = has-append place b.what j gs (new_forwarding k key (length (own k).asked) ∷ []) (fit.each j lives place b past old)
         by_place place b past (inr new) = subst (λ (u : Ask). HasAt place u.what (filter (λ g. g.client == j) (gs ++ new_forwarding k key (length (own k).asked) ∷ []))) new.1 (last place new.0)

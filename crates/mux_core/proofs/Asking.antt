@@ -1,9 +1,9 @@
 -- The answers of the functions for a client's requests.
-use Rattle.std.proofs.Common.{◌≡◌, ◌≤◌, ◌<◌, ℕ, List, [], ◌∷◌, ◌++◌, length, true, false, Bool, refl, ◌∙◌, ap, sym, subst, Ok, Err, Result, IfOk, OnOk, arith}
+use Rattle.std.proofs.Common.{◌≡◌, ◌≤◌, ◌<◌, ℕ, List, [], ◌∷◌, ◌++◌, true, false, Bool, refl, ◌∙◌, ap, Ok, Err, Result, IfOk, OnOk, arith}
 use Rattle.std.specs.Prelude.{◌&&◌, nat_lt}
 use Rattle.std.proofs.lemmas.Bool.Decides.{nat_tests}
 use Rattle.ssh_fields.specs.declared.out_of_memory.OutOfMemory.{OutOfMemory}
-use Rattle.ssh_grammar.specs.Messages.{Global, Key, Forward, Cancel, OtherName}
+use Rattle.ssh_grammar.specs.Messages.{Global, Key, Forward, Cancel}
 use Rattle.ssh_grammar.specs.Frames.{frame_payload}
 use Rattle.proxy_frames.specs.State.{QueueState}
 use Rattle.proxy_frames.specs.Queued.{with_bytes}
@@ -46,6 +46,7 @@ forward-full s k p key want full rows st = forward-does s k p key want rows st �
   where
     lt-no : (a b : ℕ) → b ≤ a → nat_lt a b ≡ false
     lt-no a b h = grind (arith, nat_tests)
+
     none : (a b c d : Bool) → d ≡ false → (a && (b && (c && d))) ≡ false
     none false b c d h = refl
     none true false c d h = refl
@@ -59,6 +60,7 @@ forward-goes s new k p key true up may few after = forward-sent s new k p key up
     first : (a b : Bool) → (a && b) ≡ true → a ≡ true
     first true b h = refl
     first false b h = cc
+
     last : (a b : Bool) → (a && b) ≡ true → b ≡ true
     last true b h = h
     last false b h = cc

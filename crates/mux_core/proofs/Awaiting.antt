@@ -1,23 +1,19 @@
 -- A server's open that waits for its client's answer: what the core finds is what the history finds.
-use Rattle.std.proofs.Common.{◌≡◌, ℕ, List, [], ◌∷◌, map, true, false, Bool, refl, ◌∙◌, ap, sym, subst, Option, Some, None}
-use Rattle.std.specs.Prelude.{filter, find, not, ◌==◌, ◌&&◌, option_map}
+use Rattle.std.proofs.Common.{◌≡◌, ℕ, List, [], ◌∷◌, true, false, Bool, refl, ◌∙◌, ap, sym, subst, Option, Some, None}
+use Rattle.std.specs.Prelude.{find, not, ◌==◌, ◌&&◌, option_map}
 use Rattle.std.specs.List.{AllByRecursion}
 use Rattle.mux_history.specs.Rows.{Row, rows_of}
 use Rattle.mux_history.specs.Channels.{Channel, held_of, is_confirmed, is_number, is_up}
 use Rattle.mux_history.specs.Said.{waiting_at}
-use Rattle.mux_history.proofs.Finds.{filter-no, filter-yes, find-no, find-yes}
 use Rattle.mux_history.proofs.Local as local
 use Rattle.window_ledger.specs.declared.ledger.Ledger.{Ledger}
-use Rattle.window_ledger.specs.declared.ledger.State.{State}
-use Rattle.window_ledger.specs.declared.ledger.State.TheVariants.{Opened, Confirmed}
-use Rattle.window_ledger.specs.Stands.{IsStateOf, confirmed, is_answered}
-use Rattle.window_ledger.specs.Stands as ledger
+use Rattle.window_ledger.specs.Stands.{confirmed}
 use Rattle.channel_table.specs.Entries.{Entry}
-use Rattle.channel_table.specs.Entries.{AreApart, AreTwo, admitted_at, has_remote, is_at, is_of, ledger_at, number_of_remote}
+use Rattle.channel_table.specs.Entries.{AreApart, has_remote, is_at, is_of, ledger_at}
 use Rattle.channel_table.specs.Stands.{ChannelsFit, Fits}
 use Rattle.mux_core.specs.Lookups.{awaits_answer, if_waiting, waiting_for, waiting_under}
-use Rattle.mux_core.proofs.Apart.{Alone, Sole, all-of, alone, passes}
-use Rattle.mux_core.proofs.Fits.{FoundFit, found-fit}
+use Rattle.mux_core.proofs.Apart.{passes}
+use Rattle.channel_table.proofs.Fits.{FoundFit, found-fit}
 use Rattle.mux_core.proofs.Found.{at-number, find-filter, find-narrow, find-none, held-local, only_if, remote-sole, stands-confirmed}
 
 abbrev waits_in : Channel → Bool
@@ -70,11 +66,17 @@ waiting-entry es k s n l apart h = by_found (find (has_remote s) es) refl
         let answered = and-right (e0.channel.client == k) (awaits_answer e0.channel e0.ledger) t in
         let passes_ : is_waiting_at k s e0 ≡ true = ap (λ b. b && (has_remote s e0 && awaits_answer e0.channel e0.ledger)) mine ∙ (ap (λ b. b && awaits_answer e0.channel e0.ledger) (passes (has_remote s) e0 es f) ∙ answered) in
         record {
-          entry = e0; number = number; ledger = same; found = f; mine = mine; answered = answered;
+          entry = e0;
+          number = number;
+          ledger = same;
+          found = f;
+          mine = mine;
+          answered = answered;
           only = find-narrow (has_remote s) (is_waiting_at k s) (remote-sole s) (narrow k s) e0 es apart f ∙ ap (λ b. only_if b e0) passes_;
           at = subst (λ i. find (is_at i) es ≡ Some e0) number (at-number (has_remote s) (remote-sole s) e0 es apart f);
         }
     by_test e0 f false t g = absurd (cc)
+
     by_found : (o : Option Entry) → find (has_remote s) es ≡ o → WaitingEntry es k s n l
     by_found None f = absurd (let g : None ≡ Some (n, l) = sym (ap (waiting_under es k) (ap (option_map (λ (e : Entry). e.number)) f)) ∙ h in cc)
     by_found (Some e0) f = by_test e0 f ((e0.channel.client == k) && awaits_answer e0.channel e0.ledger) refl (sym (looked es k s e0 apart f) ∙ h)
@@ -86,6 +88,7 @@ waiting-none es k s apart h = by_found (find (has_remote s) es) refl
     by_test : (e0 : Entry) → find (has_remote s) es ≡ Some e0 → (b : Bool) → ((e0.channel.client == k) && awaits_answer e0.channel e0.ledger) ≡ b → (elim b as (λ _. Option (ℕ × Ledger)) [ true ↦ Some (e0.number, e0.ledger) | false ↦ None ]) ≡ None → find (is_waiting_at k s) es ≡ None
     by_test e0 f true t g = absurd (cc)
     by_test e0 f false t g = find-narrow (has_remote s) (is_waiting_at k s) (remote-sole s) (narrow k s) e0 es apart f ∙ ap (λ b. only_if b e0) (ap (λ b. is_of k e0 && (b && awaits_answer e0.channel e0.ledger)) (passes (has_remote s) e0 es f) ∙ t)
+
     by_found : (o : Option Entry) → find (has_remote s) es ≡ o → find (is_waiting_at k s) es ≡ None
     by_found None f = find-none (has_remote s) (is_waiting_at k s) (narrow k s) es f
     by_found (Some e0) f = by_test e0 f ((e0.channel.client == k) && awaits_answer e0.channel e0.ledger) refl (sym (looked es k s e0 apart f) ∙ h)

@@ -1,6 +1,6 @@
 -- A cancel that wants a reply is sent: the forwarding that it means waits for its end.
-use Rattle.std.proofs.Common.{◌≡◌, ◌≤◌, ◌<◌, ◌+◌, ℕ, List, [], ◌∷◌, ◌++◌, length, map, true, false, Bool, refl, ◌∙◌, ap, sym, subst, Option, Some, None, arith, suc, zero}
-use Rattle.std.specs.Prelude.{filter, find, ◌==◌, ◌&&◌, ◌||◌, ◌⊎◌, not, is_some, is_none, unwrap_or, bytes_eq, nat_lt, slice_get}
+use Rattle.std.proofs.Common.{◌≡◌, ◌≤◌, ◌<◌, ℕ, List, [], ◌∷◌, ◌++◌, length, true, false, Bool, refl, ◌∙◌, ap, sym, subst, Option, Some, None, arith, suc}
+use Rattle.std.specs.Prelude.{filter, ◌==◌, ◌&&◌, ◌⊎◌, is_some, unwrap_or, nat_lt, slice_get}
 use Rattle.std.proofs.Common.{inl, inr}
 use Rattle.std.specs.List.{AllByRecursion}
 use Rattle.std.proofs.lemmas.Bool.Decides.{nat_tests}
@@ -16,11 +16,11 @@ use Rattle.mux_history.specs.Forwardings as history
 use Rattle.mux_history.proofs.Bools.{is-of, same-number, self}
 use Rattle.mux_history.proofs.Finds.{filter-no, filter-yes}
 use Rattle.forward_rules.specs.State.{Forward}
-use Rattle.forward_rules.specs.Step.{cancelled, cancels, change_first, count_of, is_free_at, is_leaving, is_of, some_free}
-use Rattle.forward_rules.specs.Stands.{AreFit, AreInOrder, AreListed, AreTwo, EachHas, EachTwo, Fits, HasAt, InOrder, InOrderWith, IsAwaited, IsRanked, Places, is_asked_at, is_leaving_at}
+use Rattle.forward_rules.specs.Step.{cancelled, cancels, change_first, is_free_at, is_leaving, is_of, some_free}
+use Rattle.forward_rules.specs.Stands.{AreFit, AreInOrder, AreListed, AreTwo, EachHas, EachTwo, HasAt, InOrder, InOrderWith, IsAwaited, IsRanked, Places, is_asked_at, is_leaving_at}
 use Rattle.mux_core.proofs.Answering.{asked_more}
-use Rattle.mux_core.proofs.Pairs.{IsFree, and-left, and-right, any-append, any-changed, any-first, find-any, free-is, free-same, none-of, or-first, or-found, or-second, some-same}
-use Rattle.mux_core.proofs.Requested.{all-last, awaited-more}
+use Rattle.mux_core.proofs.Pairs.{IsFree, and-left, and-right, any-changed, any-first, find-any, free-is, free-same, or-found, some-same}
+use Rattle.mux_core.proofs.Requested.{awaited-more}
 use Rattle.mux_core.proofs.Asked.{all-map, get-last, place-back}
 
 -- what becomes of the one that is meant
@@ -53,6 +53,7 @@ listed-changed k key r place (f ∷ fs) (g ∷ gs) all = by_case (listed-changed
   where
     same : is_free_at k key f ≡ history.is_free_at k key g
     same = free-same k key f g all.0
+
     by_case : AreListed (change_first (is_free_at k key) (ranked_at r) fs) (history.change_first (history.is_free_at k key) (placed_at place) gs) → (b : Bool) → is_free_at k key f ≡ b → AreListed (change_first (is_free_at k key) (ranked_at r) (f ∷ fs)) (history.change_first (history.is_free_at k key) (placed_at place) (g ∷ gs))
     by_case ih true h = subst (λ xs. AreListed xs (history.change_first (history.is_free_at k key) (placed_at place) (g ∷ gs))) (sym (kept-at k key r f fs true h)) (subst (AreListed (ranked_at r f ∷ fs)) (sym (told-at k key place g gs true (sym same ∙ h)))
         (record { client = all.0.client; key = all.0.key; live = all.0.live; cancel = refl; on = all.0.on }, all.1))
@@ -106,6 +107,7 @@ order-with k key r place f g fits before earlier (f' ∷ fs) (g' ∷ gs) listed 
   where
     same : is_free_at k key f' ≡ history.is_free_at k key g'
     same = free-same k key f' g' listed.0
+
     by_case : InOrderWith f g (change_first (is_free_at k key) (ranked_at r) fs) (history.change_first (history.is_free_at k key) (placed_at place) gs) → (b : Bool) → is_free_at k key f' ≡ b → InOrderWith f g (change_first (is_free_at k key) (ranked_at r) (f' ∷ fs)) (history.change_first (history.is_free_at k key) (placed_at place) (g' ∷ gs))
     by_case ih true h = subst (λ xs. InOrderWith f g xs (history.change_first (history.is_free_at k key) (placed_at place) (g' ∷ gs))) (sym (kept-at k key r f' fs true h)) (subst (InOrderWith f g (ranked_at r f' ∷ fs)) (sym (told-at k key place g' gs true (sym same ∙ h)))
         (order-sooner k r place f g f' g' (free-is k key g' (sym same ∙ h)).client fits before earlier, all.1))
@@ -120,6 +122,7 @@ order-changed k key r place (f ∷ fs) (g ∷ gs) listed bs es all = by_case (or
   where
     same : is_free_at k key f ≡ history.is_free_at k key g
     same = free-same k key f g listed.0
+
     by_case : AreInOrder (change_first (is_free_at k key) (ranked_at r) fs) (history.change_first (history.is_free_at k key) (placed_at place) gs) → (b : Bool) → is_free_at k key f ≡ b → AreInOrder (change_first (is_free_at k key) (ranked_at r) (f ∷ fs)) (history.change_first (history.is_free_at k key) (placed_at place) (g ∷ gs))
     by_case ih true h = subst (λ xs. AreInOrder xs (history.change_first (history.is_free_at k key) (placed_at place) (g ∷ gs))) (sym (kept-at k key r f fs true h)) (subst (AreInOrder (ranked_at r f ∷ fs)) (sym (told-at k key place g gs true (sym same ∙ h)))
         (order-later-all k r place f g (free-is k key g (sym same ∙ h)).client fs gs listed.1 bs.1 es.1, all.1))
@@ -142,19 +145,26 @@ two-changed k key place (g ∷ gs) es two = by_case (two-changed k key place gs 
   where
     self-less : (n : ℕ) → n < n → ⊥
     self-less n h = omega arith
+
     by_case : EachTwo (history.change_first (history.is_free_at k key) (placed_at place) gs) → (b : Bool) → history.is_free_at k key g ≡ b → EachTwo (history.change_first (history.is_free_at k key) (placed_at place) (g ∷ gs))
     by_case ih true h = subst EachTwo (sym (told-at k key place g gs true h)) (each gs es.1 two.0, two.1)
       where
         each : (hs : List Forwarding) → AllByRecursion (Earlier k place) hs → AllByRecursion (AreTwo g) hs → AllByRecursion (AreTwo (placed_at place g)) hs
         each [] later all = tt
-        each (i ∷ is) later all = (record {
-          asked = all.0.asked;
-          leaving = λ q same p n. self-less q (subst (λ m. q < m) (some-is place q p) (later.0 (sym same ∙ (free-is k key g h).client) q n));
-        }, each is later.1 all.1)
-    by_case ih false h = subst EachTwo (sym (told-at k key place g gs false h)) (all-changed (AreTwo g) (AreTwo g) (history.is_free_at k key) (placed_at place) (λ i two. two) (λ i free two. record {
-      asked = two.asked;
-      leaving = λ q same p n. self-less q (subst (λ m. q < m) (some-is place q n) (es.0 (same ∙ (free-is k key i free).client) q p));
-    }) gs two.0, ih)
+        each (i ∷ is) later all = (
+          record {
+            asked = all.0.asked;
+            leaving = λ q same p n. self-less q (subst (λ m. q < m) (some-is place q p) (later.0 (sym same ∙ (free-is k key g h).client) q n));
+          },
+          each is later.1 all.1,
+        )
+    by_case ih false h = subst EachTwo (sym (told-at k key place g gs false h)) (
+      all-changed (AreTwo g) (AreTwo g) (history.is_free_at k key) (placed_at place) (λ i two. two) (λ i free two. record {
+        asked = two.asked;
+        leaving = λ q same p n. self-less q (subst (λ m. q < m) (some-is place q n) (es.0 (same ∙ (free-is k key i free).client) q p));
+      }) gs two.0,
+      ih,
+    )
 
 -- ---- counts
 
@@ -165,6 +175,7 @@ count-same pass test change same (f ∷ fs) = by_case (count-same pass test chan
   where
     at : (b : Bool) → test f ≡ b → change_first test change (f ∷ fs) ≡ elim b as (λ _. List Forward) [ true ↦ change f ∷ fs | false ↦ f ∷ change_first test change fs ]
     at b h = ap (λ (c : Bool). elim c as (λ _. List Forward) [ true ↦ change f ∷ fs | false ↦ f ∷ change_first test change fs ]) h
+
     by_case : length (filter pass (change_first test change fs)) ≡ length (filter pass fs) → (b : Bool) → test f ≡ b → (p : Bool) → pass f ≡ p → length (filter pass (change_first test change (f ∷ fs))) ≡ length (filter pass (f ∷ fs))
     by_case ih true h true p = ap (λ xs. length (filter pass xs)) (at true h) ∙ (ap length (filter-yes pass (change f) fs (same f ∙ p)) ∙ sym (ap length (filter-yes pass f fs p)))
     by_case ih true h false p = ap (λ xs. length (filter pass xs)) (at true h) ∙ (ap length (filter-no pass (change f) fs (same f ∙ p)) ∙ sym (ap length (filter-no pass f fs p)))
@@ -179,6 +190,7 @@ no-fewer k key r j (f ∷ fs) = by_case (no-fewer k key r j fs) (is_free_at k ke
     never : (b : Bool) → (b && false) ≡ false
     never true = refl
     never false = refl
+
     by_case : cancels j fs ≤ cancels j (change_first (is_free_at k key) (ranked_at r) fs) → (b : Bool) → is_free_at k key f ≡ b → (p : Bool) → is_leaving j f ≡ p → (m : Bool) → (f.client == j) ≡ m → cancels j (f ∷ fs) ≤ cancels j (change_first (is_free_at k key) (ranked_at r) (f ∷ fs))
     by_case ih true h p e true m = subst (λ xs. cancels j (f ∷ fs) ≤ cancels j xs) (sym (kept-at k key r f fs true h)) (subst (λ n. cancels j (f ∷ fs) ≤ n) (sym (ap length (filter-yes (is_leaving j) (ranked_at r f) fs (ap (λ b. b && true) m)))) (at-most p e))
       where
@@ -198,12 +210,14 @@ one-more k key r (f ∷ fs) (g ∷ gs) listed there = by_case (one-more k key r 
   where
     same : is_free_at k key f ≡ history.is_free_at k key g
     same = free-same k key f g listed.0
+
     idle : history.is_free_at k key g ≡ true → is_leaving k f ≡ false
     idle h = ap (λ b. (f.client == k) && b) (listed.0.cancel ∙ ap is_some (free-is k key g h).cancel) ∙ never (f.client == k)
       where
         never : (b : Bool) → (b && false) ≡ false
         never true = refl
         never false = refl
+
     by_case : (any_of (history.is_free_at k key) gs ≡ true → cancels k (change_first (is_free_at k key) (ranked_at r) fs) ≡ suc (cancels k fs)) → (b : Bool) → is_free_at k key f ≡ b → (p : Bool) → is_leaving k f ≡ p → cancels k (change_first (is_free_at k key) (ranked_at r) (f ∷ fs)) ≡ suc (cancels k (f ∷ fs))
     by_case ih true h p e =
         ap (cancels k) (kept-at k key r f fs true h)
@@ -241,34 +255,44 @@ cancelled-fit k key fs gs own own' lost fit free le mine others = record {
   where
     r : ℕ
     r = cancels k fs
+
     place : ℕ
     place = length (own k).asked
+
     any : any_of (history.is_free_at k key) gs ≡ true
     any = sym (some-same k key fs gs fit.listed) ∙ free
+
     before : AllByRecursion (Before k (cancels k fs)) fs
     before = all-map (IsRanked fs) (Before k (cancels k fs)) (λ f is of q e. subst (λ i. q < cancels i fs) of (is q e)) fs fit.ranked
+
     earlier : AllByRecursion (Earlier k (length (own k).asked)) gs
     earlier = all-map (λ g. IsAwaited (own g.client) g) (Earlier k (length (own k).asked)) (λ g w of q e. subst (λ i. q < length (own i).asked) of (slice_get_within (own g.client).asked q _ (w.leaving q e).1)) gs fit.awaited
+
     one : (g : Forwarding) → IsAwaited (own g.client) g → (b : Bool) → (k == g.client) ≡ b → IsAwaited (own' g.client) g
     one g w true h = subst (λ x. IsAwaited x g) (sym (mine g.client h)) (awaited-more (own g.client) (record { client = k; what = full.Cancel key }) g w)
     one g w false h = subst (λ x. IsAwaited x g) (sym (others g.client h)) w
+
     meant : (g : Forwarding) → IsFree k key g → IsAwaited (own' g.client) (placed_at (length (own k).asked) g)
     meant g is = subst (λ i. IsAwaited (own' i) (placed_at (length (own k).asked) g)) (sym is.client) (subst (λ x. IsAwaited x (placed_at (length (own k).asked) g)) (sym (mine k (self k))) (record {
       asked = λ none. absurd (let x : None ≡ Some key = sym none ∙ is.live in cc);
       leaving = λ q h. subst (λ i. ((own k).replied ≤ i) × (slice_get ((own k).asked ++ record { client = k; what = full.Cancel key } ∷ []) i ≡ Some (record { client = g.client; what = full.Cancel (unwrap_or g.live g.key) }))) (some-is (length (own k).asked) q h) (le, get-last (own k).asked (record { client = k; what = full.Cancel key }) ∙ (ap (λ (i : ℕ). let a : Ask = record { client = i; what = full.Cancel key } in Some a) (sym is.client) ∙ ap (λ (x : Key). let a : Ask = record { client = g.client; what = full.Cancel x } in Some a) (sym (ap (λ o. unwrap_or o g.key) is.live))));
       either = λ none. absurd (let x : None ≡ Some key = sym none ∙ is.live in cc);
     }))
+
     newest : (f : Forward) → is_free_at k key f ≡ true → (q : ℕ) → (let x : Option ℕ = Some (cancels k fs) in x) ≡ Some q → q < cancels f.client (change_first (is_free_at k key) (ranked_at (cancels k fs)) fs)
     newest f h q e =
         let of : f.client ≡ k = same-number f.client k (and-left (f.client == k) _ h) in
         subst (λ i. q < cancels i (change_first (is_free_at k key) (ranked_at (cancels k fs)) fs)) (sym of) (let a = one-more k key (cancels k fs) fs gs fit.listed any in let b = some-is (cancels k fs) q e in omega arith)
+
     absent : (o : Option ℕ) (n : ℕ) → o ≡ None → is_number o n ≡ true → ⊥
     absent o n none h = let x : is_number None n ≡ true = ap (λ p. is_number p n) (sym none) ∙ h in cc
+
     goes_on : (at : ℕ) (what : full.Global) (j : ℕ) → HasAt at what (filter (λ g. g.client == j) gs) → HasAt at what (filter (λ g. g.client == j) (history.change_first (history.is_free_at k key) (placed_at (length (own k).asked)) gs))
     goes_on at (full.Forward q) j h = find-any (λ (g : Forwarding). g.client == j) (is_asked_at at) _ ∙ any-changed (λ (g : Forwarding). (g.client == j) && is_asked_at at g) (history.is_free_at k key) (placed_at (length (own k).asked)) (λ g t p. p) gs (sym (find-any (λ (g : Forwarding). g.client == j) (is_asked_at at) gs) ∙ h)
     goes_on at (full.Cancel q) j h = find-any (λ (g : Forwarding). g.client == j) (is_leaving_at at) _ ∙ any-changed (λ (g : Forwarding). (g.client == j) && is_leaving_at at g) (history.is_free_at k key) (placed_at (length (own k).asked)) (λ g t p. absurd (absent g.cancel at (free-is k key g t).cancel (and-right (g.client == j) _ p))) gs (sym (find-any (λ (g : Forwarding). g.client == j) (is_leaving_at at) gs) ∙ h)
     goes_on at full.KeepAlive j h = tt
     goes_on at full.OtherName j h = tt
+
     each : (j : ℕ) → lost j ≡ false → (b : Bool) → (k == j) ≡ b → EachHas (own' j) (filter (λ g. g.client == j) (history.change_first (history.is_free_at k key) (placed_at (length (own k).asked)) gs))
     each j lives false h = subst (λ x. EachHas x (filter (λ g. g.client == j) (history.change_first (history.is_free_at k key) (placed_at (length (own k).asked)) gs))) (sym (others j h)) (λ at b past got. goes_on at b.what j (fit.each j lives at b past got))
     each j lives true h = subst (λ x. EachHas x (filter (λ g. g.client == j) (history.change_first (history.is_free_at k key) (placed_at (length (own k).asked)) gs))) (sym (mine j h)) (λ at b past got. by_place at b past (place-back (own j).asked (record { client = k; what = full.Cancel key }) b at got))
@@ -278,6 +302,7 @@ cancelled-fit k key fs gs own own' lost fit free le mine others = record {
             let there : (length (own k).asked == at) ≡ true = is-of (length (own k).asked) at (ap (λ i. length (own i).asked) (same-number k j h) ∙ sym is) in
             find-any (λ (g : Forwarding). g.client == j) (is_leaving_at at) _
             ∙ any-first (λ (g : Forwarding). (g.client == j) && is_leaving_at at g) (history.is_free_at k key) (placed_at (length (own k).asked)) (λ g t. ap (λ b. b && (length (own k).asked == at)) (is-of g.client j ((free-is k key g t).client ∙ same-number k j h)) ∙ there) gs any
+
         by_place : (at : ℕ) (b : Ask) → (own j).replied ≤ at → (slice_get (own j).asked at ≡ Some b) ⊎ ((at ≡ length (own j).asked) × (record { client = k; what = full.Cancel key } ≡ b)) → HasAt at b.what (filter (λ g. g.client == j) (history.change_first (history.is_free_at k key) (placed_at (length (own k).asked)) gs))
         by_place at b past (inl old) = goes_on at b.what j (fit.each j lives at b past old)
         by_place at b past (inr new) = subst (λ (u : Ask). HasAt at u.what (filter (λ g. g.client == j) (history.change_first (history.is_free_at k key) (placed_at (length (own k).asked)) gs))) new.1 (last at new.0)

@@ -1,19 +1,16 @@
 -- The number that an open or a confirmation of a client takes is the one that goes up.
-use Rattle.std.proofs.Common.{◌≡◌, ◌<◌, ◌^◌, ◌⊎◌, ℕ, List, [], ◌∷◌, true, false, Bool, refl, ◌∙◌, ap, sym, Option, Some, None, Result, Ok, Err, inl, inr}
+use Rattle.std.proofs.Common.{◌≡◌, ℕ, List, [], ◌∷◌, true, false, Bool, refl, ◌∙◌, ap, sym, Option, None, Result, Ok, Err, inl, inr}
 use Rattle.std.specs.Prelude.{◌&&◌, is_some}
-use Rattle.ssh_fields.specs.Fields.{AreBytes}
 use Rattle.ssh_grammar.specs.declared.fault.Bad.{Bad}
-use Rattle.ssh_grammar.specs.SpellMessage.{with_sender}
 use Rattle.mux_history.specs.Gist.{Gist, read_gist, reading, sender_of}
-use Rattle.mux_history.specs.Rows.{Row, rows_of}
-use Rattle.mux_history.specs.Choices.{said_number, takes_number}
+use Rattle.mux_history.specs.Rows.{rows_of}
+use Rattle.mux_history.specs.Choices.{said_number}
 use Rattle.mux_history.specs.Right.{carried_number}
 use Rattle.mux_history.specs.declared.why.Why.TheVariants as why
 use Rattle.mux_history.specs.Said.{Outcome, drops, said_gist, said_payload}
 use Rattle.mux_history.proofs.Readings.{reading-ok}
 use Rattle.mux_history.proofs.Renumbered.{number-sent, sender-in, spelled}
 use Rattle.mux_history.proofs.Sends.{Sent, sent-by}
-use Rattle.mux_core.specs.State.{CoreState}
 use Rattle.mux_core.specs.Calls.{said_row}
 use Rattle.mux_core.specs.Laws.{CarriesPick}
 use Rattle.mux_core.proofs.SaysWithin.{said-ok}
@@ -31,6 +28,7 @@ carries-pick s k p pick rows bytes small taken = by_read (read_gist p) refl
   where
     ups : List (List ℕ)
     ups = (said_payload s.policy k (rows_of k rows) pick p).sent
+
     by_sent : (m : Gist) → read_gist p ≡ Ok m → Sent (rows_of k rows) pick p m (said_gist s.policy k (rows_of k rows) pick p m).sent → carried_number (said_row s k p pick rows).up ≡ pick
     by_sent m e (inl none) =
         let empty : ups ≡ [] = ap (λ o. o.sent) (said-ok s.policy k pick (rows_of k rows) p m e) ∙ none in
@@ -43,6 +41,7 @@ carries-pick s k p pick rows bytes small taken = by_read (read_gist p) refl
     by_sent m e (inr (inr fresh)) =
         ap carried_number (ap (λ o. o.sent) (said-ok s.policy k pick (rows_of k rows) p m e) ∙ fresh.up)
         ∙ (ap said_number (number-sent p m (sender-in p m fresh.c bytes e fresh.owned) pick) ∙ spelled pick small)
+
     by_read : (r : Result Gist Bad) → read_gist p ≡ r → carried_number (said_row s k p pick rows).up ≡ pick
     by_read (Err bad) e =
         let empty : ups ≡ [] = ap (λ (x : Result Gist Bad). (elim x as (λ _. Outcome) [ Err bad ↦ drops (why.BadMessage bad) | Ok m ↦ said_gist s.policy k (rows_of k rows) pick p m ]).sent) e in

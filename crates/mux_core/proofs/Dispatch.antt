@@ -1,9 +1,8 @@
 -- What a client says, by its message.
-use Rattle.std.proofs.Common.{◌≡◌, ◌<◌, ℕ, List, [], ◌∷◌, true, false, Bool, refl, ◌∙◌, ap, sym, subst, Option, Some, None, Ok, Result, Err, IfOk, zero, suc, slice_index_or}
+use Rattle.std.proofs.Common.{◌≡◌, ◌<◌, ℕ, List, [], ◌∷◌, true, false, Bool, refl, ◌∙◌, ap, sym, subst, Some, None, Ok, Result, Err, IfOk, zero, suc, slice_index_or}
 use Rattle.std.specs.Prelude.{◌==◌, is_some}
 use Rattle.mux_history.specs.Requests.{wanted_in}
 use Rattle.mux_history.proofs.Readings.{reading-ok}
-use Rattle.std.specs.List.{AllByRecursion}
 use Rattle.std.proofs.Common.{arith}
 use Rattle.std.proofs.lemmas.Bool.Decides.{nat_tests}
 use Rattle.ssh_fields.specs.declared.out_of_memory.OutOfMemory.{OutOfMemory}
@@ -66,6 +65,7 @@ on-other s k n p up other e = record { pick = 0; goes = one }
   where
     nothing : AsksNothing (Transport n)
     nothing = record { wants = refl; requests = λ k place fs. refl }
+
     one : (rows : List Row) → Stands s rows → is_served s.clients k ≡ true → SaysIn s s k p 0 up up verdict.Silent rows
     one rows st serves =
         let q = quiet-says k p (Transport n) silent e nothing refl in

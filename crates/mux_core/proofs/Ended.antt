@@ -1,5 +1,5 @@
 -- The forwardings after a reply, whatever it answers.
-use Rattle.std.proofs.Common.{◌≡◌, ◌≤◌, ◌<◌, ◌+◌, ℕ, List, [], ◌∷◌, length, map, true, false, Bool, refl, ◌∙◌, ap, sym, subst, Option, Some, None, arith}
+use Rattle.std.proofs.Common.{◌≡◌, ℕ, List, [], ◌∷◌, map, true, false, Bool, refl, ◌∙◌, ap, sym, subst, Option, Some, None}
 use Rattle.std.specs.Prelude.{filter, ◌==◌, ◌&&◌, not, is_none, slice_get}
 use Rattle.std.specs.List.{AllByRecursion}
 use Rattle.ssh_grammar.specs.Messages.{Key}
@@ -7,23 +7,21 @@ use Rattle.ssh_grammar.specs.Messages as full
 use Rattle.mux_history.specs.Channels.{is_number}
 use Rattle.mux_history.specs.Gist.{Gist, Refuses, Succeeds}
 use Rattle.mux_history.specs.Keys.{bound}
-use Rattle.mux_history.specs.Rows.{any_of}
 use Rattle.mux_history.specs.Forwardings.{Forwarding, is_request}
 use Rattle.mux_history.proofs.CurrentSteps.{is_on}
 use Rattle.mux_history.proofs.Finds.{filter-no, filter-yes}
 use Rattle.forward_rules.specs.State.{Forward}
 use Rattle.forward_rules.specs.Step.{cancel_answered, is_cancelled_at, settled, settled_at, without_cancel_of}
-use Rattle.forward_rules.specs.Stands.{AreFit, AreListed, IsAwaited, Places}
-use Rattle.forward_rules.specs.Stands as stands
+use Rattle.forward_rules.specs.Stands.{AreFit, IsAwaited, Places}
 use Rattle.mux_core.specs.Replying.{after_failure, after_success}
 use Rattle.mux_core.proofs.Dropped.{Drops, WaitsNot, drops-map, has-kept, kept-fit}
 use Rattle.mux_core.proofs.Granting.{granted-fit}
-use Rattle.mux_core.proofs.Pairs.{and-left, and-right}
-use Rattle.mux_core.proofs.Ranking.{AllPairs, Known, RankOf, first-is, known-all, leaves_at, rank-of, same-cancelled}
+use Rattle.mux_core.proofs.Pairs.{and-right}
+use Rattle.mux_core.proofs.Ranking.{AllPairs, Known, first-is, known-all, leaves_at, rank-of, same-cancelled}
 use Rattle.mux_core.proofs.Refusing.{refused-fit}
-use Rattle.mux_core.proofs.Released.{Seen, moved-fit, not-asked, released, released-at, seen-all, sooner, there-is}
+use Rattle.mux_core.proofs.Released.{moved-fit, not-asked, released, released-at, seen-all, there-is}
 use Rattle.mux_core.proofs.Removed.{all-by, kept_by, on-all, on-listed}
-use Rattle.mux_core.proofs.Replied.{Replies, after, each-next, idle-all, is_neither, neither-idle, nobody-fit, number-is}
+use Rattle.mux_core.proofs.Replied.{Replies, after, idle-all, is_neither, neither-idle, nobody-fit, number-is}
 
 -- ---- a cancel fails: its forwarding is free again
 
@@ -87,10 +85,13 @@ kept-settled k place rank own (f ∷ fs) (g ∷ gs) known = by_test (kept-settle
   where
     keeps : Forward → Bool
     keeps e = not (is_cancelled_at k rank e)
+
     same : is_cancelled_at k rank f ≡ leaves_at k place g
     same = same-cancelled k place rank own f g known.0
+
     at : (b : Bool) → leaves_at k place g ≡ b → kept_by (marks k place (g ∷ gs)) (map (without_cancel_of k rank) (f ∷ fs)) ≡ elim (not b) as (λ _. List Forward) [ true ↦ without_cancel_of k rank f ∷ kept_by (marks k place gs) (map (without_cancel_of k rank) fs) | false ↦ kept_by (marks k place gs) (map (without_cancel_of k rank) fs) ]
     at b h = ap (λ (c : Bool). elim (not c) as (λ _. List Forward) [ true ↦ without_cancel_of k rank f ∷ kept_by (marks k place gs) (map (without_cancel_of k rank) fs) | false ↦ kept_by (marks k place gs) (map (without_cancel_of k rank) fs) ]) h
+
     by_test : map (without_cancel_of k rank) (filter (λ f. not (is_cancelled_at k rank f)) fs) ≡ kept_by (marks k place gs) (map (without_cancel_of k rank) fs) → (b : Bool) → leaves_at k place g ≡ b → map (without_cancel_of k rank) (filter (λ f. not (is_cancelled_at k rank f)) (f ∷ fs)) ≡ kept_by (marks k place (g ∷ gs)) (map (without_cancel_of k rank) (f ∷ fs))
     by_test ih true h = ap (map (without_cancel_of k rank)) (filter-no (λ (e : Forward). not (is_cancelled_at k rank e)) f fs (ap not (same ∙ h))) ∙ (ih ∙ sym (at true h))
     by_test ih false h = ap (map (without_cancel_of k rank)) (filter-yes (λ (e : Forward). not (is_cancelled_at k rank e)) f fs (ap not (same ∙ h))) ∙ (ap (λ es. without_cancel_of k rank f ∷ es) ih ∙ sym (at false h))
@@ -101,13 +102,16 @@ ended-after k place rest key own (g ∷ gs) asked waits on = by_test (ended-afte
   where
     put : Bool → Bool → Bool → Forwarding
     put a b c = elim a as (λ _. Forwarding) [ true ↦ elim b as (λ _. Forwarding) [ true ↦ record g { live = Some (bound g.key rest) } | false ↦ elim c as (λ _. Forwarding) [ true ↦ record g { over = true } | false ↦ g ] ] | false ↦ g ]
+
     at : (b : Bool) → leaves_at k place g ≡ b → kept_by (marks k place (g ∷ gs)) (map (released k place) (g ∷ gs)) ≡ elim (not b) as (λ _. List Forwarding) [ true ↦ released k place g ∷ kept_by (marks k place gs) (map (released k place) gs) | false ↦ kept_by (marks k place gs) (map (released k place) gs) ]
     at b h = ap (λ (c : Bool). elim (not c) as (λ _. List Forwarding) [ true ↦ released k place g ∷ kept_by (marks k place gs) (map (released k place) gs) | false ↦ kept_by (marks k place gs) (map (released k place) gs) ]) h
+
     goes_on : (filter is_on (map (after k place (Succeeds rest)) gs) ≡ kept_by (marks k place gs) (map (released k place) gs)) → after k place (Succeeds rest) g ≡ g → leaves_at k place g ≡ false → filter is_on (map (after k place (Succeeds rest)) (g ∷ gs)) ≡ kept_by (marks k place (g ∷ gs)) (map (released k place) (g ∷ gs))
     goes_on ih same miss =
         ap (λ (x : Forwarding). filter is_on (x ∷ map (after k place (Succeeds rest)) gs)) same
         ∙ (filter-yes is_on g (map (after k place (Succeeds rest)) gs) on.0
         ∙ (ap (λ hs. g ∷ hs) ih ∙ (ap (λ (x : Forwarding). x ∷ kept_by (marks k place gs) (map (released k place) gs)) (sym (released-at k place g false miss)) ∙ sym (at false miss))))
+
     by_test : (filter is_on (map (after k place (Succeeds rest)) gs) ≡ kept_by (marks k place gs) (map (released k place) gs)) → (b : Bool) → (g.client == k) ≡ b → (c : Bool) → is_number g.cancel place ≡ c → filter is_on (map (after k place (Succeeds rest)) (g ∷ gs)) ≡ kept_by (marks k place (g ∷ gs)) (map (released k place) (g ∷ gs))
     by_test ih false h c e = goes_on ih (ap (λ (x : Bool). elim x as (λ _. Forwarding) [ true ↦ elim (is_request g place) as (λ _. Forwarding) [ true ↦ record g { live = Some (bound g.key rest) } | false ↦ elim (is_number g.cancel place) as (λ _. Forwarding) [ true ↦ record g { over = true } | false ↦ g ] ] | false ↦ g ]) h) (ap (λ b. b && is_number g.cancel place) h)
     by_test ih true h false e = goes_on ih
@@ -135,6 +139,7 @@ ends k place own (g ∷ gs) waits = by_test (ends k place own gs waits.1) (leave
     lives : (o : Option Key) → g.live ≡ o → leaves_at k place g ≡ true → is_none g.live ≡ false
     lives (Some q) e t = ap is_none e
     lives None e t = absurd (let x : None ≡ Some place = sym (waits.0.either e) ∙ number-is g.cancel place (and-right (g.client == k) (is_number g.cancel place) t) in cc)
+
     by_test : Drops Ends (marks k place gs) (map (released k place) gs) → (b : Bool) → leaves_at k place g ≡ b → Drops Ends (stays_on k place g ∷ marks k place gs) (released k place g ∷ map (released k place) gs)
     by_test ih true t =
         subst (λ (b : Bool). Drops Ends (b ∷ marks k place gs) (released k place g ∷ map (released k place) gs)) (sym (ap not t))
@@ -160,9 +165,9 @@ ended-fit k rest key fs gs own own' lost fit next here asked =
     subst (λ es. AreFit es (filter is_on (map (after k (own k).replied (Succeeds rest)) gs)) own' lost) (sym (m.answered true ∙ kept-settled k (own k).replied m.rank own fs gs m.known))
     (subst (λ hs. AreFit (kept_by bs (map (without_cancel_of k m.rank) fs)) hs own' lost) (sym (ended-after k (own k).replied rest key own gs asked fit.awaited (on-listed fs gs fit.listed)))
     (kept-fit bs (map (without_cancel_of k m.rank) fs) (map (released k (own k).replied) gs) own' own' lost moved
-      (drops-map Ends (λ g. g.cancel ≡ None) (λ g e. e.cancel) bs (map (released k (own k).replied) gs) drops)
-      (all-by (λ g. IsAwaited (own' g.client) g) bs (map (released k (own k).replied) gs) moved.awaited)
-      (λ j lives at a late got. has-kept at a.what j bs (map (released k (own k).replied) gs) (drops-map Ends (WaitsNot j at) (ends-wait j at) bs (map (released k (own k).replied) gs) drops) (moved.each j lives at a late got))))
+    (drops-map Ends (λ g. g.cancel ≡ None) (λ g e. e.cancel) bs (map (released k (own k).replied) gs) drops)
+    (all-by (λ g. IsAwaited (own' g.client) g) bs (map (released k (own k).replied) gs) moved.awaited)
+    (λ j lives at a late got. has-kept at a.what j bs (map (released k (own k).replied) gs) (drops-map Ends (WaitsNot j at) (ends-wait j at) bs (map (released k (own k).replied) gs) drops) (moved.each j lives at a late got))))
 
 -- ---- whatever is answered
 

@@ -1,5 +1,5 @@
 -- A channel whose open fails is out.
-use Rattle.std.proofs.Common.{◌≡◌, ◌≤◌, ◌<◌, ℕ, List, [], ◌∷◌, map, true, false, Bool, refl, ◌∙◌, ap, sym, subst, arith}
+use Rattle.std.proofs.Common.{◌≡◌, ◌<◌, ℕ, List, [], ◌∷◌, map, true, false, Bool, refl, ◌∙◌, ap, sym, subst, arith}
 use Rattle.std.specs.Prelude.{filter, not, ◌==◌}
 use Rattle.std.specs.List.{AllByRecursion}
 use Rattle.ssh_grammar.specs.declared.side.Side.{Side}
@@ -12,7 +12,7 @@ use Rattle.channel_table.specs.Stands.{ChannelsFit, Fits}
 use Rattle.mux_core.specs.Stands.{HasSmall, TableFits, is_whole}
 use Rattle.mux_core.proofs.Acts.{DoesAct}
 use Rattle.mux_core.proofs.Apart.{Alone, all-filter, apart-filter, count-filter}
-use Rattle.mux_core.proofs.Fits.{Goes, changed-fit}
+use Rattle.channel_table.proofs.Fits.{Goes, changed-fit}
 
 abbrev stays : ℕ → Entry → Bool
 stays n e = not (e.number == n)

@@ -1,6 +1,6 @@
 -- What the table's look-ups find is what the history's find.
-use Rattle.std.proofs.Common.{◌≡◌, ℕ, List, [], ◌∷◌, map, true, false, Bool, refl, ◌∙◌, ap, sym, subst, Option, Some, None}
-use Rattle.std.specs.Prelude.{filter, find, not, ◌==◌, ◌&&◌, option_map}
+use Rattle.std.proofs.Common.{◌≡◌, ℕ, List, [], ◌∷◌, true, false, Bool, refl, ◌∙◌, ap, sym, subst, Option, Some, None}
+use Rattle.std.specs.Prelude.{filter, find, ◌==◌, ◌&&◌, option_map}
 use Rattle.std.specs.List.{AllByRecursion}
 use Rattle.mux_history.specs.Rows.{Row, rows_of}
 use Rattle.mux_history.specs.Channels.{Channel, any_act, channels_of, held_of, is_confirmed, is_confirms, is_held, is_number}
@@ -13,11 +13,11 @@ use Rattle.window_ledger.specs.declared.ledger.State.TheVariants.{Opened, Confir
 use Rattle.window_ledger.specs.Stands.{IsStateOf, confirmed, is_answered}
 use Rattle.window_ledger.specs.Stands as ledger
 use Rattle.channel_table.specs.Entries.{Entry}
-use Rattle.channel_table.specs.Entries.{AreApart, AreTwo, admitted_at, has_remote, is_at, is_of, ledger_at, number_of_remote}
+use Rattle.channel_table.specs.Entries.{AreApart, AreTwo, has_remote, is_at, is_of, ledger_at}
 use Rattle.channel_table.specs.Stands.{ChannelsFit, Fits}
 use Rattle.mux_core.specs.Lookups.{confirmed_for, confirmed_under, if_confirmed}
 use Rattle.mux_core.proofs.Apart.{Alone, Sole, all-of, alone, passes}
-use Rattle.mux_core.proofs.Fits.{FoundFit, found-fit}
+use Rattle.channel_table.proofs.Fits.{FoundFit, found-fit}
 
 -- ---- a client's channels among all
 
@@ -40,6 +40,7 @@ find-filter {X} p q (x ∷ xs) = by_case (find-filter p q xs) (p x) refl (q x) r
   where
     both : X → Bool
     both y = p y && q y
+
     by_case : find q (filter p xs) ≡ find (λ x. p x && q x) xs → (b : Bool) → p x ≡ b → (c : Bool) → q x ≡ c → find q (filter p (x ∷ xs)) ≡ find (λ y. p y && q y) (x ∷ xs)
     by_case ih true h true t = ap (find q) (filter-yes p x xs h) ∙ (find-yes q x (filter p xs) t ∙ sym (find-yes (λ y. p y && q y) x xs (ap (λ b. b && q x) h ∙ t)))
     by_case ih true h false t = ap (find q) (filter-yes p x xs h) ∙ (find-no q x (filter p xs) t ∙ (ih ∙ sym (find-no (λ y. p y && q y) x xs (ap (λ b. b && q x) h ∙ t))))
@@ -157,11 +158,17 @@ confirmed-entry es k s n l apart h = by_found (find (has_remote s) es) refl
         let answered = and-right (e0.channel.client == k) (confirmed e0.ledger) t in
         let passes_ : is_confirmed_at k s e0 ≡ true = ap (λ b. b && (has_remote s e0 && confirmed e0.ledger)) mine ∙ (ap (λ b. b && confirmed e0.ledger) (passes (has_remote s) e0 es f) ∙ answered) in
         record {
-          entry = e0; number = number; ledger = same; found = f; mine = mine; answered = answered;
+          entry = e0;
+          number = number;
+          ledger = same;
+          found = f;
+          mine = mine;
+          answered = answered;
           only = find-narrow (has_remote s) (is_confirmed_at k s) (remote-sole s) (narrow k s) e0 es apart f ∙ ap (λ b. only_if b e0) passes_;
           at = subst (λ i. find (is_at i) es ≡ Some e0) number (at-number (has_remote s) (remote-sole s) e0 es apart f);
         }
     by_test e0 f false t g = absurd (cc)
+
     by_found : (o : Option Entry) → find (has_remote s) es ≡ o → ConfirmedEntry es k s n l
     by_found None f = absurd (let g : None ≡ Some (n, l) = sym (ap (confirmed_under es k) (ap (option_map (λ (e : Entry). e.number)) f)) ∙ h in cc)
     by_found (Some e0) f = by_test e0 f ((e0.channel.client == k) && confirmed e0.ledger) refl (sym (looked es k s e0 apart f) ∙ h)
@@ -173,6 +180,7 @@ confirmed-none es k s apart h = by_found (find (has_remote s) es) refl
     by_test : (e0 : Entry) → find (has_remote s) es ≡ Some e0 → (b : Bool) → ((e0.channel.client == k) && confirmed e0.ledger) ≡ b → (elim b as (λ _. Option (ℕ × Ledger)) [ true ↦ Some (e0.number, e0.ledger) | false ↦ None ]) ≡ None → find (is_confirmed_at k s) es ≡ None
     by_test e0 f true t g = absurd (cc)
     by_test e0 f false t g = find-narrow (has_remote s) (is_confirmed_at k s) (remote-sole s) (narrow k s) e0 es apart f ∙ ap (λ b. only_if b e0) (ap (λ b. is_of k e0 && (b && confirmed e0.ledger)) (passes (has_remote s) e0 es f) ∙ t)
+
     by_found : (o : Option Entry) → find (has_remote s) es ≡ o → find (is_confirmed_at k s) es ≡ None
     by_found None f = find-none (has_remote s) (is_confirmed_at k s) (narrow k s) es f
     by_found (Some e0) f = by_test e0 f ((e0.channel.client == k) && confirmed e0.ledger) refl (sym (looked es k s e0 apart f) ∙ h)

@@ -1,5 +1,5 @@
 -- The server's success to a forwarding's request: the first that its client has asked with that key is live.
-use Rattle.std.proofs.Common.{◌≡◌, ◌≤◌, ◌<◌, ℕ, List, [], ◌∷◌, ◌++◌, map, true, false, Bool, refl, ◌∙◌, ap, sym, subst, Option, Some, None, arith}
+use Rattle.std.proofs.Common.{◌≡◌, ◌≤◌, ◌<◌, ℕ, List, [], ◌∷◌, map, true, false, Bool, refl, ◌∙◌, ap, sym, subst, Option, Some, None, arith}
 use Rattle.std.specs.Prelude.{find, ◌==◌, ◌&&◌, not, is_some, is_none, slice_get, unwrap_or}
 use Rattle.std.specs.List.{AllByRecursion}
 use Rattle.std.proofs.lemmas.Bool.Decides.{nat_tests}
@@ -11,7 +11,7 @@ use Rattle.mux_history.specs.Forwardings.{Forwarding}
 use Rattle.mux_history.specs.Requests.{Ask}
 use Rattle.mux_history.proofs.Bools.{same-number}
 use Rattle.mux_history.proofs.SameKeys.{is-key}
-use Rattle.mux_history.proofs.Finds.{find-no, find-yes}
+use Rattle.mux_history.proofs.Finds.{find-no}
 use Rattle.forward_rules.specs.State.{Forward}
 use Rattle.forward_rules.specs.Step.{change_first, is_asked_at, with_port}
 use Rattle.forward_rules.specs.Stands.{AreListed, AreTwo, EachTwo, Fits, IsAwaited, Places}
@@ -64,8 +64,10 @@ later-none k place rest g (h ∷ hs) mine idle at two = ap (λ x. x ∷ map (gra
   where
     past : (a b c : ℕ) → (a == c) ≡ true → (b == c) ≡ true → a < b → ⊥
     past a b c p q lt = grind (arith, nat_tests)
+
     same : (b c d : Bool) → (h.client == k) ≡ b → is_none h.live ≡ c → (h.request == place) ≡ d → (b && (c && d)) ≡ false → granted k place rest h ≡ h
     same b c d p q r e = rw (ap (λ x. x && (is_none h.live && (h.request == place))) p ∙ (ap (λ x. b && (x && (h.request == place))) q ∙ (ap (λ x. b && (c && x)) r ∙ e)), granted) refl
+
     one : (b : Bool) → (h.client == k) ≡ b → (c : Bool) → is_none h.live ≡ c → (d : Bool) → (h.request == place) ≡ d → granted k place rest h ≡ h
     one true p true q true r = absurd (past g.request h.request place at r (two.0.asked (same-number g.client k mine ∙ sym (same-number h.client k p)) (none-is g.live idle) (none-is h.live q)))
     one false p c q d r = same false c d p q r refl
@@ -80,11 +82,14 @@ before k place g (h ∷ hs) mine idle le two there = by_case (before k place g h
     left : (a b : Bool) → (a && b) ≡ true → a ≡ true
     left true b e = refl
     left false b e = cc
+
     right : (a b : Bool) → (a && b) ≡ true → b ≡ true
     right true b e = e
     right false b e = cc
+
     late : (a b : ℕ) → b ≤ a → (c : ℕ) → (c == b) ≡ true → a < c → ⊥
     late a b le c e lt = grind (arith, nat_tests)
+
     by_case : (is_some (find (asks_at k place) hs) ≡ true → ⊥) → (b : Bool) → asks_at k place h ≡ b → ⊥
     by_case ih true t =
         let client = left (h.client == k) (is_none h.live && (h.request == place)) t in
@@ -100,12 +105,15 @@ granted-listed k place rest key own (f ∷ fs) (g ∷ gs) listed waits two at as
   where
     Goal : Type 0
     Goal = AreListed (change_first (is_asked_at k key) (is_granted (u32_at 0 rest)) (f ∷ fs)) (map (granted k place rest) (g ∷ gs))
+
     passes : (b c d : Bool) → (g.client == k) ≡ b → is_none g.live ≡ c → (g.request == place) ≡ d → asks_at k place g ≡ (b && (c && d))
     passes b c d p q r = ap (λ x. x && (is_none g.live && (g.request == place))) p ∙ (ap (λ x. b && (x && (g.request == place))) q ∙ ap (λ x. b && (c && x)) r)
+
     not-first : is_asked_at k key f ≡ false → asks_at k place g ≡ false → AreListed (change_first (is_asked_at k key) (is_granted (u32_at 0 rest)) fs) (map (granted k place rest) gs) → AreListed (change_first (is_asked_at k key) (is_granted (u32_at 0 rest)) (f ∷ fs)) (map (granted k place rest) (g ∷ gs))
     not-first unasked miss tail =
         subst (λ xs. AreListed xs (map (granted k place rest) (g ∷ gs))) (sym (ap (λ (b : Bool). elim b as (λ _. List Forward) [ true ↦ is_granted (u32_at 0 rest) f ∷ fs | false ↦ f ∷ change_first (is_asked_at k key) (is_granted (u32_at 0 rest)) fs ]) unasked))
         (subst (λ x. AreListed (f ∷ change_first (is_asked_at k key) (is_granted (u32_at 0 rest)) fs) (x ∷ map (granted k place rest) gs)) (sym (ap (λ (b : Bool). elim b as (λ _. Forwarding) [ true ↦ record g { live = Some (bound g.key rest) } | false ↦ g ]) miss)) (listed.0, tail))
+
     by_case : (is_some (find (asks_at k place) gs) ≡ true → AreListed (change_first (is_asked_at k key) (is_granted (u32_at 0 rest)) fs) (map (granted k place rest) gs)) → (b : Bool) → (g.client == k) ≡ b → (c : Bool) → is_none g.live ≡ c → (d : Bool) → (g.request == place) ≡ d → AreListed (change_first (is_asked_at k key) (is_granted (u32_at 0 rest)) (f ∷ fs)) (map (granted k place rest) (g ∷ gs))
     by_case ih true p true q true r =
         subst (λ xs. AreListed xs (map (granted k place rest) (g ∷ gs))) (sym (ap (λ (b : Bool). elim b as (λ _. List Forward) [ true ↦ is_granted (u32_at 0 rest) f ∷ fs | false ↦ f ∷ change_first (is_asked_at k key) (is_granted (u32_at 0 rest)) fs ]) (asked-key k place key own f g listed.0 (waits.0 p) asked p q r)))
@@ -121,6 +129,7 @@ granted-listed k place rest key own (f ∷ fs) (g ∷ gs) listed waits two at as
         some-of : (o : Option Key) → is_none o ≡ false → is_some o ≡ true
         some-of None h = absurd (cc)
         some-of (Some n) h = refl
+
         never : (b : Bool) → (b && false) ≡ false
         never true = refl
         never false = refl

@@ -1,6 +1,6 @@
 -- The server's success to a request for a forwarding.
-use Rattle.std.proofs.Common.{◌≡◌, ◌≤◌, ◌<◌, ◌+◌, ℕ, List, [], ◌∷◌, length, map, true, false, Bool, refl, ◌∙◌, ap, sym, subst, Option, Some, None, arith}
-use Rattle.std.specs.Prelude.{filter, find, ◌==◌, ◌&&◌, ◌||◌, not, is_some, is_none, unwrap_or, slice_get}
+use Rattle.std.proofs.Common.{◌≡◌, ◌≤◌, ◌<◌, ◌+◌, ℕ, List, [], ◌∷◌, map, true, false, Bool, refl, ◌∙◌, ap, sym, subst, Option, Some, None, arith}
+use Rattle.std.specs.Prelude.{filter, find, ◌==◌, ◌&&◌, ◌||◌, is_some, is_none, unwrap_or, slice_get}
 use Rattle.std.specs.List.{AllByRecursion}
 use Rattle.std.proofs.lemmas.Bool.Decides.{nat_tests}
 use Rattle.ssh_fields.specs.Fields.{u32_at}
@@ -16,15 +16,14 @@ use Rattle.mux_history.specs.Rows.{any_of}
 use Rattle.mux_history.proofs.Finds.{find-no, find-yes}
 use Rattle.mux_history.proofs.CurrentSteps.{is_on}
 use Rattle.forward_rules.specs.State.{Forward}
-use Rattle.forward_rules.specs.Step.{answered, change_first, count_of, is_asked_at}
+use Rattle.forward_rules.specs.Step.{answered, change_first, is_asked_at}
 use Rattle.forward_rules.specs.Stands.{AreFit, AreTwo, HasAt, IsAwaited, Places}
 use Rattle.forward_rules.specs.Stands as stands
-use Rattle.mux_core.proofs.Answering.{replied_more}
-use Rattle.mux_core.proofs.Alike.{AreAlike, Marked, StaysAt, alike-first, few-alike, has-map, order-alike, ranked-alike, two-map}
+use Rattle.mux_core.proofs.Alike.{AreAlike, StaysAt, alike-first, few-alike, has-map, order-alike, ranked-alike, two-map}
 use Rattle.mux_core.proofs.Granted.{Waiting, asks_at, granted, granted-listed, is_granted}
 use Rattle.mux_core.proofs.Pairs.{and-left, and-right, find-any}
 use Rattle.mux_core.proofs.Removed.{on-all, on-listed}
-use Rattle.mux_core.proofs.Replied.{Replies, after, awaited-next, cancel-is, each-next, never, own-of, request-is}
+use Rattle.mux_core.proofs.Replied.{Replies, after, awaited-next, cancel-is, each-next, never, own-of}
 
 -- ---- one of them
 
@@ -57,6 +56,7 @@ granted-after k place rest key own g w asked = by_client (g.client == k) refl
         ∙ (ap (λ (x : Bool). elim x as (λ _. Forwarding) [ true ↦ record g { live = Some (bound g.key rest) } | false ↦ elim (is_number g.cancel place) as (λ _. Forwarding) [ true ↦ record g { over = true } | false ↦ g ] ]) r
         ∙ (ap (λ (x : Bool). elim x as (λ _. Forwarding) [ true ↦ record g { over = true } | false ↦ g ]) (no-cancel-at k place key own g h w asked)
         ∙ sym (granted-at k place rest g false (asks-is k place g h ∙ r))))
+
     by_client : (b : Bool) → (g.client == k) ≡ b → after k place (Succeeds rest) g ≡ granted k place rest g
     by_client true h = mine h (is_request g place) refl
     by_client false h =
@@ -131,8 +131,10 @@ stays-at k j place later rest g past = record {
   where
     clash : (a b c : ℕ) → (a == b) ≡ true → (a == c) ≡ true → b < c → ⊥
     clash a b c p q lt = grind (arith, nat_tests)
+
     joined : (a : ℕ) → (a == k) ≡ true → (a == j) ≡ true → (k == j) ≡ true
     joined a p q = grind (arith, nat_tests)
+
     by_case : ((g.client == j) && stands.is_asked_at later g) ≡ true → (b : Bool) → asks_at k place g ≡ b → (((granted k place rest g).client == j) && stands.is_asked_at later (granted k place rest g)) ≡ true
     by_case h true a =
         let client = joined g.client (and-left (g.client == k) _ a) (and-left (g.client == j) _ h) in
@@ -140,6 +142,7 @@ stays-at k j place later rest g past = record {
         let then_ = and-right (is_none g.live) (g.request == later) (and-right (g.client == j) _ h) in
         absurd (clash g.request place later at then_ (past client))
     by_case h false a = ap (λ (x : Forwarding). (x.client == j) && stands.is_asked_at later x) (granted-at k place rest g false a) ∙ h
+
     by_leaving : ((g.client == j) && stands.is_leaving_at later g) ≡ true → (b : Bool) → (let x : Forwarding = elim b as (λ _. Forwarding) [ true ↦ record g { live = Some (bound g.key rest) } | false ↦ g ] in ((x.client == j) && stands.is_leaving_at later x) ≡ true)
     by_leaving h true = h
     by_leaving h false = h
@@ -168,15 +171,20 @@ granted-fit k rest key fs gs own own' lost fit next here asked =
   where
     place : ℕ
     place = (own k).replied
+
     fs' : List Forward
     fs' = change_first (is_asked_at k key) (is_granted (u32_at 0 rest)) fs
+
     alike : AreAlike fs (change_first (is_asked_at k key) (is_granted (u32_at 0 rest)) fs)
     alike = alike-first (is_asked_at k key) (is_granted (u32_at 0 rest)) (λ f. record { client = refl; cancel = refl }) fs
+
     waiting : (hs : List Forwarding) → AllByRecursion (λ g. IsAwaited (own g.client) g) hs → AllByRecursion (Waiting k (own k)) hs
     waiting [] all = tt
     waiting (h ∷ hs) all = ((λ mine. own-of k own h mine all.0), waiting hs all.1)
+
     there : is_some (find (asks_at k (own k).replied) gs) ≡ true
     there = find-passes (asks_at k (own k).replied) gs ∙ (sym (find-any (λ (g : Forwarding). g.client == k) (stands.is_asked_at (own k).replied) gs) ∙ fit.each k here (own k).replied (record { client = k; what = full.Forward key }) (omega arith) asked)
+
     sooner : (j : ℕ) → (k == j) ≡ true → (at : ℕ) → (own' j).replied ≤ at → (own k).replied < at
     sooner j same at late =
         let e : (own' j).replied ≡ (own j).replied + 1 = ap (λ (x : Places). x.replied) (next.mine j same) in

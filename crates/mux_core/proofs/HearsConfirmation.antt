@@ -1,6 +1,6 @@
 -- The server confirms a client's open.
 use Rattle.std.proofs.Common.{◌≡◌, ◌<◌, ℕ, List, [], ◌∷◌, ◌++◌, length, map, true, false, Bool, refl, ◌∙◌, ap, sym, subst, Option, Some, None, Ok}
-use Rattle.std.specs.Prelude.{filter, find, ◌==◌, ◌&&◌, ◌||◌, not, is_some, is_none, option_map, unwrap_or}
+use Rattle.std.specs.Prelude.{filter, find, ◌==◌, ◌&&◌, not, is_some, is_none, option_map, unwrap_or}
 use Rattle.std.specs.List.{AllByRecursion}
 use Rattle.std.proofs.lemmas.List.{append-nil}
 use Rattle.ssh_grammar.specs.declared.side.Side.{Side}
@@ -9,14 +9,13 @@ use Rattle.ssh_grammar.specs.SpellMessage.{close, with_recipient}
 use Rattle.ssh_grammar.specs.Frames.{frame_payload}
 use Rattle.proxy_frames.specs.State.{QueueState}
 use Rattle.mux_history.specs.declared.broke.Break.TheVariants as broke
-use Rattle.mux_history.specs.Gist.{Closes, Confirmation, Confirms, Gist, Within, read_gist, reading}
+use Rattle.mux_history.specs.Gist.{Closes, Confirmation, Confirms, Within, read_gist, reading}
 use Rattle.mux_history.specs.Rows.{Fate, Goes, Heard, Row, is_admit, loses, rows_of}
-use Rattle.mux_history.specs.Channels.{Channel, after_item, any_by, held_of, heard_by, is_closes, is_confirmed, is_held, is_number, is_up, live_in, opened_down, with_down, with_up, with_ups}
+use Rattle.mux_history.specs.Channels.{Channel, after_item, any_by, held_of, heard_by, is_closes, is_held, is_number, is_up, live_in, opened_down, with_down, with_up, with_ups}
 use Rattle.mux_history.specs.Forwardings.{Forwarding, of_client, replied}
 use Rattle.mux_history.specs.Heard.{Breaks, Dest, ToClient, dest, for_lost, pending_open}
 use Rattle.mux_history.specs.Laws.{with_act}
 use Rattle.mux_history.specs.Ledger.{other_side}
-use Rattle.mux_history.specs.Pending.{joined}
 use Rattle.mux_history.specs.Requests.{asks_of, is_reply, is_sent, replies}
 use Rattle.mux_history.specs.Said.{Outcome, tells}
 use Rattle.mux_history.specs.Treat.{bare}
@@ -35,20 +34,20 @@ use Rattle.channel_table.specs.declared.channel.Channel as table
 use Rattle.channel_table.specs.Entries.{Entry}
 use Rattle.channel_table.specs.Entries.{changed_at, has_remote, number_of_remote, shown_at}
 use Rattle.mux_core.proofs.Confirms.{confirm_remote}
-use Rattle.channel_table.specs.Stands.{ChannelsFit, Fits}
+use Rattle.channel_table.specs.Stands.{Fits}
 use Rattle.mux_core.specs.declared.heard.Heard.TheVariants as heard
-use Rattle.mux_core.specs.State.{CoreState, is_served}
-use Rattle.mux_core.specs.Stands.{HasSmall, Stands, TableFits, has_numbers, is_known, is_whole}
+use Rattle.mux_core.specs.State.{CoreState}
+use Rattle.mux_core.specs.Stands.{Stands, TableFits, has_numbers, is_known, is_whole}
 use Rattle.mux_core.specs.Lookups.{channel_for, waits}
 use Rattle.mux_core.specs.Settling.{is_lost_in, settled}
 use Rattle.mux_core.specs.Calls.{HearsAs}
 use Rattle.mux_core.proofs.Acts.{held-after}
-use Rattle.mux_core.proofs.Altered.{altered-table, apart-remote, at-it, at-other}
+use Rattle.mux_core.proofs.Altered.{altered-table, apart-remote}
 use Rattle.mux_core.proofs.Apart.{all-map, alone, found-of, none-pass, passes}
 use Rattle.mux_core.proofs.Bare.{held-bare}
-use Rattle.mux_core.proofs.Fits.{FoundFit, found-fit}
-use Rattle.mux_core.proofs.HearsOpen.{delivers-row, lost_row, own-number-is, passes-row, pending-is, pending-none, told_row}
-use Rattle.mux_core.proofs.HearsWithin.{Holds, entry-known, holds, is_theirs, known-served, shown-entry, shown-none, shown-number, sole, theirs-found}
+use Rattle.channel_table.proofs.Fits.{FoundFit, found-fit}
+use Rattle.mux_core.proofs.HearsOpen.{delivers-row, own-number-is, passes-row, pending-is, pending-none}
+use Rattle.mux_core.proofs.HearsWithin.{entry-known, holds, is_theirs, known-served, shown-entry, shown-none, shown-number, sole, theirs-found}
 use Rattle.mux_core.proofs.Leaves.{reads-close}
 use Rattle.mux_core.proofs.Opens.{all-unit}
 use Rattle.mux_core.proofs.Quiet.{IsQuiet}
@@ -68,6 +67,7 @@ quiet-confirmed k n s w m p o e ends = record {
     none : (b : Bool) → asks_of k b None ≡ []
     none true = refl
     none false = refl
+
     stay : (place : ℕ) (fs : List Forwarding) → map (of_client k (replied place (Confirmation n s w m))) fs ≡ fs
     stay place [] = refl
     stay place (f ∷ fs) = ap (λ g. g ∷ map (of_client k (replied place (Confirmation n s w m))) fs) (elim (f.client == k) as (λ b. (elim b as (λ _. Forwarding) [ true ↦ f | false ↦ f ]) ≡ f) [ true ↦ refl | false ↦ refl ]) ∙ ap (λ gs. f ∷ gs) (stay place fs)
@@ -145,7 +145,11 @@ not-false false h = refl
 -- it is confirmed
 pub given-fits : (e0 : Entry) (s w m : ℕ) (l : Ledger) (x : Channel) → waits e0.channel e0.ledger ≡ true → IsConfirmed e0.ledger l w m → Fits e0 x → Fits (confirm_remote s l e0) (given s w m x)
 given-fits e0 s w m l x pend confirms fits = record {
-  client = fits.client; by = fits.by; own = fits.own; number = fits.number; remote = refl;
+  client = fits.client;
+  by = fits.by;
+  own = fits.own;
+  number = fits.number;
+  remote = refl;
   ledger = stands-named x.own x.number (Some s) l (with_act Down (Confirms w m) x) (subst (λ (d : Side). ledger.Stands l (with_act d (Confirms w m) x)) (ap other_side (up-is x.by (ap is_up (sym fits.by) ∙ and-left (is_up e0.channel.by) (not (confirmed e0.ledger)) pend))) (confirms x fits.ledger));
   held = fits.held;
 }
@@ -156,7 +160,11 @@ closed-fits e0 s w m l x pend confirms so fits =
     let first = given-fits e0 s w m l x pend confirms fits in
     let none : x.acts ≡ [] = fresh-acts e0.ledger.state x fits.ledger (not-false (confirmed e0.ledger) (and-right (is_up e0.channel.by) (not (confirmed e0.ledger)) pend)) in
     record {
-      client = fits.client; by = fits.by; own = fits.own; number = fits.number; remote = refl;
+      client = fits.client;
+      by = fits.by;
+      own = fits.own;
+      number = fits.number;
+      remote = refl;
       ledger = left-now l.state (given s w m x) first.ledger so (ap (any_by Up is_closes) none);
       held = held-after Up Closes (given s w m x) refl fits.held ∙ ap (λ b. not b) (ap (λ acts. any_by Down is_closes acts) none);
     }
@@ -168,6 +176,7 @@ whole-given e0 s l pend so whole =
     plain-and : (b : Bool) → (b && true) ≡ b
     plain-and true = refl
     plain-and false = refl
+
     by_opener : (c : Bool) (by : Side) → c ≡ false → is_up by ≡ true → has_numbers c by e0.channel.own e0.channel.remote ≡ true → is_some e0.channel.own ≡ true
     by_opener true by h u wh = absurd (cc)
     by_opener false Up h u wh = and-left (is_some e0.channel.own) (is_none e0.channel.remote) wh
@@ -208,11 +217,11 @@ confirmed-table after s n r w m l e0 rows st found none small pend so it stays =
     let free = none-pass (has_remote r) s.channels none in
     let mine : is_theirs e0.channel.client n e0 ≡ true = passes (is_theirs e0.channel.client n) e0 s.channels (theirs-found s n e0 rows st found) in
     altered-table (free_of r) (is_theirs e0.channel.client n) (confirm_remote r l) (confirm after e0.channel.client n r w m) e0 s.channels (held_of rows)
-      (λ x fits. subst (Fits (confirm_remote r l e0)) (sym (confirm-it after e0.channel.client n r w m e0 x fits mine)) (it x fits))
-      (λ e x f fits h. confirm-others after e0.channel.client n r w m e x (stays x) f fits h)
-      (λ e. refl) refl (whole-given e0 r l pend so (found-of (λ e. is_whole e ≡ true) (shown_at n) e0 s.channels st.channels.whole found)) (λ t h. some-small r t h small)
-      (apart-remote e0.number r l s.channels free st.channels.apart) free
-      (alone (is_theirs e0.channel.client n) (sole e0.channel.client n) e0 s.channels st.channels.apart (theirs-found s n e0 rows st found)) st.channels
+    (λ x fits. subst (Fits (confirm_remote r l e0)) (sym (confirm-it after e0.channel.client n r w m e0 x fits mine)) (it x fits))
+    (λ e x f fits h. confirm-others after e0.channel.client n r w m e x (stays x) f fits h)
+    (λ e. refl) refl (whole-given e0 r l pend so (found-of (λ e. is_whole e ≡ true) (shown_at n) e0 s.channels st.channels.whole found)) (λ t h. some-small r t h small)
+    (apart-remote e0.number r l s.channels free st.channels.apart) free
+    (alone (is_theirs e0.channel.client n) (sole e0.channel.client n) e0 s.channels st.channels.apart (theirs-found s n e0 rows st found)) st.channels
 
 -- CLOSE changes no channel of another number
 close-others : (s : ℕ) (x : Channel) → is_number x.remote s ≡ false → closes s x ≡ x
@@ -306,13 +315,13 @@ confirmation-given s new n r w m p up c l l' rows st looks here pend free small 
     let gives : IsConfirmed sh.entry.ledger l' w m = subst (λ (a : Ledger). IsConfirmed a l' w m) (sym sh.ledger) confirms in
     subst (λ (d : table.Channel). HearsAs new p (with_recipient p (unwrap_or d.own 0)) up up (heard.Client d.client 0) rows (dest rows p)) sh.channel
     (delivers-row s new sh.entry.channel.client p (with_recipient p (unwrap_or sh.entry.channel.own 0)) (Confirmation n r w m) (changed_at sh.entry.number (confirm_remote r l') s.channels) up rows st serves e
-      (quiet-confirmed sh.entry.channel.client n r w m p (tells (frame_payload (with_recipient p (unwrap_or sh.entry.channel.own 0)))) e refl)
-      (dest-confirmation rows n r w m p (Some x.channel) None e (pending-is sh.entry n rows true waiting x) (none-live s r rows st none) ∙ ap ToClient (sym x.fits.client))
-      (ap (λ i. tells (frame_payload (with_recipient p i))) (own-number-is sh.entry n rows x))
-      (subst (TableFits (changed_at sh.entry.number (confirm_remote r l') s.channels)) (sym (confirmed-channels sh.entry.channel.client n r w m p (tells (frame_payload (with_recipient p (unwrap_or sh.entry.channel.own 0)))) rows e refl))
-        (confirmed-table plain s n r w m l' sh.entry rows st sh.found none small waiting so (λ y fits. given-fits sh.entry r w m l' y waiting gives fits) (λ y h. refl)))
-      (known-altered s sh.entry.number r l' st.known.channels)
-      (after ∙ ap (λ (i : ℕ). let u : CoreState = record s { channels = changed_at i (confirm_remote r l') s.channels } in u) (sym sh.number)))
+    (quiet-confirmed sh.entry.channel.client n r w m p (tells (frame_payload (with_recipient p (unwrap_or sh.entry.channel.own 0)))) e refl)
+    (dest-confirmation rows n r w m p (Some x.channel) None e (pending-is sh.entry n rows true waiting x) (none-live s r rows st none) ∙ ap ToClient (sym x.fits.client))
+    (ap (λ i. tells (frame_payload (with_recipient p i))) (own-number-is sh.entry n rows x))
+    (subst (TableFits (changed_at sh.entry.number (confirm_remote r l') s.channels)) (sym (confirmed-channels sh.entry.channel.client n r w m p (tells (frame_payload (with_recipient p (unwrap_or sh.entry.channel.own 0)))) rows e refl))
+    (confirmed-table plain s n r w m l' sh.entry rows st sh.found none small waiting so (λ y fits. given-fits sh.entry r w m l' y waiting gives fits) (λ y h. refl)))
+    (known-altered s sh.entry.number r l' st.known.channels)
+    (after ∙ ap (λ (i : ℕ). let u : CoreState = record s { channels = changed_at i (confirm_remote r l') s.channels } in u) (sym sh.number)))
 
 pub confirmation-lost : (s new : CoreState) (n r w m : ℕ) (p p' : List ℕ) (up up' : QueueState) (c : table.Channel) (l l' : Ledger) (rows : List Row) → Stands s rows → channel_for s.channels n ≡ Some (c, l) → is_lost_in s.clients c.client ≡ true → waits c l ≡ true → is_some (number_of_remote s.channels r) ≡ false → r < 4294967296 → IsConfirmed l l' w m → confirmed l' ≡ true → confirmed (account.left l') ≡ true → up'.waiting ≡ up.waiting ++ frame_payload (close r) → new ≡ settled (record s { channels = changed_at n (confirm_remote r (account.left l')) s.channels }) c.client → read_gist p ≡ Ok (Confirmation n r w m) → HearsAs new p p' up up' (heard.Lost c.client) rows (dest rows p)
 confirmation-lost s new n r w m p p' up up' c l l' rows st looks lost pend free small confirms so left-so sent after e =
@@ -323,13 +332,13 @@ confirmation-lost s new n r w m p p' up up' c l l' rows st looks lost pend free 
     let gives : IsConfirmed sh.entry.ledger l' w m = subst (λ (a : Ledger). IsConfirmed a l' w m) (sym sh.ledger) confirms in
     subst (λ (d : table.Channel). HearsAs new p p' up up' (heard.Lost d.client) rows (dest rows p)) sh.channel
     (passes-row s new sh.entry.channel.client p p' (Confirmation n r w m) (changed_at sh.entry.number (confirm_remote r (account.left l')) s.channels) up up' rows st (subst (λ (d : table.Channel). is_lost_in s.clients d.client ≡ true) (sym sh.channel) lost) e
-      (quiet-confirmed sh.entry.channel.client n r w m p (for_lost (rows_of sh.entry.channel.client rows) (Confirmation n r w m)) e refl)
-      (dest-confirmation rows n r w m p (Some x.channel) None e (pending-is sh.entry n rows true waiting x) (none-live s r rows st none) ∙ ap ToClient (sym x.fits.client))
-      (sent ∙ ap (λ ys. up.waiting ++ ys) (sym (append-nil (frame_payload (close r)))))
-      (subst (TableFits (changed_at sh.entry.number (confirm_remote r (account.left l')) s.channels)) (sym (closed-channels sh.entry.channel.client n r w m p (for_lost (rows_of sh.entry.channel.client rows) (Confirmation n r w m)) rows e small refl))
-        (confirmed-table (closes r) s n r w m (account.left l') sh.entry rows st sh.found none small waiting left-so (λ y fits. subst (Fits (confirm_remote r (account.left l') sh.entry)) (sym (close-it r w m y fits.held)) (closed-fits sh.entry r w m l' y waiting gives so fits)) (close-others r)))
-      (known-altered s sh.entry.number r (account.left l') st.known.channels)
-      (after ∙ (ap (λ (i : ℕ). settled (record s { channels = changed_at i (confirm_remote r (account.left l')) s.channels }) c.client) (sym sh.number) ∙ ap (λ (d : table.Channel). settled (record s { channels = changed_at sh.entry.number (confirm_remote r (account.left l')) s.channels }) d.client) (sym sh.channel))))
+    (quiet-confirmed sh.entry.channel.client n r w m p (for_lost (rows_of sh.entry.channel.client rows) (Confirmation n r w m)) e refl)
+    (dest-confirmation rows n r w m p (Some x.channel) None e (pending-is sh.entry n rows true waiting x) (none-live s r rows st none) ∙ ap ToClient (sym x.fits.client))
+    (sent ∙ ap (λ ys. up.waiting ++ ys) (sym (append-nil (frame_payload (close r)))))
+    (subst (TableFits (changed_at sh.entry.number (confirm_remote r (account.left l')) s.channels)) (sym (closed-channels sh.entry.channel.client n r w m p (for_lost (rows_of sh.entry.channel.client rows) (Confirmation n r w m)) rows e small refl))
+    (confirmed-table (closes r) s n r w m (account.left l') sh.entry rows st sh.found none small waiting left-so (λ y fits. subst (Fits (confirm_remote r (account.left l') sh.entry)) (sym (close-it r w m y fits.held)) (closed-fits sh.entry r w m l' y waiting gives so fits)) (close-others r)))
+    (known-altered s sh.entry.number r (account.left l') st.known.channels)
+    (after ∙ (ap (λ (i : ℕ). settled (record s { channels = changed_at i (confirm_remote r (account.left l')) s.channels }) c.client) (sym sh.number) ∙ ap (λ (d : table.Channel). settled (record s { channels = changed_at sh.entry.number (confirm_remote r (account.left l')) s.channels }) d.client) (sym sh.channel))))
 
 pub idle-ledger : (c : table.Channel) (l : Ledger) → waits c l ≡ true → confirmed l ≡ false
 idle-ledger c l pend = not-false (confirmed l) (and-right (is_up c.by) (not (confirmed l)) pend)

@@ -1,29 +1,27 @@
 -- The server's answer to a client's open.
-use Rattle.std.proofs.Common.{◌≡◌, ℕ, List, [], ◌∷◌, ◌++◌, length, map, true, false, Bool, refl, ◌∙◌, ap, sym, subst, Option, Some, None, Ok}
-use Rattle.std.specs.Prelude.{filter, find, ◌==◌, ◌&&◌, ◌||◌, not, is_some, unwrap_or}
+use Rattle.std.proofs.Common.{◌≡◌, ℕ, List, [], ◌∷◌, ◌++◌, map, true, false, Bool, refl, ◌∙◌, ap, sym, subst, Option, Some, None, Ok}
+use Rattle.std.specs.Prelude.{find, ◌==◌, ◌&&◌, not, unwrap_or}
 use Rattle.std.specs.List.{AllByRecursion}
 use Rattle.std.proofs.lemmas.List.{append-nil}
-use Rattle.ssh_grammar.specs.declared.side.Side.TheVariants.{Down, Up}
+use Rattle.ssh_grammar.specs.declared.side.Side.TheVariants.{Down}
 use Rattle.ssh_grammar.specs.SpellMessage.{with_recipient}
 use Rattle.ssh_grammar.specs.Frames.{frame_payload}
 use Rattle.proxy_frames.specs.State.{QueueState}
 use Rattle.mux_history.specs.declared.broke.Break.TheVariants as broke
 use Rattle.mux_history.specs.Gist.{Fails, Gist, Within, read_gist}
 use Rattle.mux_history.specs.Rows.{Heard, Row, is_lost, rows_of}
-use Rattle.mux_history.specs.Channels.{Channel, held_of, holder, is_confirmed, is_number, is_up}
+use Rattle.mux_history.specs.Channels.{Channel, held_of, holder, is_confirmed, is_up}
 use Rattle.mux_history.specs.Farewell.{late}
-use Rattle.mux_history.specs.Heard.{Breaks, Dest, ToClient, dest, dest_gist, for_client, for_lost, heard_for, is_pending, own_number, pending_open}
+use Rattle.mux_history.specs.Heard.{Breaks, Dest, ToClient, dest, for_client, for_lost, heard_for, is_pending, own_number, pending_open}
 use Rattle.mux_history.specs.Pending.{joined}
 use Rattle.mux_history.specs.Said.{Outcome, tells}
 use Rattle.mux_history.specs.Treat.{all_told, bare}
 use Rattle.mux_history.proofs.Bools.{self}
 use Rattle.mux_history.proofs.Dests.{dest-ok}
 use Rattle.window_ledger.specs.declared.ledger.Ledger.{Ledger}
-use Rattle.window_ledger.specs.Stands.{confirmed}
 use Rattle.channel_table.specs.declared.channel.Channel as table
 use Rattle.channel_table.specs.Entries.{Entry}
 use Rattle.channel_table.specs.Entries.{freed, shown_at}
-use Rattle.client_teardown.specs.Leaving.{with_payloads}
 use Rattle.mux_core.specs.declared.heard.Heard.TheVariants as heard
 use Rattle.mux_core.specs.State.{CoreState, is_served}
 use Rattle.mux_core.specs.Stands.{Stands, TableFits, is_known, look}
@@ -33,9 +31,9 @@ use Rattle.mux_core.specs.Calls.{HearsAs, HearsClient}
 use Rattle.mux_core.proofs.Apart.{all-filter, alone}
 use Rattle.mux_core.proofs.Bare.{down_act}
 use Rattle.mux_core.proofs.Failing.{free-table}
-use Rattle.mux_core.proofs.Fits.{FoundFit}
+use Rattle.channel_table.proofs.Fits.{FoundFit}
 use Rattle.mux_core.proofs.Found.{stands-confirmed}
-use Rattle.mux_core.proofs.HearsWithin.{Holds, Shown, does, entry-known, heard-channels, holder-fit, holds, is_theirs, known-served, own-holder, quiet-heard, shown-entry, shown-none, sole, theirs-found}
+use Rattle.mux_core.proofs.HearsWithin.{Holds, does, entry-known, heard-channels, holder-fit, holds, is_theirs, known-served, own-holder, quiet-heard, shown-entry, shown-none, sole, theirs-found}
 use Rattle.mux_core.proofs.Quiet.{IsQuiet}
 use Rattle.mux_core.proofs.Says.{tells-own}
 use Rattle.mux_core.proofs.Served.{IsServed, quiet-stands, served}
@@ -140,12 +138,12 @@ failure-given s new n p up c l rows st looks here pend after e =
     let serves = known-served sh.entry.channel.client s.clients (entry-known s n sh.entry st.known.channels sh.found) (subst (λ (d : table.Channel). is_lost_in s.clients d.client ≡ false) (sym sh.channel) here) in
     subst (λ (d : table.Channel). HearsAs new p (with_recipient p (unwrap_or d.own 0)) up up (heard.Client d.client 0) rows (dest rows p)) sh.channel
     (delivers-row s new sh.entry.channel.client p (with_recipient p (unwrap_or sh.entry.channel.own 0)) (Within n Fails) (freed sh.entry.number s.channels) up rows st serves e
-      (quiet-heard sh.entry.channel.client n Fails p (tells (frame_payload (with_recipient p (unwrap_or sh.entry.channel.own 0)))) e refl)
-      (dest-failure rows n p (Some x.channel) e (pending-is sh.entry n rows true w x) ∙ ap ToClient (sym x.fits.client))
-      (ap (λ i. tells (frame_payload (with_recipient p i))) (own-number-is sh.entry n rows x))
-      (failure-table s n p sh.entry (tells (frame_payload (with_recipient p (unwrap_or sh.entry.channel.own 0)))) rows st sh.found refl e)
-      (freed-known s sh.entry.number st.known.channels)
-      (after ∙ ap (λ (i : ℕ). let u : CoreState = record s { channels = freed i s.channels } in u) (sym sh.number)))
+    (quiet-heard sh.entry.channel.client n Fails p (tells (frame_payload (with_recipient p (unwrap_or sh.entry.channel.own 0)))) e refl)
+    (dest-failure rows n p (Some x.channel) e (pending-is sh.entry n rows true w x) ∙ ap ToClient (sym x.fits.client))
+    (ap (λ i. tells (frame_payload (with_recipient p i))) (own-number-is sh.entry n rows x))
+    (failure-table s n p sh.entry (tells (frame_payload (with_recipient p (unwrap_or sh.entry.channel.own 0)))) rows st sh.found refl e)
+    (freed-known s sh.entry.number st.known.channels)
+    (after ∙ ap (λ (i : ℕ). let u : CoreState = record s { channels = freed i s.channels } in u) (sym sh.number)))
 
 pub failure-lost : (s new : CoreState) (n : ℕ) (p p' : List ℕ) (up : QueueState) (c : table.Channel) (l : Ledger) (rows : List Row) → Stands s rows → channel_for s.channels n ≡ Some (c, l) → is_lost_in s.clients c.client ≡ true → waits c l ≡ true → new ≡ settled (record s { channels = freed n s.channels }) c.client → read_gist p ≡ Ok (Within n Fails) → HearsAs new p p' up up (heard.Lost c.client) rows (dest rows p)
 failure-lost s new n p p' up c l rows st looks lost pend after e =
@@ -154,9 +152,9 @@ failure-lost s new n p p' up c l rows st looks lost pend after e =
     let w : waits sh.entry.channel sh.entry.ledger ≡ true = ap (λ (d : table.Channel). waits d sh.entry.ledger) sh.channel ∙ (ap (waits c) sh.ledger ∙ pend) in
     subst (λ (d : table.Channel). HearsAs new p p' up up (heard.Lost d.client) rows (dest rows p)) sh.channel
     (passes-row s new sh.entry.channel.client p p' (Within n Fails) (freed sh.entry.number s.channels) up up rows st (subst (λ (d : table.Channel). is_lost_in s.clients d.client ≡ true) (sym sh.channel) lost) e
-      (quiet-heard sh.entry.channel.client n Fails p (for_lost (rows_of sh.entry.channel.client rows) (Within n Fails)) e refl)
-      (dest-failure rows n p (Some x.channel) e (pending-is sh.entry n rows true w x) ∙ ap ToClient (sym x.fits.client))
-      (sym (append-nil up.waiting))
-      (failure-table s n p sh.entry (for_lost (rows_of sh.entry.channel.client rows) (Within n Fails)) rows st sh.found refl e)
-      (freed-known s sh.entry.number st.known.channels)
-      (after ∙ (ap (λ (i : ℕ). settled (record s { channels = freed i s.channels }) c.client) (sym sh.number) ∙ ap (λ (d : table.Channel). settled (record s { channels = freed sh.entry.number s.channels }) d.client) (sym sh.channel))))
+    (quiet-heard sh.entry.channel.client n Fails p (for_lost (rows_of sh.entry.channel.client rows) (Within n Fails)) e refl)
+    (dest-failure rows n p (Some x.channel) e (pending-is sh.entry n rows true w x) ∙ ap ToClient (sym x.fits.client))
+    (sym (append-nil up.waiting))
+    (failure-table s n p sh.entry (for_lost (rows_of sh.entry.channel.client rows) (Within n Fails)) rows st sh.found refl e)
+    (freed-known s sh.entry.number st.known.channels)
+    (after ∙ (ap (λ (i : ℕ). settled (record s { channels = freed i s.channels }) c.client) (sym sh.number) ∙ ap (λ (d : table.Channel). settled (record s { channels = freed sh.entry.number s.channels }) d.client) (sym sh.channel))))

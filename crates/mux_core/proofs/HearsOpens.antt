@@ -1,6 +1,6 @@
 -- The server opens a channel: to the client of a live forwarding, or the master answers.
-use Rattle.std.proofs.Common.{◌≡◌, ◌≤◌, ◌<◌, ◌≢◌, ℕ, List, [], ◌∷◌, ◌++◌, length, map, true, false, Bool, refl, ◌∙◌, ap, sym, subst, Option, Some, None, Ok, arith}
-use Rattle.std.specs.Prelude.{filter, find, ◌==◌, ◌&&◌, ◌||◌, not, is_some, is_none, option_map, unwrap_or, nat_lt}
+use Rattle.std.proofs.Common.{◌≡◌, ◌<◌, ◌≢◌, ℕ, List, [], ◌∷◌, ◌++◌, length, map, true, false, Bool, refl, ◌∙◌, ap, sym, subst, Option, Some, None, Ok, arith}
+use Rattle.std.specs.Prelude.{filter, find, ◌==◌, ◌&&◌, ◌||◌, not, is_some, option_map, unwrap_or, nat_lt}
 use Rattle.std.specs.List.{AllByRecursion}
 use Rattle.std.proofs.lemmas.List.{append-nil}
 use Rattle.std.proofs.lemmas.List.Elements.{filter-append}
@@ -15,18 +15,17 @@ use Rattle.ssh_grammar.specs.Frames.{frame_payload}
 use Rattle.proxy_frames.specs.State.{QueueState}
 use Rattle.mux_history.specs.declared.broke.Break.TheVariants as broke
 use Rattle.mux_history.specs.declared.limits.TheConstants.{MAX_CHANNELS, NUMBERS_END}
-use Rattle.mux_history.specs.Gist.{Fails, Gist, Open, Within, read_gist, reading}
+use Rattle.mux_history.specs.Gist.{Fails, Open, Within, read_gist, reading}
 use Rattle.mux_history.specs.Rows.{Fate, Goes, Heard, Row, any_of, is_admit, is_lost, loses, rows_of}
-use Rattle.mux_history.specs.Channels.{Channel, after_item, held_of, heard_by, is_held, is_number, live_in, opened_down, with_down, with_up, with_ups}
+use Rattle.mux_history.specs.Channels.{Channel, after_item, held_of, is_held, is_number, live_in, opened_down, with_down, with_up, with_ups}
 use Rattle.mux_history.specs.Keys.{has_key, is_key}
-use Rattle.mux_history.specs.Farewell.{has_open_matters}
 use Rattle.mux_history.specs.Forwardings.{Forwarding, current, live_at, of_client, replied}
-use Rattle.mux_history.specs.Heard.{Breaks, Dest, ToClient, ToMaster, dest, for_client, for_lost, for_master, heard_for, heard_master}
+use Rattle.mux_history.specs.Heard.{Breaks, Dest, ToClient, ToMaster, dest, for_client, for_lost, heard_for, heard_master}
 use Rattle.mux_history.specs.Pending.{joined}
 use Rattle.mux_history.specs.Requests.{asks, asks_of, is_reply, is_sent, replies}
 use Rattle.mux_history.specs.Said.{Outcome, sends, tells}
 use Rattle.mux_history.specs.Treat.{all_told, bare}
-use Rattle.mux_history.proofs.Bools.{same-number, self}
+use Rattle.mux_history.proofs.Bools.{same-number}
 use Rattle.mux_history.proofs.Dests.{dest-ok}
 use Rattle.mux_history.proofs.Finds.{find-no, find-yes}
 use Rattle.mux_history.proofs.Local as local
@@ -35,14 +34,12 @@ use Rattle.window_ledger.specs.declared.ledger.Ledger.{Ledger}
 use Rattle.window_ledger.specs.Stands.{IsBegun, confirmed}
 use Rattle.window_ledger.specs.Stands as ledger
 use Rattle.channel_table.specs.Entries.{Entry}
-use Rattle.channel_table.specs.Entries.{AreTwo, IsFree, count_of, full_refusal, has_remote, is_at, is_of, number_of_remote, remote_entry, remote_refusal, unless, unless_held}
+use Rattle.channel_table.specs.Entries.{AreTwo, IsFree, count_of, full_refusal, has_remote, is_at, number_of_remote, remote_entry, remote_refusal, unless, unless_held}
 use Rattle.channel_table.specs.declared.channel.Refused.TheVariants as refused
 use Rattle.channel_table.specs.Stands.{ChannelsFit, Fits}
 use Rattle.forward_rules.specs.State.{Forward}
-use Rattle.forward_rules.specs.Step.{is_live_at, owner_at}
+use Rattle.forward_rules.specs.Step.{is_live_at}
 use Rattle.forward_rules.specs.Stands.{AreFit, AreListed, Places, places_of}
-use Rattle.forward_rules.specs.Stands as kept
-use Rattle.client_teardown.specs.Leaving.{with_payloads}
 use Rattle.mux_core.specs.declared.heard.Heard.TheVariants as heard
 use Rattle.mux_core.specs.State.{CoreState, is_served}
 use Rattle.mux_core.specs.Stands.{AsksFit, ClientsFit, HasSmall, Look, Stands, TableFits, has_matters, has_numbers, is_known, is_whole, look}
@@ -50,13 +47,13 @@ use Rattle.mux_core.specs.Opening.{owner_for}
 use Rattle.mux_core.specs.Calls.{HearsAs, HearsClient, HearsMaster}
 use Rattle.mux_core.proofs.Apart.{none-pass}
 use Rattle.mux_core.proofs.Bare.{held-bare}
-use Rattle.mux_core.proofs.Fits.{more-fit}
+use Rattle.channel_table.proofs.Fits.{more-fit}
 use Rattle.mux_core.proofs.Found.{held-local}
 use Rattle.mux_core.proofs.HearsConfirmation.{IsLive, is-free, is-live, live, none-live}
 use Rattle.mux_core.proofs.HearsOpen.{delivers-row, told_row}
 use Rattle.mux_core.proofs.Opens.{all-append, apart-append, few-append, own-count, served-known}
 use Rattle.mux_core.proofs.Quiet.{IsQuiet, admitted-same, look-same, lost-same, own-same, places-same}
-use Rattle.mux_core.proofs.Says.{held-held, map-same, tells-own}
+use Rattle.mux_core.proofs.Says.{held-held, map-same}
 use Rattle.mux_core.proofs.Served.{IsServed, served}
 use Rattle.mux_core.proofs.Silent.{tells-nothing}
 
@@ -96,6 +93,7 @@ quiet-opened k s w m what p o e ends = record {
     none : (b : Bool) → asks_of k b None ≡ []
     none true = refl
     none false = refl
+
     stay : (place : ℕ) (fs : List Forwarding) → map (of_client k (replied place (Open what s w m))) fs ≡ fs
     stay place [] = refl
     stay place (f ∷ fs) = ap (λ g. g ∷ map (of_client k (replied place (Open what s w m))) fs) (elim (f.client == k) as (λ b. (elim b as (λ _. Forwarding) [ true ↦ f | false ↦ f ]) ≡ f) [ true ↦ refl | false ↦ refl ]) ∙ ap (λ gs. f ∷ gs) (stay place fs)
@@ -123,6 +121,7 @@ failed-held s k r w m what p q rows st none e f =
       | true ↦ refl
       | false ↦ reading-ok p (Open what r w m) (opened_down k (q ∷ [])) [] e
     ]
+
     same : (x : Channel) → is_number x.remote r ≡ false → after_item (bare (Heard p) k (sends q)) x ≡ x
     same x h =
         ap (λ y. elim (x.client == k) as (λ _. Channel) [ true ↦ with_ups None (q ∷ []) y | false ↦ x ]) (reading-ok p (Open what r w m) (λ g. with_down g x) x e)
@@ -143,8 +142,10 @@ list-find key (f ∷ fs) (g ∷ gs) fit = by_case (list-find key fs gs fit.1) (i
         ap (λ b. b && is_key f.key key) (fit.0.live ∙ ap is_some h)
         ∙ (ap (λ i. is_key i key) (fit.0.key ∙ ap (λ o. unwrap_or o g.key) h)
         ∙ ap (λ o. has_key o key) (sym h))
+
     same : is_live_at key f ≡ has_key g.live key
     same = by_live g.live refl
+
     by_case : option_map (λ (f : Forward). f.client) (find (is_live_at key) fs) ≡ option_map (λ (g : Forwarding). g.client) (find (λ (g : Forwarding). has_key g.live key) gs) → (b : Bool) → is_live_at key f ≡ b → option_map (λ (f : Forward). f.client) (find (is_live_at key) (f ∷ fs)) ≡ option_map (λ (g : Forwarding). g.client) (find (λ (g : Forwarding). has_key g.live key) (g ∷ gs))
     by_case ih true h = ap (option_map (λ (f : Forward). f.client)) (find-yes (is_live_at key) f fs h) ∙ (ap Some fit.0.client ∙ sym (ap (option_map (λ (g : Forwarding). g.client)) (find-yes (λ (g : Forwarding). has_key g.live key) g gs (sym same ∙ h))))
     by_case ih false h = ap (option_map (λ (f : Forward). f.client)) (find-no (is_live_at key) f fs h) ∙ (ih ∙ sym (ap (option_map (λ (g : Forwarding). g.client)) (find-no (λ (g : Forwarding). has_key g.live key) g gs (sym same ∙ h))))
@@ -159,6 +160,7 @@ dest-opened s r w m what p rows st e none = dest-ok rows p (Open what r w m) e �
     by_found : (key : Key) (o : Option Forwarding) → live_at rows key ≡ o → (elim o as (λ _. Dest) [ Some f ↦ ToClient f.client | None ↦ ToMaster ]) ≡ to (option_map (λ (g : Forwarding). g.client) o)
     by_found key None h = refl
     by_found key (Some g) h = refl
+
     by_what : (what' : Opens) → (elim what' as (λ _. Dest) [
       | Forwarded key ↦ elim (live_in rows r) as (λ _. Dest) [ Some x ↦ Breaks (broke.NumberInUse r) | None ↦ elim (live_at rows key) as (λ _. Dest) [ Some f ↦ ToClient f.client | None ↦ ToMaster ] ]
       | _ ↦ elim (live_in rows r) as (λ _. Dest) [ Some x ↦ Breaks (broke.NumberInUse r) | None ↦ ToMaster ]
@@ -242,11 +244,14 @@ open-full s k r w m what p p' up up' rows st free owner full e f sent =
 
 two-remote : (es : List Entry) (n k r : ℕ) (l : Ledger) → AllByRecursion (λ e. is_at n e ≡ false) es → AllByRecursion (λ e. has_remote r e ≡ false) es → AllByRecursion (λ f. AreTwo f (remote_entry n k r l)) es
 two-remote [] n k r l a b = tt
-two-remote (f ∷ fs) n k r l a b = (record {
-  number = a.0;
-  remote = λ t h. by_number t (r == t) refl h;
-  own = λ c same h. refl;
-}, two-remote fs n k r l a.1 b.1)
+two-remote (f ∷ fs) n k r l a b = (
+  record {
+    number = a.0;
+    remote = λ t h. by_number t (r == t) refl h;
+    own = λ c same h. refl;
+  },
+  two-remote fs n k r l a.1 b.1,
+)
   where
     by_number : (t : ℕ) (x : Bool) → (r == t) ≡ x → is_number f.channel.remote t ≡ true → (r == t) ≡ false
     by_number t true e h = absurd (let c : is_number f.channel.remote t ≡ false = subst (λ i. is_number f.channel.remote i ≡ false) (same-number r t e) b.0 in let d = sym h ∙ c in cc)
@@ -275,18 +280,18 @@ open-given s new k n r w m what p l up rows st free owner room small fresh waits
     let few : count_of s.channels k < MAX_CHANNELS = grind (arith, nat_tests) in
     let fits : Fits (remote_entry n k r l) (record { client = k; by = Down; own = None; number = None; remote = Some r; window = w; maximum = m; acts = [] }) = record { client = refl; by = refl; own = refl; number = refl; remote = refl; ledger = begins _ (record { opener = refl; first = refl; longest = refl; fresh = refl }); held = refl } in
     delivers-row s new k p p (Open what r w m) (s.channels ++ remote_entry n k r l ∷ []) up rows st serves e (quiet-opened k r w m what p (tells (frame_payload p)) e refl)
-      (dest-opened s r w m what p rows st e (none-live s r rows st none) ∙ ap to owner)
-      (ap (λ (b : Bool). elim b as (λ _. Outcome) [ true ↦ tells (frame_payload p) | false ↦ sends (open_failure r RESOURCE_SHORTAGE too_many_channels) ]) (ap (λ i. nat_lt i MAX_CHANNELS) (own-count s k rows st) ∙ room))
-      (record {
-        fit = subst (ChannelsFit (s.channels ++ remote_entry n k r l ∷ [])) (sym (opened-held k r w m what p rows (not-zero k is.nonzero) e)) (more-fit (remote_entry n k r l) _ fits s.channels (held_of rows) st.channels.fit);
-        apart = apart-append (remote_entry n k r l) s.channels st.channels.apart (two-remote s.channels n k r l (none-pass (is_at n) s.channels fresh.unused) (none-pass (has_remote r) s.channels none));
-        few = λ j. few-append j (remote_entry n k r l) s.channels (λ h. subst (λ i. count_of s.channels i < MAX_CHANNELS) (same-number k j h) few) (st.channels.few j);
-        whole = all-append (λ e. is_whole e ≡ true) (remote_entry n k r l) (ap (λ b. has_numbers b Down None (Some r)) waits) s.channels st.channels.whole;
-        small = all-append HasSmall (remote_entry n k r l) (λ t h. some-small r t h small) s.channels st.channels.small;
-        below = all-append (λ e. e.number < NUMBERS_END) (remote_entry n k r l) fresh.below s.channels st.channels.below;
-      })
-      (all-append (λ f. is_known s.clients f.channel.client ≡ true) (remote_entry n k r l) (served-known k s.clients serves) s.channels st.known.channels)
-      after
+    (dest-opened s r w m what p rows st e (none-live s r rows st none) ∙ ap to owner)
+    (ap (λ (b : Bool). elim b as (λ _. Outcome) [ true ↦ tells (frame_payload p) | false ↦ sends (open_failure r RESOURCE_SHORTAGE too_many_channels) ]) (ap (λ i. nat_lt i MAX_CHANNELS) (own-count s k rows st) ∙ room))
+    (record {
+      fit = subst (ChannelsFit (s.channels ++ remote_entry n k r l ∷ [])) (sym (opened-held k r w m what p rows (not-zero k is.nonzero) e)) (more-fit (remote_entry n k r l) _ fits s.channels (held_of rows) st.channels.fit);
+      apart = apart-append (remote_entry n k r l) s.channels st.channels.apart (two-remote s.channels n k r l (none-pass (is_at n) s.channels fresh.unused) (none-pass (has_remote r) s.channels none));
+      few = λ j. few-append j (remote_entry n k r l) s.channels (λ h. subst (λ i. count_of s.channels i < MAX_CHANNELS) (same-number k j h) few) (st.channels.few j);
+      whole = all-append (λ e. is_whole e ≡ true) (remote_entry n k r l) (ap (λ b. has_numbers b Down None (Some r)) waits) s.channels st.channels.whole;
+      small = all-append HasSmall (remote_entry n k r l) (λ t h. some-small r t h small) s.channels st.channels.small;
+      below = all-append (λ e. e.number < NUMBERS_END) (remote_entry n k r l) fresh.below s.channels st.channels.below;
+    })
+    (all-append (λ f. is_known s.clients f.channel.client ≡ true) (remote_entry n k r l) (served-known k s.clients serves) s.channels st.known.channels)
+    after
   where
     not-zero : (i : ℕ) → i ≢ 0 → (i == 0) ≡ false
     not-zero i h = by_case (i == 0) refl

@@ -1,6 +1,6 @@
 -- The server's replies: where each goes, what it tells, and what follows for a client that is lost.
 use Rattle.std.proofs.Common.{◌≡◌, ℕ, List, [], ◌∷◌, ◌++◌, length, map, true, false, Bool, refl, ◌∙◌, ap, sym, subst, Option, Some, None, Result, Ok, Err, IfOk, OnOk}
-use Rattle.std.specs.Prelude.{filter, ◌==◌, ◌&&◌, not}
+use Rattle.std.specs.Prelude.{filter, not}
 use Rattle.std.specs.List.{AllByRecursion}
 use Rattle.std.proofs.lemmas.List.{append-nil}
 use Rattle.ssh_fields.specs.declared.out_of_memory.OutOfMemory.{OutOfMemory}
@@ -13,10 +13,10 @@ use Rattle.mux_history.specs.Rows.{Goes, Heard, Row, is_lost, rows_of}
 use Rattle.mux_history.specs.Channels.{Channel, with_ups}
 use Rattle.mux_history.specs.Farewell.{late, late_refusal, late_success, with_ask}
 use Rattle.mux_history.specs.Forwardings.{current}
-use Rattle.mux_history.specs.Heard.{Breaks, Dest, ToClient, dest, dest_asker, dest_gist, dest_success, for_client, for_lost, heard_for}
-use Rattle.mux_history.specs.Keys.{bound, learns_port}
+use Rattle.mux_history.specs.Heard.{Breaks, Dest, ToClient, dest, dest_asker, dest_success, for_client, for_lost, heard_for}
+use Rattle.mux_history.specs.Keys.{bound}
 use Rattle.mux_history.specs.Pending.{joined}
-use Rattle.mux_history.specs.Requests.{Ask, asker, is_reply, replies, wanted}
+use Rattle.mux_history.specs.Requests.{Ask, is_reply, replies, wanted}
 use Rattle.mux_history.specs.Said.{Outcome, silent}
 use Rattle.mux_history.specs.Treat.{all_told, bare, new_answers}
 use Rattle.mux_history.proofs.Dests.{dest-ok}
@@ -24,7 +24,7 @@ use Rattle.mux_history.proofs.Finds.{filter-no, filter-yes}
 use Rattle.global_replies.specs.declared.ask.Ask as declared
 use Rattle.global_replies.specs.Asks.{what_of}
 use Rattle.client_teardown.specs.Leaving.{with_payloads}
-use Rattle.global_replies.specs.Replies.{FirstAsked, after_reply, leading, refusals_behind, request_of, rest_of}
+use Rattle.global_replies.specs.Replies.{FirstAsked, after_reply, refusals_behind, request_of, rest_of}
 use Rattle.forward_rules.specs.State.{Forward}
 use Rattle.forward_rules.specs.Step.{cancel_answered, change_first, first_cancel, is_cancelled_at, is_leaving_at, settled_at, without_cancel_of, without_first}
 use Rattle.forward_rules.specs.Step as forwards
@@ -45,7 +45,7 @@ use Rattle.mux_core.proofs.Released.{client-after}
 use Rattle.mux_core.proofs.ReplyTold.{reply-told}
 use Rattle.mux_core.proofs.Served.{served}
 use Rattle.mux_core.proofs.Settles.{lost-there}
-use Rattle.mux_core.proofs.Waiting.{changes, waits-are, with-map}
+use Rattle.mux_core.proofs.Waiting.{waits-are, with-map}
 
 -- ---- what the code takes from its queue
 
@@ -151,8 +151,8 @@ given s new k what queue p m fs up rows st serves is first outcome stands =
       sent = sym (ap (λ (o : Outcome). up.waiting ++ joined (map frame_payload o.sent)) outcome ∙ append-nil up.waiting);
       to = (here, refl);
       told = ap (λ (o : Outcome). all_told (bare (Heard p) k o) (rows_of k rows)) outcome
-        ∙ (reply-told k p m (rows_of k rows) start.later is.reads is.reply here (subst (Waits (wanted (rows_of k rows)) (replies (rows_of k rows))) start.is waits)
-        ∙ ap (λ w. told_by (heard.Client k (refusals_behind w)) p) (sym start.is));
+          ∙ (reply-told k p m (rows_of k rows) start.later is.reads is.reply here (subst (Waits (wanted (rows_of k rows)) (replies (rows_of k rows))) start.is waits)
+          ∙ ap (λ w. told_by (heard.Client k (refusals_behind w)) p) (sym start.is));
       stands = subst (λ o. Stands new (bare (Heard p) k o ∷ rows)) (sym outcome) stands;
     }
 
@@ -173,10 +173,10 @@ success-given s new k what queue p rest up rows st first good here e after =
     let alive = (served (look rows) k s.clients st.clients.each serves).here in
     let asked = asked-first s rows (record { client = k; what = what }) queue st first in
     let stands : Stands new (reply_row k p [] ∷ rows) =
-        subst (λ u. Stands u (reply_row k p [] ∷ rows)) (sym (after ∙ ap (λ (cs : List ClientState). let u : CoreState = record s { asks = queue; forwards = after_success k what rest s.forwards; clients = cs } in u) (with-map k after_reply s.clients st.clients.once)))
-        (served-stands s p (Succeeds rest) [] (record { client = k; what = what }) queue (after_success k what rest s.forwards) rows st serves is first (λ x. refl)
-          (success-fit k rest what s.forwards (current rows) (look rows).own (look (reply_row k p [] ∷ rows)).own (look rows).lost st.forwards (own-next k p (Succeeds rest) [] rows is) alive asked.place)
-          (served-success s.clients k what rest s.forwards st.known.forwards)) in
+    subst (λ u. Stands u (reply_row k p [] ∷ rows)) (sym (after ∙ ap (λ (cs : List ClientState). let u : CoreState = record s { asks = queue; forwards = after_success k what rest s.forwards; clients = cs } in u) (with-map k after_reply s.clients st.clients.once)))
+    (served-stands s p (Succeeds rest) [] (record { client = k; what = what }) queue (after_success k what rest s.forwards) rows st serves is first (λ x. refl)
+    (success-fit k rest what s.forwards (current rows) (look rows).own (look (reply_row k p [] ∷ rows)).own (look rows).lost st.forwards (own-next k p (Succeeds rest) [] rows is) alive asked.place)
+    (served-success s.clients k what rest s.forwards st.known.forwards)) in
     subst (HearsAs new p p up up (heard.Client k (refusals_behind (waiting_of k s.clients))) rows) (sym (success-to s k what queue p rest rows false st first e good))
     (given s new k what queue p (Succeeds rest) s.forwards up rows st serves is first (silent-for s k p (Succeeds rest) rows st serves is) stands)
 
@@ -188,10 +188,10 @@ refusal-given s new k what queue p up rows st first here e after =
     let alive = (served (look rows) k s.clients st.clients.each serves).here in
     let asked = asked-first s rows (record { client = k; what = what }) queue st first in
     let stands : Stands new (reply_row k p [] ∷ rows) =
-        subst (λ u. Stands u (reply_row k p [] ∷ rows)) (sym (after ∙ ap (λ (cs : List ClientState). let u : CoreState = record s { asks = queue; forwards = after_failure k what s.forwards; clients = cs } in u) (with-map k after_reply s.clients st.clients.once)))
-        (served-stands s p Refuses [] (record { client = k; what = what }) queue (after_failure k what s.forwards) rows st serves is first (λ x. refl)
-          (failure-fit k what s.forwards (current rows) (look rows).own (look (reply_row k p [] ∷ rows)).own (look rows).lost st.forwards (own-next k p Refuses [] rows is) alive asked.place)
-          (served-failure s.clients k what s.forwards st.known.forwards)) in
+    subst (λ u. Stands u (reply_row k p [] ∷ rows)) (sym (after ∙ ap (λ (cs : List ClientState). let u : CoreState = record s { asks = queue; forwards = after_failure k what s.forwards; clients = cs } in u) (with-map k after_reply s.clients st.clients.once)))
+    (served-stands s p Refuses [] (record { client = k; what = what }) queue (after_failure k what s.forwards) rows st serves is first (λ x. refl)
+    (failure-fit k what s.forwards (current rows) (look rows).own (look (reply_row k p [] ∷ rows)).own (look rows).lost st.forwards (own-next k p Refuses [] rows is) alive asked.place)
+    (served-failure s.clients k what s.forwards st.known.forwards)) in
     subst (HearsAs new p p up up (heard.Client k (refusals_behind (waiting_of k s.clients))) rows) (sym (refusal-to s k what queue p rows st first e))
     (given s new k what queue p Refuses s.forwards up rows st serves is first (silent-for s k p Refuses rows st serves is) stands)
 
@@ -201,7 +201,7 @@ passed : (s new : CoreState) (k : ℕ) (what : full.Global) (queue : List Ask) (
 passed s new k what queue p p' m sent up up' rows st lost is first says ups goes after =
     let gone : is_lost (rows_of k rows) ≡ true = lost-there (look rows) k s.clients st.clients.each lost in
     let outcome : heard_for (rows_of k rows) p ≡ record { sent = sent; told = []; ends = Goes } =
-        rw (is.reads, heard_for) (ap (λ (b : Bool). elim b as (λ _. Outcome) [ true ↦ for_lost (rows_of k rows) m | false ↦ for_client (rows_of k rows) p m ]) gone ∙ ap (λ (ps : List (List ℕ)). let o : Outcome = record { sent = ps; told = []; ends = Goes } in o) says) in
+    rw (is.reads, heard_for) (ap (λ (b : Bool). elim b as (λ _. Outcome) [ true ↦ for_lost (rows_of k rows) m | false ↦ for_client (rows_of k rows) p m ]) gone ∙ ap (λ (ps : List (List ℕ)). let o : Outcome = record { sent = ps; told = []; ends = Goes } in o) says) in
     record {
       sent = goes ∙ sym (ap (λ (o : Outcome). up.waiting ++ joined (map frame_payload o.sent)) outcome);
       to = (gone, refl);
@@ -213,7 +213,7 @@ pub success-lost : (s new : CoreState) (k : ℕ) (what : full.Global) (queue : L
 success-lost s new k what queue p p' rest up up' rows st first good lost e goes after =
     subst (HearsAs new p p' up up' (heard.Lost k) rows) (sym (success-to s k what queue p rest rows false st first e good))
     (passed s new k what queue p p' (Succeeds rest) (late_success rest what) up up' rows st lost (record { reads = e; reply = refl }) first
-      (ap (λ (o : Option Ask). with_ask o (late_success rest)) (asked-first s rows (record { client = k; what = what }) queue st first).own) (ups what) goes after)
+    (ap (λ (o : Option Ask). with_ask o (late_success rest)) (asked-first s rows (record { client = k; what = what }) queue st first).own) (ups what) goes after)
   where
     ups : (w : full.Global) (x : Channel) → with_ups None (late_success rest w) x ≡ x
     ups (full.Forward key) x = cancel-none (bound key rest) x
@@ -225,7 +225,7 @@ pub refusal-lost : (s new : CoreState) (k : ℕ) (what : full.Global) (queue : L
 refusal-lost s new k what queue p p' up up' rows st first lost e goes after =
     subst (HearsAs new p p' up up' (heard.Lost k) rows) (sym (refusal-to s k what queue p rows st first e))
     (passed s new k what queue p p' Refuses (late_refusal what) up up' rows st lost (record { reads = e; reply = refl }) first
-      (ap (λ (o : Option Ask). with_ask o late_refusal) (asked-first s rows (record { client = k; what = what }) queue st first).own) (ups what) goes after)
+    (ap (λ (o : Option Ask). with_ask o late_refusal) (asked-first s rows (record { client = k; what = what }) queue st first).own) (ups what) goes after)
   where
     ups : (w : full.Global) (x : Channel) → with_ups None (late_refusal w) x ≡ x
     ups (full.Forward key) x = refl

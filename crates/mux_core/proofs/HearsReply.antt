@@ -7,13 +7,12 @@ use Rattle.std.proofs.lemmas.Bool.Decides.{nat_tests}
 use Rattle.ssh_grammar.specs.Messages as full
 use Rattle.mux_history.specs.declared.limits.TheConstants.{MAX_CLIENTS}
 use Rattle.mux_history.specs.Gist.{Gist, Refuses, Succeeds, read_gist, reading}
-use Rattle.mux_history.specs.Rows.{Goes, Heard, Row, any_of, is_admit, is_lost, loses, rows_of}
-use Rattle.mux_history.specs.Channels.{Channel, after_item, begun_by, held_of, heard_by, is_held, opened_down, with_down, with_up, with_ups}
+use Rattle.mux_history.specs.Rows.{Goes, Heard, Row, any_of, is_admit, is_lost, rows_of}
+use Rattle.mux_history.specs.Channels.{Channel, after_item, begun_by, held_of, is_held, opened_down, with_down, with_ups}
 use Rattle.mux_history.specs.Farewell.{has_open_matters}
 use Rattle.mux_history.specs.Forwardings.{Forwarding, current, forwardings_of, of_client, replied}
 use Rattle.mux_history.specs.Log.{entered}
 use Rattle.mux_history.specs.Requests.{Ask, asker, asks, asks_of, is_reply, is_sent, replies, reply_in, sent_flags, wanted, wanted_by}
-use Rattle.mux_history.specs.Said.{Outcome}
 use Rattle.mux_history.specs.Treat.{bare}
 use Rattle.mux_history.proofs.Bools.{same-number, self}
 use Rattle.mux_history.proofs.CurrentSteps.{is_on, on-forwarded}
@@ -21,17 +20,17 @@ use Rattle.mux_history.proofs.Finds.{filter-yes}
 use Rattle.mux_history.proofs.OwnRows.{idle_row, own_row}
 use Rattle.mux_history.proofs.Readings.{reading-ok}
 use Rattle.mux_isolation.specs.View.{Waiting, left_of}
-use Rattle.global_replies.specs.Replies.{after_reply, leading, refusals_behind, without_leading}
+use Rattle.global_replies.specs.Replies.{after_reply}
 use Rattle.forward_rules.specs.State as kept
 use Rattle.forward_rules.specs.Stands.{AreFit, AreListed, Places, places_of}
 use Rattle.channel_table.specs.Entries.{Entry}
 use Rattle.mux_core.specs.State.{ClientState, CoreState, is_served}
-use Rattle.mux_core.specs.Stands.{AreKnown, AsksFit, ClientFits, ClientsFit, Look, Stands, TableFits, has_matters, is_known, look, unreplied_in}
-use Rattle.mux_core.specs.Settling.{has_left, is_lost_in, kept, settled}
+use Rattle.mux_core.specs.Stands.{AsksFit, ClientFits, Stands, TableFits, has_matters, is_known, look}
+use Rattle.mux_core.specs.Settling.{has_left, is_lost_in, settled}
 use Rattle.mux_core.proofs.Answering.{Waits, asks-replied, replied-waits, replied_more}
 use Rattle.mux_core.proofs.Bare.{held-bare}
 use Rattle.mux_core.proofs.Quiet.{own-same}
-use Rattle.mux_core.proofs.Refused.{known-same, length-same, lost-same, number-same, numbers-same, once-same, served-same}
+use Rattle.mux_core.proofs.Refused.{known-same, length-same, numbers-same, once-same, served-same}
 use Rattle.mux_core.proofs.Replied.{IsBystander, Replies, after, idle-all, nobody-fit}
 use Rattle.mux_core.proofs.Removed.{on-all, on-listed}
 use Rattle.mux_core.proofs.Requested.{all-known, all-served}
@@ -94,15 +93,19 @@ same-held k p m sent rows is ups =
     none [] Refuses h = refl
     none (u ∷ us) Refuses h = refl
     none us g h = absurd (cc)
+
     no-down : (g : Gist) (x : Channel) → is_reply g ≡ true → with_down g x ≡ x
     no-down (Succeeds rest) x h = refl
     no-down Refuses x h = refl
     no-down g x h = absurd (cc)
+
     by_zero : (b : Bool) → (elim b as (λ _. List Channel) [ true ↦ [] | false ↦ reading p (opened_down k sent) [] ]) ≡ []
     by_zero true = refl
     by_zero false = reading-ok p m (opened_down k sent) [] is.reads ∙ none sent m is.reply
+
     begun : begun_by k sent (Heard p) ≡ []
     begun = by_zero (k == 0)
+
     same : (x : Channel) → after_item (reply_row k p sent) x ≡ x
     same x =
         ap (λ y. elim (x.client == k) as (λ _. Channel) [ true ↦ with_ups None sent y | false ↦ x ]) (reading-ok p m (λ g. with_down g x) x is.reads ∙ no-down m x is.reply)
@@ -140,7 +143,7 @@ pub asked-first : (s : CoreState) (rows : List Row) (a : Ask) (queue : List Ask)
 asked-first s rows a queue st first =
     let all : drop (length (replies rows)) (asks rows) ≡ a ∷ queue = sym st.asks.waiting ∙ first in
     let own : drop (length (replies (rows_of a.client rows))) (asks (rows_of a.client rows)) ≡ a ∷ filter (λ (b : Ask). b.client == a.client) queue =
-        (st.asks.each a.client).waiting ∙ (ap (filter (λ (b : Ask). b.client == a.client)) all ∙ filter-yes (λ (b : Ask). b.client == a.client) a queue (self a.client)) in
+    (st.asks.each a.client).waiting ∙ (ap (filter (λ (b : Ask). b.client == a.client)) all ∙ filter-yes (λ (b : Ask). b.client == a.client) a queue (self a.client)) in
     record {
       all = get-drop (length (replies rows)) (asks rows) a queue all;
       own = get-drop (length (replies (rows_of a.client rows))) (asks (rows_of a.client rows)) a _ own;
@@ -186,7 +189,6 @@ pub record Starts (w : List Bool) : Type 0 where
   pub later : List Bool
   pub is : w ≡ true ∷ later
 
-
 starts : (flags : List Bool) (heard : List (List ℕ)) (w : List Bool) → Waits flags heard w → length heard < sent_in flags → Starts w
 starts [] heard w h lt = absurd (omega arith)
 starts (false ∷ flags) heard w h lt = starts flags heard w h lt
@@ -210,8 +212,10 @@ client-next k p m sent rows c is lt fits = by_number (c.number == k) refl (k == 
   where
     after-own : (j : ℕ) → (k == j) ≡ true → rows_of j (reply_row k p sent ∷ rows) ≡ reply_row k p sent ∷ rows_of j rows
     after-own j h = own_row j (reply_row k p sent) rows h
+
     clash : (a b : ℕ) → (a == b) ≡ true → (b == a) ≡ false → ⊥
     clash a b h g = grind (arith, nat_tests)
+
     by_number : (b : Bool) → (c.number == k) ≡ b → (d : Bool) → (k == c.number) ≡ d → ClientFits (look (reply_row k p sent ∷ rows)) (changes k after_reply c)
     by_number true h true g = subst (ClientFits (look (reply_row k p sent ∷ rows))) (sym (changes-at k after_reply c true h)) (record {
       nonzero = fits.nonzero;
@@ -295,6 +299,7 @@ open-asked own lt = end (any_of is_admit own && not (is_lost own)) (any_of is_he
   where
     yes-lt : (a b : ℕ) → a < b → nat_lt a b ≡ true
     yes-lt a b h = grind (arith, nat_tests)
+
     end : (a b c : Bool) → c ≡ true → (a || (b || c)) ≡ true
     end true b c h = refl
     end false true c h = refl
@@ -330,16 +335,16 @@ lost-reply-stands s p m sent a queue rows st lost is first ups =
       channels = channels;
       asks = asks_fit;
       forwards = subst (λ (gs : List Forwarding). AreFit s.forwards gs (look (reply_row a.client p sent ∷ rows)).own (look (reply_row a.client p sent ∷ rows)).lost)
-        (sym (current-next a.client p m sent rows is ∙ (ap (filter is_on) (idle-all a.client ((look rows).own a.client).replied m (current rows) idle) ∙ on-all (current rows) (on-listed s.forwards (current rows) st.forwards.listed))))
-        (nobody-fit a.client s.forwards (current rows) (look rows).own (look (reply_row a.client p sent ∷ rows)).own (look (reply_row a.client p sent ∷ rows)).lost (subst (λ (l : ℕ → Bool). AreFit s.forwards (current rows) (look rows).own l) lost_same st.forwards) next idle);
+          (sym (current-next a.client p m sent rows is ∙ (ap (filter is_on) (idle-all a.client ((look rows).own a.client).replied m (current rows) idle) ∙ on-all (current rows) (on-listed s.forwards (current rows) st.forwards.listed))))
+          (nobody-fit a.client s.forwards (current rows) (look rows).own (look (reply_row a.client p sent ∷ rows)).own (look (reply_row a.client p sent ∷ rows)).lost (subst (λ (l : ℕ → Bool). AreFit s.forwards (current rows) (look rows).own l) lost_same st.forwards) next idle);
       clients = clients-settle a.client (has_left (record s { asks = queue }) a.client) s.clients (has_matters rows) (has_matters (reply_row a.client p sent ∷ rows)) (look (reply_row a.client p sent ∷ rows))
-        (record {
-          numbers = st.clients.numbers ∙ ap (filter (has_matters rows)) (sym (append-nil (entered rows)));
-          each = lost-clients a.client p m sent rows s.clients gone st.clients.each;
-          once = st.clients.once;
-          few = st.clients.few;
-        })
-        (λ j apart. ap has_open_matters (idle_row j (reply_row a.client p sent) rows (turned j a.client apart))) here (open-asked (rows_of a.client rows) asked.waits);
+          (record {
+            numbers = st.clients.numbers ∙ ap (filter (has_matters rows)) (sym (append-nil (entered rows)));
+            each = lost-clients a.client p m sent rows s.clients gone st.clients.each;
+            once = st.clients.once;
+            few = st.clients.few;
+          })
+          (λ j apart. ap has_open_matters (idle_row j (reply_row a.client p sent) rows (turned j a.client apart))) here (open-asked (rows_of a.client rows) asked.waits);
       known = known-settle (record s { asks = queue }) a.client (record { channels = st.known.channels; asks = (subst (AllByRecursion (λ (b : Ask). is_known s.clients b.client ≡ true)) first st.known.asks).1; forwards = st.known.forwards }) away;
     }
   where

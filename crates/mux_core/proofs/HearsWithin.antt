@@ -1,6 +1,6 @@
 -- A message that the server says in a channel.
 use Rattle.std.proofs.Common.{◌≡◌, ℕ, List, [], ◌∷◌, ◌++◌, length, map, true, false, Bool, refl, ◌∙◌, ap, sym, subst, Option, Some, None, Ok}
-use Rattle.std.specs.Prelude.{filter, find, ◌==◌, ◌&&◌, ◌||◌, not, is_some, option_map, unwrap_or}
+use Rattle.std.specs.Prelude.{filter, find, ◌==◌, ◌&&◌, ◌||◌, not, option_map, unwrap_or}
 use Rattle.std.specs.List.{AllByRecursion}
 use Rattle.std.proofs.lemmas.List.{append-nil}
 use Rattle.ssh_grammar.specs.declared.side.Side.TheVariants.{Down}
@@ -8,17 +8,16 @@ use Rattle.ssh_grammar.specs.declared.fault.Breach.{Breach}
 use Rattle.ssh_grammar.specs.SpellMessage.{with_recipient}
 use Rattle.ssh_grammar.specs.Frames.{frame_payload}
 use Rattle.proxy_frames.specs.State.{QueueState}
-use Rattle.mux_history.specs.declared.broke.Break.{Break}
 use Rattle.mux_history.specs.declared.broke.Break.TheVariants as broke
-use Rattle.mux_history.specs.Gist.{Act, Fails, Gist, Within, read_gist, reading}
+use Rattle.mux_history.specs.Gist.{Act, Fails, Within, read_gist, reading}
 use Rattle.mux_history.specs.Rows.{Fate, Goes, Heard, Row, is_admit, is_lost, loses, rows_of}
-use Rattle.mux_history.specs.Channels.{Channel, after_item, held_of, holder, is_confirmed, is_fails, is_held, is_number, opened_down}
+use Rattle.mux_history.specs.Channels.{Channel, after_item, held_of, holder, is_held, is_number, opened_down}
 use Rattle.mux_history.specs.Forwardings.{Forwarding, of_client, replied}
-use Rattle.mux_history.specs.Heard.{Breaks, Dest, ToClient, dest, dest_gist, for_client, for_lost, heard_for, heard_gist, own_number, renamed}
+use Rattle.mux_history.specs.Heard.{Breaks, Dest, ToClient, dest, dest_gist, for_client, for_lost, heard_for, own_number}
 use Rattle.mux_history.specs.Laws.{with_act}
 use Rattle.mux_history.specs.Ledger.{breach}
 use Rattle.mux_history.specs.Pending.{joined}
-use Rattle.mux_history.specs.Requests.{asks_of, is_reply, is_sent, replies, sent_flags, wanted_by}
+use Rattle.mux_history.specs.Requests.{asks_of, is_reply, is_sent, replies}
 use Rattle.mux_history.specs.Said.{Outcome, is_failing, tells}
 use Rattle.mux_history.specs.Treat.{all_told, bare}
 use Rattle.mux_history.proofs.Bools.{is-of, same-number, self}
@@ -30,9 +29,8 @@ use Rattle.window_ledger.specs.declared.ledger.Ledger.{Ledger}
 use Rattle.window_ledger.specs.Stands as ledger
 use Rattle.channel_table.specs.declared.channel.Channel as table
 use Rattle.channel_table.specs.Entries.{Entry}
-use Rattle.channel_table.specs.Entries.{AreApart, at_number, changed_at, channel_at, is_at, is_of, is_shown, ledger_at, shown_at, with_ledger}
+use Rattle.channel_table.specs.Entries.{AreApart, at_number, changed_at, is_at, is_of, is_shown, ledger_at, shown_at, with_ledger}
 use Rattle.channel_table.specs.Stands.{Fits, shown_number}
-use Rattle.mux_core.specs.declared.heard.Heard as declared
 use Rattle.mux_core.specs.declared.heard.Heard.TheVariants as heard
 use Rattle.mux_core.specs.State.{ClientState, CoreState, is_served}
 use Rattle.mux_core.specs.Stands.{Stands, TableFits, is_known, look}
@@ -41,9 +39,9 @@ use Rattle.mux_core.specs.Settling.{is_lost_in, settled}
 use Rattle.mux_core.proofs.Settles.{lost-stands, lost-there}
 use Rattle.mux_core.specs.Calls.{HearsAs, HearsClient}
 use Rattle.mux_core.proofs.Acts.{ActsOn, DoesAct, acts-on}
-use Rattle.mux_core.proofs.Apart.{Alone, Sole, all-filter, all-map, all-of, alone, found-of, passes}
+use Rattle.mux_core.proofs.Apart.{Sole, all-filter, all-map, alone, found-of, passes}
 use Rattle.mux_core.proofs.Bare.{after-heard, down_act, held-bare}
-use Rattle.mux_core.proofs.Fits.{FoundFit, found-fit}
+use Rattle.channel_table.proofs.Fits.{FoundFit, found-fit}
 use Rattle.mux_core.proofs.Found.{at-number, find-filter, find-narrow, held-local, only_if}
 use Rattle.mux_core.proofs.Opens.{all-unit}
 use Rattle.mux_core.proofs.Quiet.{IsQuiet}
@@ -105,6 +103,7 @@ quiet-heard k n a p o e ends = record {
     none : (b : Bool) → asks_of k b None ≡ []
     none true = refl
     none false = refl
+
     stay : (place : ℕ) (fs : List Forwarding) → map (of_client k (replied place (Within n a))) fs ≡ fs
     stay place [] = refl
     stay place (f ∷ fs) = ap (λ g. g ∷ map (of_client k (replied place (Within n a))) fs) (elim (f.client == k) as (λ b. (elim b as (λ _. Forwarding) [ true ↦ f | false ↦ f ]) ≡ f) [ true ↦ refl | false ↦ refl ]) ∙ ap (λ gs. f ∷ gs) (stay place fs)
@@ -132,18 +131,23 @@ does k n a = record {
     and-left : (b c : Bool) → (b && c) ≡ true → b ≡ true
     and-left true c h = refl
     and-left false c h = cc
+
     and-right : (b c : Bool) → (b && c) ≡ true → c ≡ true
     and-right true c h = h
     and-right false c h = cc
+
     same : (e : Entry) (x : Channel) → Fits e x → shown_at n e ≡ is_number x.number n
     same e x fits = shown-number n e ∙ ap (λ o. is_number o n) fits.number
+
     named : (x : Channel) (b c : Bool) → (x.client == k) ≡ b → (is_number x.number n && is_held x) ≡ c → down_act k n a x ≡ elim b as (λ _. Channel) [ true ↦ elim c as (λ _. Channel) [ true ↦ with_act Down a x | false ↦ x ] | false ↦ x ]
     named x b c h h' = ap (λ (d : Bool). elim d as (λ _. Channel) [ true ↦ elim (is_number x.number n && is_held x) as (λ _. Channel) [ true ↦ with_act Down a x | false ↦ x ] | false ↦ x ]) h ∙ ap (λ (d : Bool). elim b as (λ _. Channel) [ true ↦ elim d as (λ _. Channel) [ true ↦ with_act Down a x | false ↦ x ] | false ↦ x ]) h'
+
     it : (e : Entry) (x : Channel) → Fits e x → is_theirs k n e ≡ true → down_act k n a x ≡ with_act Down a x
     it e x fits h =
         let mine : (x.client == k) ≡ true = ap (λ i. i == k) (sym fits.client) ∙ and-left (is_of k e) (shown_at n e) h in
         let there : (is_number x.number n && is_held x) ≡ true = ap (λ b. b && is_held x) (sym (same e x fits) ∙ and-right (is_of k e) (shown_at n e) h) ∙ fits.held in
         named x true true mine there
+
     by_other : (e : Entry) (x : Channel) → Fits e x → is_theirs k n e ≡ false → (b : Bool) → (x.client == k) ≡ b → down_act k n a x ≡ x
     by_other e x fits h false c = named x false (is_number x.number n && is_held x) c refl
     by_other e x fits h true c =
@@ -156,6 +160,7 @@ shown-sole n e f two h = by_number (f.number == n) refl
     and-left : (b c : Bool) → (b && c) ≡ true → b ≡ true
     and-left true c h = refl
     and-left false c h = cc
+
     by_number : (b : Bool) → (f.number == n) ≡ b → shown_at n f ≡ false
     by_number false g = ap (λ b. b && is_shown f.channel) g
     by_number true g =
@@ -169,6 +174,7 @@ sole k n e f two h = by_mine (is_of k f) refl
     and-right : (b c : Bool) → (b && c) ≡ true → c ≡ true
     and-right true c h = h
     and-right false c h = cc
+
     by_mine : (b : Bool) → is_of k f ≡ b → is_theirs k n f ≡ false
     by_mine true m = ap (λ b. b && shown_at n f) m ∙ shown-sole n e f two (and-right (is_of k e) (shown_at n e) h)
     by_mine false m = ap (λ b. b && shown_at n f) m
@@ -193,6 +199,7 @@ still-known s n l over known = all-filter Known (stays_in n over) (changed_at n 
   where
     Known : Entry → Type 0
     Known f = is_known s.clients f.channel.client ≡ true
+
     still : (f : Entry) → Known f → Known (at_number n (with_ledger l) f)
     still f known = elim (f.number == n) as (λ b. Known (elim b as (λ _. Entry) [ true ↦ with_ledger l f | false ↦ f ])) [ true ↦ known | false ↦ known ]
 
@@ -245,20 +252,25 @@ delivers s new n a p up e0 l over rows st serves h fine acts plain after e =
   where
     k : ℕ
     k = e0.channel.client
+
     is : IsServed e0.channel.client (look rows)
     is = served (look rows) e0.channel.client s.clients st.clients.each serves
+
     frame : List ℕ
     frame = frame_payload (with_recipient p (unwrap_or e0.channel.own 0))
+
     number-is : (x : Holds e0 n rows) → own_number (holder (rows_of e0.channel.client rows) n) ≡ unwrap_or e0.channel.own 0
     number-is x = ap own_number (own-holder e0.channel.client n x.channel rows x.is (ap (λ i. i == e0.channel.client) (sym x.fits.client) ∙ self e0.channel.client)) ∙ by_own x.channel.own x.fits.own
       where
         by_own : (o : Option ℕ) → e0.channel.own ≡ o → (elim o as (λ _. ℕ) [ None ↦ 0 | Some c ↦ c ]) ≡ unwrap_or e0.channel.own 0
         by_own None g = sym (ap (λ o. unwrap_or o 0) g)
         by_own (Some c) g = sym (ap (λ o. unwrap_or o 0) g)
+
     outcome : heard_for (rows_of e0.channel.client rows) p ≡ tells (frame_payload (with_recipient p (unwrap_or e0.channel.own 0)))
     outcome =
         rw (e, heard_for) (ap (λ (b : Bool). elim b as (λ _. Outcome) [ true ↦ for_lost (rows_of e0.channel.client rows) (Within n a) | false ↦ for_client (rows_of e0.channel.client rows) p (Within n a) ]) is.here
         ∙ ap (λ c. tells (frame_payload (with_recipient p c))) (number-is (holds s n e0 rows st h)))
+
     told : HearsClient new e0.channel.client p (with_recipient p (unwrap_or e0.channel.own 0)) up up (heard.Client e0.channel.client 0) rows
     told =
         let q = quiet-heard e0.channel.client n a p (tells (frame_payload (with_recipient p (unwrap_or e0.channel.own 0)))) e refl in
@@ -319,10 +331,13 @@ passes-by s new n a p p' up e0 l over rows st lost h fine acts plain after e =
   where
     there : is_lost (rows_of e0.channel.client rows) ≡ true
     there = lost-there (look rows) e0.channel.client s.clients st.clients.each lost
+
     nothing : Outcome
     nothing = for_lost (rows_of e0.channel.client rows) (Within n a)
+
     outcome : heard_for (rows_of e0.channel.client rows) p ≡ for_lost (rows_of e0.channel.client rows) (Within n a)
     outcome = rw (e, heard_for) (ap (λ (b : Bool). elim b as (λ _. Outcome) [ true ↦ for_lost (rows_of e0.channel.client rows) (Within n a) | false ↦ for_client (rows_of e0.channel.client rows) p (Within n a) ]) there)
+
     told : HearsClient new e0.channel.client p p' up up (heard.Lost e0.channel.client) rows
     told =
         let q = quiet-heard e0.channel.client n a p (for_lost (rows_of e0.channel.client rows) (Within n a)) e refl in

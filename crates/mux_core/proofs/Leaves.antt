@@ -1,8 +1,7 @@
 -- What a farewell makes of the channels of its client: each payload is for one of them, and the cancels for none.
-use Rattle.std.proofs.Common.{◌≡◌, ◌<◌, ℕ, List, [], ◌∷◌, ◌++◌, length, map, true, false, Bool, refl, ◌∙◌, ap, sym, subst, Option, Some, None, Ok, Result, Err, arith}
-use Rattle.std.specs.Prelude.{filter, ◌==◌, ◌&&◌, ◌||◌, not, is_none, flat_map}
+use Rattle.std.proofs.Common.{◌≡◌, ◌<◌, ℕ, List, [], ◌∷◌, ◌++◌, true, false, Bool, refl, ◌∙◌, ap, sym, Option, Some, None, Ok, Result, Err, arith}
+use Rattle.std.specs.Prelude.{◌&&◌, is_none, flat_map}
 use Rattle.std.specs.List.{AllByRecursion}
-use Rattle.std.proofs.lemmas.Bool.Decides.{nat_tests}
 use Rattle.ssh_grammar.specs.declared.fault.Bad.{Bad}
 use Rattle.ssh_grammar.specs.declared.numbers.TheConstants.{CONNECT_FAILED}
 use Rattle.ssh_grammar.specs.declared.side.Side.TheVariants.{Up}
@@ -10,14 +9,14 @@ use Rattle.ssh_grammar.specs.Messages.{Key}
 use Rattle.ssh_grammar.specs.Messages as full
 use Rattle.ssh_grammar.specs.SpellMessage.{cancel_forward, client_is_gone, close, open_failure}
 use Rattle.ssh_grammar.proofs.MessageSpelled.{spelled_reads}
-use Rattle.mux_history.specs.Gist.{Act, Closes, Fails, Gist, Requests, Within, gist, read_gist, reading}
+use Rattle.mux_history.specs.Gist.{Act, Closes, Fails, Gist, Within, read_gist, reading}
 use Rattle.mux_history.specs.Channels.{Channel, any_by, is_closes, is_confirmed, is_held, is_number, is_up, with_up, with_ups}
 use Rattle.mux_history.specs.Farewell.{cancel_live, leave_channel, leave_forwarding, to_number}
 use Rattle.mux_history.specs.Forwardings.{Forwarding}
 use Rattle.mux_history.specs.Laws.{with_act}
-use Rattle.mux_history.proofs.Bools.{is-of, same-number, self}
+use Rattle.mux_history.proofs.Bools.{self}
 use Rattle.mux_history.proofs.Readings.{cancel-always, gist-always, gist-ok, reading-ok}
-use Rattle.mux_core.proofs.Left.{left}
+use Rattle.client_teardown.specs.Laws.{left}
 
 -- ---- a list of payloads
 
@@ -42,6 +41,7 @@ cancel-none key x = by_read (read_gist (cancel_forward key)) refl
   where
     P : Gist → Type 0
     P m = with_up None m x ≡ x
+
     by_read : (r : Result Gist Bad) → read_gist (cancel_forward key) ≡ r → (elim r as (λ _. Channel) [ Err e ↦ x | Ok m ↦ with_up None m x ]) ≡ x
     by_read (Err e) h = refl
     by_read (Ok m) h = gist-always (λ g. with_up None g x ≡ x) (cancel_forward key) m (cancel-always (λ g. with_up None g x ≡ x) key (λ q. refl)) h
@@ -80,6 +80,7 @@ leave-own x small held both open_ = by_confirmed (is_confirmed x) refl (any_by U
   where
     one : (s : ℕ) (a : Act) (p : List ℕ) → x.remote ≡ Some s → read_gist p ≡ Ok (Within s a) → with_ups None (p ∷ []) x ≡ with_act Up a x
     one s a p h e = reading-ok p (Within s a) (λ m. with_up None m x) x e ∙ act-up s a x (ap (λ b. b && is_held x) (named x s h) ∙ held)
+
     by_confirmed : (b : Bool) → is_confirmed x ≡ b → (c d : Bool) → is_up x.by ≡ d → (o : Option ℕ) → x.remote ≡ o
         → with_ups None (elim b as (λ _. List (List ℕ)) [ true ↦ elim c as (λ _. List (List ℕ)) [ true ↦ [] | false ↦ to_number o close ] | false ↦ elim d as (λ _. List (List ℕ)) [ true ↦ [] | false ↦ to_number o (λ s. open_failure s CONNECT_FAILED client_is_gone) ] ]) x
         ≡ elim b as (λ _. Channel) [ true ↦ elim c as (λ _. Channel) [ true ↦ x | false ↦ with_act Up Closes x ] | false ↦ elim d as (λ _. Channel) [ true ↦ x | false ↦ with_act Up Fails x ] ]
@@ -95,6 +96,7 @@ leave-other y x small differ = by_confirmed (is_confirmed y) (any_by Up is_close
   where
     one : (s : ℕ) (a : Act) (p : List ℕ) → y.remote ≡ Some s → read_gist p ≡ Ok (Within s a) → with_ups None (p ∷ []) x ≡ x
     one s a p h e = reading-ok p (Within s a) (λ m. with_up None m x) x e ∙ no-act s a x (differ s (named y s h))
+
     by_confirmed : (b c d : Bool) (o : Option ℕ) → y.remote ≡ o → with_ups None (elim b as (λ _. List (List ℕ)) [ true ↦ elim c as (λ _. List (List ℕ)) [ true ↦ [] | false ↦ to_number o close ] | false ↦ elim d as (λ _. List (List ℕ)) [ true ↦ [] | false ↦ to_number o (λ s. open_failure s CONNECT_FAILED client_is_gone) ] ]) x ≡ x
     by_confirmed true true d o h = refl
     by_confirmed true false d None h = refl
@@ -148,6 +150,7 @@ each-left (y ∷ ys) known differ = (first, both-all (λ x. Differ y x × Differ
         ups-append (leave_channel y) (flat_map leave_channel ys) y
         ∙ (ap (with_ups None (flat_map leave_channel ys)) (leave-own y known.0.small known.0.held known.0.both known.0.opened)
         ∙ none-of-them ys (left y) known.1 (all-same (λ x. Differ y x × Differ x y) (λ x. Differ x (left y)) (λ x d s h. ap (λ o. is_number o s) (left-remote y) ∙ d.1 s h) ys differ.0))
+
     later : (x : Channel) → Differ y x × Differ x y → with_ups None (flat_map leave_channel ys) x ≡ left x → with_ups None (flat_map leave_channel (y ∷ ys)) x ≡ left x
     later x d ih = ups-append (leave_channel y) (flat_map leave_channel ys) x ∙ (ap (with_ups None (flat_map leave_channel ys)) (leave-other y x known.0.small d.0) ∙ ih)
 

@@ -1,7 +1,5 @@
-pub mod Left
 pub mod Confirms
 pub mod Quiet
-pub mod Fits
 pub mod Apart
 pub mod Acts
 pub mod Bare

@@ -1,24 +1,23 @@
 -- A core after the loss of a client, for any two logs of which the one is the other with that loss.
-use Rattle.std.proofs.Common.{◌≡◌, ◌≤◌, ◌<◌, ℕ, List, [], ◌∷◌, ◌++◌, length, map, true, false, Bool, refl, ◌∙◌, ap, sym, subst, Option, Some, None, arith, suc}
-use Rattle.std.specs.Prelude.{filter, not, ◌==◌, ◌&&◌, ◌||◌, is_some, nat_lt}
+use Rattle.std.proofs.Common.{◌≡◌, ◌≤◌, ◌<◌, ℕ, List, [], ◌∷◌, length, map, true, false, Bool, refl, ◌∙◌, ap, sym, subst, arith, suc}
+use Rattle.std.specs.Prelude.{filter, not, ◌==◌, ◌&&◌, ◌||◌, is_some}
 use Rattle.std.specs.List.{AllByRecursion}
 use Rattle.std.proofs.lemmas.Bool.Decides.{nat_tests}
-use Rattle.mux_history.specs.declared.limits.TheConstants.{MAX_CLIENTS, MAX_FORWARDINGS}
 use Rattle.mux_history.specs.Rows.{Row, rows_of}
 use Rattle.mux_history.specs.Channels.{held_of}
 use Rattle.mux_history.specs.Forwardings.{Forwarding}
 use Rattle.mux_history.specs.Requests.{Ask}
-use Rattle.mux_history.proofs.Bools.{same-number, self}
+use Rattle.mux_history.proofs.Bools.{same-number}
 use Rattle.mux_history.proofs.Finds.{filter-no, filter-yes}
 use Rattle.channel_table.specs.Entries.{Entry}
 use Rattle.forward_rules.specs.State.{Forward}
 use Rattle.forward_rules.specs.Step.{cancels, count_of, is_leaving, is_of, without_client}
-use Rattle.forward_rules.specs.Stands.{AreFit, AreInOrder, AreListed, AreTwo, EachHas, EachTwo, InOrder, InOrderWith, IsAwaited, IsRanked, Places}
-use Rattle.client_teardown.specs.Leaving.{left_entries, left_entry}
-use Rattle.mux_core.proofs.Left.{left_channels}
+use Rattle.forward_rules.specs.Stands.{AreFit, AreInOrder, AreListed, AreTwo, EachHas, EachTwo, InOrderWith, IsAwaited, IsRanked, Places}
+use Rattle.client_teardown.specs.Leaving.{left_entries}
+use Rattle.client_teardown.specs.Laws.{left_channels}
 use Rattle.mux_core.specs.State.{ClientState, CoreState, is_served}
-use Rattle.mux_core.specs.Stands.{AreKnown, AreOnce, AsksFit, ClientFits, ClientsFit, Look, OwnRequests, Stands, TableFits, has_matters, is_known, look, unreplied_in}
-use Rattle.mux_core.specs.Settling.{has_left, kept, settled}
+use Rattle.mux_core.specs.Stands.{AreKnown, AreOnce, AsksFit, ClientFits, OwnRequests, Stands, TableFits, has_matters, is_known, look, unreplied_in}
+use Rattle.mux_core.specs.Settling.{has_left, settled}
 use Rattle.mux_core.specs.Losing.{lose, lost_clients, lost_core}
 use Rattle.mux_core.proofs.LeftTable.{all-left-in, client-left, left-table}
 use Rattle.mux_core.proofs.Served.{IsServed, open-by, served}
@@ -121,8 +120,10 @@ others-stay k j apart (g ∷ gs) = by_case (others-stay k j apart gs) (g.client 
   where
     mine : Forwarding → Bool
     mine h = h.client == j
+
     clash : (a : ℕ) → (a == j) ≡ true → (a == k) ≡ true → (k == j) ≡ false → ⊥
     clash a p q r = grind (arith, nat_tests)
+
     by_case : filter (λ g. g.client == j) (filter (λ g. not (g.client == k)) gs) ≡ filter (λ g. g.client == j) gs → (b : Bool) → (g.client == j) ≡ b → (c : Bool) → (g.client == k) ≡ c → filter (λ g. g.client == j) (filter (λ g. not (g.client == k)) (g ∷ gs)) ≡ filter (λ g. g.client == j) (g ∷ gs)
     by_case ih true p true q = absurd (clash g.client p q apart)
     by_case ih true p false q = ap (filter (λ (h : Forwarding). h.client == j)) (filter-yes (other k) g gs (ap not q)) ∙ (filter-yes (λ (h : Forwarding). h.client == j) g (filter (other k) gs) p ∙ (ap (λ hs. g ∷ hs) ih ∙ sym (filter-yes (λ (h : Forwarding). h.client == j) g gs p)))
@@ -136,9 +137,11 @@ same-cancels k j apart (f ∷ fs) = by_case (same-cancels k j apart fs) (f.clien
   where
     clash : (a : ℕ) → (a == j) ≡ true → (a == k) ≡ true → (j == k) ≡ false → ⊥
     clash a p q r = grind (arith, nat_tests)
+
     left : (a b : Bool) → (a && b) ≡ true → a ≡ true
     left true b e = refl
     left false b e = cc
+
     by_case : cancels j (without_client k fs) ≡ cancels j fs → (b : Bool) → (f.client == k) ≡ b → (c : Bool) → is_leaving j f ≡ c → cancels j (without_client k (f ∷ fs)) ≡ cancels j (f ∷ fs)
     by_case ih true p true q = absurd (clash f.client (left (f.client == j) (is_some f.cancel) q) p apart)
     by_case ih true p false q = ap (cancels j) (filter-no (other_kept k) f fs (ap not p)) ∙ (ih ∙ sym (ap length (filter-no (is_leaving j) f fs q)))
@@ -180,9 +183,11 @@ served-lost k j (c ∷ cs) apart = ap (λ b. ((c.number == j) && not (c.lost || 
   where
     clash : (a : ℕ) → (a == j) ≡ true → (a == k) ≡ true → (k == j) ≡ false → ⊥
     clash a p q r = grind (arith, nat_tests)
+
     plain : (b : Bool) → (b || false) ≡ b
     plain true = refl
     plain false = refl
+
     by_case : (b : Bool) → (c.number == j) ≡ b → (d : Bool) → (c.number == k) ≡ d → ((c.number == j) && not (c.lost || (c.number == k))) ≡ ((c.number == j) && not c.lost)
     by_case true p true q = absurd (clash c.number p q apart)
     by_case true p false q = ap (λ d. (c.number == j) && not (c.lost || d)) q ∙ ap (λ d. (c.number == j) && not d) (plain c.lost)
@@ -216,12 +221,15 @@ client-lost k old new c loss fits = record {
     end : (b : Bool) → (b || true) ≡ true
     end true = refl
     end false = refl
+
     plain : (b : Bool) → (b || false) ≡ b
     plain true = refl
     plain false = refl
+
     by_number : (b : Bool) → (c.number == k) ≡ b → (c.lost || (c.number == k)) ≡ (look new).lost c.number
     by_number true h = ap (λ b. c.lost || b) h ∙ (end c.lost ∙ sym (subst (λ i. (look new).lost i ≡ true) (sym (same-number c.number k h)) loss.lost))
     by_number false h = ap (λ b. c.lost || b) h ∙ (plain c.lost ∙ (fits.lost ∙ sym (loss.others c.number (turned c.number k h))))
+
     by_here : (b : Bool) → (c.number == k) ≡ b → (c.lost || (c.number == k)) ≡ false → (look new).waiting c.number ≡ record { requests = c.waiting; early = [] }
     by_here true h here = absurd (let a = sym (ap (λ b. c.lost || b) h ∙ end c.lost) ∙ here in cc)
     by_here false h here = loss.waiting c.number (turned c.number k h) ∙ fits.answers (sym (ap (λ b. c.lost || b) h ∙ plain c.lost) ∙ here)
@@ -270,12 +278,12 @@ loss-stands s k old new st serves loss =
       asks = asks;
       forwards = subst (λ gs. AreFit (without_client k s.forwards) gs (look new).own (look new).lost) (sym loss.current) (forwards-lost k s.forwards (look old).current (look old).own (look new).own (look old).lost (look new).lost loss.own loss.lost loss.others st.forwards);
       clients = clients-settle k (has_left (lost_core s k) k) (lost_clients k s.clients) (has_matters old) (has_matters new) (look new)
-        (record {
-          numbers = numbers-lost k s.clients ∙ (st.clients.numbers ∙ sym (ap (filter (has_matters old)) loss.entered));
-          each = clients-lost k old new s.clients loss st.clients.each;
-          once = once-lost k s.clients st.clients.once;
-          few = let e = length-lost k s.clients in let f = st.clients.few in omega arith;
-        })
-        (λ j apart. loss.matters j (turned j k apart)) here (open-by (rows_of k old) is.admitted is.here);
+          (record {
+            numbers = numbers-lost k s.clients ∙ (st.clients.numbers ∙ sym (ap (filter (has_matters old)) loss.entered));
+            each = clients-lost k old new s.clients loss st.clients.each;
+            once = once-lost k s.clients st.clients.once;
+            few = let e = length-lost k s.clients in let f = st.clients.few in omega arith;
+          })
+          (λ j apart. loss.matters j (turned j k apart)) here (open-by (rows_of k old) is.admitted is.here);
       known = known-settle (lost_core s k) k (loss-known s k st.known) (elsewhere k s.forwards);
     }

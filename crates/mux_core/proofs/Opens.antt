@@ -1,5 +1,5 @@
 -- An open that a client says.
-use Rattle.std.proofs.Common.{◌≡◌, ◌≤◌, ◌<◌, ◌+◌, ℕ, List, [], ◌∷◌, ◌++◌, length, map, true, false, Bool, refl, ◌∙◌, ap, sym, subst, Option, Some, None, Ok, arith, suc}
+use Rattle.std.proofs.Common.{◌≡◌, ◌≤◌, ◌<◌, ◌+◌, ℕ, List, [], ◌∷◌, ◌++◌, length, true, false, Bool, refl, ◌∙◌, ap, sym, subst, Option, Some, None, Ok, arith, suc}
 use Rattle.std.specs.Prelude.{filter, find, ◌==◌, ◌&&◌, ◌||◌, not, is_some, option_map, nat_lt}
 use Rattle.std.specs.List.{AllByRecursion}
 use Rattle.std.proofs.lemmas.List.{append-nil}
@@ -16,18 +16,16 @@ use Rattle.proxy_frames.specs.State.{QueueState}
 use Rattle.proxy_frames.specs.Queued.{with_bytes}
 use Rattle.mux_history.specs.declared.limits.TheConstants.{MAX_CHANNELS, NUMBERS_END}
 use Rattle.mux_history.specs.declared.why.Why.TheVariants as why
-use Rattle.mux_history.specs.Gist.{Gist, Open, read_gist, reading, sender_of}
+use Rattle.mux_history.specs.Gist.{Open, read_gist, reading, sender_of}
 use Rattle.mux_history.specs.Policy.{permits}
 use Rattle.mux_history.specs.Rows.{Row, Says, rows_of}
-use Rattle.mux_history.specs.Channels.{Channel, after_item, held_of, holder, is_held, is_number, opened_up, with_own, with_up, with_ups}
-use Rattle.mux_history.specs.Choices.{takes_number}
-use Rattle.mux_history.specs.Said.{Outcome, drops, fails_open, on_unused, said_gist, said_open, said_payload, sends, sends_as, sends_open, tells}
-use Rattle.mux_history.specs.Treat.{bare}
-use Rattle.mux_history.proofs.Bools.{same-number, self}
+use Rattle.mux_history.specs.Channels.{Channel, after_item, held_of, holder, is_held, is_number, opened_up, with_own, with_up}
+use Rattle.mux_history.specs.Said.{Outcome, drops, fails_open, on_unused, said_open, said_payload, sends, sends_as, sends_open, tells}
+use Rattle.mux_history.proofs.Bools.{same-number}
 use Rattle.mux_history.proofs.Finds.{filter-no, filter-yes}
 use Rattle.mux_history.proofs.Local as local
 use Rattle.mux_history.proofs.Readings.{reading-ok}
-use Rattle.mux_history.proofs.Renumbered.{SenderIn, number-sent, resent, reads-sent, sender-in, spelled, word}
+use Rattle.mux_history.proofs.Renumbered.{SenderIn, number-sent, reads-sent, sender-in, spelled, word}
 use Rattle.window_ledger.specs.declared.ledger.Ledger.{Ledger}
 use Rattle.window_ledger.specs.Stands.{IsBegun, confirmed}
 use Rattle.window_ledger.specs.Stands as ledger
@@ -41,10 +39,10 @@ use Rattle.mux_core.specs.declared.verdict.Verdict.TheVariants as verdict
 use Rattle.mux_core.specs.State.{ClientState, CoreState, is_served}
 use Rattle.mux_core.specs.Stands.{HasSmall, Stands, TableFits, has_numbers, is_known, is_whole, look}
 use Rattle.mux_core.specs.Opening.{kind_verdict, open_verdict}
-use Rattle.mux_core.specs.Calls.{IsFresh, SaysIn, SaysRow}
-use Rattle.mux_core.proofs.Apart.{all-of, none-pass}
+use Rattle.mux_core.specs.Calls.{SaysIn, SaysRow}
+use Rattle.mux_core.proofs.Apart.{none-pass}
 use Rattle.mux_core.proofs.Bare.{held-bare}
-use Rattle.mux_core.proofs.Fits.{FoundFit, found-fit, more-fit}
+use Rattle.channel_table.proofs.Fits.{FoundFit, found-fit, more-fit}
 use Rattle.mux_core.proofs.Found.{find-filter, find-none, held-local}
 use Rattle.mux_core.proofs.Says.{AsksNothing, answered-row, held-held, map-same, quiet-says, said_as, tells-own}
 use Rattle.mux_core.proofs.SaysWithin.{dropped-row, said-ok}
@@ -98,6 +96,7 @@ judged s k c w m what p up v rows st serves e judges = by_use (is_some (number_o
   where
     answer : (a : List ℕ) → said_payload s.policy k (rows_of k rows) 0 p ≡ tells (frame_payload a) → SaysIn s s k p 0 up up (verdict.Answer a) rows
     answer a does = answered-row s k 0 p (Open what c w m) a up rows st serves e (asks-nothing what c w m) does
+
     by_kind : (what' : Opens) → used (with_own (rows_of k rows) c) ≡ false → said_payload s.policy k (rows_of k rows) 0 p ≡ on_unused c (said_open s.policy (rows_of k rows) 0 p c what') (with_own (rows_of k rows) c) → kind_verdict s c what' ≡ Some v → SaysIn s s k p 0 up up v rows
     by_kind Session free does j = absurd (cc)
     by_kind (Direct key) free does j = by_permit (permits s.policy.opens key) refl j
@@ -113,6 +112,7 @@ judged s k c w m what p up v rows st serves e judges = by_use (is_some (number_o
     by_kind OtherType free does j =
         let same : verdict.Answer (open_failure c UNKNOWN_CHANNEL_TYPE unknown_type) ≡ v = cc in
         subst (λ u. SaysIn s s k p 0 up up u rows) same (answer (open_failure c UNKNOWN_CHANNEL_TYPE unknown_type) (does ∙ by-none c (said_open s.policy (rows_of k rows) 0 p c OtherType) (with_own (rows_of k rows) c) free))
+
     by_use : (b : Bool) → is_some (number_of_own s.channels k c) ≡ b → (elim b as (λ _. Option Verdict) [ true ↦ Some (verdict.Drop (why.OwnInUse c)) | false ↦ kind_verdict s c what ]) ≡ Some v → SaysIn s s k p 0 up up v rows
     by_use true h j =
         let same : verdict.Drop (why.OwnInUse c) ≡ v = cc in
@@ -129,6 +129,7 @@ count-fit k (e ∷ es) (x ∷ xs) fit = by_case (count-fit k es xs fit.1) (is_of
   where
     same : local.is_of k x ≡ is_of k e
     same = ap (λ i. i == k) (sym fit.0.client)
+
     by_case : length (filter (local.is_of k) xs) ≡ count_of es k → (b : Bool) → is_of k e ≡ b → length (filter (local.is_of k) (x ∷ xs)) ≡ count_of (e ∷ es) k
     by_case ih true h = ap length (filter-yes (local.is_of k) x xs (same ∙ h)) ∙ (ap (λ n. suc n) ih ∙ sym (ap length (filter-yes (is_of k) e es h)))
     by_case ih false h = ap length (filter-no (local.is_of k) x xs (same ∙ h)) ∙ (ih ∙ sym (ap length (filter-no (is_of k) e es h)))
@@ -149,6 +150,7 @@ may-go s k pick c w m what p rows st e judges = by_use (is_some (number_of_own s
         by_permit false h j = absurd (cc)
     by_kind (Forwarded key) free does j = absurd (cc)
     by_kind OtherType free does j = absurd (cc)
+
     by_use : (b : Bool) → is_some (number_of_own s.channels k c) ≡ b → (elim b as (λ _. Option Verdict) [ true ↦ Some (verdict.Drop (why.OwnInUse c)) | false ↦ kind_verdict s c what ]) ≡ None → said_payload s.policy k (rows_of k rows) pick p ≡ sends_open (rows_of k rows) pick p c
     by_use true h j = absurd (cc)
     by_use false h j = by_kind what (sym (uses s k c rows st) ∙ h) (does-open s k pick c w m what p rows e) j
@@ -192,16 +194,20 @@ free-held s n rows st free = by_found (holder rows n) refl fit
   where
     shown : Entry → Bool
     shown e = is_number (shown_number e) n
+
     narrow : (e : Entry) → is_number (shown_number e) n ≡ true → is_at n e ≡ true
     narrow e h = by_shown (is_shown e.channel) h
       where
         by_shown : (b : Bool) → is_number (elim b as (λ _. Option ℕ) [ true ↦ Some e.number | false ↦ None ]) n ≡ true → is_at n e ≡ true
         by_shown true h = h
         by_shown false h = absurd (cc)
+
     none : find (λ (e : Entry). is_number (shown_number e) n) s.channels ≡ None
     none = find-none (is_at n) (λ e. is_number (shown_number e) n) narrow s.channels free.unused
+
     fit : FoundFit None (holder rows n)
     fit = subst (λ o. FoundFit o (holder rows n)) none (found-fit (λ _. Unit {0}) (λ e. is_number (shown_number e) n) (λ x. is_number x.number n) (λ e x u fits. ap (λ o. is_number o n) fits.number) s.channels (held_of rows) (all-unit s.channels) st.channels.fit)
+
     by_found : (o : Option Channel) → holder rows n ≡ o → FoundFit None (holder rows n) → holder rows n ≡ None
     by_found None h f = h
     by_found (Some x) h f = absurd (subst (FoundFit None) h f)
@@ -223,6 +229,7 @@ two-new es n k c l free unused = both es (none-pass (is_at n) es free.unused) (n
             let here : has_own k c f ≡ true = ap (λ b. b && is_number f.channel.own c) same ∙ (ap (λ i. is_number f.channel.own i) at ∙ h) in
             absurd (let z = sym here ∙ mine in cc)
         by_number d false e same h = e
+
     both : (fs : List Entry) → AllByRecursion (λ e. is_at n e ≡ false) fs → AllByRecursion (λ e. has_own k c e ≡ false) fs → AllByRecursion (λ f. AreTwo f (own_entry n k c l)) fs
     both [] a b = tt
     both (f ∷ fs) a b = (one f a.0 b.0, both fs a.1 b.1)
@@ -249,20 +256,27 @@ opened-table s k n c w m what p l rows st bytes small e free unused room waits b
   where
     q : List ℕ
     q = with_sender p n
+
     sender : SenderIn p (Open what c w m)
     sender = sender-in p (Open what c w m) c bytes e refl
+
     number : reading (with_sender p n) sender_of None ≡ Some n
     number = number-sent p (Open what c w m) sender n ∙ ap Some (spelled n small)
+
     reads : read_gist (with_sender p n) ≡ Ok (Open what (word n) w m)
     reads = reads-sent p (Open what c w m) sender n
+
     channel : Channel
     channel = record { client = k; by = Up; own = Some c; number = reading (with_sender p n) sender_of None; remote = None; window = w; maximum = m; acts = [] }
+
     fits : Fits (own_entry n k c l) (record { client = k; by = Up; own = Some c; number = reading (with_sender p n) sender_of None; remote = None; window = w; maximum = m; acts = [] })
     fits = record { client = refl; by = refl; own = refl; number = sym number; remote = refl; ledger = begins _ (record { opener = refl; first = refl; longest = refl; fresh = refl }); held = refl }
+
     stays : (x : Channel) → after_item (said_as k p (sends (with_sender p n))) x ≡ x
     stays x =
         ap (λ (y : Channel). elim (x.client == k) as (λ _. Channel) [ true ↦ y | false ↦ x ]) (reading-ok (with_sender p n) (Open what (word n) w m) (λ g. with_up (reading p sender_of None) g x) x reads)
         ∙ (elim (x.client == k) as (λ b. (elim b as (λ _. Channel) [ true ↦ x | false ↦ x ]) ≡ x) [ true ↦ refl | false ↦ refl ])
+
     held : held_of (said_as k p (sends (with_sender p n)) ∷ rows) ≡ held_of rows ++ record { client = k; by = Up; own = Some c; number = reading (with_sender p n) sender_of None; remote = None; window = w; maximum = m; acts = [] } ∷ []
     held =
         held-bare (Says k (Payload p) None) k (sends (with_sender p n)) rows

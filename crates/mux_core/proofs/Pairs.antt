@@ -1,8 +1,6 @@
 -- Forwardings one by one with those that are kept: what each test and change is on either side.
-use Rattle.std.proofs.Common.{◌≡◌, ◌≤◌, ◌<◌, ◌+◌, ℕ, List, [], ◌∷◌, ◌++◌, length, map, true, false, Bool, refl, ◌∙◌, ap, sym, subst, Option, Some, None, arith, suc, zero}
+use Rattle.std.proofs.Common.{◌≡◌, ℕ, List, [], ◌∷◌, ◌++◌, true, false, Bool, refl, ◌∙◌, ap, sym, Option, Some, None}
 use Rattle.std.specs.Prelude.{filter, find, ◌==◌, ◌&&◌, ◌||◌, not, is_some, is_none, unwrap_or}
-use Rattle.std.specs.List.{AllByRecursion}
-use Rattle.std.proofs.lemmas.Bool.Decides.{nat_tests}
 use Rattle.ssh_grammar.specs.Messages.{Key}
 use Rattle.mux_history.specs.Keys.{has_key, is_key}
 use Rattle.mux_history.specs.Rows.{any_of}
@@ -12,7 +10,7 @@ use Rattle.mux_history.proofs.Bools.{same-number}
 use Rattle.mux_history.proofs.SameKeys.{key-is}
 use Rattle.mux_history.proofs.Finds.{filter-no, filter-yes, find-no, find-yes}
 use Rattle.forward_rules.specs.State.{Forward}
-use Rattle.forward_rules.specs.Step.{change_first, is_free_at, is_of, some_free}
+use Rattle.forward_rules.specs.Step.{is_free_at, some_free}
 use Rattle.forward_rules.specs.Stands.{AreListed, Fits}
 
 -- ---- booleans
@@ -41,6 +39,7 @@ find-any {X} keep test (x ∷ xs) = by_case (find-any keep test xs) (keep x) ref
   where
     head : (b : Bool) → (keep x && test x) ≡ b → any_of (λ y. keep y && test y) (x ∷ xs) ≡ (b || any_of (λ y. keep y && test y) xs)
     head b h = ap (λ c. c || any_of (λ y. keep y && test y) xs) h
+
     by_case : is_some (find test (filter keep xs)) ≡ any_of (λ y. keep y && test y) xs → (b : Bool) → keep x ≡ b → (t : Bool) → test x ≡ t → is_some (find test (filter keep (x ∷ xs))) ≡ any_of (λ y. keep y && test y) (x ∷ xs)
     by_case ih false k t h = ap (λ ys. is_some (find test ys)) (filter-no keep x xs k) ∙ (ih ∙ sym (head false (ap (λ b. b && test x) k)))
     by_case ih true k false h = ap (λ ys. is_some (find test ys)) (filter-yes keep x xs k) ∙ (ap is_some (find-no test x (filter keep xs) h) ∙ (ih ∙ sym (head false (ap (λ b. b && test x) k ∙ h))))
@@ -69,6 +68,7 @@ any-changed pass test change goes (g ∷ gs) there = by_case (any-changed pass t
   where
     at : (t : Bool) → test g ≡ t → history.change_first test change (g ∷ gs) ≡ elim t as (λ _. List Forwarding) [ true ↦ change g ∷ gs | false ↦ g ∷ history.change_first test change gs ]
     at t h = ap (λ (b : Bool). elim b as (λ _. List Forwarding) [ true ↦ change g ∷ gs | false ↦ g ∷ history.change_first test change gs ]) h
+
     by_case : (any_of pass gs ≡ true → any_of pass (history.change_first test change gs) ≡ true) → (t : Bool) → test g ≡ t → (p : Bool) → pass g ≡ p → any_of pass (history.change_first test change (g ∷ gs)) ≡ true
     by_case ih true t true p = ap (any_of pass) (at true t) ∙ or-first (pass (change g)) (any_of pass gs) (goes g t p)
     by_case ih true t false p = ap (any_of pass) (at true t) ∙ or-second (pass (change g)) (any_of pass gs) (or-found (pass g) (any_of pass gs) there p)
@@ -82,6 +82,7 @@ any-first pass test change now (g ∷ gs) there = by_case (any-first pass test c
   where
     at : (t : Bool) → test g ≡ t → history.change_first test change (g ∷ gs) ≡ elim t as (λ _. List Forwarding) [ true ↦ change g ∷ gs | false ↦ g ∷ history.change_first test change gs ]
     at t h = ap (λ (b : Bool). elim b as (λ _. List Forwarding) [ true ↦ change g ∷ gs | false ↦ g ∷ history.change_first test change gs ]) h
+
     by_case : (any_of test gs ≡ true → any_of pass (history.change_first test change gs) ≡ true) → (t : Bool) → test g ≡ t → any_of pass (history.change_first test change (g ∷ gs)) ≡ true
     by_case ih true t = ap (any_of pass) (at true t) ∙ or-first (pass (change g)) (any_of pass gs) (now g t)
     by_case ih false t = ap (any_of pass) (at false t) ∙ or-second (pass g) (any_of pass (history.change_first test change gs)) (ih (or-found (test g) (any_of test gs) there t))
@@ -113,6 +114,7 @@ some-same k key (f ∷ fs) (g ∷ gs) all = by_case (some-same k key fs gs all.1
   where
     same : is_free_at k key f ≡ history.is_free_at k key g
     same = free-same k key f g all.0
+
     by_case : some_free k key fs ≡ any_of (history.is_free_at k key) gs → (b : Bool) → is_free_at k key f ≡ b → some_free k key (f ∷ fs) ≡ any_of (history.is_free_at k key) (g ∷ gs)
     by_case ih true h = ap is_some (find-yes (is_free_at k key) f fs h) ∙ sym (ap (λ b. b || any_of (history.is_free_at k key) gs) (sym same ∙ h))
     by_case ih false h = ap is_some (find-no (is_free_at k key) f fs h) ∙ (ih ∙ sym (ap (λ b. b || any_of (history.is_free_at k key) gs) (sym same ∙ h)))

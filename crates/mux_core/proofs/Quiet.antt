@@ -1,5 +1,5 @@
 -- Rows that change nothing but channels.
-use Rattle.std.proofs.Common.{◌≡◌, ℕ, List, [], ◌∷◌, ◌++◌, length, map, true, false, Bool, refl, ◌∙◌, ap, sym, subst, append-nil}
+use Rattle.std.proofs.Common.{◌≡◌, ℕ, List, [], ◌∷◌, ◌++◌, length, true, false, Bool, refl, ◌∙◌, ap, append-nil}
 use Rattle.std.specs.Prelude.{◌==◌, ◌||◌, filter, not}
 use Rattle.mux_history.specs.Rows.{Row, rows_of, any_of, is_admit, is_lost, loses}
 use Rattle.mux_history.specs.Requests.{Ask, asks, asks_of, is_sent, replies, reply_in, sent_flags, wanted, wanted_by}

@@ -1,6 +1,6 @@
 -- The cancel that the server's reply answers: of the client's that have none, it was sent first, in the list as in the history.
-use Rattle.std.proofs.Common.{◌≡◌, ◌≤◌, ◌<◌, ◌+◌, ◌-◌, ℕ, List, [], ◌∷◌, length, map, true, false, Bool, refl, ◌∙◌, ap, sym, subst, Option, Some, None, arith, suc}
-use Rattle.std.specs.Prelude.{filter, find, ◌==◌, ◌&&◌, ◌||◌, not, is_some, is_none, nat_lt, min, unwrap_or, slice_get}
+use Rattle.std.proofs.Common.{◌≡◌, ◌≤◌, ℕ, List, [], ◌∷◌, true, false, Bool, refl, ◌∙◌, ap, sym, subst, Option, Some, None, arith}
+use Rattle.std.specs.Prelude.{◌==◌, ◌&&◌, is_some, nat_lt, min, unwrap_or, slice_get}
 use Rattle.std.specs.List.{AllByRecursion}
 use Rattle.std.proofs.lemmas.Bool.Decides.{nat_tests}
 use Rattle.ssh_grammar.specs.Messages.{Key}
@@ -9,13 +9,13 @@ use Rattle.mux_history.specs.Channels.{is_number}
 use Rattle.mux_history.specs.Keys.{is_key}
 use Rattle.mux_history.specs.Rows.{any_of}
 use Rattle.mux_history.specs.Forwardings.{Forwarding}
-use Rattle.mux_history.proofs.Bools.{is-of, same-number, self}
+use Rattle.mux_history.proofs.Bools.{same-number}
 use Rattle.mux_history.proofs.SameKeys.{is-key}
 use Rattle.forward_rules.specs.State.{Forward}
-use Rattle.forward_rules.specs.Step.{earlier, first_cancel, is_cancelled_at, is_leaving_at, is_of, moved_up, without_cancel_of}
-use Rattle.forward_rules.specs.Stands.{AreInOrder, AreListed, AreTwo, EachTwo, Fits, InOrder, InOrderWith, IsAwaited, Places}
+use Rattle.forward_rules.specs.Step.{earlier, first_cancel, is_cancelled_at, is_leaving_at}
+use Rattle.forward_rules.specs.Stands.{AreInOrder, AreListed, AreTwo, EachTwo, Fits, InOrderWith, IsAwaited, Places}
 use Rattle.mux_core.proofs.Pairs.{and-left, and-right, or-found}
-use Rattle.mux_core.proofs.Replied.{cancel-is, none-key, number-is, own-of}
+use Rattle.mux_core.proofs.Replied.{cancel-is, number-is, own-of}
 
 -- ---- pairs of the two lists
 
@@ -46,10 +46,13 @@ behind : (k place rank : ℕ) (f : Forward) (g : Forwarding) → g.client ≡ k 
 behind k place rank f g mine cf cg [] [] listed order two = tt
 behind k place rank f g mine cf cg [] (h ∷ hs) listed order two = absurd listed
 behind k place rank f g mine cf cg (e ∷ es) [] listed order two = absurd listed
-behind k place rank f g mine cf cg (e ∷ es) (h ∷ hs) listed order two = (record {
-  meets = λ at. absurd (two.0.leaving place (mine ∙ sym (same-number h.client k (and-left (h.client == k) _ at))) cg (number-is h.cancel place (and-right (h.client == k) _ at)));
-  order = λ r q same a b. let o = order.0 rank place r q (mine ∙ sym same) cf cg a b in (o.1, o.0);
-}, behind k place rank f g mine cf cg es hs listed.1 order.1 two.1)
+behind k place rank f g mine cf cg (e ∷ es) (h ∷ hs) listed order two = (
+  record {
+    meets = λ at. absurd (two.0.leaving place (mine ∙ sym (same-number h.client k (and-left (h.client == k) _ at))) cg (number-is h.cancel place (and-right (h.client == k) _ at)));
+    order = λ r q same a b. let o = order.0 rank place r q (mine ∙ sym same) cf cg a b in (o.1, o.0);
+  },
+  behind k place rank f g mine cf cg es hs listed.1 order.1 two.1,
+)
 
 -- one before the one that is meant
 ahead : (k place rank : ℕ) (f : Forward) (g : Forwarding) (fs : List Forward) (gs : List Forwarding) → InOrderWith f g fs gs → AllPairs (Sits k place rank) fs gs → any_of (leaves_at k place) gs ≡ true → (r q : ℕ) → g.client ≡ k → f.cancel ≡ Some r → g.cancel ≡ Some q → (nat_lt r rank ≡ nat_lt q place) × (nat_lt rank r ≡ nat_lt place q)
@@ -75,17 +78,21 @@ rank-of k place (f ∷ fs) (g ∷ gs) listed order two there = by_test (rank-of 
         let at = number-is g.cancel place (and-right (g.client == k) _ t) in
         record {
           rank = rank;
-          each = (record {
-            meets = λ _. e;
-            order = λ r q same a b.
-              let ra : rank ≡ r = some-is rank r (sym e ∙ a) in
-              let pq : place ≡ q = some-is place q (sym at ∙ b) in
-              (ap (λ n. nat_lt n rank) (sym ra) ∙ (same-lt rank place ∙ ap (λ n. nat_lt n place) pq), ap (λ n. nat_lt rank n) (sym ra) ∙ (same-lt rank place ∙ ap (λ n. nat_lt place n) pq));
-          }, behind k place rank f g (same-number g.client k (and-left (g.client == k) _ t)) e at fs gs listed.1 order.0 two.0);
+          each = (
+            record {
+              meets = λ _. e;
+              order = λ r q same a b.
+                  let ra : rank ≡ r = some-is rank r (sym e ∙ a) in
+                  let pq : place ≡ q = some-is place q (sym at ∙ b) in
+                  (ap (λ n. nat_lt n rank) (sym ra) ∙ (same-lt rank place ∙ ap (λ n. nat_lt n place) pq), ap (λ n. nat_lt rank n) (sym ra) ∙ (same-lt rank place ∙ ap (λ n. nat_lt place n) pq));
+            },
+            behind k place rank f g (same-number g.client k (and-left (g.client == k) _ t)) e at fs gs listed.1 order.0 two.0,
+          );
         }
       where
         same-lt : (a b : ℕ) → nat_lt a a ≡ nat_lt b b
         same-lt a b = grind (arith, nat_tests)
+
     by_test : (any_of (leaves_at k place) gs ≡ true → RankOf k place fs gs) → (b : Bool) → leaves_at k place g ≡ b → RankOf k place (f ∷ fs) (g ∷ gs)
     by_test ih true t = found f.cancel refl t
     by_test ih false t =
@@ -93,10 +100,13 @@ rank-of k place (f ∷ fs) (g ∷ gs) listed order two there = by_test (rank-of 
         let later = ih tail in
         record {
           rank = later.rank;
-          each = (record {
-            meets = λ at. absurd (let x : true ≡ false = sym at ∙ t in cc);
-            order = λ r q same a b. ahead k place later.rank f g fs gs order.0 later.each tail r q same a b;
-          }, later.each);
+          each = (
+            record {
+              meets = λ at. absurd (let x : true ≡ false = sym at ∙ t in cc);
+              order = λ r q same a b. ahead k place later.rank f g fs gs order.0 later.each tail r q same a b;
+            },
+            later.each,
+          );
         }
 
 -- ---- what is known of each pair
@@ -122,6 +132,7 @@ same-test a b c d h g = by_tests (a == b) refl (c == d) refl
         by_order true e y f = let u : nat_lt a b ≡ true = h ∙ e in grind (arith, nat_tests)
         by_order false e true f = let u : nat_lt b a ≡ true = g ∙ f in grind (arith, nat_tests)
         by_order false e false f = grind (arith, nat_tests)
+
     by_tests : (x : Bool) → (a == b) ≡ x → (y : Bool) → (c == d) ≡ y → (a == b) ≡ (c == d)
     by_tests true p true q = p ∙ sym q
     by_tests false p false q = p ∙ sym q
@@ -137,6 +148,7 @@ same-cancelled k place rank own f g known = ap (λ i. (i == k) && is_number f.ca
     by_cancel mine None a (Some q) b = absurd (let x : is_some (let y : Option ℕ = None in y) ≡ true = ap is_some (sym a) ∙ (known.fits.cancel ∙ ap is_some b) in cc)
     by_cancel mine (Some r) a None b = absurd (let x : true ≡ is_some (let y : Option ℕ = None in y) = ap is_some (sym a) ∙ (known.fits.cancel ∙ ap is_some b) in cc)
     by_cancel mine (Some r) a (Some q) b = let o = known.sits.order r q mine a b in same-test r rank q place o.0 o.1
+
     by_client : (b : Bool) → (g.client == k) ≡ b → ((g.client == k) && is_number f.cancel rank) ≡ ((g.client == k) && is_number g.cancel place)
     by_client true h = ap (λ b. (g.client == k) && b) (by_cancel (same-number g.client k h) f.cancel refl g.cancel refl)
     by_client false h = ap (λ b. b && is_number f.cancel rank) h ∙ sym (ap (λ b. b && is_number g.cancel place) h)
@@ -157,8 +169,10 @@ meant-key k place rank key own f g asked known at =
   where
     mine : (g.client == k) ≡ true
     mine = and-left (g.client == k) (is_number g.cancel place) at
+
     same : key ≡ unwrap_or g.live g.key
     same = let x : full.Cancel key ≡ full.Cancel (unwrap_or g.live g.key) = cancel-is (own k) k place (full.Cancel key) g (own-of k own g mine known.waits) asked (and-right (g.client == k) (is_number g.cancel place) at) in cc
+
     lives : (o : Option Key) → g.live ≡ o → is_some g.live ≡ true
     lives (Some q) e = ap is_some e
     lives None e = absurd (let x : None ≡ Some place = sym (known.waits.either e) ∙ number-is g.cancel place (and-right (g.client == k) (is_number g.cancel place) at) in cc)
@@ -175,6 +189,7 @@ not-lower k place rank key own f g at known leaves = by_cancel f.cancel refl g.c
   where
     mine : (g.client == k) ≡ true
     mine = ap (λ i. i == k) (sym known.fits.client) ∙ and-left (f.client == k) _ leaves
+
     by_cancel : (o : Option ℕ) → f.cancel ≡ o → (p : Option ℕ) → g.cancel ≡ p → AtLeast rank o
     by_cancel None a p b = tt
     by_cancel (Some r) a None b = absurd (let x : true ≡ is_some (let y : Option ℕ = None in y) = ap is_some (sym a) ∙ (known.fits.cancel ∙ ap is_some b) in cc)

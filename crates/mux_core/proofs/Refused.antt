@@ -1,5 +1,5 @@
 -- A request that wants a reply and is refused: the refusal goes out at once, or behind what waits.
-use Rattle.std.proofs.Common.{◌≡◌, ◌≤◌, ◌<◌, ℕ, List, [], ◌∷◌, ◌++◌, length, drop, map, true, false, Bool, refl, ◌∙◌, ap, sym, subst, Option, Some, None, Ok, arith, suc}
+use Rattle.std.proofs.Common.{◌≡◌, ◌≤◌, ℕ, List, [], ◌∷◌, ◌++◌, length, drop, map, true, false, Bool, refl, ◌∙◌, ap, sym, subst, None, Ok, arith, suc}
 use Rattle.std.specs.Prelude.{filter, ◌==◌, ◌&&◌, ◌||◌, not, is_some}
 use Rattle.std.specs.List.{AllByRecursion}
 use Rattle.std.proofs.lemmas.List.{append-nil}
@@ -7,32 +7,28 @@ use Rattle.std.proofs.Math.Seq.{drop-append_seam}
 use Rattle.std.proofs.lemmas.Bool.Decides.{nat_tests}
 use Rattle.ssh_grammar.specs.Messages.{Global}
 use Rattle.ssh_grammar.specs.Frames.{frame_payload}
-use Rattle.ssh_grammar.specs.SpellMessage.{request_failure}
 use Rattle.proxy_frames.specs.State.{QueueState}
 use Rattle.global_replies.specs.Replies.{is_none_left, or_behind}
 use Rattle.mux_history.specs.declared.limits.TheConstants.{MAX_CLIENTS}
-use Rattle.mux_history.specs.Channels.{held_of}
 use Rattle.mux_history.specs.Farewell.{has_open_matters}
 use Rattle.mux_history.specs.Gist.{Requests, read_gist}
 use Rattle.mux_history.specs.Rows.{Row, any_of, is_admit, is_lost, rows_of}
 use Rattle.mux_history.specs.Log.{entered}
 use Rattle.mux_history.specs.Requests.{answers, answers_to, asks, asks_of, replies, sent_flags, wanted, wanted_by, wanted_in}
 use Rattle.mux_history.specs.Said.{said_request, silent}
-use Rattle.mux_history.specs.Treat.{all_told, goes, new_answers}
+use Rattle.mux_history.specs.Treat.{all_told, new_answers}
 use Rattle.mux_history.proofs.Bools.{same-number}
 use Rattle.mux_history.proofs.OwnRows.{idle_row, own_row}
 use Rattle.mux_history.proofs.Readings.{reading-ok}
 use Rattle.mux_isolation.specs.View.{left_of}
-use Rattle.forward_rules.specs.State as kept
 use Rattle.forward_rules.specs.Stands.{AreFit, Places, places_of}
 use Rattle.channel_table.specs.Entries.{Entry}
 use Rattle.mux_history.specs.Requests.{Ask}
 use Rattle.mux_core.specs.declared.verdict.Verdict.{Verdict}
-use Rattle.mux_core.specs.declared.verdict.Verdict.TheVariants as verdict
 use Rattle.mux_core.specs.State.{ClientState, CoreState, is_served}
-use Rattle.mux_core.specs.Stands.{AreOnce, AsksFit, ClientFits, ClientsFit, Look, Stands, TableFits, has_matters, is_known, look}
+use Rattle.mux_core.specs.Stands.{AreOnce, AsksFit, ClientFits, Stands, TableFits, has_matters, is_known, look}
 use Rattle.mux_core.specs.Calls.{SaysIn, SaysRow, Shows}
-use Rattle.mux_core.specs.Requesting.{SaysRoomy, after_refusal, is_full, refusal, refusal_now, waiting_of, with_waiting}
+use Rattle.mux_core.specs.Requesting.{SaysRoomy, after_refusal, refusal, refusal_now, waiting_of}
 use Rattle.mux_core.proofs.Answering.{Waits, if_none, refused-answers, refused-waits}
 use Rattle.mux_core.proofs.Waiting.{changes, changes-at, waits-are, with-map}
 use Rattle.mux_core.proofs.Quiet.{own-same}
@@ -97,8 +93,10 @@ client-then k p what rows c e fits = by_number (c.number == k) refl (k == c.numb
   where
     after-own : (j : ℕ) → (k == j) ≡ true → rows_of j (refused_row k p ∷ rows) ≡ refused_row k p ∷ rows_of j rows
     after-own j h = own_row j (refused_row k p) rows h
+
     clash : (a b : ℕ) → (a == b) ≡ true → (b == a) ≡ false → ⊥
     clash a b h g = grind (arith, nat_tests)
+
     by_number : (b : Bool) → (c.number == k) ≡ b → (d : Bool) → (k == c.number) ≡ d → ClientFits (look (refused_row k p ∷ rows)) (changes k or_behind c)
     by_number true h true g = subst (ClientFits (look (refused_row k p ∷ rows))) (sym (changes-at k or_behind c true h)) (record {
       nonzero = fits.nonzero;
@@ -177,4 +175,4 @@ refused s new k p what false v up is after does = λ room rows st serves e. refu
 refused s new k p what true v up is after does = λ room rows st serves e.
     subst (λ x. SaysIn s new k p 0 up up x rows) (sym is) (subst (λ x. SaysIn s x k p 0 up up (refusal_now (is_none_left (waiting_of k s.clients))) rows) (sym (after ∙ ap (λ (cs : List ClientState). record s { clients = cs }) (with-map k or_behind s.clients st.clients.once)))
     (subst (λ o. SaysRow s (record s { clients = map (changes k or_behind) s.clients }) (said_as k p o) 0 up up (refusal_now (is_none_left (waiting_of k s.clients))) rows) (sym (by-full s k p what true false rows st serves e room ∙ does rows st))
-      (by-left s (record s { clients = map (changes k or_behind) s.clients }) k p up rows (is_none_left (waiting_of k s.clients)) (shows-refusal k p what (rows_of k rows) (waiting_of k s.clients) e (told-if k p what (rows_of k rows) (waiting_of k s.clients) e (served (look rows) k s.clients st.clients.each serves).here (waits-are rows k s.clients st.clients.each st.clients.once serves))) (refused-stands s k p what rows st serves e))))
+    (by-left s (record s { clients = map (changes k or_behind) s.clients }) k p up rows (is_none_left (waiting_of k s.clients)) (shows-refusal k p what (rows_of k rows) (waiting_of k s.clients) e (told-if k p what (rows_of k rows) (waiting_of k s.clients) e (served (look rows) k s.clients st.clients.each serves).here (waits-are rows k s.clients st.clients.each st.clients.once serves))) (refused-stands s k p what rows st serves e))))

@@ -1,5 +1,5 @@
 -- The server's failure of a request for a forwarding.
-use Rattle.std.proofs.Common.{◌≡◌, ◌≤◌, ◌<◌, ◌+◌, ℕ, List, [], ◌∷◌, length, map, true, false, Bool, refl, ◌∙◌, ap, sym, subst, Option, Some, None, arith}
+use Rattle.std.proofs.Common.{◌≡◌, ◌≤◌, ◌<◌, ◌+◌, ℕ, List, [], ◌∷◌, map, true, false, Bool, refl, ◌∙◌, ap, sym, subst, Option, Some, None, arith}
 use Rattle.std.specs.Prelude.{filter, find, ◌==◌, ◌&&◌, not, is_some, is_none, slice_get}
 use Rattle.std.specs.List.{AllByRecursion}
 use Rattle.std.proofs.lemmas.Bool.Decides.{nat_tests}
@@ -51,14 +51,18 @@ asked-out k place key own (f ∷ fs) (g ∷ gs) listed waits two at asked there 
   where
     passes : (b c d : Bool) → (g.client == k) ≡ b → is_none g.live ≡ c → (g.request == place) ≡ d → asks_at k place g ≡ (b && (c && d))
     passes b c d p q r = ap (λ x. x && (is_none g.live && (g.request == place))) p ∙ (ap (λ x. b && (x && (g.request == place))) q ∙ ap (λ x. b && (c && x)) r)
+
     not-first : is_asked_at k key f ≡ false → asks_at k place g ≡ false → out_of (is_asked_at k key) fs ≡ first_out (asks_at k place) gs → out_of (is_asked_at k key) (f ∷ fs) ≡ first_out (asks_at k place) (g ∷ gs)
     not-first unasked miss tail = out-at (is_asked_at k key) f fs false unasked ∙ (ap (λ bs. true ∷ bs) tail ∙ sym (first-at (asks_at k place) g gs false miss))
+
     none-first : (b : Bool) → (b && false) ≡ false
     none-first true = refl
     none-first false = refl
+
     some-of : (o : Option Key) → is_none o ≡ false → is_some o ≡ true
     some-of None h = absurd (cc)
     some-of (Some q) h = refl
+
     by_case : (is_some (find (asks_at k place) gs) ≡ true → out_of (is_asked_at k key) fs ≡ first_out (asks_at k place) gs) → (b : Bool) → (g.client == k) ≡ b → (c : Bool) → is_none g.live ≡ c → (d : Bool) → (g.request == place) ≡ d → out_of (is_asked_at k key) (f ∷ fs) ≡ first_out (asks_at k place) (g ∷ gs)
     by_case ih true p true q true r = out-at (is_asked_at k key) f fs true (asked-key k place key own f g listed.0 (waits.0 p) asked p q r) ∙ sym (first-at (asks_at k place) g gs true (passes true true true p q r))
     by_case ih true p true q false r =
@@ -80,11 +84,12 @@ later-idle k place key own g (h ∷ hs) at asked two waits = ((λ mine. (never (
   where
     clash : (a b c : ℕ) → (a == c) ≡ true → (b == c) ≡ true → a < b → ⊥
     clash a b c p q lt = grind (arith, nat_tests)
+
     both : (h.client == k) ≡ true → is_request h place ≡ true → ⊥
     both mine r =
         let here = and-right (g.client == k) _ at in
         clash g.request h.request place (and-right (is_none g.live) (g.request == place) here) (and-left (h.request == place) (is_none h.live) r)
-          (two.0.asked (same-number g.client k (and-left (g.client == k) _ at) ∙ sym (same-number h.client k mine)) (none-is g.live (and-left (is_none g.live) _ here)) (none-is h.live (and-right (h.request == place) (is_none h.live) r)))
+        (two.0.asked (same-number g.client k (and-left (g.client == k) _ at) ∙ sym (same-number h.client k mine)) (none-is g.live (and-left (is_none g.live) _ here)) (none-is h.live (and-right (h.request == place) (is_none h.live) r)))
 
 one-idle : (k place : ℕ) (key : Key) (own : ℕ → Places) (g : Forwarding) → asks_at k place g ≡ false → slice_get (own k).asked place ≡ Some (record { client = k; what = full.Forward key }) → IsAwaited (own g.client) g → IsBystander k place g
 one-idle k place key own g miss asked w = λ mine. (sym (asks-is k place g mine) ∙ miss, no-cancel-at k place key own g mine w asked)
@@ -108,6 +113,7 @@ refused-out k place key own (g ∷ gs) asked two waits on = by_test (refused-out
         let mine = and-left (g.client == k) _ h in
         ap (λ (x : Bool). elim x as (λ _. Forwarding) [ true ↦ elim (is_request g place) as (λ _. Forwarding) [ true ↦ record g { over = true } | false ↦ elim (is_number g.cancel place) as (λ _. Forwarding) [ true ↦ record g { cancel = None } | false ↦ g ] ] | false ↦ g ]) mine
         ∙ ap (λ (x : Bool). elim x as (λ _. Forwarding) [ true ↦ record g { over = true } | false ↦ elim (is_number g.cancel place) as (λ _. Forwarding) [ true ↦ record g { cancel = None } | false ↦ g ] ]) (sym (asks-is k place g mine) ∙ h)
+
     by_test : filter is_on (map (after k place Refuses) gs) ≡ kept_by (first_out (asks_at k place) gs) gs → (b : Bool) → asks_at k place g ≡ b → filter is_on (map (after k place Refuses) (g ∷ gs)) ≡ kept_by (first_out (asks_at k place) (g ∷ gs)) (g ∷ gs)
     by_test ih true h =
         ap (λ (x : Forwarding). filter is_on (x ∷ map (after k place Refuses) gs)) (over h)
@@ -135,14 +141,16 @@ idle-cancel k place g own h w = w.either (none-is g.live (and-left (is_none g.li
 waits-not : (k j place later : ℕ) (own : Places) (g : Forwarding) → ((k == j) ≡ true → place < later) → asks_at k place g ≡ true → IsAwaited own g → WaitsNot j later g
 waits-not k j place later own g past h w = record {
   asked = never ((g.client == j) && stands.is_asked_at later g) (λ t.
-    clash g.request place later (and-right (is_none g.live) (g.request == place) (and-right (g.client == k) _ h)) (and-right (is_none g.live) (g.request == later) (and-right (g.client == j) _ t)) (past (joined g.client (and-left (g.client == k) _ h) (and-left (g.client == j) _ t))));
+      clash g.request place later (and-right (is_none g.live) (g.request == place) (and-right (g.client == k) _ h)) (and-right (is_none g.live) (g.request == later) (and-right (g.client == j) _ t)) (past (joined g.client (and-left (g.client == k) _ h) (and-left (g.client == j) _ t))));
   leaving = ap (λ o. (g.client == j) && is_number o later) (idle-cancel k place g own h w) ∙ no-one (g.client == j);
 }
   where
     clash : (a b c : ℕ) → (a == b) ≡ true → (a == c) ≡ true → b < c → ⊥
     clash a b c p q lt = grind (arith, nat_tests)
+
     joined : (a : ℕ) → (a == k) ≡ true → (a == j) ≡ true → (k == j) ≡ true
     joined a p q = grind (arith, nat_tests)
+
     no-one : (b : Bool) → (b && false) ≡ false
     no-one true = refl
     no-one false = refl
@@ -154,22 +162,27 @@ refused-fit k key fs gs own own' lost fit next here asked =
     subst (λ hs. AreFit (without_first (is_asked_at k key) fs) hs own' lost) (sym (refused-out k place key own gs asked fit.two fit.awaited (on-listed fs gs fit.listed)))
     (subst (λ es. AreFit es (kept_by bs gs) own' lost) (sym (without-kept (is_asked_at k key) fs ∙ ap (λ cs. kept_by cs fs) (asked-out k place key (own k) fs gs fit.listed (waiting gs fit.awaited) fit.two refl asked there)))
     (kept-fit bs fs gs own own' lost fit
-      (drops-map (λ g. (asks_at k place g ≡ true) × IsAwaited (own g.client) g) (λ g. g.cancel ≡ None) (λ g h. idle-cancel k place g (own g.client) h.0 h.1) bs gs out)
-      (awaited-all k own own' (kept_by bs gs) next (all-by (λ g. IsAwaited (own g.client) g) bs gs fit.awaited) (kept-idle k place key own gs asked fit.two fit.awaited))
-      (λ j lives at a late got. has-kept at a.what j bs gs (drops-map (λ g. (asks_at k place g ≡ true) × IsAwaited (own g.client) g) (WaitsNot j at) (λ g h. waits-not k j place at (own g.client) g (λ same. sooner j same at late) h.0 h.1) bs gs out)
-        (each-next k j own own' (filter (λ g. g.client == j) gs) next (fit.each j lives) at a late got))))
+    (drops-map (λ g. (asks_at k place g ≡ true) × IsAwaited (own g.client) g) (λ g. g.cancel ≡ None) (λ g h. idle-cancel k place g (own g.client) h.0 h.1) bs gs out)
+    (awaited-all k own own' (kept_by bs gs) next (all-by (λ g. IsAwaited (own g.client) g) bs gs fit.awaited) (kept-idle k place key own gs asked fit.two fit.awaited))
+    (λ j lives at a late got. has-kept at a.what j bs gs (drops-map (λ g. (asks_at k place g ≡ true) × IsAwaited (own g.client) g) (WaitsNot j at) (λ g h. waits-not k j place at (own g.client) g (λ same. sooner j same at late) h.0 h.1) bs gs out)
+    (each-next k j own own' (filter (λ g. g.client == j) gs) next (fit.each j lives) at a late got))))
   where
     place : ℕ
     place = (own k).replied
+
     bs : List Bool
     bs = first_out (asks_at k (own k).replied) gs
+
     out : Drops (λ g. (asks_at k (own k).replied g ≡ true) × IsAwaited (own g.client) g) (first_out (asks_at k (own k).replied) gs) gs
     out = out-is k (own k).replied own gs fit.awaited
+
     waiting : (hs : List Forwarding) → AllByRecursion (λ g. IsAwaited (own g.client) g) hs → AllByRecursion (Waiting k (own k)) hs
     waiting [] all = tt
     waiting (h ∷ hs) all = ((λ mine. own-of k own h mine all.0), waiting hs all.1)
+
     there : is_some (find (asks_at k (own k).replied) gs) ≡ true
     there = find-passes (asks_at k (own k).replied) gs ∙ (sym (find-any (λ (g : Forwarding). g.client == k) (stands.is_asked_at (own k).replied) gs) ∙ fit.each k here (own k).replied (record { client = k; what = full.Forward key }) (omega arith) asked)
+
     sooner : (j : ℕ) → (k == j) ≡ true → (at : ℕ) → (own' j).replied ≤ at → (own k).replied < at
     sooner j same at late =
         let e : (own' j).replied ≡ (own j).replied + 1 = ap (λ (x : Places). x.replied) (next.mine j same) in

@@ -1,30 +1,24 @@
 -- The server's answer to a client's cancel: the forwarding that it meant is free again, or ends.
 use Rattle.std.proofs.Common.{◌≡◌, ◌≤◌, ◌<◌, ◌+◌, ◌-◌, ℕ, List, [], ◌∷◌, length, map, true, false, Bool, refl, ◌∙◌, ap, sym, subst, Option, Some, None, arith, suc}
-use Rattle.std.specs.Prelude.{filter, find, ◌==◌, ◌&&◌, ◌||◌, not, is_some, is_none, nat_lt, slice_get, unwrap_or}
+use Rattle.std.specs.Prelude.{filter, ◌==◌, ◌&&◌, is_some, nat_lt, slice_get}
 use Rattle.std.specs.List.{AllByRecursion}
 use Rattle.std.proofs.lemmas.Bool.Decides.{nat_tests}
 use Rattle.ssh_grammar.specs.Messages.{Key}
 use Rattle.ssh_grammar.specs.Messages as full
 use Rattle.mux_history.specs.declared.limits.TheConstants.{MAX_FORWARDINGS}
 use Rattle.mux_history.specs.Channels.{is_number}
-use Rattle.mux_history.specs.Gist.{Refuses, Succeeds}
-use Rattle.mux_history.specs.Keys.{bound}
 use Rattle.mux_history.specs.Rows.{any_of}
 use Rattle.mux_history.specs.Forwardings.{Forwarding, is_request}
 use Rattle.mux_history.proofs.Bools.{same-number}
-use Rattle.mux_history.proofs.CurrentSteps.{is_on}
 use Rattle.mux_history.proofs.Finds.{filter-no, filter-yes}
 use Rattle.forward_rules.specs.State.{Forward}
-use Rattle.forward_rules.specs.Step.{cancel_answered, cancels, count_of, first_cancel, is_cancelled_at, is_leaving, is_leaving_at, is_of, moved_up, settled, settled_at, without_cancel_of}
+use Rattle.forward_rules.specs.Step.{cancels, count_of, is_leaving, is_of, moved_up, without_cancel_of}
 use Rattle.forward_rules.specs.Stands.{AreFit, AreInOrder, AreListed, AreTwo, EachHas, EachTwo, Fits, InOrder, InOrderWith, IsAwaited, IsRanked, Places}
 use Rattle.forward_rules.specs.Stands as stands
 use Rattle.mux_core.proofs.Alike.{StaysAt, has-map, two-map}
-use Rattle.mux_core.proofs.Dropped.{Drops, WaitsNot, drops-map, has-kept, kept-fit}
-use Rattle.mux_core.proofs.Granting.{find-passes}
 use Rattle.mux_core.proofs.Pairs.{and-left, and-right, find-any, or-found}
-use Rattle.mux_core.proofs.Ranking.{AllPairs, Known, RankOf, first-is, known-all, leaves_at, rank-of, same-cancelled}
-use Rattle.mux_core.proofs.Removed.{all-by, kept_by, on-all, on-listed}
-use Rattle.mux_core.proofs.Replied.{IsBystander, Replies, after, awaited-next, bystander, each-next, idle-after, never, number-is, own-of, request-is}
+use Rattle.mux_core.proofs.Ranking.{AllPairs, Known, leaves_at, same-cancelled}
+use Rattle.mux_core.proofs.Replied.{Replies, awaited-next, each-next, never, number-is, own-of, request-is}
 
 -- ---- one pair
 
@@ -51,8 +45,10 @@ seen k place rank own f g known = by_client (g.client == k) refl (is_number g.ca
   where
     theirs : is_of k f ≡ (g.client == k)
     theirs = ap (λ i. i == k) known.fits.client
+
     cancelled : (g.client == k) ≡ true → is_number f.cancel rank ≡ is_number g.cancel place
     cancelled h = sym (ap (λ b. b && is_number f.cancel rank) (theirs ∙ h)) ∙ (same-cancelled k place rank own f g known ∙ ap (λ b. b && is_number g.cancel place) h)
+
     by_client : (b : Bool) → (g.client == k) ≡ b → (c : Bool) → is_number g.cancel place ≡ c → Seen k place rank f g
     by_client false h c e = Other h (moved-at k rank f false (is_number f.cancel rank) (theirs ∙ h) refl) (released-at k place g false (ap (λ b. b && is_number g.cancel place) h))
     by_client true h true e = Meant h (number-is f.cancel rank (cancelled h ∙ e)) (number-is g.cancel place e) (moved-at k rank f true true (theirs ∙ h) (cancelled h ∙ e)) (released-at k place g true (ap (λ b. b && is_number g.cancel place) h ∙ e))
@@ -129,19 +125,25 @@ up-order rank a b p q = by_tests (nat_lt rank a) refl (nat_lt rank b) refl
       where
         yes-lt : (i j : ℕ) → nat_lt i j ≡ true → i < j
         yes-lt i j h = grind (arith, nat_tests)
+
         no-lt : (i j : ℕ) → nat_lt i j ≡ false → i < j → ⊥
         no-lt i j h l = grind (arith, nat_tests)
+
         by_both : (x : Bool) → nat_lt c d ≡ x → (y : Bool) → nat_lt e f ≡ y → nat_lt c d ≡ nat_lt e f
         by_both true u true v = u ∙ sym v
         by_both false u false v = u ∙ sym v
         by_both true u false v = absurd (let w = to (yes-lt c d u) in no-lt e f v w)
         by_both false u true v = absurd (let w = from (yes-lt e f v) in no-lt c d u w)
+
     above : (i : ℕ) → nat_lt rank i ≡ true → rank < i
     above i h = grind (arith, nat_tests)
+
     below : (i : ℕ) → nat_lt rank i ≡ false → (i == rank) ≡ false → i < rank
     below i h n = grind (arith, nat_tests)
+
     at : (i : ℕ) (x : Bool) → nat_lt rank i ≡ x → up rank i ≡ elim x as (λ _. ℕ) [ true ↦ i - 1 | false ↦ i ]
     at i x h = ap (λ (c : Bool). elim c as (λ _. ℕ) [ true ↦ i - 1 | false ↦ i ]) h
+
     by_tests : (x : Bool) → nat_lt rank a ≡ x → (y : Bool) → nat_lt rank b ≡ y → nat_lt (up rank a) (up rank b) ≡ nat_lt a b
     by_tests true u true v =
         let la = above a u in let lb = above b v in
@@ -166,14 +168,16 @@ order-one k place rank f g e h sf se order = λ r q r' q' same a b c d.
         let n : (h.client == k) ≡ true = ap (λ i. i == k) (sym same) ∙ m in
         let o = order u.before q v.before q' same u.kept u.place v.kept v.place in
         let x = u.mine m in
-        let y = v.mine n in
-        (ap (λ i. nat_lt i r') x.1 ∙ (ap (λ i. nat_lt (up rank u.before) i) y.1 ∙ (up-order rank u.before v.before x.0 y.0 ∙ o.0)),
-        ap (λ i. nat_lt i r) y.1 ∙ (ap (λ i. nat_lt (up rank v.before) i) x.1 ∙ (up-order rank v.before u.before y.0 x.0 ∙ o.1)))
+        let y = v.mine n in (
+          ap (λ i. nat_lt i r') x.1 ∙ (ap (λ i. nat_lt (up rank u.before) i) y.1 ∙ (up-order rank u.before v.before x.0 y.0 ∙ o.0)),
+          ap (λ i. nat_lt i r) y.1 ∙ (ap (λ i. nat_lt (up rank v.before) i) x.1 ∙ (up-order rank v.before u.before y.0 x.0 ∙ o.1)),
+        )
     by_client r q r' q' same u v false m =
         let n : (h.client == k) ≡ false = ap (λ i. i == k) (sym same) ∙ m in
-        let o = order u.before q v.before q' same u.kept u.place v.kept v.place in
-        (ap (λ i. nat_lt i r') (u.others m) ∙ (ap (λ i. nat_lt u.before i) (v.others n) ∙ o.0),
-        ap (λ i. nat_lt i r) (v.others n) ∙ (ap (λ i. nat_lt v.before i) (u.others m) ∙ o.1))
+        let o = order u.before q v.before q' same u.kept u.place v.kept v.place in (
+          ap (λ i. nat_lt i r') (u.others m) ∙ (ap (λ i. nat_lt u.before i) (v.others n) ∙ o.0),
+          ap (λ i. nat_lt i r) (v.others n) ∙ (ap (λ i. nat_lt v.before i) (u.others m) ∙ o.1),
+        )
 
 order-with : (k place rank : ℕ) (f : Forward) (g : Forwarding) → Seen k place rank f g → (fs : List Forward) (gs : List Forwarding) → AllPairs (Seen k place rank) fs gs → InOrderWith f g fs gs → InOrderWith (without_cancel_of k rank f) (released k place g) (map (without_cancel_of k rank) fs) (map (released k place) gs)
 order-with k place rank f g sf [] gs all order = tt
@@ -201,6 +205,7 @@ count-after j k rank (f ∷ fs) = by_test (count-after j k rank fs) (is_of j f) 
   where
     mine : is_of j (without_cancel_of k rank f) ≡ is_of j f
     mine = ap (λ i. i == j) (client-after k rank f)
+
     by_test : count_of (map (without_cancel_of k rank) fs) j ≡ count_of fs j → (b : Bool) → is_of j f ≡ b → count_of (map (without_cancel_of k rank) (f ∷ fs)) j ≡ count_of (f ∷ fs) j
     by_test ih true h = ap length (filter-yes (is_of j) (without_cancel_of k rank f) (map (without_cancel_of k rank) fs) (mine ∙ h)) ∙ (ap suc ih ∙ sym (ap length (filter-yes (is_of j) f fs h)))
     by_test ih false h = ap length (filter-no (is_of j) (without_cancel_of k rank f) (map (without_cancel_of k rank) fs) (mine ∙ h)) ∙ (ih ∙ sym (ap length (filter-no (is_of j) f fs h)))
@@ -213,8 +218,10 @@ leaves-same j k place rank f g (Meant h x y a b) client apart =
   where
     away : (i : ℕ) → (i == k) ≡ true → (k == j) ≡ false → (i == j) ≡ false
     away i p q = grind (arith, nat_tests)
+
     at : (n : ℕ) → (n == n) ≡ true
     at n = grind (arith, nat_tests)
+
     none : (f.client == j) ≡ false
     none = ap (λ i. i == j) client ∙ away g.client h (apart h (ap (λ o. is_number o place) y ∙ at place))
 leaves-same j k place rank f g (Later h x y a b) client apart = ap (is_leaving j) a ∙ ap (λ b. (f.client == j) && b) (moved-some rank f.cancel)
@@ -227,6 +234,7 @@ cancels-other j k place rank apart (f ∷ fs) (g ∷ gs) all listed = by_test (c
   where
     same : is_leaving j (without_cancel_of k rank f) ≡ is_leaving j f
     same = leaves-same j k place rank f g all.0 listed.0.client (λ m at. apart)
+
     by_test : cancels j (map (without_cancel_of k rank) fs) ≡ cancels j fs → (b : Bool) → is_leaving j f ≡ b → cancels j (map (without_cancel_of k rank) (f ∷ fs)) ≡ cancels j (f ∷ fs)
     by_test ih true h = ap length (filter-yes (is_leaving j) (without_cancel_of k rank f) (map (without_cancel_of k rank) fs) (same ∙ h)) ∙ (ap suc ih ∙ sym (ap length (filter-yes (is_leaving j) f fs h)))
     by_test ih false h = ap length (filter-no (is_leaving j) (without_cancel_of k rank f) (map (without_cancel_of k rank) fs) (same ∙ h)) ∙ (ih ∙ sym (ap length (filter-no (is_leaving j) f fs h)))
@@ -243,6 +251,7 @@ cancels-none k place rank (f ∷ fs) (g ∷ gs) all listed miss = by_test (cance
   where
     same : is_leaving k (without_cancel_of k rank f) ≡ is_leaving k f
     same = leaves-same k k place rank f g all.0 listed.0.client (λ m at. absurd (let x : true ≡ false = sym (ap (λ b. b && is_number g.cancel place) m ∙ at) ∙ miss.0 in cc))
+
     by_test : cancels k (map (without_cancel_of k rank) fs) ≡ cancels k fs → (b : Bool) → is_leaving k f ≡ b → cancels k (map (without_cancel_of k rank) (f ∷ fs)) ≡ cancels k (f ∷ fs)
     by_test ih true h = ap length (filter-yes (is_leaving k) (without_cancel_of k rank f) (map (without_cancel_of k rank) fs) (same ∙ h)) ∙ (ap suc ih ∙ sym (ap length (filter-yes (is_leaving k) f fs h)))
     by_test ih false h = ap length (filter-no (is_leaving k) (without_cancel_of k rank f) (map (without_cancel_of k rank) fs) (same ∙ h)) ∙ (ih ∙ sym (ap length (filter-no (is_leaving k) f fs h)))
@@ -264,6 +273,7 @@ one-fewer k place rank (f ∷ fs) (g ∷ gs) all listed two there = by_test (one
   where
     same : leaves_at k place g ≡ false → is_leaving k (without_cancel_of k rank f) ≡ is_leaving k f
     same miss = leaves-same k k place rank f g all.0 listed.0.client (λ m at. absurd (let x : true ≡ false = sym (ap (λ b. b && is_number g.cancel place) m ∙ at) ∙ miss in cc))
+
     by_test : (any_of (leaves_at k place) gs ≡ true → suc (cancels k (map (without_cancel_of k rank) fs)) ≡ cancels k fs) → (b : Bool) → leaves_at k place g ≡ b → (t : Bool) → is_leaving k f ≡ t → suc (cancels k (map (without_cancel_of k rank) (f ∷ fs))) ≡ cancels k (f ∷ fs)
     by_test ih true h t e =
         let m = meant-leaves k place rank f g all.0 listed.0.client h in
@@ -295,8 +305,10 @@ up-low rank a n p la lr = by_test (nat_lt rank a) refl
   where
     above : (i : ℕ) → nat_lt rank i ≡ true → rank < i
     above i h = grind (arith, nat_tests)
+
     below : (i : ℕ) → nat_lt rank i ≡ false → (i == rank) ≡ false → i < rank
     below i h m = grind (arith, nat_tests)
+
     by_test : (x : Bool) → nat_lt rank a ≡ x → up rank a < n
     by_test true h = let l = above a h in subst (λ i. i < n) (sym (ap (λ (c : Bool). elim c as (λ _. ℕ) [ true ↦ a - 1 | false ↦ a ]) h)) (omega arith)
     by_test false h = let l = below a h p in subst (λ i. i < n) (sym (ap (λ (c : Bool). elim c as (λ _. ℕ) [ true ↦ a - 1 | false ↦ a ]) h)) (omega arith)
@@ -308,6 +320,7 @@ ranked-after k place rank all all' (f ∷ fs) (g ∷ gs) seen_ listed mine other
   where
     turned : (a b : ℕ) → (a == b) ≡ false → (b == a) ≡ false
     turned a b h = grind (arith, nat_tests)
+
     by_seen : Seen k place rank f g → IsRanked all' (without_cancel_of k rank f)
     by_seen (Other m a b) = λ r e.
         subst (λ i. r < cancels i all') (sym (ap (λ (u : Forward). u.client) a))
@@ -317,6 +330,7 @@ ranked-after k place rank all all' (f ∷ fs) (g ∷ gs) seen_ listed mine other
       where
         client : f.client ≡ k
         client = listed.0.client ∙ same-number g.client k m
+
         by_cancel : (r : ℕ) → (without_cancel_of k rank f).cancel ≡ Some r → (o : Option ℕ) → f.cancel ≡ o → r < cancels (without_cancel_of k rank f).client all'
         by_cancel r e None c = absurd (let n : None ≡ Some r = sym (ap (moved_up rank) c) ∙ (sym (ap (λ (u : Forward). u.cancel) a) ∙ e) in cc)
         by_cancel r e (Some before) c =
@@ -352,6 +366,7 @@ two-after k place a b two = by_tests (leaves_at k place a) (leaves_at k place b)
   where
     Put : Bool → Forwarding → Forwarding
     Put x g = elim x as (λ _. Forwarding) [ true ↦ record g { cancel = None } | false ↦ g ]
+
     by_tests : (x y : Bool) → AreTwo (elim x as (λ _. Forwarding) [ true ↦ record a { cancel = None } | false ↦ a ]) (elim y as (λ _. Forwarding) [ true ↦ record b { cancel = None } | false ↦ b ])
     by_tests true true = record { asked = two.asked; leaving = λ q s c d. absurd (let x : None ≡ Some q = c in cc) }
     by_tests true false = record { asked = two.asked; leaving = λ q s c d. absurd (let x : None ≡ Some q = c in cc) }
@@ -367,8 +382,10 @@ stays-after k j place later g past = record {
     clash : (o : Option ℕ) → is_number o place ≡ true → is_number o later ≡ true → place < later → ⊥
     clash None p q lt = cc
     clash (Some n) p q lt = grind (arith, nat_tests)
+
     joined : (a : ℕ) → (a == k) ≡ true → (a == j) ≡ true → (k == j) ≡ true
     joined a p q = grind (arith, nat_tests)
+
     by_test : ((g.client == j) && stands.is_leaving_at later g) ≡ true → (b : Bool) → leaves_at k place g ≡ b → (((released k place g).client == j) && stands.is_leaving_at later (released k place g)) ≡ true
     by_test h true a = absurd (clash g.cancel (and-right (g.client == k) (is_number g.cancel place) a) (and-right (g.client == j) (is_number g.cancel later) h) (past (joined g.client (and-left (g.client == k) (is_number g.cancel place) a) (and-left (g.client == j) (is_number g.cancel later) h))))
     by_test h false a = ap (λ (x : Forwarding). (x.client == j) && stands.is_leaving_at later x) (released-at k place g false a) ∙ h

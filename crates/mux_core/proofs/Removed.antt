@@ -1,21 +1,19 @@
 -- Forwardings that end, out of both lists at the same places.
-use Rattle.std.proofs.Common.{◌≡◌, ◌≤◌, ◌<◌, ◌+◌, ℕ, List, [], ◌∷◌, ◌++◌, length, map, true, false, Bool, refl, ◌∙◌, ap, sym, subst, Option, Some, None, arith, suc, zero}
-use Rattle.std.specs.Prelude.{filter, find, ◌==◌, ◌&&◌, ◌||◌, not, is_some, is_none, unwrap_or, nat_lt, slice_get}
+use Rattle.std.proofs.Common.{◌≡◌, ◌≤◌, ◌<◌, ℕ, List, [], ◌∷◌, length, true, false, Bool, refl, ◌∙◌, ap, sym, subst, Option, Some, None, arith, suc}
+use Rattle.std.specs.Prelude.{filter, ◌==◌, ◌&&◌, not, is_some, is_none}
 use Rattle.std.specs.List.{AllByRecursion}
 use Rattle.ssh_grammar.specs.Messages.{Key}
 use Rattle.ssh_grammar.specs.Messages as full
-use Rattle.mux_history.specs.declared.limits.TheConstants.{MAX_FORWARDINGS}
 use Rattle.mux_history.specs.Channels.{is_number}
 use Rattle.mux_history.specs.Rows.{any_of}
-use Rattle.mux_history.specs.Requests.{Ask}
 use Rattle.mux_history.specs.Forwardings.{Forwarding, stopped}
 use Rattle.mux_history.specs.Forwardings as history
 use Rattle.mux_history.proofs.CurrentSteps.{is_on}
 use Rattle.mux_history.proofs.Finds.{filter-no, filter-yes}
 use Rattle.forward_rules.specs.State.{Forward}
-use Rattle.forward_rules.specs.Step.{cancelled, cancels, count_of, is_free_at, is_leaving, is_of, without_first}
-use Rattle.forward_rules.specs.Stands.{AreFit, AreInOrder, AreListed, AreTwo, EachHas, EachTwo, Fits, HasAt, InOrder, InOrderWith, IsAwaited, IsRanked, Places, is_asked_at, is_leaving_at}
-use Rattle.mux_core.proofs.Pairs.{IsFree, and-left, and-right, find-any, free-is, free-same, or-first, or-found, or-second}
+use Rattle.forward_rules.specs.Step.{cancelled, cancels, is_free_at, is_leaving, is_of, without_first}
+use Rattle.forward_rules.specs.Stands.{AreFit, AreInOrder, AreListed, AreTwo, EachTwo, HasAt, InOrderWith, IsAwaited, IsRanked, Places, is_asked_at, is_leaving_at}
+use Rattle.mux_core.proofs.Pairs.{and-left, and-right, find-any, free-is, free-same, or-first, or-found, or-second}
 use Rattle.mux_core.proofs.Asked.{all-map}
 
 -- those at whose places true stands
@@ -128,6 +126,7 @@ kept-out k key (f ∷ fs) (g ∷ gs) listed = by_case (kept-out k key fs gs list
   where
     same : is_free_at k key f ≡ history.is_free_at k key g
     same = free-same k key f g listed.0
+
     by_case : without_first (is_free_at k key) fs ≡ kept_by (first_out (history.is_free_at k key) gs) fs → (b : Bool) → is_free_at k key f ≡ b → without_first (is_free_at k key) (f ∷ fs) ≡ kept_by (first_out (history.is_free_at k key) (g ∷ gs)) (f ∷ fs)
     by_case ih true h =
         ap (λ (c : Bool). elim c as (λ _. List Forward) [ true ↦ fs | false ↦ f ∷ without_first (is_free_at k key) fs ]) h
@@ -146,8 +145,10 @@ no-cancel k key j (f ∷ fs) (g ∷ gs) listed = by_case (no-cancel k key j fs g
     never : (b : Bool) → (b && false) ≡ false
     never true = refl
     never false = refl
+
     idle : history.is_free_at k key g ≡ true → is_leaving j f ≡ false
     idle h = ap (λ b. (f.client == j) && b) (listed.0.cancel ∙ ap is_some (free-is k key g h).cancel) ∙ never (f.client == j)
+
     by_case : cancels j (kept_by (first_out (history.is_free_at k key) gs) fs) ≡ cancels j fs → (b : Bool) → history.is_free_at k key g ≡ b → (p : Bool) → is_leaving j f ≡ p → cancels j (kept_by (first_out (history.is_free_at k key) (g ∷ gs)) (f ∷ fs)) ≡ cancels j (f ∷ fs)
     by_case ih true h p e = ap (λ bs. cancels j (kept_by bs (f ∷ fs))) (out-at (history.is_free_at k key) g gs true h) ∙ sym (ap length (filter-no (is_leaving j) f fs (idle h)))
     by_case ih false h true e = ap (λ bs. cancels j (kept_by bs (f ∷ fs))) (out-at (history.is_free_at k key) g gs false h) ∙ (ap length (filter-yes (is_leaving j) f (kept_by (first_out (history.is_free_at k key) gs) fs) e) ∙ (ap suc ih ∙ sym (ap length (filter-yes (is_leaving j) f fs e))))
@@ -168,8 +169,10 @@ stopped-fit k key place fs gs own lost fit =
   where
     absent : (o : Option ℕ) (n : ℕ) → o ≡ None → is_number o n ≡ true → ⊥
     absent o n none h = let x : is_number None n ≡ true = ap (λ p. is_number p n) (sym none) ∙ h in cc
+
     present : (o : Option Key) (n : Key) → o ≡ Some n → is_none o ≡ true → ⊥
     present o n some h = let x : is_none (let y : Option Key = Some n in y) ≡ true = ap is_none (sym some) ∙ h in cc
+
     goes_on : (at : ℕ) (what : full.Global) (j : ℕ) → HasAt at what (filter (λ g. g.client == j) gs) → HasAt at what (filter (λ g. g.client == j) (kept_by (first_out (history.is_free_at k key) gs) gs))
     goes_on at (full.Forward q) j h = find-any (λ (g : Forwarding). g.client == j) (is_asked_at at) _ ∙ any-out (λ (g : Forwarding). (g.client == j) && is_asked_at at g) (history.is_free_at k key) (λ g t p. present g.live key (free-is k key g t).live (and-left (is_none g.live) _ (and-right (g.client == j) _ p))) gs (sym (find-any (λ (g : Forwarding). g.client == j) (is_asked_at at) gs) ∙ h)
     goes_on at (full.Cancel q) j h = find-any (λ (g : Forwarding). g.client == j) (is_leaving_at at) _ ∙ any-out (λ (g : Forwarding). (g.client == j) && is_leaving_at at g) (history.is_free_at k key) (λ g t p. absent g.cancel at (free-is k key g t).cancel (and-right (g.client == j) _ p)) gs (sym (find-any (λ (g : Forwarding). g.client == j) (is_leaving_at at) gs) ∙ h)

@@ -1,6 +1,6 @@
 -- A reply to a client's request, over the forwardings that are asked or live: whom it meets.
-use Rattle.std.proofs.Common.{◌≡◌, ◌≤◌, ◌<◌, ◌+◌, ℕ, List, [], ◌∷◌, length, map, true, false, Bool, refl, ◌∙◌, ap, sym, subst, Option, Some, None, arith, suc}
-use Rattle.std.specs.Prelude.{filter, ◌==◌, ◌&&◌, not, is_some, is_none, unwrap_or, slice_get}
+use Rattle.std.proofs.Common.{◌≡◌, ◌≤◌, ◌+◌, ℕ, List, [], ◌∷◌, map, true, false, Bool, refl, ◌∙◌, ap, sym, subst, Option, Some, None, arith}
+use Rattle.std.specs.Prelude.{filter, ◌==◌, ◌&&◌, is_none, unwrap_or, slice_get}
 use Rattle.std.specs.List.{AllByRecursion}
 use Rattle.std.proofs.lemmas.Bool.Decides.{nat_tests}
 use Rattle.ssh_grammar.specs.Messages.{Key}
@@ -10,7 +10,7 @@ use Rattle.mux_history.specs.Gist.{Gist, Refuses, Succeeds}
 use Rattle.mux_history.specs.Keys.{bound}
 use Rattle.mux_history.specs.Requests.{Ask}
 use Rattle.mux_history.specs.Forwardings.{Forwarding, is_request, of_client, replied}
-use Rattle.mux_history.proofs.Bools.{is-of, same-number}
+use Rattle.mux_history.proofs.Bools.{same-number}
 use Rattle.forward_rules.specs.State.{Forward}
 use Rattle.forward_rules.specs.Stands.{AreFit, EachHas, IsAwaited, Places}
 use Rattle.mux_core.proofs.Answering.{replied_more}
@@ -114,6 +114,7 @@ each-next k j own own' gs next each = by_client (k == j) refl
   where
     less : (a b : ℕ) → a + 1 ≤ b → a ≤ b
     less a b h = omega arith
+
     by_client : (b : Bool) → (k == j) ≡ b → EachHas (own' j) gs
     by_client true h = subst (λ x. EachHas x gs) (sym (next.mine j h)) (λ place a late got. each place a (less (own j).replied place late) got)
     by_client false h = subst (λ x. EachHas x gs) (sym (next.others j h)) each
@@ -154,6 +155,10 @@ own-of k own g h w = subst (λ i. IsAwaited (own i) g) (same-number g.client k h
 
 pub neither-idle : (k place : ℕ) (what : full.Global) (own : ℕ → Places) (gs : List Forwarding) → is_neither what ≡ true → slice_get (own k).asked place ≡ Some (record { client = k; what = what }) → AllByRecursion (λ g. IsAwaited (own g.client) g) gs → AllByRecursion (IsBystander k place) gs
 neither-idle k place what own [] plain asked all = tt
-neither-idle k place what own (g ∷ gs) plain asked all = (λ mine. (
+neither-idle k place what own (g ∷ gs) plain asked all = (
+  λ mine. (
     never (is_request g place) (λ h. not-request what g.key plain (request-is (own k) k place what g (own-of k own g mine all.0) asked h)),
-    never (is_number g.cancel place) (λ h. not-cancel what (unwrap_or g.live g.key) plain (cancel-is (own k) k place what g (own-of k own g mine all.0) asked h))), neither-idle k place what own gs plain asked all.1)
+    never (is_number g.cancel place) (λ h. not-cancel what (unwrap_or g.live g.key) plain (cancel-is (own k) k place what g (own-of k own g mine all.0) asked h)),
+  ),
+  neither-idle k place what own gs plain asked all.1,
+)

@@ -1,21 +1,21 @@
 -- A request that wants a reply and is no forwarding's: it is sent, and its answer is awaited.
-use Rattle.std.proofs.Common.{◌≡◌, ◌≤◌, ◌<◌, ℕ, List, [], ◌∷◌, ◌++◌, length, map, true, false, Bool, refl, ◌∙◌, ap, sym, subst, Option, Some, None, Ok, arith, suc, zero}
-use Rattle.std.specs.Prelude.{filter, ◌==◌, ◌&&◌, ◌||◌, not, slice_get, ◌+◌, ◌⊎◌}
+use Rattle.std.proofs.Common.{◌≡◌, ◌≤◌, ℕ, List, [], ◌∷◌, ◌++◌, length, map, true, false, Bool, refl, ◌∙◌, ap, sym, subst, Some, None, Ok, arith, suc, zero}
+use Rattle.std.specs.Prelude.{filter, ◌==◌, ◌&&◌, ◌||◌, not, slice_get, ◌⊎◌}
 use Rattle.std.specs.List.{AllByRecursion}
 use Rattle.std.proofs.lemmas.List.{append-nil}
 use Rattle.std.proofs.Common.{inl, inr}
 use Rattle.std.proofs.lemmas.Bool.Decides.{nat_tests}
-use Rattle.ssh_grammar.specs.Messages.{Global, Key, KeepAlive, OtherName, Forward, Cancel}
+use Rattle.ssh_grammar.specs.Messages.{Global, KeepAlive, OtherName, Forward, Cancel}
 use Rattle.ssh_grammar.specs.Said.{Payload}
 use Rattle.mux_history.specs.Gist.{Requests, read_gist, reading}
 use Rattle.mux_history.specs.Rows.{Row, Says, any_of, is_admit, is_lost, rows_of}
 use Rattle.mux_history.specs.Forwardings.{Forwarding, current, forwardings_of, requested}
 use Rattle.mux_history.specs.Requests.{Ask, asks, asks_of, replies, sent_flags, wanted, wanted_in}
 use Rattle.mux_history.specs.Said.{sends}
-use Rattle.mux_history.proofs.Bools.{same-number, self}
+use Rattle.mux_history.proofs.Bools.{same-number}
 use Rattle.mux_history.proofs.OwnRows.{idle_row, own_row}
 use Rattle.mux_history.proofs.Readings.{reading-ok}
-use Rattle.mux_isolation.specs.View.{Waiting, left_of}
+use Rattle.mux_isolation.specs.View.{left_of}
 use Rattle.forward_rules.specs.State as kept
 use Rattle.forward_rules.specs.Stands.{AreFit, EachHas, HasAt, IsAwaited, Places, places_of}
 use Rattle.mux_history.specs.declared.limits.TheConstants.{MAX_CLIENTS}
@@ -25,7 +25,7 @@ use Rattle.mux_history.specs.Farewell.{has_open_matters}
 use Rattle.mux_history.specs.Log.{entered}
 use Rattle.channel_table.specs.Entries.{Entry}
 use Rattle.mux_core.specs.State.{ClientState, CoreState, is_served}
-use Rattle.mux_core.specs.Stands.{AreOnce, AsksFit, ClientFits, ClientsFit, Look, Stands, TableFits, has_matters, is_known, look}
+use Rattle.mux_core.specs.Stands.{AreOnce, ClientFits, Stands, TableFits, has_matters, is_known, look}
 use Rattle.mux_core.proofs.Bare.{held-bare}
 use Rattle.mux_core.proofs.Opens.{served-known}
 use Rattle.mux_core.proofs.Quiet.{own-same}
@@ -75,10 +75,13 @@ client-more k p what rows c e fits = by_number (c.number == k) refl (k == c.numb
   where
     row : Row
     row = request_row k p
+
     after-own : (j : ℕ) → (k == j) ≡ true → rows_of j (request_row k p ∷ rows) ≡ request_row k p ∷ rows_of j rows
     after-own j h = own_row j (request_row k p) rows h
+
     clash : (a b : ℕ) → (a == b) ≡ true → (b == a) ≡ false → ⊥
     clash a b h g = grind (arith, nat_tests)
+
     by_number : (b : Bool) → (c.number == k) ≡ b → (d : Bool) → (k == c.number) ≡ d → ClientFits (look (request_row k p ∷ rows)) (awaits k c)
     by_number true h true g = subst (ClientFits (look (request_row k p ∷ rows))) (sym (rw (h, awaits) refl)) (record {
       nonzero = fits.nonzero;
@@ -143,9 +146,11 @@ forwards-more fs gs own own' lost a plain fit mine others = record {
     one : (g : Forwarding) → IsAwaited (own g.client) g → (b : Bool) → (a.client == g.client) ≡ b → IsAwaited (own' g.client) g
     one g w true h = subst (λ x. IsAwaited x g) (sym (mine g.client h)) (awaited-more (own g.client) a g w)
     one g w false h = subst (λ x. IsAwaited x g) (sym (others g.client h)) w
+
     each : (hs : List Forwarding) → AllByRecursion (λ g. IsAwaited (own g.client) g) hs → AllByRecursion (λ g. IsAwaited (own' g.client) g) hs
     each [] all = tt
     each (h ∷ hs) all = (one h all.0 (a.client == h.client) refl, each hs all.1)
+
     by_mine : (k : ℕ) → lost k ≡ false → (b : Bool) → (a.client == k) ≡ b → EachHas (own' k) (filter (λ g. g.client == k) gs)
     by_mine k here false h = subst (λ x. EachHas x (filter (λ g. g.client == k) gs)) (sym (others k h)) (fit.each k here)
     by_mine k here true h = subst (λ x. EachHas x (filter (λ g. g.client == k) gs)) (sym (mine k h)) (λ place b le got. by_place place b le (get-back (own k).asked a b place got))

@@ -1,22 +1,20 @@
 -- The core after each request that is sent.
-use Rattle.std.proofs.Common.{◌≡◌, ◌≤◌, ◌<◌, ℕ, List, [], ◌∷◌, ◌++◌, length, map, true, false, Bool, refl, ◌∙◌, ap, sym, subst, Option, Some, None, Ok}
-use Rattle.std.specs.Prelude.{filter, ◌==◌, ◌&&◌, ◌||◌, not}
+use Rattle.std.proofs.Common.{◌≡◌, ◌<◌, ℕ, List, [], ◌∷◌, ◌++◌, length, map, true, false, Bool, refl, ◌∙◌, ap, sym, subst, Some, None, Ok}
+use Rattle.std.specs.Prelude.{filter}
 use Rattle.std.specs.List.{AllByRecursion}
-use Rattle.std.proofs.lemmas.List.{append-nil}
 use Rattle.std.proofs.lemmas.List.Elements.{filter-append}
-use Rattle.ssh_grammar.specs.Messages.{Global, Key, KeepAlive, OtherName, Forward, Cancel}
-use Rattle.ssh_grammar.specs.Said.{Payload}
+use Rattle.ssh_grammar.specs.Messages.{Global, Key, KeepAlive, Forward, Cancel}
 use Rattle.mux_history.specs.declared.limits.TheConstants.{MAX_FORWARDINGS}
-use Rattle.mux_history.specs.Gist.{Requests, read_gist, reading}
-use Rattle.mux_history.specs.Rows.{Row, Says, is_lost, rows_of}
+use Rattle.mux_history.specs.Gist.{Requests, read_gist}
+use Rattle.mux_history.specs.Rows.{Row, rows_of}
 use Rattle.mux_history.specs.Forwardings.{Forwarding, current, forwardings_of, requested, stopped}
 use Rattle.mux_history.specs.Forwardings as history
-use Rattle.mux_history.specs.Requests.{Ask, asks, asks_of, replies, is_sent, sent_flags, wanted_by, wanted_in}
+use Rattle.mux_history.specs.Requests.{asks, asks_of, replies, sent_flags, wanted_in}
 use Rattle.mux_history.proofs.CurrentSteps.{is_on, on-forwarded}
 use Rattle.mux_history.proofs.Readings.{reading-ok}
 use Rattle.forward_rules.specs.State as kept
 use Rattle.forward_rules.specs.Step.{asked, cancelled, change_first, count_of, is_free_at, some_free, without_first}
-use Rattle.forward_rules.specs.Stands.{AreFit, Places}
+use Rattle.forward_rules.specs.Stands.{AreFit}
 use Rattle.mux_core.specs.State.{ClientState, CoreState, is_served}
 use Rattle.mux_core.specs.Stands.{AsksFit, ClientFits, ClientsFit, Look, Stands, TableFits, has_matters, look}
 use Rattle.mux_core.proofs.Quiet.{IsSteady, look-steady}
@@ -41,10 +39,10 @@ pub forward-stands : (s : CoreState) (k : ℕ) (p : List ℕ) (key : Key) (rows 
 forward-stands s k p key rows st serves e room =
     wanted-stands s k p (Forward key) rows (s.forwards ++ asked k key ∷ []) st serves e
     (subst (λ gs. AreFit (s.forwards ++ asked k key ∷ []) gs (look (request_row k p ∷ rows)).own (look rows).lost)
-      (sym (current-after k p (Forward key) true rows e
-        ∙ (filter-append is_on (current rows) (new_forwarding k key (length (asks (rows_of k rows))) ∷ [])
-        ∙ ap (λ gs. gs ++ new_forwarding k key (length (asks (rows_of k rows))) ∷ []) (on-all (current rows) (on-listed s.forwards (current rows) st.forwards.listed)))))
-      (asked-fit k key s.forwards (current rows) (look rows).own (look (request_row k p ∷ rows)).own (look rows).lost st.forwards room (st.asks.each k).awaited (own-more k p (Forward key) rows e) (others-stay k p rows)))
+    (sym (current-after k p (Forward key) true rows e
+    ∙ (filter-append is_on (current rows) (new_forwarding k key (length (asks (rows_of k rows))) ∷ [])
+    ∙ ap (λ gs. gs ++ new_forwarding k key (length (asks (rows_of k rows))) ∷ []) (on-all (current rows) (on-listed s.forwards (current rows) st.forwards.listed)))))
+    (asked-fit k key s.forwards (current rows) (look rows).own (look (request_row k p ∷ rows)).own (look rows).lost st.forwards room (st.asks.each k).awaited (own-more k p (Forward key) rows e) (others-stay k p rows)))
     (served-last s k key serves st.known.forwards)
 
 -- ---- a cancel that wants a reply
@@ -69,9 +67,9 @@ pub cancel-stands : (s : CoreState) (k : ℕ) (p : List ℕ) (key : Key) (rows :
 cancel-stands s k p key rows st serves e free =
     wanted-stands s k p (Cancel key) rows (cancelled k key true s.forwards) st serves e
     (subst (λ gs. AreFit (cancelled k key true s.forwards) gs (look (request_row k p ∷ rows)).own (look rows).lost)
-      (sym (current-after k p (Cancel key) true rows e
-        ∙ on-all (history.change_first (history.is_free_at k key) (stopped true (length (asks (rows_of k rows)))) (current rows)) (same-on k key (length (asks (rows_of k rows))) (current rows) (on-listed s.forwards (current rows) st.forwards.listed))))
-      (cancelled-fit k key s.forwards (current rows) (look rows).own (look (request_row k p ∷ rows)).own (look rows).lost st.forwards free (st.asks.each k).awaited (own-more k p (Cancel key) rows e) (others-stay k p rows)))
+    (sym (current-after k p (Cancel key) true rows e
+    ∙ on-all (history.change_first (history.is_free_at k key) (stopped true (length (asks (rows_of k rows)))) (current rows)) (same-on k key (length (asks (rows_of k rows))) (current rows) (on-listed s.forwards (current rows) st.forwards.listed))))
+    (cancelled-fit k key s.forwards (current rows) (look rows).own (look (request_row k p ∷ rows)).own (look rows).lost st.forwards free (st.asks.each k).awaited (own-more k p (Cancel key) rows e) (others-stay k p rows)))
     (served-changed s (is_free_at k key) _ s.forwards st.known.forwards)
 
 -- ---- requests that want no reply

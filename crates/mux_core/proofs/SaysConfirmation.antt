@@ -13,15 +13,15 @@ use Rattle.proxy_frames.specs.State.{QueueState}
 use Rattle.proxy_frames.specs.Queued.{with_bytes}
 use Rattle.mux_history.specs.declared.limits.TheConstants.{NUMBERS_END}
 use Rattle.mux_history.specs.declared.why.Why.TheVariants as why
-use Rattle.mux_history.specs.Gist.{Confirmation, Confirms, Gist, read_gist, reading, sender_of}
+use Rattle.mux_history.specs.Gist.{Confirmation, Confirms, read_gist, sender_of}
 use Rattle.mux_history.specs.Rows.{Row, Says, rows_of}
 use Rattle.mux_history.specs.Channels.{Channel, after_item, held_of, holder, is_held, is_number, is_up, opened_up, with_own, with_up, with_ups}
 use Rattle.mux_history.specs.Laws.{with_act}
 use Rattle.mux_history.specs.Ledger.{other_side}
-use Rattle.mux_history.specs.Said.{Outcome, drops, on_unused, on_waiting, said_payload, sends, sends_as}
-use Rattle.mux_history.proofs.Bools.{is-of, same-number, self}
+use Rattle.mux_history.specs.Said.{on_unused, on_waiting, said_payload, sends, sends_as}
+use Rattle.mux_history.proofs.Bools.{is-of, same-number}
 use Rattle.mux_history.proofs.Readings.{reading-ok}
-use Rattle.mux_history.proofs.Renumbered.{SenderIn, reads-sent, sender-in, spelled, word}
+use Rattle.mux_history.proofs.Renumbered.{SenderIn, reads-sent, sender-in, spelled}
 use Rattle.window_ledger.specs.declared.ledger.Ledger.{Ledger}
 use Rattle.window_ledger.specs.Stands.{IsConfirmed, confirmed}
 use Rattle.window_ledger.specs.Stands as ledger
@@ -29,7 +29,7 @@ use Rattle.window_ledger.proofs.Named.{stands-named}
 use Rattle.channel_table.specs.Entries.{Entry}
 use Rattle.channel_table.specs.Entries.{AreApart, changed_at, has_own, has_remote, is_at, is_of, is_shown, number_of_own, shown_at}
 use Rattle.mux_core.proofs.Confirms.{confirm_own}
-use Rattle.channel_table.specs.Stands.{Fits, shown_number}
+use Rattle.channel_table.specs.Stands.{Fits}
 use Rattle.mux_core.specs.declared.verdict.Verdict.TheVariants as verdict
 use Rattle.mux_core.specs.State.{CoreState, is_served}
 use Rattle.mux_core.specs.Stands.{HasSmall, Stands, TableFits, has_numbers, is_known, is_whole, look}
@@ -39,10 +39,10 @@ use Rattle.mux_core.proofs.Altered.{TakesOwn, altered-table, apart-own}
 use Rattle.mux_core.proofs.Apart.{Alone, all-map, alone, found-of, none-pass, passes}
 use Rattle.mux_core.proofs.Awaiting.{WaitingEntry, waiting-entry}
 use Rattle.mux_core.proofs.Bare.{held-bare}
-use Rattle.mux_core.proofs.Fits.{FoundFit}
+use Rattle.channel_table.proofs.Fits.{FoundFit}
 use Rattle.mux_core.proofs.Found.{find-narrow, only_if}
 use Rattle.mux_core.proofs.HearsWithin.{holder-fit}
-use Rattle.mux_core.proofs.Opens.{all-unit, by-none, by-use, none-own, used, uses}
+use Rattle.mux_core.proofs.Opens.{all-unit, by-none, by-use, none-own, uses}
 use Rattle.mux_core.proofs.Says.{AsksNothing, quiet-says, said_as, tells-own}
 use Rattle.mux_core.proofs.SaysFailure.{nobody-waits, theirs-found, waits}
 use Rattle.mux_core.proofs.SaysWithin.{dropped-row, said-ok}
@@ -70,8 +70,10 @@ taken-channels k s c n w m p rows bytes small e =
   where
     sender : SenderIn p (Confirmation s c w m)
     sender = sender-in p (Confirmation s c w m) c bytes e refl
+
     reads : read_gist (with_sender p n) ≡ Ok (Confirmation s n w m)
     reads = reads-sent p (Confirmation s c w m) sender n ∙ ap (λ i. Ok (Confirmation s i w m)) (spelled n small)
+
     one : (x : Channel) → after_item (said_as k p (sends (with_sender p n))) x ≡ takes k s c n w m x
     one x =
         ap (λ (o : Option ℕ). elim (x.client == k) as (λ _. Channel) [ true ↦ with_ups o (with_sender p n ∷ []) x | false ↦ x ]) (reading-ok p (Confirmation s c w m) sender_of None e)
@@ -107,7 +109,10 @@ idle e0 pend = not-false (confirmed e0.ledger) (and-right (not (is_up e0.channel
 
 taken-fits : (e0 : Entry) (c w m : ℕ) (l : Ledger) (x : Channel) → awaits_answer e0.channel e0.ledger ≡ true → IsConfirmed e0.ledger l w m → Fits e0 x → Fits (confirm_own c l e0) (taken c e0.number w m x)
 taken-fits e0 c w m l x pend confirms fits = record {
-  client = fits.client; by = fits.by; own = refl; remote = fits.remote;
+  client = fits.client;
+  by = fits.by;
+  own = refl;
+  remote = fits.remote;
   number = ap (λ b. elim b as (λ _. Option ℕ) [ true ↦ Some e0.number | false ↦ None ]) (or-true (is_up e0.channel.by));
   ledger = stands-named (Some c) (Some e0.number) x.remote l (with_act Up (Confirms w m) x) (subst (λ (d : Side). ledger.Stands l (with_act d (Confirms w m) x)) (ap other_side (down-is x.by (ap is_up (sym fits.by) ∙ not-up e0 pend))) (confirms x fits.ledger));
   held = fits.held;
@@ -165,15 +170,19 @@ still-free s k r n l rows st c = record {
   where
     whole : is_whole c.entry ≡ true
     whole = found-of (λ e. is_whole e ≡ true) (has_remote r) c.entry s.channels st.channels.whole c.found
+
     left : (e : Entry) → shown_at n e ≡ true → is_at n e ≡ true
     left e h = and-left (e.number == n) (is_shown e.channel) h
+
     never : (b : Bool) → (b && false) ≡ false
     never true = refl
     never false = refl
+
     none : find (shown_at n) s.channels ≡ None
     none =
         find-narrow (is_at n) (shown_at n) (λ e f two h. at-sole n e f two.number h) left c.entry s.channels st.channels.apart c.at
         ∙ ap (λ b. only_if b c.entry) (ap (λ b. (c.entry.number == n) && b) (unshown c.entry c.answered whole) ∙ never (c.entry.number == n))
+
     by_found : (o : Option Channel) → holder rows n ≡ o → FoundFit None (holder rows n) → holder rows n ≡ None
     by_found None h f = h
     by_found (Some x) h f = absurd (subst (FoundFit None) h f)
@@ -182,10 +191,13 @@ still-free s k r n l rows st c = record {
 
 taking : (n k c : ℕ) (r : Entry → Bool) (e0 : Entry) (es : List Entry) → e0.number ≡ n → (e0.channel.client == k) ≡ true → AllByRecursion (λ e. has_own k c e ≡ false) es → AllByRecursion (Alone r e0) es → AllByRecursion (TakesOwn n k c) es
 taking n k c r e0 [] same mine free one = tt
-taking n k c r e0 (e ∷ es) same mine free one = (record {
-  free = free.0;
-  mine = λ h. ap (λ (f : Entry). f.channel.client == k) (one.0.same (ap (λ i. e.number == i) same ∙ h)) ∙ mine;
-}, taking n k c r e0 es same mine free.1 one.1)
+taking n k c r e0 (e ∷ es) same mine free one = (
+  record {
+    free = free.0;
+    mine = λ h. ap (λ (f : Entry). f.channel.client == k) (one.0.same (ap (λ i. e.number == i) same ∙ h)) ∙ mine;
+  },
+  taking n k c r e0 es same mine free.1 one.1,
+)
 
 taken-table : (s : CoreState) (k r c n w m : ℕ) (l l' : Ledger) (rows : List Row) → Stands s rows → (v : WaitingEntry s.channels k r n l) → find (has_own k c) s.channels ≡ None → IsConfirmed v.entry.ledger l' w m → confirmed l' ≡ true
     → TableFits (changed_at v.entry.number (confirm_own c l') s.channels) (filter is_held (map (takes k r c v.entry.number w m) (held_of rows)))
@@ -194,11 +206,11 @@ taken-table s k r c n w m l l' rows st v none confirms so =
     let found = theirs-found s k r n l rows st v in
     let one = alone (is_theirs k r) (sole k r) v.entry s.channels st.channels.apart found in
     altered-table (λ _. Unit {0}) (is_theirs k r) (confirm_own c l') (takes k r c v.entry.number w m) v.entry s.channels (held_of rows)
-      (λ x fits. subst (Fits (confirm_own c l' v.entry)) (sym (takes-it k r c v.entry.number w m v.entry x fits (passes (is_theirs k r) v.entry s.channels found))) (taken-fits v.entry c w m l' x v.answered confirms fits))
-      (λ e x u fits h. takes-others k r c v.entry.number w m e x fits h)
-      (λ e. refl) refl (whole-taken v.entry c l' v.answered so whole) (found-of HasSmall (has_remote r) v.entry s.channels st.channels.small v.found)
-      (apart-own v.entry.number k c l' s.channels (taking v.entry.number k c (is_theirs k r) v.entry s.channels refl v.mine (none-pass (has_own k c) s.channels none) one) st.channels.apart)
-      (all-unit s.channels) one st.channels
+    (λ x fits. subst (Fits (confirm_own c l' v.entry)) (sym (takes-it k r c v.entry.number w m v.entry x fits (passes (is_theirs k r) v.entry s.channels found))) (taken-fits v.entry c w m l' x v.answered confirms fits))
+    (λ e x u fits h. takes-others k r c v.entry.number w m e x fits h)
+    (λ e. refl) refl (whole-taken v.entry c l' v.answered so whole) (found-of HasSmall (has_remote r) v.entry s.channels st.channels.small v.found)
+    (apart-own v.entry.number k c l' s.channels (taking v.entry.number k c (is_theirs k r) v.entry s.channels refl v.mine (none-pass (has_own k c) s.channels none) one) st.channels.apart)
+    (all-unit s.channels) one st.channels
 
 known-altered : (s : CoreState) (n c : ℕ) (l : Ledger) → AllByRecursion (λ e. is_known s.clients e.channel.client ≡ true) s.channels → AllByRecursion (λ e. is_known s.clients e.channel.client ≡ true) (changed_at n (confirm_own c l) s.channels)
 known-altered s n c l known = all-map (λ e. is_known s.clients e.channel.client ≡ true) (λ e. is_known s.clients e.channel.client ≡ true) (λ e. elim (e.number == n) as (λ _. Entry) [ true ↦ confirm_own c l e | false ↦ e ]) (λ e h. elim (e.number == n) as (λ b. is_known s.clients (elim b as (λ _. Entry) [ true ↦ confirm_own c l e | false ↦ e ]).channel.client ≡ true) [ true ↦ h | false ↦ h ]) s.channels known
@@ -223,8 +235,8 @@ confirms s new k r n c w m l l' p up rows st serves bytes found free gives so af
     let is : IsServed k (look rows) = served (look rows) k s.clients st.clients.each serves in
     let does : said_payload s.policy k (rows_of k rows) n p ≡ sends (with_sender p n) = said-ok s.policy k n (rows_of k rows) p (Confirmation r c w m) e ∙ (ap (on_waiting r (on_unused c (sends_as n p) (with_own (rows_of k rows) c))) t.is ∙ by-none c (sends_as n p) (with_own (rows_of k rows) c) (sym (uses s k c rows st) ∙ free)) in
     let table : TableFits (changed_at n (confirm_own c l') s.channels) (held_of (said_as k p (sends (with_sender p n)) ∷ rows)) =
-        subst (TableFits (changed_at n (confirm_own c l') s.channels)) (sym (taken-channels k r c n w m p rows bytes small e))
-        (subst (λ i. TableFits (changed_at i (confirm_own c l') s.channels) (filter is_held (map (takes k r c i w m) (held_of rows)))) v.number (taken-table s k r c n w m l l' rows st v (none-own s k c free) (subst (λ (a : Ledger). IsConfirmed a l' w m) (sym v.ledger) gives) so)) in
+    subst (TableFits (changed_at n (confirm_own c l') s.channels)) (sym (taken-channels k r c n w m p rows bytes small e))
+    (subst (λ i. TableFits (changed_at i (confirm_own c l') s.channels) (filter is_held (map (takes k r c i w m) (held_of rows)))) v.number (taken-table s k r c n w m l l' rows st v (none-own s k c free) (subst (λ (a : Ledger). IsConfirmed a l' w m) (sym v.ledger) gives) so)) in
     let stands : Stands new (said_as k p (sends (with_sender p n)) ∷ rows) = subst (λ u. Stands u (said_as k p (sends (with_sender p n)) ∷ rows)) (sym after) (quiet-stands s (changed_at n (confirm_own c l') s.channels) (said_as k p (sends (with_sender p n))) rows st q is table (known-altered s n c l' st.known.channels)) in
     subst (λ o. SaysRow s new (said_as k p o) n up (with_bytes (frame_payload (with_sender p n)) up) verdict.Sent rows) (sym does) (record {
       sent = ap (λ (bs : List ℕ). let u : QueueState = record up { waiting = up.waiting ++ bs } in u) (sym (append-nil (frame_payload (with_sender p n))));

@@ -1,7 +1,6 @@
 -- A client refuses a server's open.
 use Rattle.std.proofs.Common.{◌≡◌, ℕ, List, [], ◌∷◌, ◌++◌, map, true, false, Bool, refl, ◌∙◌, ap, sym, subst, Option, Some, None, Ok}
 use Rattle.std.specs.Prelude.{filter, find, ◌&&◌, ◌==◌, not}
-use Rattle.std.specs.List.{AllByRecursion}
 use Rattle.std.proofs.lemmas.List.{append-nil}
 use Rattle.ssh_grammar.specs.declared.side.Side.TheVariants.{Up}
 use Rattle.ssh_grammar.specs.Frames.{frame_payload}
@@ -12,7 +11,7 @@ use Rattle.mux_history.specs.declared.why.Why.TheVariants as why
 use Rattle.mux_history.specs.Gist.{Fails, Within, read_gist}
 use Rattle.mux_history.specs.Rows.{Row, Says, rows_of}
 use Rattle.mux_history.specs.Channels.{Channel, after_item, held_of, is_held, opened_up}
-use Rattle.mux_history.specs.Said.{Outcome, on_waiting, said_payload, sends, waiting_at}
+use Rattle.mux_history.specs.Said.{on_waiting, said_payload, sends, waiting_at}
 use Rattle.mux_history.specs.Treat.{bare}
 use Rattle.mux_history.proofs.Readings.{reading-ok}
 use Rattle.window_ledger.specs.declared.ledger.Ledger.{Ledger}
@@ -25,10 +24,10 @@ use Rattle.mux_core.specs.Stands.{Stands, TableFits, is_known, look}
 use Rattle.mux_core.specs.Lookups.{waiting_for}
 use Rattle.mux_core.specs.Calls.{SaysIn, SaysRow}
 use Rattle.mux_core.proofs.Apart.{all-filter, alone, passes}
-use Rattle.mux_core.proofs.Awaiting.{WaitingEntry, is_waiting_at, waiting-entry, waiting-fit, waiting-none}
+use Rattle.mux_core.proofs.Awaiting.{WaitingEntry, waiting-entry, waiting-fit, waiting-none}
 use Rattle.mux_core.proofs.Bare.{after-said, held-bare, up_act}
 use Rattle.mux_core.proofs.Failing.{free-table}
-use Rattle.mux_core.proofs.Fits.{FoundFit}
+use Rattle.channel_table.proofs.Fits.{FoundFit}
 use Rattle.mux_core.proofs.Found.{find-narrow, only_if, remote-sole}
 use Rattle.mux_core.proofs.SaysWithin.{dropped-row, said-ok, takes-within}
 use Rattle.mux_core.proofs.Served.{IsServed, quiet-stands, served}
@@ -78,9 +77,9 @@ refuses s new k r n l p up rows st serves found after e =
     let does_ : said_payload s.policy k (rows_of k rows) 0 p ≡ sends p = said-ok s.policy k 0 (rows_of k rows) p (Within r Fails) e ∙ ap (on_waiting r (sends p)) t.is in
     let is : IsServed k (look rows) = served (look rows) k s.clients st.clients.each serves in
     let stands : Stands new (sent_row k p ∷ rows) = subst (λ u. Stands u (sent_row k p ∷ rows)) (ap (λ i. let u : CoreState = record s { channels = freed i s.channels } in u) c.number ∙ sym after)
-        (quiet-stands s (freed c.entry.number s.channels) (sent_row k p) rows st (quiet k r Fails p e) is
-          (subst (TableFits (freed c.entry.number s.channels)) (sym held) (free-table Up (is_theirs k r) (up_act k r Fails) c.entry s.channels (held_of rows) (does k r Fails) (alone (is_theirs k r) (sole k r) c.entry s.channels st.channels.apart (theirs-found s k r n l rows st c)) st.channels))
-          (all-filter (λ (f : Entry). is_known s.clients f.channel.client ≡ true) (λ (f : Entry). not (f.number == c.entry.number)) s.channels st.known.channels)) in
+    (quiet-stands s (freed c.entry.number s.channels) (sent_row k p) rows st (quiet k r Fails p e) is
+    (subst (TableFits (freed c.entry.number s.channels)) (sym held) (free-table Up (is_theirs k r) (up_act k r Fails) c.entry s.channels (held_of rows) (does k r Fails) (alone (is_theirs k r) (sole k r) c.entry s.channels st.channels.apart (theirs-found s k r n l rows st c)) st.channels))
+    (all-filter (λ (f : Entry). is_known s.clients f.channel.client ≡ true) (λ (f : Entry). not (f.number == c.entry.number)) s.channels st.known.channels)) in
     subst (λ o. SaysRow s new (bare (Says k (Payload p) None) k o) 0 up (with_bytes (frame_payload p) up) verdict.Sent rows) (sym does_) (record {
       sent = ap (λ (bs : List ℕ). let q : QueueState = record up { waiting = up.waiting ++ bs } in q) (sym (append-nil (frame_payload p)));
       shows = (refl, refl, tells-nothing (sent_row k p) (quiet k r Fails p e) refl (rows_of k rows));

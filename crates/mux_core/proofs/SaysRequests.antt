@@ -1,56 +1,45 @@
 -- What a client asks of all, by the message.
-use Rattle.std.proofs.Common.{◌≡◌, ◌≤◌, ◌<◌, ◌+◌, ℕ, List, [], ◌∷◌, ◌++◌, length, drop, map, true, false, Bool, refl, ◌∙◌, ap, sym, subst, Option, Some, None, Ok, arith, suc, zero}
+use Rattle.std.proofs.Common.{◌≡◌, ◌<◌, ℕ, List, [], ◌∷◌, ◌++◌, length, drop, map, true, false, Bool, refl, ◌∙◌, ap, sym, subst, None, Ok, arith, suc}
 use Rattle.std.specs.Prelude.{filter, ◌==◌, ◌&&◌, ◌||◌, not, nat_le, nat_lt, is_some, is_none}
-use Rattle.std.specs.List.{AllByRecursion}
 use Rattle.std.proofs.lemmas.List.{append-nil}
-use Rattle.std.proofs.Math.Seq.{drop-append_seam, drop-length}
+use Rattle.std.proofs.Math.Seq.{drop-length}
 use Rattle.std.proofs.lemmas.Bool.Decides.{nat_tests}
-use Rattle.ssh_grammar.specs.Messages.{Global, Key, KeepAlive, OtherName, Forward, Cancel}
+use Rattle.ssh_grammar.specs.Messages.{Global, Key, KeepAlive, Forward, Cancel}
 use Rattle.ssh_grammar.specs.Frames.{frame_payload}
-use Rattle.ssh_grammar.specs.SpellMessage.{request_failure}
-use Rattle.ssh_grammar.specs.Said.{Payload}
 use Rattle.proxy_frames.specs.State.{QueueState}
 use Rattle.proxy_frames.specs.Queued.{with_bytes}
-use Rattle.global_replies.specs.Replies.{is_none_left, or_behind}
-use Rattle.mux_history.specs.declared.limits.TheConstants.{MAX_CLIENTS, MAX_FORWARDINGS, MAX_GLOBAL_REQUESTS}
+use Rattle.mux_history.specs.declared.limits.TheConstants.{MAX_FORWARDINGS, MAX_GLOBAL_REQUESTS}
 use Rattle.mux_history.specs.declared.why.Why.TheVariants as why
 use Rattle.mux_history.specs.Policy.{permits}
-use Rattle.mux_history.specs.Channels.{held_of}
 use Rattle.mux_history.specs.Keys.{has_key, is_askable}
 use Rattle.mux_history.specs.Choices.{takes_number}
-use Rattle.mux_history.specs.Farewell.{has_open_matters}
-use Rattle.mux_history.specs.Gist.{Gist, Requests, read_gist, reading, sender_of}
-use Rattle.mux_history.specs.Rows.{Row, Says, any_of, is_admit, is_lost, rows_of}
-use Rattle.mux_history.specs.Log.{entered}
-use Rattle.mux_history.specs.Requests.{Ask, answers, answers_to, asks, asks_of, replies, sent_flags, wanted, wanted_by, wanted_in}
-use Rattle.mux_history.specs.Said.{Outcome, drops, is_full_of_asks, said_gist, said_payload, said_request, sends, sends_if, silent}
-use Rattle.mux_history.specs.Treat.{all_told, bare, goes, new_answers}
+use Rattle.mux_history.specs.Gist.{Requests, read_gist, sender_of}
+use Rattle.mux_history.specs.Rows.{Row, any_of, is_lost, rows_of}
+use Rattle.mux_history.specs.Requests.{Ask, answers, answers_to, asks_of, replies, sent_flags, wanted, wanted_in}
+use Rattle.mux_history.specs.Said.{Outcome, drops, is_full_of_asks, said_payload, said_request, sends, sends_if, silent}
+use Rattle.mux_history.specs.Treat.{all_told, goes, new_answers}
 use Rattle.mux_history.specs.Forwardings.{Forwarding, current, forwardings_of}
 use Rattle.mux_history.specs.Forwardings as history
 use Rattle.mux_history.proofs.CurrentSteps.{is_on}
 use Rattle.mux_history.proofs.ForwardsLocal.{forwardings-local}
 use Rattle.mux_history.proofs.Finds.{filter-no, filter-yes}
 use Rattle.forward_rules.specs.Step.{asked, cancelled, count_of, is_of, some_free}
-use Rattle.mux_history.proofs.Bools.{same-number}
-use Rattle.mux_history.proofs.OwnRows.{idle_row, own_row}
 use Rattle.mux_history.proofs.Readings.{reading-ok}
-use Rattle.mux_isolation.specs.View.{left_of}
 use Rattle.forward_rules.specs.State as kept
-use Rattle.forward_rules.specs.Stands.{AreFit, AreListed, Places, places_of}
-use Rattle.channel_table.specs.Entries.{Entry}
+use Rattle.forward_rules.specs.Stands.{AreListed}
 use Rattle.mux_core.specs.declared.verdict.Verdict.{Verdict}
 use Rattle.mux_core.specs.declared.verdict.Verdict.TheVariants as verdict
 use Rattle.mux_core.specs.State.{ClientState, CoreState, is_served}
-use Rattle.mux_core.specs.Stands.{AreOnce, AsksFit, ClientFits, ClientsFit, Look, Stands, TableFits, has_matters, is_known, look}
-use Rattle.mux_core.specs.Calls.{SaysAs, SaysIn, SaysRow, Shows}
-use Rattle.mux_core.specs.Requesting.{SaysRoomy, after_refusal, is_full, more_awaited, refusal, refusal_now, waiting_of, with_waiting}
-use Rattle.mux_core.proofs.Answering.{Waits, if_none, refused-answers, refused-waits, sent-answers}
-use Rattle.mux_core.proofs.Waiting.{changes, how-many, waits-are, with-map}
-use Rattle.mux_core.proofs.Quiet.{IsQuiet, own-same}
+use Rattle.mux_core.specs.Stands.{Stands, TableFits, look}
+use Rattle.mux_core.specs.Calls.{SaysAs, SaysIn, SaysRow}
+use Rattle.mux_core.specs.Requesting.{SaysRoomy, is_full, more_awaited, waiting_of, with_waiting}
+use Rattle.mux_core.proofs.Answering.{Waits, sent-answers}
+use Rattle.mux_core.proofs.Waiting.{how-many, waits-are, with-map}
+use Rattle.mux_core.proofs.Quiet.{IsQuiet}
 use Rattle.mux_core.proofs.Says.{said_as, same-queue, takes-unsent, tells-own, unsent-held}
 use Rattle.mux_core.proofs.SaysWithin.{dropped-row, said-ok}
-use Rattle.mux_core.proofs.Served.{IsServed, open-by, quiet-stands, served}
-use Rattle.mux_core.proofs.Requested.{all-known, all-served, ask_of, awaits, request-stands, request_row}
+use Rattle.mux_core.proofs.Served.{quiet-stands, served}
+use Rattle.mux_core.proofs.Requested.{ask_of, awaits, request-stands, request_row}
 use Rattle.mux_core.proofs.Requests.{alive-stands, cancel-stands, forward-stands, stop-stands}
 use Rattle.mux_core.proofs.Pairs.{some-same}
 
@@ -77,6 +66,7 @@ told-none row own down same = by_case (goes row.fate && not (is_lost own)) refl
   where
     none : new_answers row own ≡ []
     none = ap (λ (rs : List (List ℕ)). map frame_payload (drop (length (answers own)) rs)) same ∙ ap (map frame_payload) (drop-length (answers own))
+
     by_case : (b : Bool) → (goes row.fate && not (is_lost own)) ≡ b → all_told row own ≡ []
     by_case true e = ap (λ (b : Bool). elim b as (λ _. List (List ℕ)) [ true ↦ row.down ++ new_answers row own | false ↦ row.down ]) e ∙ (ap (λ ds. ds ++ new_answers row own) down ∙ none)
     by_case false e = ap (λ (b : Bool). elim b as (λ _. List (List ℕ)) [ true ↦ row.down ++ new_answers row own | false ↦ row.down ]) e ∙ down
@@ -169,25 +159,26 @@ alive-unwanted s k p up = λ room rows st serves e. goes-up s s k p KeepAlive fa
 pub forward-sent : (s new : CoreState) (k : ℕ) (p : List ℕ) (key : Key) (up : QueueState) → is_askable key ≡ true → permits s.policy.listens key ≡ true → count_of s.forwards k < MAX_FORWARDINGS → new ≡ record s { asks = s.asks ++ ask_of k (Forward key) ∷ []; clients = with_waiting k more_awaited s.clients; forwards = s.forwards ++ asked k key ∷ [] } → SaysRoomy s new k p (Forward key) true up (with_bytes (frame_payload p) up) verdict.Sent
 forward-sent s new k p key up short may few after = λ room rows st serves e.
     goes-up s new k p (Forward key) true up rows st serves e room
-      (forward-does s k p key true rows st ∙ ap (λ b. sends_if b p) (all (is_askable key) (permits s.policy.listens key) (nat_lt (count_of s.forwards k) MAX_FORWARDINGS) short may (lt-yes (count_of s.forwards k) MAX_FORWARDINGS few)))
-      (subst (λ u. Stands u (request_row k p ∷ rows)) (sym (after ∙ awaits-all s k (ask_of k (Forward key)) (s.forwards ++ asked k key ∷ []) rows st)) (forward-stands s k p key rows st serves e few))
+    (forward-does s k p key true rows st ∙ ap (λ b. sends_if b p) (all (is_askable key) (permits s.policy.listens key) (nat_lt (count_of s.forwards k) MAX_FORWARDINGS) short may (lt-yes (count_of s.forwards k) MAX_FORWARDINGS few)))
+    (subst (λ u. Stands u (request_row k p ∷ rows)) (sym (after ∙ awaits-all s k (ask_of k (Forward key)) (s.forwards ++ asked k key ∷ []) rows st)) (forward-stands s k p key rows st serves e few))
   where
     all : (a b c : Bool) → a ≡ true → b ≡ true → c ≡ true → (true && (a && (b && c))) ≡ true
     all true true true x y z = refl
     all false b c x y z = cc
     all true false c x y z = cc
     all true true false x y z = cc
+
     lt-yes : (a b : ℕ) → a < b → nat_lt a b ≡ true
     lt-yes a b h = grind (arith, nat_tests)
 
 pub cancel-wanted : (s new : CoreState) (k : ℕ) (p : List ℕ) (key : Key) (up : QueueState) → some_free k key s.forwards ≡ true → new ≡ record s { asks = s.asks ++ ask_of k (Cancel key) ∷ []; clients = with_waiting k more_awaited s.clients; forwards = cancelled k key true s.forwards } → SaysRoomy s new k p (Cancel key) true up (with_bytes (frame_payload p) up) verdict.Sent
 cancel-wanted s new k p key up free after = λ room rows st serves e.
     goes-up s new k p (Cancel key) true up rows st serves e room
-      (cancel-does s k p key true rows st ∙ ap (λ b. sends_if b p) free)
-      (subst (λ u. Stands u (request_row k p ∷ rows)) (sym (after ∙ awaits-all s k (ask_of k (Cancel key)) (cancelled k key true s.forwards) rows st)) (cancel-stands s k p key rows st serves e free))
+    (cancel-does s k p key true rows st ∙ ap (λ b. sends_if b p) free)
+    (subst (λ u. Stands u (request_row k p ∷ rows)) (sym (after ∙ awaits-all s k (ask_of k (Cancel key)) (cancelled k key true s.forwards) rows st)) (cancel-stands s k p key rows st serves e free))
 
 pub cancel-unwanted : (s new : CoreState) (k : ℕ) (p : List ℕ) (key : Key) (up : QueueState) → some_free k key s.forwards ≡ true → new ≡ record s { forwards = cancelled k key false s.forwards } → SaysRoomy s new k p (Cancel key) false up (with_bytes (frame_payload p) up) verdict.Sent
 cancel-unwanted s new k p key up free after = λ room rows st serves e.
     goes-up s new k p (Cancel key) false up rows st serves e room
-      (cancel-does s k p key false rows st ∙ ap (λ b. sends_if b p) free)
-      (subst (λ u. Stands u (request_row k p ∷ rows)) (sym after) (stop-stands s k p key rows st serves e))
+    (cancel-does s k p key false rows st ∙ ap (λ b. sends_if b p) free)
+    (subst (λ u. Stands u (request_row k p ∷ rows)) (sym after) (stop-stands s k p key rows st serves e))

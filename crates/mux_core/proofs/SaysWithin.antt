@@ -1,6 +1,6 @@
 -- The verdicts of a message that a client says in a channel.
 use Rattle.std.proofs.Common.{◌≡◌, ℕ, List, [], ◌∷◌, ◌++◌, true, false, Bool, refl, ◌∙◌, ap, sym, subst, Option, Some, None, Ok}
-use Rattle.std.specs.Prelude.{find, is_some, ◌&&◌}
+use Rattle.std.specs.Prelude.{is_some, ◌&&◌}
 use Rattle.std.proofs.lemmas.List.{append-nil}
 use Rattle.ssh_grammar.specs.declared.side.Side.TheVariants.{Up}
 use Rattle.ssh_grammar.specs.declared.fault.Breach.{Breach}
@@ -11,7 +11,7 @@ use Rattle.proxy_frames.specs.Queued.{with_bytes}
 use Rattle.mux_history.specs.declared.why.Why.{Why}
 use Rattle.mux_history.specs.declared.why.Why.TheVariants as why
 use Rattle.mux_history.specs.Gist.{Act, Gist, Within, read_gist, sender_of}
-use Rattle.mux_history.specs.Rows.{Row, Says, is_lost, rows_of}
+use Rattle.mux_history.specs.Rows.{Row, Says, rows_of}
 use Rattle.mux_history.specs.Channels.{Channel, own_of}
 use Rattle.mux_history.specs.Choices.{takes_number}
 use Rattle.mux_history.specs.Ledger.{breach}
@@ -23,16 +23,14 @@ use Rattle.window_ledger.specs.declared.ledger.Ledger.{Ledger}
 use Rattle.window_ledger.specs.Stands as ledger
 use Rattle.channel_table.specs.Entries.{Entry}
 use Rattle.channel_table.specs.Stands.{Fits}
-use Rattle.client_teardown.specs.Leaving.{with_payloads}
-use Rattle.mux_core.specs.declared.verdict.Verdict.{Verdict}
 use Rattle.mux_core.specs.declared.verdict.Verdict.TheVariants as verdict
 use Rattle.mux_core.specs.State.{CoreState, is_served}
 use Rattle.mux_core.specs.Stands.{Stands, look}
 use Rattle.mux_core.specs.Lookups.{acted, confirmed_for}
-use Rattle.mux_core.specs.Calls.{SaysIn, SaysRow, said_row}
+use Rattle.mux_core.specs.Calls.{SaysIn, SaysRow}
 use Rattle.mux_core.proofs.Acts.{ActsOn}
-use Rattle.mux_core.proofs.Found.{ConfirmedEntry, confirmed-entry, confirmed-fit, confirmed-none, is_confirmed_at}
-use Rattle.mux_core.proofs.Fits.{FoundFit}
+use Rattle.mux_core.proofs.Found.{ConfirmedEntry, confirmed-entry, confirmed-fit, confirmed-none}
+use Rattle.channel_table.proofs.Fits.{FoundFit}
 use Rattle.mux_core.proofs.Served.{IsServed, served}
 use Rattle.mux_core.proofs.Silent.{tells-nothing}
 use Rattle.mux_core.proofs.Within.{quiet, within-stands}

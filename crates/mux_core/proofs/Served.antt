@@ -1,6 +1,6 @@
 -- A client that is served: its rows, and the row of nothing but channels that it adds.
-use Rattle.std.proofs.Common.{◌≡◌, ◌≢◌, ℕ, List, [], ◌∷◌, map, true, false, Bool, refl, ◌∙◌, ap, sym, subst}
-use Rattle.std.specs.Prelude.{filter, not, ◌==◌, ◌&&◌, ◌||◌}
+use Rattle.std.proofs.Common.{◌≡◌, ◌≢◌, ℕ, List, [], ◌∷◌, true, false, Bool, refl, ◌∙◌, ap, sym, subst}
+use Rattle.std.specs.Prelude.{not, ◌==◌, ◌&&◌, ◌||◌}
 use Rattle.std.specs.List.{AllByRecursion}
 use Rattle.mux_history.specs.Rows.{Row, rows_of, any_of, is_admit, is_lost}
 use Rattle.mux_history.specs.Channels.{held_of, is_held}
@@ -8,12 +8,12 @@ use Rattle.mux_history.specs.Requests.{asks, replies}
 use Rattle.mux_history.specs.Farewell.{has_open_matters}
 use Rattle.std.specs.Prelude.{length, nat_lt}
 use Rattle.mux_history.proofs.Bools.{same-number}
-use Rattle.mux_history.proofs.OwnRows.{idle_row, own_row}
+use Rattle.mux_history.proofs.OwnRows.{idle_row}
 use Rattle.channel_table.specs.Entries.{Entry}
 use Rattle.forward_rules.specs.Stands.{AreFit}
 use Rattle.mux_core.specs.State.{ClientState, CoreState, is_served}
-use Rattle.mux_core.specs.Stands.{AsksFit, AreKnown, ClientFits, ClientsFit, Look, Stands, TableFits, has_matters, is_known, look}
-use Rattle.mux_core.proofs.Quiet.{IsQuiet, look-same, own-same}
+use Rattle.mux_core.specs.Stands.{AsksFit, ClientFits, ClientsFit, Look, Stands, TableFits, has_matters, is_known, look}
+use Rattle.mux_core.proofs.Quiet.{IsQuiet, look-same}
 
 -- what is known of it
 pub record IsServed (k : ℕ) (l : Look) : Type 0 where

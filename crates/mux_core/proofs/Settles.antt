@@ -1,29 +1,28 @@
 -- A client that is lost, and forgotten once nothing of it is left.
-use Rattle.std.proofs.Common.{◌≡◌, ◌≤◌, ℕ, List, [], ◌∷◌, ◌++◌, length, map, drop, true, false, Bool, refl, ◌∙◌, ap, sym, subst, arith, suc}
+use Rattle.std.proofs.Common.{◌≡◌, ◌≤◌, ℕ, List, [], ◌∷◌, length, map, true, false, Bool, refl, ◌∙◌, ap, sym, subst, arith, suc}
 use Rattle.std.specs.Prelude.{filter, ◌==◌, ◌&&◌, ◌||◌, not, nat_lt, ◌-◌}
 use Rattle.std.specs.List.{AllByRecursion}
 use Rattle.std.proofs.lemmas.List.{length-drop}
 use Rattle.std.proofs.lemmas.Bool.Decides.{nat_tests}
-use Rattle.mux_history.specs.declared.limits.TheConstants.{MAX_CLIENTS}
-use Rattle.mux_history.specs.Rows.{Row, rows_of, any_of, is_admit, is_lost}
+use Rattle.mux_history.specs.Rows.{Row, rows_of, any_of, is_admit}
 use Rattle.mux_history.specs.Channels.{Channel, channels_of, held_of, is_held}
 use Rattle.mux_history.specs.Requests.{Ask, asks, replies}
 use Rattle.mux_history.specs.Farewell.{has_open_matters}
-use Rattle.mux_history.proofs.Bools.{same-number, self}
+use Rattle.mux_history.proofs.Bools.{same-number}
 use Rattle.mux_history.proofs.Finds.{filter-no, filter-yes}
 use Rattle.channel_table.specs.Entries.{Entry}
 use Rattle.channel_table.specs.Entries.{count_of, is_of}
 use Rattle.forward_rules.specs.State.{Forward}
 use Rattle.global_replies.specs.Replies as answers
 use Rattle.mux_core.specs.State.{ClientState, CoreState, is_served}
-use Rattle.mux_core.specs.Stands.{AreKnown, AreOnce, AsksFit, ClientFits, ClientsFit, Look, Stands, TableFits, has_matters, is_known, look, unreplied_in}
+use Rattle.mux_core.specs.Stands.{AreKnown, AreOnce, AsksFit, ClientFits, ClientsFit, Look, Stands, TableFits, has_matters, is_known, look}
 use Rattle.mux_core.specs.Settling.{has_left, is_lost_in, is_other, kept, settled}
 use Rattle.mux_core.proofs.Found.{held-local}
 use Rattle.mux_core.proofs.Opens.{count-fit}
 use Rattle.mux_history.proofs.OwnRows.{idle_row}
 use Rattle.forward_rules.specs.Stands.{AreFit}
 use Rattle.mux_core.proofs.Quiet.{IsQuiet, look-same}
-use Rattle.mux_core.proofs.Served.{IsServed, served}
+use Rattle.mux_core.proofs.Served.{served}
 
 -- ---- lists
 
@@ -66,6 +65,7 @@ filter-but k m m' same none (j ∷ js) = by_case (filter-but k m m' same none js
   where
     other : ℕ → Bool
     other i = not (i == k)
+
     by_case : filter (λ j. not (j == k)) (filter m js) ≡ filter m' js → (b : Bool) → (j == k) ≡ b → (c : Bool) → m j ≡ c → filter (λ j. not (j == k)) (filter m (j ∷ js)) ≡ filter m' (j ∷ js)
     by_case ih true e true h = ap (filter (λ (i : ℕ). not (i == k))) (filter-yes m j js h) ∙ (filter-no (λ (i : ℕ). not (i == k)) j (filter m js) (ap not e) ∙ (ih ∙ sym (filter-no m' j js (ap m' (same-number j k e) ∙ none))))
     by_case ih true e false h = ap (filter (λ (i : ℕ). not (i == k))) (filter-no m j js h) ∙ (ih ∙ sym (filter-no m' j js (ap m' (same-number j k e) ∙ none)))
@@ -101,6 +101,7 @@ any-held (x ∷ xs) = by_case (any-held xs) (is_held x) refl
   where
     some : (n : ℕ) → not (suc n == 0) ≡ true
     some n = grind (arith, nat_tests)
+
     by_case : any_of is_held (filter is_held xs) ≡ not (length (filter is_held xs) == 0) → (b : Bool) → is_held x ≡ b → any_of is_held (filter is_held (x ∷ xs)) ≡ not (length (filter is_held (x ∷ xs)) == 0)
     by_case ih true h = ap (any_of is_held) (filter-yes is_held x xs h) ∙ (ap (λ b. b || any_of is_held (filter is_held xs)) h ∙ (sym (some (length (filter is_held xs))) ∙ ap (λ (ys : List Channel). not (length ys == 0)) (sym (filter-yes is_held x xs h))))
     by_case ih false h = ap (any_of is_held) (filter-no is_held x xs h) ∙ (ih ∙ ap (λ (ys : List Channel). not (length ys == 0)) (sym (filter-no is_held x xs h)))
@@ -117,8 +118,10 @@ lost-matters s k rows table fit lost =
     never : (b : Bool) → (b && false) ≡ false
     never true = refl
     never false = refl
+
     channels : any_of is_held (held_of (rows_of k rows)) ≡ not (count_of s.channels k == 0)
     channels = any-held (channels_of (rows_of k rows)) ∙ ap (λ n. not (n == 0)) (ap length (sym (held-local k rows)) ∙ count-fit k s.channels (held_of rows) table.fit)
+
     requests : nat_lt (length (replies (rows_of k rows))) (length (asks (rows_of k rows))) ≡ not (length (filter (answers.is_of k) s.asks) == 0)
     requests =
         below (length (replies (rows_of k rows))) (length (asks (rows_of k rows))) (length (filter (answers.is_of k) s.asks)) (fit.each k).awaited
@@ -179,6 +182,7 @@ listed j m js cs e known = within (filter m js) (passing js) (sym (any-map cs) �
   where
     Passes : ℕ → Type 0
     Passes i = m i ≡ true
+
     passing : (is : List ℕ) → AllByRecursion (λ i. m i ≡ true) (filter m is)
     passing [] = tt
     passing (i ∷ is) = by_case (passing is) (m i) refl
@@ -186,9 +190,11 @@ listed j m js cs e known = within (filter m js) (passing js) (sym (any-map cs) �
         by_case : AllByRecursion (λ i. m i ≡ true) (filter m is) → (b : Bool) → m i ≡ b → AllByRecursion (λ i. m i ≡ true) (filter m (i ∷ is))
         by_case ih true h = subst (AllByRecursion (λ i. m i ≡ true)) (sym (filter-yes m i is h)) (h, ih)
         by_case ih false h = subst (AllByRecursion (λ i. m i ≡ true)) (sym (filter-no m i is h)) ih
+
     any-map : (ds : List ClientState) → is_known ds j ≡ any_of (λ i. i == j) (map (λ (c : ClientState). c.number) ds)
     any-map [] = refl
     any-map (d ∷ ds) = ap (λ b. (d.number == j) || b) (any-map ds)
+
     found : (is : List ℕ) → AllByRecursion (λ i. m i ≡ true) is → any_of (λ i. i == j) is ≡ true → m j ≡ true
     found [] all h = absurd (cc)
     found (i ∷ is) all h = by_case (found is all.1) (i == j) refl h
@@ -196,6 +202,7 @@ listed j m js cs e known = within (filter m js) (passing js) (sym (any-map cs) �
         by_case : (any_of (λ i. i == j) is ≡ true → m j ≡ true) → (b : Bool) → (i == j) ≡ b → ((i == j) || any_of (λ i. i == j) is) ≡ true → m j ≡ true
         by_case ih true t h = subst (λ x. m x ≡ true) (same-number i j t) all.0
         by_case ih false t h = ih (sym (ap (λ b. b || any_of (λ i. i == j) is) t) ∙ h)
+
     within : (is : List ℕ) → AllByRecursion (λ i. m i ≡ true) is → any_of (λ i. i == j) (map (λ (c : ClientState). c.number) cs) ≡ true → map (λ (c : ClientState). c.number) cs ≡ is → m j ≡ true
     within is all h e = found is all (ap (any_of (λ i. i == j)) (sym e) ∙ h)
 
@@ -227,6 +234,7 @@ elsewhere l s k all lost known = each s.forwards known
         by_case : (b : Bool) → (f.client == k) ≡ b → (f.client == k) ≡ false
         by_case true e = absurd (let a : l.lost k ≡ false = subst (λ j. l.lost j ≡ false) (same-number f.client k e) (served l f.client s.clients all h).here in let c = sym lost ∙ a in cc)
         by_case false e = e
+
     each : (fs : List Forward) → AllByRecursion (λ f. is_served s.clients f.client ≡ true) fs → AllByRecursion (λ f. (f.client == k) ≡ false) fs
     each [] all = tt
     each (f ∷ fs) all = (one f all.0, each fs all.1)
@@ -244,7 +252,7 @@ lost-stands s es row rows st q lost channels known =
       asks = asks;
       forwards = subst (λ (l : Look). AreFit s.forwards l.current l.own l.lost) after st.forwards;
       clients = subst (ClientsFit (kept row.client (has_left (record s { channels = es }) row.client) s.clients) (has_matters (row ∷ rows))) after
-        (clients-settle row.client (has_left (record s { channels = es }) row.client) s.clients (has_matters rows) (has_matters (row ∷ rows)) (look rows) st.clients (λ j other. ap has_open_matters (idle_row j row rows (turned j row.client other))) here (listed row.client (has_matters rows) (look rows).entered s.clients st.clients.numbers (lost-known row.client s.clients lost)));
+          (clients-settle row.client (has_left (record s { channels = es }) row.client) s.clients (has_matters rows) (has_matters (row ∷ rows)) (look rows) st.clients (λ j other. ap has_open_matters (idle_row j row rows (turned j row.client other))) here (listed row.client (has_matters rows) (look rows).entered s.clients st.clients.numbers (lost-known row.client s.clients lost)));
       known = known-settle (record s { channels = es }) row.client (record { channels = known; asks = st.known.asks; forwards = st.known.forwards }) (elsewhere (look rows) s row.client st.clients.each gone st.known.forwards);
     }
   where

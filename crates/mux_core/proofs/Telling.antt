@@ -1,38 +1,32 @@
 -- A client that is told something was let in; and each answer is that of the row.
-use Rattle.std.proofs.Common.{◌≡◌, ℕ, List, [], ◌∷◌, ◌++◌, length, map, true, false, Bool, refl, ◌∙◌, ap, sym, subst, Option, Some, None, Result, Ok, Err, IfOk}
+use Rattle.std.proofs.Common.{◌≡◌, ℕ, List, [], ◌∷◌, length, true, false, Bool, refl, ◌∙◌, ap, sym, subst, Option, Some, None, Result, Ok, Err, IfOk}
 use Rattle.std.specs.Prelude.{find, ◌==◌, ◌&&◌, not, option_map}
 use Rattle.std.specs.List.{AllByRecursion}
-use Rattle.std.proofs.lemmas.List.{append-nil}
 use Rattle.ssh_fields.specs.declared.out_of_memory.OutOfMemory.{OutOfMemory}
 use Rattle.ssh_grammar.specs.declared.fault.Bad.{Bad}
 use Rattle.ssh_grammar.specs.declared.fault.Breach.{Breach}
 use Rattle.ssh_grammar.specs.declared.side.Side.TheVariants.{Down}
-use Rattle.ssh_grammar.specs.Frames.{frame_payload}
 use Rattle.ssh_grammar.specs.Messages.{Direct, Forwarded, Key, Opens, OtherType, Session}
 use Rattle.ssh_grammar.specs.Messages as full
 use Rattle.proxy_frames.specs.State.{QueueState}
 use Rattle.mux_history.specs.declared.broke.Break.TheVariants as broke
 use Rattle.mux_history.specs.Gist.{Act, Asks, Answers, Carries, Closes, Confirmation, Confirms, Ends, Fails, Gist, Grants, Open, Refuses, Requests, Succeeds, Transport, Within, read_gist}
-use Rattle.mux_history.specs.Rows.{Heard, Row, rows_of}
-use Rattle.mux_history.specs.Channels.{Channel, held_of, holder, live_in}
+use Rattle.mux_history.specs.Rows.{Row}
+use Rattle.mux_history.specs.Channels.{Channel, holder, live_in}
 use Rattle.mux_history.specs.Forwardings.{Forwarding, current, live_at}
-use Rattle.mux_history.specs.Heard.{Breaks, Dest, Disconnects, ToClient, ToMaster, dest, dest_asker, dest_confirmation, dest_gist, dest_open, dest_success, dest_within, heard_master, is_pending, pending_open}
-use Rattle.mux_history.specs.Keys.{has_key, learns_port}
+use Rattle.mux_history.specs.Heard.{Breaks, Dest, Disconnects, ToClient, ToMaster, dest, dest_asker, dest_confirmation, dest_gist, dest_open, dest_success, dest_within, is_pending, pending_open}
+use Rattle.mux_history.specs.Keys.{learns_port}
 use Rattle.mux_history.specs.Ledger.{breach}
-use Rattle.mux_history.specs.Pending.{joined}
 use Rattle.mux_history.specs.Requests.{Ask, asker}
-use Rattle.mux_history.specs.Said.{Outcome, silent}
-use Rattle.mux_history.specs.Treat.{bare}
 use Rattle.mux_history.proofs.Dests.{dest-ok}
 use Rattle.channel_table.specs.Entries.{Entry, shown_at}
 use Rattle.channel_table.specs.Stands.{Fits}
-use Rattle.forward_rules.specs.Step.{is_live_at}
 use Rattle.mux_core.specs.declared.heard.Heard as told
 use Rattle.mux_core.specs.declared.heard.Heard.TheVariants as heard
-use Rattle.mux_core.specs.State.{CoreState, is_served}
+use Rattle.mux_core.specs.State.{CoreState}
 use Rattle.mux_core.specs.Stands.{Stands, is_known}
-use Rattle.mux_core.specs.Calls.{HearsAs, HearsClient, HearsEnd, HearsGist, HearsIn, HearsMaster, HearsOn, HearsWith, IsLetIn}
-use Rattle.mux_core.proofs.Fits.{FoundFit}
+use Rattle.mux_core.specs.Calls.{HearsAs, HearsGist, HearsOn, HearsWith, IsLetIn}
+use Rattle.channel_table.proofs.Fits.{FoundFit}
 use Rattle.mux_core.proofs.HearsOpens.{list-find, owner-served}
 use Rattle.mux_core.proofs.HearsReply.{asked-first, nobody-asked}
 use Rattle.mux_core.proofs.HearsWithin.{entry-known, holder-fit}
@@ -72,6 +66,7 @@ success-known s k rest a known h = ap (is_known s.clients) (sym (by_what a.what 
     by_test : (b : Bool) → (elim b as (λ _. Dest) [ true ↦ Breaks (broke.BadReply (length rest)) | false ↦ ToClient a.client ]) ≡ ToClient k → a.client ≡ k
     by_test true h = absurd (cc)
     by_test false h = to-is a.client k h
+
     by_what : (what : full.Global) → (elim what as (λ _. Dest) [
       | full.Forward key ↦ elim (learns_port key && not (length rest == 4)) as (λ _. Dest) [ true ↦ Breaks (broke.BadReply (length rest)) | false ↦ ToClient a.client ]
       | _ ↦ ToClient a.client
@@ -93,6 +88,7 @@ open-known s k r (Forwarded key) rows st h = by_live (live_in rows r) (live_at r
   where
     client-is : (g : Forwarding) → live_at rows key ≡ Some g → g.client ≡ k → is_known s.clients k ≡ true
     client-is g e same = served-known k s.clients (owner-served s k key s.forwards st.known.forwards (list-find key s.forwards (current rows) st.forwards.listed ∙ (ap (option_map (λ (g : Forwarding). g.client)) e ∙ ap Some same)))
+
     by_live : (x : Option Channel) (o : Option Forwarding) → live_at rows key ≡ o → (elim x as (λ _. Dest) [ Some y ↦ Breaks (broke.NumberInUse r) | None ↦ elim o as (λ _. Dest) [ Some f ↦ ToClient f.client | None ↦ ToMaster ] ]) ≡ ToClient k → is_known s.clients k ≡ true
     by_live (Some x) o e h = absurd (cc)
     by_live None None e h = absurd (cc)
@@ -119,9 +115,11 @@ pending-known s n rows x st h = by_holder (holder rows n) refl h
   where
     some-is : (y z : Channel) → Some y ≡ Some z → y ≡ z
     some-is y z e = cc
+
     by_pending : (y : Channel) → holder rows n ≡ Some y → (b : Bool) → (elim b as (λ _. Option Channel) [ true ↦ Some y | false ↦ None ]) ≡ Some x → is_known s.clients x.client ≡ true
     by_pending y e true h = subst (λ (z : Channel). is_known s.clients z.client ≡ true) (some-is y x h) (holder-known s n rows y st e)
     by_pending y e false h = absurd (cc)
+
     by_holder : (o : Option Channel) → holder rows n ≡ o → (elim o as (λ _. Option Channel) [ None ↦ None | Some y ↦ elim (is_pending y) as (λ _. Option Channel) [ true ↦ Some y | false ↦ None ] ]) ≡ Some x → is_known s.clients x.client ≡ true
     by_holder None e h = absurd (cc)
     by_holder (Some y) e h = by_pending y e (is_pending y) h
@@ -140,6 +138,7 @@ in-channel s k n act rows st h = by_holder (holder rows n) refl h
     by_breach : (x : Channel) → holder rows n ≡ Some x → (o : Option Breach) → (elim o as (λ _. Dest) [ Some b ↦ Breaks (broke.Channel n b) | None ↦ ToClient x.client ]) ≡ ToClient k → is_known s.clients k ≡ true
     by_breach x e (Some b) h = absurd (cc)
     by_breach x e None h = ap (is_known s.clients) (sym (to-is x.client k h)) ∙ holder-known s n rows x st e
+
     by_holder : (o : Option Channel) → holder rows n ≡ o → (elim o as (λ _. Dest) [ None ↦ Breaks (broke.NoChannel n) | Some x ↦ elim (breach Down act x) as (λ _. Dest) [ Some b ↦ Breaks (broke.Channel n b) | None ↦ ToClient x.client ] ]) ≡ ToClient k → is_known s.clients k ≡ true
     by_holder None e h = absurd (cc)
     by_holder (Some x) e h = by_breach x e (breach Down act x) h
@@ -164,6 +163,7 @@ dest-known s k p rows st h = by_read (read_gist p) refl
     by_disconnect : (b : Bool) → (elim b as (λ _. Dest) [ true ↦ Disconnects | false ↦ ToMaster ]) ≡ ToClient k → ⊥
     by_disconnect true h = cc
     by_disconnect false h = cc
+
     by_gist : (m : Gist) → dest_gist rows m ≡ ToClient k → is_known s.clients k ≡ true
     by_gist (Transport number) h = absurd (by_disconnect (number == 1) h)
     by_gist (Requests what wants) h = absurd (cc)
@@ -172,6 +172,7 @@ dest-known s k p rows st h = by_read (read_gist p) refl
     by_gist (Open what r window maximum) h = open-known s k r what rows st h
     by_gist (Confirmation n r window maximum) h = confirmation-known s k n r rows st h
     by_gist (Within n act) h = within-known s k n act rows st h
+
     by_read : (r : Result Gist Bad) → read_gist p ≡ r → is_known s.clients k ≡ true
     by_read (Err bad) e = absurd (let x : Breaks (broke.Message bad) ≡ ToClient k = sym (rw (e, dest) refl) ∙ h in cc)
     by_read (Ok m) e = by_gist m (sym (dest-ok rows p m e) ∙ h)

@@ -1,16 +1,16 @@
 -- The clients, with what one of them is still to be answered changed.
-use Rattle.std.proofs.Common.{◌≡◌, ◌≤◌, ◌<◌, ◌+◌, ◌-◌, ℕ, List, [], ◌∷◌, ◌++◌, length, map, true, false, Bool, refl, ◌∙◌, ap, sym, subst, arith, suc, zero, slice_set, slice_index_or}
-use Rattle.std.specs.Prelude.{◌==◌, ◌&&◌, ◌||◌, not}
+use Rattle.std.proofs.Common.{◌≡◌, ◌≤◌, ◌<◌, ◌+◌, ℕ, List, [], ◌∷◌, length, map, true, false, Bool, refl, ◌∙◌, ap, sym, subst, arith, suc, zero, slice_set, slice_index_or}
+use Rattle.std.specs.Prelude.{◌==◌, ◌&&◌, not}
 use Rattle.std.specs.List.{AllByRecursion}
 use Rattle.std.proofs.lemmas.Bool.Decides.{nat_tests}
 use Rattle.mux_history.specs.Rows.{Row, rows_of}
-use Rattle.mux_history.specs.Requests.{answers, replies, unanswered_asks, wanted}
+use Rattle.mux_history.specs.Requests.{replies, unanswered_asks, wanted}
 use Rattle.mux_history.proofs.Bools.{same-number}
 use Rattle.mux_core.specs.declared.clients.Client.{Client}
 use Rattle.mux_core.specs.Clients.{client_state}
 use Rattle.mux_core.specs.State.{ClientState, is_served}
-use Rattle.mux_core.specs.Stands.{AreOnce, ClientFits, Look, is_known, look}
-use Rattle.mux_core.specs.Requesting.{more_awaited, place_of, waiting_of, with_waiting}
+use Rattle.mux_core.specs.Stands.{AreOnce, ClientFits, look}
+use Rattle.mux_core.specs.Requesting.{place_of, waiting_of, with_waiting}
 use Rattle.mux_core.proofs.Answering.{Waits, unanswered}
 use Rattle.mux_core.proofs.Pairs.{or-found}
 
@@ -75,6 +75,7 @@ with-map k change (c ∷ cs) once = by_case (with-map k change cs once.1) (c.num
     others : (ds : List ClientState) → (c.number == k) ≡ true → AllByRecursion (λ d. (c.number == d.number) ≡ false) ds → map (changes k change) ds ≡ ds
     others [] h all = refl
     others (d ∷ ds) h all = ap (λ y. y ∷ map (changes k change) ds) (changes-at k change d false (clash c.number d.number k h all.0)) ∙ ap (λ ys. d ∷ ys) (others ds h all.1)
+
     by_case : with_waiting k change cs ≡ map (changes k change) cs → (b : Bool) → (c.number == k) ≡ b → with_waiting k change (c ∷ cs) ≡ map (changes k change) (c ∷ cs)
     by_case ih true h = with-at k change c cs true h ∙ (ap (λ ds. record c { waiting = change c.waiting } ∷ ds) (sym (others cs h once.0)) ∙ ap (λ y. y ∷ map (changes k change) cs) (sym (changes-at k change c true h)))
     by_case ih false h = with-at k change c cs false h ∙ (ap (λ ds. c ∷ ds) ih ∙ ap (λ y. y ∷ map (changes k change) cs) (sym (changes-at k change c false h)))
@@ -92,6 +93,7 @@ waits-are rows k (c ∷ cs) all once serves = by_case (waits-are rows k cs all.1
     others : (ds : List ClientState) → (c.number == k) ≡ true → AllByRecursion (λ d. (c.number == d.number) ≡ false) ds → AllByRecursion (λ d. (d.number == k) ≡ false) ds
     others [] h more = tt
     others (d ∷ ds) h more = (clash c.number d.number k h more.0, others ds h more.1)
+
     by_case : (is_served cs k ≡ true → Waits (wanted (rows_of k rows)) (replies (rows_of k rows)) (waiting_of k cs)) → (b : Bool) → (c.number == k) ≡ b → (l : Bool) → c.lost ≡ l → Waits (wanted (rows_of k rows)) (replies (rows_of k rows)) (waiting_of k (c ∷ cs))
     by_case ih true h false l = subst (Waits (wanted (rows_of k rows)) (replies (rows_of k rows))) (sym (waiting-at k c cs true h)) (subst (λ i. Waits (wanted (rows_of i rows)) (replies (rows_of i rows)) c.waiting) (same-number c.number k h) (all.0.answers l))
     by_case ih true h true l = absurd (none-served k cs (others cs h once.0) (or-found ((c.number == k) && not c.lost) (is_served cs k) serves (ap (λ b. b && not c.lost) h ∙ ap not l)))

@@ -1,45 +1,31 @@
 -- A message that a client says in a confirmed channel.
-use Rattle.std.proofs.Common.{◌≡◌, ℕ, List, [], ◌∷◌, ◌++◌, length, drop, map, true, false, Bool, refl, ◌∙◌, ap, sym, subst, Option, Some, None, Ok}
-use Rattle.std.specs.Prelude.{filter, find, not, ◌==◌, ◌&&◌, is_some}
-use Rattle.std.specs.List.{AllByRecursion}
+use Rattle.std.proofs.Common.{◌≡◌, ℕ, List, [], ◌∷◌, ◌++◌, length, map, true, false, Bool, refl, ◌∙◌, ap, sym, subst, Some, None, Ok}
+use Rattle.std.specs.Prelude.{filter, find, ◌==◌, ◌&&◌}
 use Rattle.std.proofs.lemmas.List.{append-nil}
 use Rattle.ssh_grammar.specs.declared.side.Side.TheVariants.{Up}
-use Rattle.ssh_grammar.specs.declared.fault.Breach.{Breach}
-use Rattle.ssh_grammar.specs.Frames.{frame_payload}
 use Rattle.ssh_grammar.specs.Said.{Payload}
-use Rattle.proxy_frames.specs.State.{QueueState}
-use Rattle.proxy_frames.specs.Queued.{with_bytes}
-use Rattle.mux_history.specs.declared.why.Why.TheVariants as why
-use Rattle.mux_history.specs.Gist.{Act, Gist, Within, gist, read_gist, sender_of}
-use Rattle.mux_history.specs.Rows.{Goes, Drop, Item, Row, Says, is_lost, rows_of}
-use Rattle.mux_history.specs.Channels.{Channel, after_item, held_of, is_fails, is_held, is_number, opened_up}
-use Rattle.mux_history.specs.Choices.{takes_number}
-use Rattle.mux_history.specs.Forwardings.{Forwarding, requested}
+use Rattle.mux_history.specs.Gist.{Act, Within, read_gist}
+use Rattle.mux_history.specs.Rows.{Row, Says}
+use Rattle.mux_history.specs.Channels.{Channel, after_item, held_of, is_held, is_number, opened_up}
+use Rattle.mux_history.specs.Forwardings.{requested}
 use Rattle.mux_history.specs.Laws.{with_act}
-use Rattle.mux_history.specs.Ledger.{breach}
-use Rattle.mux_history.specs.Pending.{joined}
-use Rattle.mux_history.specs.Requests.{answers, answers_to, asks, asks_of, replies, sent_flags, wanted, wanted_by, wanted_in}
-use Rattle.mux_history.specs.Said.{Outcome, confirmed_at, drops, on_breach, on_confirmed, said_payload, said_within, sends}
-use Rattle.mux_history.specs.Treat.{all_told, bare, new_answers}
+use Rattle.mux_history.specs.Requests.{asks, asks_of, sent_flags, wanted_in}
+use Rattle.mux_history.specs.Said.{sends}
+use Rattle.mux_history.specs.Treat.{bare}
 use Rattle.mux_history.proofs.Readings.{reading-ok}
 use Rattle.window_ledger.specs.declared.ledger.Ledger.{Ledger}
-use Rattle.window_ledger.specs.Stands as ledger
 use Rattle.channel_table.specs.Entries.{Entry}
 use Rattle.channel_table.specs.Entries.{at_number, changed_at, has_remote, is_of, with_ledger}
 use Rattle.channel_table.specs.Stands.{Fits}
-use Rattle.client_teardown.specs.Leaving.{with_payloads}
-use Rattle.mux_core.specs.declared.verdict.Verdict.TheVariants as verdict
-use Rattle.mux_core.specs.State.{CoreState, is_served}
+use Rattle.mux_core.specs.State.{CoreState}
 use Rattle.mux_core.specs.Stands.{Stands, TableFits, is_known, look}
 use Rattle.mux_core.specs.Lookups.{acted, stays_in}
-use Rattle.mux_core.specs.Calls.{SaysIn, SaysRow, said_row}
 use Rattle.mux_core.proofs.Acts.{ActsOn, DoesAct, acts-on}
-use Rattle.mux_core.proofs.Apart.{Alone, Sole, all-filter, all-map, alone, passes}
+use Rattle.mux_core.proofs.Apart.{Sole, all-filter, all-map, alone, passes}
 use Rattle.mux_core.proofs.Bare.{after-said, held-bare, up_act}
-use Rattle.mux_core.proofs.Found.{ConfirmedEntry, confirmed-fit, find-narrow, is_confirmed_at, only_if, remote-sole}
-use Rattle.mux_core.proofs.Fits.{FoundFit}
+use Rattle.mux_core.proofs.Found.{ConfirmedEntry, find-narrow, only_if, remote-sole}
 use Rattle.mux_core.proofs.Quiet.{IsQuiet}
-use Rattle.mux_core.proofs.Served.{IsServed, quiet-stands, served}
+use Rattle.mux_core.proofs.Served.{IsServed, quiet-stands}
 
 -- the row of one that is sent
 abbrev pub sent_row : ℕ → List ℕ → Row
@@ -68,16 +54,20 @@ does k r a = record {
     and-left : (b c : Bool) → (b && c) ≡ true → b ≡ true
     and-left true c h = refl
     and-left false c h = cc
+
     and-right : (b c : Bool) → (b && c) ≡ true → c ≡ true
     and-right true c h = h
     and-right false c h = cc
+
     named : (x : Channel) (b c : Bool) → (x.client == k) ≡ b → (is_number x.remote r && is_held x) ≡ c → up_act k r a x ≡ elim b as (λ _. Channel) [ true ↦ elim c as (λ _. Channel) [ true ↦ with_act Up a x | false ↦ x ] | false ↦ x ]
     named x b c h h' = ap (λ (d : Bool). elim d as (λ _. Channel) [ true ↦ elim (is_number x.remote r && is_held x) as (λ _. Channel) [ true ↦ with_act Up a x | false ↦ x ] | false ↦ x ]) h ∙ ap (λ (d : Bool). elim b as (λ _. Channel) [ true ↦ elim d as (λ _. Channel) [ true ↦ with_act Up a x | false ↦ x ] | false ↦ x ]) h'
+
     by_client : (e : Entry) (x : Channel) → Fits e x → is_theirs k r e ≡ true → (b : Bool) → (x.client == k) ≡ b → up_act k r a x ≡ with_act Up a x
     by_client e x fits h b c =
         let mine : (x.client == k) ≡ true = ap (λ i. i == k) (sym fits.client) ∙ and-left (is_of k e) (has_remote r e) h in
         let there : (is_number x.remote r && is_held x) ≡ true = ap (λ o. is_number o r && is_held x) (sym fits.remote) ∙ (ap (λ d. d && is_held x) (and-right (is_of k e) (has_remote r e) h) ∙ fits.held) in
         named x true true mine there
+
     by_other : (e : Entry) (x : Channel) → Fits e x → is_theirs k r e ≡ false → (b : Bool) → (x.client == k) ≡ b → up_act k r a x ≡ x
     by_other e x fits h false c = named x false (is_number x.remote r && is_held x) c refl
     by_other e x fits h true c =
@@ -90,6 +80,7 @@ sole k r e f two h = by_mine (is_of k f) refl
     and-right : (b c : Bool) → (b && c) ≡ true → c ≡ true
     and-right true c h = h
     and-right false c h = cc
+
     by_mine : (b : Bool) → is_of k f ≡ b → is_theirs k r f ≡ false
     by_mine true m = ap (λ b. b && has_remote r f) m ∙ two.remote r (and-right (is_of k e) (has_remote r e) h)
     by_mine false m = ap (λ b. b && has_remote r f) m
@@ -112,10 +103,13 @@ within-stands s k r n a p old new over rows st serves e c acts =
   where
     Known : Entry → Type 0
     Known f = is_known s.clients f.channel.client ≡ true
+
     still : (f : Entry) → Known f → Known (at_number c.entry.number (with_ledger new) f)
     still f known = elim (f.number == c.entry.number) as (λ b. Known (elim b as (λ _. Entry) [ true ↦ with_ledger new f | false ↦ f ])) [ true ↦ known | false ↦ known ]
+
     same : map (after_item (sent_row k p)) (held_of rows) ≡ map (up_act k r a) (held_of rows)
     same = ap (λ (g : Channel → Channel). map g (held_of rows)) (λ i x. after-said k r a p x e i)
+
     held : held_of (sent_row k p ∷ rows) ≡ filter is_held (map (up_act k r a) (held_of rows))
     held =
         held-bare (Says k (Payload p) None) k (sends p) rows

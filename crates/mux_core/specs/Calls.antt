@@ -1,21 +1,21 @@
 -- What each call of a core does, from every log that the core stood for.
-use Rattle.std.specs.Prelude.{◌≡◌, ◌≢◌, ◌<◌, ◌≤◌, ◌+◌, ℕ, Bool, true, false, List, [], ◌∷◌, ◌++◌, map, length, nat_lt, is_some, Option, Some, None, Ok, replicate}
+use Rattle.std.specs.Prelude.{◌≡◌, ◌≢◌, ◌<◌, ℕ, Bool, true, false, List, [], ◌∷◌, nat_lt, is_some, None, Ok, replicate}
 use Rattle.ssh_grammar.specs.Messages.{Opens}
 use Rattle.ssh_grammar.specs.declared.framing.Framing.TheVariants.{Proxy}
 use Rattle.ssh_grammar.specs.Frames.{frame_payload}
 use Rattle.ssh_grammar.specs.IsFrame.{IsContent}
 use Rattle.ssh_grammar.specs.SpellMessage.{request_failure}
-use Rattle.ssh_grammar.specs.Said.{Saying, Payload}
+use Rattle.ssh_grammar.specs.Said.{Payload}
 use Rattle.proxy_frames.specs.State.{QueueState}
 use Rattle.mux_history.specs.declared.limits.TheConstants.{MAX_CLIENTS, NUMBERS_END}
 use Rattle.mux_history.specs.declared.why.Why.{Why}
 use Rattle.mux_history.specs.Gist.{Gist, Open, read_gist}
-use Rattle.mux_history.specs.Rows.{Row, rows_of, is_lost, loses, Item, Admit, Says, Gone, Heard, Fate, Goes, Drop}
+use Rattle.mux_history.specs.Rows.{Row, rows_of, is_lost, loses, Item, Admit, Says, Gone, Heard, Goes, Drop}
 use Rattle.mux_history.specs.Channels.{holder}
 use Rattle.mux_history.specs.Requests.{is_sent, wanted_by}
 use Rattle.mux_history.specs.Choices.{takes_number}
 use Rattle.mux_history.specs.Farewell.{farewell}
-use Rattle.mux_history.specs.Said.{Outcome, said_payload}
+use Rattle.mux_history.specs.Said.{said_payload}
 use Rattle.mux_history.specs.Heard.{Dest, ToMaster, ToClient, Disconnects, Breaks, dest, heard_for, heard_master}
 use Rattle.mux_history.specs.Log.{all_told, admits, bare, open_matters, with_farewell}
 use Rattle.client_teardown.specs.Leaving.{with_payloads}

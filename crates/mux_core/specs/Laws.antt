@@ -1,7 +1,7 @@
 -- What a caller of a core needs to know of the log that a core stands for.
-use Rattle.std.specs.Prelude.{◌≡◌, ◌<◌, ◌^◌, ℕ, true, false, List, [], ◌∷◌}
+use Rattle.std.specs.Prelude.{◌≡◌, ◌<◌, ◌^◌, ℕ, true, false, List, ◌∷◌}
 use Rattle.ssh_fields.specs.Fields.{AreBytes}
-use Rattle.mux_history.specs.Rows.{Row, rows_of, loses, is_admit, Fate, Goes}
+use Rattle.mux_history.specs.Rows.{Row, loses, is_admit}
 use Rattle.mux_history.specs.PlainRows.{IsPlain}
 use Rattle.mux_history.specs.Choices.{takes_number}
 use Rattle.mux_history.specs.Right.{carried_number}

@@ -1,7 +1,5 @@
 -- What a core becomes when a client is lost.
-use Rattle.std.specs.Prelude.{◌≡◌, ℕ, ◌==◌, ◌||◌, Bool, List, map}
-use Rattle.proxy_frames.specs.State.{QueueState}
-use Rattle.channel_table.specs.Entries.{Entry}
+use Rattle.std.specs.Prelude.{ℕ, ◌==◌, ◌||◌, List, map}
 use Rattle.client_teardown.specs.Leaving.{left_entries}
 use Rattle.forward_rules.specs.Step.{without_client}
 use Rattle.mux_core.specs.State.{ClientState, CoreState}

@@ -1,8 +1,8 @@
 -- How a core judges an open that a client says.
-use Rattle.std.specs.Prelude.{ℕ, Bool, true, false, List, Option, Some, None, is_some}
-use Rattle.ssh_grammar.specs.declared.numbers.TheConstants.{ADMINISTRATIVELY_PROHIBITED, UNKNOWN_CHANNEL_TYPE, RESOURCE_SHORTAGE}
+use Rattle.std.specs.Prelude.{ℕ, true, false, List, Option, Some, None, is_some}
+use Rattle.ssh_grammar.specs.declared.numbers.TheConstants.{ADMINISTRATIVELY_PROHIBITED, UNKNOWN_CHANNEL_TYPE}
 use Rattle.ssh_grammar.specs.Messages.{Opens, Session, Direct, Forwarded}
-use Rattle.ssh_grammar.specs.SpellMessage.{open_failure, not_permitted, too_many_channels, unknown_type}
+use Rattle.ssh_grammar.specs.SpellMessage.{open_failure, not_permitted, unknown_type}
 use Rattle.mux_history.specs.declared.why.Why.TheVariants as why
 use Rattle.mux_history.specs.Policy.{permits}
 use Rattle.channel_table.specs.Entries.{number_of_own}

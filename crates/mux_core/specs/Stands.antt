@@ -6,7 +6,7 @@ use Rattle.ssh_grammar.specs.declared.side.Side.TheVariants.{Up, Down}
 use Rattle.mux_history.specs.declared.limits.TheConstants.{MAX_CHANNELS, MAX_CLIENTS, NUMBERS_END}
 use Rattle.mux_history.specs.Rows.{Row, rows_of, any_of, is_admit, is_lost}
 use Rattle.mux_history.specs.Channels.{Channel, held_of}
-use Rattle.mux_history.specs.Requests.{Ask, asks, replies, wanted}
+use Rattle.mux_history.specs.Requests.{Ask, replies, wanted}
 use Rattle.mux_history.specs.Forwardings.{Forwarding, current}
 use Rattle.mux_history.specs.Farewell.{has_open_matters}
 use Rattle.mux_history.specs.Log.{entered}

@@ -1,5 +1,5 @@
 -- What a core keeps.
-use Rattle.std.specs.Prelude.{◌≡◌, ℕ, ◌==◌, ◌&&◌, Bool, true, not, List, []}
+use Rattle.std.specs.Prelude.{ℕ, ◌==◌, ◌&&◌, Bool, not, List, []}
 use Rattle.mux_history.specs.Rows.{any_of}
 use Rattle.mux_history.specs.Policy.{Policy}
 use Rattle.mux_history.specs.Requests.{Ask}

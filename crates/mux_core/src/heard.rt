@@ -128,18 +128,22 @@ impl Core {
             Ok(Gist::Requests { what, want }) => self.hear_request(payload, what, want, up),
             Ok(Gist::Succeeds { rest }) => self.hear_success(payload, rest, up),
             Ok(Gist::Refuses) => self.hear_refusal(payload, up),
-            Ok(Gist::Open {
-                what,
-                sender,
-                window,
-                maximum,
-            }) => self.hear_open(payload, &what, sender, window, maximum, up),
-            Ok(Gist::Confirmation {
-                recipient,
-                sender,
-                window,
-                maximum,
-            }) => self.hear_confirmation(payload, recipient, sender, window, maximum, up),
+            Ok(
+                Gist::Open {
+                    what,
+                    sender,
+                    window,
+                    maximum,
+                },
+            ) => self.hear_open(payload, &what, sender, window, maximum, up),
+            Ok(
+                Gist::Confirmation {
+                    recipient,
+                    sender,
+                    window,
+                    maximum,
+                },
+            ) => self.hear_confirmation(payload, recipient, sender, window, maximum, up),
             Ok(Gist::Fails { recipient }) => Ok(self.hear_failure(payload, recipient)),
             Ok(Gist::Within { recipient, act }) => Ok(self.hear_within(payload, recipient, act)),
         }

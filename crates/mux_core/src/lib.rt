@@ -18,4 +18,3 @@ mod verdict;
 pub use heard::Heard;
 pub use state::Core;
 pub use verdict::Verdict;
-

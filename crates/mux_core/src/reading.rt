@@ -162,7 +162,11 @@ fn shorten<'a>(message: Message<'a>) -> Gist<'a>
             recipient,
             act: Act::Data(bytes.len() as u32),
         },
-        Message::Extended { recipient, bytes, .. } => Gist::Within {
+        Message::Extended {
+            recipient,
+            bytes,
+            ..
+        } => Gist::Within {
             recipient,
             act: Act::Data(bytes.len() as u32),
         },
@@ -174,7 +178,11 @@ fn shorten<'a>(message: Message<'a>) -> Gist<'a>
             recipient,
             act: Act::Close,
         },
-        Message::Request { recipient, want, .. } => Gist::Within {
+        Message::Request {
+            recipient,
+            want,
+            ..
+        } => Gist::Within {
             recipient,
             act: Act::Request(want),
         },

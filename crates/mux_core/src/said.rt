@@ -124,22 +124,26 @@ impl Core {
             Ok(Gist::Within { recipient, act }) => {
                 return self.say_within(client, payload, recipient, act, up);
             }
-            Ok(Gist::Confirmation {
-                recipient,
-                sender,
-                window,
-                maximum,
-            }) => {
+            Ok(
+                Gist::Confirmation {
+                    recipient,
+                    sender,
+                    window,
+                    maximum,
+                },
+            ) => {
                 return self.say_confirmation(
                     client, payload, recipient, sender, window, maximum, up,
                 );
             }
-            Ok(Gist::Open {
-                what,
-                sender,
-                window,
-                maximum,
-            }) => {
+            Ok(
+                Gist::Open {
+                    what,
+                    sender,
+                    window,
+                    maximum,
+                },
+            ) => {
                 if let Some(verdict) = self.judge_open(client, sender, &what) {
                     return Ok(verdict);
                 }

@@ -223,12 +223,7 @@ impl Core {
     }
 
     // A channel that the client has opened.
-    pub(crate) fn add_own(
-        &mut self,
-        client: u64,
-        own: u32,
-        ledger: Ledger,
-    ) -> Result<u32, Refused>
+    pub(crate) fn add_own(&mut self, client: u64, own: u32, ledger: Ledger) -> Result<u32, Refused>
         ensures exact { RefusesAs result (own_refusal self.old.channels client own) }
         ensures fresh { IfOk result (λ n. IsFree self.old.channels n) }
         ensures ok { IfOk result (λ n. self.new ≡ record self.old { channels = self.old.channels ++ own_entry n client own ledger ∷ [] }) }

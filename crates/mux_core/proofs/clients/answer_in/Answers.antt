@@ -1,4 +1,4 @@
-use Rattle.std.proofs.Common.{rules, arith, ◌≡◌, ◌≤◌, ◌<◌, ◌∙◌, ap, sym, length, map, Bool, List}
+use Rattle.std.proofs.Common.{rules, arith, ◌≡◌, ◌∙◌, ap, sym, map, Bool, List}
 use Rattle.global_replies.specs.Replies.{after_reply, refusals_behind}
 use Rattle.mux_core.specs.declared.clients.Client.{Client}
 use Rattle.mux_core.specs.Clients.{client_state}

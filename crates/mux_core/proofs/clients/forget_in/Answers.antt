@@ -3,7 +3,6 @@ use Rattle.std.specs.Prelude.{not, ◌==◌, filter}
 use Rattle.std.proofs.lemmas.Fn.{filter_same}
 use Rattle.mux_history.proofs.Finds.{filter-no, filter-yes}
 use Rattle.mux_core.specs.declared.clients.Client.{Client}
-use Rattle.mux_core.specs.State.{ClientState}
 use Rattle.mux_core.specs.Clients.{client_state}
 use Rattle.mux_core.specs.Settling.{is_other}
 use Rattle.mux_core.proofs.clients.forget_in.Goals as goal

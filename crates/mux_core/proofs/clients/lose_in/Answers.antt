@@ -20,7 +20,7 @@ pub returns : goal.returns
 returns c =
     let over : length c.args.clients.now ≤ c.loop-c.c-index = omega arith in
     let all : c.loop-c.clients ≡ map (lose_one c.args.client) c.args.clients.now =
-        c.loop-c.invariant
-        ∙ (ap (λ (ys : List Client). map (lose_one c.args.client) ys ++ drop c.loop-c.c-index c.args.clients.now) (take_all c.loop-c.c-index c.args.clients.now over)
-        ∙ (ap (λ (ys : List Client). map (lose_one c.args.client) c.args.clients.now ++ ys) (drop_all c.loop-c.c-index c.args.clients.now over) ∙ append-nil (map (lose_one c.args.client) c.args.clients.now))) in
+    c.loop-c.invariant
+    ∙ (ap (λ (ys : List Client). map (lose_one c.args.client) ys ++ drop c.loop-c.c-index c.args.clients.now) (take_all c.loop-c.c-index c.args.clients.now over)
+    ∙ (ap (λ (ys : List Client). map (lose_one c.args.client) c.args.clients.now ++ ys) (drop_all c.loop-c.c-index c.args.clients.now over) ∙ append-nil (map (lose_one c.args.client) c.args.clients.now))) in
     ap (map client_state) all ∙ seen c.args.client c.args.clients.now

@@ -1,4 +1,4 @@
-use Rattle.std.proofs.Common.{rules, ◌≡◌, Result, Ok, Err, IfOk, Bool, ℕ, length}
+use Rattle.std.proofs.Common.{◌≡◌, Result, Ok, Err, IfOk, Bool, ℕ, length}
 use Rattle.std.specs.Prelude.{nat_lt}
 use Rattle.ssh_fields.specs.declared.out_of_memory.OutOfMemory.{OutOfMemory}
 use Rattle.mux_history.specs.declared.limits.TheConstants.{MAX_CLIENTS}

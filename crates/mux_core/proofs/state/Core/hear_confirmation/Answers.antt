@@ -1,4 +1,4 @@
-use Rattle.std.proofs.Common.{rules, arith, ◌≡◌, ◌<◌, ◌++◌, sym, ap, ◌∙◌, Some, None, subst, true, false, not, Bool}
+use Rattle.std.proofs.Common.{rules, arith, ◌≡◌, ◌<◌, ◌++◌, sym, ap, ◌∙◌, true, false}
 use Rattle.std.specs.Prelude.{is_some}
 use Rattle.ssh_grammar.specs.Frames.{frame_payload}
 use Rattle.ssh_grammar.specs.SpellMessage.{close}
@@ -36,13 +36,13 @@ returns-then-is_lost-clause-stands c = λ rows st e.
     let small : c.args.remote < 4294967296 = omega arith in
     let payload : c.as_bytes.result.now ≡ close c.args.remote = search rules in
     let sent : c.push_payload.new.self.waiting ≡ c.args.up.now.waiting ++ frame_payload (close c.args.remote) =
-        ap (λ (q : QueueState). q.waiting) c.in_ok-push_payload.ensures.ok ∙ ap (λ p. c.args.up.now.waiting ++ frame_payload p) payload in
+    ap (λ (q : QueueState). q.waiting) c.in_ok-push_payload.ensures.ok ∙ ap (λ p. c.args.up.now.waiting ++ frame_payload p) payload in
     let given : IsConfirmed c.in-Some.ledger c.confirmed_ledger-given.result c.args.window c.args.maximum = c.confirmed_ledger-given.ensures.stands (idle-ledger c.in-Some.channel c.in-Some.ledger pend) in
     let set : c.set_ledger.new.self ≡ record c.name_remote.new.self { channels = changed_at c.args.number (with_ledger (left c.confirmed_ledger-given.result)) c.name_remote.new.self.channels } =
-        c.set_ledger.ensures ∙ ap (λ l. let u : CoreState = record c.name_remote.new.self { channels = changed_at c.args.number (with_ledger l) c.name_remote.new.self.channels } in u) c.left.ensures in
+    c.set_ledger.ensures ∙ ap (λ l. let u : CoreState = record c.name_remote.new.self { channels = changed_at c.args.number (with_ledger l) c.name_remote.new.self.channels } in u) c.left.ensures in
     let named = remote-named c.args.self.now c.name_remote.new.self c.set_ledger.new.self c.in_ok-name_remote.field-0 c.args.number c.args.remote (left c.confirmed_ledger-given.result) c.if-not-branch.false c.in_ok-name_remote.ensures.ok set in
     let after : c.settle.new.self ≡ settled (record c.args.self.now { channels = changed_at c.args.number (confirm_remote c.args.remote (left c.confirmed_ledger-given.result)) c.args.self.now.channels }) c.in-Some.channel.client =
-        c.settle.ensures ∙ ap (λ (s : CoreState). settled s c.in-Some.channel.client) named in
+    c.settle.ensures ∙ ap (λ (s : CoreState). settled s c.in-Some.channel.client) named in
     confirmation-lost c.args.self.now c.settle.new.self c.args.number c.args.remote c.args.window c.args.maximum c.args.payload.now c.args.payload.now c.args.up.now c.push_payload.new.self c.in-Some.channel c.in-Some.ledger c.confirmed_ledger-given.result rows st (search rules) lost pend unused small given c.confirmed_ledger-given.ensures.confirmed c.confirmed_ledger-given.ensures.left sent after e
 
 pub returns-clause-stands : goal.returns-clause-stands

@@ -1,6 +1,5 @@
-use Rattle.std.proofs.Common.{rules, ◌≡◌, sym, ap, ◌∙◌, Some, None, subst, true, false, not, Bool}
+use Rattle.std.proofs.Common.{rules, ◌≡◌, sym, ap, ◌∙◌, true, false}
 use Rattle.mux_core.specs.State.{CoreState}
-use Rattle.mux_core.specs.Lookups.{waits}
 use Rattle.mux_core.specs.Settling.{is_lost_in, settled}
 use Rattle.channel_table.specs.Entries.{freed}
 use Rattle.mux_core.proofs.HearsOpen.{failure-early, failure-given, failure-lost, failure-none}

@@ -1,5 +1,4 @@
-use Rattle.std.proofs.Common.{rules, ◌≡◌, sym, ap, ◌∙◌, None, true, false}
-use Rattle.global_replies.specs.Asks.{what_of}
+use Rattle.std.proofs.Common.{rules, sym, None}
 use Rattle.global_replies.specs.Replies.{FirstAsked}
 use Rattle.mux_core.specs.Gists.{request_of}
 use Rattle.mux_core.proofs.HearsReplies.{none-asked, refusal-late, refusal-nobody, refusal-served}

@@ -17,5 +17,5 @@ returns-clause-stands c = λ rows st e.
     let wanted : c.args.want ≡ true = search rules in
     let payload : c.as_bytes.result.now ≡ request_failure = search rules in
     let sent : c.push_payload.new.self.waiting ≡ c.args.up.now.waiting ++ frame_payload request_failure =
-        ap (λ (q : QueueState). q.waiting) c.in_ok-push_payload.ensures.ok ∙ ap (λ p. c.args.up.now.waiting ++ frame_payload p) payload in
+    ap (λ (q : QueueState). q.waiting) c.in_ok-push_payload.ensures.ok ∙ ap (λ p. c.args.up.now.waiting ++ frame_payload p) payload in
     request-refused c.args.self.now (request_of c.args.what) c.args.payload.now c.args.payload.now c.args.up.now c.push_payload.new.self rows st (e ∙ ap (λ b. Ok (Requests (request_of c.args.what) b)) wanted) sent

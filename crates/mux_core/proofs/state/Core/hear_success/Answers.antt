@@ -1,8 +1,6 @@
-use Rattle.std.proofs.Common.{rules, ◌≡◌, sym, ap, ◌∙◌, None, true, false}
-use Rattle.global_replies.specs.Asks.{what_of}
+use Rattle.std.proofs.Common.{rules, sym, None}
 use Rattle.global_replies.specs.Replies.{FirstAsked}
 use Rattle.mux_core.specs.Gists.{request_of}
-use Rattle.mux_core.specs.Replying.{misses_port}
 use Rattle.mux_core.proofs.HearsReplies.{none-asked, success-broken, success-late, success-nobody, success-served}
 use Rattle.mux_core.proofs.state.Core.hear_success.Goals as goal
 

@@ -1,17 +1,11 @@
-use Rattle.std.proofs.Common.{rules, ◌≡◌, sym, ap, ◌∙◌, Some, None, subst, true, false}
+use Rattle.std.proofs.Common.{rules, ◌≡◌, sym, ap, ◌∙◌, true, false}
 use Rattle.ssh_grammar.specs.declared.side.Side.TheVariants.{Down}
-use Rattle.ssh_grammar.specs.SpellMessage.{with_recipient}
-use Rattle.std.specs.Prelude.{unwrap_or}
 use Rattle.window_ledger.specs.Act.{act_of}
-use Rattle.mux_core.specs.State.{ClientState, CoreState, is_served}
-use Rattle.mux_core.specs.Lookups.{acted, channel_for}
+use Rattle.mux_core.specs.State.{CoreState}
+use Rattle.mux_core.specs.Lookups.{acted}
 use Rattle.mux_core.specs.Settling.{is_lost_in, settled}
-use Rattle.channel_table.specs.declared.channel.Channel.{Channel}
-use Rattle.mux_core.specs.declared.heard.Heard.TheVariants as heard
-use Rattle.mux_history.specs.Heard.{dest}
-use Rattle.mux_core.specs.Calls.{HearsAs}
 use Rattle.mux_core.proofs.Acts.{ActsOn, plain-act, no-failure}
-use Rattle.mux_core.proofs.HearsWithin.{Shown, breaks, delivers-for, nobody, passes-for, shown-entry, shown-none}
+use Rattle.mux_core.proofs.HearsWithin.{breaks, delivers-for, nobody, passes-for, shown-entry, shown-none}
 use Rattle.mux_core.proofs.state.Core.hear_within.Goals as goal
 
 pub returns-in_default-clause-stands : goal.returns-in_default-clause-stands

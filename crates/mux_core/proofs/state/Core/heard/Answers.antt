@@ -1,9 +1,8 @@
-use Rattle.std.proofs.Common.{◌≡◌, rules}
-use Rattle.ssh_grammar.specs.declared.side.Side.TheVariants.{Down}
-use Rattle.mux_history.specs.Gist.{Confirmation, Fails, Open, Refuses, Requests, Succeeds, Transport, Within}
+use Rattle.std.proofs.Common.{rules}
+use Rattle.mux_history.specs.Gist.{Confirmation, Fails, Open, Refuses, Succeeds, Transport, Within}
 use Rattle.window_ledger.specs.Act.{act_of}
 use Rattle.mux_core.specs.declared.heard.Heard.TheVariants as heard
-use Rattle.mux_core.specs.Gists.{opening_of, request_of}
+use Rattle.mux_core.specs.Gists.{opening_of}
 use Rattle.mux_core.proofs.Dispatch.{not-one}
 use Rattle.mux_core.proofs.HearsRequest.{transport-passed}
 use Rattle.mux_core.proofs.Telling.{hears-on, hears-quiet, hears-result}

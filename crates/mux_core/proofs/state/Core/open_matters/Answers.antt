@@ -1,4 +1,4 @@
-use Rattle.std.proofs.Common.{rules, ◌≡◌, ◌<◌, ◌∙◌, sym, ap, subst, length, map, List, ℕ, [], ◌∷◌, refl, suc}
+use Rattle.std.proofs.Common.{rules}
 use Rattle.mux_core.proofs.Admits.{matters-few}
 use Rattle.mux_core.proofs.state.Core.open_matters.Goals as goal
 

@@ -1,7 +1,4 @@
-use Rattle.std.proofs.Common.{rules, ◌≡◌, sym, ap, ◌∙◌, Some, None, subst, true, false, arith}
-use Rattle.std.specs.Prelude.{◌==◌}
-use Rattle.std.proofs.lemmas.Bool.Decides.{nat_tests}
-use Rattle.ssh_fields.specs.Fields.{AreBytes}
+use Rattle.std.proofs.Common.{rules, sym, ◌∙◌}
 use Rattle.mux_core.specs.Gists.{opening_of}
 use Rattle.window_ledger.specs.Act.{act_of}
 use Rattle.mux_history.specs.Gist.{Confirmation, Fails, Within}

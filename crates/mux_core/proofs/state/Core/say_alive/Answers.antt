@@ -1,4 +1,4 @@
-use Rattle.std.proofs.Common.{rules, ◌≡◌, sym, ap, ◌∙◌}
+use Rattle.std.proofs.Common.{rules}
 use Rattle.mux_core.proofs.SaysRequests.{alive-unwanted, alive-wanted}
 use Rattle.mux_core.proofs.state.Core.say_alive.Goals as goal
 

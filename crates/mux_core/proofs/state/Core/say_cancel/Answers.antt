@@ -1,4 +1,4 @@
-use Rattle.std.proofs.Common.{rules, ◌≡◌, sym, ap, ◌∙◌, refl}
+use Rattle.std.proofs.Common.{rules, sym, refl}
 use Rattle.forward_rules.specs.Keys.{key_of}
 use Rattle.mux_core.proofs.Asking.{cancel-not, refused-result}
 use Rattle.mux_core.proofs.SaysRequests.{cancel-unwanted, cancel-wanted}

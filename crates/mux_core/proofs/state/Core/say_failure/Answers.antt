@@ -1,4 +1,4 @@
-use Rattle.std.proofs.Common.{rules, ◌≡◌, sym, ap, ◌∙◌, Some, None, subst}
+use Rattle.std.proofs.Common.{rules}
 use Rattle.mux_core.proofs.SaysFailure.{refuses, refuses-none}
 use Rattle.mux_core.proofs.state.Core.say_failure.Goals as goal
 

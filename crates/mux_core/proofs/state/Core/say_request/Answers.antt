@@ -1,4 +1,4 @@
-use Rattle.std.proofs.Common.{rules, ◌≡◌, sym, ap, ◌∙◌, refl}
+use Rattle.std.proofs.Common.{rules, refl}
 use Rattle.ssh_grammar.specs.Messages.{OtherName}
 use Rattle.mux_core.specs.Gists.{request_of}
 use Rattle.mux_core.proofs.Asking.{refused-result, roomy-result}

@@ -1,4 +1,4 @@
-use Rattle.std.proofs.Common.{rules, ◌≡◌, sym, ap, ◌∙◌, Some, None, subst}
+use Rattle.std.proofs.Common.{rules}
 use Rattle.ssh_grammar.specs.declared.side.Side.TheVariants.{Up}
 use Rattle.window_ledger.specs.Act.{act_of}
 use Rattle.mux_core.proofs.Acts.{ActsOn, plain-act, no-failure}

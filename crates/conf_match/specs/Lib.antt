@@ -1,0 +1,7 @@
+pub mod Answers
+pub mod Bytewise
+pub mod Evaluated
+pub mod Pieces
+pub mod Place
+pub mod Segments
+pub mod Spelled

@@ -1,0 +1,10 @@
+pub mod Sums
+pub mod OfferLemmas
+pub mod ChangeLemmas
+pub mod KindLemmas
+pub mod Digits
+pub mod WordLemmas
+pub mod FitLemmas
+pub mod ReadLemmas
+pub mod TimeLemmas
+pub mod PortLemmas

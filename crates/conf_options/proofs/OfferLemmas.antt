@@ -1,0 +1,241 @@
+-- What is kept behind one more value.
+use Rattle.std.proofs.Common.{◌≡◌, Bool, true, false, cond, ◌&&◌, not, List, [], ◌∷◌, ◌++◌, refl, sym, ap, ◌∙◌, append-nil, subst, ◌⊎◌, inl, inr}
+use Rattle.std.specs.Prelude.{flat_map, Result, Ok, Err, OnOk, OnErr}
+use Rattle.std.specs.List.{list_all}
+use Rattle.std.proofs.lemmas.Grind.{flat_map-append}
+use Rattle.conf_rules.specs.declared.key.Key.{Key}
+use Rattle.conf_rules.specs.declared.key.Key.TheVariants.{ProxyCommand, ProxyJump, SendEnv}
+use Rattle.conf_rules.specs.declared.value.Value.{Value}
+use Rattle.conf_rules.specs.declared.value.Value.TheVariants.{Names}
+use Rattle.conf_rules.specs.Texts.{Bytes, is_empty}
+use Rattle.conf_rules.specs.Keys.{same_key}
+use Rattle.conf_rules.specs.Kinds.{Keeping, TheFirst, Every, Patterns, Shared, keeping}
+use Rattle.conf_rules.specs.Rows.{values_among, first_of, is_shared, shared_value, with_pattern, with_patterns, patterns_in, one_value, kept}
+use Rattle.conf_rules.specs.Fits.{fits, fitting}
+use Rattle.conf_options.specs.Kept.{Given, Keeps, behind_all, is_unset, replaced, with_more, offered}
+use Rattle.conf_rules.proofs.SameKeys.{same-key, same-key-refl}
+
+cond-append : {A : Type 0} (t : Bool) (x : A) (xs ys : List A) → cond t (x ∷ (xs ++ ys)) (xs ++ ys) ≡ cond t (x ∷ xs) xs ++ ys
+cond-append true x xs ys = refl
+cond-append false x xs ys = refl
+
+pub among-append : (k : Key) (xs ys : List Given) → values_among k (xs ++ ys) ≡ values_among k xs ++ values_among k ys
+among-append k [] ys = refl
+among-append k (x ∷ xs) ys = ap (λ l. cond (same_key k x.0) (x.1 ∷ l) l) (among-append k xs ys) ∙ cond-append (same_key k x.0) x.1 (values_among k xs) (values_among k ys)
+
+among-one : (k key : Key) (v : Value) (t : Bool) → same_key k key ≡ t → values_among k ((key, v) ∷ []) ≡ cond t (v ∷ []) []
+among-one k key v t e = rw e refl
+
+among-behind : (k key : Key) (v : Value) (all : List Given) (t : Bool) → same_key k key ≡ t → values_among k (behind_all all key v) ≡ values_among k all ++ cond t (v ∷ []) []
+among-behind k key v all t e = among-append k all ((key, v) ∷ []) ∙ ap (λ l. values_among k all ++ l) (among-one k key v t e)
+
+-- another key's values stay
+among-replaced-other : (k key : Key) (w : Value) (all : List Given) → same_key k key ≡ false → values_among k (replaced key w all) ≡ values_among k all
+among-replaced-other k key w [] e = refl
+among-replaced-other k key w (g ∷ gs) e = on (same_key key g.0) refl (among-replaced-other k key w gs e)
+  where
+    on : (t : Bool) → same_key key g.0 ≡ t → values_among k (replaced key w gs) ≡ values_among k gs → values_among k (cond t ((key, w) ∷ gs) (g ∷ replaced key w gs)) ≡ values_among k (g ∷ gs)
+    on true s later = let same : key ≡ g.0 = same-key key g.0 s in let other : same_key k g.0 ≡ false = ap (same_key k) (sym same) ∙ e in rw (e, other) refl
+    on false s later = ap (λ l. cond (same_key k g.0) (g.1 ∷ l) l) later
+
+-- the first value is the new one
+pub among-replaced : (key : Key) (w v : Value) (vs : List Value) (all : List Given) → values_among key all ≡ v ∷ vs → values_among key (replaced key w all) ≡ w ∷ vs
+among-replaced key w v vs [] e = absurd cc
+among-replaced key w v vs (g ∷ gs) e = on (same_key key g.0) refl (among-replaced key w v vs gs) e
+  where
+    on : (t : Bool) → same_key key g.0 ≡ t → (values_among key gs ≡ v ∷ vs → values_among key (replaced key w gs) ≡ w ∷ vs) → cond t (g.1 ∷ values_among key gs) (values_among key gs) ≡ v ∷ vs → values_among key (cond t ((key, w) ∷ gs) (g ∷ replaced key w gs)) ≡ w ∷ vs
+    on true s later e = let tail : values_among key gs ≡ vs = cc in rw (same-key-refl key) (ap (λ l. w ∷ l) tail)
+    on false s later e = rw s (later e)
+
+-- another key's values stay where a value is offered
+stays : (how : Keeping) (k key : Key) (v : Value) (old : List Given) → same_key k key ≡ false → values_among k (offered how old key v) ≡ values_among k old
+stays TheFirst k key v old e = on (is_unset key old)
+  where
+    on : (t : Bool) → values_among k (cond t (behind_all old key v) old) ≡ values_among k old
+    on true = among-behind k key v old false e ∙ append-nil (values_among k old)
+    on false = refl
+stays Every k key v old e = among-behind k key v old false e ∙ append-nil (values_among k old)
+stays Patterns k key v old e = on (values_among key old)
+  where
+    on : (vs : List Value) → values_among k (with_more vs key v old) ≡ values_among k old
+    on [] = among-behind k key (Names (with_patterns [] (patterns_in v))) old false e ∙ append-nil (values_among k old)
+    on (w ∷ ws) = among-replaced-other k key (Names (with_patterns (patterns_in w) (patterns_in v))) old e
+stays Shared k key v old e = on (is_unset ProxyCommand old && is_unset ProxyJump old)
+  where
+    on : (t : Bool) → values_among k (cond t (behind_all old key v) old) ≡ values_among k old
+    on true = among-behind k key v old false e ∙ append-nil (values_among k old)
+    on false = refl
+
+no-more : (k key : Key) (v : Value) (given : List Given) → same_key k key ≡ false → values_among k (given ++ (key, v) ∷ []) ≡ values_among k given
+no-more k key v given e = among-behind k key v given false e ∙ append-nil (values_among k given)
+
+shared-other : (k key : Key) (v : Value) (given : List Given) → same_key k key ≡ false → shared_value k (given ++ (key, v) ∷ []) ≡ shared_value k given
+shared-other k key v [] e = rw e (on (is_shared key))
+  where
+    none : List Value
+    none = []
+
+    on : (t : Bool) → cond t none none ≡ none
+    on true = refl
+    on false = refl
+shared-other k key v (g ∷ gs) e = ap (λ l. cond (is_shared g.0) (cond (same_key k g.0) (g.1 ∷ []) []) l) (shared-other k key v gs e)
+
+kept-other : (how : Keeping) (k key : Key) (v : Value) (given : List Given) → same_key k key ≡ false → kept how k (given ++ (key, v) ∷ []) ≡ kept how k given
+kept-other TheFirst k key v given e = ap first_of (no-more k key v given e)
+kept-other Every k key v given e = no-more k key v given e
+kept-other Patterns k key v given e = ap one_value (no-more k key v given e)
+kept-other Shared k key v given e = shared-other k key v given e
+
+-- ---- the key itself
+
+more-patterns : (kept xs ys : List Bytes) → with_patterns kept (xs ++ ys) ≡ with_patterns (with_patterns kept xs) ys
+more-patterns kept [] ys = refl
+more-patterns kept (x ∷ xs) ys = more-patterns (with_pattern kept x) xs ys
+
+one-more : (vs : List Value) (v : Value) → with_patterns [] (flat_map patterns_in (vs ++ v ∷ [])) ≡ with_patterns (with_patterns [] (flat_map patterns_in vs)) (patterns_in v)
+one-more vs v = ap (with_patterns []) (flat_map-append patterns_in vs (v ∷ []) ∙ ap (λ l. flat_map patterns_in vs ++ l) (append-nil (patterns_in v))) ∙ more-patterns [] (flat_map patterns_in vs) (patterns_in v)
+
+pub shared-is : (k : Key) → is_shared k ≡ true → (k ≡ ProxyCommand) ⊎ (k ≡ ProxyJump)
+shared-is ProxyCommand e = inl refl
+shared-is ProxyJump e = inr refl
+shared-is k e = absurd cc
+
+-- whether the shared place is set
+any_shared : List Given → Bool
+any_shared [] = false
+any_shared (g ∷ gs) = let later = any_shared gs in cond (is_shared g.0) true later
+
+unset-iff : (given : List Given) → (is_empty (shared_value ProxyCommand given) && is_empty (shared_value ProxyJump given)) ≡ not (any_shared given)
+unfolding any_shared
+unset-iff [] = refl
+unset-iff (g ∷ gs) = on (is_shared g.0) refl (unset-iff gs)
+  where
+    one : (a b : Bool) → (a ≡ true) ⊎ (b ≡ true) → (is_empty (cond a (g.1 ∷ []) []) && is_empty (cond b (g.1 ∷ []) [])) ≡ false
+    one true b e = refl
+    one false true e = refl
+    one false false (inl e) = absurd cc
+    one false false (inr e) = absurd cc
+
+    which : (g.0 ≡ ProxyCommand) ⊎ (g.0 ≡ ProxyJump) → (same_key ProxyCommand g.0 ≡ true) ⊎ (same_key ProxyJump g.0 ≡ true)
+    which (inl e) = inl (ap (same_key ProxyCommand) e)
+    which (inr e) = inr (ap (same_key ProxyJump) e)
+
+    on : (t : Bool) → is_shared g.0 ≡ t → (is_empty (shared_value ProxyCommand gs) && is_empty (shared_value ProxyJump gs)) ≡ not (any_shared gs) → (is_empty (cond t (cond (same_key ProxyCommand g.0) (g.1 ∷ []) []) (shared_value ProxyCommand gs)) && is_empty (cond t (cond (same_key ProxyJump g.0) (g.1 ∷ []) []) (shared_value ProxyJump gs))) ≡ not (cond t true (any_shared gs))
+    on true e later = one (same_key ProxyCommand g.0) (same_key ProxyJump g.0) (which (shared-is g.0 e))
+    on false e later = later
+
+shared-more : (key : Key) (v : Value) (given : List Given) → is_shared key ≡ true → shared_value key (given ++ (key, v) ∷ []) ≡ cond (any_shared given) (shared_value key given) (v ∷ [])
+unfolding any_shared
+shared-more key v [] e = rw (e, same-key-refl key) refl
+shared-more key v (g ∷ gs) e = on (is_shared g.0) (shared-more key v gs e)
+  where
+    here : List Value
+    here = cond (same_key key g.0) (g.1 ∷ []) []
+
+    on : (t : Bool) → shared_value key (gs ++ (key, v) ∷ []) ≡ cond (any_shared gs) (shared_value key gs) (v ∷ []) → cond t here (shared_value key (gs ++ (key, v) ∷ [])) ≡ cond (cond t true (any_shared gs)) (cond t here (shared_value key gs)) (v ∷ [])
+    on true later = refl
+    on false later = later
+
+none-shared : (key : Key) (given : List Given) → any_shared given ≡ false → shared_value key given ≡ []
+unfolding any_shared
+none-shared key [] e = refl
+none-shared key (g ∷ gs) e = on (is_shared g.0) (none-shared key gs) e
+  where
+    on : (t : Bool) → (any_shared gs ≡ false → shared_value key gs ≡ []) → cond t true (any_shared gs) ≡ false → cond t (cond (same_key key g.0) (g.1 ∷ []) []) (shared_value key gs) ≡ []
+    on true later f = absurd cc
+    on false later f = later f
+
+own-first : (key : Key) (v : Value) (old given : List Given) → values_among key old ≡ first_of (values_among key given) → values_among key (offered TheFirst old key v) ≡ first_of (values_among key (given ++ (key, v) ∷ []))
+own-first key v old given h = rw (among-behind key key v given true (same-key-refl key), h) (on (values_among key given) h)
+  where
+    on : (vs : List Value) → values_among key old ≡ first_of vs → values_among key (cond (is_empty (first_of vs)) (behind_all old key v) old) ≡ first_of (vs ++ v ∷ [])
+    on [] k = among-behind key key v old true (same-key-refl key) ∙ ap (λ l. l ++ v ∷ []) k
+    on (x ∷ xs) k = k
+
+own-every : (key : Key) (v : Value) (old given : List Given) → values_among key old ≡ values_among key given → values_among key (offered Every old key v) ≡ values_among key (given ++ (key, v) ∷ [])
+own-every key v old given h = among-append key old ((key, v) ∷ []) ∙ (ap (λ l. l ++ values_among key ((key, v) ∷ [])) h ∙ sym (among-append key given ((key, v) ∷ [])))
+
+own-patterns : (key : Key) (v : Value) (old given : List Given) → values_among key old ≡ one_value (values_among key given) → values_among key (offered Patterns old key v) ≡ one_value (values_among key (given ++ (key, v) ∷ []))
+own-patterns key v old given h = rw (among-behind key key v given true (same-key-refl key), h) (on (values_among key given) h)
+  where
+    on : (vs : List Value) → values_among key old ≡ one_value vs → values_among key (with_more (one_value vs) key v old) ≡ one_value (vs ++ v ∷ [])
+    on [] k = among-behind key key (Names (with_patterns [] (patterns_in v))) old true (same-key-refl key) ∙ (ap (λ l. l ++ Names (with_patterns [] (patterns_in v)) ∷ []) k ∙ ap (λ l. Names (with_patterns [] l) ∷ []) (sym (append-nil (patterns_in v))))
+    on (x ∷ xs) k = among-replaced key _ _ [] old k ∙ ap (λ l. Names l ∷ []) (sym (one-more (x ∷ xs) v))
+
+own-shared : (key : Key) (v : Value) (old given : List Given) → is_shared key ≡ true → values_among key old ≡ shared_value key given
+    → values_among ProxyCommand old ≡ shared_value ProxyCommand given → values_among ProxyJump old ≡ shared_value ProxyJump given
+    → values_among key (offered Shared old key v) ≡ shared_value key (given ++ (key, v) ∷ [])
+own-shared key v old given s h c j = rw (shared-more key v given s, c, j, unset-iff given) (on (any_shared given) refl)
+  where
+    on : (t : Bool) → any_shared given ≡ t → values_among key (cond (not t) (behind_all old key v) old) ≡ cond t (shared_value key given) (v ∷ [])
+    on true e = h
+    on false e = among-behind key key v old true (same-key-refl key) ∙ ap (λ l. l ++ v ∷ []) (h ∙ none-shared key given e)
+
+shared-kept : (key : Key) → keeping key ≡ Shared → is_shared key ≡ true
+shared-kept ProxyCommand e = refl
+shared-kept ProxyJump e = refl
+shared-kept key e = absurd cc
+
+own : (how : Keeping) (key : Key) (v : Value) (old given : List Given) → keeping key ≡ how → Keeps old given → values_among key old ≡ kept how key given → values_among key (offered how old key v) ≡ kept how key (given ++ (key, v) ∷ [])
+own TheFirst key v old given e all h = own-first key v old given h
+own Every key v old given e all h = own-every key v old given h
+own Patterns key v old given e all h = own-patterns key v old given h
+own Shared key v old given e all h = own-shared key v old given (shared-kept key e) h (all.each ProxyCommand) (all.each ProxyJump)
+
+pub offered-keeps : (key : Key) (v : Value) (old given : List Given) → Keeps old given → Keeps (offered (keeping key) old key v) (given ++ (key, v) ∷ [])
+offered-keeps key v old given all = record { each = λ k. on k (same_key k key) refl }
+  where
+    on : (k : Key) (t : Bool) → same_key k key ≡ t → values_among k (offered (keeping key) old key v) ≡ kept (keeping k) k (given ++ (key, v) ∷ [])
+    on k true e = let same : k ≡ key = same-key k key e in subst (λ (x : Key). values_among x (offered (keeping key) old key v) ≡ kept (keeping x) x (given ++ (key, v) ∷ [])) (sym same) (own (keeping key) key v old given refl all (all.each key))
+    on k false e = stays (keeping key) k key v old e ∙ (all.each k ∙ sym (kept-other (keeping k) k key v given e))
+
+-- ---- values fit their keys
+
+both : (a b : Bool) → (a && b) ≡ true → (a ≡ true) × (b ≡ true)
+both true b e = (refl, e)
+both false b e = absurd cc
+
+fit-behind : (all : List Given) (key : Key) (v : Value) → list_all fitting all ≡ true → fits key v ≡ true → list_all fitting (behind_all all key v) ≡ true
+fit-behind [] key v a f = rw f refl
+fit-behind (g ∷ gs) key v a f = let h = both (fitting g) (list_all fitting gs) a in rw h.0 (fit-behind gs key v h.1 f)
+
+fit-replaced : (all : List Given) (key : Key) (v : Value) → list_all fitting all ≡ true → fits key v ≡ true → list_all fitting (replaced key v all) ≡ true
+fit-replaced [] key v a f = refl
+fit-replaced (g ∷ gs) key v a f = on (same_key key g.0) (both (fitting g) (list_all fitting gs) a) (fit-replaced gs key v (both (fitting g) (list_all fitting gs) a).1 f)
+  where
+    on : (t : Bool) → (fitting g ≡ true) × (list_all fitting gs ≡ true) → list_all fitting (replaced key v gs) ≡ true → list_all fitting (cond t ((key, v) ∷ gs) (g ∷ replaced key v gs)) ≡ true
+    on true h later = rw f h.1
+    on false h later = rw h.0 later
+
+names-fit : (key : Key) (names : List Bytes) → keeping key ≡ Patterns → fits key (Names names) ≡ true
+unfolding fits
+names-fit SendEnv names e = refl
+names-fit key names e = absurd cc
+
+pub offered-fits : (how : Keeping) (key : Key) (v : Value) (old : List Given) → keeping key ≡ how → list_all fitting old ≡ true → fits key v ≡ true → list_all fitting (offered how old key v) ≡ true
+offered-fits TheFirst key v old e a f = on (is_unset key old)
+  where
+    on : (t : Bool) → list_all fitting (cond t (behind_all old key v) old) ≡ true
+    on true = fit-behind old key v a f
+    on false = a
+offered-fits Every key v old e a f = fit-behind old key v a f
+offered-fits Patterns key v old e a f = on (values_among key old)
+  where
+    on : (vs : List Value) → list_all fitting (with_more vs key v old) ≡ true
+    on [] = fit-behind old key _ a (names-fit key _ e)
+    on (w ∷ ws) = fit-replaced old key _ a (names-fit key _ e)
+offered-fits Shared key v old e a f = on (is_unset ProxyCommand old && is_unset ProxyJump old)
+  where
+    on : (t : Bool) → list_all fitting (cond t (behind_all old key v) old) ≡ true
+    on true = fit-behind old key v a f
+    on false = a
+
+-- ---- what an offer leaves
+
+pub fitting-after : {A E : Type 0} (r : Result A E) (old new : List Given) (key : Key) (v : Value) → OnOk r (new ≡ offered (keeping key) old key v) → OnErr r (new ≡ old) → list_all fitting old ≡ true → fits key v ≡ true → list_all fitting new ≡ true
+fitting-after (Ok x) old new key v ok err a f = ap (list_all fitting) ok ∙ offered-fits (keeping key) key v old refl a f
+fitting-after (Err e) old new key v ok err a f = ap (list_all fitting) err ∙ a
+
+pub keeps-after : {A E : Type 0} (r : Result A E) (inside old new : List Given) (key : Key) (v : Value) → inside ≡ old → OnOk r (new ≡ offered (keeping key) inside key v) → OnOk r ((given : List Given) → Keeps old given → Keeps new (given ++ (key, v) ∷ []))
+keeps-after (Ok x) inside old new key v same ok = λ given keeps. subst (λ (l : List Given). Keeps l (given ++ (key, v) ∷ [])) (sym (ok ∙ ap (λ l. offered (keeping key) l key v) same)) (offered-keeps key v old given keeps)
+keeps-after (Err e) inside old new key v same ok = tt

@@ -1,0 +1,49 @@
+-- What settings keep of all values that were given.
+use Rattle.std.specs.Prelude.{◌≡◌, Bool, true, false, ◌&&◌, if◌then◌else◌, List, [], ◌∷◌, ◌++◌, bytes_eq}
+use Rattle.conf_rules.specs.declared.key.Key.{Key}
+use Rattle.conf_rules.specs.declared.key.Key.TheVariants.{ProxyCommand, ProxyJump}
+use Rattle.conf_rules.specs.declared.value.Value.{Value}
+use Rattle.conf_rules.specs.declared.value.Value.TheVariants.{Names}
+use Rattle.conf_rules.specs.Texts.{Bytes, is_empty}
+use Rattle.conf_rules.specs.Keys.{same_key}
+use Rattle.conf_rules.specs.Kinds.{Keeping, TheFirst, Every, Patterns, Shared, keeping}
+use Rattle.conf_rules.specs.Rows.{values_among, kept, with_patterns, patterns_in}
+
+-- a key with a value
+abbrev pub Given : Type 0
+Given = Key × Value
+
+-- settings keep of each key what counts of all that was given
+pub record Keeps (settings given : List Given) : Type 0 where
+  pub each : (key : Key) → values_among key settings ≡ kept (keeping key) key given
+
+-- a value behind the others
+abbrev pub behind_all : List Given → Key → Value → List Given
+behind_all all key value = all ++ (key, value) ∷ []
+
+-- whether a key has no value
+abbrev pub is_unset : Key → List Given → Bool
+is_unset key all = is_empty (values_among key all)
+
+-- the same with another first value of a key
+abbrev pub replaced : Key → Value → List Given → List Given
+replaced key value [] = []
+replaced key value (g ∷ gs) = let later = g ∷ replaced key value gs in if same_key key g.0 then (key, value) ∷ gs else later
+
+-- a value with more patterns, if there is one
+abbrev pub with_more : List Value → Key → Value → List Given → List Given
+with_more [] key value all = behind_all all key (Names (with_patterns [] (patterns_in value)))
+with_more (v ∷ vs) key value all = replaced key (Names (with_patterns (patterns_in v) (patterns_in value))) all
+
+-- what becomes of settings to which a value is offered
+abbrev pub offered : Keeping → List Given → Key → Value → List Given
+offered TheFirst all key value = if is_unset key all then behind_all all key value else all
+offered Every all key value = behind_all all key value
+offered Patterns all key value = with_more (values_among key all) key value all
+offered Shared all key value = if is_unset ProxyCommand all && is_unset ProxyJump all then behind_all all key value else all
+
+-- whether two lists of texts are one
+abbrev pub same_texts : List Bytes → List Bytes → Bool
+same_texts [] [] = true
+same_texts (x ∷ xs) (y ∷ ys) = let later = same_texts xs ys in bytes_eq x y && later
+same_texts xs ys = false

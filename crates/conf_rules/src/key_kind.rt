@@ -1,0 +1,18 @@
+use crate::key::Key;
+
+/// What a keyword of ssh_config(5) is.
+#[derive(Clone, Copy, Debug, Drop, PartialEq, Eq)]
+pub enum KeyKind {
+    /// It sets a key.
+    Key(Key),
+    /// It opens a block for the names that patterns take.
+    Host,
+    /// It opens a block for where criteria hold.
+    Match,
+    /// It includes files.
+    Include,
+    /// It is known, and its rest is neither checked nor listed.
+    Unchecked,
+    /// It isn't known.
+    Unknown,
+}
