@@ -15,7 +15,7 @@ use Rattle.conf_rules.specs.Keywords.{meaning_of}
 use Rattle.conf_rules.specs.Values.{values_of, value_of}
 use Rattle.conf_rules.specs.Sources.{all_lines}
 use Rattle.conf_rules.specs.Entries.{entry_of}
-use Rattle.conf_rules.specs.Resolution.{rows_from, rows_by, all_rows, row_of, line_limit}
+use Rattle.conf_rules.specs.Resolution.{rows_from, rows_behind, rows_by, all_rows, row_of, line_limit}
 use Rattle.conf_rules.specs.Listing.{control_path_at}
 use Rattle.conf_rules.specs.Outcome.{Machine, Opens, command_outcome}
 use Rattle.conf_words.specs.declared.reader.WordsError.{WordsError}
@@ -72,7 +72,7 @@ not-none : (text : Bytes) → is_plain_path text ≡ true → same_word text (co
 not-none text e = let fixed = (both (not (is_empty text)) (is_fixed_path text) e).1 in denied (same_word text (codes "none")) (both (not (same_word text (codes "none"))) (not (list_any is_expanding_byte text)) fixed).0
 
 pub opens : (m : Machine) (original control transport : Bytes) → is_plain_path control ≡ true → command_outcome m (commands.Master (record { original = original; lines = control_lines_of control; from = Nothing }) transport [] []) ≡ Opens control transport [] []
-unfolding values key_of meaning_of values_of value_of all_lines entry_of rows_from rows_by all_rows row_of line_limit control_path_at
+unfolding values key_of meaning_of values_of value_of all_lines entry_of rows_from rows_behind rows_by all_rows row_of line_limit control_path_at
 opens m original control transport e = rw (not-none control e) (rw (path-expanded _ control e) refl)
 
 -- ---- what is read of words
