@@ -1,9 +1,10 @@
-ghost use Rattle.std.specs.Prelude.{◌≡◌, ◌+◌, ◌≤◌, ◌++◌, ◌==◌, length, max, OnOk, OnErr, vec_capacity, vec_len};
+ghost use Rattle.std.specs.Prelude.{◌≡◌, ◌+◌, ◌≤◌, ◌++◌, ◌==◌, length, max, OnOk, OnErr};
 ghost use Rattle.ssh_grammar.specs.declared.framing.Framing.TheVariants.{Proxy};
 ghost use Rattle.ssh_grammar.specs.Frames.{frame_payload};
 ghost use Rattle.ssh_grammar.specs.IsFrame.{IsContent};
 ghost use Rattle.proxy_frames.specs.Queued.{empty_queue, with_bytes, frame_length, with_reserved, without_first};
 
+use bytes::BytesMut;
 use ssh_fields::OutOfMemory;
 use std::alloc::Global;
 use std::marker::Model;
@@ -14,23 +15,20 @@ const HEADER: usize = 5;
 /// Bytes that wait to be written, in order, and room for more that lasts.
 #[derive(Drop)]
 pub struct Queue {
-    bytes: Vec<u8>,
-    /// How many of them were taken.
-    gone: usize,
+    bytes: BytesMut,
     /// For how many more there is room that lasts.
     spare: usize,
 }
 
 impl Model for Queue {
-    ghost use Rattle.std.specs.Prelude.{◌+◌, ◌≤◌, length, drop, vec_capacity};
+    ghost use Rattle.std.specs.Prelude.{◌≤◌};
     ghost use Rattle.proxy_frames.specs.State.{QueueState};
 
     ghost Value = { QueueState };
 
-    ghost view = { λ a. record { waiting = drop a.gone a.bytes.items; spare = a.spare } };
+    ghost view = { λ a. record { waiting = a.bytes.items; spare = a.spare } };
 
-    ghost invariant = { λ a. (a.gone ≤ length a.bytes.items)
-        × (length a.bytes.items + a.spare ≤ vec_capacity a.bytes) };
+    ghost invariant = { λ a. a.spare ≤ a.bytes.spare };
 }
 
 impl Queue {
@@ -39,8 +37,7 @@ impl Queue {
         ensures { result ≡ empty_queue }
     {
         Queue {
-            bytes: Vec::new(alloc),
-            gone: 0,
+            bytes: BytesMut::new(alloc),
             spare: 0,
         }
     }
@@ -52,7 +49,7 @@ impl Queue {
     {
         let room = b.len().checked_add(self.spare).ok_or(OutOfMemory)?;
         self.bytes.reserve(room)?;
-        put(&mut self.bytes, b);
+        self.bytes.extend_reserved(b);
         Ok(())
     }
 
@@ -96,14 +93,14 @@ impl Queue {
     pub fn front(&self) -> &[u8]
         ensures { result.now ≡ self.now.waiting }
     {
-        &self.bytes[self.gone..]
+        self.bytes.as_slice()
     }
 
     /// How many bytes wait.
     pub fn len(&self) -> usize
         ensures { result ≡ length self.now.waiting }
     {
-        self.bytes.len() - self.gone
+        self.bytes.len()
     }
 
     /// Whether none waits.
@@ -118,33 +115,19 @@ impl Queue {
         requires { n ≤ length self.old.waiting }
         ensures { self.new ≡ without_first n self.old }
     {
-        self.gone += n;
-        // What is gone is dropped where it is half of all or more.
-        if self.bytes.len() - self.gone <= self.gone {
-            let _ = self.bytes.drain(..self.gone);
-            self.gone = 0;
-        }
+        self.bytes.advance(n);
     }
 }
 
-// Adds bytes for which there is room.
-fn put(out: &mut Vec<u8>, bytes: &[u8])
-    requires { vec_len out.old + length bytes.now ≤ vec_capacity out.old }
-    ensures items { out.new.items ≡ out.old.items ++ bytes.now }
-    ensures capacity { vec_capacity out.old ≤ vec_capacity out.new }
-{
-    let _ = out.extend_from_slice(bytes);
-}
-
 // Adds the proxy frame of a payload, for which there is room.
-fn put_payload(out: &mut Vec<u8>, payload: &[u8])
+fn put_payload(out: &mut BytesMut, payload: &[u8])
     requires payload { IsContent Proxy payload.now }
-    requires room { vec_len out.old + frame_length payload.now ≤ vec_capacity out.old }
+    requires room { frame_length payload.now ≤ out.old.spare }
     ensures items { out.new.items ≡ out.old.items ++ frame_payload payload.now }
-    ensures capacity { vec_capacity out.old ≤ vec_capacity out.new }
+    ensures spare { out.new.spare + frame_length payload.now ≡ out.old.spare }
 {
     let length = payload.len() as u32 + 1;
-    put(out, &length.to_be_bytes());
-    put(out, &[0]);
-    put(out, payload);
+    out.extend_reserved(&length.to_be_bytes());
+    out.extend_reserved(&[0]);
+    out.extend_reserved(payload);
 }

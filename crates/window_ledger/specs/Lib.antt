@@ -1,3 +1,4 @@
 pub mod Act
 pub mod Stands
 pub mod Step
+pub mod Leaving

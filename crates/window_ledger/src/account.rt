@@ -1,4 +1,5 @@
 ghost use Rattle.std.specs.Prelude.{◌≡◌, true};
+ghost use Rattle.window_ledger.specs.Leaving.{is_closed};
 ghost use Rattle.window_ledger.specs.Step.{judged, own_act_breach, own_breach, other_breach, own_after, other_after};
 ghost use Rattle.window_ledger.specs.declared.act.Act.TheVariants.{Data, Grant, Eof, Request, Reply};
 ghost use Rattle.window_ledger.specs.declared.account.Speech.TheVariants.{Speaking};
@@ -18,6 +19,16 @@ pub enum Speech {
     Ended,
     /// Nothing: it has sent CLOSE.
     Closed,
+}
+
+/// Whether the sender has sent CLOSE.
+pub fn is_closed(speech: Speech) -> bool
+    ensures { result ≡ is_closed speech }
+{
+    match speech {
+        Speech::Speaking | Speech::Ended => false,
+        Speech::Closed => true,
+    }
 }
 
 /// One direction of a confirmed channel.

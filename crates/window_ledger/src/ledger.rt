@@ -3,10 +3,11 @@ ghost use Rattle.mux_history.specs.Gist.{Grants, Carries, Ends, Closes, Asks, An
 ghost use Rattle.mux_history.specs.Channels.{Channel, is_confirmed};
 ghost use Rattle.mux_history.specs.Ledger.{room};
 ghost use Rattle.window_ledger.specs.Act.{act_of};
+ghost use Rattle.window_ledger.specs.Leaving.{is_over, left, left_state, said_close};
 ghost use Rattle.window_ledger.specs.Stands.{Stands, IsBegun, Judges, GoesOn, IsConfirmed, AddsUp, both_closed, confirmed};
 ghost use Rattle.window_ledger.specs.Step.{judged, between, own_after, other_after, breach_in, state_after};
 
-use crate::account::{Account, Speech};
+use crate::account::{Account, Speech, is_closed};
 use crate::act::Act;
 use ssh_grammar::{Breach, Side};
 
@@ -43,6 +44,22 @@ fn after(state: State, way: Side, act: Act) -> Result<State, Breach>
             let (down, up) = exchange(down, up, act)?;
             Ok(State::Confirmed { up, down })
         }
+    }
+}
+
+/// After the client's CLOSE, in a channel that is confirmed.
+fn left(state: State) -> State
+    ensures { result ≡ left_state state }
+{
+    match state {
+        State::Opened { .. } => state,
+        State::Confirmed { up, down } => State::Confirmed {
+            up: Account {
+                speech: Speech::Closed,
+                ..up
+            },
+            down,
+        },
     }
 }
 
@@ -106,7 +123,8 @@ impl Ledger {
         };
     }
 
-    fn take(&mut self, way: Side, act: Act) -> Result<(), Breach>
+    /// Any of the messages below, for a caller that has told them apart already.
+    pub fn take(&mut self, way: Side, act: Act) -> Result<(), Breach>
         ensures exact { Judges self.old way (act_of act) result }
         ensures ok { OnOk result (GoesOn self.old self.new way (act_of act)) }
         ensures unchanged { OnErr result (self.new ≡ self.old) }
@@ -178,13 +196,31 @@ impl Ledger {
 
     /// Whether both sides have sent CLOSE.
     pub fn closed(&self) -> bool
+        ensures test { result ≡ is_over self.now }
         ensures exact { (x : Channel) → Stands self.now x → result ≡ both_closed x }
     {
         match self.state {
             State::Opened { .. } => false,
-            State::Confirmed { up, down } => {
-                up.speech == Speech::Closed && down.speech == Speech::Closed
-            }
+            State::Confirmed { up, down } => is_closed(up.speech) && is_closed(down.speech),
+        }
+    }
+
+    /// Whether the client has sent CLOSE.
+    pub fn said_close(&self) -> bool
+        ensures { result ≡ said_close self.now }
+    {
+        match self.state {
+            State::Opened { .. } => false,
+            State::Confirmed { up, .. } => is_closed(up.speech),
+        }
+    }
+
+    /// What a client that is lost leaves: in a channel that is confirmed its CLOSE.
+    pub fn left(self) -> Ledger
+        ensures { result ≡ left self }
+    {
+        Ledger {
+            state: left(self.state),
         }
     }
 

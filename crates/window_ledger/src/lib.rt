@@ -7,6 +7,7 @@ mod account;
 mod act;
 mod ledger;
 
+pub use act::Act;
 pub use ledger::Ledger;
 pub use ssh_grammar::{Breach, Side};
 

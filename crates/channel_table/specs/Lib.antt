@@ -1,0 +1,4 @@
+pub mod Entries
+pub mod Stands
+pub mod Indices
+pub mod Slots

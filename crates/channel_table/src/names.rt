@@ -1,0 +1,121 @@
+ghost use Rattle.std.specs.Prelude.{◌≡◌, ◌<◌, ℕ, Bool, [], ◌∷◌, ◌++◌, length, IsSome, Some, None, OnOk, IfOk, OnErr, IfErr, nat_eq, not, filter, ◌==◌, if◌then◌else◌};
+ghost use Rattle.indexmap.specs.IndexMap.{get};
+ghost use Rattle.channel_table.specs.Entries.{IsFree};
+ghost use Rattle.channel_table.specs.Slots.{IsReady};
+ghost use Rattle.channel_table.specs.Indices.{pair_eq, paired, is_key, listed};
+
+use crate::channel::Refused;
+use crate::numbers::Numbers;
+use crate::slots::Slots;
+use indexmap::IndexMap;
+use mux_history::limits::MAX_CHANNELS;
+use ssh_fields::OutOfMemory;
+
+/// Makes sure that a client has a list of its channels.
+pub fn make_list(clients: &mut IndexMap<u64, Numbers>, client: u64) -> Result<(), OutOfMemory>
+    ensures there { OnOk result (IsSome (get nat_eq clients.new client)) }
+    ensures same { (k : ℕ) → listed (get nat_eq clients.new k) ≡ listed (get nat_eq clients.old k) }
+{
+    if !clients.contains_key(&client) {
+        let numbers = Numbers::new(*clients.allocator())?;
+        clients.insert(client, numbers)?;
+    }
+    Ok(())
+}
+
+/// Adds a number to a client's list.
+pub fn add_number(clients: &mut IndexMap<u64, Numbers>, client: u64, number: u32)
+    requires there { IsSome (get nat_eq clients.old client) }
+    requires room { length (listed (get nat_eq clients.old client)) < MAX_CHANNELS }
+    ensures { (k : ℕ) → listed (get nat_eq clients.new k) ≡ (if nat_eq client k
+        then listed (get nat_eq clients.old k) ++ number ∷ [] else listed (get nat_eq clients.old k)) }
+{
+    if let Some(numbers) = clients.get_mut(&client) {
+        numbers.push(number);
+    }
+}
+
+/// Takes a number out of a client's list, and the list where it was the last one.
+pub fn drop_number(clients: &mut IndexMap<u64, Numbers>, client: u64, number: u32)
+    ensures { (k : ℕ) → listed (get nat_eq clients.new k) ≡ (if nat_eq client k
+        then filter (λ x. not (x == number)) (listed (get nat_eq clients.old k))
+        else listed (get nat_eq clients.old k)) }
+{
+    let Some(numbers) = clients.get_mut(&client) else {
+        return;
+    };
+    numbers.remove(number);
+    if numbers.is_empty() {
+        clients.swap_remove(&client);
+    }
+}
+
+/// Makes sure that there are a free slot and a list for a client, and gives the slot's number.
+pub fn make_room(
+    slots: &mut Slots,
+    clients: &mut IndexMap<u64, Numbers>,
+    client: u64,
+) -> Result<u32, Refused>
+    ensures front { IfOk result (λ number. slots.new.front ≡ Some number) }
+    ensures ready { OnOk result (IsReady slots.new) }
+    ensures fresh { IfOk result (λ number. IsFree slots.old.entries number) }
+    ensures entries { slots.new.entries ≡ slots.old.entries }
+    ensures there { OnOk result (IsSome (get nat_eq clients.new client)) }
+    ensures same { (k : ℕ) → listed (get nat_eq clients.new k) ≡ listed (get nat_eq clients.old k) }
+    ensures err { IfErr result (λ refused. refused ≡ Refused.OutOfMemory) }
+{
+    slots.make_room()?;
+    make_list(clients, client)?;
+    Ok(slots.front())
+}
+
+/// Notes the number for a client's own number, which is new.
+pub fn insert_own(
+    index: &mut IndexMap<(u64, u32), u32>,
+    client: u64,
+    own: u32,
+    number: u32,
+) -> Result<(), Refused>
+    ensures ok { OnOk result ((k c : ℕ) → get pair_eq index.new (k, c)
+        ≡ (if pair_eq (client, own) (k, c) then Some number else get pair_eq index.old (k, c))) }
+    ensures unchanged { OnErr result ((k c : ℕ) → get pair_eq index.new (k, c) ≡ get pair_eq index.old (k, c)) }
+    ensures err { IfErr result (λ refused. refused ≡ Refused.OutOfMemory) }
+{
+    index.insert((client, own), number)?;
+    Ok(())
+}
+
+/// Notes the number for a number of the server's, which is new.
+pub fn insert_remote(
+    index: &mut IndexMap<u32, u32>,
+    remote: u32,
+    number: u32,
+) -> Result<(), Refused>
+    ensures ok { OnOk result ((s : ℕ) → get nat_eq index.new s
+        ≡ (if nat_eq remote s then Some number else get nat_eq index.old s)) }
+    ensures unchanged { OnErr result ((s : ℕ) → get nat_eq index.new s ≡ get nat_eq index.old s) }
+    ensures err { IfErr result (λ refused. refused ≡ Refused.OutOfMemory) }
+{
+    index.insert(remote, number)?;
+    Ok(())
+}
+
+/// Forgets a client's own number, if there is one.
+pub fn remove_own(index: &mut IndexMap<(u64, u32), u32>, client: u64, own: Option<u32>)
+    ensures { (k c : ℕ) → get pair_eq index.new (k, c)
+        ≡ (if is_key pair_eq (paired client own) (k, c) then None else get pair_eq index.old (k, c)) }
+{
+    if let Some(own) = own {
+        index.swap_remove(&(client, own));
+    }
+}
+
+/// Forgets a number of the server's, if there is one.
+pub fn remove_remote(index: &mut IndexMap<u32, u32>, remote: Option<u32>)
+    ensures { (s : ℕ) → get nat_eq index.new s
+        ≡ (if is_key nat_eq remote s then None else get nat_eq index.old s) }
+{
+    if let Some(remote) = remote {
+        index.swap_remove(&remote);
+    }
+}

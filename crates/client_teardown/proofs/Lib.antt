@@ -1,0 +1,7 @@
+pub mod Sending
+pub mod Lists
+pub mod Leaves
+pub mod Noting
+pub mod Stepping
+pub mod Cancels
+pub mod Meaning

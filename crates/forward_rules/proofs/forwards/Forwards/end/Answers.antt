@@ -1,0 +1,16 @@
+use Rattle.std.proofs.Common.{rules, map, ap, sym, subst, ◌∙◌}
+use Rattle.std.specs.Prelude.{not}
+use Rattle.std.proofs.lemmas.Fn.{filter_same}
+use Rattle.forward_rules.specs.declared.listed.Listed.{Listed}
+use Rattle.forward_rules.specs.Listing.{forward_of}
+use Rattle.forward_rules.specs.Step.{is_cancelled_at}
+use Rattle.forward_rules.specs.Taking.{AreFew}
+use Rattle.forward_rules.proofs.Counts.{few-filter}
+use Rattle.forward_rules.proofs.Places.{filter-seen}
+use Rattle.forward_rules.proofs.forwards.Forwards.end.Goals as goal
+
+pub invariant_of-self : goal.invariant_of-self
+invariant_of-self c = subst AreFew (sym (ap (map forward_of) (filter_same _ (λ (f : Listed). not (is_cancelled_at c.args.client c.args.rank (forward_of f))) _ (λ x b f' k. search rules) _ _ c.retain.ensures.filtered) ∙ filter-seen (λ f. not (is_cancelled_at c.args.client c.args.rank f)) c.self.inside.listed.items)) (few-filter (λ f. not (is_cancelled_at c.args.client c.args.rank f)) (map forward_of c.self.inside.listed.items) c.self.invariant)
+
+pub returns : goal.returns
+returns c = rw (← c.self.view_is) (ap (map forward_of) (filter_same _ (λ (f : Listed). not (is_cancelled_at c.args.client c.args.rank (forward_of f))) _ (λ x b f' k. search rules) _ _ c.retain.ensures.filtered) ∙ filter-seen (λ f. not (is_cancelled_at c.args.client c.args.rank f)) c.self.inside.listed.items)

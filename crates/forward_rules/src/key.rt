@@ -1,0 +1,65 @@
+ghost use Rattle.std.specs.Prelude.{◌≡◌};
+ghost use Rattle.mux_history.specs.Keys.{is_key};
+ghost use Rattle.forward_rules.specs.Keys.{key_of, own_key_of, IsShort};
+ghost use Rattle.forward_rules.specs.Step.{with_port};
+
+use ssh_fields::Small;
+
+/// What is listened on: an address with a port (RFC 4254, section 7.1), or the path of a Unix socket (OpenSSH's
+/// PROTOCOL, section 2.4). The two are never the same.
+#[derive(Clone, Copy, Debug)]
+pub enum Key<'a> {
+    Tcp { address: &'a [u8], port: u32 },
+    Path(&'a [u8]),
+}
+
+/// The same, with bytes of its own.
+#[derive(Drop)]
+pub enum OwnKey {
+    Tcp { address: Small, port: u32 },
+    Path(Small),
+}
+
+impl OwnKey {
+    /// A copy of a key whose address or path has at most 255 bytes.
+    pub fn copy(key: Key<'_>) -> OwnKey
+        requires { IsShort (key_of key) }
+        ensures { own_key_of result ≡ key_of key.entry }
+    {
+        match key {
+            Key::Tcp { address, port } => OwnKey::Tcp {
+                address: Small::copy(address),
+                port,
+            },
+            Key::Path(path) => OwnKey::Path(Small::copy(path)),
+        }
+    }
+
+    /// Whether it is this key: of its kind, with its bytes and its port.
+    pub fn is(&self, key: Key<'_>) -> bool
+        ensures { result ≡ is_key (own_key_of self.now) (key_of key.entry) }
+    {
+        match (self, key) {
+            (
+                OwnKey::Tcp { address, port },
+                Key::Tcp {
+                    address: a,
+                    port: p,
+                },
+            ) => { *port == p && address.as_bytes() == a }
+            (OwnKey::Path(path), Key::Path(p)) => path.as_bytes() == p,
+            _ => false,
+        }
+    }
+
+    /// Where port 0 was asked, the port that the server chose.
+    pub(crate) fn bind(&mut self, chosen: u32)
+        ensures { own_key_of self.new ≡ with_port chosen (own_key_of self.old) }
+    {
+        if let OwnKey::Tcp { port, .. } = self {
+            if *port == 0 {
+                *port = chosen;
+            }
+        }
+    }
+}

@@ -1,0 +1,18 @@
+//! Permissions and remote forwardings: what the permission lists let a client open and listen on, and which client a
+//! forwarded connection goes to.
+#![tactic(auto)]
+
+mod entry;
+mod forwards;
+mod key;
+mod listed;
+mod policy;
+mod reading;
+mod steps;
+
+pub use forwards::{ForwardRefused, Forwards};
+pub use key::{Key, OwnKey};
+pub use policy::{Policy, PolicyError};
+
+#[cfg(test)]
+mod tests;

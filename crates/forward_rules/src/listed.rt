@@ -1,0 +1,15 @@
+ghost use Rattle.forward_rules.specs.Keys.{own_key_of, IsShort};
+
+use crate::key::OwnKey;
+
+/// A forwarding that is asked or live.
+#[derive(Drop)]
+pub struct Listed {
+    pub client: u64,
+    /// The key that was asked, or, once it is live, the one that is listened on.
+    pub key: OwnKey,
+    pub live: bool,
+    /// How many cancels of the same client without a reply were sent before the one that means it.
+    pub cancel: Option<usize>,
+    ghost short: { IsShort (own_key_of key) },
+}

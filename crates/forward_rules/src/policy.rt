@@ -1,0 +1,98 @@
+ghost use Rattle.std.specs.Prelude.{◌≡◌};
+ghost use Rattle.ssh_grammar.specs.Messages as grammar;
+ghost use Rattle.mux_history.specs.Policy.{permits};
+ghost use Rattle.forward_rules.specs.Allows.{error_in, read_policy, ReadsAs};
+
+use crate::entry::Allowed;
+use crate::key::Key;
+use crate::reading::{ListFault, read_list};
+use ssh_fields::Texts;
+use std::alloc::Global;
+use std::marker::Model;
+use thiserror::Error;
+
+/// Why permission lists are not read.
+#[derive(Clone, Copy, Debug, PartialEq, Eq, Error)]
+pub enum PolicyError {
+    /// The first text that is no entry, those of the list for opens before those of the list for forwardings; `at` is
+    /// its place in its list, counted from 0.
+    #[error("text {at} of a permission list is no entry, for opens: {for_open}")]
+    BadEntry { for_open: bool, at: usize },
+    #[error("out of memory")]
+    OutOfMemory,
+}
+
+/// What clients may open, and what they may have listened on.
+#[derive(Drop)]
+pub struct Policy {
+    opens: Allowed,
+    listens: Allowed,
+}
+
+impl Model for Policy {
+    ghost use Rattle.mux_history.specs.Policy as history;
+    ghost use Rattle.forward_rules.specs.Allows.{allow_of};
+
+    ghost Value = { history.Policy };
+
+    ghost view = { λ a. record { opens = allow_of a.opens; listens = allow_of a.listens } };
+}
+
+/// The list in which the first bad text stands, and its place there.
+fn bad_in(for_open: bool, fault: ListFault) -> PolicyError
+    ensures { result ≡ error_in for_open fault }
+{
+    match fault {
+        ListFault::Bad { at } => PolicyError::BadEntry { for_open, at },
+        ListFault::OutOfMemory => PolicyError::OutOfMemory,
+    }
+}
+
+impl Policy {
+    /// Reads the texts of `--permit-open` and of `--permit-listen`: `any`, `none`, or entries `/path`, `host:port`,
+    /// `[address]:port` and `port`, with `*` for host or port. A list without texts permits all.
+    pub fn read(alloc: Global, opens: &Texts, listens: &Texts) -> Result<Policy, PolicyError>
+        ensures { ReadsAs result (read_policy opens.now listens.now) }
+    {
+        let opens = match read_list(alloc, opens.as_slice()) {
+            Ok(allowed) => allowed,
+            Err(fault) => return Err(bad_in(true, fault)),
+        };
+        let listens = match read_list(alloc, listens.as_slice()) {
+            Ok(allowed) => allowed,
+            Err(fault) => return Err(bad_in(false, fault)),
+        };
+        Ok(Policy { opens, listens })
+    }
+
+    /// Whether a channel may be opened to this host and port (`direct-tcpip`).
+    pub fn permits_open(&self, host: &[u8], port: u32) -> bool
+        ensures { result ≡ permits self.now.opens (grammar.Tcp host.now port) }
+    {
+        self.opens.permits(Key::Tcp {
+            address: host,
+            port,
+        })
+    }
+
+    /// Whether a channel may be opened to this path (`direct-streamlocal@openssh.com`).
+    pub fn permits_open_path(&self, path: &[u8]) -> bool
+        ensures { result ≡ permits self.now.opens (grammar.Path path.now) }
+    {
+        self.opens.permits(Key::Path(path))
+    }
+
+    /// Whether this address and port may be listened on (`tcpip-forward`).
+    pub fn permits_listen(&self, address: &[u8], port: u32) -> bool
+        ensures { result ≡ permits self.now.listens (grammar.Tcp address.now port) }
+    {
+        self.listens.permits(Key::Tcp { address, port })
+    }
+
+    /// Whether this path may be listened on (`streamlocal-forward@openssh.com`).
+    pub fn permits_listen_path(&self, path: &[u8]) -> bool
+        ensures { result ≡ permits self.now.listens (grammar.Path path.now) }
+    {
+        self.listens.permits(Key::Path(path))
+    }
+}

@@ -1,0 +1,87 @@
+ghost use Rattle.std.specs.Prelude.{◌≡◌, ◌++◌, [], ◌∷◌, ◌≤◌, map, length, filter, IfSome, OnOk, OnErr};
+ghost use Rattle.global_replies.specs.Asks.{IsShort};
+ghost use Rattle.global_replies.specs.Replies.{asked_of, request_of, FirstAsked, rest_of, is_of};
+
+use crate::ask::{Ask, Asked};
+use ssh_fields::OutOfMemory;
+use std::alloc::Global;
+use std::collections::VecDeque;
+use std::marker::Model;
+
+/// The most requests that wait.
+const MOST: usize = 4_294_967_295;
+
+/// The requests of all clients that were sent and have no reply, in the order in which they were sent.
+#[derive(Drop)]
+pub struct Askers {
+    waiting: VecDeque<Asked>,
+}
+
+impl Model for Askers {
+    ghost use Rattle.std.specs.Prelude.{List, map, length, ◌≤◌};
+    ghost use Rattle.mux_history.specs.Requests.{Ask};
+    ghost use Rattle.global_replies.specs.Replies.{asked_of};
+
+    ghost Value = { List Ask };
+
+    ghost view = { λ a. map asked_of a.waiting.items };
+
+    ghost invariant = { λ a. length a.waiting.items ≤ 4294967295 };
+}
+
+impl Askers {
+    /// Nobody has asked.
+    pub fn new(alloc: Global) -> Askers
+        ensures { result ≡ [] }
+    {
+        Askers {
+            waiting: VecDeque::new(alloc),
+        }
+    }
+
+    /// A request of a client is sent, whose address or path has at most 255 bytes. An `Err` also comes where
+    /// 2^32 - 1 requests wait.
+    pub fn ask(&mut self, client: u64, what: Ask) -> Result<(), OutOfMemory>
+        requires { IsShort what }
+        ensures ok { OnOk result (self.new ≡ self.old ++ request_of client what ∷ []) }
+        ensures unchanged { OnErr result (self.new ≡ self.old) }
+    {
+        if self.waiting.len() >= MOST {
+            return Err(OutOfMemory);
+        }
+        self.waiting.push_back(Asked { client, what })?;
+        Ok(())
+    }
+
+    /// The server's next reply answers the request that waits longest: it is taken out. None where none waits.
+    pub fn answered(&mut self) -> Option<(u64, Ask)>
+        ensures first { FirstAsked self.old result }
+        ensures rest { self.new ≡ rest_of self.old }
+        ensures short { IfSome result (λ a. IsShort a.1) }
+    {
+        let asked = self.waiting.pop_front()?;
+        Some((asked.client, asked.what))
+    }
+
+    /// How many requests of a client were sent and wait for their reply.
+    pub fn count(&self, client: u64) -> u32
+        ensures { result ≡ length (filter (is_of client) self.now) }
+    {
+        let (front, back) = self.waiting.as_slices();
+        count_in(front, client) + count_in(back, client)
+    }
+}
+
+fn count_in(waiting: &[Asked], client: u64) -> u32
+    requires { length waiting.now ≤ 4294967295 }
+    ensures exact { result ≡ length (filter (is_of client) (map asked_of waiting.now)) }
+    ensures few { result ≤ length waiting.now }
+{
+    let mut count = 0;
+    for asked in waiting {
+        if asked.client == client {
+            count += 1;
+        }
+    }
+    count
+}

@@ -1,0 +1,174 @@
+ghost use Rattle.std.specs.Prelude.{IfSome};
+ghost use Rattle.global_replies.specs.Asks.{IsShort};
+
+use super::*;
+use Step::{Refused, Replied, Sent};
+use ssh_fields::{OutOfMemory, Small};
+
+/// A client, and what it asks: the request, its address or path, and its port.
+type Row = (u64, Kind, &'static [u8], u32);
+
+/// The requests by their names.
+#[derive(Clone, Copy, PartialEq, Eq)]
+enum Kind {
+    Alive,
+    Port,
+    PortEnds,
+    Path,
+    PathEnds,
+}
+
+/// Three clients ask by turns; one asks twice for one address and port.
+const ASKED: [Row; 7] = [
+    (7, Kind::Port, b"localhost", 8_080),
+    (9, Kind::Alive, b"", 0),
+    (7, Kind::PortEnds, b"localhost", 8_080),
+    (3, Kind::Path, b"/run/a", 0),
+    (7, Kind::Port, b"localhost", 8_080),
+    (3, Kind::PathEnds, b"/run/a", 0),
+    (9, Kind::Port, b"", 0),
+];
+
+fn ask_of(kind: Kind, text: &[u8], port: u32) -> Option<Ask>
+    ensures { IfSome result IsShort }
+{
+    if text.len() > 255 {
+        return None;
+    }
+    let text = Small::copy(text);
+    Some(match kind {
+        Kind::Alive => Ask::KeepAlive,
+        Kind::Port => Ask::Forward {
+            address: text,
+            port,
+        },
+        Kind::PortEnds => Ask::Cancel {
+            address: text,
+            port,
+        },
+        Kind::Path => Ask::PathForward { path: text },
+        Kind::PathEnds => Ask::PathCancel { path: text },
+    })
+}
+
+fn is(ask: &Ask, row: &Row) -> bool {
+    let (_, kind, text, port) = *row;
+    match ask {
+        Ask::KeepAlive => kind == Kind::Alive,
+        Ask::Forward { address, port: p } => {
+            kind == Kind::Port && address.as_bytes() == text && *p == port
+        }
+        Ask::Cancel { address, port: p } => {
+            kind == Kind::PortEnds && address.as_bytes() == text && *p == port
+        }
+        Ask::PathForward { path } => kind == Kind::Path && path.as_bytes() == text,
+        Ask::PathCancel { path } => kind == Kind::PathEnds && path.as_bytes() == text,
+    }
+}
+
+fn ask_all(askers: &mut Askers, rows: &[Row]) -> Result<(), OutOfMemory> {
+    for (client, kind, text, port) in rows.iter() {
+        if let Some(ask) = ask_of(*kind, text, *port) {
+            askers.ask(*client, ask)?;
+        }
+    }
+    Ok(())
+}
+
+/// The place of the first row that isn't answered in its turn.
+fn answer_all(askers: &mut Askers, rows: &[Row]) -> Option<usize> {
+    for (i, row) in rows.iter().enumerate() {
+        let Some((client, ask)) = askers.answered() else {
+            return Some(i);
+        };
+        if client != row.0 || !is(&ask, row) {
+            return Some(i);
+        }
+    }
+    None
+}
+
+#[test]
+fn replies_answer_the_requests_in_their_order(rt: HostRuntime) -> Result<(), OutOfMemory> {
+    let mut askers = Askers::new(rt.alloc());
+    assert!(rt; askers.answered().is_none());
+    ask_all(&mut askers, &ASKED)?;
+    assert_eq!(rt;
+        (
+            askers.count(7),
+            askers.count(9),
+            askers.count(3),
+            askers.count(1)
+        ),
+        (3, 2, 2, 0)
+    );
+    assert_eq!(rt; answer_all(&mut askers, &ASKED[..4]), None);
+    assert_eq!(rt;
+        (askers.count(7), askers.count(9), askers.count(3)),
+        (1, 1, 1)
+    );
+    ask_all(&mut askers, &ASKED[..1])?;
+    assert_eq!(rt; answer_all(&mut askers, &ASKED[4..]), None);
+    assert_eq!(rt; answer_all(&mut askers, &ASKED[..1]), None);
+    assert!(rt; askers.answered().is_none());
+    Ok(())
+}
+
+/// What happens to a client's requests.
+#[derive(Clone, Copy)]
+enum Step {
+    /// One is sent.
+    Sent,
+    /// One is refused, now or later.
+    Refused { now: bool },
+    /// One is replied to, and so many refusals follow.
+    Replied { refusals: u32 },
+}
+
+/// With each step, how many have no answer then.
+const STEPS: [(Step, u32); 14] = [
+    (Replied { refusals: 0 }, 0),
+    (Refused { now: true }, 0),
+    (Sent, 1),
+    (Refused { now: false }, 2),
+    (Refused { now: false }, 3),
+    (Sent, 4),
+    (Sent, 5),
+    (Refused { now: false }, 6),
+    (Replied { refusals: 2 }, 3),
+    (Replied { refusals: 0 }, 2),
+    (Refused { now: false }, 3),
+    (Replied { refusals: 2 }, 0),
+    (Refused { now: true }, 0),
+    (Replied { refusals: 0 }, 0),
+];
+
+/// The place of the first step that goes otherwise.
+fn follow(
+    answers: &mut ClientAnswers,
+    steps: &[(Step, u32)],
+) -> Result<Option<usize>, OutOfMemory> {
+    for (i, (step, waiting)) in steps.iter().enumerate() {
+        let right = match *step {
+            Sent => {
+                answers.awaited()?;
+                true
+            }
+            Refused { now } => answers.local()? == now,
+            Replied { refusals } => answers.server_answered() == refusals,
+        };
+        if !right || answers.waiting() != *waiting {
+            return Ok(Some(i));
+        }
+    }
+    Ok(None)
+}
+
+#[test]
+fn a_refusal_waits_until_the_requests_before_it_are_answered(
+    rt: HostRuntime,
+) -> Result<(), OutOfMemory> {
+    let mut answers = ClientAnswers::new(rt.alloc());
+    assert_eq!(rt; follow(&mut answers, &STEPS)?, None);
+    Ok(())
+}

@@ -1,0 +1,50 @@
+-- The number that an open or a confirmation of a client takes is the one that goes up.
+use Rattle.std.proofs.Common.{◌≡◌, ℕ, List, [], ◌∷◌, true, false, Bool, refl, ◌∙◌, ap, sym, Option, None, Result, Ok, Err, inl, inr}
+use Rattle.std.specs.Prelude.{◌&&◌, is_some}
+use Rattle.ssh_grammar.specs.declared.fault.Bad.{Bad}
+use Rattle.mux_history.specs.Gist.{Gist, read_gist, reading, sender_of}
+use Rattle.mux_history.specs.Rows.{rows_of}
+use Rattle.mux_history.specs.Choices.{said_number}
+use Rattle.mux_history.specs.Right.{carried_number}
+use Rattle.mux_history.specs.declared.why.Why.TheVariants as why
+use Rattle.mux_history.specs.Said.{Outcome, drops, said_gist, said_payload}
+use Rattle.mux_history.proofs.Readings.{reading-ok}
+use Rattle.mux_history.proofs.Renumbered.{number-sent, sender-in, spelled}
+use Rattle.mux_history.proofs.Sends.{Sent, sent-by}
+use Rattle.mux_core.specs.Calls.{said_row}
+use Rattle.mux_core.specs.Laws.{CarriesPick}
+use Rattle.mux_core.proofs.SaysWithin.{said-ok}
+
+-- a row takes a number where these go up, and this number is said
+abbrev takes : List (List ℕ) → Option ℕ → Bool
+takes ups own = (elim ups as (λ _. Bool) [ [] ↦ false | p ∷ ps ↦ true ]) && is_some own
+
+not-taken : (ups : List (List ℕ)) → takes ups None ≡ false
+not-taken [] = refl
+not-taken (p ∷ ps) = refl
+
+pub carries-pick : CarriesPick
+carries-pick s k p pick rows bytes small taken = by_read (read_gist p) refl
+  where
+    ups : List (List ℕ)
+    ups = (said_payload s.policy k (rows_of k rows) pick p).sent
+
+    by_sent : (m : Gist) → read_gist p ≡ Ok m → Sent (rows_of k rows) pick p m (said_gist s.policy k (rows_of k rows) pick p m).sent → carried_number (said_row s k p pick rows).up ≡ pick
+    by_sent m e (inl none) =
+        let empty : ups ≡ [] = ap (λ o. o.sent) (said-ok s.policy k pick (rows_of k rows) p m e) ∙ none in
+        let no : false ≡ true = sym (ap (λ us. takes us (reading p sender_of None)) empty) ∙ taken in
+        absurd (cc)
+    by_sent m e (inr (inl plain)) =
+        let owned : reading p sender_of None ≡ None = reading-ok p m sender_of None e ∙ plain.unowned in
+        let no : false ≡ true = sym (ap (takes ups) owned ∙ not-taken ups) ∙ taken in
+        absurd (cc)
+    by_sent m e (inr (inr fresh)) =
+        ap carried_number (ap (λ o. o.sent) (said-ok s.policy k pick (rows_of k rows) p m e) ∙ fresh.up)
+        ∙ (ap said_number (number-sent p m (sender-in p m fresh.c bytes e fresh.owned) pick) ∙ spelled pick small)
+
+    by_read : (r : Result Gist Bad) → read_gist p ≡ r → carried_number (said_row s k p pick rows).up ≡ pick
+    by_read (Err bad) e =
+        let empty : ups ≡ [] = ap (λ (x : Result Gist Bad). (elim x as (λ _. Outcome) [ Err bad ↦ drops (why.BadMessage bad) | Ok m ↦ said_gist s.policy k (rows_of k rows) pick p m ]).sent) e in
+        let no : false ≡ true = sym (ap (λ us. takes us (reading p sender_of None)) empty) ∙ taken in
+        absurd (cc)
+    by_read (Ok m) e = by_sent m e (sent-by s.policy k (rows_of k rows) pick p m)

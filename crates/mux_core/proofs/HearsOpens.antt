@@ -1,0 +1,342 @@
+-- The server opens a channel: to the client of a live forwarding, or the master answers.
+use Rattle.std.proofs.Common.{◌≡◌, ◌<◌, ◌≢◌, ℕ, List, [], ◌∷◌, ◌++◌, length, map, true, false, Bool, refl, ◌∙◌, ap, sym, subst, Option, Some, None, Ok, arith}
+use Rattle.std.specs.Prelude.{filter, find, ◌==◌, ◌&&◌, ◌||◌, not, is_some, option_map, unwrap_or, nat_lt}
+use Rattle.std.specs.List.{AllByRecursion}
+use Rattle.std.proofs.lemmas.List.{append-nil}
+use Rattle.std.proofs.lemmas.List.Elements.{filter-append}
+use Rattle.std.proofs.lemmas.Bool.Decides.{nat_tests}
+use Rattle.ssh_grammar.specs.declared.numbers.TheConstants.{ADMINISTRATIVELY_PROHIBITED, RESOURCE_SHORTAGE}
+use Rattle.ssh_grammar.specs.declared.side.Side.TheVariants.{Down}
+use Rattle.ssh_grammar.specs.Messages.{Key, Opens, Session, Direct, Forwarded, OtherType}
+use Rattle.ssh_grammar.specs.Messages as full
+use Rattle.ssh_grammar.proofs.MessageSpelled.{spelled_reads}
+use Rattle.ssh_grammar.specs.SpellMessage.{not_permitted, open_failure, too_many_channels}
+use Rattle.ssh_grammar.specs.Frames.{frame_payload}
+use Rattle.proxy_frames.specs.State.{QueueState}
+use Rattle.mux_history.specs.declared.broke.Break.TheVariants as broke
+use Rattle.mux_history.specs.declared.limits.TheConstants.{MAX_CHANNELS, NUMBERS_END}
+use Rattle.mux_history.specs.Gist.{Fails, Open, Within, read_gist, reading}
+use Rattle.mux_history.specs.Rows.{Fate, Goes, Heard, Row, any_of, is_admit, is_lost, loses, rows_of}
+use Rattle.mux_history.specs.Channels.{Channel, after_item, held_of, is_held, is_number, live_in, opened_down, with_down, with_up, with_ups}
+use Rattle.mux_history.specs.Keys.{has_key, is_key}
+use Rattle.mux_history.specs.Forwardings.{Forwarding, current, live_at, of_client, replied}
+use Rattle.mux_history.specs.Heard.{Breaks, Dest, ToClient, ToMaster, dest, for_client, for_lost, heard_for, heard_master}
+use Rattle.mux_history.specs.Pending.{joined}
+use Rattle.mux_history.specs.Requests.{asks, asks_of, is_reply, is_sent, replies}
+use Rattle.mux_history.specs.Said.{Outcome, sends, tells}
+use Rattle.mux_history.specs.Treat.{all_told, bare}
+use Rattle.mux_history.proofs.Bools.{same-number}
+use Rattle.mux_history.proofs.Dests.{dest-ok}
+use Rattle.mux_history.proofs.Finds.{find-no, find-yes}
+use Rattle.mux_history.proofs.Local as local
+use Rattle.mux_history.proofs.Readings.{gist-ok, reading-ok}
+use Rattle.window_ledger.specs.declared.ledger.Ledger.{Ledger}
+use Rattle.window_ledger.specs.Stands.{IsBegun, confirmed}
+use Rattle.window_ledger.specs.Stands as ledger
+use Rattle.channel_table.specs.Entries.{Entry}
+use Rattle.channel_table.specs.Entries.{AreTwo, IsFree, count_of, full_refusal, has_remote, is_at, number_of_remote, remote_entry, remote_refusal, unless, unless_held}
+use Rattle.channel_table.specs.declared.channel.Refused.TheVariants as refused
+use Rattle.channel_table.specs.Stands.{ChannelsFit, Fits}
+use Rattle.forward_rules.specs.State.{Forward}
+use Rattle.forward_rules.specs.Step.{is_live_at}
+use Rattle.forward_rules.specs.Stands.{AreFit, AreListed, Places, places_of}
+use Rattle.mux_core.specs.declared.heard.Heard.TheVariants as heard
+use Rattle.mux_core.specs.State.{CoreState, is_served}
+use Rattle.mux_core.specs.Stands.{AsksFit, ClientsFit, HasSmall, Look, Stands, TableFits, has_matters, has_numbers, is_known, is_whole, look}
+use Rattle.mux_core.specs.Opening.{owner_for}
+use Rattle.mux_core.specs.Calls.{HearsAs, HearsClient, HearsMaster}
+use Rattle.mux_core.proofs.Apart.{none-pass}
+use Rattle.mux_core.proofs.Bare.{held-bare}
+use Rattle.channel_table.proofs.Fits.{more-fit}
+use Rattle.mux_core.proofs.Found.{held-local}
+use Rattle.mux_core.proofs.HearsConfirmation.{IsLive, is-free, is-live, live, none-live}
+use Rattle.mux_core.proofs.HearsOpen.{delivers-row, told_row}
+use Rattle.mux_core.proofs.Opens.{all-append, apart-append, few-append, own-count, served-known}
+use Rattle.mux_core.proofs.Quiet.{IsQuiet, admitted-same, look-same, lost-same, own-same, places-same}
+use Rattle.mux_core.proofs.Says.{held-held, map-same}
+use Rattle.mux_core.proofs.Served.{IsServed, served}
+use Rattle.mux_core.proofs.Silent.{tells-nothing}
+
+-- ---- a quiet row that leaves the channels
+
+pub unchanged-stands : (s : CoreState) (row : Row) (rows : List Row) → Stands s rows → IsQuiet row → held_of (row ∷ rows) ≡ held_of rows → Stands s (row ∷ rows)
+unchanged-stands s row rows st q held =
+    let after = sym (look-same row rows q) in
+    let matters : has_matters rows ≡ has_matters (row ∷ rows) = λ i j. sym (same j) i in
+    record {
+      channels = subst (TableFits s.channels) (sym held) st.channels;
+      asks = subst (AsksFit s.asks) after st.asks;
+      forwards = subst (λ (l : Look). AreFit s.forwards l.current l.own l.lost) after st.forwards;
+      clients = subst (λ m. ClientsFit s.clients m (look (row ∷ rows))) matters (subst (ClientsFit s.clients (has_matters rows)) after st.clients);
+      known = st.known;
+    }
+  where
+    same : (j : ℕ) → has_matters (row ∷ rows) j ≡ has_matters rows j
+    same j =
+        ap (λ b. (b && not (is_lost (rows_of j (row ∷ rows)))) || (any_of is_held (held_of (rows_of j (row ∷ rows))) || nat_lt (length (replies (rows_of j (row ∷ rows)))) (length (asks (rows_of j (row ∷ rows)))))) (own-same (any_of is_admit) row rows (admitted-same row q) j)
+        ∙ (ap (λ b. (any_of is_admit (rows_of j rows) && not b) || (any_of is_held (held_of (rows_of j (row ∷ rows))) || nat_lt (length (replies (rows_of j (row ∷ rows)))) (length (asks (rows_of j (row ∷ rows)))))) (own-same is_lost row rows (lost-same row q) j)
+        ∙ (ap (λ xs. (any_of is_admit (rows_of j rows) && not (is_lost (rows_of j rows))) || (any_of is_held xs || nat_lt (length (replies (rows_of j (row ∷ rows)))) (length (asks (rows_of j (row ∷ rows)))))) (sym (held-local j (row ∷ rows)) ∙ (ap (filter (local.is_of j)) held ∙ held-local j rows))
+        ∙ ap (λ (x : Places). (any_of is_admit (rows_of j rows) && not (is_lost (rows_of j rows))) || (any_of is_held (held_of (rows_of j rows)) || nat_lt x.replied (length x.asked))) (own-same places_of row rows (places-same row q) j)))
+
+-- ---- the row
+
+quiet-opened : (k s w m : ℕ) (what : Opens) (p : List ℕ) (o : Outcome) → read_gist p ≡ Ok (Open what s w m) → o.ends ≡ Goes → IsQuiet (bare (Heard p) k o)
+quiet-opened k s w m what p o e ends = record {
+  asks = none (is_sent (bare (Heard p) k o));
+  flags = refl;
+  replies = ap (λ (b : Bool). elim b as (λ _. List (List ℕ)) [ true ↦ p ∷ [] | false ↦ [] ]) (reading-ok p (Open what s w m) is_reply false e);
+  forwards = λ own fs. reading-ok p (Open what s w m) (λ g. map (of_client k (replied (length (replies own)) g)) fs) fs e ∙ stay (length (replies own)) fs;
+  keeps = ap (λ (f : Fate). loses (record { item = Heard p; client = k; up = o.sent; farewell = []; down = o.told; fate = f })) ends;
+  admits = ap (λ (f : Fate). is_admit (record { item = Heard p; client = k; up = o.sent; farewell = []; down = o.told; fate = f })) ends;
+}
+  where
+    none : (b : Bool) → asks_of k b None ≡ []
+    none true = refl
+    none false = refl
+
+    stay : (place : ℕ) (fs : List Forwarding) → map (of_client k (replied place (Open what s w m))) fs ≡ fs
+    stay place [] = refl
+    stay place (f ∷ fs) = ap (λ g. g ∷ map (of_client k (replied place (Open what s w m))) fs) (elim (f.client == k) as (λ b. (elim b as (λ _. Forwarding) [ true ↦ f | false ↦ f ]) ≡ f) [ true ↦ refl | false ↦ refl ]) ∙ ap (λ gs. f ∷ gs) (stay place fs)
+
+-- the failure is for no channel that is held
+not-theirs : (es : List Entry) (xs : List Channel) (s : ℕ) → ChannelsFit es xs → AllByRecursion (λ e. has_remote s e ≡ false) es → AllByRecursion (λ x. is_number x.remote s ≡ false) xs
+not-theirs [] [] s fit free = tt
+not-theirs [] (x ∷ xs) s fit free = absurd fit
+not-theirs (e ∷ es) [] s fit free = absurd fit
+not-theirs (e ∷ es) (x ∷ xs) s fit free = (ap (λ o. is_number o s) (sym fit.0.remote) ∙ free.0, not-theirs es xs s fit.1 free.1)
+
+map-same-on : (P : Channel → Type 0) (f : Channel → Channel) → ((x : Channel) → P x → f x ≡ x) → (xs : List Channel) → AllByRecursion P xs → map f xs ≡ xs
+map-same-on P f same [] all = refl
+map-same-on P f same (x ∷ xs) all = ap (λ y. y ∷ map f xs) (same x all.0) ∙ ap (λ ys. x ∷ ys) (map-same-on P f same xs all.1)
+
+-- a row of which the master's failure goes up changes no channel
+failed-held : (s : CoreState) (k r w m : ℕ) (what : Opens) (p q : List ℕ) (rows : List Row) → Stands s rows → find (has_remote r) s.channels ≡ None → read_gist p ≡ Ok (Open what r w m) → read_gist q ≡ Ok (Within r Fails) → held_of (bare (Heard p) k (sends q) ∷ rows) ≡ held_of rows
+failed-held s k r w m what p q rows st none e f =
+    held-bare (Heard p) k (sends q) rows
+    ∙ (ap (filter is_held) (ap (λ ys. map (after_item (bare (Heard p) k (sends q))) (held_of rows) ++ ys) begun ∙ (append-nil (map (after_item (bare (Heard p) k (sends q))) (held_of rows)) ∙ map-same-on (λ x. is_number x.remote r ≡ false) (after_item (bare (Heard p) k (sends q))) same (held_of rows) (not-theirs s.channels (held_of rows) r st.channels.fit (none-pass (has_remote r) s.channels none))))
+    ∙ held-held rows)
+  where
+    begun : (elim (k == 0) as (λ _. List Channel) [ true ↦ [] | false ↦ reading p (opened_down k (q ∷ [])) [] ]) ≡ []
+    begun = elim (k == 0) as (λ b. (elim b as (λ _. List Channel) [ true ↦ [] | false ↦ reading p (opened_down k (q ∷ [])) [] ]) ≡ []) [
+      | true ↦ refl
+      | false ↦ reading-ok p (Open what r w m) (opened_down k (q ∷ [])) [] e
+    ]
+
+    same : (x : Channel) → is_number x.remote r ≡ false → after_item (bare (Heard p) k (sends q)) x ≡ x
+    same x h =
+        ap (λ y. elim (x.client == k) as (λ _. Channel) [ true ↦ with_ups None (q ∷ []) y | false ↦ x ]) (reading-ok p (Open what r w m) (λ g. with_down g x) x e)
+        ∙ (ap (λ y. elim (x.client == k) as (λ _. Channel) [ true ↦ y | false ↦ x ]) (reading-ok q (Within r Fails) (λ g. with_up None g x) x f ∙ rw (ap (λ b. b && is_held x) h, with_up) refl)
+        ∙ (elim (x.client == k) as (λ b. (elim b as (λ _. Channel) [ true ↦ x | false ↦ x ]) ≡ x) [ true ↦ refl | false ↦ refl ]))
+
+-- ---- whose it is
+
+pub list-find : (key : Key) (fs : List Forward) (gs : List Forwarding) → AreListed fs gs → option_map (λ (f : Forward). f.client) (find (is_live_at key) fs) ≡ option_map (λ (g : Forwarding). g.client) (find (λ (g : Forwarding). has_key g.live key) gs)
+list-find key [] [] fit = refl
+list-find key [] (g ∷ gs) fit = absurd fit
+list-find key (f ∷ fs) [] fit = absurd fit
+list-find key (f ∷ fs) (g ∷ gs) fit = by_case (list-find key fs gs fit.1) (is_live_at key f) refl
+  where
+    by_live : (o : Option Key) → g.live ≡ o → (f.live && is_key f.key key) ≡ has_key g.live key
+    by_live None h = ap (λ b. b && is_key f.key key) (fit.0.live ∙ ap is_some h) ∙ ap (λ o. has_key o key) (sym h)
+    by_live (Some q) h =
+        ap (λ b. b && is_key f.key key) (fit.0.live ∙ ap is_some h)
+        ∙ (ap (λ i. is_key i key) (fit.0.key ∙ ap (λ o. unwrap_or o g.key) h)
+        ∙ ap (λ o. has_key o key) (sym h))
+
+    same : is_live_at key f ≡ has_key g.live key
+    same = by_live g.live refl
+
+    by_case : option_map (λ (f : Forward). f.client) (find (is_live_at key) fs) ≡ option_map (λ (g : Forwarding). g.client) (find (λ (g : Forwarding). has_key g.live key) gs) → (b : Bool) → is_live_at key f ≡ b → option_map (λ (f : Forward). f.client) (find (is_live_at key) (f ∷ fs)) ≡ option_map (λ (g : Forwarding). g.client) (find (λ (g : Forwarding). has_key g.live key) (g ∷ gs))
+    by_case ih true h = ap (option_map (λ (f : Forward). f.client)) (find-yes (is_live_at key) f fs h) ∙ (ap Some fit.0.client ∙ sym (ap (option_map (λ (g : Forwarding). g.client)) (find-yes (λ (g : Forwarding). has_key g.live key) g gs (sym same ∙ h))))
+    by_case ih false h = ap (option_map (λ (f : Forward). f.client)) (find-no (is_live_at key) f fs h) ∙ (ih ∙ sym (ap (option_map (λ (g : Forwarding). g.client)) (find-no (λ (g : Forwarding). has_key g.live key) g gs (sym same ∙ h))))
+
+abbrev to : Option ℕ → Dest
+to None = ToMaster
+to (Some k) = ToClient k
+
+dest-opened : (s : CoreState) (r w m : ℕ) (what : Opens) (p : List ℕ) (rows : List Row) → Stands s rows → read_gist p ≡ Ok (Open what r w m) → live_in rows r ≡ None → dest rows p ≡ to (owner_for what s.forwards)
+dest-opened s r w m what p rows st e none = dest-ok rows p (Open what r w m) e ∙ by_what what
+  where
+    by_found : (key : Key) (o : Option Forwarding) → live_at rows key ≡ o → (elim o as (λ _. Dest) [ Some f ↦ ToClient f.client | None ↦ ToMaster ]) ≡ to (option_map (λ (g : Forwarding). g.client) o)
+    by_found key None h = refl
+    by_found key (Some g) h = refl
+
+    by_what : (what' : Opens) → (elim what' as (λ _. Dest) [
+      | Forwarded key ↦ elim (live_in rows r) as (λ _. Dest) [ Some x ↦ Breaks (broke.NumberInUse r) | None ↦ elim (live_at rows key) as (λ _. Dest) [ Some f ↦ ToClient f.client | None ↦ ToMaster ] ]
+      | _ ↦ elim (live_in rows r) as (λ _. Dest) [ Some x ↦ Breaks (broke.NumberInUse r) | None ↦ ToMaster ]
+    ]) ≡ to (owner_for what' s.forwards)
+    by_what (Forwarded key) =
+        ap (λ (u : Option Channel). elim u as (λ _. Dest) [ Some x ↦ Breaks (broke.NumberInUse r) | None ↦ elim (live_at rows key) as (λ _. Dest) [ Some f ↦ ToClient f.client | None ↦ ToMaster ] ]) none
+        ∙ (by_found key (live_at rows key) refl ∙ ap to (sym (list-find key s.forwards (current rows) st.forwards.listed)))
+    by_what Session = ap (λ (u : Option Channel). elim u as (λ _. Dest) [ Some x ↦ Breaks (broke.NumberInUse r) | None ↦ ToMaster ]) none
+    by_what (Direct q) = ap (λ (u : Option Channel). elim u as (λ _. Dest) [ Some x ↦ Breaks (broke.NumberInUse r) | None ↦ ToMaster ]) none
+    by_what OtherType = ap (λ (u : Option Channel). elim u as (λ _. Dest) [ Some x ↦ Breaks (broke.NumberInUse r) | None ↦ ToMaster ]) none
+
+dest-used : (r w m : ℕ) (what : Opens) (p : List ℕ) (rows : List Row) (x : Channel) → read_gist p ≡ Ok (Open what r w m) → live_in rows r ≡ Some x → dest rows p ≡ Breaks (broke.NumberInUse r)
+dest-used r w m what p rows x e some = dest-ok rows p (Open what r w m) e ∙ by_what what
+  where
+    by_what : (what' : Opens) → (elim what' as (λ _. Dest) [
+      | Forwarded key ↦ elim (live_in rows r) as (λ _. Dest) [ Some x ↦ Breaks (broke.NumberInUse r) | None ↦ elim (live_at rows key) as (λ _. Dest) [ Some f ↦ ToClient f.client | None ↦ ToMaster ] ]
+      | _ ↦ elim (live_in rows r) as (λ _. Dest) [ Some x ↦ Breaks (broke.NumberInUse r) | None ↦ ToMaster ]
+    ]) ≡ Breaks (broke.NumberInUse r)
+    by_what (Forwarded key) = ap (λ (u : Option Channel). elim u as (λ _. Dest) [ Some x ↦ Breaks (broke.NumberInUse r) | None ↦ elim (live_at rows key) as (λ _. Dest) [ Some f ↦ ToClient f.client | None ↦ ToMaster ] ]) some
+    by_what Session = ap (λ (u : Option Channel). elim u as (λ _. Dest) [ Some x ↦ Breaks (broke.NumberInUse r) | None ↦ ToMaster ]) some
+    by_what (Direct q) = ap (λ (u : Option Channel). elim u as (λ _. Dest) [ Some x ↦ Breaks (broke.NumberInUse r) | None ↦ ToMaster ]) some
+    by_what OtherType = ap (λ (u : Option Channel). elim u as (λ _. Dest) [ Some x ↦ Breaks (broke.NumberInUse r) | None ↦ ToMaster ]) some
+
+-- ---- the number is in use
+
+pub open-used : (s new : CoreState) (r w m : ℕ) (what : Opens) (p p' : List ℕ) (up : QueueState) (rows : List Row) → Stands s rows → is_some (number_of_remote s.channels r) ≡ true → read_gist p ≡ Ok (Open what r w m) → HearsAs new p p' up up (heard.Broke (broke.NumberInUse r)) rows (dest rows p)
+open-used s new r w m what p p' up rows st used e = by_live (is-live s r rows st used)
+  where
+    by_live : IsLive rows r → HearsAs new p p' up up (heard.Broke (broke.NumberInUse r)) rows (dest rows p)
+    by_live (live x g) = subst (HearsAs new p p' up up (heard.Broke (broke.NumberInUse r)) rows) (sym (dest-used r w m what p rows x e g)) (record { sent = refl; to = refl })
+
+-- ---- nobody's: the master answers
+
+pub open-refused : (s : CoreState) (r w m : ℕ) (what : Opens) (p p' : List ℕ) (up up' : QueueState) (rows : List Row) → Stands s rows → is_some (number_of_remote s.channels r) ≡ false → owner_for what s.forwards ≡ None → read_gist p ≡ Ok (Open what r w m) → read_gist (open_failure r ADMINISTRATIVELY_PROHIBITED not_permitted) ≡ Ok (Within r Fails) → up'.waiting ≡ up.waiting ++ frame_payload (open_failure r ADMINISTRATIVELY_PROHIBITED not_permitted) → HearsAs s p p' up up' heard.Master rows (dest rows p)
+open-refused s r w m what p p' up up' rows st free nobody e f sent =
+    let none = is-free s.channels r free in
+    let q : List ℕ = open_failure r ADMINISTRATIVELY_PROHIBITED not_permitted in
+    let outcome : heard_master p ≡ sends (open_failure r ADMINISTRATIVELY_PROHIBITED not_permitted) = rw (e, heard_master) refl in
+    let stands : Stands s (bare (Heard p) 0 (sends (open_failure r ADMINISTRATIVELY_PROHIBITED not_permitted)) ∷ rows) = unchanged-stands s (bare (Heard p) 0 (sends (open_failure r ADMINISTRATIVELY_PROHIBITED not_permitted))) rows st (quiet-opened 0 r w m what p (sends (open_failure r ADMINISTRATIVELY_PROHIBITED not_permitted)) e refl) (failed-held s 0 r w m what p (open_failure r ADMINISTRATIVELY_PROHIBITED not_permitted) rows st none e f) in
+    let master : HearsMaster s p up up' heard.Master rows = record {
+      sent = sent ∙ (ap (λ ys. up.waiting ++ ys) (sym (append-nil (frame_payload (open_failure r ADMINISTRATIVELY_PROHIBITED not_permitted)))) ∙ sym (ap (λ (o : Outcome). up.waiting ++ joined (map frame_payload o.sent)) outcome));
+      to = refl;
+      stands = subst (λ o. Stands s (bare (Heard p) 0 o ∷ rows)) (sym outcome) stands;
+    } in
+    subst (HearsAs s p p' up up' heard.Master rows) (sym (dest-opened s r w m what p rows st e (none-live s r rows st none) ∙ ap to nobody)) master
+
+-- ---- the owner of a live forwarding is served
+
+pub owner-served : (s : CoreState) (k : ℕ) (key : Key) (fs : List Forward) → AllByRecursion (λ f. is_served s.clients f.client ≡ true) fs → option_map (λ (f : Forward). f.client) (find (is_live_at key) fs) ≡ Some k → is_served s.clients k ≡ true
+owner-served s k key [] all h = absurd (cc)
+owner-served s k key (f ∷ fs) all h = by_case (owner-served s k key fs all.1) (is_live_at key f) refl
+  where
+    by_case : (option_map (λ (f : Forward). f.client) (find (is_live_at key) fs) ≡ Some k → is_served s.clients k ≡ true) → (b : Bool) → is_live_at key f ≡ b → is_served s.clients k ≡ true
+    by_case ih true t = subst (λ i. is_served s.clients i ≡ true) (let e : Some f.client ≡ Some k = sym (ap (option_map (λ (f : Forward). f.client)) (find-yes (is_live_at key) f fs t)) ∙ h in cc) all.0
+    by_case ih false t = ih (sym (ap (option_map (λ (f : Forward). f.client)) (find-no (is_live_at key) f fs t)) ∙ h)
+
+owned : (s : CoreState) (k : ℕ) (what : Opens) (rows : List Row) → Stands s rows → owner_for what s.forwards ≡ Some k → is_served s.clients k ≡ true
+owned s k (Forwarded key) rows st h = owner-served s k key s.forwards st.known.forwards h
+owned s k Session rows st h = absurd (cc)
+owned s k (Direct q) rows st h = absurd (cc)
+owned s k OtherType rows st h = absurd (cc)
+
+-- ---- 256 channels are there
+
+pub open-full : (s : CoreState) (k r w m : ℕ) (what : Opens) (p p' : List ℕ) (up up' : QueueState) (rows : List Row) → Stands s rows → is_some (number_of_remote s.channels r) ≡ false → owner_for what s.forwards ≡ Some k → nat_lt (count_of s.channels k) MAX_CHANNELS ≡ false → read_gist p ≡ Ok (Open what r w m) → read_gist (open_failure r RESOURCE_SHORTAGE too_many_channels) ≡ Ok (Within r Fails) → up'.waiting ≡ up.waiting ++ frame_payload (open_failure r RESOURCE_SHORTAGE too_many_channels) → HearsAs s p p' up up' heard.Master rows (dest rows p)
+open-full s k r w m what p p' up up' rows st free owner full e f sent =
+    let none = is-free s.channels r free in
+    let is : IsServed k (look rows) = served (look rows) k s.clients st.clients.each (owned s k what rows st owner) in
+    let outcome : heard_for (rows_of k rows) p ≡ sends (open_failure r RESOURCE_SHORTAGE too_many_channels) = rw (e, heard_for) (ap (λ (b : Bool). elim b as (λ _. Outcome) [ true ↦ for_lost (rows_of k rows) (Open what r w m) | false ↦ for_client (rows_of k rows) p (Open what r w m) ]) is.here ∙ ap (λ (b : Bool). elim b as (λ _. Outcome) [ true ↦ tells (frame_payload p) | false ↦ sends (open_failure r RESOURCE_SHORTAGE too_many_channels) ]) (ap (λ n. nat_lt n MAX_CHANNELS) (own-count s k rows st) ∙ full)) in
+    let quiet = quiet-opened k r w m what p (sends (open_failure r RESOURCE_SHORTAGE too_many_channels)) e refl in
+    let stands : Stands s (bare (Heard p) k (sends (open_failure r RESOURCE_SHORTAGE too_many_channels)) ∷ rows) = unchanged-stands s (bare (Heard p) k (sends (open_failure r RESOURCE_SHORTAGE too_many_channels))) rows st quiet (failed-held s k r w m what p (open_failure r RESOURCE_SHORTAGE too_many_channels) rows st none e f) in
+    let told : HearsClient s k p p' up up' heard.Master rows = record {
+      sent = sent ∙ (ap (λ ys. up.waiting ++ ys) (sym (append-nil (frame_payload (open_failure r RESOURCE_SHORTAGE too_many_channels)))) ∙ sym (ap (λ (o : Outcome). up.waiting ++ joined (map frame_payload o.sent)) outcome));
+      to = is.here;
+      told = ap (λ (o : Outcome). all_told (bare (Heard p) k o) (rows_of k rows)) outcome ∙ tells-nothing (bare (Heard p) k (sends (open_failure r RESOURCE_SHORTAGE too_many_channels))) quiet refl (rows_of k rows);
+      stands = subst (λ o. Stands s (bare (Heard p) k o ∷ rows)) (sym outcome) stands;
+    } in
+    subst (HearsAs s p p' up up' heard.Master rows) (sym (dest-opened s r w m what p rows st e (none-live s r rows st none) ∙ ap to owner)) told
+
+-- ---- one more channel
+
+two-remote : (es : List Entry) (n k r : ℕ) (l : Ledger) → AllByRecursion (λ e. is_at n e ≡ false) es → AllByRecursion (λ e. has_remote r e ≡ false) es → AllByRecursion (λ f. AreTwo f (remote_entry n k r l)) es
+two-remote [] n k r l a b = tt
+two-remote (f ∷ fs) n k r l a b = (
+  record {
+    number = a.0;
+    remote = λ t h. by_number t (r == t) refl h;
+    own = λ c same h. refl;
+  },
+  two-remote fs n k r l a.1 b.1,
+)
+  where
+    by_number : (t : ℕ) (x : Bool) → (r == t) ≡ x → is_number f.channel.remote t ≡ true → (r == t) ≡ false
+    by_number t true e h = absurd (let c : is_number f.channel.remote t ≡ false = subst (λ i. is_number f.channel.remote i ≡ false) (same-number r t e) b.0 in let d = sym h ∙ c in cc)
+    by_number t false e h = e
+
+some-small : (s t : ℕ) → Some s ≡ Some t → s < 4294967296 → t < 4294967296
+some-small s t h small = subst (λ i. i < 4294967296) (let e : s ≡ t = cc in e) small
+
+opened-held : (k r w m : ℕ) (what : Opens) (p : List ℕ) (rows : List Row) → (k == 0) ≡ false → read_gist p ≡ Ok (Open what r w m) → held_of (told_row p k p ∷ rows) ≡ held_of rows ++ record { client = k; by = Down; own = None; number = None; remote = Some r; window = w; maximum = m; acts = [] } ∷ []
+opened-held k r w m what p rows nonzero e =
+    held-bare (Heard p) k (tells (frame_payload p)) rows
+    ∙ (ap (filter is_held) (ap (λ ys. map (after_item (told_row p k p)) (held_of rows) ++ ys) (ap (λ (b : Bool). elim b as (λ _. List Channel) [ true ↦ [] | false ↦ reading p (opened_down k []) [] ]) nonzero ∙ reading-ok p (Open what r w m) (opened_down k []) [] e) ∙ ap (λ ys. ys ++ record { client = k; by = Down; own = None; number = None; remote = Some r; window = w; maximum = m; acts = [] } ∷ []) (map-same (after_item (told_row p k p)) same (held_of rows)))
+    ∙ (filter-append is_held (held_of rows) (record { client = k; by = Down; own = None; number = None; remote = Some r; window = w; maximum = m; acts = [] } ∷ [])
+    ∙ ap (λ ys. ys ++ record { client = k; by = Down; own = None; number = None; remote = Some r; window = w; maximum = m; acts = [] } ∷ []) (held-held rows)))
+  where
+    same : (x : Channel) → after_item (told_row p k p) x ≡ x
+    same x =
+        ap (λ y. elim (x.client == k) as (λ _. Channel) [ true ↦ y | false ↦ x ]) (reading-ok p (Open what r w m) (λ g. with_down g x) x e)
+        ∙ (elim (x.client == k) as (λ b. (elim b as (λ _. Channel) [ true ↦ x | false ↦ x ]) ≡ x) [ true ↦ refl | false ↦ refl ])
+
+pub open-given : (s new : CoreState) (k n r w m : ℕ) (what : Opens) (p : List ℕ) (l : Ledger) (up : QueueState) (rows : List Row) → Stands s rows → is_some (number_of_remote s.channels r) ≡ false → owner_for what s.forwards ≡ Some k → nat_lt (count_of s.channels k) MAX_CHANNELS ≡ true → r < 4294967296 → IsFree s.channels n → confirmed l ≡ false → ((x : Channel) → IsBegun Down w m x → ledger.Stands l x) → new ≡ record s { channels = s.channels ++ remote_entry n k r l ∷ [] } → read_gist p ≡ Ok (Open what r w m) → HearsAs new p p up up (heard.Client k 0) rows (dest rows p)
+open-given s new k n r w m what p l up rows st free owner room small fresh waits begins after e =
+    let none = is-free s.channels r free in
+    let serves = owned s k what rows st owner in
+    let is : IsServed k (look rows) = served (look rows) k s.clients st.clients.each serves in
+    let few : count_of s.channels k < MAX_CHANNELS = grind (arith, nat_tests) in
+    let fits : Fits (remote_entry n k r l) (record { client = k; by = Down; own = None; number = None; remote = Some r; window = w; maximum = m; acts = [] }) = record { client = refl; by = refl; own = refl; number = refl; remote = refl; ledger = begins _ (record { opener = refl; first = refl; longest = refl; fresh = refl }); held = refl } in
+    delivers-row s new k p p (Open what r w m) (s.channels ++ remote_entry n k r l ∷ []) up rows st serves e (quiet-opened k r w m what p (tells (frame_payload p)) e refl)
+    (dest-opened s r w m what p rows st e (none-live s r rows st none) ∙ ap to owner)
+    (ap (λ (b : Bool). elim b as (λ _. Outcome) [ true ↦ tells (frame_payload p) | false ↦ sends (open_failure r RESOURCE_SHORTAGE too_many_channels) ]) (ap (λ i. nat_lt i MAX_CHANNELS) (own-count s k rows st) ∙ room))
+    (record {
+      fit = subst (ChannelsFit (s.channels ++ remote_entry n k r l ∷ [])) (sym (opened-held k r w m what p rows (not-zero k is.nonzero) e)) (more-fit (remote_entry n k r l) _ fits s.channels (held_of rows) st.channels.fit);
+      apart = apart-append (remote_entry n k r l) s.channels st.channels.apart (two-remote s.channels n k r l (none-pass (is_at n) s.channels fresh.unused) (none-pass (has_remote r) s.channels none));
+      few = λ j. few-append j (remote_entry n k r l) s.channels (λ h. subst (λ i. count_of s.channels i < MAX_CHANNELS) (same-number k j h) few) (st.channels.few j);
+      whole = all-append (λ e. is_whole e ≡ true) (remote_entry n k r l) (ap (λ b. has_numbers b Down None (Some r)) waits) s.channels st.channels.whole;
+      small = all-append HasSmall (remote_entry n k r l) (λ t h. some-small r t h small) s.channels st.channels.small;
+      below = all-append (λ e. e.number < NUMBERS_END) (remote_entry n k r l) fresh.below s.channels st.channels.below;
+    })
+    (all-append (λ f. is_known s.clients f.channel.client ≡ true) (remote_entry n k r l) (served-known k s.clients serves) s.channels st.known.channels)
+    after
+  where
+    not-zero : (i : ℕ) → i ≢ 0 → (i == 0) ≡ false
+    not-zero i h = by_case (i == 0) refl
+      where
+        by_case : (b : Bool) → (i == 0) ≡ b → (i == 0) ≡ false
+        by_case true g = absurd (h (same-number i 0 g))
+        by_case false g = g
+
+-- ---- what the master's failures read as
+
+pub reads-refusal : (s : ℕ) → s < 4294967296 → read_gist (open_failure s ADMINISTRATIVELY_PROHIBITED not_permitted) ≡ Ok (Within s Fails)
+reads-refusal s small = gist-ok (open_failure s ADMINISTRATIVELY_PROHIBITED not_permitted) (full.To s (full.OpenFailure ADMINISTRATIVELY_PROHIBITED not_permitted [])) (spelled_reads (full.To s (full.OpenFailure ADMINISTRATIVELY_PROHIBITED not_permitted [])) (open_failure s ADMINISTRATIVELY_PROHIBITED not_permitted) (record { is_message = (small, (omega arith, omega arith, omega arith)); flag = 0; boolean = refl; spelled = refl }))
+
+pub reads-shortage : (s : ℕ) → s < 4294967296 → read_gist (open_failure s RESOURCE_SHORTAGE too_many_channels) ≡ Ok (Within s Fails)
+reads-shortage s small = gist-ok (open_failure s RESOURCE_SHORTAGE too_many_channels) (full.To s (full.OpenFailure RESOURCE_SHORTAGE too_many_channels [])) (spelled_reads (full.To s (full.OpenFailure RESOURCE_SHORTAGE too_many_channels [])) (open_failure s RESOURCE_SHORTAGE too_many_channels) (record { is_message = (small, (omega arith, omega arith, omega arith)); flag = 0; boolean = refl; spelled = refl }))
+
+-- ---- the table's answers
+
+refused-as : (es : List Entry) (k r : ℕ) → is_some (number_of_remote es r) ≡ false → remote_refusal es k r ≡ unless (not (nat_lt (count_of es k) MAX_CHANNELS)) (refused.Full (count_of es k)) None
+refused-as es k r free = ap (λ (o : Option Entry). unless_held (option_map (λ (e : Entry). e.channel.client) o) (full_refusal es k)) (is-free es r free)
+
+pub remote-room : (es : List Entry) (k r : ℕ) → is_some (number_of_remote es r) ≡ false → remote_refusal es k r ≡ None → nat_lt (count_of es k) MAX_CHANNELS ≡ true
+remote-room es k r free h = by_room (nat_lt (count_of es k) MAX_CHANNELS) (sym (refused-as es k r free) ∙ h)
+  where
+    by_room : (b : Bool) → unless (not b) (refused.Full (count_of es k)) None ≡ None → b ≡ true
+    by_room true h = refl
+    by_room false h = absurd (cc)
+
+pub remote-full : (es : List Entry) (k r n : ℕ) → is_some (number_of_remote es r) ≡ false → remote_refusal es k r ≡ Some (refused.Full n) → nat_lt (count_of es k) MAX_CHANNELS ≡ false
+remote-full es k r n free h = by_room (nat_lt (count_of es k) MAX_CHANNELS) (sym (refused-as es k r free) ∙ h)
+  where
+    by_room : (b : Bool) → unless (not b) (refused.Full (count_of es k)) None ≡ Some (refused.Full n) → b ≡ false
+    by_room true h = absurd (cc)
+    by_room false h = refl
+
+pub remote-own : (es : List Entry) (k r : ℕ) → is_some (number_of_remote es r) ≡ false → remote_refusal es k r ≡ Some refused.OwnInUse → ⊥
+remote-own es k r free h = by_room (nat_lt (count_of es k) MAX_CHANNELS) (sym (refused-as es k r free) ∙ h)
+  where
+    by_room : (b : Bool) → unless (not b) (refused.Full (count_of es k)) None ≡ Some refused.OwnInUse → ⊥
+    by_room true h = cc
+    by_room false h = cc
+
+pub remote-used : (es : List Entry) (k r holder : ℕ) → is_some (number_of_remote es r) ≡ false → remote_refusal es k r ≡ Some (refused.RemoteInUse holder) → ⊥
+remote-used es k r holder free h = by_room (nat_lt (count_of es k) MAX_CHANNELS) (sym (refused-as es k r free) ∙ h)
+  where
+    by_room : (b : Bool) → unless (not b) (refused.Full (count_of es k)) None ≡ Some (refused.RemoteInUse holder) → ⊥
+    by_room true h = cc
+    by_room false h = cc

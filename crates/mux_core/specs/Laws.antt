@@ -1,0 +1,30 @@
+-- What a caller of a core needs to know of the log that a core stands for.
+use Rattle.std.specs.Prelude.{◌≡◌, ◌<◌, ◌^◌, ℕ, true, false, List, ◌∷◌}
+use Rattle.ssh_fields.specs.Fields.{AreBytes}
+use Rattle.mux_history.specs.Rows.{Row, loses, is_admit}
+use Rattle.mux_history.specs.PlainRows.{IsPlain}
+use Rattle.mux_history.specs.Choices.{takes_number}
+use Rattle.mux_history.specs.Right.{carried_number}
+use Rattle.mux_core.specs.State.{CoreState}
+use Rattle.mux_core.specs.Stands.{Stands}
+use Rattle.mux_core.specs.Calls.{said_row}
+
+-- a row of what neither a client in proxy mode nor the server says, which loses nobody and lets nobody in
+pub record IsIdle (row : Row) : Type 0 where
+  pub plain : IsPlain row
+  pub keeps : loses row ≡ false
+  pub admits : is_admit row ≡ false
+
+-- such rows leave a core as it is
+abbrev pub IdleRowsStay : Type 0
+IdleRowsStay = (s : CoreState) (row : Row) (rows : List Row) → Stands s rows → IsIdle row → Stands s (row ∷ rows)
+
+-- what a row tells its client is nothing to a core
+abbrev pub DownIsFree : Type 0
+DownIsFree =
+    (s : CoreState) (row : Row) (rows : List Row) (down : List (List ℕ)) → Stands s (row ∷ rows) → Stands s (record row { down = down } ∷ rows)
+
+-- the number that the row of a client's open or confirmation carries up is the pick
+abbrev pub CarriesPick : Type 0
+CarriesPick =
+    (s : CoreState) (k : ℕ) (p : List ℕ) (pick : ℕ) (rows : List Row) → AreBytes p → pick < 2 ^ 32 → takes_number (said_row s k p pick rows) ≡ true → carried_number (said_row s k p pick rows).up ≡ pick

@@ -1,0 +1,13 @@
+pub mod State
+pub mod Clients
+pub mod Gists
+pub mod Stands
+pub mod Lookups
+pub mod Opening
+pub mod Settling
+pub mod Entering
+pub mod Calls
+pub mod Laws
+pub mod Losing
+pub mod Requesting
+pub mod Replying

@@ -1,0 +1,417 @@
+ghost use Rattle.std.specs.Prelude.{◌≡◌, ◌≤◌, ◌+◌, length, true, IfOk, IfSome, OnOk, OnErr};
+ghost use Rattle.ssh_fields.specs.Fields.{u32_at};
+ghost use Rattle.ssh_grammar.specs.declared.framing.Framing.TheVariants.{Proxy};
+ghost use Rattle.ssh_grammar.specs.IsFrame.{IsContent};
+ghost use Rattle.ssh_grammar.specs.SpellMessage as spelling;
+ghost use Rattle.mux_history.specs.Gist.{Confirmation, Fails, Open, Refuses, Requests, Succeeds, Within};
+ghost use Rattle.window_ledger.specs.Act.{act_of};
+ghost use Rattle.mux_history.specs.Farewell.{late_refusal, late_success};
+ghost use Rattle.global_replies.specs.Replies.{after_reply, refusals_behind};
+ghost use Rattle.forward_rules.specs.Keys.{IsShort, key_of};
+ghost use Rattle.forward_rules.specs.Step.{with_port};
+ghost use Rattle.client_teardown.specs.Leaving.{with_payloads};
+ghost use Rattle.mux_core.specs.Calls.{HearsGist, HearsOn, HearsWith};
+ghost use Rattle.mux_core.specs.Gists.{opening_of, request_of};
+ghost use Rattle.mux_core.specs.Opening.{owner_for};
+ghost use Rattle.mux_core.specs.Replying.{MayBeCancelled, after_failure, after_success, listed, misses_port};
+ghost use Rattle.mux_core.specs.Requesting.{waiting_of, with_waiting};
+ghost use Rattle.mux_core.specs.Settling.{settled};
+ghost use Rattle.mux_core.specs.declared.heard.Heard.TheVariants.{Client, Lost};
+
+use crate::reading::{Gist, Opening, Request, asked, read_gist};
+use crate::state::{Core, confirmed_ledger, put_recipient, waits};
+use channel_table::Refused;
+use conn_messages::{cancel_forward, cancel_path, close, open_failure, request_failure};
+use forward_rules::Key;
+use mux_history::Break;
+use proxy_frames::Queue;
+use ssh_fields::{Cursor, OutOfMemory, Small};
+use ssh_grammar::Side;
+use ssh_grammar::numbers::*;
+use window_ledger::{Act, Ledger};
+
+/// Where what the server said goes.
+#[derive(Clone, Copy, Debug, PartialEq, Eq)]
+pub enum Heard {
+    /// Nothing goes to a client.
+    Master,
+    /// The payload, and then so many refusals, are this client's.
+    Client { client: u64, refusals: u32 },
+    /// To a client that is lost.
+    Lost { client: u64 },
+    /// The run ends.
+    Disconnect,
+    /// The server breaks the protocol.
+    Broke(Break),
+}
+
+// The server must say which port it chose, and doesn't.
+fn misses_port(request: Request<'_>, rest: &[u8]) -> bool
+    ensures { result ≡ misses_port (request_of request.entry) rest.now }
+{
+    match request {
+        Request::Forward(Key::Tcp { port: 0, .. }) => rest.len() != 4,
+        _ => false,
+    }
+}
+
+// The port that a success tells, where it does (RFC 4254, section 7.1).
+fn told_port(rest: &[u8]) -> u32
+    ensures { result ≡ u32_at 0 rest.now }
+{
+    Cursor::new(rest).take_u32().unwrap_or(0)
+}
+
+// The key that is listened on: the one asked, with the port that the server chose where it was asked for any.
+fn bound(key: Key<'_>, chosen: u32) -> Key<'_>
+    ensures { key_of result ≡ with_port chosen (key_of key.entry) }
+{
+    match key {
+        Key::Tcp { address, port: 0 } => Key::Tcp {
+            address,
+            port: chosen,
+        },
+        Key::Tcp { .. } | Key::Path(_) => key,
+    }
+}
+
+// A cancel without reply.
+fn cancel(key: Key<'_>) -> Small
+    requires { IsShort (key_of key) }
+    ensures exact { result ≡ spelling.cancel_forward (key_of key.entry) }
+    ensures fits { IsContent Proxy result }
+{
+    match key {
+        Key::Tcp { address, port } => cancel_forward(address, port),
+        Key::Path(path) => cancel_path(path),
+    }
+}
+
+// What follows for a client that is lost where its request succeeds: what it asked for is cancelled.
+fn late_success(request: Request<'_>, rest: &[u8]) -> Option<Small>
+    requires { MayBeCancelled (request_of request) }
+    ensures exact { listed result ≡ late_success rest.now (request_of request.entry) }
+    ensures fits { IfSome result (IsContent Proxy) }
+{
+    match request {
+        Request::Forward(key) => Some(cancel(bound(key, told_port(rest)))),
+        Request::Cancel(_) | Request::KeepAlive | Request::Other => None,
+    }
+}
+
+// And where it fails: a cancel is said again.
+fn late_refusal(request: Request<'_>) -> Option<Small>
+    requires { MayBeCancelled (request_of request) }
+    ensures exact { listed result ≡ late_refusal (request_of request.entry) }
+    ensures fits { IfSome result (IsContent Proxy) }
+{
+    match request {
+        Request::Cancel(key) => Some(cancel(key)),
+        Request::Forward(_) | Request::KeepAlive | Request::Other => None,
+    }
+}
+
+impl Core {
+    /// The server says a payload. Where it goes to a client it has the client's own number for the channel afterwards.
+    pub fn heard(&mut self, payload: &mut [u8], up: &mut Queue) -> Result<Heard, OutOfMemory>
+        requires { length payload.old ≤ 262143 }
+        ensures stands { IfOk result (λ h. HearsOn self.old self.new payload.old payload.new up.old up.new h) }
+        ensures length { length payload.new ≡ length payload.old }
+        ensures spare { up.old.spare ≤ up.new.spare }
+        ensures policy { self.new.policy ≡ self.old.policy }
+        ensures err { OnErr result (up.new ≡ up.old) }
+    {
+        match read_gist(payload) {
+            Err(bad) => Ok(Heard::Broke(Break::Message(bad))),
+            Ok(Gist::Transport { number: DISCONNECT }) => Ok(Heard::Disconnect),
+            Ok(Gist::Transport { .. }) => Ok(Heard::Master),
+            Ok(Gist::Requests { what, want }) => self.hear_request(payload, what, want, up),
+            Ok(Gist::Succeeds { rest }) => self.hear_success(payload, rest, up),
+            Ok(Gist::Refuses) => self.hear_refusal(payload, up),
+            Ok(
+                Gist::Open {
+                    what,
+                    sender,
+                    window,
+                    maximum,
+                },
+            ) => self.hear_open(payload, &what, sender, window, maximum, up),
+            Ok(
+                Gist::Confirmation {
+                    recipient,
+                    sender,
+                    window,
+                    maximum,
+                },
+            ) => self.hear_confirmation(payload, recipient, sender, window, maximum, up),
+            Ok(Gist::Fails { recipient }) => Ok(self.hear_failure(payload, recipient)),
+            Ok(Gist::Within { recipient, act }) => Ok(self.hear_within(payload, recipient, act)),
+        }
+    }
+
+    // ---- global requests and their replies
+
+    // The server asks of all: the master refuses.
+    fn hear_request(
+        &self,
+        payload: &[u8],
+        what: Request<'_>,
+        want: bool,
+        up: &mut Queue,
+    ) -> Result<Heard, OutOfMemory>
+        ensures stands { IfOk result (λ h. HearsWith self.now self.now payload.now payload.now (Requests (request_of what.entry) want) up.old up.new h) }
+        ensures spare { up.new.spare ≡ up.old.spare }
+        ensures err { OnErr result (up.new ≡ up.old) }
+    {
+        if !want {
+            return Ok(Heard::Master);
+        }
+        let refusal = request_failure();
+        up.push_payload(refusal.as_bytes())?;
+        Ok(Heard::Master)
+    }
+
+    // A success: to the client whose request waits longest, and where that is lost what it asked for is cancelled.
+    fn hear_success(
+        &mut self,
+        payload: &[u8],
+        rest: &[u8],
+        up: &mut Queue,
+    ) -> Result<Heard, OutOfMemory>
+        ensures stands { IfOk result (λ h. HearsWith self.old self.new payload.now payload.now (Succeeds rest.now) up.old up.new h) }
+        ensures spare { up.new.spare ≡ up.old.spare }
+        ensures policy { self.new.policy ≡ self.old.policy }
+        ensures err { OnErr result (up.new ≡ up.old) }
+    {
+        let Some((client, ask)) = self.take_asker() else {
+            return Ok(Heard::Broke(Break::NoAsker));
+        };
+        let request = asked(&ask);
+        if misses_port(request, rest) {
+            return Ok(Heard::Broke(Break::BadReply { length: rest.len() }));
+        }
+        if self.is_lost(client) {
+            return self.hear_late(client, late_success(request, rest), up);
+        }
+        self.succeed(client, request, rest);
+        Ok(self.pass_on(client))
+    }
+
+    // A failure: to the client whose request waits longest, and where that is lost its cancel is said again.
+    fn hear_refusal(&mut self, payload: &[u8], up: &mut Queue) -> Result<Heard, OutOfMemory>
+        ensures stands { IfOk result (λ h. HearsWith self.old self.new payload.now payload.now Refuses up.old up.new h) }
+        ensures spare { up.new.spare ≡ up.old.spare }
+        ensures policy { self.new.policy ≡ self.old.policy }
+        ensures err { OnErr result (up.new ≡ up.old) }
+    {
+        let Some((client, ask)) = self.take_asker() else {
+            return Ok(Heard::Broke(Break::NoAsker));
+        };
+        let request = asked(&ask);
+        if self.is_lost(client) {
+            return self.hear_late(client, late_refusal(request), up);
+        }
+        self.fail(client, request);
+        Ok(self.pass_on(client))
+    }
+
+    // A reply for a client that is lost, and what the master sends after it.
+    fn hear_late(
+        &mut self,
+        client: u64,
+        cancel: Option<Small>,
+        up: &mut Queue,
+    ) -> Result<Heard, OutOfMemory>
+        requires { IfSome cancel (IsContent Proxy) }
+        ensures to { IfOk result (λ h. h ≡ Lost client) }
+        ensures ok { OnOk result (self.new ≡ settled self.old client) }
+        ensures sent { OnOk result (up.new ≡ with_payloads (listed cancel) up.old) }
+        ensures policy { self.new.policy ≡ self.old.policy }
+        ensures err { OnErr result (up.new ≡ up.old) }
+    {
+        if let Some(payload) = cancel {
+            up.push_payload(payload.as_bytes())?;
+        }
+        self.settle(client);
+        Ok(Heard::Lost { client })
+    }
+
+    // A reply goes to its client, and so many refusals after it as waited behind it.
+    fn pass_on(&mut self, client: u64) -> Heard
+        ensures to { result ≡ Client client (refusals_behind (waiting_of client self.old.clients)) }
+        ensures left { self.new ≡ record self.old { clients = with_waiting client after_reply self.old.clients } }
+    {
+        let refusals = self.pass_reply(client);
+        Heard::Client { client, refusals }
+    }
+
+    // What a success does to the forwardings.
+    fn succeed(&mut self, client: u64, request: Request<'_>, rest: &[u8])
+        ensures { self.new ≡ record self.old { forwards = after_success client (request_of request.entry) rest.now self.old.forwards } }
+    {
+        match request {
+            Request::Forward(key) => self.answer_forward(client, key, Some(told_port(rest))),
+            Request::Cancel(key) => self.answer_cancel(client, key, true),
+            Request::KeepAlive | Request::Other => {}
+        }
+    }
+
+    // What a failure does to them.
+    fn fail(&mut self, client: u64, request: Request<'_>)
+        ensures { self.new ≡ record self.old { forwards = after_failure client (request_of request.entry) self.old.forwards } }
+    {
+        match request {
+            Request::Forward(key) => self.answer_forward(client, key, None),
+            Request::Cancel(key) => self.answer_cancel(client, key, false),
+            Request::KeepAlive | Request::Other => {}
+        }
+    }
+
+    // ---- opens
+
+    // The server opens a channel: to the client of a live forwarding, or the master answers.
+    fn hear_open(
+        &mut self,
+        payload: &[u8],
+        what: &Opening<'_>,
+        sender: u32,
+        window: u32,
+        maximum: u32,
+        up: &mut Queue,
+    ) -> Result<Heard, OutOfMemory>
+        ensures stands { IfOk result (λ h. HearsWith self.old self.new payload.now payload.now (Open (opening_of what.now) sender window maximum) up.old up.new h) }
+        ensures spare { up.new.spare ≡ up.old.spare }
+        ensures policy { self.new.policy ≡ self.old.policy }
+        ensures err { OnErr result (up.new ≡ up.old) }
+    {
+        if self.uses_remote(sender) {
+            return Ok(Heard::Broke(Break::NumberInUse { number: sender }));
+        }
+        let Some(client) = self.owner(what) else {
+            let refusal = open_failure(sender, ADMINISTRATIVELY_PROHIBITED, b"not permitted");
+            up.push_payload(refusal.as_bytes())?;
+            return Ok(Heard::Master);
+        };
+        let ledger = Ledger::opened(Side::Down, window, maximum);
+        match self.add_remote(client, sender, ledger) {
+            Ok(number) => {
+                let _ = number;
+                return Ok(Heard::Client {
+                    client,
+                    refusals: 0,
+                });
+            }
+            Err(Refused::OutOfMemory) => return Err(OutOfMemory),
+            Err(Refused::OwnInUse) => {
+                return Ok(Heard::Broke(Break::NumberInUse { number: sender }));
+            }
+            Err(Refused::RemoteInUse { .. }) => {
+                return Ok(Heard::Broke(Break::NumberInUse { number: sender }));
+            }
+            Err(Refused::Full { .. }) => {}
+        }
+        let refusal = open_failure(sender, RESOURCE_SHORTAGE, b"too many channels");
+        up.push_payload(refusal.as_bytes())?;
+        Ok(Heard::Master)
+    }
+
+    // Whose a server's open is.
+    fn owner(&self, what: &Opening<'_>) -> Option<u64>
+        ensures { result ≡ owner_for (opening_of what.now) self.now.forwards }
+    {
+        match what {
+            Opening::Forwarded(key) => self.owner_of(*key),
+            Opening::Session | Opening::Direct(_) | Opening::Other => None,
+        }
+    }
+
+    // The server confirms a client's open: the client is told, and for one that is lost the master closes the channel.
+    fn hear_confirmation(
+        &mut self,
+        payload: &mut [u8],
+        number: u32,
+        remote: u32,
+        window: u32,
+        maximum: u32,
+        up: &mut Queue,
+    ) -> Result<Heard, OutOfMemory>
+        ensures stands { IfOk result (λ h. HearsWith self.old self.new payload.old payload.new (Confirmation number remote window maximum) up.old up.new h) }
+        ensures spare { up.new.spare ≡ up.old.spare }
+        ensures policy { self.new.policy ≡ self.old.policy }
+        ensures err { OnErr result (up.new ≡ up.old) }
+    {
+        let Some((channel, ledger)) = self.channel_for(number) else {
+            return Ok(Heard::Broke(Break::NotPending { number }));
+        };
+        if !waits(&channel, &ledger) {
+            return Ok(Heard::Broke(Break::NotPending { number }));
+        }
+        if !self.name_remote(number, remote)? {
+            return Ok(Heard::Broke(Break::NumberInUse { number: remote }));
+        }
+        let given = confirmed_ledger(ledger, window, maximum);
+        let client = channel.client;
+        if self.is_lost(client) {
+            up.push_payload(close(remote).as_bytes())?;
+            self.set_ledger(number, given.left());
+            self.settle(client);
+            return Ok(Heard::Lost { client });
+        }
+        self.set_ledger(number, given);
+        put_recipient(payload, channel.own.unwrap_or(0));
+        Ok(Heard::Client {
+            client,
+            refusals: 0,
+        })
+    }
+
+    // The server refuses a client's open.
+    fn hear_failure(&mut self, payload: &mut [u8], number: u32) -> Heard
+        ensures stands { HearsGist self.old self.new payload.old payload.new (Within number Fails) result }
+        ensures policy { self.new.policy ≡ self.old.policy }
+    {
+        let Some((channel, ledger)) = self.channel_for(number) else {
+            return Heard::Broke(Break::NotPending { number });
+        };
+        if !waits(&channel, &ledger) {
+            return Heard::Broke(Break::NotPending { number });
+        }
+        self.free(number);
+        let client = channel.client;
+        if self.is_lost(client) {
+            self.settle(client);
+            return Heard::Lost { client };
+        }
+        put_recipient(payload, channel.own.unwrap_or(0));
+        Heard::Client {
+            client,
+            refusals: 0,
+        }
+    }
+
+    // ---- channels
+
+    // What the server says in a channel that both sides have confirmed.
+    fn hear_within(&mut self, payload: &mut [u8], number: u32, act: Act) -> Heard
+        ensures stands { HearsGist self.old self.new payload.old payload.new (Within number (act_of act)) result }
+        ensures policy { self.new.policy ≡ self.old.policy }
+    {
+        let Some((channel, mut ledger)) = self.channel_for(number) else {
+            return Heard::Broke(Break::NoChannel { number });
+        };
+        if let Err(why) = ledger.take(Side::Down, act) {
+            return Heard::Broke(Break::Channel { number, why });
+        }
+        self.put(number, ledger);
+        let client = channel.client;
+        if self.is_lost(client) {
+            self.settle(client);
+            return Heard::Lost { client };
+        }
+        put_recipient(payload, channel.own.unwrap_or(0));
+        Heard::Client {
+            client,
+            refusals: 0,
+        }
+    }
+}

@@ -1,0 +1,443 @@
+ghost use Rattle.std.specs.Prelude.{◌≡◌, ◌≤◌, length, true, IfOk, IfSome, OnOk, OnErr};
+ghost use Rattle.ssh_fields.specs.Fields.{AreBytes};
+ghost use Rattle.ssh_grammar.specs.declared.framing.Framing.TheVariants.{Proxy};
+ghost use Rattle.ssh_grammar.specs.IsFrame.{IsContent};
+ghost use Rattle.ssh_grammar.specs.Messages.{Cancel, Forward, KeepAlive};
+ghost use Rattle.mux_history.specs.Gist.{Confirmation, Fails, Requests, Within};
+ghost use Rattle.window_ledger.specs.Act.{act_of};
+ghost use Rattle.mux_history.specs.Keys.{is_askable};
+ghost use Rattle.forward_rules.specs.Keys.{IsShort, key_of};
+ghost use Rattle.global_replies.specs.Asks.{what_of};
+ghost use Rattle.global_replies.specs.Asks as asks;
+ghost use Rattle.mux_core.specs.Calls.{AnswerFits, SaysAs, SaysOn, SaysSome, StartsOn};
+ghost use Rattle.mux_core.specs.Gists.{opening_of, request_of};
+ghost use Rattle.mux_core.specs.Opening.{fails_with, open_verdict};
+ghost use Rattle.mux_core.specs.Requesting.{SaysRoomy, after_refusal, is_full, may_ask, refusal, waiting_of};
+
+use crate::reading::{Gist, Opening, Request, read_gist};
+use crate::state::{Core, confirmed_ledger, note_bytes, put_sender};
+use crate::verdict::Verdict;
+use channel_table::Refused;
+use conn_messages::{open_failure, request_failure};
+use forward_rules::{ForwardRefused, Key};
+use global_replies::Ask;
+use mux_history::Why;
+use mux_history::limits::{MAX_ADDRESS, MAX_GLOBAL_REQUESTS};
+use proxy_frames::Queue;
+use ssh_fields::{OutOfMemory, Small};
+use ssh_grammar::Side;
+use ssh_grammar::numbers::*;
+use window_ledger::{Act, Ledger};
+
+// The answer to an open that fails.
+fn refuse(sender: u32, reason: u32, text: &[u8]) -> Verdict
+    requires { length text.now ≤ 64 }
+    ensures { result ≡ fails_with sender reason text.now }
+{
+    Verdict::Answer(open_failure(sender, reason, text))
+}
+
+// An address or a path that isn't too long; a path isn't empty.
+fn is_askable(key: Key<'_>) -> bool
+    ensures exact { result ≡ is_askable (key_of key.entry) }
+    ensures short { result ≡ true → IsShort (key_of key.entry) }
+{
+    match key {
+        Key::Tcp { address, .. } => address.len() <= MAX_ADDRESS,
+        Key::Path(path) => !path.is_empty() && path.len() <= MAX_ADDRESS,
+    }
+}
+
+// A request for a forwarding.
+fn ask_forward(key: Key<'_>) -> Ask
+    requires { IsShort (key_of key) }
+    ensures exact { what_of result ≡ Forward (key_of key.entry) }
+    ensures short { asks.IsShort result }
+{
+    match key {
+        Key::Tcp { address, port } => Ask::Forward {
+            address: Small::copy(address),
+            port,
+        },
+        Key::Path(path) => Ask::PathForward {
+            path: Small::copy(path),
+        },
+    }
+}
+
+// A cancel of one.
+fn ask_cancel(key: Key<'_>) -> Ask
+    requires { IsShort (key_of key) }
+    ensures exact { what_of result ≡ Cancel (key_of key.entry) }
+    ensures short { asks.IsShort result }
+{
+    match key {
+        Key::Tcp { address, port } => Ask::Cancel {
+            address: Small::copy(address),
+            port,
+        },
+        Key::Path(path) => Ask::PathCancel {
+            path: Small::copy(path),
+        },
+    }
+}
+
+impl Core {
+    /// A client that is served says a payload. A `Drop` changes nothing: the next call is `gone`, which completes the
+    /// row.
+    pub fn said(
+        &mut self,
+        client: u64,
+        payload: &mut [u8],
+        up: &mut Queue,
+    ) -> Result<Verdict, OutOfMemory>
+        requires { length payload.old ≤ 262143 }
+        ensures stands { IfOk result (λ v. SaysOn self.old self.new client payload.old up.old up.new v) }
+        ensures fits { IfOk result AnswerFits }
+        ensures spare { up.old.spare ≤ up.new.spare }
+        ensures policy { self.new.policy ≡ self.old.policy }
+        ensures err { OnErr result (up.new ≡ up.old) }
+    {
+        note_bytes(payload);
+        let (sender, window, maximum) = match read_gist(payload) {
+            Err(bad) => return Ok(Verdict::Drop(Why::BadMessage(bad))),
+            Ok(Gist::Transport { number: DISCONNECT }) => {
+                return Ok(Verdict::Drop(Why::Disconnected));
+            }
+            Ok(Gist::Transport { .. }) => return Ok(Verdict::Silent),
+            Ok(Gist::Succeeds { .. }) => {
+                return Ok(Verdict::Drop(Why::Unasked {
+                    number: REQUEST_SUCCESS,
+                }));
+            }
+            Ok(Gist::Refuses) => {
+                return Ok(Verdict::Drop(Why::Unasked {
+                    number: REQUEST_FAILURE,
+                }));
+            }
+            Ok(Gist::Requests { what, want }) => {
+                return self.say_request(client, payload, what, want, up);
+            }
+            Ok(Gist::Fails { recipient }) => {
+                return self.say_failure(client, payload, recipient, up);
+            }
+            Ok(Gist::Within { recipient, act }) => {
+                return self.say_within(client, payload, recipient, act, up);
+            }
+            Ok(
+                Gist::Confirmation {
+                    recipient,
+                    sender,
+                    window,
+                    maximum,
+                },
+            ) => {
+                return self.say_confirmation(
+                    client, payload, recipient, sender, window, maximum, up,
+                );
+            }
+            Ok(
+                Gist::Open {
+                    what,
+                    sender,
+                    window,
+                    maximum,
+                },
+            ) => {
+                if let Some(verdict) = self.judge_open(client, sender, &what) {
+                    return Ok(verdict);
+                }
+                (sender, window, maximum)
+            }
+        };
+        self.start(client, payload, sender, window, maximum, up)
+    }
+
+    // ---- opens
+
+    // The verdict on an open that isn't sent, whatever room there is.
+    fn judge_open(&self, client: u64, sender: u32, what: &Opening<'_>) -> Option<Verdict>
+        ensures exact { result ≡ open_verdict self.now client sender (opening_of what.now) }
+        ensures fits { IfSome result AnswerFits }
+    {
+        if self.uses_own(client, sender) {
+            return Some(Verdict::Drop(Why::OwnInUse { number: sender }));
+        }
+        match what {
+            Opening::Session => None,
+            Opening::Direct(key) => {
+                if self.permits_open(*key) {
+                    None
+                } else {
+                    Some(refuse(sender, ADMINISTRATIVELY_PROHIBITED, b"not permitted"))
+                }
+            }
+            Opening::Forwarded(_) | Opening::Other => {
+                Some(refuse(sender, UNKNOWN_CHANNEL_TYPE, b"unknown channel type"))
+            }
+        }
+    }
+
+    // An open that may be sent, where the client has room for a channel.
+    fn start(
+        &mut self,
+        client: u64,
+        payload: &mut [u8],
+        sender: u32,
+        window: u32,
+        maximum: u32,
+        up: &mut Queue,
+    ) -> Result<Verdict, OutOfMemory>
+        requires content { IsContent Proxy payload.old }
+        requires bytes { AreBytes payload.old }
+        ensures stands { IfOk result (λ v. StartsOn self.old self.new client payload.old sender window maximum up.old up.new v) }
+        ensures fits { IfOk result AnswerFits }
+        ensures spare { up.new.spare ≡ up.old.spare }
+        ensures policy { self.new.policy ≡ self.old.policy }
+        ensures err { OnErr result (up.new ≡ up.old) }
+    {
+        let ledger = Ledger::opened(Side::Up, window, maximum);
+        let number = match self.add_own(client, sender, ledger) {
+            Ok(number) => number,
+            Err(Refused::OutOfMemory) => return Err(OutOfMemory),
+            Err(Refused::Full { .. }) => {
+                return Ok(refuse(sender, RESOURCE_SHORTAGE, b"too many channels"));
+            }
+            Err(Refused::OwnInUse) => return Ok(Verdict::Drop(Why::OwnInUse { number: sender })),
+            Err(Refused::RemoteInUse { .. }) => {
+                return Ok(Verdict::Drop(Why::OwnInUse { number: sender }));
+            }
+        };
+        put_sender(payload, number);
+        up.push_payload(payload)?;
+        Ok(Verdict::Sent)
+    }
+
+    // A client confirms a server's open.
+    fn say_confirmation(
+        &mut self,
+        client: u64,
+        payload: &mut [u8],
+        remote: u32,
+        sender: u32,
+        window: u32,
+        maximum: u32,
+        up: &mut Queue,
+    ) -> Result<Verdict, OutOfMemory>
+        requires content { IsContent Proxy payload.old }
+        requires bytes { AreBytes payload.old }
+        ensures stands { IfOk result (λ v. SaysSome self.old self.new client payload.old (Confirmation remote sender window maximum) up.old up.new v) }
+        ensures fits { IfOk result AnswerFits }
+        ensures spare { up.new.spare ≡ up.old.spare }
+        ensures policy { self.new.policy ≡ self.old.policy }
+        ensures err { OnErr result (up.new ≡ up.old) }
+    {
+        let Some((number, ledger)) = self.waiting_for(client, remote) else {
+            return Ok(Verdict::Drop(Why::NotYours { number: remote }));
+        };
+        if !self.name_own(number, sender)? {
+            return Ok(Verdict::Drop(Why::OwnInUse { number: sender }));
+        }
+        put_sender(payload, number);
+        up.push_payload(payload)?;
+        self.set_ledger(number, confirmed_ledger(ledger, window, maximum));
+        Ok(Verdict::Sent)
+    }
+
+    // A client refuses a server's open.
+    fn say_failure(
+        &mut self,
+        client: u64,
+        payload: &[u8],
+        remote: u32,
+        up: &mut Queue,
+    ) -> Result<Verdict, OutOfMemory>
+        requires { IsContent Proxy payload.now }
+        ensures stands { IfOk result (λ v. SaysAs self.old self.new client payload.now (Within remote Fails) 0 up.old up.new v) }
+        ensures fits { IfOk result AnswerFits }
+        ensures spare { up.new.spare ≡ up.old.spare }
+        ensures policy { self.new.policy ≡ self.old.policy }
+        ensures err { OnErr result (up.new ≡ up.old) }
+    {
+        let Some((number, _)) = self.waiting_for(client, remote) else {
+            return Ok(Verdict::Drop(Why::NotYours { number: remote }));
+        };
+        up.push_payload(payload)?;
+        self.free(number);
+        Ok(Verdict::Sent)
+    }
+
+    // What a client says in a channel that both sides have confirmed.
+    fn say_within(
+        &mut self,
+        client: u64,
+        payload: &[u8],
+        remote: u32,
+        act: Act,
+        up: &mut Queue,
+    ) -> Result<Verdict, OutOfMemory>
+        requires { IsContent Proxy payload.now }
+        ensures stands { IfOk result (λ v. SaysAs self.old self.new client payload.now (Within remote (act_of act)) 0 up.old up.new v) }
+        ensures fits { IfOk result AnswerFits }
+        ensures spare { up.new.spare ≡ up.old.spare }
+        ensures policy { self.new.policy ≡ self.old.policy }
+        ensures err { OnErr result (up.new ≡ up.old) }
+    {
+        let Some((number, mut ledger)) = self.confirmed_for(client, remote) else {
+            return Ok(Verdict::Drop(Why::NotYours { number: remote }));
+        };
+        if let Err(why) = ledger.take(Side::Up, act) {
+            return Ok(Verdict::Drop(Why::Channel {
+                number: remote,
+                why,
+            }));
+        }
+        up.push_payload(payload)?;
+        self.put(number, ledger);
+        Ok(Verdict::Sent)
+    }
+
+    // ---- global requests
+
+    // What a client asks of all.
+    fn say_request(
+        &mut self,
+        client: u64,
+        payload: &[u8],
+        what: Request<'_>,
+        want: bool,
+        up: &mut Queue,
+    ) -> Result<Verdict, OutOfMemory>
+        requires { IsContent Proxy payload.now }
+        ensures stands { IfOk result (λ v. SaysAs self.old self.new client payload.now (Requests (request_of what.entry) want) 0 up.old up.new v) }
+        ensures fits { IfOk result AnswerFits }
+        ensures spare { up.new.spare ≡ up.old.spare }
+        ensures policy { self.new.policy ≡ self.old.policy }
+        ensures err { OnErr result (up.new ≡ up.old) }
+    {
+        if self.is_full(client, want) {
+            return Ok(Verdict::Drop(Why::TooManyAsks {
+                have: MAX_GLOBAL_REQUESTS,
+            }));
+        }
+        match what {
+            Request::KeepAlive => return self.say_alive(client, payload, want, up),
+            Request::Other => return self.refuse_request(client, want),
+            Request::Forward(key) => return self.say_forward(client, payload, key, want, up),
+            Request::Cancel(key) => return self.say_cancel(client, payload, key, want, up),
+        }
+    }
+
+    // Whether a client's request is one too many.
+    fn is_full(&self, client: u64, want: bool) -> bool
+        ensures { result ≡ is_full want (waiting_of client self.now.clients) }
+    {
+        want && self.waiting(client) >= MAX_GLOBAL_REQUESTS
+    }
+
+    // Whether a client may ask for a forwarding, however many it has.
+    fn may_listen(&self, key: Key<'_>, want: bool) -> bool
+        ensures exact { result ≡ may_ask self.now.policy (key_of key.entry) want }
+        ensures short { result ≡ true → IsShort (key_of key.entry) }
+    {
+        want && is_askable(key) && self.permits_listen(key)
+    }
+
+    // A request that isn't sent.
+    fn refuse_request(&mut self, client: u64, want: bool) -> Result<Verdict, OutOfMemory>
+        ensures verdict { IfOk result (λ v. v ≡ refusal want (waiting_of client self.old.clients)) }
+        ensures fits { IfOk result AnswerFits }
+        ensures ok { OnOk result (self.new ≡ record self.old { clients = after_refusal want client self.old.clients }) }
+        ensures policy { self.new.policy ≡ self.old.policy }
+    {
+        if !want {
+            return Ok(Verdict::Silent);
+        }
+        let now = self.refuse_waiting(client)?;
+        if now {
+            return Ok(Verdict::Answer(request_failure()));
+        }
+        Ok(Verdict::Held)
+    }
+
+    // A client asks whether the server is there.
+    fn say_alive(
+        &mut self,
+        client: u64,
+        payload: &[u8],
+        want: bool,
+        up: &mut Queue,
+    ) -> Result<Verdict, OutOfMemory>
+        requires { IsContent Proxy payload.now }
+        ensures stands { IfOk result (λ v. SaysRoomy self.old self.new client payload.now KeepAlive want up.old up.new v) }
+        ensures fits { IfOk result AnswerFits }
+        ensures spare { up.new.spare ≡ up.old.spare }
+        ensures policy { self.new.policy ≡ self.old.policy }
+        ensures err { OnErr result (up.new ≡ up.old) }
+    {
+        if want {
+            self.await_reply(client, Ask::KeepAlive)?;
+            up.push_payload(payload)?;
+            return Ok(Verdict::Sent);
+        }
+        up.push_payload(payload)?;
+        Ok(Verdict::Sent)
+    }
+
+    // A client asks for a forwarding.
+    fn say_forward(
+        &mut self,
+        client: u64,
+        payload: &[u8],
+        key: Key<'_>,
+        want: bool,
+        up: &mut Queue,
+    ) -> Result<Verdict, OutOfMemory>
+        requires { IsContent Proxy payload.now }
+        ensures stands { IfOk result (λ v. SaysRoomy self.old self.new client payload.now (Forward (key_of key.entry)) want up.old up.new v) }
+        ensures fits { IfOk result AnswerFits }
+        ensures spare { up.new.spare ≡ up.old.spare }
+        ensures policy { self.new.policy ≡ self.old.policy }
+        ensures err { OnErr result (up.new ≡ up.old) }
+    {
+        if !self.may_listen(key, want) {
+            return self.refuse_request(client, want);
+        }
+        match self.add_forward(client, key) {
+            Ok(()) => {}
+            Err(ForwardRefused::Full { .. }) => return self.refuse_request(client, want),
+            Err(ForwardRefused::OutOfMemory) => return Err(OutOfMemory),
+        }
+        self.await_reply(client, ask_forward(key))?;
+        up.push_payload(payload)?;
+        Ok(Verdict::Sent)
+    }
+
+    // A client cancels a forwarding.
+    fn say_cancel(
+        &mut self,
+        client: u64,
+        payload: &[u8],
+        key: Key<'_>,
+        want: bool,
+        up: &mut Queue,
+    ) -> Result<Verdict, OutOfMemory>
+        requires { IsContent Proxy payload.now }
+        ensures stands { IfOk result (λ v. SaysRoomy self.old self.new client payload.now (Cancel (key_of key.entry)) want up.old up.new v) }
+        ensures fits { IfOk result AnswerFits }
+        ensures spare { up.new.spare ≡ up.old.spare }
+        ensures policy { self.new.policy ≡ self.old.policy }
+        ensures err { OnErr result (up.new ≡ up.old) }
+    {
+        if !self.cancel_forward(client, key, want) {
+            return self.refuse_request(client, want);
+        }
+        if want {
+            self.await_reply(client, ask_cancel(key))?;
+            up.push_payload(payload)?;
+            return Ok(Verdict::Sent);
+        }
+        up.push_payload(payload)?;
+        Ok(Verdict::Sent)
+    }
+}

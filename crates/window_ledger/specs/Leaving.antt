@@ -1,0 +1,37 @@
+-- What a client that is lost leaves of an account: CLOSE is said in a channel that is confirmed.
+use Rattle.std.specs.Prelude.{◌&&◌, Bool, true, false}
+use Rattle.window_ledger.specs.declared.account.Speech.{Speech}
+use Rattle.window_ledger.specs.declared.account.Speech.TheVariants.{Speaking, Ended, Closed}
+use Rattle.window_ledger.specs.declared.ledger.Ledger.{Ledger}
+use Rattle.window_ledger.specs.declared.ledger.State.{State}
+use Rattle.window_ledger.specs.declared.ledger.State.TheVariants.{Opened, Confirmed}
+
+-- the sender of a direction has sent CLOSE
+abbrev pub is_closed : Speech → Bool
+is_closed Speaking = false
+is_closed Ended = false
+is_closed Closed = true
+
+abbrev pub said_close_in : State → Bool
+said_close_in (Opened by window maximum) = false
+said_close_in (Confirmed up down) = is_closed up.speech
+
+-- the client has sent CLOSE
+abbrev pub said_close : Ledger → Bool
+said_close ledger = said_close_in ledger.state
+
+abbrev pub is_over_in : State → Bool
+is_over_in (Opened by window maximum) = false
+is_over_in (Confirmed up down) = is_closed up.speech && is_closed down.speech
+
+-- both sides have sent CLOSE
+abbrev pub is_over : Ledger → Bool
+is_over ledger = is_over_in ledger.state
+
+abbrev pub left_state : State → State
+left_state (Opened by window maximum) = Opened by window maximum
+left_state (Confirmed up down) = Confirmed (record up { speech = Closed }) down
+
+-- the account after the client's CLOSE, where its channel is confirmed
+abbrev pub left : Ledger → Ledger
+left ledger = record ledger { state = left_state ledger.state }
