@@ -1,0 +1,191 @@
+-- Paths that are found in whatever order have the same texts.
+use Rattle.std.proofs.Common.{◌≡◌, ℕ, zero, suc, ◌+◌, ◌-◌, ◌<◌, ◌≤◌, Bool, true, false, cond, eqb, ◌&&◌, ◌||◌, not, List, [], ◌∷◌, ◌++◌, length, take, drop, get_or, Option, Some, None, Ok, map, is_some, refl, sym, ap, subst, ◌∙◌, append-nil, append_assoc, Result, Err, arith}
+use Rattle.std.specs.Prelude.{sum_by, filter, filter_map, flat_map, fold, bytes_eq, IsPermutation, IfOk}
+use Rattle.std.specs.List.{list_any}
+use Rattle.std.specs.Option.{option_and_then, option_map}
+use Rattle.std.proofs.lemmas.List.Sorted.{sum_by-IsPermutation}
+use Rattle.std.proofs.lemmas.List.Sums.{sum_by-cons, sum_by-append, sum_by_push}
+use Rattle.mux_outside.specs.declared.pairs.Pair.{Pair}
+use Rattle.mux_outside.specs.Files.{inside, is_directory, as_name, name_in, with_name, names_in, Lists}
+use Rattle.conf_rules.specs.Texts.{Bytes, is_empty, split_at_first, split_at_each, with_front, onto_first}
+use Rattle.conf_rules.specs.Told.{Told}
+use Rattle.conf_rules.specs.Globs.{is_glob, component_takes}
+use Rattle.conf_rules.specs.Order.{sorted}
+use Rattle.conf_rules.specs.Includes.{or_root, below, along, components_of, ends_with_slash, globbed}
+use Rattle.conf_reader.specs.Known.{TellsFiles}
+use Rattle.conf_reader.specs.Paths.{SameTexts, with_component}
+use Rattle.conf_reader.proofs.OrderLemmas.{same-sorted}
+
+-- ---- sums
+
+sum-map : (f : Bytes → ℕ) (g : Bytes → Bytes) (xs : List Bytes) → sum_by f (map g xs) ≡ sum_by (λ x. f (g x)) xs
+sum-map f g [] = refl
+sum-map f g (x ∷ xs) = sum_by-cons f (g x) (map g xs) ∙ ap (λ n. f (g x) + n) (sum-map f g xs) ∙ sym (sum_by-cons (λ x. f (g x)) x xs)
+
+sum-first : (f : Bytes → ℕ) (p : Bytes → Bool) (x : Bytes) (xs : List Bytes) (t : Bool) → p x ≡ t → sum_by f (filter p xs) ≡ sum_by (λ x. cond (p x) (f x) 0) xs → sum_by f (filter p (x ∷ xs)) ≡ cond (p x) (f x) 0 + sum_by (λ x. cond (p x) (f x) 0) xs
+sum-first f p x xs true e later = rw e (sum_by-cons f x (filter p xs) ∙ ap (λ n. f x + n) later)
+sum-first f p x xs false e later = rw e (omega (arith, later))
+
+sum-filter : (f : Bytes → ℕ) (p : Bytes → Bool) (xs : List Bytes) → sum_by f (filter p xs) ≡ sum_by (λ x. cond (p x) (f x) 0) xs
+sum-filter f p [] = refl
+sum-filter f p (x ∷ xs) = sum-first f p x xs (p x) refl (sum-filter f p xs) ∙ sym (sum_by-cons (λ x. cond (p x) (f x) 0) x xs)
+
+sum-flat : (f : Bytes → ℕ) (g : Bytes → List Bytes) (xs : List Bytes) → sum_by f (flat_map g xs) ≡ sum_by (λ x. sum_by f (g x)) xs
+sum-flat f g [] = refl
+sum-flat f g (x ∷ xs) = sum_by-append f (g x) (flat_map g xs) ∙ ap (λ n. sum_by f (g x) + n) (sum-flat f g xs) ∙ sym (sum_by-cons (λ x. sum_by f (g x)) x xs)
+
+flat-append : (g : Bytes → List Bytes) (xs : List Bytes) (y : Bytes) → flat_map g (xs ++ y ∷ []) ≡ flat_map g xs ++ g y
+flat-append g [] y = append-nil (g y)
+flat-append g (x ∷ xs) y = ap (λ zs. g x ++ zs) (flat-append g xs y) ∙ sym (append_assoc (g x) (flat_map g xs) (g y))
+
+pub same-lists : (xs ys : List Bytes) → xs ≡ ys → SameTexts xs ys
+same-lists xs ys e f = ap (sum_by f) (sym e)
+
+pub same-more : (front xs ys : List Bytes) → SameTexts xs ys → SameTexts (front ++ xs) (front ++ ys)
+same-more front xs ys same f = let a = sum_by-append f front xs in let b = sum_by-append f front ys in let s = same f in omega (arith, a, b, s)
+
+pub same-then : (xs ys zs : List Bytes) → SameTexts xs ys → SameTexts ys zs → SameTexts xs zs
+same-then xs ys zs a b f = b f ∙ a f
+
+-- what stands below paths is the same in whatever order they are
+same-flat : (g : Bytes → List Bytes) (xs ys : List Bytes) → SameTexts xs ys → SameTexts (flat_map g xs) (flat_map g ys)
+same-flat g xs ys same f = sum-flat f g ys ∙ same (λ x. sum_by f (g x)) ∙ sym (sum-flat f g xs)
+
+pub same-along : (told : Told) (components : List Bytes) (xs ys : List Bytes) → SameTexts xs ys → SameTexts (along told components xs) (along told components ys)
+same-along told [] xs ys same = same
+same-along told (c ∷ cs) xs ys same = same-along told cs (flat_map (below told c) xs) (flat_map (below told c) ys) (same-flat (below told c) xs ys same)
+
+-- ---- one directory
+
+or-second : (a b : Bool) → (a || b) ≡ false → b ≡ false
+or-second true b e = absurd cc
+or-second false b e = e
+
+or-first : (a b : Bool) → (a || b) ≡ false → a ≡ false
+or-first true b e = absurd cc
+or-first false b e = refl
+
+none-inside : (f : List ℕ → List ℕ) (o : Option (List ℕ)) → is_some o ≡ false → option_and_then as_name (option_map f o) ≡ None
+none-inside f None e = refl
+none-inside f (Some x) e = absurd cc
+
+no-names : (dir : Bytes) (files : List Pair) → list_any (λ p. is_some (inside dir p.name)) files ≡ false → filter_map (name_in dir) files ≡ []
+no-names dir [] e = refl
+no-names dir (p ∷ ps) e =
+    let here : name_in dir p ≡ None = none-inside _ (inside dir p.name) (or-first (is_some (inside dir p.name)) (list_any (λ q. is_some (inside dir q.name)) ps) e) in
+    rw here (no-names dir ps (or-second (is_some (inside dir p.name)) (list_any (λ q. is_some (inside dir q.name)) ps) e))
+
+no-directory : (dir : Bytes) (files : List Pair) → is_directory files (or_root dir) ≡ false → names_in files (or_root dir) ≡ []
+no-directory [] files e = absurd cc
+no-directory (b ∷ bs) files e = ap (fold with_name []) (no-names (b ∷ bs) files (or-second (bytes_eq (b ∷ bs) (47 ∷ [])) (list_any (λ p. is_some (inside (b ∷ bs) p.name)) files) e))
+
+-- the paths of the names that a component takes
+abbrev pub taken : Bytes → Bytes → List Bytes → List Bytes
+taken component base names = map (λ name. base ++ 47 ∷ name) (filter (component_takes component) names)
+
+below-glob : (told : Told) (component base : Bytes) → is_glob component ≡ true → below told component base ≡ taken component base (told.names (or_root base))
+below-glob told component base e = rw e refl
+
+pub below-none : (tells : Option (List Pair)) (told : Told) (component base : Bytes) (names : Option (List Bytes)) → TellsFiles tells told → Lists tells (or_root base) (Ok names) → names ≡ None → is_glob component ≡ true → below told component base ≡ []
+below-none None told component base names t h n g = absurd t
+below-none (Some files) told component base (Some ns) t h n g = absurd cc
+below-none (Some files) told component base None t h n g =
+    below-glob told component base g ∙ ap (λ f. taken component base (f (or_root base))) t.1 ∙ ap (taken component base) (no-directory base files h)
+
+same-taken : (component base : Bytes) (xs ys : List Bytes) → SameTexts xs ys → SameTexts (taken component base xs) (taken component base ys)
+same-taken component base xs ys same f =
+    let part : Bytes → ℕ = λ name. cond (component_takes component name) (f (base ++ 47 ∷ name)) 0 in
+    let counted : (zs : List Bytes) → sum_by f (taken component base zs) ≡ sum_by part zs = λ zs. sum-map f (λ name. base ++ 47 ∷ name) (filter (component_takes component) zs) ∙ sum-filter (λ name. f (base ++ 47 ∷ name)) (component_takes component) zs in
+    counted ys ∙ same part ∙ sym (counted xs)
+
+pub below-some : (tells : Option (List Pair)) (told : Told) (component base : Bytes) (names : Option (List Bytes)) (ns : List Bytes) → TellsFiles tells told → Lists tells (or_root base) (Ok names) → names ≡ Some ns → is_glob component ≡ true
+    → SameTexts (below told component base) (taken component base ns)
+below-some None told component base names ns t h n g = absurd t
+below-some (Some files) told component base None ns t h n g = absurd cc
+below-some (Some files) told component base (Some ms) ns t h n g =
+    let same : ms ≡ ns = cc in
+    let listed : SameTexts (names_in files (or_root base)) ms = λ f. sum_by-IsPermutation f (names_in files (or_root base)) ms h.1 in
+    let from : below told component base ≡ taken component base (names_in files (or_root base)) = below-glob told component base g ∙ ap (λ f. taken component base (f (or_root base))) t.1 in
+    let to : taken component base ms ≡ taken component base ns = ap (taken component base) same in
+    λ f. sym (ap (sum_by f) to) ∙ same-taken component base (names_in files (or_root base)) ms listed f ∙ sym (ap (sum_by f) from)
+
+-- ---- several directories
+
+pub take-more : (xs : List Bytes) (i : ℕ) (x : Bytes) → i < length xs → x ≡ get_or xs i x → take (i + 1) xs ≡ take i xs ++ x ∷ []
+take-more [] i x h e = absurd (omega (arith, h))
+take-more (y ∷ ys) zero x h e = ap (λ z. z ∷ []) (sym e)
+take-more (y ∷ ys) (suc i) x h e =
+    let more : suc i + 1 ≡ suc (i + 1) = omega arith in
+    rw more (ap (λ zs. y ∷ zs) (take-more ys i x (omega (arith, h)) e))
+
+pub one-below : (told : Told) (component : Bytes) (bases : List Bytes) (i : ℕ) (base : Bytes) (old new : List Bytes) → i < length bases → base ≡ get_or bases i base
+    → SameTexts (flat_map (below told component) (take i bases)) old → SameTexts (old ++ below told component base) new → SameTexts (flat_map (below told component) (take (i + 1) bases)) new
+one-below told component bases i base old new h e so_far more f =
+    let g = below told component in
+    let a = sum_by-append f old (g base) in
+    let b = sum-flat f g (take i bases) in
+    let c = sum-flat f g (take (i + 1) bases) in
+    let d = ap (sum_by (λ x. sum_by f (g x))) (take-more bases i base h e) in
+    let k = sum_by_push (λ x. sum_by f (g x)) (take i bases) base in
+    let s = so_far f in
+    let m = more f in
+    omega (arith, a, b, c, d, k, s, m)
+
+-- ---- components
+
+pair_of : Bytes → Option (Bytes × Bytes) → List Bytes
+pair_of bs None = bs ∷ []
+pair_of bs (Some p) = p.0 ∷ split_at_each 47 p.1
+
+front : (b : ℕ) (bs : Bytes) (o : Option (Bytes × Bytes)) → onto_first b (pair_of bs o) ≡ pair_of (b ∷ bs) (with_front b o)
+unfolding pair_of
+front b bs None = refl
+front b bs (Some p) = refl
+
+parts_one : (b : ℕ) (bs : Bytes) (t : Bool) → eqb b 47 ≡ t → split_at_each 47 bs ≡ pair_of bs (split_at_first 47 bs) → split_at_each 47 (b ∷ bs) ≡ pair_of (b ∷ bs) (split_at_first 47 (b ∷ bs))
+unfolding pair_of
+parts_one b bs true t others = rw t refl
+parts_one b bs false t others = rw t (ap (onto_first b) others ∙ front b bs (split_at_first 47 bs))
+
+parts : (bs : Bytes) → split_at_each 47 bs ≡ pair_of bs (split_at_first 47 bs)
+unfolding pair_of
+parts [] = refl
+parts (b ∷ bs) = parts_one b bs (eqb b 47) refl (parts bs)
+
+with-first : (told : Told) (component : Bytes) (others bases : List Bytes) (t : Bool) → is_empty component ≡ t
+    → along told (filter (λ c. not (is_empty c)) (component ∷ others)) bases ≡ along told (filter (λ c. not (is_empty c)) others) (with_component told component bases)
+with-first told component others bases true e = rw e refl
+with-first told component others bases false e = rw e refl
+
+pub some-component : (told : Told) (left component rest : Bytes) (bases : List Bytes) → Some (component, rest) ≡ split_at_first 47 left
+    → along told (components_of left) bases ≡ along told (components_of rest) (with_component told component bases)
+unfolding pair_of
+some-component told left component rest bases e =
+    ap (λ cs. along told (filter (λ c. not (is_empty c)) cs) bases) (parts left ∙ ap (pair_of left) (sym e)) ∙ with-first told component (split_at_each 47 rest) bases (is_empty component) refl
+
+pub last-component : (told : Told) (left : Bytes) (bases : List Bytes) → None ≡ split_at_first 47 left → along told (components_of left) bases ≡ with_component told left bases
+unfolding pair_of
+last-component told left bases e =
+    ap (λ cs. along told (filter (λ c. not (is_empty c)) cs) bases) (parts left ∙ ap (pair_of left) (sym e)) ∙ with-first told left [] bases (is_empty left) refl
+
+-- a component that isn't empty
+pub not-empty : (told : Told) (component : Bytes) (bases : List Bytes) → is_empty component ≡ false → with_component told component bases ≡ flat_map (below told component) bases
+not-empty told component bases e = rw e refl
+
+-- what holds of a result that is there, by what holds of it
+pub if-ok : {T E : Type 0} (P Q : T → Type 0) (r : Result T E) → ((x : T) → P x → Q x) → IfOk r P → IfOk r Q
+if-ok P Q (Ok x) f h = f x h
+if-ok P Q (Err e) f h = tt
+
+-- found paths, sorted, are what a path with globs stands for
+pub globbed-is : (told : Told) (path : Bytes) (found all : List Bytes) → is_glob path ≡ true → ends_with_slash path ≡ false → SameTexts (along told (components_of path) ([] ∷ [])) found → all ≡ sorted found → all ≡ globbed told path
+unfolding globbed
+globbed-is told path found all g e same s = s ∙ sym (same-sorted (along told (components_of path) ([] ∷ [])) found same) ∙ rw (g, e) refl
+
+pub more-globbed : (told : Told) (paths : List Bytes) (i : ℕ) (path : Bytes) (old here : List Bytes) → i < length paths → path ≡ get_or paths i path → old ≡ flat_map (globbed told) (take i paths) → here ≡ globbed told path
+    → old ++ here ≡ flat_map (globbed told) (take (i + 1) paths)
+more-globbed told paths i path old here h e so_far k =
+    rw (so_far, k, take-more paths i path h e) (sym (flat_map-push (take i paths)))
+  where
+    flat_map-push : (xs : List Bytes) → flat_map (globbed told) (xs ++ path ∷ []) ≡ flat_map (globbed told) xs ++ globbed told path
+    flat_map-push xs = flat-append (globbed told) xs path

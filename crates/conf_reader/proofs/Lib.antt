@@ -1,0 +1,13 @@
+pub mod BetweenLemmas
+pub mod CauseLemmas
+pub mod ExpandLemmas
+pub mod FirstLemmas
+pub mod FoundLemmas
+pub mod LeftLemmas
+pub mod LineLemmas
+pub mod NextLemmas
+pub mod OneLemmas
+pub mod OpenLemmas
+pub mod OrderLemmas
+pub mod PathLemmas
+pub mod TakeLemmas

@@ -1,0 +1,103 @@
+-- Paths, their components, and lists of them in whatever order.
+use Rattle.std.proofs.Common.{◌≡◌, ℕ, zero, suc, ◌+◌, ◌-◌, ◌<◌, ◌≤◌, Bool, true, false, cond, eqb, ◌&&◌, ◌||◌, not, List, [], ◌∷◌, ◌++◌, length, take, drop, get_or, Option, Some, None, Result, Ok, Err, map, refl, sym, ap, subst, ◌∙◌, add-one, drop-cons, append_assoc, append-nil, arith}
+use Rattle.std.specs.Prelude.{sum_by, filter, flat_map}
+use Rattle.std.specs.Bool.{OnFalse}
+use Rattle.conf_rules.specs.declared.causes.TokenError.{TokenError}
+use Rattle.conf_rules.specs.declared.causes.TokenError.TheVariants.{Unknown, LoneAtEnd, FactMissing, NoVariable, OpenBrace, OutOfMemory}
+use Rattle.conf_rules.specs.Results.{◌>>=◌, Fails}
+use Rattle.conf_rules.specs.Wants.{token_wants_memory}
+use Rattle.conf_rules.specs.Texts.{Bytes, split_last}
+use Rattle.conf_rules.specs.Told.{Facts, Told}
+use Rattle.conf_rules.specs.Includes.{Source, ends_with_slash, paths_of, below, along}
+use Rattle.conf_rules.specs.Words.{words_of}
+use Rattle.conf_reader.specs.Left.{named_by, FoundPaths}
+use Rattle.conf_reader.specs.Results.{of_token}
+use Rattle.conf_reader.specs.Paths.{path_from, paths_from, all_globbed}
+
+-- ---- the end of a path
+
+split-end : (inner : Bytes) (b : ℕ) → split_last (inner ++ b ∷ []) ≡ Some (inner, b)
+split-end [] b = refl
+split-end (x ∷ xs) b = rw (split-end xs b) refl
+
+last-split : (inner : Bytes) (n : ℕ) → length inner ≡ n + 1 → inner ≡ take n inner ++ get_or inner n 0 ∷ []
+last-split [] n h = absurd (omega (arith, h))
+last-split (x ∷ []) zero h = refl
+last-split (x ∷ []) (suc n) h = absurd (omega (arith, h))
+last-split (x ∷ y ∷ ys) zero h = absurd (omega (arith, h))
+last-split (x ∷ y ∷ ys) (suc n) h = ap (λ l. x ∷ l) (last-split (y ∷ ys) n (omega (arith, h)))
+
+pub slash-end : (path : Bytes) (n : ℕ) → length path ≡ n + 1 → eqb (get_or path n 0) 47 ≡ ends_with_slash path
+slash-end path n h = sym (ap ends_with_slash (last-split path n h) ∙ rw (ends_with_slash, split-end (take n path) (get_or path n 0)) refl)
+
+-- ---- the paths of words
+
+-- paths in front of those that are read
+abbrev pub onto : List Bytes → Result (List Bytes) TokenError → Result (List Bytes) TokenError
+onto front reading = reading >>= λ paths. Ok (front ++ paths)
+
+pub whole : (r : Result (List Bytes) TokenError) → onto [] r ≡ r
+whole (Ok paths) = refl
+whole (Err e) = refl
+
+regrouped : (front : List Bytes) (path : Bytes) (r : Result (List Bytes) TokenError) → onto front (r >>= λ paths. Ok (path ∷ paths)) ≡ onto (front ++ path ∷ []) r
+regrouped front path (Ok paths) = rw append_assoc refl
+regrouped front path (Err e) = refl
+
+pub one-more : (source : Source) (facts : Facts) (original : Bytes) (front : List Bytes) (left : List Bytes) (word : Bytes) (rest : List Bytes) (path : Bytes) (total : Result (List Bytes) TokenError)
+    → left ≡ word ∷ rest → path_from source facts original word ≡ Ok path → onto front (paths_from source facts original left) ≡ total → onto (front ++ path ∷ []) (paths_from source facts original rest) ≡ total
+one-more source facts original front left word rest path total e p so_far =
+    sym (regrouped front path (paths_from source facts original rest)) ∙ ap (λ (r : Result Bytes TokenError). onto front (r >>= λ path. paths_from source facts original rest >>= λ paths. Ok (path ∷ paths))) (sym p)
+    ∙ ap (λ ws. onto front (paths_from source facts original ws)) (sym e) ∙ so_far
+
+fails-one : (source : Source) (facts : Facts) (original : Bytes) (front : List Bytes) (word : Bytes) (rest : List Bytes) (e : TokenError) → path_from source facts original word ≡ Err e → onto front (paths_from source facts original (word ∷ rest)) ≡ Err e
+fails-one source facts original front word rest e p = ap (λ (r : Result Bytes TokenError). onto front (r >>= λ path. paths_from source facts original rest >>= λ paths. Ok (path ∷ paths))) p
+
+pub fails : (source : Source) (facts : Facts) (original : Bytes) (front : List Bytes) (left : List Bytes) (word : Bytes) (rest : List Bytes) (e : TokenError) (total : Result (List Bytes) TokenError)
+    → left ≡ word ∷ rest → Fails token_wants_memory e (path_from source facts original word) → onto front (paths_from source facts original left) ≡ total → Fails token_wants_memory e total
+fails source facts original front left word rest e total l h so_far = of (token_wants_memory e) h
+  where
+    of : (t : Bool) → OnFalse t (path_from source facts original word ≡ Err e) → OnFalse t (total ≡ Err e)
+    of true h = tt
+    of false h = sym so_far ∙ ap (λ ws. onto front (paths_from source facts original ws)) l ∙ fails-one source facts original front word rest e h
+
+pub done : (source : Source) (facts : Facts) (original : Bytes) (front : List Bytes) (left : List Bytes) (total : Result (List Bytes) TokenError) → left ≡ [] → onto front (paths_from source facts original left) ≡ total → total ≡ Ok front
+done source facts original front left total e so_far = sym so_far ∙ ap (λ ws. onto front (paths_from source facts original ws)) e ∙ ap Ok (append-nil front)
+
+pub next : {A : Type 0} (xs : List A) (i : ℕ) (x : A) → i < length xs → x ≡ get_or xs i x → drop i xs ≡ x ∷ drop (i + 1) xs
+next xs i x h e = rw (add-one, drop-cons xs i x) (ap (λ y. y ∷ drop (suc i) xs) (sym e))
+
+-- where facts are those that are told
+pub told-paths : (source : Source) (told : Told) (words : List Bytes) → paths_of source told words ≡ paths_from source told.facts told.asked.original words
+told-paths source told [] = refl
+told-paths source told (word ∷ words) = ap (λ (r : Result (List Bytes) TokenError). path_from source told.facts told.asked.original word >>= λ path. r >>= λ paths. Ok (path ∷ paths)) (told-paths source told words)
+
+-- ---- what an Include line names
+
+with_found : Told → Result (List Bytes) TokenError → Result (List Bytes) TokenError
+with_found told reading = reading >>= λ paths. Ok (all_globbed told paths)
+
+named-from : (source : Source) (told : Told) (facts : Facts) (original rest : Bytes) (words : List Bytes) → told.facts ≡ facts → told.asked.original ≡ original → words_of rest ≡ Ok words
+    → named_by source told (words_of rest) ≡ with_found told (paths_from source facts original words)
+unfolding with_found
+named-from source told facts original rest words f o w =
+    ap (named_by source told) w ∙ ap (with_found told) (told-paths source told words ∙ ap (λ f. paths_from source f told.asked.original words) f ∙ ap (λ o. paths_from source facts o words) o)
+
+pub named-ok : (source : Source) (told : Told) (facts : Facts) (original rest : Bytes) (words paths all : List Bytes) → told.facts ≡ facts → told.asked.original ≡ original → words_of rest ≡ Ok words
+    → paths_from source facts original words ≡ Ok paths → all ≡ all_globbed told paths → named_by source told (words_of rest) ≡ Ok all
+unfolding with_found
+named-ok source told facts original rest words paths all f o w p a = named-from source told facts original rest words f o w ∙ ap (with_found told) p ∙ ap Ok (sym a)
+
+named-refused : (source : Source) (told : Told) (facts : Facts) (original rest : Bytes) (words : List Bytes) (e : TokenError) → told.facts ≡ facts → told.asked.original ≡ original → words_of rest ≡ Ok words
+    → paths_from source facts original words ≡ Err e → named_by source told (words_of rest) ≡ Err e
+unfolding with_found
+named-refused source told facts original rest words e f o w p = named-from source told facts original rest words f o w ∙ ap (with_found told) p
+
+pub named-err : (source : Source) (told : Told) (facts : Facts) (original rest : Bytes) (words : List Bytes) (e : TokenError) → told.facts ≡ facts → told.asked.original ≡ original → words_of rest ≡ Ok words
+    → Fails token_wants_memory e (paths_from source facts original words) → FoundPaths (Err (of_token e)) (named_by source told (words_of rest))
+named-err source told facts original rest words OutOfMemory f o w p = tt
+named-err source told facts original rest words (Unknown b at) f o w p = named-refused source told facts original rest words (Unknown b at) f o w p
+named-err source told facts original rest words LoneAtEnd f o w p = named-refused source told facts original rest words LoneAtEnd f o w p
+named-err source told facts original rest words (FactMissing b) f o w p = named-refused source told facts original rest words (FactMissing b) f o w p
+named-err source told facts original rest words (NoVariable n) f o w p = named-refused source told facts original rest words (NoVariable n) f o w p
+named-err source told facts original rest words (OpenBrace at) f o w p = named-refused source told facts original rest words (OpenBrace at) f o w p

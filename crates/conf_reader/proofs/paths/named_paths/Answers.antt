@@ -1,0 +1,14 @@
+use Rattle.std.proofs.lemmas.Result.{err_from_is_err_and}
+use Rattle.conf_tokens.specs.Known.{known}
+use Rattle.conf_reader.specs.Left.{source_of}
+use Rattle.conf_reader.proofs.PathLemmas.{named-ok, named-err}
+use Rattle.conf_reader.proofs.paths.named_paths.Goals as goal
+
+pub returns-in_err-paths-clause-found : goal.returns-in_err-paths-clause-found
+returns-in_err-paths-clause-found g c = λ told t f o.
+    let p = err_from_is_err_and c.from_residual.result c.from_residual.ensures.1 in
+    rw (p.1, p.2) (named-err (source_of c.args.system) told (known c.args.facts.now) c.args.original.now c.args.rest.now c.in-Ok.words c.in_err-paths.field-0.0 f o c.in-Ok.ensures.exact c.in_err-paths.ensures)
+
+pub returns-clause-found : goal.returns-clause-found
+returns-clause-found g c = λ told t f o.
+    named-ok (source_of c.args.system) told (known c.args.facts.now) c.args.original.now c.args.rest.now c.in-Ok.words c.in_ok-paths.paths c.in_ok-all_globbed.field-0 f o c.in-Ok.ensures.exact c.in_ok-paths.ensures (c.in_ok-all_globbed.ensures.found told t)

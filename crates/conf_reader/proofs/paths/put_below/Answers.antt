@@ -1,0 +1,15 @@
+use Rattle.std.proofs.Common.{◌++◌, ◌∙◌, sym, ap, append-nil}
+use Rattle.std.specs.Prelude.{sum_by}
+use Rattle.conf_reader.proofs.FoundLemmas.{taken, same-lists, same-more, below-none, below-some}
+use Rattle.conf_rules.specs.Includes.{below}
+use Rattle.conf_reader.proofs.paths.put_below.Goals as goal
+
+pub returns-in_default-clause-found : goal.returns-in_default-clause-found
+returns-in_default-clause-found g c = λ told t.
+    same-lists (c.args.paths.now.items ++ below told c.args.component.now c.args.base.now) c.args.paths.now.items
+    (ap (λ xs. c.args.paths.now.items ++ xs) (below-none (g.F.Files.told c.args.files.now) told c.args.component.now c.args.base.now _ t (rw c.or_root.ensures at c.in_ok-names.ensures.lists) c.in_default.is (sym c.is_glob.ensures ∙ c.if-not-is_glob.false)) ∙ append-nil c.args.paths.now.items)
+
+pub returns-clause-found : goal.returns-clause-found
+returns-clause-found g c = λ told t f.
+    ap (sum_by f) c.in_ok-put_taken.ensures
+    ∙ same-more c.args.paths.now.items (below told c.args.component.now c.args.base.now) (taken c.args.component.now c.args.base.now c.in-Some.names) (below-some (g.F.Files.told c.args.files.now) told c.args.component.now c.args.base.now _ _ t (rw c.or_root.ensures at c.in_ok-names.ensures.lists) c.in-Some.is (sym c.is_glob.ensures ∙ c.if-not-is_glob.false)) f

@@ -1,0 +1,36 @@
+use Rattle.std.proofs.Common.{◌≡◌, ◌∙◌, ◌<◌, ◌+◌, sym, ap, refl, Some, [], length}
+use Rattle.std.specs.List.{slice_get}
+use Rattle.conf_rules.specs.declared.causes.Cause.TheVariants as causes
+use Rattle.conf_reader.specs.declared.reader.Lines.{Lines}
+use Rattle.conf_reader.specs.Left.{left}
+use Rattle.conf_reader.proofs.OpenLemmas.{moves-refused}
+use Rattle.conf_reader.proofs.FirstLemmas.{lack-refused, size-moves, plain-at, below-end}
+use Rattle.conf_reader.proofs.reader.Lines.first.Goals as goal
+
+pub returns-then-required-clause-moves : goal.returns-then-required-clause-moves
+returns-then-required-clause-moves g c = λ told place blocks tells.
+    let f = c.in-Some.first.now in
+    let named : slice_get c.args.self.now.firsts.items c.args.self.now.next_first ≡ Some f = sym c.in-Some.ensures in
+    let none = rw (c.in-Ok-Nothing.field-0-is, c.as_bytes.ensures) at (c.in-Ok-Nothing.ensures.found told tells) in
+    moves-refused (left told place blocks c.args.self.now) [] f.path 0 causes.NoFile c.file_refusal.result (rw named at c.file_refusal.ensures)
+    (lack-refused told place blocks c.args.self.now f c.requires.none (c.requires.ready.none c.requires.none) named none c.if-required.true)
+
+pub pass-requires-clause-next : goal.pass-requires-clause-next
+pass-requires-clause-next g c = below-end c.args.self.now.firsts.items c.args.self.now.next_first c.in-Some.first.now (sym c.in-Some.ensures)
+
+pub begin-requires-clause-next : goal.begin-requires-clause-next
+begin-requires-clause-next g c = below-end c.args.self.now.firsts.items c.args.self.now.next_first c.in-Some.first.now (sym c.in-Some.ensures)
+
+pub returns-else-required-clause-next : goal.returns-else-required-clause-next
+returns-else-required-clause-next g c = (ap (λ (r : Lines). r.next_first) c.pass.ensures.others, below-end c.args.self.now.firsts.items c.args.self.now.next_first c.in-Some.first.now (sym c.in-Some.ensures))
+
+pub returns-in-Ok-TooLarge-clause-moves : goal.returns-in-Ok-TooLarge-clause-moves
+returns-in-Ok-TooLarge-clause-moves g c = λ told place blocks tells.
+    let f = c.in-Some.first.now in
+    let named : slice_get c.args.self.now.firsts.items c.args.self.now.next_first ≡ Some f = sym c.in-Some.ensures in
+    let found = rw (c.in-Ok-TooLarge.field-0-is, c.as_bytes.ensures) at (c.in-Ok-TooLarge.ensures.found told tells) in
+    size-moves told place blocks c.args.self.now f c.file_refusal-in-Ok-TooLarge.result (told.content f.path) refl c.requires.none (c.requires.ready.none c.requires.none) named
+    (plain-at c.args.self.now.firsts.items c.args.self.now.next_first f c.requires.plain named) found (rw named at c.file_refusal-in-Ok-TooLarge.ensures)
+
+pub returns-in-Ok-clause-next : goal.returns-in-Ok-clause-next
+returns-in-Ok-clause-next g c = (c.in-Ok.ensures.next, below-end c.args.self.now.firsts.items c.args.self.now.next_first c.in-Some.first.now (sym c.in-Some.ensures))

@@ -1,0 +1,21 @@
+use Rattle.std.proofs.Common.{◌≡◌, ◌≤◌, ◌+◌, ◌-◌, ℕ, length}
+use Rattle.conf_rules.specs.Told.{Told}
+use Rattle.conf_reader.specs.Known.{TellsFiles}
+use Rattle.conf_reader.specs.Blocks.{Blocks}
+use Rattle.conf_reader.specs.Left.{IsReady, Bounded}
+use Rattle.conf_reader.specs.Reads.{SoFar}
+use Rattle.conf_reader.proofs.reader.Lines.next_line.Given as goal
+
+abbrev pub invariant-loop-line : goal.invariant-loop-line
+invariant-loop-line g l = record {
+  ready : IsReady l.self.open;
+  told : g.F.Files.told l.files ≡ g.F.Files.told l.initial.files;
+  faults : g.F.Files.faults l.files ≡ g.F.Files.faults l.initial.files;
+  kept : (n : ℕ) → Bounded l.initial.self.open n → Bounded l.self.open n;
+  counted : l.initial.self.read ≤ l.self.read;
+  firsts : l.self.firsts ≡ l.initial.self.firsts;
+  far : (told : Told) (place : ℕ) (blocks : Blocks) → TellsFiles (g.F.Files.told l.initial.files) told → place ≡ length told.asked.lines + l.initial.self.read → Bounded l.initial.self.open (length blocks) → SoFar told place blocks l.initial.self l.self;
+}
+
+abbrev pub decreases-loop-line : goal.decreases-loop-line
+decreases-loop-line g l = 100000 - l.self.read

@@ -1,0 +1,22 @@
+use Rattle.std.proofs.Common.{◌≡◌, ◌∙◌, ◌<◌, ◌≤◌, length, None, Some, sym, ap, refl, arith}
+use Rattle.std.specs.Prelude.{IfSome}
+use Rattle.conf_reader.specs.Left.{IsSettled}
+use Rattle.conf_reader.proofs.OpenLemmas.{ready-top, none-left, one-left-path, found-names}
+use Rattle.conf_reader.proofs.stack.OpenFiles.advance.Goals as goal
+
+pub open-requires-clause-named : goal.open-requires-clause-named
+open-requires-clause-named g c = rw c.in-Some.is (ready-top c.args.self.now c.in-Some.top c.requires.ready c.in-Some.is, one-left-path c.in-Some.top.named c.in-Some.top.next c.in-Some-next_path.path.now c.in-Some-next_path.ensures)
+
+pub returns-then-top-as_bytes-clause-stand : goal.returns-then-top-as_bytes-clause-stand
+returns-then-top-as_bytes-clause-stand g c =
+    let low : c.in-Some.top.at < length c.in-Some.top.text = let k = ap length c.as_bytes-in-None.ensures in omega (arith, k) in
+    (refl, rw c.in-Some.is ((ready-top c.args.self.now c.in-Some.top c.requires.ready c.in-Some.is, none-left c.in-Some.top.named c.in-Some.top.next c.in-None.ensures), low), rw c.in-Some.is refl)
+
+pub close-requires-clause-ended : goal.close-requires-clause-ended
+close-requires-clause-ended g c =
+    let past : length c.in-Some.top.text ≤ c.in-Some.top.at = let k = ap length c.as_bytes-in-None.ensures in omega (arith, k) in
+    rw c.in-Some.is ((ready-top c.args.self.now c.in-Some.top c.requires.ready c.in-Some.is, none-left c.in-Some.top.named c.in-Some.top.next c.in-None.ensures), past)
+
+pub returns-in-Err-clause-moves : goal.returns-in-Err-clause-moves
+returns-in-Err-clause-moves g c = λ told place blocks tells.
+    c.in-Err.ensures.moves told place blocks (rw c.in-Some.is (found-names told c.in-Ok.found c.in-Some.top c.in-Some-next_path.path.now (sym c.in-Some-next_path.ensures) (rw c.as_bytes.ensures at (c.in-Ok.ensures.found told tells))))

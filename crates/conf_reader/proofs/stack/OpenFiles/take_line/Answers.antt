@@ -1,0 +1,21 @@
+use Rattle.std.proofs.Common.{◌≡◌, ◌∙◌, sym, ap, refl, subst, Some, false}
+use Rattle.std.specs.Option.{option_map}
+use Rattle.conf_reader.specs.declared.stack.OpenFiles.{OpenFiles}
+use Rattle.conf_reader.specs.Left.{PassesComment, GivesLine, gone, include_of}
+use Rattle.conf_reader.proofs.TakeLemmas.{passes-top, gives-top, refused-top}
+use Rattle.conf_reader.proofs.stack.OpenFiles.take_line.Goals as goal
+
+pub returns-in-Err-clause-takes : goal.returns-in-Err-clause-takes
+returns-in-Err-clause-takes c = λ told place blocks size.
+    refused-top told place blocks c.args.self.now c.args.self.now c.args.self.now.top c.in-Err.e c.line_refusal.result refl c.requires.some c.requires.line c.in-Err.ensures c.line_refusal.ensures
+
+pub returns-in-None-clause-takes : goal.returns-in-None-clause-takes
+returns-in-None-clause-takes c = λ told place blocks size.
+    subst (λ (n : OpenFiles). PassesComment told place blocks c.args.self.now n) (sym c.go.ensures)
+    (passes-top told place blocks c.args.self.now c.args.self.now.top c.in-Ok.next refl c.requires.some c.requires.ready.few c.requires.line c.in-Ok.ensures c.in-None.is)
+
+pub returns-in_ok-line-in-Some-clause-takes : goal.returns-in_ok-line-in-Some-clause-takes
+returns-in_ok-line-in-Some-clause-takes c = λ told place blocks size.
+    let include : c.in_ok-include-in-Some.include ≡ include_of c.in-Some.said = let k = c.in_ok-include-in-Some.ensures in cc in
+    subst (λ (n : OpenFiles). GivesLine told place blocks c.args.self.now (record n { fresh = false }) c.in_ok-line-in-Some.line) (sym (c.go-in-Some.ensures ∙ ap (λ i. record c.args.self.now { top = option_map (gone c.in-Ok.next.next i) c.args.self.now.top }) include))
+    (gives-top told place blocks c.args.self.now c.args.self.now.top c.in-Ok.next c.in-Some.said c.in_ok-line-in-Some.line refl c.requires.some c.requires.ready.few size c.requires.line c.in-Ok.ensures c.in-Some.is c.in_ok-line-in-Some.ensures)

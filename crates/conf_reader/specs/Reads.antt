@@ -1,0 +1,106 @@
+-- What a reader of lines gives, call by call.
+use Rattle.std.specs.Prelude.{◌≡◌, ℕ, ◌+◌, ◌-◌, ◌<◌, ◌≤◌, false, true, List, [], ◌∷◌, ◌++◌, length, Option, Some, None, Result, Ok, Err}
+use Rattle.conf_rules.specs.declared.causes.Cause.{Cause}
+use Rattle.conf_rules.specs.declared.causes.ResolveError.{ResolveError}
+use Rattle.conf_rules.specs.declared.causes.ResolveError.TheVariants.{At, OutOfMemory}
+use Rattle.conf_rules.specs.declared.entry.Entry.TheVariants.{Nothing}
+use Rattle.conf_rules.specs.Told.{Told}
+use Rattle.conf_rules.specs.Diagnostics.{is_fault}
+use Rattle.conf_rules.specs.Sources.{Line}
+use Rattle.conf_rules.specs.Rows.{Row}
+use Rattle.conf_rules.specs.Entries.{entry_of}
+use Rattle.conf_rules.specs.Resolution.{counted, is_past_limit}
+use Rattle.conf_reader.specs.declared.line.ConfLine.{ConfLine}
+use Rattle.conf_reader.specs.declared.reader.Lines.{Lines}
+use Rattle.conf_reader.specs.declared.reader.Step.{Step}
+use Rattle.conf_reader.specs.declared.reader.Step.TheVariants as steps
+use Rattle.conf_reader.specs.Blocks.{Blocks, IsLine, open_behind}
+use Rattle.conf_reader.specs.Left.{left, stack, Bounded, IsGiven}
+
+-- how many files a reader has open
+abbrev pub open_count : Lines → ℕ
+open_count r = length (stack r.open)
+
+-- a line says nothing, whatever stands before it
+abbrev pub IsIdle : Told → ℕ → Line → Type 0
+IsIdle told place line = (rows : List Row) → counted told entry_of rows line place ≡ Ok Nothing
+
+-- lines from a place on say nothing
+abbrev pub AreIdle : Told → ℕ → List Line → Type 0
+AreIdle told place [] = Unit {0}
+AreIdle told place (l ∷ ls) = IsIdle told place l × AreIdle told (place + 1) ls
+
+-- behind comments a line is given
+pub record GivesNext (told : Told) (place : ℕ) (blocks : Blocks) (old new : Lines) (given : ConfLine) : Type 0 where
+  pub comments : List Line
+  pub line : Line
+  pub is : left told place blocks old ≡ comments ++ line ∷ left told (place + length comments + 1) (open_behind given (place + length comments) blocks) new
+  pub idle : AreIdle told place comments
+  pub is_line : IsLine given blocks line
+  pub within : is_past_limit told line (place + length comments) ≡ false
+  pub count : place + length comments + 1 ≡ length told.asked.lines + new.read
+
+-- behind comments a line is refused, whatever stands before it
+pub record RefusesNext (told : Told) (place : ℕ) (left : List Line) (file : List ℕ) (number : ℕ) (cause : Cause) : Type 0 where
+  pub comments : List Line
+  pub line : Line
+  pub rest : List Line
+  pub is : left ≡ comments ++ line ∷ rest
+  pub idle : AreIdle told place comments
+  pub file_is : line.file ≡ file
+  pub number_is : line.number ≡ number
+  pub refused : (rows : List Row) → counted told entry_of rows line (place + length comments) ≡ Err cause
+
+-- what a reader did
+abbrev pub Reads : Told → ℕ → Blocks → Lines → Lines → Result (Option ConfLine) ResolveError → Type 0
+Reads told place blocks old new (Ok None) = AreIdle told place (left told place blocks old)
+Reads told place blocks old new (Ok (Some given)) = GivesNext told place blocks old new given
+Reads told place blocks old new (Err OutOfMemory) = Unit {0}
+Reads told place blocks old new (Err (At file number cause)) = (is_fault cause ≡ false → RefusesNext told place (left told place blocks old) file number cause)
+
+-- how deep a line lies
+pub record LiesAt (old new : ℕ) (given : ConfLine) : Type 0 where
+  pub known : given.opens ≡ false → given.depth < old
+  pub opened : given.opens ≡ true → given.depth ≤ old
+  pub deep : new ≡ given.depth + 1
+
+-- ---- one line of a reader
+
+-- what one line is to a reader
+abbrev pub OneLine : Told → ℕ → Blocks → Lines → Lines → Result Step ResolveError → Type 0
+OneLine told place blocks old new (Ok steps.End) = left told place blocks old ≡ []
+OneLine told place blocks old new (Ok steps.Comment) = (line : Line) × ((left told place blocks old ≡ line ∷ left told (place + 1) blocks new) × IsIdle told place line)
+OneLine told place blocks old new (Ok (steps.Given given)) = (line : Line) × ((left told place blocks old ≡ line ∷ left told (place + 1) (open_behind given place blocks) new) × (IsLine given blocks line × (is_past_limit told line place ≡ false)))
+OneLine told place blocks old new (Err OutOfMemory) = Unit {0}
+OneLine told place blocks old new (Err (At file number cause)) = (is_fault cause ≡ false → RefusesNext told place (left told place blocks old) file number cause)
+
+-- how many lines a step counts
+abbrev pub CountsOne : Step → ℕ → ℕ → Type 0
+CountsOne steps.End old new = Unit {0}
+CountsOne step old new = (new ≡ old + 1) × (old < 100000)
+
+-- comments so far
+pub record SoFar (told : Told) (place : ℕ) (blocks : Blocks) (old now : Lines) : Type 0 where
+  pub comments : List Line
+  pub is : left told place blocks old ≡ comments ++ left told (place + length comments) blocks now
+  pub idle : AreIdle told place comments
+  pub count : place + length comments ≡ length told.asked.lines + now.read
+  pub bounded : Bounded now.open (length blocks)
+
+-- ---- what holds behind a line that was given
+
+-- behind a given line a reader can go on; the line lies where files are open, and it was counted
+pub record IsGivenFrom (old new : Lines) (line : ConfLine) : Type 0 where
+  pub state : IsGiven new.open
+  pub lies : (n : ℕ) → Bounded old.open n → LiesAt n (open_count new) line
+  pub further : 100000 - new.read < 100000 - old.read
+
+abbrev pub GivenStep : Step → Lines → Lines → Type 0
+GivenStep (steps.Given line) old new = IsGivenFrom old new line
+GivenStep step old new = Unit {0}
+
+-- a call gave no line: none was left, or it was refused
+abbrev pub IsOver : Result (Option ConfLine) ResolveError → Type 0
+IsOver (Ok None) = Unit {0}
+IsOver (Ok (Some given)) = ⊥
+IsOver (Err e) = Unit {0}

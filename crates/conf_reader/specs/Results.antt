@@ -1,0 +1,60 @@
+-- What the calls of this crate returned.
+use Rattle.std.specs.Prelude.{◌≡◌, ◌≤◌, ℕ, Bool, false, Result, Ok, Err}
+use Rattle.std.specs.Bool.{MatchBool}
+use Rattle.mux_outside.specs.declared.file_error.FileError.{FileError}
+use Rattle.mux_outside.specs.declared.file_error.FileError.TheVariants as file_errors
+use Rattle.mux_outside.specs.Counts.{Rose}
+use Rattle.conf_rules.specs.declared.causes.Cause.TheVariants as causes
+use Rattle.conf_rules.specs.declared.causes.LexError.{LexError}
+use Rattle.conf_rules.specs.declared.causes.LexError.TheVariants as lex_errors
+use Rattle.conf_rules.specs.declared.causes.TokenError.{TokenError}
+use Rattle.conf_rules.specs.declared.causes.TokenError.TheVariants as token_errors
+use Rattle.conf_rules.specs.declared.causes.ResolveError.{ResolveError}
+use Rattle.conf_rules.specs.declared.causes.ResolveError.TheVariants.{At, OutOfMemory}
+use Rattle.conf_rules.specs.Diagnostics.{is_fault}
+use Rattle.conf_rules.specs.Texts.{Bytes}
+use Rattle.conf_reader.specs.declared.errors.LineError.{LineError}
+use Rattle.conf_reader.specs.declared.errors.LineError.TheVariants as line_errors
+
+-- a lexer's error as one of a line
+abbrev pub of_lex : LexError → LineError
+of_lex lex_errors.OutOfMemory = line_errors.OutOfMemory
+of_lex e = line_errors.Refused (causes.Lex e)
+
+-- a token's error as one of a line
+abbrev pub of_token : TokenError → LineError
+of_token token_errors.OutOfMemory = line_errors.OutOfMemory
+of_token e = line_errors.Refused (causes.Token e)
+
+-- an error of files as one of a line
+abbrev pub of_file : FileError → LineError
+of_file file_errors.Failed = line_errors.Refused causes.ReadFault
+of_file file_errors.OutOfMemory = line_errors.OutOfMemory
+
+-- whether a line's error is a fault of files
+abbrev pub is_line_fault : LineError → Bool
+is_line_fault line_errors.OutOfMemory = false
+is_line_fault (line_errors.Refused cause) = is_fault cause
+
+-- a fault of files comes only where their count rose, and every other answer leaves it
+abbrev pub HasLineCause : {A : Type 0} → Result A LineError → ℕ → ℕ → Type 0
+HasLineCause (Ok x) before now = now ≡ before
+HasLineCause (Err e) before now = MatchBool (is_line_fault e) (Rose before now) (now ≡ before)
+
+-- the refusal of a line of a file, unless memory was wanting
+abbrev pub Refuses : LineError → Bytes → ℕ → ResolveError → Type 0
+Refuses line_errors.OutOfMemory file line error = error ≡ OutOfMemory
+Refuses (line_errors.Refused cause) file line OutOfMemory = Unit {0}
+Refuses (line_errors.Refused cause) file line (At f l c) = At f l c ≡ At file line cause
+
+-- A read fault comes only where the count of faults rose, and every other answer leaves it, but want of memory, before which a
+-- read may have failed.
+abbrev pub HasReadCause : {A : Type 0} → Result A ResolveError → ℕ → ℕ → Type 0
+HasReadCause (Ok x) before now = now ≡ before
+HasReadCause (Err OutOfMemory) before now = before ≤ now
+HasReadCause (Err (At file line cause)) before now = MatchBool (is_fault cause) (Rose before now) (now ≡ before)
+
+-- whether a refusal is a fault of files
+abbrev pub is_read_fault : ResolveError → Bool
+is_read_fault OutOfMemory = false
+is_read_fault (At file line cause) = is_fault cause

@@ -1,0 +1,42 @@
+ghost use Rattle.std.specs.Prelude.{◌≡◌, ◌<◌, ◌^◌, ℕ, IfOk};
+ghost use Rattle.conf_rules.specs.Told.{Told};
+ghost use Rattle.conf_rules.specs.Sources.{size_limit};
+ghost use Rattle.mux_outside.specs.Counts.{HasCause};
+ghost use Rattle.conf_reader.specs.Known.{TellsFiles};
+ghost use Rattle.conf_reader.specs.Left.{IsFound};
+
+use mux_outside::{FileError, Files};
+use ssh_fields::Text;
+
+/// What a path was found to hold.
+#[derive(Drop)]
+pub enum Found {
+    Nothing,
+    TooLarge,
+    Holds(Text),
+}
+
+/// How many bytes a file may have.
+#[tactic(auto, unfolding(conf_rules::specs::Sources::size_limit))]
+fn size_limit() -> usize
+    ensures limit { result ≡ size_limit }
+    ensures small { result < 2 ^ 32 }
+{
+    1_048_576
+}
+
+/// What a path holds.
+pub fn read_file<F: Files>(path: &[u8], files: &mut F) -> Result<Found, FileError>
+    ensures found { (told : Told) → TellsFiles (F.told files.old) told → IfOk result (λ found. IsFound found (told.content path.now)) }
+    ensures cause { HasCause result (F.faults files.old) (F.faults files.new) }
+    ensures told { F.told files.new ≡ F.told files.old }
+{
+    let text = match files.read(path, size_limit() + 1)? {
+        None => return Ok(Found::Nothing),
+        Some(text) => text,
+    };
+    if text.as_bytes().len() > size_limit() {
+        return Ok(Found::TooLarge);
+    }
+    Ok(Found::Holds(text))
+}

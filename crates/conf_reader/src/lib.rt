@@ -1,0 +1,17 @@
+//! The lines of all files that are asked for, one by one in reading order, as ssh_config(5) has them.
+//! `LineReader` opens the files that an Include line names behind that line. At most 17 files are open.
+#![tactic(auto)]
+
+mod errors;
+mod files;
+mod line;
+mod line_reader;
+mod open_file;
+mod paths;
+mod reader;
+mod stack;
+#[cfg(test)]
+mod tests;
+
+pub use line::ConfLine;
+pub use line_reader::LineReader;

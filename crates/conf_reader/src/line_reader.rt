@@ -1,0 +1,169 @@
+ghost use Rattle.std.specs.Prelude.{◌≡◌, ◌≤◌, ◌+◌, ◌++◌, ◌∷◌, [], ℕ, IfOk, IfSome, OnOk, length, codes};
+ghost use Rattle.conf_tokens.specs.Known.{known};
+ghost use Rattle.std.specs.Prelude.{true};
+ghost use Rattle.std.specs.List.{list_all};
+ghost use Rattle.conf_reader.specs.Firsts.{firsts_of};
+ghost use Rattle.conf_reader.specs.Left.{is_plain_first};
+ghost use Rattle.conf_reader.specs.Between.{is_between};
+
+use crate::line::ConfLine;
+use crate::reader::{FirstFile, Lines};
+use conf_rules::{Asked, ConfigFrom, ResolveError};
+use mux_outside::{Facts, Files, Pair, Pairs};
+use ssh_fields::{OutOfMemory, Text};
+use std::alloc::Global;
+
+/// A copy of a text, if there is one.
+fn copied(alloc: Global, text: &Option<Text>) -> Result<Option<Text>, OutOfMemory>
+    ensures { IfOk result (λ copy. copy ≡ text.now) }
+{
+    match text {
+        None => Ok(None),
+        Some(text) => Ok(Some(Text::copy(alloc, text.as_bytes())?)),
+    }
+}
+
+/// A copy of pairs.
+fn copied_pairs(alloc: Global, pairs: &Pairs) -> Result<Pairs, OutOfMemory>
+    ensures { IfOk result (λ copy. copy ≡ pairs.now) }
+{
+    let mut copy = Pairs::new(alloc);
+    for pair in pairs.as_slice() {
+        copy.push(Pair {
+            name: Text::copy(alloc, pair.name.as_bytes())?,
+            value: Text::copy(alloc, pair.value.as_bytes())?,
+        })?;
+    }
+    Ok(copy)
+}
+
+/// A copy of facts.
+fn copied_facts(alloc: Global, facts: &Facts) -> Result<Facts, OutOfMemory>
+    ensures { IfOk result (λ copy. known copy ≡ known facts.now) }
+{
+    Ok(Facts {
+        home: copied(alloc, &facts.home)?,
+        local_user: copied(alloc, &facts.local_user)?,
+        uid: copied(alloc, &facts.uid)?,
+        host_name: copied(alloc, &facts.host_name)?,
+        vars: copied_pairs(alloc, &facts.vars)?,
+        pid: facts.pid,
+    })
+}
+
+/// Adds a first file.
+fn put(
+    firsts: &mut Vec<FirstFile>,
+    system: bool,
+    required: bool,
+    path: Text,
+) -> Result<(), OutOfMemory>
+    ensures { OnOk result (firsts.new.items ≡ firsts.old.items ++ record { system = system; required = required; path = path } ∷ []) }
+{
+    firsts.push(FirstFile {
+        system,
+        required,
+        path,
+    })?;
+    Ok(())
+}
+
+/// The path of the user's file.
+fn user_path(alloc: Global, home: &[u8]) -> Result<Text, OutOfMemory>
+    ensures { IfOk result (λ path. path ≡ home.now ++ codes "/.ssh/config") }
+{
+    let mut path = Text::copy(alloc, home)?;
+    path.add(b"/.ssh/config")?;
+    Ok(path)
+}
+
+/// The files that no line includes, in the order in which they are read.
+fn first_files(
+    alloc: Global,
+    from: &ConfigFrom,
+    home: &Option<Text>,
+) -> Result<Vec<FirstFile>, OutOfMemory>
+    ensures { IfOk result (λ firsts. firsts.items ≡ firsts_of home.now from.now) }
+{
+    let mut firsts = Vec::new(alloc);
+    match from {
+        ConfigFrom::Nothing => {}
+        ConfigFrom::File(path) => {
+            let path = Text::copy(alloc, path.as_bytes())?;
+            put(&mut firsts, false, true, path)?;
+        }
+        ConfigFrom::Standard => {
+            if let Some(home) = home {
+                let path = user_path(alloc, home.as_bytes())?;
+                put(&mut firsts, false, false, path)?;
+            }
+            let path = Text::copy(alloc, b"/etc/ssh/ssh_config")?;
+            put(&mut firsts, true, false, path)?;
+        }
+    }
+    Ok(firsts)
+}
+
+/// Gives the lines of all files that are asked for one by one, without comments and empty lines. The files that an Include line
+/// names are opened by the call behind the one that gives it. Behind a refusal, and at the end, it gives no line.
+#[derive(Drop)]
+pub struct LineReader {
+    lines: Lines,
+    facts: Facts,
+    original: Text,
+    ghost between: { is_between lines.open ≡ true },
+    ghost plain: { list_all is_plain_first lines.firsts.items ≡ true },
+}
+
+impl LineReader {
+    ghost use Rattle.conf_rules.specs.Told.{Told};
+    ghost use Rattle.conf_rules.specs.Sources.{lines_from};
+    ghost use Rattle.conf_reader.specs.Known.{TellsFiles};
+    ghost use Rattle.conf_reader.specs.Blocks.{Blocks};
+    ghost use Rattle.conf_reader.specs.Left.{left, Bounded};
+    ghost use Rattle.conf_reader.specs.Reads.{Reads, IsGivenFrom, IsOver, open_count};
+    ghost use Rattle.conf_reader.specs.Results.{HasReadCause};
+
+    /// A reader of the files that are asked for.
+    pub fn new(alloc: Global, asked: &Asked, facts: &Facts) -> Result<LineReader, OutOfMemory>
+        ensures left { IfOk result (λ reader. (told : Told) (place : ℕ) → told.facts ≡ known facts.now → left told place [] reader.lines ≡ lines_from told place asked.now.from) }
+        ensures facts { IfOk result (λ reader. (known reader.facts ≡ known facts.now) × (reader.original ≡ asked.now.original)) }
+        ensures none { IfOk result (λ reader. (open_count reader.lines ≡ 0) × Bounded reader.lines.open 0) }
+        ensures read { IfOk result (λ reader. reader.lines.read ≡ 0) }
+    {
+        let firsts = first_files(alloc, &asked.from, &facts.home)?;
+        Ok(LineReader {
+            lines: Lines::new(alloc, firsts),
+            facts: copied_facts(alloc, facts)?,
+            original: Text::copy(alloc, asked.original.as_bytes())?,
+        })
+    }
+
+    /// The next line of the files that says something; `None` at the end, and behind a refusal. Refused are files, line counts,
+    /// zero bytes, forms of lines, and what an Include line names, each at its line; a fault only where that of `files` rose.
+    pub fn next<F: Files>(&mut self, files: &mut F) -> Result<Option<ConfLine>, ResolveError>
+        ensures reads { (told : Told) (place : ℕ) (blocks : Blocks) → TellsFiles (F.told files.old) told → told.facts ≡ known self.old.facts → told.asked.original ≡ self.old.original → place ≡ length told.asked.lines + self.old.lines.read → Bounded self.old.lines.open (length blocks) → Reads told place blocks self.old.lines self.new.lines result }
+        ensures given { IfOk result (λ given. IfSome given (IsGivenFrom self.old.lines self.new.lines)) }
+        ensures ended { IsOver result → (told : Told) (place : ℕ) (blocks : Blocks) → left told place blocks self.new.lines ≡ [] }
+        ensures facts { (self.new.facts ≡ self.old.facts) × (self.new.original ≡ self.old.original) }
+        ensures told { F.told files.new ≡ F.told files.old }
+        ensures cause { HasReadCause result (F.faults files.old) (F.faults files.new) }
+    {
+        let given = self
+            .lines
+            .next(&self.facts, self.original.as_bytes(), files);
+        if !matches!(given, Ok(Some(_))) {
+            self.lines.end();
+        }
+        given
+    }
+
+    /// How many files are open.
+    pub fn open_files(&self) -> usize
+        ensures few { result ≤ 17 }
+        ensures count { result ≡ open_count self.now.lines }
+    {
+        let top = if self.lines.open.top.is_some() { 1 } else { 0 };
+        self.lines.open.below.len() + top
+    }
+}

@@ -1,0 +1,310 @@
+ghost use Rattle.std.specs.Prelude.{◌≡◌, ◌<◌, ◌≤◌, ◌+◌, ℕ, IfOk, IfSome, OnOk, IsSome, slice_get, true, length, None, Ok, [], false};
+ghost use Rattle.std.specs.Option.{option_copied};
+ghost use Rattle.std.specs.Bool.{MatchBool};
+ghost use Rattle.conf_rules.specs.Told.{Told};
+ghost use Rattle.conf_tokens.specs.Known.{known};
+ghost use Rattle.conf_reader.specs.Known.{TellsFiles};
+ghost use Rattle.conf_reader.specs.Blocks.{Blocks};
+
+use crate::errors::{LineError, refuse};
+use crate::files::{Found, read_file};
+use crate::line::ConfLine;
+use crate::open_file::OpenFile;
+use crate::stack::OpenFiles;
+use conf_rules::{Cause, ResolveError};
+use mux_outside::{Facts, FileError, Files};
+use ssh_fields::{OutOfMemory, Text};
+use std::alloc::Global;
+
+/// A file that no line includes.
+#[derive(Drop)]
+pub struct FirstFile {
+    pub system: bool,
+    /// Whether its lack is refused.
+    pub required: bool,
+    pub path: Text,
+}
+
+/// What one line is.
+#[derive(Drop)]
+pub enum Step {
+    /// There is none.
+    End,
+    Comment,
+    Given(ConfLine),
+}
+
+/// The lines of all files that are still to come.
+#[derive(Drop)]
+pub struct Lines {
+    pub alloc: Global,
+    pub firsts: Vec<FirstFile>,
+    /// How many of them were opened or passed over.
+    pub next_first: usize,
+    pub open: OpenFiles,
+    /// How many lines were read.
+    pub read: u64,
+}
+
+impl Lines {
+    ghost use Rattle.conf_reader.specs.Reads.{OneLine, CountsOne, GivenStep, IsGivenFrom, Reads};
+    ghost use Rattle.conf_reader.specs.declared.reader.Step.TheVariants as steps;
+    ghost use Rattle.conf_reader.specs.Left.{left, IsReady, IsGiven, Moves, is_plain_first, BeginsWith, Bounded, IsLacking, IsSettled};
+    ghost use Rattle.conf_reader.specs.Results.{Refuses, HasReadCause};
+    ghost use Rattle.conf_reader.specs.declared.errors.LineError.TheVariants as line_errors;
+    ghost use Rattle.std.specs.List.{list_all};
+
+    /// The lines of first files, of which none is opened yet.
+    pub fn new(alloc: Global, firsts: Vec<FirstFile>) -> Lines
+        ensures firsts { result.firsts ≡ firsts }
+        ensures none { (result.open.below.items ≡ []) × (result.open.top ≡ None) × (result.open.fresh ≡ false) }
+        ensures counts { (result.next_first ≡ 0) × (result.read ≡ 0) }
+    {
+        Lines {
+            alloc,
+            firsts,
+            next_first: 0,
+            open: OpenFiles::new(alloc),
+            read: 0,
+        }
+    }
+
+    /// The first file that is opened next.
+    fn next_file(&self) -> Option<&FirstFile>
+        ensures { option_copied result ≡ slice_get self.now.firsts.items self.now.next_first }
+    {
+        self.firsts.get(self.next_first)
+    }
+
+    /// Begins the first file of this text.
+    fn begin(&mut self, text: Text) -> Result<(), OutOfMemory>
+        requires none { self.old.open.top ≡ None }
+        requires next { self.old.next_first < length self.old.firsts.items }
+        requires plain { list_all is_plain_first self.old.firsts.items ≡ true }
+        requires ready { IsReady self.old.open }
+        ensures left { OnOk result ((told : Told) (place : ℕ) (blocks : Blocks) → BeginsWith told self.old text → left told place blocks self.old ≡ left told place blocks self.new) }
+        ensures ready { OnOk result (IsReady self.new.open) }
+        ensures firsts { self.new.firsts ≡ self.old.firsts }
+        ensures next { OnOk result (self.new.next_first ≡ self.old.next_first + 1) }
+        ensures bounded { OnOk result ((n : ℕ) → Bounded self.old.open n → Bounded self.new.open n) }
+        ensures count { self.new.read ≡ self.old.read }
+    {
+        let Some(first) = self.next_file() else {
+            return Ok(());
+        };
+        let path = Text::copy(self.alloc, first.path.as_bytes())?;
+        let system = first.system;
+        self.open.system = system;
+        self.open.top = Some(OpenFile::begin(self.alloc, path, text));
+        self.open.fresh = true;
+        self.next_first += 1;
+        Ok(())
+    }
+
+    /// Passes a first file over that isn't there.
+    fn pass(&mut self)
+        requires none { self.old.open.top ≡ None }
+        requires ready { IsReady self.old.open }
+        requires next { self.old.next_first < length self.old.firsts.items }
+        ensures left { (told : Told) (place : ℕ) (blocks : Blocks) → IsLacking told self.old → left told place blocks self.old ≡ left told place blocks self.new }
+        ensures others { self.new ≡ record self.old { next_first = self.old.next_first + 1 } }
+    {
+        if self.next_first < self.firsts.len() {
+            self.next_first += 1;
+        }
+    }
+
+    /// The refusal of the first file that is opened next.
+    fn file_refusal(&self, cause: Cause) -> ResolveError
+        ensures { IfSome (slice_get self.now.firsts.items self.now.next_first) (λ f. Refuses (line_errors.Refused cause) f.path 0 result) }
+    {
+        match self.next_file() {
+            None => ResolveError::OutOfMemory,
+            Some(first) => refuse(
+                self.alloc,
+                first.path.as_bytes(),
+                0,
+                LineError::Refused(cause),
+            ),
+        }
+    }
+
+    /// Opens the next first file; `false` where there is none.
+    fn first<F: Files>(&mut self, files: &mut F) -> Result<bool, ResolveError>
+        requires none { self.old.open.top ≡ None }
+        requires ready { IsReady self.old.open }
+        requires plain { list_all is_plain_first self.old.firsts.items ≡ true }
+        ensures moves { (told : Told) (place : ℕ) (blocks : Blocks) → TellsFiles (F.told files.old) told → Moves (left told place blocks self.old) (left told place blocks self.new) result }
+        ensures ready { OnOk result (IsReady self.new.open) }
+        ensures firsts { self.new.firsts ≡ self.old.firsts }
+        ensures next { IfOk result (λ more. MatchBool more ((self.new.next_first ≡ self.old.next_first + 1) × (self.old.next_first < length self.old.firsts.items)) ((self.new ≡ self.old) × (length self.old.firsts.items ≤ self.old.next_first))) }
+        ensures told { F.told files.new ≡ F.told files.old }
+        ensures cause { HasReadCause result (F.faults files.old) (F.faults files.new) }
+        ensures bounded { OnOk result ((n : ℕ) → Bounded self.old.open n → Bounded self.new.open n) }
+        ensures count { self.new.read ≡ self.old.read }
+    {
+        let Some(first) = self.next_file() else {
+            return Ok(false);
+        };
+        let required = first.required;
+        match read_file(first.path.as_bytes(), files) {
+            Ok(Found::Nothing) => {
+                if required {
+                    return Err(self.file_refusal(Cause::NoFile));
+                }
+                self.pass();
+                Ok(true)
+            }
+            Ok(Found::TooLarge) => Err(self.file_refusal(Cause::TooLarge)),
+            Ok(Found::Holds(text)) => match self.begin(text) {
+                Ok(()) => Ok(true),
+                Err(_) => Err(ResolveError::OutOfMemory),
+            },
+            Err(FileError::Failed) => Err(self.file_refusal(Cause::ReadFault)),
+            Err(FileError::OutOfMemory) => Err(ResolveError::OutOfMemory),
+        }
+    }
+
+    /// Goes to the next line of all files; `false` where there is none.
+    fn reach<F: Files>(&mut self, files: &mut F) -> Result<bool, ResolveError>
+        requires ready { IsReady self.old.open }
+        requires plain { list_all is_plain_first self.old.firsts.items ≡ true }
+        ensures moves { (told : Told) (place : ℕ) (blocks : Blocks) → TellsFiles (F.told files.old) told → Moves (left told place blocks self.old) (left told place blocks self.new) result }
+        ensures ready { OnOk result (IsReady self.new.open) }
+        ensures line { IfOk result (λ found. MatchBool found (IfSome self.new.open.top (λ f. IsSettled f × (f.at < length f.text)) × IsSome self.new.open.top) ((self.new.open.top ≡ None) × (length self.new.firsts.items ≤ self.new.next_first))) }
+        ensures firsts { self.new.firsts ≡ self.old.firsts }
+        ensures told { F.told files.new ≡ F.told files.old }
+        ensures cause { HasReadCause result (F.faults files.old) (F.faults files.new) }
+        ensures bounded { OnOk result ((n : ℕ) → Bounded self.old.open n → Bounded self.new.open n) }
+        ensures count { self.new.read ≡ self.old.read }
+    {
+        loop {
+            match self.settle(files) {
+                Ok(true) => return Ok(true),
+                Ok(false) => {}
+                Err(e) => return Err(e),
+            }
+            match self.first(files) {
+                Ok(true) => {}
+                Ok(false) => return Ok(false),
+                Err(e) => return Err(e),
+            }
+        }
+    }
+
+    /// Goes to the next line of the open files.
+    fn settle<F: Files>(&mut self, files: &mut F) -> Result<bool, ResolveError>
+        requires ready { IsReady self.old.open }
+        ensures moves { (told : Told) (place : ℕ) (blocks : Blocks) → TellsFiles (F.told files.old) told → Moves (left told place blocks self.old) (left told place blocks self.new) result }
+        ensures ready { OnOk result (IsReady self.new.open) }
+        ensures line { IfOk result (λ found. MatchBool found (IfSome self.new.open.top (λ f. IsSettled f × (f.at < length f.text)) × IsSome self.new.open.top) (self.new.open.top ≡ None)) }
+        ensures others { self.new ≡ record self.old { «open» = self.new.open } }
+        ensures told { F.told files.new ≡ F.told files.old }
+        ensures cause { HasReadCause result (F.faults files.old) (F.faults files.new) }
+        ensures bounded { OnOk result ((n : ℕ) → Bounded self.old.open n → Bounded self.new.open n) }
+    {
+        self.open.settle(files)
+    }
+
+    /// Takes one line of all files.
+    fn one<F: Files>(&mut self, files: &mut F) -> Result<Step, ResolveError>
+        requires ready { IsReady self.old.open }
+        requires plain { list_all is_plain_first self.old.firsts.items ≡ true }
+        ensures one { (told : Told) (place : ℕ) (blocks : Blocks) → TellsFiles (F.told files.old) told → place ≡ length told.asked.lines + self.old.read → Bounded self.old.open (length blocks) → OneLine told place blocks self.old self.new result }
+        ensures comment { result ≡ Ok steps.Comment → IsReady self.new.open }
+        ensures bounded { result ≡ Ok steps.Comment → (n : ℕ) → Bounded self.old.open n → Bounded self.new.open n }
+        ensures firsts { self.new.firsts ≡ self.old.firsts }
+        ensures counts { IfOk result (λ step. CountsOne step self.old.read self.new.read) }
+        ensures given { IfOk result (λ step. GivenStep step self.old self.new) }
+        ensures told { F.told files.new ≡ F.told files.old }
+        ensures cause { HasReadCause result (F.faults files.old) (F.faults files.new) }
+    {
+        match self.reach(files) {
+            Err(e) => return Err(e),
+            Ok(false) => return Ok(Step::End),
+            Ok(true) => {}
+        }
+        if self.read >= 100_000 {
+            return Err(
+                self.open
+                    .line_refusal(LineError::Refused(Cause::TooManyLines)),
+            );
+        }
+        self.read += 1;
+        match self.open.take_line() {
+            Err(e) => Err(e),
+            Ok(None) => Ok(Step::Comment),
+            Ok(Some(line)) => Ok(Step::Given(line)),
+        }
+    }
+
+    /// The next line that says something.
+    pub fn next_line<F: Files>(&mut self, files: &mut F) -> Result<Option<ConfLine>, ResolveError>
+        requires ready { IsReady self.old.open }
+        requires plain { list_all is_plain_first self.old.firsts.items ≡ true }
+        ensures reads { (told : Told) (place : ℕ) (blocks : Blocks) → TellsFiles (F.told files.old) told → place ≡ length told.asked.lines + self.old.read → Bounded self.old.open (length blocks) → Reads told place blocks self.old self.new result }
+        ensures given { IfOk result (λ given. IfSome given (IsGivenFrom self.old self.new)) }
+        ensures firsts { self.new.firsts ≡ self.old.firsts }
+        ensures told { F.told files.new ≡ F.told files.old }
+        ensures cause { HasReadCause result (F.faults files.old) (F.faults files.new) }
+    {
+        loop {
+            match self.one(files) {
+                Ok(Step::End) => return Ok(None),
+                Ok(Step::Comment) => {}
+                Ok(Step::Given(line)) => return Ok(Some(line)),
+                Err(e) => return Err(e),
+            }
+        }
+    }
+
+    /// Finds the files that the last line includes.
+    fn expand<F: Files>(
+        &mut self,
+        facts: &Facts,
+        original: &[u8],
+        files: &mut F,
+    ) -> Result<(), ResolveError>
+        requires given { IsGiven self.old.open }
+        ensures moves { (told : Told) (place : ℕ) (blocks : Blocks) → TellsFiles (F.told files.old) told → told.facts ≡ known facts.now → told.asked.original ≡ original.now → Moves (left told place blocks self.old) (left told place blocks self.new) result }
+        ensures ready { OnOk result (IsReady self.new.open) }
+        ensures others { self.new ≡ record self.old { «open» = self.new.open } }
+        ensures told { F.told files.new ≡ F.told files.old }
+        ensures cause { HasReadCause result (F.faults files.old) (F.faults files.new) }
+        ensures bounded { OnOk result ((n : ℕ) → Bounded self.old.open n → Bounded self.new.open n) }
+    {
+        self.open.expand(facts, original, files)
+    }
+
+    /// The next line that says something, with the files that the last one includes before it.
+    pub fn next<F: Files>(
+        &mut self,
+        facts: &Facts,
+        original: &[u8],
+        files: &mut F,
+    ) -> Result<Option<ConfLine>, ResolveError>
+        requires given { IsGiven self.old.open }
+        requires plain { list_all is_plain_first self.old.firsts.items ≡ true }
+        ensures reads { (told : Told) (place : ℕ) (blocks : Blocks) → TellsFiles (F.told files.old) told → told.facts ≡ known facts.now → told.asked.original ≡ original.now → place ≡ length told.asked.lines + self.old.read → Bounded self.old.open (length blocks) → Reads told place blocks self.old self.new result }
+        ensures given { IfOk result (λ given. IfSome given (IsGivenFrom self.old self.new)) }
+        ensures firsts { self.new.firsts ≡ self.old.firsts }
+        ensures told { F.told files.new ≡ F.told files.old }
+        ensures cause { HasReadCause result (F.faults files.old) (F.faults files.new) }
+    {
+        match self.expand(facts, original, files) {
+            Ok(()) => self.next_line(files),
+            Err(e) => Err(e),
+        }
+    }
+
+    /// Gives no more line.
+    pub fn end(&mut self)
+        ensures left { (told : Told) (place : ℕ) (blocks : Blocks) → left told place blocks self.new ≡ [] }
+        ensures given { IsGiven self.new.open }
+        ensures firsts { self.new.firsts ≡ self.old.firsts }
+        ensures bounded { Bounded self.new.open 0 }
+    {
+        self.open = OpenFiles::new(self.alloc);
+        self.next_first = self.firsts.len();
+    }
+}
