@@ -13,8 +13,6 @@ pub mod laws;
 mod reading;
 mod said;
 mod state;
-#[cfg(test)]
-mod tests;
 mod verdict;
 
 pub use heard::Heard;
