@@ -13,6 +13,8 @@ pub mod laws;
 mod reading;
 mod said;
 mod state;
+#[cfg(test)]
+mod tests;
 mod verdict;
 
 pub use heard::Heard;
