@@ -1,20 +1,21 @@
 //! Transcripts: what is said to a core, and what comes of it, byte for byte.
 //!
-//! A script has a call, and behind an arrow the answer:
+//! A step of a script has a call, and behind an arrow the answer:
 //!
 //! ```text
-//! admit 1 -> let in
+//! admit 1 -> let in;
 //! 1 says 5a 00000007 "session" 00000007 0000000a 00000008
-//!   -> sent; up 00000019 00 5a 00000007 "session" 00000000 0000000a 00000008
+//!   -> sent, up 00000019 00 5a 00000007 "session" 00000000 0000000a 00000008;
 //! server says 5b 00000000 00000005 00000005 00000004
-//!   -> 1 is told 5b 00000007 00000005 00000005 00000004
-//! 1 is gone -> done; up 00000006 00 61 00000005
-//! open matters -> 1
+//!   -> 1 is told 5b 00000007 00000005 00000005 00000004;
+//! 1 is gone -> done, up 00000006 00 61 00000005;
+//! open matters -> 1;
 //! ```
 //!
-//! Bytes are hexadecimal, or a text in quotes; spaces count nothing. `up` are the frames that go to the server. The
-//! call `256 times 1 says ..` is made so often, with `#` for the two digits of the count from 0 on, in the answer too.
-//! The numbers of new channels count from 0; one that was freed is given again first.
+//! Numbers before `says` and `is` are clients. Bytes are hexadecimal, or a text in quotes; white space counts nothing.
+//! `up` are the frames that go to the server. The call `256 times 1 says ..` is made so often, with `#` for the two
+//! digits of the count from 0 on, in the answer too. New channels get the numbers from 0 on, and first the one that was
+//! freed last.
 
 ghost use Rattle.std.specs.Prelude.{◌≤◌, vec_len};
 
@@ -51,12 +52,12 @@ fn plays_under(alloc: Global, opens: &str, listens: &str, script: &str) -> Resul
     fresh(alloc, opens, listens)?.follow(script)
 }
 
-/// Plays each line of a script to a core of its own, behind the same beginning.
+/// Plays each step of a script to a core of its own, behind the same beginning.
 fn plays_each(alloc: Global, beginning: &str, script: &str) -> Result<(), Fail> {
-    for line in script.lines() {
+    for step in script.split(';') {
         let mut bench = fresh(alloc, "", "")?;
         bench.follow(beginning)?;
-        bench.follow(line)?;
+        bench.follow(step)?;
     }
     Ok(())
 }
@@ -129,16 +130,11 @@ fn bytes(alloc: Global, digits: &str) -> Result<Vec<u8>, Fail> {
 
 impl Bench {
     fn follow(&mut self, script: &str) -> Result<(), Fail> {
-        let mut call = "";
-        for line in script.lines() {
-            match line.split_once("->") {
-                None => call = line,
-                Some((before, answer)) => {
-                    if !before.trim().is_empty() {
-                        call = before;
-                    }
-                    self.check(call, answer)?;
-                }
+        for step in script.split(';') {
+            match step.split_once("->") {
+                Some((call, answer)) => self.check(call, answer)?,
+                None if step.trim().is_empty() => {}
+                None => return Err(Fail::new("a step without an answer")),
             }
         }
         Ok(())
@@ -171,7 +167,7 @@ impl Bench {
         let mut up = Queue::new(self.alloc);
         let mut shown = self.call(call, &mut up)?;
         if !up.is_empty() {
-            shown.push_str("; up ")?;
+            shown.push_str(", up ")?;
             put_hex(&mut shown, up.front())?;
         }
         Ok(shown)
@@ -187,8 +183,11 @@ impl Bench {
         if let Some((client, _)) = call.split_once("isgone") {
             return self.lose(client.parse::<u64>()?, up);
         }
-        let count = self.core.open_matters();
-        Ok(format!(in self.alloc; "{count}")?)
+        if call == "openmatters" {
+            let count = self.core.open_matters();
+            return Ok(format!(in self.alloc; "{count}")?);
+        }
+        Err(Fail::new("no such call"))
     }
 
     fn speak(&mut self, speaker: &str, payload: Vec<u8>, up: &mut Queue) -> Result<String, Fail> {
