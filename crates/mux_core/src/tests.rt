@@ -55,9 +55,8 @@ fn plays_under(alloc: Global, opens: &str, listens: &str, script: &str) -> Resul
 /// Plays each step of a script to a core of its own, behind the same beginning.
 fn plays_each(alloc: Global, beginning: &str, script: &str) -> Result<(), Fail> {
     for step in script.split(';') {
-        let mut bench = fresh(alloc, "", "")?;
-        bench.follow(beginning)?;
-        bench.follow(step)?;
+        let steps = format!(in alloc; "{beginning};{step}")?;
+        plays(alloc, steps.as_str())?;
     }
     Ok(())
 }
@@ -123,7 +122,10 @@ fn bytes(alloc: Global, digits: &str) -> Result<Vec<u8>, Fail> {
             }
         };
     }
-    Ok(bytes)
+    match high {
+        None => Ok(bytes),
+        Some(_) => Err(Fail::new("half a byte")),
+    }
 }
 
 // ---- calls

@@ -1,14 +1,27 @@
-use super::{fresh, plays};
+use super::plays;
 use std::test::Fail;
 
 #[test]
 fn sixty_four_clients_have_open_matters(rt: HostRuntime) -> Result<(), Fail> {
-    let mut bench = fresh(rt.alloc(), "", "")?;
-    for client in 1..65 {
-        assert!(rt; bench.core.admit(client)?);
-    }
-    bench.follow(
+    plays(
+        rt.alloc(),
         r#"
+        admit 1 -> let in; admit 2 -> let in; admit 3 -> let in; admit 4 -> let in;
+        admit 5 -> let in; admit 6 -> let in; admit 7 -> let in; admit 8 -> let in;
+        admit 9 -> let in; admit 10 -> let in; admit 11 -> let in; admit 12 -> let in;
+        admit 13 -> let in; admit 14 -> let in; admit 15 -> let in; admit 16 -> let in;
+        admit 17 -> let in; admit 18 -> let in; admit 19 -> let in; admit 20 -> let in;
+        admit 21 -> let in; admit 22 -> let in; admit 23 -> let in; admit 24 -> let in;
+        admit 25 -> let in; admit 26 -> let in; admit 27 -> let in; admit 28 -> let in;
+        admit 29 -> let in; admit 30 -> let in; admit 31 -> let in; admit 32 -> let in;
+        admit 33 -> let in; admit 34 -> let in; admit 35 -> let in; admit 36 -> let in;
+        admit 37 -> let in; admit 38 -> let in; admit 39 -> let in; admit 40 -> let in;
+        admit 41 -> let in; admit 42 -> let in; admit 43 -> let in; admit 44 -> let in;
+        admit 45 -> let in; admit 46 -> let in; admit 47 -> let in; admit 48 -> let in;
+        admit 49 -> let in; admit 50 -> let in; admit 51 -> let in; admit 52 -> let in;
+        admit 53 -> let in; admit 54 -> let in; admit 55 -> let in; admit 56 -> let in;
+        admit 57 -> let in; admit 58 -> let in; admit 59 -> let in; admit 60 -> let in;
+        admit 61 -> let in; admit 62 -> let in; admit 63 -> let in; admit 64 -> let in;
         open matters -> 64;
         admit 65 -> refused;
         open matters -> 64;
