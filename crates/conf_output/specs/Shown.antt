@@ -1,0 +1,103 @@
+-- What settings list: the same words as of a resolution's rows, over the values that are kept.
+use Rattle.std.specs.Prelude.{ℕ, Bool, true, false, if◌then◌else◌, List, [], ◌∷◌, ◌++◌, flat_map, Option, Some, None, Result, Ok, Err, codes}
+use Rattle.std.specs.List.{slice_get}
+use Rattle.conf_rules.specs.declared.key.Key.{Key}
+use Rattle.conf_rules.specs.declared.key.Key.TheVariants as keys
+use Rattle.conf_rules.specs.declared.key.TheConstants.{LISTING_ORDER}
+use Rattle.conf_rules.specs.declared.value.Value.{Value}
+use Rattle.conf_rules.specs.declared.causes.TokenError.{TokenError}
+use Rattle.conf_rules.specs.declared.causes.TokenError.TheVariants as token_errors
+use Rattle.conf_rules.specs.declared.causes.ListError.{ListError}
+use Rattle.conf_rules.specs.declared.causes.ListError.TheVariants as list_errors
+use Rattle.conf_rules.specs.declared.token_set.TokenSet.TheVariants.{Full}
+use Rattle.conf_rules.specs.Results.{◌>>=◌}
+use Rattle.conf_rules.specs.Texts.{Bytes, or_text}
+use Rattle.conf_rules.specs.Keys.{keyword}
+use Rattle.conf_rules.specs.Kinds.{default_of, Showing, TheUser, TheHost, Path, Command, Forwards, Proxy, Plainly, showing}
+use Rattle.conf_rules.specs.Values.{spelled}
+use Rattle.conf_rules.specs.Told.{Facts}
+use Rattle.conf_rules.specs.Tokens.{View, user_of, expand}
+use Rattle.conf_rules.specs.Rows.{values_among, word_in, number_in, but_none}
+use Rattle.conf_rules.specs.Resolution.{host_from}
+use Rattle.conf_rules.specs.Listing.{listed, is_set, with_default, text_list, expanded_one, control_text, at_key, control_path_of}
+use Rattle.conf_options.specs.Kept.{Given}
+use Rattle.conf_output.specs.declared.keys.Manner.{Manner}
+use Rattle.conf_output.specs.declared.keys.Manner.TheVariants as manners
+
+-- the first value of a key
+abbrev pub first_value : Key → List Given → Option Value
+first_value key settings = slice_get (values_among key settings) 0
+
+-- the host name
+abbrev pub host_of : List Given → Bytes → Bytes
+host_of settings original = host_from original (word_in (first_value keys.Hostname settings))
+
+-- what tokens see
+abbrev pub view_of : List Given → Bytes → Bytes → Facts → View
+view_of settings original host facts = record {
+  original = original;
+  host = host;
+  jump = or_text [] (but_none (word_in (first_value keys.ProxyJump settings)));
+  tag = or_text [] (word_in (first_value keys.Tag settings));
+  port = number_in 22 (first_value keys.Port settings);
+  user = word_in (first_value keys.User settings);
+  «alias» = word_in (first_value keys.HostKeyAlias settings);
+  facts = facts;
+  last = false;
+  name = host;
+}
+
+-- the text that is listed for a key that isn't set
+abbrev pub default_text : Key → Option Bytes
+default_text key = slice_get (flat_map spelled (with_default (default_of key) [])) 0
+
+-- the texts that are listed for a key
+abbrev pub shown_by : List Given → View → Key → Showing → Result (List Bytes) TokenError
+shown_by settings view key TheUser = user_of 117 (word_in (first_value key settings)) view.facts.local_user >>= λ user. Ok (user ∷ [])
+shown_by settings view key TheHost = Ok (view.host ∷ [])
+shown_by settings view key Path = expanded_one (control_text view) (word_in (first_value key settings))
+shown_by settings view key Command = expanded_one (λ text. expand text Full view) (word_in (first_value key settings))
+shown_by settings view key Forwards = Ok (if is_set (first_value keys.ClearAllForwardings settings) then [] else flat_map spelled (values_among key settings))
+shown_by settings view key Proxy = Ok (text_list (but_none (word_in (first_value key settings))))
+shown_by settings view key Plainly = Ok (flat_map spelled (with_default (default_of key) (values_among key settings)))
+
+-- the texts of a key, by how it is listed
+abbrev pub shown_of : List Given → View → Key → Result (List Bytes) TokenError
+shown_of settings view key = shown_by settings view key (showing key)
+
+-- a line for each text
+abbrev pub lines_of : Bytes → Result (List Bytes) TokenError → Result Bytes TokenError
+lines_of name reading = reading >>= λ texts. Ok (flat_map (listed name) texts)
+
+-- the lines of some keys, or the first refusal
+unfoldable pub lines_over : List Given → View → List Key → Result Bytes ListError
+lines_over settings view [] = Ok []
+lines_over settings view (key ∷ more) =
+    at_key key (shown_of settings view key) >>= λ texts. lines_over settings view more >>= λ rest. Ok (flat_map (listed (keyword key)) texts ++ rest)
+
+-- the listing
+unfoldable pub listing_of : List Given → Bytes → Facts → Result Bytes ListError
+listing_of settings original facts =
+    lines_over settings (view_of settings original (host_of settings original) facts) LISTING_ORDER >>= λ rest. Ok (listed (codes "host") original ++ rest)
+
+-- the control path
+unfoldable pub path_of : List Given → Bytes → Facts → Result (Option Bytes) ListError
+path_of settings original facts =
+    control_path_of (view_of settings original (host_of settings original) facts) (but_none (word_in (first_value keys.ControlPath settings)))
+
+-- ---- what the code has
+
+-- how a key is listed
+abbrev pub showing_of : Manner → Showing
+showing_of manners.User = TheUser
+showing_of manners.Host = TheHost
+showing_of manners.Path = Path
+showing_of manners.Command = Command
+showing_of manners.Forwards = Forwards
+showing_of manners.Proxy = Proxy
+showing_of manners.Plain = Plainly
+
+-- a token's refusal with its key, or want of memory
+abbrev pub refusal_of : Key → TokenError → ListError
+refusal_of key token_errors.OutOfMemory = list_errors.OutOfMemory
+refusal_of key error = list_errors.Token key error
