@@ -47,9 +47,9 @@ view_of settings original host facts = record {
   name = host;
 }
 
--- the text that is listed for a key that isn't set
-abbrev pub default_text : Key → Option Bytes
-default_text key = slice_get (flat_map spelled (with_default (default_of key) [])) 0
+-- what is listed for a key that isn't set
+abbrev pub default_texts : Key → List Bytes
+default_texts key = flat_map spelled (with_default (default_of key) [])
 
 -- the texts that are listed for a key
 abbrev pub shown_by : List Given → View → Key → Showing → Result (List Bytes) TokenError

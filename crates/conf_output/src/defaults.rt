@@ -1,13 +1,14 @@
-ghost use Rattle.std.specs.Prelude.{◌≡◌, flat_map};
+ghost use Rattle.std.specs.Prelude.{◌≡◌};
 ghost use Rattle.std.specs.Option.{option_copied};
-ghost use Rattle.conf_output.specs.Shown.{default_text};
+ghost use Rattle.conf_rules.specs.Listing.{text_list};
+ghost use Rattle.conf_output.specs.Shown.{default_texts};
 
 use conf_options::Key;
 
 /// The text that is listed for a key that isn't set. User and Hostname have a default of their own besides.
 #[tactic(auto, unfolding(conf_rules::specs::Kinds::default_of, conf_rules::specs::Numbers::digits_of))]
 pub fn default_text(key: Key) -> Option<&'static [u8]>
-    ensures { option_copied result ≡ default_text key }
+    ensures { text_list (option_copied result) ≡ default_texts key }
 {
     match key {
         Key::AddressFamily => Some(b"any"),

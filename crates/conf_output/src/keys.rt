@@ -6,7 +6,7 @@ ghost use Rattle.conf_rules.specs.Wants.{token_wants_memory, list_wants_memory};
 ghost use Rattle.conf_rules.specs.Rows.{values_among};
 ghost use Rattle.conf_rules.specs.Listing.{listed};
 ghost use Rattle.conf_tokens.specs.Seen.{seen};
-ghost use Rattle.conf_output.specs.Shown.{lines_of, shown_by, shown_of, lines_over, showing_of, refusal_of};
+ghost use Rattle.conf_output.specs.Shown.{default_texts, lines_of, shown_by, shown_of, lines_over, showing_of, refusal_of};
 ghost use Rattle.conf_output.specs.Puts.{Puts};
 
 use crate::defaults::default_text;
@@ -167,6 +167,16 @@ fn put_proxy(
     }
 }
 
+/// The line of a key that isn't set, if it has a default.
+fn put_default(out: &mut Text, key: Key) -> Result<(), TokenError>
+    ensures { Puts token_wants_memory result out.old out.new (lines_of (keyword key) (Ok (default_texts key))) }
+{
+    match default_text(key) {
+        Some(text) => put_text(out, key, text),
+        None => Ok(()),
+    }
+}
+
 /// The lines of a key's values, or else of its default.
 fn put_plain(
     alloc: Global,
@@ -177,13 +187,12 @@ fn put_plain(
 ) -> Result<(), TokenError>
     ensures { Puts token_wants_memory result out.old out.new (lines_of (keyword key) (shown_by settings.now (seen view.now) key Plainly)) }
 {
-    if settings.first(key).is_some() {
-        put_values(alloc, out, settings, key)?;
-        return Ok(());
-    }
-    match default_text(key) {
-        Some(text) => put_text(out, key, text),
-        None => Ok(()),
+    match settings.first(key) {
+        Some(_value) => {
+            put_values(alloc, out, settings, key)?;
+            Ok(())
+        }
+        None => put_default(out, key),
     }
 }
 
