@@ -1,5 +1,5 @@
 -- What settings list is what the rows list that they keep.
-use Rattle.std.proofs.Common.{◌≡◌, List, [], ◌∷◌, ◌++◌, Option, Some, None, Result, Ok, Err, refl, sym, ap, ◌∙◌, codes}
+use Rattle.std.proofs.Common.{◌≡◌, List, [], ◌∷◌, ◌++◌, Result, Ok, refl, sym, ap, ◌∙◌, codes}
 use Rattle.std.specs.Prelude.{flat_map}
 use Rattle.mux_outside.specs.declared.facts.Facts.{Facts as TheFacts}
 use Rattle.conf_rules.specs.declared.key.Key.{Key}
@@ -9,17 +9,16 @@ use Rattle.conf_rules.specs.declared.causes.TokenError.{TokenError}
 use Rattle.conf_rules.specs.declared.causes.ListError.{ListError}
 use Rattle.conf_rules.specs.Results.{◌>>=◌}
 use Rattle.conf_rules.specs.Texts.{Bytes}
-use Rattle.conf_rules.specs.Keys.{keyword}
 use Rattle.conf_rules.specs.Kinds.{Showing, TheUser, TheHost, Path, Command, Forwards, Proxy, Plainly, showing}
 use Rattle.conf_rules.specs.Told.{Told}
 use Rattle.conf_rules.specs.Tokens.{View}
 use Rattle.conf_rules.specs.Rows.{Row, given, values, values_among}
-use Rattle.conf_rules.specs.Resolution.{host_at, view_at}
+use Rattle.conf_rules.specs.Resolution.{view_at}
 use Rattle.conf_rules.specs.Listing.{listed, shown_as, shown, key_lines, listing_over, control_path_at}
 use Rattle.conf_options.specs.Kept.{Given, Keeps}
 use Rattle.conf_tokens.specs.Known.{known}
 use Rattle.conf_output.specs.Settled.{Settled}
-use Rattle.conf_output.specs.Shown.{host_of, view_of, shown_by, shown_of, lines_over, listing_of, path_of}
+use Rattle.conf_output.specs.Shown.{host_of, view_of, shown_by, shown_of, lines_over, list_of, path_of}
 use Rattle.conf_output.proofs.KeyLemmas.{key_first}
 
 -- the values of each key
@@ -63,13 +62,13 @@ same-lines told rows settings keeps (key ∷ more) = same-first key _ _ _ _ (sam
 abbrev behind_name : Bytes → Result Bytes ListError → Result Bytes ListError
 behind_name original lines = lines >>= λ rest. Ok (listed (codes "host") original ++ rest)
 
-of-told : (told : Told) (rows : List Row) (settings : List Given) → Keeps settings (flat_map given rows) → listing_over LISTING_ORDER told rows ≡ listing_of settings told.asked.original told.facts
-unfolding listing_over listing_of
+of-told : (told : Told) (rows : List Row) (settings : List Given) → Keeps settings (flat_map given rows) → listing_over LISTING_ORDER told rows ≡ list_of settings told.asked.original told.facts
+unfolding listing_over list_of
 of-told told rows settings keeps = ap (behind_name told.asked.original) (same-lines told rows settings keeps LISTING_ORDER)
 
 -- the listing
-pub same-listing : (told : Told) (rows : List Row) (settings : List Given) (original : Bytes) (machine : TheFacts) → Settled told rows settings original machine → listing_over LISTING_ORDER told rows ≡ listing_of settings original (known machine)
-same-listing told rows settings original machine s = of-told told rows settings s.keeps ∙ ap (λ name. listing_of settings name told.facts) s.name ∙ ap (listing_of settings original) s.facts
+pub same-listing : (told : Told) (rows : List Row) (settings : List Given) (original : Bytes) (machine : TheFacts) → Settled told rows settings original machine → listing_over LISTING_ORDER told rows ≡ list_of settings original (known machine)
+same-listing told rows settings original machine s = of-told told rows settings s.keeps ∙ ap (λ name. list_of settings name told.facts) s.name ∙ ap (list_of settings original) s.facts
 
 path-told : (told : Told) (rows : List Row) (settings : List Given) → Keeps settings (flat_map given rows) → control_path_at told rows ≡ path_of settings told.asked.original told.facts
 unfolding control_path_at path_of

@@ -3,10 +3,13 @@ use Rattle.std.proofs.Common.{◌≡◌, ℕ, zero, suc, ◌+◌, List, [], ◌�
 use Rattle.std.specs.Prelude.{flat_map}
 use Rattle.std.specs.List.{slice_get}
 use Rattle.conf_rules.specs.declared.value.Value.{Value}
+use Rattle.conf_rules.specs.declared.key.Key.{Key}
 use Rattle.conf_rules.specs.Texts.{Bytes}
+use Rattle.conf_rules.specs.Keys.{keyword}
 use Rattle.conf_rules.specs.Values.{spelled}
 use Rattle.conf_rules.specs.Listing.{listed, with_default}
 use Rattle.std.proofs.lemmas.List.Concat.{flat_map-append}
+use Rattle.conf_output.specs.Shown.{lines}
 
 none-left : {A : Type 0} (xs : List A) (i : ℕ) → slice_get xs i ≡ None → drop i xs ≡ []
 none-left [] zero e = refl
@@ -24,23 +27,23 @@ next-left : {A : Type 0} (xs : List A) (i : ℕ) (x : A) → slice_get xs i ≡ 
 next-left xs i x e = rw add-one (next-suc xs i x e)
 
 -- the lines of values
-abbrev pub value_lines : Bytes → List Value → Bytes
-value_lines name vs = flat_map (listed name) (flat_map spelled vs)
+abbrev value_lines : Key → List Value → Bytes
+value_lines key vs = lines key (flat_map spelled vs)
 
 -- no value is left
-pub all-put : (name out front : Bytes) (vs : List Value) (i : ℕ) → None ≡ slice_get vs i → out ++ value_lines name (drop i vs) ≡ front ++ value_lines name vs → out ≡ front ++ value_lines name vs
-all-put name out front vs i e so_far =
-    sym (append-nil out) ∙ sym (ap (λ left. out ++ value_lines name left) (none-left vs i (sym e))) ∙ so_far
+pub all-put : (key : Key) (out front : Bytes) (vs : List Value) (i : ℕ) → None ≡ slice_get vs i → out ++ value_lines key (drop i vs) ≡ front ++ value_lines key vs → out ≡ front ++ value_lines key vs
+all-put key out front vs i e so_far =
+    sym (append-nil out) ∙ sym (ap (λ left. out ++ value_lines key left) (none-left vs i (sym e))) ∙ so_far
 
-lines-first : (name : Bytes) (v : Value) (vs : List Value) → value_lines name (v ∷ vs) ≡ flat_map (listed name) (spelled v) ++ value_lines name vs
-lines-first name v vs = flat_map-append (listed name) (spelled v) (flat_map spelled vs)
+lines-first : (key : Key) (v : Value) (vs : List Value) → value_lines key (v ∷ vs) ≡ lines key (spelled v) ++ value_lines key vs
+lines-first key v vs = flat_map-append (listed (keyword key)) (spelled v) (flat_map spelled vs)
 
 -- a value more
-pub value-put : (name out new front : Bytes) (vs : List Value) (i : ℕ) (v : Value) → Some v ≡ slice_get vs i → new ≡ out ++ flat_map (listed name) (spelled v) → out ++ value_lines name (drop i vs) ≡ front ++ value_lines name vs
-    → new ++ value_lines name (drop (i + 1) vs) ≡ front ++ value_lines name vs
-value-put name out new front vs i v e put so_far =
-    ap (λ x. x ++ value_lines name (drop (i + 1) vs)) put ∙ append_assoc out (flat_map (listed name) (spelled v)) (value_lines name (drop (i + 1) vs))
-    ∙ sym (ap (λ x. out ++ x) (ap (value_lines name) (next-left vs i v (sym e)) ∙ lines-first name v (drop (i + 1) vs))) ∙ so_far
+pub value-put : (key : Key) (out new front : Bytes) (vs : List Value) (i : ℕ) (v : Value) → Some v ≡ slice_get vs i → new ≡ out ++ lines key (spelled v) → out ++ value_lines key (drop i vs) ≡ front ++ value_lines key vs
+    → new ++ value_lines key (drop (i + 1) vs) ≡ front ++ value_lines key vs
+value-put key out new front vs i v e put so_far =
+    ap (λ x. x ++ value_lines key (drop (i + 1) vs)) put ∙ append_assoc out (lines key (spelled v)) (value_lines key (drop (i + 1) vs))
+    ∙ sym (ap (λ x. out ++ x) (ap (value_lines key) (next-left vs i v (sym e)) ∙ lines-first key v (drop (i + 1) vs))) ∙ so_far
 
 -- ---- the default
 

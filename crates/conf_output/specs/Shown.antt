@@ -1,10 +1,11 @@
 -- What settings list: the same words as of a resolution's rows, over the values that are kept.
-use Rattle.std.specs.Prelude.{ℕ, Bool, true, false, if◌then◌else◌, List, [], ◌∷◌, ◌++◌, flat_map, Option, Some, None, Result, Ok, Err, codes}
+use Rattle.std.specs.Prelude.{false, if◌then◌else◌, List, [], ◌∷◌, ◌++◌, flat_map, Option, Result, Ok, codes}
 use Rattle.std.specs.List.{slice_get}
 use Rattle.conf_rules.specs.declared.key.Key.{Key}
 use Rattle.conf_rules.specs.declared.key.Key.TheVariants as keys
 use Rattle.conf_rules.specs.declared.key.TheConstants.{LISTING_ORDER}
 use Rattle.conf_rules.specs.declared.value.Value.{Value}
+use Rattle.conf_rules.specs.declared.value.Forward.{Forward}
 use Rattle.conf_rules.specs.declared.causes.TokenError.{TokenError}
 use Rattle.conf_rules.specs.declared.causes.TokenError.TheVariants as token_errors
 use Rattle.conf_rules.specs.declared.causes.ListError.{ListError}
@@ -14,6 +15,7 @@ use Rattle.conf_rules.specs.Results.{◌>>=◌}
 use Rattle.conf_rules.specs.Texts.{Bytes, or_text}
 use Rattle.conf_rules.specs.Keys.{keyword}
 use Rattle.conf_rules.specs.Kinds.{default_of, Showing, TheUser, TheHost, Path, Command, Forwards, Proxy, Plainly, showing}
+use Rattle.conf_rules.specs.Forwardings.{spelled_end, spelled_connect}
 use Rattle.conf_rules.specs.Values.{spelled}
 use Rattle.conf_rules.specs.Told.{Facts}
 use Rattle.conf_rules.specs.Tokens.{View, user_of, expand}
@@ -47,37 +49,69 @@ view_of settings original host facts = record {
   name = host;
 }
 
--- what is listed for a key that isn't set
+-- a line for each text of a key
+abbrev pub lines : Key → List Bytes → Bytes
+lines key texts = flat_map (listed (keyword key)) texts
+
+-- the same of a reading
+abbrev pub lines_of : Key → Result (List Bytes) TokenError → Result Bytes TokenError
+lines_of key reading = reading >>= λ texts. Ok (lines key texts)
+
+-- all values of a key
+abbrev pub value_texts : List Given → Key → List Bytes
+value_texts settings key = flat_map spelled (values_among key settings)
+
+-- the default of a key
 abbrev pub default_texts : Key → List Bytes
 default_texts key = flat_map spelled (with_default (default_of key) [])
 
--- the texts that are listed for a key
-abbrev pub shown_by : List Given → View → Key → Showing → Result (List Bytes) TokenError
-shown_by settings view key TheUser = user_of 117 (word_in (first_value key settings)) view.facts.local_user >>= λ user. Ok (user ∷ [])
-shown_by settings view key TheHost = Ok (view.host ∷ [])
-shown_by settings view key Path = expanded_one (control_text view) (word_in (first_value key settings))
-shown_by settings view key Command = expanded_one (λ text. expand text Full view) (word_in (first_value key settings))
-shown_by settings view key Forwards = Ok (if is_set (first_value keys.ClearAllForwardings settings) then [] else flat_map spelled (values_among key settings))
-shown_by settings view key Proxy = Ok (text_list (but_none (word_in (first_value key settings))))
-shown_by settings view key Plainly = Ok (flat_map spelled (with_default (default_of key) (values_among key settings)))
+-- all values of a key, or its default
+abbrev pub plain_texts : List Given → Key → List Bytes
+plain_texts settings key = flat_map spelled (with_default (default_of key) (values_among key settings))
 
--- the texts of a key, by how it is listed
+-- all values of a key, unless forwardings are cleared
+abbrev pub forward_texts : List Given → Key → List Bytes
+forward_texts settings key = if is_set (first_value keys.ClearAllForwardings settings) then [] else value_texts settings key
+
+-- the value of a key, unless it is `none`
+abbrev pub proxy_texts : List Given → Key → List Bytes
+proxy_texts settings key = text_list (but_none (word_in (first_value key settings)))
+
+-- the value of a key, or else the local user
+abbrev pub user_texts : List Given → View → Key → Result (List Bytes) TokenError
+user_texts settings view key = user_of 117 (word_in (first_value key settings)) view.facts.local_user >>= λ user. Ok (user ∷ [])
+
+-- the value of a key, expanded as a path
+abbrev pub path_texts : List Given → View → Key → Result (List Bytes) TokenError
+path_texts settings view key = expanded_one (control_text view) (word_in (first_value key settings))
+
+-- the value of a key, expanded as a command
+abbrev pub command_texts : List Given → View → Key → Result (List Bytes) TokenError
+command_texts settings view key = expanded_one (λ text. expand text Full view) (word_in (first_value key settings))
+
+-- the texts of a key that is listed so
+abbrev pub shown_by : List Given → View → Key → Showing → Result (List Bytes) TokenError
+shown_by settings view key TheUser = user_texts settings view key
+shown_by settings view key TheHost = Ok (view.host ∷ [])
+shown_by settings view key Path = path_texts settings view key
+shown_by settings view key Command = command_texts settings view key
+shown_by settings view key Forwards = Ok (forward_texts settings key)
+shown_by settings view key Proxy = Ok (proxy_texts settings key)
+shown_by settings view key Plainly = Ok (plain_texts settings key)
+
+-- the texts of a key
 abbrev pub shown_of : List Given → View → Key → Result (List Bytes) TokenError
 shown_of settings view key = shown_by settings view key (showing key)
-
--- a line for each text
-abbrev pub lines_of : Bytes → Result (List Bytes) TokenError → Result Bytes TokenError
-lines_of name reading = reading >>= λ texts. Ok (flat_map (listed name) texts)
 
 -- the lines of some keys, or the first refusal
 unfoldable pub lines_over : List Given → View → List Key → Result Bytes ListError
 lines_over settings view [] = Ok []
 lines_over settings view (key ∷ more) =
-    at_key key (shown_of settings view key) >>= λ texts. lines_over settings view more >>= λ rest. Ok (flat_map (listed (keyword key)) texts ++ rest)
+    at_key key (shown_of settings view key) >>= λ texts. lines_over settings view more >>= λ rest. Ok (lines key texts ++ rest)
 
 -- the listing
-unfoldable pub listing_of : List Given → Bytes → Facts → Result Bytes ListError
-listing_of settings original facts =
+unfoldable pub list_of : List Given → Bytes → Facts → Result Bytes ListError
+list_of settings original facts =
     lines_over settings (view_of settings original (host_of settings original) facts) LISTING_ORDER >>= λ rest. Ok (listed (codes "host") original ++ rest)
 
 -- the control path
@@ -86,6 +120,10 @@ path_of settings original facts =
     control_path_of (view_of settings original (host_of settings original) facts) (but_none (word_in (first_value keys.ControlPath settings)))
 
 -- ---- what the code has
+
+-- a forwarding as it is listed
+abbrev pub spelled_forward : Forward → Bytes
+spelled_forward f = spelled_end f.listen ++ spelled_connect f.connect
 
 -- how a key is listed
 abbrev pub showing_of : Manner → Showing

@@ -1,13 +1,8 @@
-ghost use Rattle.std.specs.Prelude.{◌≡◌, [], ◌∷◌, ◌++◌, flat_map, Ok, OnOk};
-ghost use Rattle.conf_rules.specs.Keys.{keyword};
-ghost use Rattle.conf_rules.specs.Kinds.{TheUser, TheHost, Path, Command, Forwards, Proxy, Plainly, showing};
-ghost use Rattle.conf_rules.specs.Values.{spelled};
-ghost use Rattle.conf_rules.specs.Wants.{token_wants_memory, list_wants_memory};
-ghost use Rattle.conf_rules.specs.Rows.{values_among};
-ghost use Rattle.conf_rules.specs.Listing.{listed};
+ghost use Rattle.std.specs.Prelude.{◌≡◌, [], ◌∷◌, ◌++◌, OnOk};
+ghost use Rattle.conf_rules.specs.Kinds.{showing};
 ghost use Rattle.conf_tokens.specs.Seen.{seen};
-ghost use Rattle.conf_output.specs.Shown.{default_texts, lines_of, shown_by, shown_of, lines_over, showing_of, refusal_of};
-ghost use Rattle.conf_output.specs.Puts.{Puts};
+ghost use Rattle.conf_output.specs.Shown.{lines, value_texts, default_texts, plain_texts, forward_texts, proxy_texts, user_texts, path_texts, command_texts, shown_of, showing_of, refusal_of};
+ghost use Rattle.conf_output.specs.Puts.{PutsKeys, PutsTexts};
 
 use crate::defaults::default_text;
 use crate::known::{is_set, named_word, word_of};
@@ -52,6 +47,13 @@ fn manner_of(key: Key) -> Manner
     }
 }
 
+/// The line of a text.
+fn put_text(out: &mut Text, key: Key, text: &[u8]) -> Result<(), OutOfMemory>
+    ensures { OnOk result (out.new ≡ out.old ++ lines key (text.now ∷ [])) }
+{
+    put_line(out, key.keyword(), text)
+}
+
 /// A line for each value of a key.
 fn put_values(
     alloc: Global,
@@ -59,7 +61,7 @@ fn put_values(
     settings: &Settings,
     key: Key,
 ) -> Result<(), OutOfMemory>
-    ensures { OnOk result (out.new ≡ out.old ++ flat_map (listed (keyword key)) (flat_map spelled (values_among key settings.now))) }
+    ensures { OnOk result (out.new ≡ out.old ++ lines key (value_texts settings.now key)) }
 {
     for i in 0..usize::MAX {
         let Some(value) = settings.nth(key, i) else {
@@ -71,12 +73,54 @@ fn put_values(
     Err(OutOfMemory)
 }
 
-/// The line of a text.
-fn put_text(out: &mut Text, key: Key, text: &[u8]) -> Result<(), TokenError>
-    ensures { Puts token_wants_memory result out.old out.new (lines_of (keyword key) (Ok (text.now ∷ []))) }
+/// The line of a key's default, if it has one.
+fn put_default(out: &mut Text, key: Key) -> Result<(), OutOfMemory>
+    ensures { OnOk result (out.new ≡ out.old ++ lines key (default_texts key)) }
 {
-    put_line(out, key.keyword(), text)?;
-    Ok(())
+    match default_text(key) {
+        Some(text) => put_text(out, key, text),
+        None => Ok(()),
+    }
+}
+
+/// The lines of a key's values, or else of its default.
+fn put_plain(
+    alloc: Global,
+    out: &mut Text,
+    settings: &Settings,
+    key: Key,
+) -> Result<(), OutOfMemory>
+    ensures { OnOk result (out.new ≡ out.old ++ lines key (plain_texts settings.now key)) }
+{
+    match settings.first(key) {
+        Some(_value) => put_values(alloc, out, settings, key),
+        None => put_default(out, key),
+    }
+}
+
+/// The lines of forwardings, unless they are cleared.
+fn put_forwards(
+    alloc: Global,
+    out: &mut Text,
+    settings: &Settings,
+    key: Key,
+) -> Result<(), OutOfMemory>
+    ensures { OnOk result (out.new ≡ out.old ++ lines key (forward_texts settings.now key)) }
+{
+    if is_set(settings, Key::ClearAllForwardings) {
+        return Ok(());
+    }
+    put_values(alloc, out, settings, key)
+}
+
+/// The line of a proxy, unless it is `none`.
+fn put_proxy(out: &mut Text, settings: &Settings, key: Key) -> Result<(), OutOfMemory>
+    ensures { OnOk result (out.new ≡ out.old ++ lines key (proxy_texts settings.now key)) }
+{
+    match named_word(settings, key) {
+        Some(text) => put_text(out, key, text),
+        None => Ok(()),
+    }
 }
 
 /// The line of the user, or else of the local user.
@@ -86,15 +130,13 @@ fn put_user(
     view: &View<'_>,
     key: Key,
 ) -> Result<(), TokenError>
-    ensures { Puts token_wants_memory result out.old out.new (lines_of (keyword key) (shown_by settings.now (seen view.now) key TheUser)) }
+    ensures { PutsTexts result out.old out.new key (user_texts settings.now (seen view.now) key) }
 {
-    match word_of(settings, key) {
-        Some(user) => put_text(out, key, user),
-        None => {
-            let user = fact(b'u', &view.facts.local_user)?;
-            put_text(out, key, user)
-        }
-    }
+    let user = match word_of(settings, key) {
+        Some(user) => user,
+        None => fact(b'u', &view.facts.local_user)?,
+    };
+    Ok(put_text(out, key, user)?)
 }
 
 /// The line of a path, expanded.
@@ -105,12 +147,12 @@ fn put_path(
     view: &View<'_>,
     key: Key,
 ) -> Result<(), TokenError>
-    ensures { Puts token_wants_memory result out.old out.new (lines_of (keyword key) (shown_by settings.now (seen view.now) key Path)) }
+    ensures { PutsTexts result out.old out.new key (path_texts settings.now (seen view.now) key) }
 {
     match word_of(settings, key) {
         Some(text) => {
             let path = expand_path(alloc, true, text, TokenSet::FullVars, view)?;
-            put_text(out, key, path.as_bytes())
+            Ok(put_text(out, key, path.as_bytes())?)
         }
         None => Ok(()),
     }
@@ -124,75 +166,14 @@ fn put_command(
     view: &View<'_>,
     key: Key,
 ) -> Result<(), TokenError>
-    ensures { Puts token_wants_memory result out.old out.new (lines_of (keyword key) (shown_by settings.now (seen view.now) key Command)) }
+    ensures { PutsTexts result out.old out.new key (command_texts settings.now (seen view.now) key) }
 {
     match word_of(settings, key) {
         Some(text) => {
             let command = expand(alloc, text, TokenSet::Full, view)?;
-            put_text(out, key, command.as_bytes())
+            Ok(put_text(out, key, command.as_bytes())?)
         }
         None => Ok(()),
-    }
-}
-
-/// The lines of forwardings, unless they are cleared.
-fn put_forwards(
-    alloc: Global,
-    out: &mut Text,
-    settings: &Settings,
-    view: &View<'_>,
-    key: Key,
-) -> Result<(), TokenError>
-    ensures { Puts token_wants_memory result out.old out.new (lines_of (keyword key) (shown_by settings.now (seen view.now) key Forwards)) }
-{
-    if is_set(settings, Key::ClearAllForwardings) {
-        return Ok(());
-    }
-    put_values(alloc, out, settings, key)?;
-    Ok(())
-}
-
-/// The line of a proxy, unless it is `none`.
-fn put_proxy(
-    out: &mut Text,
-    settings: &Settings,
-    view: &View<'_>,
-    key: Key,
-) -> Result<(), TokenError>
-    ensures { Puts token_wants_memory result out.old out.new (lines_of (keyword key) (shown_by settings.now (seen view.now) key Proxy)) }
-{
-    match named_word(settings, key) {
-        Some(text) => put_text(out, key, text),
-        None => Ok(()),
-    }
-}
-
-/// The line of a key that isn't set, if it has a default.
-fn put_default(out: &mut Text, key: Key) -> Result<(), TokenError>
-    ensures { Puts token_wants_memory result out.old out.new (lines_of (keyword key) (Ok (default_texts key))) }
-{
-    match default_text(key) {
-        Some(text) => put_text(out, key, text),
-        None => Ok(()),
-    }
-}
-
-/// The lines of a key's values, or else of its default.
-fn put_plain(
-    alloc: Global,
-    out: &mut Text,
-    settings: &Settings,
-    view: &View<'_>,
-    key: Key,
-) -> Result<(), TokenError>
-    ensures { Puts token_wants_memory result out.old out.new (lines_of (keyword key) (shown_by settings.now (seen view.now) key Plainly)) }
-{
-    match settings.first(key) {
-        Some(_value) => {
-            put_values(alloc, out, settings, key)?;
-            Ok(())
-        }
-        None => put_default(out, key),
     }
 }
 
@@ -204,16 +185,16 @@ fn put_key(
     view: &View<'_>,
     key: Key,
 ) -> Result<(), TokenError>
-    ensures { Puts token_wants_memory result out.old out.new (lines_of (keyword key) (shown_of settings.now (seen view.now) key)) }
+    ensures { PutsTexts result out.old out.new key (shown_of settings.now (seen view.now) key) }
 {
     match manner_of(key) {
         Manner::User => put_user(out, settings, view, key),
-        Manner::Host => put_text(out, key, view.host),
+        Manner::Host => Ok(put_text(out, key, view.host)?),
         Manner::Path => put_path(alloc, out, settings, view, key),
         Manner::Command => put_command(alloc, out, settings, view, key),
-        Manner::Forwards => put_forwards(alloc, out, settings, view, key),
-        Manner::Proxy => put_proxy(out, settings, view, key),
-        Manner::Plain => put_plain(alloc, out, settings, view, key),
+        Manner::Forwards => Ok(put_forwards(alloc, out, settings, key)?),
+        Manner::Proxy => Ok(put_proxy(out, settings, key)?),
+        Manner::Plain => Ok(put_plain(alloc, out, settings, key)?),
     }
 }
 
@@ -235,7 +216,7 @@ pub fn put_keys(
     view: &View<'_>,
     keys: &[Key],
 ) -> Result<(), ListError>
-    ensures { Puts list_wants_memory result out.old out.new (lines_over settings.now (seen view.now) keys.now) }
+    ensures { PutsKeys result out.old out.new settings.now (seen view.now) keys.now }
 {
     for key in keys {
         match put_key(alloc, out, settings, view, *key) {

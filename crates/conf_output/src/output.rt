@@ -1,13 +1,8 @@
-ghost use Rattle.std.specs.Prelude.{◌≡◌, List};
-ghost use Rattle.conf_rules.specs.declared.key.TheConstants.{LISTING_ORDER};
 ghost use Rattle.conf_rules.specs.Results.{Gives};
 ghost use Rattle.conf_rules.specs.Wants.{list_wants_memory};
-ghost use Rattle.conf_rules.specs.Told.{Told};
-ghost use Rattle.conf_rules.specs.Rows.{Row};
-ghost use Rattle.conf_rules.specs.Listing.{listing_over, control_path_at};
 ghost use Rattle.conf_tokens.specs.Known.{known};
-ghost use Rattle.conf_output.specs.Settled.{Settled};
-ghost use Rattle.conf_output.specs.Shown.{listing_of, path_of};
+ghost use Rattle.conf_output.specs.Settled.{Lists, Controls};
+ghost use Rattle.conf_output.specs.Shown.{list_of, path_of};
 
 use crate::keys::{put_keys, refusal};
 use crate::known::{host_name, named_word, view};
@@ -26,7 +21,7 @@ fn list(
     original: &[u8],
     facts: &Facts,
 ) -> Result<Text, ListError>
-    ensures { Gives list_wants_memory result (listing_of settings.now original.now (known facts.now)) }
+    ensures { Gives list_wants_memory result (list_of settings.now original.now (known facts.now)) }
 {
     let host = host_name(alloc, settings, original)?;
     let view = view(settings, original, host.as_bytes(), facts);
@@ -46,7 +41,7 @@ pub fn listing(
     original: &[u8],
     facts: &Facts,
 ) -> Result<Text, ListError>
-    ensures exact { (told : Told) (rows : List Row) → Settled told rows settings.now original.now facts.now → Gives list_wants_memory result (listing_over LISTING_ORDER told rows) }
+    ensures exact { Lists result settings.now original.now facts.now }
 {
     list(alloc, settings, original, facts)
 }
@@ -79,7 +74,7 @@ pub fn control_path(
     original: &[u8],
     facts: &Facts,
 ) -> Result<Option<Text>, ListError>
-    ensures exact { (told : Told) (rows : List Row) → Settled told rows settings.now original.now facts.now → Gives list_wants_memory result (control_path_at told rows) }
+    ensures exact { Controls result settings.now original.now facts.now }
 {
     path(alloc, settings, original, facts)
 }

@@ -1,9 +1,10 @@
 ghost use Rattle.std.specs.Prelude.{◌≡◌, ℕ, ◌++◌, OnOk, IfOk};
 ghost use Rattle.std.specs.List.{flat_map};
 ghost use Rattle.conf_rules.specs.Numbers.{digits_of};
-ghost use Rattle.conf_rules.specs.Forwardings.{spelled_end, spelled_connect};
+ghost use Rattle.conf_rules.specs.Forwardings.{spelled_end};
 ghost use Rattle.conf_rules.specs.Values.{spelled};
 ghost use Rattle.conf_rules.specs.Listing.{listed};
+ghost use Rattle.conf_output.specs.Shown.{spelled_forward};
 
 use conf_rules::{End, Forward, Value};
 use ssh_fields::{OutOfMemory, Text, Texts};
@@ -38,7 +39,7 @@ fn put_end(alloc: Global, out: &mut Text, end: &End) -> Result<(), OutOfMemory>
 
 /// The text of a forwarding.
 fn forward_text(alloc: Global, forward: &Forward) -> Result<Text, OutOfMemory>
-    ensures { IfOk result (λ text. text ≡ spelled_end forward.now.listen ++ spelled_connect forward.now.connect) }
+    ensures { IfOk result (λ text. text ≡ spelled_forward forward.now) }
 {
     let mut text = Text::new(alloc);
     put_end(alloc, &mut text, &forward.listen)?;

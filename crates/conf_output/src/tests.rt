@@ -99,7 +99,7 @@ fn kind(error: TokenError) -> char {
     }
 }
 
-/// The control path of this ControlPath and these values of other keys: `-` stands for none, and a refusal for its kind.
+/// The control path of these lines for the host `db`.
 fn path(alloc: Global, lines: &[(Key, &str)]) -> Result<Option<Text>, ListError> {
     match settings_of(alloc, lines) {
         Ok(settings) => control_path(alloc, &settings, b"db", &known(alloc)?),

@@ -1,4 +1,4 @@
-use Rattle.std.proofs.Common.{drop, get_or, ◌+◌, length, arith}
+use Rattle.std.proofs.Common.{drop, arith}
 use Rattle.std.proofs.Math.ListN.{drop_of_length-le}
 use Rattle.conf_rules.specs.declared.key.Key.TheVariants.{AddressFamily}
 use Rattle.conf_tokens.specs.Seen.{seen}
