@@ -1,4 +1,4 @@
--- Resolutions whose rows give what settings keep, and what settings say of them.
+-- Resolutions whose rows give what settings keep, and what is listed of them.
 use Rattle.std.specs.Prelude.{◌≡◌, List, Option, Result, flat_map}
 use Rattle.mux_outside.specs.declared.facts.Facts.{Facts as TheFacts}
 use Rattle.conf_rules.specs.declared.key.TheConstants.{LISTING_ORDER}
@@ -24,6 +24,6 @@ Lists result settings original facts =
     (told : Told) (rows : List Row) → Settled told rows settings original facts → Gives list_wants_memory result (listing_over LISTING_ORDER told rows)
 
 -- the result is the control path of each such resolution, unless memory was wanting
-abbrev pub Controls : Result (Option Bytes) ListError → List Given → Bytes → TheFacts → Type 0
-Controls result settings original facts =
+abbrev pub HasControlPath : Result (Option Bytes) ListError → List Given → Bytes → TheFacts → Type 0
+HasControlPath result settings original facts =
     (told : Told) (rows : List Row) → Settled told rows settings original facts → Gives list_wants_memory result (control_path_at told rows)

@@ -1,7 +1,7 @@
 ghost use Rattle.conf_rules.specs.Results.{Gives};
 ghost use Rattle.conf_rules.specs.Wants.{list_wants_memory};
 ghost use Rattle.conf_tokens.specs.Known.{known};
-ghost use Rattle.conf_output.specs.Settled.{Lists, Controls};
+ghost use Rattle.conf_output.specs.Settled.{Lists, HasControlPath};
 ghost use Rattle.conf_output.specs.Shown.{list_of, path_of};
 
 use crate::keys::{put_keys, refusal};
@@ -32,8 +32,8 @@ fn list(
 }
 
 /// The settings behind all lines as `-G` lists them for the host `original` of the command line: that host, then a line of each
-/// value of each key, or of its default. ControlPath and RemoteCommand are listed with their tokens expanded, a proxy that is
-/// `none` isn't listed, and no forwarding is where they are cleared (ssh_config(5)). `Token` is the first key in the order of
+/// value of each key, or of its default. Hostname, ControlPath and RemoteCommand are listed with their tokens expanded; a proxy
+/// that is `none` and forwardings that are cleared aren't listed (ssh_config(5)). `Token` names the first key in the order of
 /// the listing whose tokens can't be expanded, or `User` where no user is known.
 pub fn listing(
     alloc: Global,
@@ -74,7 +74,7 @@ pub fn control_path(
     original: &[u8],
     facts: &Facts,
 ) -> Result<Option<Text>, ListError>
-    ensures exact { Controls result settings.now original.now facts.now }
+    ensures exact { HasControlPath result settings.now original.now facts.now }
 {
     path(alloc, settings, original, facts)
 }
