@@ -1,4 +1,4 @@
-ghost use Rattle.std.specs.Prelude.{◌≡◌, ◌<◌, ◌∷◌, ◌++◌, [], ℕ, Some, None, IfOk, MatchOption, length, bytes_eq};
+ghost use Rattle.std.specs.Prelude.{◌≡◌, ◌≤◌, ◌+◌, ◌-◌, ◌*◌, ◌^◌, ◌∷◌, ◌++◌, [], ℕ, Some, None, IfOk, MatchOption, bytes_eq};
 ghost use Rattle.conf_rules.specs.Texts.{has, split_at_last};
 ghost use Rattle.conf_rules.specs.Numbers.{number_within};
 
@@ -43,11 +43,11 @@ pub fn split_at_last(byte: u8, text: &[u8]) -> Option<(&[u8], &[u8])>
     None
 }
 
-/// A number with one more digit, if the digit is one and the number fits.
-fn with_digit(number: u64, digit: u8) -> Option<u64> {
-    if !digit.is_ascii_digit() {
-        return None;
-    }
+/// A number with one more digit, if it fits.
+fn with_digit(number: u64, digit: u8) -> Option<u64>
+    requires { (48 ≤ digit) × (digit ≤ 57) }
+    ensures { MatchOption result (2 ^ 64 ≤ number * 10 + (digit - 48)) (λ n. n ≡ number * 10 + (digit - 48)) }
+{
     number.checked_mul(10)?.checked_add(u64::from(digit - b'0'))
 }
 
@@ -60,6 +60,9 @@ pub fn number(word: &[u8], low: u64, high: u64) -> Option<u64>
     }
     let mut number: u64 = 0;
     for digit in word {
+        if !digit.is_ascii_digit() {
+            return None;
+        }
         number = with_digit(number, *digit)?;
     }
     (low <= number && number <= high).then_some(number)

@@ -1,7 +1,7 @@
-ghost use Rattle.std.specs.Prelude.{◌≡◌, ℕ, Bool, false, List, [], ◌∷◌, Some, IfOk};
+ghost use Rattle.std.specs.Prelude.{◌≡◌, ℕ, false, IfOk};
 ghost use Rattle.std.specs.List.{list_any};
 ghost use Rattle.conf_rules.specs.Options.{parts_from, is_bad_part, forward_words};
-ghost use Rattle.conf_command.specs.Parts.{ends_among};
+ghost use Rattle.conf_command.specs.Parts.{one_end, two_ends, ends_among};
 
 use crate::bytes::{has_slash, joined};
 use ssh_fields::{OutOfMemory, Text, Texts};
@@ -41,19 +41,30 @@ fn has_bad_part(parts: &[Text]) -> bool
     parts.iter().any(|part| is_bad_part(part.as_bytes()))
 }
 
-/// One word.
-fn one_word(alloc: Global, word: Text) -> Result<Option<Texts>, OutOfMemory>
-    ensures { IfOk result (λ words. words ≡ Some (word ∷ [])) }
+/// One end, if that may be.
+fn one_end(alloc: Global, one: bool, word: Text) -> Result<Option<Texts>, OutOfMemory>
+    ensures { IfOk result (λ words. words ≡ one_end one word) }
 {
+    if !one {
+        return Ok(None);
+    }
     let mut words = Texts::new(alloc);
     words.push(word)?;
     Ok(Some(words))
 }
 
-/// Two words.
-fn two_words(alloc: Global, listen: Text, connect: Text) -> Result<Option<Texts>, OutOfMemory>
-    ensures { IfOk result (λ words. words ≡ Some (listen ∷ connect ∷ [])) }
+/// Two ends, if that may be.
+fn two_ends(
+    alloc: Global,
+    two: bool,
+    listen: Text,
+    connect: Text,
+) -> Result<Option<Texts>, OutOfMemory>
+    ensures { IfOk result (λ words. words ≡ two_ends two listen connect) }
 {
+    if !two {
+        return Ok(None);
+    }
     let mut words = Texts::new(alloc);
     words.push(listen)?;
     words.push(connect)?;
@@ -70,23 +81,17 @@ fn ends_among(
     ensures { IfOk result (λ words. words ≡ ends_among one two parts.now) }
 {
     match parts {
-        [port] if one => one_word(alloc, Text::copy(alloc, port.as_bytes())?),
-        [bind, port] if one => one_word(alloc, joined(alloc, bind.as_bytes(), port.as_bytes())?),
-        [port, host, to] if two => {
+        [port] => one_end(alloc, one, Text::copy(alloc, port.as_bytes())?),
+        [bind, port] => one_end(alloc, one, joined(alloc, bind.as_bytes(), port.as_bytes())?),
+        [port, host, to] => {
             let listen = Text::copy(alloc, port.as_bytes())?;
-            two_words(
-                alloc,
-                listen,
-                joined(alloc, host.as_bytes(), to.as_bytes())?,
-            )
+            let connect = joined(alloc, host.as_bytes(), to.as_bytes())?;
+            two_ends(alloc, two, listen, connect)
         }
-        [bind, port, host, to] if two => {
+        [bind, port, host, to] => {
             let listen = joined(alloc, bind.as_bytes(), port.as_bytes())?;
-            two_words(
-                alloc,
-                listen,
-                joined(alloc, host.as_bytes(), to.as_bytes())?,
-            )
+            let connect = joined(alloc, host.as_bytes(), to.as_bytes())?;
+            two_ends(alloc, two, listen, connect)
         }
         _ => Ok(None),
     }
