@@ -1,10 +1,12 @@
 -- What a definition says of steps, by their first one.
-use Rattle.std.proofs.Common.{◌≡◌, ℕ, ◌+◌, ◌<◌, ◌≤◌, Bool, true, false, cond, List, [], ◌∷◌, ◌++◌, length, get_or, take, drop, Option, Some, None, refl, sym, ap, ◌∙◌, flat_map, append_assoc, append-nil, add-one}
+use Rattle.std.proofs.Common.{◌≡◌, ℕ, ◌+◌, ◌<◌, ◌≤◌, Bool, true, false, cond, List, [], ◌∷◌, ◌++◌, length, get_or, take, drop, Option, Some, None, refl, sym, ap, ◌∙◌, flat_map, append_assoc, append-nil, add-one, is_none}
+use Rattle.std.proofs.lemmas.List.{take_all}
 use Rattle.std.proofs.Math.ListN.{drop_of_length-le}
 use Rattle.std.proofs.Math.Seq.{take-suc}
 use Rattle.conf_rules.specs.declared.asked.AskedLine.{AskedLine}
 use Rattle.conf_rules.specs.declared.asked.ConfigFrom.{ConfigFrom}
 use Rattle.conf_rules.specs.declared.usage.Usage.{Usage}
+use Rattle.conf_rules.specs.declared.usage.Usage.TheVariants.{TwoModes, TwoDestinations, BadDestination}
 use Rattle.conf_rules.specs.Texts.{Bytes}
 use Rattle.conf_rules.specs.Options.{Mode, Act, Chooses, Reads, Asks, Connects, Permits, Goes, Fails, Step, step}
 use Rattle.conf_rules.specs.Destinations.{Destination, destination}
@@ -149,16 +151,20 @@ by-going true u s later a b = refl
 by-going false true s later a b = refl
 by-going false false s later a b = refl
 
-walk-first : (mode : Option Mode) (going : Bool) (s : Step) (a : Act) (ss : List Step) → s.act ≡ a
-    → walk_from mode going (s ∷ ss) ≡ at_step (fault_of mode going a) s (walk_from (mode_behind mode a) (going_behind going a) ss)
+walk-first : (mode : Option Mode) (going : Bool) (w : ℕ) (a : Act) (ss : List Step)
+    → walk_from mode going (step w a ∷ ss) ≡ at_step (fault_of mode going a) (step w a) (walk_from (mode_behind mode a) (going_behind going a) ss)
 unfolding walk_from
-walk-first mode going s (Chooses m) ss e = rw (e, chosen mode m) (by-modes _ s _ _)
-walk-first mode going s (Reads from) ss e = rw e (ap (λ n. onto_walk s (walk_from n going ss)) (same-mode mode (Reads from) refl))
-walk-first mode going s (Asks line) ss e = rw e (ap (λ n. onto_walk s (walk_from n going ss)) (same-mode mode (Asks line) refl))
-walk-first mode going s (Connects transport) ss e = rw e (ap (λ n. onto_walk s (walk_from n going ss)) (same-mode mode (Connects transport) refl))
-walk-first mode going s (Permits listening word entry) ss e = rw e (ap (λ n. onto_walk s (walk_from n going ss)) (same-mode mode (Permits listening word entry) refl))
-walk-first mode going s (Goes to) ss e = rw e (by-going going _ s _ _ _ ∙ ap (λ n. at_step (fault_of mode going (Goes to)) s (walk_from n true ss)) (same-mode mode (Goes to) refl))
-walk-first mode going s (Fails cause) ss e = rw e refl
+walk-first mode going w (Chooses m) ss =
+    by-modes (other_mode mode m) (step w (Chooses m)) (walk_from (or_mode mode m) going ss) TwoModes
+    ∙ ap (λ n. at_step (fault_of mode going (Chooses m)) (step w (Chooses m)) (walk_from n going ss)) (chosen mode m)
+walk-first mode going w (Reads from) ss = ap (λ n. onto_walk (step w (Reads from)) (walk_from n going ss)) (same-mode mode (Reads from) refl)
+walk-first mode going w (Asks line) ss = ap (λ n. onto_walk (step w (Asks line)) (walk_from n going ss)) (same-mode mode (Asks line) refl)
+walk-first mode going w (Connects transport) ss = ap (λ n. onto_walk (step w (Connects transport)) (walk_from n going ss)) (same-mode mode (Connects transport) refl)
+walk-first mode going w (Permits listening word entry) ss = ap (λ n. onto_walk (step w (Permits listening word entry)) (walk_from n going ss)) (same-mode mode (Permits listening word entry) refl)
+walk-first mode going w (Goes to) ss =
+    by-going going (is_none (destination to)) (step w (Goes to)) (walk_from mode true ss) TwoDestinations BadDestination
+    ∙ ap (λ n. at_step (fault_of mode going (Goes to)) (step w (Goes to)) (walk_from n true ss)) (same-mode mode (Goes to) refl)
+walk-first mode going w (Fails cause) ss = refl
 
 front-onto : (before : List Step) (s : Step) (walk : Walk) → behind_sound before (onto_walk s walk) ≡ behind_sound (before ++ s ∷ []) walk
 front-onto before s walk = rw append_assoc refl
@@ -170,7 +176,7 @@ pub walks_on : (steps : List Step) (i : ℕ) (s : Step) (mode now : Option Mode)
 walks_on steps i s mode now going there total h e sound m g so_far =
     let here : walk_from mode going (drop i steps) ≡ onto_walk s (walk_from now there (drop (i + 1) steps)) =
     ap (walk_from mode going) (split steps i s h e)
-    ∙ (walk-first mode going s s.act (drop (i + 1) steps) refl
+    ∙ (walk-first mode going s.word s.act (drop (i + 1) steps)
     ∙ (ap (λ f. at_step f s (walk_from (mode_behind mode s.act) (going_behind going s.act) (drop (i + 1) steps))) (sym sound)
     ∙ (ap (λ n. onto_walk s (walk_from n (going_behind going s.act) (drop (i + 1) steps))) (sym m)
     ∙ ap (λ t. onto_walk s (walk_from now t (drop (i + 1) steps))) (sym g)))) in
@@ -184,6 +190,14 @@ pub walk_ends : (steps : List Step) (i : ℕ) (s : Step) (mode : Option Mode) (g
 walk_ends steps i s mode going cause total h e bad so_far =
     let here : walk_from mode going (drop i steps) ≡ faulty s.word cause =
     ap (walk_from mode going) (split steps i s h e)
-    ∙ (walk-first mode going s s.act (drop (i + 1) steps) refl
+    ∙ (walk-first mode going s.word s.act (drop (i + 1) steps)
     ∙ ap (λ f. at_step f s (walk_from (mode_behind mode s.act) (going_behind going s.act) (drop (i + 1) steps))) (sym bad)) in
-    sym (so_far ∙ (ap (behind_sound (take i steps)) here ∙ ap (λ l. behind_sound l (record { sound = []; fault = None })) (sym (append-nil (take i steps))))) ∙ refl
+    sym (so_far ∙ (ap (behind_sound (take i steps)) here ∙ ap (λ (l : List Step). let w : Walk = record { sound = l; fault = Some (record { word = s.word; cause = cause }) } in w) (append-nil (take i steps))))
+
+-- no bad step
+pub walk_done : (steps : List Step) (i : ℕ) (mode : Option Mode) (going : Bool) (total : Walk) → length steps ≤ i → total ≡ behind_sound (take i steps) (walk_from mode going (drop i steps)) → record { sound = steps; fault = None } ≡ total
+unfolding walk_from
+walk_done steps i mode going total h so_far =
+    let end : walk_from mode going (drop i steps) ≡ record { sound = []; fault = None } = rw (drop_of_length-le steps h) refl in
+    let all : take i steps ++ [] ≡ steps = append-nil (take i steps) ∙ take_all i steps h in
+    sym (so_far ∙ (ap (behind_sound (take i steps)) end ∙ ap (λ (l : List Step). let w : Walk = record { sound = l; fault = None } in w) all))

@@ -10,7 +10,7 @@ use Rattle.conf_rules.specs.Texts.{Bytes, split_at_last, split_last}
 use Rattle.conf_rules.specs.Numbers.{digits_from, number_within}
 use Rattle.conf_rules.specs.Forwardings.{before_bracket}
 
-at : (word : Bytes) (i : ℕ) → i < length word → drop i word ≡ get_or word i 0 ∷ drop (i + 1) word
+pub at : (word : Bytes) (i : ℕ) → i < length word → drop i word ≡ get_or word i 0 ∷ drop (i + 1) word
 at word i h = rw (add-one, drop-cons word i 0) refl
 
 pub other-eqb : (a b : ℕ) → a ≢ b → eqb a b ≡ false

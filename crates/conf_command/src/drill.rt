@@ -1,4 +1,4 @@
-ghost use Rattle.std.specs.Prelude.{◌≡◌, ℕ, Ok, Err, Result, [], ◌∷◌};
+ghost use Rattle.std.specs.Prelude.{◌≡◌, ℕ, Ok, Err, Result, ◌∷◌};
 ghost use Rattle.conf_rules.specs.Reading.{seed_limit, drill_number, drill_of};
 
 use crate::bytes::number;
@@ -18,38 +18,46 @@ fn drill_number(word: u64, low: u64, high: u64, text: &[u8]) -> Result<u64, Usag
     }
 }
 
-/// The drill of three numbers.
-fn drill_with(seed: &[u8], clients: &[u8], messages: &[u8]) -> Result<Command, UsageError>
-    ensures { result ≡ drill_of (seed.now ∷ clients.now ∷ messages.now ∷ []) }
+/// The drill of three numbers, behind which no word may stand.
+#[tactic(auto, unfolding(conf_rules::specs::Reading::drill_of, conf_rules::specs::Reading::seed_limit))]
+fn drill_with(
+    seed: &[u8],
+    clients: &[u8],
+    messages: &[u8],
+    more: &[Text],
+) -> Result<Command, UsageError>
+    ensures { result ≡ drill_of (seed.now ∷ clients.now ∷ messages.now ∷ more.now) }
 {
     let seed = drill_number(2, 0, u64::MAX, seed)?;
     let clients = drill_number(3, 1, 64, clients)?;
     let messages = drill_number(4, 0, 100_000, messages)?;
-    Ok(Command::Drill {
-        seed,
-        clients,
-        messages,
-    })
+    match more {
+        [] => Ok(Command::Drill {
+            seed,
+            clients,
+            messages,
+        }),
+        [_, ..] => Err(UsageError {
+            word: 5,
+            cause: Usage::BadDrill,
+        }),
+    }
 }
 
 /// The words behind `--drill`: seed, clients and messages.
 pub fn drill_of(words: &[Text]) -> Result<Command, UsageError>
     ensures { result ≡ drill_of words.now }
 {
-    match words {
-        [seed, clients, messages] => {
-            drill_with(seed.as_bytes(), clients.as_bytes(), messages.as_bytes())
-        }
-        [seed, clients, messages, _, ..] => {
-            drill_with(seed.as_bytes(), clients.as_bytes(), messages.as_bytes())?;
-            Err(UsageError {
-                word: 5,
-                cause: Usage::BadDrill,
-            })
-        }
-        _ => Err(UsageError {
+    let [seed, clients, messages, more @ ..] = words else {
+        return Err(UsageError {
             word: 1,
             cause: Usage::NoValue,
-        }),
-    }
+        });
+    };
+    drill_with(
+        seed.as_bytes(),
+        clients.as_bytes(),
+        messages.as_bytes(),
+        more,
+    )
 }

@@ -1,4 +1,4 @@
-ghost use Rattle.std.specs.Prelude.{◌≡◌, ℕ, false, IfOk};
+ghost use Rattle.std.specs.Prelude.{◌≡◌, ◌==◌, ◌&&◌, ◌||◌, not, ℕ, false, IfOk};
 ghost use Rattle.std.specs.List.{list_any};
 ghost use Rattle.conf_rules.specs.Options.{parts_from, is_bad_part, forward_words};
 ghost use Rattle.conf_command.specs.Parts.{one_end, two_ends, ends_among};
@@ -8,6 +8,20 @@ use ssh_fields::{OutOfMemory, Text, Texts};
 use std::alloc::Global;
 use std::mem;
 
+/// Whether a byte parts two parts: a colon that doesn't stand inside brackets.
+fn is_parting(byte: u8, inside: bool) -> bool
+    ensures { result ≡ (byte == 58) && not inside }
+{
+    byte == b':' && !inside
+}
+
+/// Whether the next byte stands inside brackets.
+fn is_inside(byte: u8, inside: bool) -> bool
+    ensures { result ≡ (byte == 91) || (inside && not (byte == 93)) }
+{
+    byte == b'[' || (inside && byte != b']')
+}
+
 /// The parts between colons that don't stand inside brackets.
 fn parts_of(alloc: Global, value: &[u8]) -> Result<Texts, OutOfMemory>
     ensures { IfOk result (λ parts. parts ≡ parts_from false value.now) }
@@ -16,11 +30,11 @@ fn parts_of(alloc: Global, value: &[u8]) -> Result<Texts, OutOfMemory>
     let mut part = Text::new(alloc);
     let mut inside = false;
     for byte in value {
-        if *byte == b':' && !inside {
+        if is_parting(*byte, inside) {
             parts.push(mem::replace(&mut part, Text::new(alloc)))?;
         } else {
             part.push(*byte)?;
-            inside = *byte == b'[' || (inside && *byte != b']');
+            inside = is_inside(*byte, inside);
         }
     }
     parts.push(part)?;
@@ -81,6 +95,7 @@ fn ends_among(
     ensures { IfOk result (λ words. words ≡ ends_among one two parts.now) }
 {
     match parts {
+        [] => Ok(None),
         [port] => one_end(alloc, one, Text::copy(alloc, port.as_bytes())?),
         [bind, port] => one_end(alloc, one, joined(alloc, bind.as_bytes(), port.as_bytes())?),
         [port, host, to] => {
@@ -93,7 +108,7 @@ fn ends_among(
             let connect = joined(alloc, host.as_bytes(), to.as_bytes())?;
             two_ends(alloc, two, listen, connect)
         }
-        _ => Ok(None),
+        [_, _, _, _, _, ..] => Ok(None),
     }
 }
 
