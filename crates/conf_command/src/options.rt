@@ -3,7 +3,7 @@ ghost use Rattle.conf_rules.specs.declared.asked.AskedLine.TheVariants as asks;
 ghost use Rattle.conf_rules.specs.Options.{step, forward_step, file_named, taken, with_value, by_letters, long_option, dashed, Free, Goes, ValueOf};
 ghost use Rattle.conf_rules.specs.CommandLine.{free_word, steps_from};
 ghost use Rattle.conf_command.specs.Shown.{act_of, takes_of, next_of};
-ghost use Rattle.conf_command.specs.Words.{word_steps};
+ghost use Rattle.conf_command.specs.Words.{word_steps, end_steps};
 
 use crate::act::Act;
 use crate::bytes::{first, is_same};
@@ -252,6 +252,16 @@ fn word_steps(
     }
 }
 
+/// Adds what the end of the words does, where a value is missing.
+fn end_words(next: Next, steps: &mut Steps) -> Result<(), OutOfMemory>
+    ensures { OnOk result (steps.new ≡ steps.old ++ end_steps (next_of next)) }
+{
+    match next {
+        Next::ValueOf { here, .. } => steps.push(Step::new(here, Act::Fails(Usage::NoValue))),
+        Next::Free | Next::Ended => Ok(()),
+    }
+}
+
 /// The steps of all words.
 pub fn steps_of(alloc: Global, words: &[Text]) -> Result<Steps, OutOfMemory>
     ensures { IfOk result (λ steps. steps ≡ steps_from 1 Free words.now) }
@@ -261,8 +271,6 @@ pub fn steps_of(alloc: Global, words: &[Text]) -> Result<Steps, OutOfMemory>
     for (i, word) in words.iter().enumerate() {
         next = word_steps(alloc, next, i as u64 + 1, word.as_bytes(), &mut steps)?;
     }
-    if let Next::ValueOf { here, .. } = next {
-        steps.push(Step::new(here, Act::Fails(Usage::NoValue)))?;
-    }
+    end_words(next, &mut steps)?;
     Ok(steps)
 }

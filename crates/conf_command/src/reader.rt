@@ -1,5 +1,5 @@
 ghost use Rattle.std.specs.Prelude.{◌≡◌, ◌+◌, ℕ, false, None, length, bytes_eq, codes};
-ghost use Rattle.conf_rules.specs.CommandLine.{permitted, master_of, mode_command, host_command, command_with, command_of, walked, walk_from, transport_in};
+ghost use Rattle.conf_rules.specs.CommandLine.{permitted, master_of, mode_command, host_command, command_with, command_of, walked, walk_from, steps_from, transport_in};
 ghost use Rattle.conf_rules.specs.Options.{Free};
 ghost use Rattle.conf_rules.specs.Reading.{reading, drill_of};
 ghost use Rattle.conf_command.specs.declared.reader.WordsError.TheVariants as words_errors;
@@ -78,6 +78,7 @@ fn mode_command(
 }
 
 /// The command of sound steps; what is missing is refused at the word after the last.
+#[tactic(auto, unfolding(conf_rules::specs::CommandLine::command_of))]
 fn command_of(alloc: Global, end: u64, steps: &[Step]) -> Result<Command, WordsError>
     ensures { (n : ℕ) → end ≡ n + 1 → Gives result (command_of n steps.now) }
 {
@@ -121,16 +122,25 @@ fn drilled(words: &[Text]) -> Result<Command, WordsError>
     }
 }
 
+/// The command of words that begin with no drill.
+fn read_steps(alloc: Global, words: &[Text]) -> Result<Command, WordsError>
+    ensures { Gives result (walked (length words.now) (walk_from None false (steps_from 1 Free words.now))) }
+{
+    let steps = steps_of(alloc, words)?;
+    walked(alloc, words.len() as u64 + 1, steps.as_slice())
+}
+
 /// The command that words say, the program's name left out, or the first bad word.
 #[tactic(auto, unfolding(conf_rules::specs::Reading::reading))]
 pub fn read_words(alloc: Global, words: &Texts) -> Result<Command, WordsError>
     ensures exact { Gives result (reading words.now) }
 {
-    if let [first, rest @ ..] = words.as_slice()
-        && is_drill(first.as_bytes())
-    {
+    let words = words.as_slice();
+    let [first, rest @ ..] = words else {
+        return read_steps(alloc, words);
+    };
+    if is_drill(first.as_bytes()) {
         return drilled(rest);
     }
-    let steps = steps_of(alloc, words.as_slice())?;
-    walked(alloc, words.len() as u64 + 1, steps.as_slice())
+    read_steps(alloc, words)
 }

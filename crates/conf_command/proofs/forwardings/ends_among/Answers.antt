@@ -29,8 +29,8 @@ returns-in_ok-connect-in-len4 c =
     let listen = rw (c.as_bytes-in-len4.ensures, c.as_bytes-in-len4-2.ensures) at c.in_ok-listen-in-len4.ensures in
     same-ok c.two_ends-in-len4.result _ _ (ap (λ l. two_ends c.args.two l c.in_ok-connect-in-len4.connect) listen ∙ (ap (two_ends c.args.two (c.bind-item-then-parts-lt5.result ++ 58 ∷ c.port-item-then-parts-lt5.result)) connect ∙ e)) c.two_ends-in-len4.ensures
 
-pub returns-in-len0 : goal.returns-in-len0
-returns-in-len0 c = no_parts c.args.one c.args.two c.args.parts.now c.in-len0.len_below
-
 pub returns-in-len5-up : goal.returns-in-len5-up
 returns-in-len5-up c = many_parts c.args.one c.args.two c.args.parts.now c.in-len5-up.len_at_least
+
+pub returns-in-empty : goal.returns-in-empty
+returns-in-empty c = no_parts c.args.one c.args.two c.args.parts.now c.in-empty.len_below
