@@ -1,5 +1,5 @@
 pub mod Loops
 pub mod TextLemmas
 pub mod PartLemmas
-pub mod StepLemmas
+pub mod WalkLemmas
 pub mod WordLemmas

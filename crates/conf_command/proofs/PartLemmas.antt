@@ -1,6 +1,5 @@
 -- The parts of a forwarding.
-use Rattle.std.proofs.Common.{◌≡◌, ℕ, ◌+◌, ◌<◌, ◌≤◌, Bool, true, false, cond, not, eqb, ◌&&◌, ◌||◌, List, [], ◌∷◌, ◌++◌, length, get_or, take, drop, Option, Some, None, Result, Ok, Err, refl, sym, ap, ◌∙◌, arith, append_assoc, append-nil}
-use Rattle.std.proofs.Math.ListN.{drop_of_length-le}
+use Rattle.std.proofs.Common.{◌≡◌, ℕ, ◌+◌, ◌<◌, ◌≤◌, Bool, true, false, cond, not, eqb, ◌&&◌, ◌||◌, List, [], ◌∷◌, ◌++◌, length, get_or, drop, Some, None, Result, Ok, Err, refl, sym, ap, ◌∙◌, arith, append_assoc, append-nil}
 use Rattle.std.specs.Prelude.{IfOk, nat_le, reverse}
 use Rattle.std.proofs.lemmas.Bool.{lt-leb}
 use Rattle.std.specs.List.{list_any}
@@ -67,12 +66,6 @@ in_part value i b inside after parts part now total h e here more state so_far =
     ∙ ap (λ s. onto_first b (parts_from s (drop (i + 1) value))) (sym state))) in
     ap (λ p. parts ++ onto_part p (parts_from after (drop (i + 1) value))) more
     ∙ (ap (λ l. parts ++ l) (sym (ap (onto_part part) step ∙ onto-more part b (parts_from after (drop (i + 1) value)))) ∙ so_far)
-
--- the last part
-pub last_part : (value : Bytes) (i : ℕ) (inside : Bool) (parts : List Bytes) (part : Bytes) (total : List Bytes) → length value ≤ i → parts ++ onto_part part (parts_from inside (drop i value)) ≡ total → parts ++ part ∷ [] ≡ total
-last_part value i inside parts part total h so_far =
-    let end : onto_part part (parts_from inside (drop i value)) ≡ part ∷ [] = ap (λ l. onto_part part (parts_from inside l)) (drop_of_length-le value h) ∙ rw append-nil refl in
-    ap (λ l. parts ++ l) (sym end) ∙ so_far
 
 -- ---- the ends
 

@@ -1,11 +1,10 @@
 -- Splits of texts, hosts and numbers.
-use Rattle.std.proofs.Common.{◌≡◌, ◌≢◌, ℕ, zero, suc, ◌+◌, ◌-◌, ◌*◌, ◌^◌, ◌<◌, ◌≤◌, Bool, true, false, cond, eqb, ◌&&◌, List, [], ◌∷◌, ◌++◌, length, get_or, take, drop, Option, Some, None, refl, sym, ap, ◌∙◌, arith, add-one, drop-cons, append-nil}
+use Rattle.std.proofs.Common.{◌≡◌, ◌≢◌, ℕ, zero, suc, ◌+◌, ◌-◌, ◌*◌, ◌<◌, ◌≤◌, Bool, true, false, cond, eqb, ◌&&◌, List, [], ◌∷◌, ◌++◌, length, get_or, take, drop, Option, Some, None, refl, sym, ap, ◌∙◌, arith, add-one, drop-cons, append-nil}
 use Rattle.std.specs.Prelude.{nat_le}
 use Rattle.std.specs.List.{list_all}
 use Rattle.std.specs.Char.{is_ascii_digit}
-use Rattle.std.proofs.lemmas.Bool.{eqb-true, eq-eqb, lt-ltb, le-ltb, lt-leb, leb-true}
+use Rattle.std.proofs.lemmas.Bool.{eqb-true, eq-eqb, lt-leb}
 use Rattle.std.proofs.lemmas.List.{take-append-drop, take_all, length-drop}
-use Rattle.std.proofs.Math.ListN.{drop_of_length-le}
 use Rattle.conf_rules.specs.Texts.{Bytes, split_at_last, split_last}
 use Rattle.conf_rules.specs.Numbers.{digits_from, number_within}
 use Rattle.conf_rules.specs.Forwardings.{before_bracket}
@@ -13,7 +12,7 @@ use Rattle.conf_rules.specs.Forwardings.{before_bracket}
 pub at : (word : Bytes) (i : ℕ) → i < length word → drop i word ≡ get_or word i 0 ∷ drop (i + 1) word
 at word i h = rw (add-one, drop-cons word i 0) refl
 
-pub other-eqb : (a b : ℕ) → a ≢ b → eqb a b ≡ false
+other-eqb : (a b : ℕ) → a ≢ b → eqb a b ≡ false
 other-eqb a b n = on (eqb a b) refl
   where
     on : (t : Bool) → eqb a b ≡ t → t ≡ false
@@ -34,9 +33,6 @@ cons-last c b bs = refl
 cons-none : (c b : ℕ) (bs : Bytes) (t : Bool) → eqb b c ≡ t → split_at_last c bs ≡ None → split_at_last c (b ∷ bs) ≡ cond t (Some ([], bs)) None
 unfolding last_with
 cons-none c b bs t e n = cons-last c b bs ∙ (ap (last_with b (eqb b c) bs) n ∙ ap (λ t. last_with b t bs None) e)
-
-pub split-none : (c : ℕ) (word : Bytes) (i : ℕ) → i < length word → split_at_last c (drop (i + 1) word) ≡ None → get_or word i 0 ≢ c → split_at_last c (drop i word) ≡ None
-split-none c word i h none other = ap (split_at_last c) (at word i h) ∙ cons-none c (get_or word i 0) (drop (i + 1) word) false (other-eqb _ _ other) none
 
 split-some : (c : ℕ) (xs rest before behind : Bytes) → split_at_last c rest ≡ Some (before, behind) → split_at_last c (xs ++ rest) ≡ Some (xs ++ before, behind)
 split-some c [] rest before behind e = e
@@ -74,14 +70,11 @@ unclosed inner n h e = sym (bracket-at inner n h ∙ rw (other-eqb _ _ e) refl)
 -- ---- numbers
 
 -- more digits make it no less
-pub grows : (n : ℕ) (ds : List ℕ) → n ≤ digits_from n ds
+grows : (n : ℕ) (ds : List ℕ) → n ≤ digits_from n ds
 grows n [] = omega arith
 grows n (d ∷ ds) = omega (arith, grows (n * 10 + (d - 48)) ds)
 
-pub all_digits : (word : List ℕ) (i : ℕ) → i < length word → is_ascii_digit (get_or word i 0) ≡ true → list_all is_ascii_digit (drop i word) ≡ list_all is_ascii_digit word → list_all is_ascii_digit (drop (i + 1) word) ≡ list_all is_ascii_digit word
-all_digits word i h d so_far = sym (ap (list_all is_ascii_digit) (at word i h) ∙ (rw d refl)) ∙ so_far
-
-pub next_digit : (word : List ℕ) (i n m total : ℕ) → i < length word → m ≡ n * 10 + (get_or word i 0 - 48) → digits_from n (drop i word) ≡ total → digits_from m (drop (i + 1) word) ≡ total
+next_digit : (word : List ℕ) (i n m total : ℕ) → i < length word → m ≡ n * 10 + (get_or word i 0 - 48) → digits_from n (drop i word) ≡ total → digits_from m (drop (i + 1) word) ≡ total
 next_digit word i n m total h e so_far = rw e (sym (ap (digits_from n) (at word i h)) ∙ so_far)
 
 -- a word that spells more than the range has no number

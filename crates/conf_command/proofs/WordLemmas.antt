@@ -1,10 +1,8 @@
 -- One word of all.
-use Rattle.std.proofs.Common.{◌≡◌, ℕ, ◌+◌, ◌<◌, ◌≤◌, List, [], ◌∷◌, ◌++◌, length, get_or, drop, refl, sym, ap, ◌∙◌, append_assoc, append-nil}
+use Rattle.std.proofs.Common.{◌≡◌, ℕ, ◌+◌, ◌<◌, ◌≤◌, List, [], ◌∷◌, ◌++◌, length, get_or, drop, refl, sym, ap, ◌∙◌, append_assoc}
 use Rattle.std.proofs.Math.ListN.{drop_of_length-le}
-use Rattle.conf_rules.specs.declared.asked.AskedLine.TheVariants as asks
-use Rattle.conf_rules.specs.declared.usage.Usage.TheVariants.{UnknownOption, NoValue}
 use Rattle.conf_rules.specs.Texts.{Bytes}
-use Rattle.conf_rules.specs.Options.{Mode, Takes, Letter, Names, Sets, With, NoLetter, letters, letter_among, Chooses, Asks, Fails, Step, step, Next, Free, Ended, ValueOf, Steps, in_front, one_step, with_value, by_letters}
+use Rattle.conf_rules.specs.Options.{Step, Next, Free, Ended, ValueOf}
 use Rattle.conf_rules.specs.CommandLine.{steps_from}
 use Rattle.conf_command.specs.Words.{word_steps, end_steps}
 use Rattle.conf_command.proofs.Loops.{split}

@@ -1,5 +1,5 @@
 -- The words of a forwarding's parts.
-use Rattle.std.specs.Prelude.{ℕ, Bool, if◌then◌else◌, List, [], ◌∷◌, ◌++◌, Option, Some, None}
+use Rattle.std.specs.Prelude.{Bool, if◌then◌else◌, List, [], ◌∷◌, ◌++◌, Option, Some, None}
 use Rattle.conf_rules.specs.Texts.{Bytes}
 
 -- one end, if that may be

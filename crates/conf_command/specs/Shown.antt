@@ -1,5 +1,4 @@
 -- What the code's values say, without where their bytes lie.
-use Rattle.std.specs.Prelude.{ℕ, ◌≡◌, List, [], ◌∷◌, Option, Some, None}
 use Rattle.std.specs.Option.{option_copied}
 use Rattle.conf_rules.specs.Destinations.{Destination}
 use Rattle.conf_rules.specs.Options as options

@@ -1,5 +1,4 @@
 use Rattle.std.proofs.Common.{◌++◌, ◌∷◌, ◌∙◌, ap}
-use Rattle.conf_rules.specs.Texts.{Bytes}
 use Rattle.conf_command.specs.Parts.{one_end, two_ends}
 use Rattle.conf_command.proofs.PartLemmas.{one_part, two_parts, three_parts, four_parts, no_parts, many_parts, same-ok}
 use Rattle.conf_command.proofs.forwardings.ends_among.Goals as goal

@@ -1,5 +1,4 @@
 use Rattle.std.proofs.Common.{◌∙◌, ap, sym}
-use Rattle.conf_rules.specs.Options.{is_bad_part}
 use Rattle.conf_command.specs.Parts.{ends_among}
 use Rattle.conf_command.proofs.PartLemmas.{bad_words, good_words, same-ok}
 use Rattle.conf_command.proofs.forwardings.forward_words.Goals as goal

@@ -1,4 +1,4 @@
-use Rattle.conf_command.proofs.StepLemmas.{walks_on, walk_ends, walk_done}
+use Rattle.conf_command.proofs.WalkLemmas.{walks_on, walk_ends, walk_done}
 use Rattle.conf_command.proofs.walk.walk_over.Goals as goal
 
 pub returns-in-Some : goal.returns-in-Some
