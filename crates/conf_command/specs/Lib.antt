@@ -1,0 +1,7 @@
+pub mod Hosts
+pub mod Parts
+pub mod Words
+pub mod Sound
+pub mod Shown
+pub mod Walks
+pub mod Results

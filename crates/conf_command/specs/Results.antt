@@ -1,0 +1,16 @@
+-- What the reading of words returned.
+use Rattle.std.specs.Prelude.{◌≡◌, Result, Ok, Err}
+use Rattle.conf_rules.specs.declared.command.Command.{Command}
+use Rattle.conf_rules.specs.CommandLine.{ReadCommand}
+use Rattle.conf_command.specs.declared.reader.WordsError.{WordsError}
+use Rattle.conf_command.specs.declared.reader.WordsError.TheVariants.{Refused, OutOfMemory}
+
+-- an error is the refusal of the reading, but want of memory may come at any time
+abbrev pub Fails : WordsError → ReadCommand → Type 0
+Fails (Refused e) reading = reading ≡ Err e
+Fails OutOfMemory reading = Unit {0}
+
+-- what was returned is the reading, unless memory was wanting
+abbrev pub Gives : Result Command WordsError → ReadCommand → Type 0
+Gives (Ok command) reading = reading ≡ Ok command
+Gives (Err e) reading = Fails e reading

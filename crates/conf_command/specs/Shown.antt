@@ -1,0 +1,57 @@
+-- What the code's values say, without where their bytes lie.
+use Rattle.std.specs.Option.{option_copied}
+use Rattle.conf_rules.specs.Destinations.{Destination}
+use Rattle.conf_rules.specs.Options as options
+use Rattle.conf_rules.specs.Options.{Mode, Takes, Letter, Next}
+use Rattle.conf_command.specs.declared.act.Mode.{Mode as TheMode}
+use Rattle.conf_command.specs.declared.act.Mode.TheVariants as modes
+use Rattle.conf_command.specs.declared.act.Act.{Act}
+use Rattle.conf_command.specs.declared.act.Act.TheVariants as acts
+use Rattle.conf_command.specs.declared.letters.Takes.{Takes as TheTakes}
+use Rattle.conf_command.specs.declared.letters.Takes.TheVariants as takes
+use Rattle.conf_command.specs.declared.letters.Letter.{Letter as TheLetter}
+use Rattle.conf_command.specs.declared.letters.Letter.TheVariants as letters
+use Rattle.conf_command.specs.declared.options.Next.{Next as TheNext}
+use Rattle.conf_command.specs.declared.options.Next.TheVariants as nexts
+use Rattle.conf_command.specs.declared.destinations.Destination.{Destination as TheDestination}
+
+-- what is to be done
+abbrev pub mode_of : TheMode → Mode
+mode_of modes.Listing = options.Listing
+mode_of modes.Master = options.Master
+
+-- what a word does
+abbrev pub act_of : Act → options.Act
+act_of (acts.Chooses mode) = options.Chooses (mode_of mode)
+act_of (acts.Reads from) = options.Reads from
+act_of (acts.Asks line) = options.Asks line
+act_of (acts.Connects transport) = options.Connects transport
+act_of (acts.Permits listening word entry) = options.Permits listening word entry
+act_of (acts.Goes to) = options.Goes to
+act_of (acts.Fails cause) = options.Fails cause
+
+-- what takes a value
+abbrev pub takes_of : TheTakes → Takes
+takes_of (takes.Key keyword) = options.OfKey keyword.now
+takes_of (takes.Forward keyword one two) = options.OfForward keyword.now one two
+takes_of takes.Line = options.OfLine
+takes_of takes.File = options.OfFile
+takes_of takes.Transport = options.OfTransport
+takes_of (takes.Permit listening) = options.OfPermit listening
+
+-- what a letter is
+abbrev pub letter_of : TheLetter → Letter
+letter_of (letters.Names mode) = options.Names (mode_of mode)
+letter_of (letters.Sets keyword value) = options.Sets keyword.now value.now
+letter_of (letters.With takes) = options.With (takes_of takes)
+letter_of letters.NoLetter = options.NoLetter
+
+-- what the next word is
+abbrev pub next_of : TheNext → Next
+next_of nexts.Free = options.Free
+next_of nexts.Ended = options.Ended
+next_of (nexts.ValueOf here takes) = options.ValueOf here (takes_of takes)
+
+-- a host, and the user if one is named
+abbrev pub destination_of : TheDestination → Destination
+destination_of d = record { user = option_copied d.user; host = d.host.now }

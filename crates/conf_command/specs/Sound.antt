@@ -1,0 +1,22 @@
+-- What a sound step gives to the command.
+use Rattle.std.specs.Prelude.{Option, Some, None}
+use Rattle.conf_rules.specs.declared.asked.ConfigFrom.{ConfigFrom}
+use Rattle.conf_rules.specs.Texts.{Bytes}
+use Rattle.conf_rules.specs.Options.{Act, Reads, Connects, Goes}
+use Rattle.conf_rules.specs.Destinations.{destination}
+use Rattle.conf_rules.specs.CommandLine.{host_or}
+
+-- the files that are read behind a step
+abbrev pub from_at : ConfigFrom → Act → ConfigFrom
+from_at other (Reads from) = from
+from_at other act = other
+
+-- the transport behind a step
+abbrev pub transport_at : Option Bytes → Act → Option Bytes
+transport_at other (Connects transport) = Some transport
+transport_at other act = other
+
+-- the host to which a step goes
+abbrev pub host_at : Act → Option Bytes
+host_at (Goes to) = host_or None (destination to)
+host_at act = None

@@ -1,0 +1,276 @@
+ghost use Rattle.std.specs.Prelude.{◌≡◌, ℕ, List, [], ◌∷◌, ◌++◌, IfOk, OnOk};
+ghost use Rattle.conf_rules.specs.declared.asked.AskedLine.TheVariants as asks;
+ghost use Rattle.conf_rules.specs.Options.{step, forward_step, file_named, taken, with_value, by_letters, long_option, dashed, Free, Goes, ValueOf};
+ghost use Rattle.conf_rules.specs.CommandLine.{free_word, steps_from};
+ghost use Rattle.conf_command.specs.Shown.{act_of, takes_of, next_of};
+ghost use Rattle.conf_command.specs.Words.{word_steps, end_steps};
+
+use crate::act::Act;
+use crate::bytes::{first, is_same};
+use crate::forwardings::forward_words;
+use crate::letters::{Letter, Takes, meaning_of};
+use crate::step::{Step, Steps};
+use conf_rules::{AskedLine, ConfigFrom, Usage};
+use ssh_fields::{OutOfMemory, Text, Texts};
+use std::alloc::Global;
+
+/// What the next word is.
+#[derive(Clone, Copy, Debug, Drop)]
+pub enum Next {
+    /// Any word.
+    Free,
+    /// No option any more.
+    Ended,
+    /// The value of an option at a word.
+    ValueOf { here: u64, takes: Takes },
+}
+
+/// The value of an option at a word comes next.
+fn value_of(here: u64, takes: Takes) -> Next
+    ensures { next_of result ≡ ValueOf here (takes_of takes) }
+{
+    Next::ValueOf { here, takes }
+}
+
+/// The line of a keyword with one word.
+pub fn key_line(
+    alloc: Global,
+    word: u64,
+    keyword: &[u8],
+    value: &[u8],
+) -> Result<AskedLine, OutOfMemory>
+    ensures { IfOk result (λ line. line ≡ asks.Parts word keyword.now (value.now ∷ [])) }
+{
+    let mut words = Texts::new(alloc);
+    words.push(Text::copy(alloc, value)?)?;
+    Ok(AskedLine::Parts {
+        word,
+        keyword: Text::copy(alloc, keyword)?,
+        words,
+    })
+}
+
+/// A forwarding at a word.
+fn forward_step(
+    alloc: Global,
+    at: u64,
+    keyword: &[u8],
+    words: Option<Texts>,
+) -> Result<Step, OutOfMemory>
+    ensures { IfOk result (λ s. s ≡ forward_step at keyword.now words) }
+{
+    match words {
+        None => Ok(Step::new(at, Act::Fails(Usage::BadForward))),
+        Some(words) => {
+            let keyword = Text::copy(alloc, keyword)?;
+            Ok(Step::new(
+                at,
+                Act::Asks(AskedLine::Parts {
+                    word: at,
+                    keyword,
+                    words,
+                }),
+            ))
+        }
+    }
+}
+
+/// The file that a value names; `none` reads nothing.
+fn file_named(alloc: Global, value: &[u8]) -> Result<ConfigFrom, OutOfMemory>
+    ensures { IfOk result (λ from. from ≡ file_named value.now) }
+{
+    if is_same(value, b"none") {
+        return Ok(ConfigFrom::Nothing);
+    }
+    Ok(ConfigFrom::File(Text::copy(alloc, value)?))
+}
+
+/// What an option at a word does with its value at another.
+fn taken(alloc: Global, takes: Takes, here: u64, at: u64, value: &[u8]) -> Result<Step, OutOfMemory>
+    ensures { IfOk result (λ s. s ≡ taken (takes_of takes) here at value.now) }
+{
+    match takes {
+        Takes::Key(keyword) => {
+            let line = key_line(alloc, at, keyword, value)?;
+            Ok(Step::new(at, Act::Asks(line)))
+        }
+        Takes::Forward { keyword, one, two } => {
+            let words = forward_words(alloc, one, two, value)?;
+            forward_step(alloc, at, keyword, words)
+        }
+        Takes::Line => {
+            let line = Text::copy(alloc, value)?;
+            Ok(Step::new(at, Act::Asks(AskedLine::Line { word: at, line })))
+        }
+        Takes::File => {
+            let from = file_named(alloc, value)?;
+            Ok(Step::new(at, Act::Reads(from)))
+        }
+        Takes::Transport => {
+            let transport = Text::copy(alloc, value)?;
+            Ok(Step::new(here, Act::Connects(transport)))
+        }
+        Takes::Permit { listening } => {
+            let entry = Text::copy(alloc, value)?;
+            Ok(Step::new(
+                here,
+                Act::Permits {
+                    listening,
+                    word: at,
+                    entry,
+                },
+            ))
+        }
+    }
+}
+
+/// A letter that takes a value: the rest of its word, or the next word.
+fn with_value(
+    alloc: Global,
+    takes: Takes,
+    at: u64,
+    rest: &[u8],
+    steps: &mut Steps,
+) -> Result<Next, OutOfMemory>
+    ensures steps { OnOk result (steps.new ≡ steps.old ++ (with_value (takes_of takes) at rest.now).steps) }
+    ensures next { IfOk result (λ n. next_of n ≡ (with_value (takes_of takes) at rest.now).next) }
+{
+    if rest.is_empty() {
+        return Ok(Next::ValueOf { here: at, takes });
+    }
+    steps.push(taken(alloc, takes, at, at, rest)?)?;
+    Ok(Next::Free)
+}
+
+/// What the letters of a word do, up to one that takes the rest.
+fn by_letters(alloc: Global, at: u64, word: &[u8], steps: &mut Steps) -> Result<Next, OutOfMemory>
+    ensures steps { OnOk result (steps.new ≡ steps.old ++ (by_letters at word.now).steps) }
+    ensures next { IfOk result (λ n. next_of n ≡ (by_letters at word.now).next) }
+{
+    let mut left = word;
+    while let Some((byte, rest)) = first(left) {
+        match meaning_of(byte) {
+            Letter::Names(mode) => steps.push(Step::new(at, Act::Chooses(mode)))?,
+            Letter::Sets { keyword, value } => {
+                let line = key_line(alloc, at, keyword, value)?;
+                steps.push(Step::new(at, Act::Asks(line)))?;
+            }
+            Letter::With(takes) => return with_value(alloc, takes, at, rest, steps),
+            Letter::NoLetter => {
+                steps.push(Step::new(at, Act::Fails(Usage::UnknownOption)))?;
+                return Ok(Next::Free);
+            }
+        }
+        left = rest;
+    }
+    Ok(Next::Free)
+}
+
+/// What stands behind two dashes: nothing ends the options.
+fn long_option(at: u64, word: &[u8], steps: &mut Steps) -> Result<Next, OutOfMemory>
+    ensures steps { OnOk result (steps.new ≡ steps.old ++ (long_option at word.now).steps) }
+    ensures next { IfOk result (λ n. next_of n ≡ (long_option at word.now).next) }
+{
+    if word.is_empty() {
+        return Ok(Next::Ended);
+    }
+    if is_same(word, b"transport") {
+        return Ok(value_of(at, Takes::Transport));
+    }
+    if is_same(word, b"permit-open") {
+        return Ok(value_of(at, Takes::Permit { listening: false }));
+    }
+    if is_same(word, b"permit-listen") {
+        return Ok(value_of(at, Takes::Permit { listening: true }));
+    }
+    steps.push(Step::new(at, Act::Fails(Usage::UnknownOption)))?;
+    Ok(Next::Free)
+}
+
+/// What stands behind one dash: a lone dash is no option.
+fn dashed(alloc: Global, at: u64, word: &[u8], steps: &mut Steps) -> Result<Next, OutOfMemory>
+    ensures steps { OnOk result (steps.new ≡ steps.old ++ (dashed at word.now).steps) }
+    ensures next { IfOk result (λ n. next_of n ≡ (dashed at word.now).next) }
+{
+    match first(word) {
+        None => {
+            steps.push(Step::new(at, Act::Fails(Usage::UnknownOption)))?;
+            Ok(Next::Free)
+        }
+        Some((byte, rest)) => {
+            if byte == b'-' {
+                return long_option(at, rest, steps);
+            }
+            by_letters(alloc, at, word, steps)
+        }
+    }
+}
+
+/// A destination.
+fn goes(alloc: Global, at: u64, word: &[u8], steps: &mut Steps) -> Result<(), OutOfMemory>
+    ensures { OnOk result (steps.new ≡ steps.old ++ step at (Goes word.now) ∷ []) }
+{
+    let to = Text::copy(alloc, word)?;
+    steps.push(Step::new(at, Act::Goes(to)))
+}
+
+/// A destination, or what stands behind a dash.
+fn free_word(alloc: Global, at: u64, word: &[u8], steps: &mut Steps) -> Result<Next, OutOfMemory>
+    ensures steps { OnOk result (steps.new ≡ steps.old ++ (free_word at word.now).steps) }
+    ensures next { IfOk result (λ n. next_of n ≡ (free_word at word.now).next) }
+{
+    match word {
+        [b'-', rest @ ..] => dashed(alloc, at, rest, steps),
+        _ => {
+            goes(alloc, at, word, steps)?;
+            Ok(Next::Free)
+        }
+    }
+}
+
+/// What a word does, and what the next word is.
+fn word_steps(
+    alloc: Global,
+    next: Next,
+    at: u64,
+    word: &[u8],
+    steps: &mut Steps,
+) -> Result<Next, OutOfMemory>
+    ensures steps { OnOk result (steps.new ≡ steps.old ++ (word_steps at (next_of next) word.now).steps) }
+    ensures next { IfOk result (λ n. next_of n ≡ (word_steps at (next_of next) word.now).next) }
+{
+    match next {
+        Next::Free => free_word(alloc, at, word, steps),
+        Next::Ended => {
+            goes(alloc, at, word, steps)?;
+            Ok(Next::Ended)
+        }
+        Next::ValueOf { here, takes } => {
+            steps.push(taken(alloc, takes, here, at, word)?)?;
+            Ok(Next::Free)
+        }
+    }
+}
+
+/// Adds what the end of the words does, where a value is missing.
+fn end_words(next: Next, steps: &mut Steps) -> Result<(), OutOfMemory>
+    ensures { OnOk result (steps.new ≡ steps.old ++ end_steps (next_of next)) }
+{
+    match next {
+        Next::ValueOf { here, .. } => steps.push(Step::new(here, Act::Fails(Usage::NoValue))),
+        Next::Free | Next::Ended => Ok(()),
+    }
+}
+
+/// The steps of all words.
+pub fn steps_of(alloc: Global, words: &[Text]) -> Result<Steps, OutOfMemory>
+    ensures { IfOk result (λ steps. steps ≡ steps_from 1 Free words.now) }
+{
+    let mut steps = Steps::new(alloc);
+    let mut next = Next::Free;
+    for (i, word) in words.iter().enumerate() {
+        next = word_steps(alloc, next, i as u64 + 1, word.as_bytes(), &mut steps)?;
+    }
+    end_words(next, &mut steps)?;
+    Ok(steps)
+}

@@ -1,0 +1,163 @@
+ghost use Rattle.std.specs.Prelude.{◌≡◌, ℕ, [], ◌∷◌, ◌++◌, List, IfOk, OnOk};
+ghost use Rattle.std.specs.Option.{option_copied};
+ghost use Rattle.conf_rules.specs.CommandLine.{permits_in, permits, texts_of};
+ghost use Rattle.conf_rules.specs.Permissions.{PermitWord, first_not_entry, bad_entry, earlier};
+
+use crate::act::Act;
+use crate::entries::{is_alone, is_entry};
+use crate::step::Step;
+use ssh_fields::{OutOfMemory, Text, Texts};
+use std::alloc::Global;
+use std::marker::Model;
+
+/// An entry of the master's permissions, and its word.
+#[derive(Debug, Drop)]
+pub struct Permit {
+    word: u64,
+    text: Text,
+}
+
+impl Model for Permit {
+    ghost Value = { PermitWord };
+
+    ghost view = { λ p. record { word = p.word; text = p.text } };
+}
+
+impl Permit {
+    /// An entry at a word.
+    pub fn new(word: u64, text: Text) -> Permit
+        ensures { result ≡ record { word = word; text = text } }
+    {
+        Permit { word, text }
+    }
+
+    /// The word.
+    fn word(&self) -> u64
+        ensures { result ≡ self.now.word }
+    {
+        self.word
+    }
+
+    /// The entry.
+    fn text(&self) -> &[u8]
+        ensures { result.now ≡ self.now.text }
+    {
+        self.text.as_bytes()
+    }
+}
+
+/// Permissions in order.
+#[derive(Debug, Drop)]
+pub struct Permits {
+    permits: Vec<Permit>,
+}
+
+impl Model for Permits {
+    ghost Value = { List PermitWord };
+
+    ghost view = { λ p. p.permits.items };
+}
+
+impl Permits {
+    /// No permission.
+    fn new(alloc: Global) -> Permits
+        ensures { result ≡ [] }
+    {
+        Permits {
+            permits: Vec::new(alloc),
+        }
+    }
+
+    /// Adds the permission of a step, if it is of this list.
+    fn add(&mut self, alloc: Global, listening: bool, step: &Step) -> Result<(), OutOfMemory>
+        ensures { OnOk result (self.new ≡ self.old ++ permits_in listening step.now) }
+    {
+        match step.act() {
+            Act::Permits {
+                listening: of,
+                word,
+                entry,
+            } => {
+                if *of == listening {
+                    let text = Text::copy(alloc, entry.as_bytes())?;
+                    self.permits.push(Permit::new(*word, text))?;
+                }
+                Ok(())
+            }
+            _ => Ok(()),
+        }
+    }
+
+    /// All of them.
+    fn as_slice(&self) -> &[Permit]
+        ensures { result.now ≡ self.now }
+    {
+        self.permits.as_slice()
+    }
+}
+
+/// All permissions to listen, or all to open.
+pub fn permits_of(alloc: Global, listening: bool, steps: &[Step]) -> Result<Permits, OutOfMemory>
+    ensures { IfOk result (λ all. all ≡ permits listening steps.now) }
+{
+    let mut all = Permits::new(alloc);
+    for step in steps {
+        all.add(alloc, listening, step)?;
+    }
+    Ok(all)
+}
+
+/// The texts of permissions.
+pub fn texts_of(alloc: Global, permits: &Permits) -> Result<Texts, OutOfMemory>
+    ensures { IfOk result (λ texts. texts ≡ texts_of permits.now) }
+{
+    let mut texts = Texts::new(alloc);
+    for permit in permits.as_slice() {
+        texts.push(Text::copy(alloc, permit.text())?)?;
+    }
+    Ok(texts)
+}
+
+/// The word of the first text that is no entry.
+fn first_not_entry(permits: &[Permit]) -> Option<u64>
+    ensures { result ≡ first_not_entry permits.now }
+{
+    for permit in permits {
+        if !is_entry(permit.text()) {
+            return Some(permit.word());
+        }
+    }
+    None
+}
+
+/// The word of the first bad text of a list: `any` and `none` stand alone.
+pub fn bad_entry(permits: &Permits) -> Option<u64>
+    ensures { result ≡ bad_entry permits.now }
+{
+    match permits.as_slice() {
+        [] => None,
+        [only] => {
+            if is_alone(only.text()) {
+                return None;
+            }
+            first_not_entry(permits.as_slice())
+        }
+        [first, second, ..] => {
+            if is_alone(first.text()) {
+                return Some(second.word());
+            }
+            first_not_entry(permits.as_slice())
+        }
+    }
+}
+
+/// The earlier of two words.
+pub fn earlier(a: Option<u64>, b: Option<u64>) -> Option<u64>
+    ensures { result ≡ earlier a b }
+{
+    match (a, b) {
+        (None, b) => b,
+        (Some(a), None) => Some(a),
+        (Some(a), Some(b)) => { if a < b { Some(a) } else { Some(b) } }
+    }
+}

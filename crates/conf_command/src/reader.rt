@@ -1,0 +1,146 @@
+ghost use Rattle.std.specs.Prelude.{◌≡◌, ◌+◌, ℕ, false, None, length, bytes_eq, codes};
+ghost use Rattle.conf_rules.specs.CommandLine.{permitted, master_of, mode_command, host_command, command_with, command_of, walked, walk_from, steps_from, transport_in};
+ghost use Rattle.conf_rules.specs.Options.{Free};
+ghost use Rattle.conf_rules.specs.Reading.{reading, drill_of};
+ghost use Rattle.conf_command.specs.declared.reader.WordsError.TheVariants as words_errors;
+ghost use Rattle.conf_command.specs.Results.{Gives};
+ghost use Rattle.conf_command.specs.Shown.{mode_of};
+
+use crate::act::Mode;
+use crate::bytes::is_same;
+use crate::drill::drill_of;
+use crate::options::steps_of;
+use crate::permits::{bad_entry, earlier, permits_of, texts_of};
+use crate::sound::{asked_of, host_in, transport_in};
+use crate::step::Step;
+use crate::walk::{first_mode, not_for_listing, walk_over};
+use conf_rules::{Command, Usage, UsageError};
+use ssh_fields::{OutOfMemory, Text, Texts};
+use std::alloc::Global;
+
+/// Why words say no command.
+#[derive(Clone, Copy, Debug, Drop, PartialEq, Eq)]
+pub enum WordsError {
+    /// The first bad word.
+    Refused(UsageError),
+    OutOfMemory,
+}
+
+impl From<OutOfMemory> for WordsError {
+    ghost from_gives = { λ _ e. e ≡ words_errors.OutOfMemory };
+
+    fn from(_e: OutOfMemory) -> WordsError {
+        WordsError::OutOfMemory
+    }
+}
+
+/// A refusal at a word.
+fn refused(word: u64, cause: Usage) -> WordsError
+    ensures { result ≡ words_errors.Refused (record { word = word; cause = cause }) }
+{
+    WordsError::Refused(UsageError { word, cause })
+}
+
+/// The master over a transport, which must be named; bad permissions are refused last, the earlier word first.
+fn master_of(alloc: Global, end: u64, host: &[u8], steps: &[Step]) -> Result<Command, WordsError>
+    ensures { (n : ℕ) → end ≡ n + 1 → Gives result (master_of n host.now steps.now (transport_in None steps.now)) }
+{
+    let Some(transport) = transport_in(alloc, steps)? else {
+        return Err(refused(end, Usage::NoTransport));
+    };
+    let opens = permits_of(alloc, false, steps)?;
+    let listens = permits_of(alloc, true, steps)?;
+    if let Some(word) = earlier(bad_entry(&opens), bad_entry(&listens)) {
+        return Err(refused(word, Usage::BadEntry));
+    }
+    Ok(Command::Master {
+        asked: asked_of(alloc, host, steps)?,
+        transport,
+        opens: texts_of(alloc, &opens)?,
+        listens: texts_of(alloc, &listens)?,
+    })
+}
+
+/// The command of a mode for a host.
+fn mode_command(
+    alloc: Global,
+    end: u64,
+    mode: Mode,
+    host: &[u8],
+    steps: &[Step],
+) -> Result<Command, WordsError>
+    ensures { (n : ℕ) → end ≡ n + 1 → Gives result (mode_command n steps.now host.now (mode_of mode)) }
+{
+    match mode {
+        Mode::Listing => Ok(Command::List(asked_of(alloc, host, steps)?)),
+        Mode::Master => master_of(alloc, end, host, steps),
+    }
+}
+
+/// The command of sound steps; what is missing is refused at the word after the last.
+#[tactic(auto, unfolding(conf_rules::specs::CommandLine::command_of))]
+fn command_of(alloc: Global, end: u64, steps: &[Step]) -> Result<Command, WordsError>
+    ensures { (n : ℕ) → end ≡ n + 1 → Gives result (command_of n steps.now) }
+{
+    let Some(mode) = first_mode(steps) else {
+        return Err(refused(end, Usage::NoMode));
+    };
+    let Some(host) = host_in(steps) else {
+        return Err(refused(end, Usage::NoDestination));
+    };
+    mode_command(alloc, end, mode, host, steps)
+}
+
+/// The command of the steps of words, up to the first bad one.
+fn walked(alloc: Global, end: u64, steps: &[Step]) -> Result<Command, WordsError>
+    ensures { (n : ℕ) → end ≡ n + 1 → Gives result (walked n (walk_from None false steps.now)) }
+{
+    let walk = walk_over(steps);
+    if let Some(word) = not_for_listing(walk.sound) {
+        return Err(refused(word, Usage::OnlyForMaster));
+    }
+    if let Some(e) = walk.fault {
+        return Err(WordsError::Refused(e));
+    }
+    command_of(alloc, end, walk.sound)
+}
+
+/// Whether the first word is `--drill`.
+fn is_drill(word: &[u8]) -> bool
+    ensures { result ≡ bytes_eq word.now (codes "--drill") }
+{
+    is_same(word, b"--drill")
+}
+
+/// The drill that words say.
+fn drilled(words: &[Text]) -> Result<Command, WordsError>
+    ensures { Gives result (drill_of words.now) }
+{
+    match drill_of(words) {
+        Ok(command) => Ok(command),
+        Err(e) => Err(WordsError::Refused(e)),
+    }
+}
+
+/// The command of words that begin with no drill.
+fn read_steps(alloc: Global, words: &[Text]) -> Result<Command, WordsError>
+    ensures { Gives result (walked (length words.now) (walk_from None false (steps_from 1 Free words.now))) }
+{
+    let steps = steps_of(alloc, words)?;
+    walked(alloc, words.len() as u64 + 1, steps.as_slice())
+}
+
+/// The command that words say, the program's name left out, or the first bad word.
+#[tactic(auto, unfolding(conf_rules::specs::Reading::reading))]
+pub fn read_words(alloc: Global, words: &Texts) -> Result<Command, WordsError>
+    ensures exact { Gives result (reading words.now) }
+{
+    let words = words.as_slice();
+    let [first, rest @ ..] = words else {
+        return read_steps(alloc, words);
+    };
+    if is_drill(first.as_bytes()) {
+        return drilled(rest);
+    }
+    read_steps(alloc, words)
+}

@@ -1,0 +1,167 @@
+ghost use Rattle.std.specs.Prelude.{◌≡◌, ℕ, [], ◌∷◌, ◌++◌, List, IfOk, OnOk, None, flat_map};
+ghost use Rattle.std.specs.Option.{option_copied};
+ghost use Rattle.conf_rules.specs.declared.asked.ConfigFrom.TheVariants.{Standard};
+ghost use Rattle.conf_rules.specs.CommandLine.{line_in, destination_line, from_in, transport_in, host_in, asked_of};
+ghost use Rattle.conf_rules.specs.Destinations.{destination};
+ghost use Rattle.conf_command.specs.Sound.{from_at, transport_at, host_at};
+
+use crate::act::Act;
+use crate::bytes::copied;
+use crate::destinations::destination_in;
+use crate::options::key_line;
+use crate::step::Step;
+use conf_rules::{Asked, AskedLine, AskedLines, ConfigFrom};
+use ssh_fields::{OutOfMemory, Text};
+use std::alloc::Global;
+
+/// A copy of a line.
+fn copy_line(alloc: Global, line: &AskedLine) -> Result<AskedLine, OutOfMemory>
+    ensures { IfOk result (λ copy. copy ≡ line.now) }
+{
+    match line {
+        AskedLine::Line { word, line } => Ok(AskedLine::Line {
+            word: *word,
+            line: Text::copy(alloc, line.as_bytes())?,
+        }),
+        AskedLine::Parts {
+            word,
+            keyword,
+            words,
+        } => Ok(AskedLine::Parts {
+            word: *word,
+            keyword: Text::copy(alloc, keyword.as_bytes())?,
+            words: copied(alloc, words.as_slice())?,
+        }),
+    }
+}
+
+/// Adds the line of a destination's user.
+fn add_user(alloc: Global, word: u64, to: &[u8], lines: &mut AskedLines) -> Result<(), OutOfMemory>
+    ensures { OnOk result (lines.new ≡ lines.old ++ destination_line word (destination to.now)) }
+{
+    match destination_in(to) {
+        None => Ok(()),
+        Some(destination) => match destination.user {
+            None => Ok(()),
+            Some(user) => {
+                let line = key_line(alloc, word, b"user", user)?;
+                lines.push(line)
+            }
+        },
+    }
+}
+
+/// Adds the lines that a step asks for.
+fn add_line(alloc: Global, step: &Step, lines: &mut AskedLines) -> Result<(), OutOfMemory>
+    ensures { OnOk result (lines.new ≡ lines.old ++ line_in step.now) }
+{
+    match step.act() {
+        Act::Asks(line) => {
+            let line = copy_line(alloc, line)?;
+            lines.push(line)
+        }
+        Act::Goes(to) => add_user(alloc, step.word(), to.as_bytes(), lines),
+        _ => Ok(()),
+    }
+}
+
+/// The lines that steps ask for.
+fn lines_of(alloc: Global, steps: &[Step]) -> Result<AskedLines, OutOfMemory>
+    ensures { IfOk result (λ lines. lines ≡ flat_map line_in steps.now) }
+{
+    let mut lines = AskedLines::new(alloc);
+    for step in steps {
+        add_line(alloc, step, &mut lines)?;
+    }
+    Ok(lines)
+}
+
+/// The files that are read behind a step.
+fn from_behind(alloc: Global, from: ConfigFrom, step: &Step) -> Result<ConfigFrom, OutOfMemory>
+    ensures { IfOk result (λ f. f ≡ from_at from step.now.act) }
+{
+    match step.act() {
+        Act::Reads(ConfigFrom::Standard) => Ok(ConfigFrom::Standard),
+        Act::Reads(ConfigFrom::Nothing) => Ok(ConfigFrom::Nothing),
+        Act::Reads(ConfigFrom::File(file)) => {
+            let file = Text::copy(alloc, file.as_bytes())?;
+            Ok(ConfigFrom::File(file))
+        }
+        _ => Ok(from),
+    }
+}
+
+/// The files that are read: the last one named counts.
+fn from_in(alloc: Global, steps: &[Step]) -> Result<ConfigFrom, OutOfMemory>
+    ensures { IfOk result (λ from. from ≡ from_in Standard steps.now) }
+{
+    let mut from = ConfigFrom::Standard;
+    for step in steps {
+        from = from_behind(alloc, from, step)?;
+    }
+    Ok(from)
+}
+
+/// The transport behind a step.
+fn transport_behind(
+    alloc: Global,
+    transport: Option<Text>,
+    step: &Step,
+) -> Result<Option<Text>, OutOfMemory>
+    ensures { IfOk result (λ t. t ≡ transport_at transport step.now.act) }
+{
+    match step.act() {
+        Act::Connects(to) => {
+            let to = Text::copy(alloc, to.as_bytes())?;
+            Ok(Some(to))
+        }
+        _ => Ok(transport),
+    }
+}
+
+/// The last transport.
+pub fn transport_in(alloc: Global, steps: &[Step]) -> Result<Option<Text>, OutOfMemory>
+    ensures { IfOk result (λ transport. transport ≡ transport_in None steps.now) }
+{
+    let mut transport = None;
+    for step in steps {
+        transport = transport_behind(alloc, transport, step)?;
+    }
+    Ok(transport)
+}
+
+/// The host to which a step goes.
+fn host_at(step: &Step) -> Option<&[u8]>
+    ensures { option_copied result ≡ host_at step.now.act }
+{
+    match step.act() {
+        Act::Goes(to) => match destination_in(to.as_bytes()) {
+            None => None,
+            Some(destination) => Some(destination.host),
+        },
+        _ => None,
+    }
+}
+
+/// The host of the destination.
+pub fn host_in(steps: &[Step]) -> Option<&[u8]>
+    ensures { option_copied result ≡ host_in steps.now }
+{
+    for step in steps {
+        if let Some(host) = host_at(step) {
+            return Some(host);
+        }
+    }
+    None
+}
+
+/// What sound steps ask for a host.
+pub fn asked_of(alloc: Global, host: &[u8], steps: &[Step]) -> Result<Asked, OutOfMemory>
+    ensures { IfOk result (λ asked. asked ≡ asked_of host.now steps.now) }
+{
+    Ok(Asked {
+        original: Text::copy(alloc, host)?,
+        lines: lines_of(alloc, steps)?,
+        from: from_in(alloc, steps)?,
+    })
+}

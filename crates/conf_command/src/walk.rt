@@ -1,0 +1,150 @@
+ghost use Rattle.std.specs.Prelude.{◌≡◌, ℕ, false, Some, None, Option};
+ghost use Rattle.std.specs.Option.{option_map};
+ghost use Rattle.conf_rules.specs.CommandLine.{other_mode, or_mode, walk_from, first_mode, first_of_master, not_for_listing};
+ghost use Rattle.conf_command.specs.Shown.{mode_of};
+ghost use Rattle.conf_command.specs.Walks.{fault_of, mode_behind, going_behind, mode_in, is_of_master, walk_of};
+
+use crate::act::{Act, Mode};
+use crate::destinations::destination_in;
+use crate::step::Step;
+use conf_rules::{Usage, UsageError};
+
+/// The steps before the first bad one, and its refusal if there is one.
+#[derive(Clone, Copy, Debug)]
+pub struct Walk<'a> {
+    pub sound: &'a [Step],
+    pub fault: Option<UsageError>,
+}
+
+/// Whether the first mode named is another one.
+fn is_other(first: Option<Mode>, mode: Mode) -> bool
+    ensures { result ≡ other_mode (option_map mode_of first) (mode_of mode) }
+{
+    match (first, mode) {
+        (Some(Mode::Listing), Mode::Master) => true,
+        (Some(Mode::Master), Mode::Listing) => true,
+        _ => false,
+    }
+}
+
+/// Why a step is bad behind this first mode, and behind a destination or none.
+fn fault_of(mode: Option<Mode>, going: bool, step: &Step) -> Option<Usage>
+    ensures { result ≡ fault_of (option_map mode_of mode) going step.now.act }
+{
+    match step.act() {
+        Act::Fails(cause) => Some(*cause),
+        Act::Chooses(chosen) => {
+            if is_other(mode, *chosen) {
+                return Some(Usage::TwoModes);
+            }
+            None
+        }
+        Act::Goes(to) => {
+            if going {
+                return Some(Usage::TwoDestinations);
+            }
+            if destination_in(to.as_bytes()).is_none() {
+                return Some(Usage::BadDestination);
+            }
+            None
+        }
+        _ => None,
+    }
+}
+
+/// The mode that a step names.
+fn mode_in(step: &Step) -> Option<Mode>
+    ensures { option_map mode_of result ≡ mode_in step.now.act }
+{
+    match step.act() {
+        Act::Chooses(mode) => Some(*mode),
+        _ => None,
+    }
+}
+
+/// The first mode behind a step.
+fn mode_behind(mode: Option<Mode>, step: &Step) -> Option<Mode>
+    ensures { option_map mode_of result ≡ mode_behind (option_map mode_of mode) step.now.act }
+{
+    match mode {
+        Some(first) => Some(first),
+        None => mode_in(step),
+    }
+}
+
+/// Whether there is a destination behind a step.
+fn going_behind(going: bool, step: &Step) -> bool
+    ensures { result ≡ going_behind going step.now.act }
+{
+    match step.act() {
+        Act::Goes(_) => true,
+        _ => going,
+    }
+}
+
+/// The walk over steps up to the first bad one.
+pub fn walk_over(steps: &[Step]) -> Walk<'_>
+    ensures { walk_of result ≡ walk_from None false steps.now }
+{
+    let mut mode = None;
+    let mut going = false;
+    for (i, step) in steps.iter().enumerate() {
+        if let Some(cause) = fault_of(mode, going, step) {
+            let word = step.word();
+            return Walk {
+                sound: &steps[..i],
+                fault: Some(UsageError { word, cause }),
+            };
+        }
+        mode = mode_behind(mode, step);
+        going = going_behind(going, step);
+    }
+    Walk {
+        sound: steps,
+        fault: None,
+    }
+}
+
+/// The mode named first.
+pub fn first_mode(steps: &[Step]) -> Option<Mode>
+    ensures { option_map mode_of result ≡ first_mode steps.now }
+{
+    for step in steps {
+        if let Some(mode) = mode_in(step) {
+            return Some(mode);
+        }
+    }
+    None
+}
+
+/// Whether a step is an option of the master.
+fn is_of_master(step: &Step) -> bool
+    ensures { result ≡ is_of_master step.now.act }
+{
+    match step.act() {
+        Act::Connects(_) | Act::Permits { .. } => true,
+        _ => false,
+    }
+}
+
+/// The word of the first option of the master.
+fn first_of_master(steps: &[Step]) -> Option<u64>
+    ensures { result ≡ first_of_master steps.now }
+{
+    for step in steps {
+        if is_of_master(step) {
+            return Some(step.word());
+        }
+    }
+    None
+}
+
+/// The word of the first option of the master where the listing was named first.
+pub fn not_for_listing(steps: &[Step]) -> Option<u64>
+    ensures { result ≡ not_for_listing (first_mode steps.now) steps.now }
+{
+    match first_mode(steps) {
+        Some(Mode::Listing) => first_of_master(steps),
+        _ => None,
+    }
+}
