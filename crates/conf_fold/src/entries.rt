@@ -73,7 +73,7 @@ fn takes_keyword(
     ignored: Option<&[u8]>,
     keyword: &[u8],
 ) -> Result<bool, OutOfMemory>
-    ensures { OnOk result (result ≡ Ok (takes_keyword (option_copied ignored) keyword.now)) }
+    ensures { OnOk result (result ≡ Ok (takes_keyword (option_copied ignored.entry) keyword.now)) }
 {
     match ignored {
         None => Ok(false),
@@ -182,7 +182,7 @@ fn unknown_entry(
     keyword: &[u8],
     rest: &[u8],
 ) -> Result<Entry, LineError>
-    ensures read { GivesLine result (unknown_entry (takes_keyword (option_copied ignored) keyword.now) keyword.now (split rest.now)) }
+    ensures read { GivesLine result (unknown_entry (takes_keyword (option_copied ignored.entry) keyword.now) keyword.now (split rest.now)) }
     ensures fits { IfOk result (λ entry. entry_fits entry ≡ true) }
     ensures plain { IfErr result (λ e. is_line_fault e ≡ false) }
 {
@@ -200,7 +200,7 @@ fn parts_unknown_entry(
     keyword: &[u8],
     words: &Texts,
 ) -> Result<Entry, LineError>
-    ensures read { GivesLine result (unknown_entry (takes_keyword (option_copied ignored) keyword.now) keyword.now (Ok words.now)) }
+    ensures read { GivesLine result (unknown_entry (takes_keyword (option_copied ignored.entry) keyword.now) keyword.now (Ok words.now)) }
     ensures fits { IfOk result (λ entry. entry_fits entry ≡ true) }
     ensures plain { IfErr result (λ e. is_line_fault e ≡ false) }
 {
@@ -218,7 +218,7 @@ pub fn file_entry(
     keyword: &[u8],
     rest: &[u8],
 ) -> Result<Entry, LineError>
-    ensures read { GivesLine result (headed_entry (option_copied ignored) UserFile (Says keyword.now rest.now)) }
+    ensures read { GivesLine result (headed_entry (option_copied ignored.entry) UserFile (Says keyword.now rest.now)) }
     ensures fits { IfOk result (λ entry. entry_fits entry ≡ true) }
     ensures plain { IfErr result (λ e. is_line_fault e ≡ false) }
 {
@@ -239,7 +239,7 @@ fn asked_heading(
     keyword: &[u8],
     rest: &[u8],
 ) -> Result<Entry, LineError>
-    ensures read { GivesLine result (headed_entry (option_copied ignored) CommandLine (Says keyword.now rest.now)) }
+    ensures read { GivesLine result (headed_entry (option_copied ignored.entry) CommandLine (Says keyword.now rest.now)) }
     ensures fits { IfOk result (λ entry. entry_fits entry ≡ true) }
     ensures plain { IfErr result (λ e. is_line_fault e ≡ false) }
 {
@@ -255,7 +255,7 @@ fn asked_heading(
 
 /// What a line of the command line says that is read as one of a file.
 fn asked_text(alloc: Global, ignored: Option<&[u8]>, line: &[u8]) -> Result<Entry, LineError>
-    ensures read { GivesLine result (spelled_entry (option_copied ignored) CommandLine line.now) }
+    ensures read { GivesLine result (spelled_entry (option_copied ignored.entry) CommandLine line.now) }
     ensures fits { IfOk result (λ entry. entry_fits entry ≡ true) }
     ensures plain { IfErr result (λ e. is_line_fault e ≡ false) }
 {
@@ -273,7 +273,7 @@ fn asked_parts(
     keyword: &[u8],
     words: &Texts,
 ) -> Result<Entry, LineError>
-    ensures read { GivesLine result (keyword_entry (option_copied ignored) CommandLine keyword.now [] (Ok words.now) (meaning_of keyword.now)) }
+    ensures read { GivesLine result (keyword_entry (option_copied ignored.entry) CommandLine keyword.now [] (Ok words.now) (meaning_of keyword.now)) }
     ensures fits { IfOk result (λ entry. entry_fits entry ≡ true) }
     ensures plain { IfErr result (λ e. is_line_fault e ≡ false) }
 {
@@ -293,7 +293,7 @@ pub fn asked_entry(
     ignored: Option<&[u8]>,
     line: &AskedLine,
 ) -> Result<Entry, LineError>
-    ensures read { GivesLine result (content_entry (option_copied ignored) CommandLine (asked_line line.now).content) }
+    ensures read { GivesLine result (content_entry (option_copied ignored.entry) CommandLine (asked_line line.now).content) }
     ensures fits { IfOk result (λ entry. entry_fits entry ≡ true) }
     ensures plain { IfErr result (λ e. is_line_fault e ≡ false) }
 {
