@@ -112,7 +112,7 @@ some-broken old new commands k = record { done = []; others = commands; parts = 
 
 -- a line that says nothing that can be read runs nothing
 pub refused-ran : (told : Told) (pass : Pass) (fold : Fold) (rows : List Row) (blocks : Blocks) (l : ConfLine) (place : ℕ) (line : Line) (e : LineError) (old new : Commands)
-    → Stands told pass fold rows blocks → IsNext told pass rows blocks l place line → FailsLine e (entry_so_far fold l) → new ≡ old → RanUnless (breaks_line {Unit {0}} (Err e)) old new (next_row told pass rows place line).ran
+    → Stands told pass fold rows blocks → IsNext told pass rows blocks l place line → FailsLine e (entry_so_far fold l) → new ≡ old → RanUnless (breaks_line {A = Unit {0}} (Err e)) old new (next_row told pass rows place line).ran
 unfolding next_row Rattle.conf_rules.specs.Resolution.row_of
 refused-ran told pass fold rows blocks l place line line_errors.OutOfMemory old new s n f k = some-broken old new _ k
 refused-ran told pass fold rows blocks l place line (line_errors.Refused c) old new s n f k =
@@ -121,31 +121,31 @@ refused-ran told pass fold rows blocks l place line (line_errors.Refused c) old 
 
 -- ---- the place of a refusal
 
-pub breaks-placed : (e : LineError) (file : Bytes) (number : ℕ) (d : ResolveError) → Refuses e file number d → breaks_line {Unit {0}} (Err e) ≡ true → breaks_off {Unit {0}} (Err d) ≡ true
+pub breaks-placed : (e : LineError) (file : Bytes) (number : ℕ) (d : ResolveError) → Refuses e file number d → breaks_line {A = Unit {0}} (Err e) ≡ true → breaks_off {A = Unit {0}} (Err d) ≡ true
 breaks-placed e file number resolve_errors.OutOfMemory r h = refl
 breaks-placed line_errors.OutOfMemory file number (resolve_errors.At f n c) r h = absurd cc
 breaks-placed (line_errors.Refused cause) file number (resolve_errors.At f n c) r h = let same : c ≡ cause = cc in ap is_fault same ∙ h
 
 risen : (before now : ℕ) → Rose before now → before ≤ now
-risen before now r = r.0
+risen before now r = r.later
 
-placed-cause : (c : Cause) (file : Bytes) (number before now : ℕ) → HasLineCause {Unit {0}} (Err (line_errors.Refused c)) before now → HasRunCause {Unit {0}} (Err (resolve_errors.At file number c)) before now
+placed-cause : (c : Cause) (file : Bytes) (number before now : ℕ) → HasLineCause {A = Unit {0}} (Err (line_errors.Refused c)) before now → HasRunCause {A = Unit {0}} (Err (resolve_errors.At file number c)) before now
 placed-cause causes.RunFault file number before now h = h
 placed-cause causes.ReadFault file number before now h = h
 placed-cause c file number before now h = h
 
-lost-cause : (c : Cause) (before now : ℕ) → HasLineCause {Unit {0}} (Err (line_errors.Refused c)) before now → before ≤ now
+lost-cause : (c : Cause) (before now : ℕ) → HasLineCause {A = Unit {0}} (Err (line_errors.Refused c)) before now → before ≤ now
 lost-cause causes.RunFault before now h = risen before now h
 lost-cause causes.ReadFault before now h = absurd h
 lost-cause c before now h = omega (arith, h)
 
-pub cause-placed : (e : LineError) (file : Bytes) (number before now : ℕ) (d : ResolveError) → Refuses e file number d → HasLineCause {Unit {0}} (Err e) before now → HasRunCause {Unit {0}} (Err d) before now
+pub cause-placed : (e : LineError) (file : Bytes) (number before now : ℕ) (d : ResolveError) → Refuses e file number d → HasLineCause {A = Unit {0}} (Err e) before now → HasRunCause {A = Unit {0}} (Err d) before now
 cause-placed line_errors.OutOfMemory file number before now d r h = rw r (let k : now ≡ before = h in omega (arith, k))
 cause-placed (line_errors.Refused c) file number before now resolve_errors.OutOfMemory r h = lost-cause c before now h
-cause-placed (line_errors.Refused c) file number before now (resolve_errors.At f n d) r h = subst (λ x. HasRunCause {Unit {0}} (Err x) before now) (sym r) (placed-cause c file number before now h)
+cause-placed (line_errors.Refused c) file number before now (resolve_errors.At f n d) r h = subst (λ x. HasRunCause {A = Unit {0}} (Err x) before now) (sym r) (placed-cause c file number before now h)
 
 -- where no fault is, the count stays
-pub no-cause : {A : Type 0} (e : LineError) (before now : ℕ) → is_line_fault e ≡ false → now ≡ before → HasLineCause {A} (Err e) before now
+pub no-cause : (e : LineError) (before now : ℕ) → is_line_fault e ≡ false → now ≡ before → HasLineCause {A = Unit {0}} (Err e) before now
 no-cause line_errors.OutOfMemory before now f h = h
 no-cause (line_errors.Refused causes.RunFault) before now f h = absurd cc
 no-cause (line_errors.Refused causes.ReadFault) before now f h = absurd cc

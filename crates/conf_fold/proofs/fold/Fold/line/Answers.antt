@@ -10,7 +10,7 @@ returns-in-Err-clause-folds g c = λ told pass rows blocks place l facts status 
 
 pub returns-in-Err-clause-ran : goal.returns-in-Err-clause-ran
 returns-in-Err-clause-ran g c = λ told pass rows blocks place l facts status s n.
-    ran-weaker (breaks_line {Unit {0}} (Err c.in-Err.e)) (breaks_off {Unit {0}} (Err c.refused.result)) _ _ _ (breaks-placed c.in-Err.e _ _ c.refused.result c.refused.ensures)
+    ran-weaker (breaks_line {A = Unit {0}} (Err c.in-Err.e)) (breaks_off {A = Unit {0}} (Err c.refused.result)) _ _ _ (breaks-placed c.in-Err.e _ _ c.refused.result c.refused.ensures)
     (refused-ran told pass c.args.self.now rows blocks c.args.line.now place l c.in-Err.e _ _ s n c.in-Err.ensures.read refl)
 
 pub returns-in-Err-clause-cause : goal.returns-in-Err-clause-cause
@@ -28,7 +28,7 @@ returns-in-Err-take-clause-folds g c = λ told pass rows blocks place l facts st
 
 pub returns-in-Err-take-clause-ran : goal.returns-in-Err-take-clause-ran
 returns-in-Err-take-clause-ran g c = λ told pass rows blocks place l facts status s n.
-    ran-weaker (breaks_line {Unit {0}} (Err c.in-Err-take.e)) (breaks_off {Unit {0}} (Err c.refused-in-Err-take.result)) _ _ _ (breaks-placed c.in-Err-take.e _ _ c.refused-in-Err-take.result c.refused-in-Err-take.ensures)
+    ran-weaker (breaks_line {A = Unit {0}} (Err c.in-Err-take.e)) (breaks_off {A = Unit {0}} (Err c.refused-in-Err-take.result)) _ _ _ (breaks-placed c.in-Err-take.e _ _ c.refused-in-Err-take.result c.refused-in-Err-take.ensures)
     (c.in-Err-take.ensures.ran told pass rows blocks place l facts status s n c.in-Ok.ensures.read)
 
 pub returns-in-Err-take-clause-cause : goal.returns-in-Err-take-clause-cause
