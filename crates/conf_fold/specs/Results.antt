@@ -57,6 +57,11 @@ abbrev pub is_line_fault : LineError → Bool
 is_line_fault line_errors.OutOfMemory = false
 is_line_fault (line_errors.Refused cause) = is_fault cause
 
+-- whether a refusal is a fault of the outside
+abbrev pub is_fault_at : ResolveError → Bool
+is_fault_at OutOfMemory = false
+is_fault_at (At file line cause) = is_fault cause
+
 -- an evaluation gave what it should, unless memory or the runner failed
 abbrev pub Evaluated : Result Bool LineError → Result Bool TokenError → Type 0
 Evaluated (Ok b) holds = holds ≡ Ok b

@@ -68,11 +68,7 @@ fn lowered(alloc: Global, text: &[u8]) -> Result<Text, OutOfMemory>
 }
 
 /// Whether the patterns of IgnoreUnknown take a keyword.
-fn takes_keyword(
-    alloc: Global,
-    ignored: Option<&[u8]>,
-    keyword: &[u8],
-) -> Result<bool, OutOfMemory>
+fn takes_keyword(alloc: Global, ignored: Option<&[u8]>, keyword: &[u8]) -> Result<bool, OutOfMemory>
     ensures { OnOk result (result ≡ Ok (takes_keyword (option_copied ignored.entry) keyword.now)) }
 {
     match ignored {

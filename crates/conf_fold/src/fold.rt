@@ -11,7 +11,7 @@ ghost use Rattle.conf_tokens.specs.Seen.{seen};
 ghost use Rattle.conf_rules.specs.Rows.{Row, Pass, word_in, values_among};
 ghost use Rattle.conf_match.specs.Evaluated.{TellsStatus, RanAll};
 ghost use Rattle.conf_tokens.specs.Known.{known};
-ghost use Rattle.conf_fold.specs.Results.{Evaluated, GivesLine, Refuses, RanUnless, breaks_line, breaks_off, HasLineCause, HasRunCause, is_line_fault};
+ghost use Rattle.conf_fold.specs.Results.{Evaluated, GivesLine, Refuses, RanUnless, breaks_line, breaks_off, HasLineCause, HasRunCause, is_line_fault, is_fault_at};
 
 use crate::entries::{asked_entry, file_entry, has_final, is_collected};
 use crate::errors::{LineError, refuse};
@@ -103,7 +103,6 @@ impl Fold {
     ghost use Rattle.conf_fold.specs.Entries.{entry_fits};
     ghost use Rattle.conf_rules.specs.Texts.{or_text};
     ghost use Rattle.conf_rules.specs.Rows.{but_none, entry_gives};
-    ghost use Rattle.conf_reader.specs.Results.{is_read_fault};
 
     /// A fold of no line.
     fn of_nothing(alloc: Global, original: &[u8]) -> Result<Fold, OutOfMemory>
@@ -124,7 +123,7 @@ impl Fold {
     /// Takes the lines of the command line, in order. The first one that is refused decides.
     pub fn new(alloc: Global, asked: &Asked) -> Result<Fold, ResolveError>
         ensures begins { (told : Told) → told.asked ≡ asked.now → IsBegun told result }
-        ensures plain { IfErr result (λ e. is_read_fault e ≡ false) }
+        ensures plain { IfErr result (λ e. is_fault_at e ≡ false) }
     {
         let mut fold = match Fold::of_nothing(alloc, asked.original.as_bytes()) {
             Ok(fold) => fold,
@@ -142,7 +141,7 @@ impl Fold {
     /// Takes a line of the command line.
     fn asked_line(&mut self, line: &AskedLine) -> Result<(), ResolveError>
         ensures takes { (told : Told) (rows : List Row) → Stands told First self.old rows [] → TakesAsked told rows (asked_line line.now) result self.new }
-        ensures plain { IfErr result (λ e. is_read_fault e ≡ false) }
+        ensures plain { IfErr result (λ e. is_fault_at e ≡ false) }
     {
         let entry = match asked_entry(self.alloc, self.text(Key::IgnoreUnknown), line) {
             Ok(entry) => entry,
@@ -180,6 +179,13 @@ impl Fold {
         self.applies.truncate(0);
         self.seen = 0;
         Ok(true)
+    }
+
+    /// How many files are open: 1 more than the depth of the line that was taken last.
+    pub fn open_files(&self) -> usize
+        ensures count { result ≡ length self.now.applies }
+    {
+        self.applies.len()
     }
 
     /// The settings.
@@ -432,7 +438,9 @@ impl Fold {
         }
     }
 
-    /// Takes one line.
+    /// Takes one line of a file, behind those taken so far: `opens` where it is the first of its reading of the file, which lies at
+    /// most as deep as files are open. A refusal is that of the line; settings stay. Criteria of an active Match line are
+    /// evaluated here, and the runner's fault comes only where its count rose.
     pub fn line<R: Runner>(
         &mut self,
         line: &ConfLine,

@@ -8,5 +8,7 @@ mod entries;
 mod errors;
 mod fold;
 mod marks;
+#[cfg(test)]
+mod tests;
 
 pub use fold::Fold;
