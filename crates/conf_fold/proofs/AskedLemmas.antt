@@ -1,7 +1,7 @@
 -- What a fold does with the lines of the command line.
-use Rattle.std.proofs.Common.{◌≡◌, ℕ, zero, suc, ◌+◌, ◌<◌, Bool, true, false, cond, not, ◌&&◌, ◌||◌, List, [], ◌∷◌, ◌++◌, length, map, drop, Option, Some, None, Result, Ok, Err, refl, sym, ap, subst, ◌∙◌, arith}
+use Rattle.std.proofs.Common.{◌≡◌, ℕ, ◌+◌, ◌<◌, Bool, true, false, ◌||◌, List, [], ◌∷◌, ◌++◌, length, map, drop, Option, Some, None, Ok, Err, refl, sym, ap, subst, ◌∙◌}
 use Rattle.std.specs.Prelude.{flat_map, codes}
-use Rattle.std.specs.List.{list_any, list_all, slice_get}
+use Rattle.std.specs.List.{list_any}
 use Rattle.std.proofs.lemmas.List.{append-nil, length-append, drop_more}
 use Rattle.std.proofs.Math.ListN.{get_or}
 use Rattle.conf_rules.specs.declared.key.Key.{Key}
@@ -16,11 +16,11 @@ use Rattle.conf_rules.specs.declared.entry.Entry.{Entry}
 use Rattle.conf_rules.specs.declared.entry.Entry.TheVariants.{Nothing, Block, Tests, Gives}
 use Rattle.conf_rules.specs.declared.key_kind.KeyKind.{KeyKind}
 use Rattle.conf_rules.specs.declared.key_kind.KeyKind.TheVariants as kinds
-use Rattle.conf_rules.specs.Results.{◌>>=◌, as_error}
+use Rattle.conf_rules.specs.Results.{as_error}
 use Rattle.conf_rules.specs.Texts.{Bytes}
 use Rattle.conf_rules.specs.Heads.{Heading, Comment, Says, head_of}
 use Rattle.conf_rules.specs.Told.{Told}
-use Rattle.conf_rules.specs.Includes.{Source, CommandLine}
+use Rattle.conf_rules.specs.Includes.{CommandLine}
 use Rattle.conf_rules.specs.Sources.{Line, Content, Spelled, Parts, Refused, asked_line}
 use Rattle.conf_rules.specs.Rows.{Row, Pass, First, Second, Place, given, entry_gives, value, word_in}
 use Rattle.conf_rules.specs.Keywords.{meaning_of}
@@ -31,12 +31,12 @@ use Rattle.conf_fold.specs.declared.fold.Fold.{Fold}
 use Rattle.conf_fold.specs.declared.errors.LineError.{LineError}
 use Rattle.conf_fold.specs.declared.errors.LineError.TheVariants as line_errors
 use Rattle.conf_fold.specs.Results.{FailsLine, Refuses}
-use Rattle.conf_fold.specs.Stands.{Stands, InFirst, next_row, setting, collected, collects_here}
+use Rattle.conf_fold.specs.Stands.{Stands, next_row, setting, collected}
 use Rattle.conf_fold.specs.Begins.{asked_rows, IsEmpty, IsBegun, asked_row, TakesAsked}
 use Rattle.conf_fold.proofs.SeenLemmas.{setting-value}
 use Rattle.conf_fold.proofs.EntryLemmas.{opens, bind-ok}
 use Rattle.conf_fold.proofs.RowLemmas.{given-more, collected-more, wants-more, or-false}
-use Rattle.conf_fold.proofs.OrderLemmas.{from, refusal-behind, ok-none, some-refused, rows-on, rows-end, row-line, behind-ok}
+use Rattle.conf_fold.proofs.OrderLemmas.{from, refusal-behind, some-refused, rows-on, rows-end, row-line, behind-ok}
 
 -- ---- what a line of the command line is
 

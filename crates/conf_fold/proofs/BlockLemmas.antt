@@ -4,7 +4,7 @@ use Rattle.std.specs.Prelude.{flat_map, option_to_list, unwrap_or}
 use Rattle.std.specs.List.{list_all, slice_get}
 use Rattle.std.proofs.lemmas.List.{map-append, take-map}
 use Rattle.std.proofs.lemmas.List.Folds.{list_all-append}
-use Rattle.conf_rules.specs.Sources.{own_block, block_behind}
+use Rattle.conf_rules.specs.Sources.{own_block}
 use Rattle.conf_rules.specs.Rows.{Row, Pass}
 use Rattle.conf_rules.specs.Resolution.{row_applies, applies_at, start_of}
 use Rattle.conf_reader.specs.Blocks.{Blocks, or_none}

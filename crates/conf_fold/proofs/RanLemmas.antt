@@ -1,5 +1,5 @@
 -- Which commands a line runs, and where a fault comes from.
-use Rattle.std.proofs.Common.{◌≡◌, ◌≤◌, ℕ, Bool, true, false, cond, List, [], ◌∷◌, ◌++◌, map, take, Option, Some, None, Result, Ok, Err, refl, sym, ap, subst, ◌∙◌, arith}
+use Rattle.std.proofs.Common.{◌≡◌, ◌≤◌, ℕ, Bool, true, false, List, [], take, Option, Some, None, Result, Ok, Err, refl, sym, ap, subst, ◌∙◌, arith}
 use Rattle.std.specs.List.{list_all}
 use Rattle.std.proofs.lemmas.List.{append-nil}
 use Rattle.mux_outside.specs.Counts.{Rose}
@@ -14,7 +14,7 @@ use Rattle.conf_rules.specs.declared.entry.Entry.TheVariants.{Nothing, Block, Te
 use Rattle.conf_rules.specs.Texts.{Bytes}
 use Rattle.conf_rules.specs.Told.{Told}
 use Rattle.conf_rules.specs.Diagnostics.{is_fault}
-use Rattle.conf_rules.specs.Evaluation.{Verdict, verdict}
+use Rattle.conf_rules.specs.Evaluation.{verdict}
 use Rattle.conf_rules.specs.Sources.{Line}
 use Rattle.conf_rules.specs.Rows.{Row, Pass}
 use Rattle.conf_rules.specs.Entries.{entry_of}
@@ -28,7 +28,7 @@ use Rattle.conf_fold.specs.declared.errors.LineError.TheVariants as line_errors
 use Rattle.conf_fold.specs.Results.{Refuses, RanUnless, breaks_line, breaks_off, HasLineCause, HasRunCause, is_line_fault, FailsLine}
 use Rattle.conf_fold.specs.Stands.{Stands, IsNext, next_row, entry_so_far, view_of}
 use Rattle.conf_fold.proofs.SeenLemmas.{view-same}
-use Rattle.conf_fold.proofs.EntryLemmas.{entry-same, opens}
+use Rattle.conf_fold.proofs.EntryLemmas.{entry-same}
 use Rattle.conf_fold.proofs.RowLemmas.{said, row-said}
 use Rattle.conf_fold.proofs.FoldLemmas.{tests-active}
 

@@ -1,49 +1,23 @@
 -- One more row behind the rows that a fold stands for.
-use Rattle.std.proofs.Common.{◌≡◌, ℕ, zero, suc, ◌+◌, ◌<◌, ◌≤◌, Bool, true, false, cond, not, ◌&&◌, ◌||◌, List, [], ◌∷◌, ◌++◌, length, map, take, Option, Some, None, Result, Ok, Err, refl, sym, ap, subst, ◌∙◌, append_assoc, arith}
-use Rattle.std.specs.Prelude.{flat_map, option_to_list, unwrap_or, is_some, codes}
+use Rattle.std.proofs.Common.{◌≡◌, ℕ, zero, suc, ◌+◌, ◌<◌, Bool, true, false, cond, not, ◌&&◌, ◌||◌, List, [], ◌∷◌, ◌++◌, length, map, take, Option, Some, Ok, refl, sym, ap, ◌∙◌, arith}
+use Rattle.std.specs.Prelude.{flat_map}
 use Rattle.std.specs.List.{list_all, list_any, slice_get}
 use Rattle.std.proofs.lemmas.List.{map-append, take-map, append-nil, length-append}
-use Rattle.std.proofs.lemmas.List.Folds.{list_all-append, list_any-append}
+use Rattle.std.proofs.lemmas.List.Folds.{list_any-append}
 use Rattle.std.proofs.lemmas.Grind.{flat_map-append}
-use Rattle.std.proofs.lemmas.Slice.Eq.{bytes_eq-Decides}
-use Rattle.conf_rules.specs.declared.key.Key.{Key}
-use Rattle.conf_rules.specs.declared.key.Key.TheVariants as keys
-use Rattle.conf_rules.specs.declared.value.Value.{Value}
-use Rattle.conf_rules.specs.declared.criterion.Criterion.{Criterion}
-use Rattle.conf_rules.specs.declared.causes.Cause.{Cause}
-use Rattle.conf_rules.specs.declared.causes.TokenError.{TokenError}
-use Rattle.conf_rules.specs.declared.causes.Cause.TheVariants as causes
-use Rattle.conf_rules.specs.declared.causes.ResolveError.TheVariants as resolve_errors
 use Rattle.conf_rules.specs.declared.entry.Entry.{Entry}
-use Rattle.conf_rules.specs.declared.entry.Entry.TheVariants.{Nothing, Block, Tests, Gives}
-use Rattle.conf_rules.specs.Results.{◌>>=◌, as_error}
-use Rattle.conf_rules.specs.Texts.{Bytes, same_word, or_text, lower}
-use Rattle.conf_rules.specs.Heads.{Heading, Says, head_of}
-use Rattle.conf_rules.specs.Told.{Told, Facts}
-use Rattle.conf_rules.specs.Tokens.{View}
-use Rattle.conf_rules.specs.Patterns.{answer_of, is_yes}
-use Rattle.conf_rules.specs.Evaluation.{Verdict, verdict}
-use Rattle.conf_rules.specs.Includes.{Source, CommandLine, UserFile, SystemFile}
-use Rattle.conf_rules.specs.Sources.{Line, Content, Spelled, own_block, block_behind}
-use Rattle.conf_rules.specs.Kinds.{keeping}
-use Rattle.conf_rules.specs.Rows.{Row, Pass, First, Second, Place, is_collected, values_among, kept, values, value, given, entry_gives, word_in}
-use Rattle.conf_rules.specs.declared.key_kind.KeyKind.{KeyKind}
-use Rattle.conf_rules.specs.declared.key_kind.KeyKind.TheVariants as kinds
-use Rattle.conf_rules.specs.Keywords.{meaning_of}
-use Rattle.conf_rules.specs.Entries.{ReadEntry, SplitWords, split, entry_of, keyword_entry, headed_entry, content_entry, in_file}
-use Rattle.conf_rules.specs.Resolution.{applies_at, start_of, host_from, host_at, view_at, seen_at, name_in_pass, active_before, is_active_row, wants_second, asks_again, is_final, is_asked, is_past_limit, counted, is_active, Effect, effect_of, no_block, tested, row_with, row_of, is_refused}
+use Rattle.conf_rules.specs.Told.{Told}
+use Rattle.conf_rules.specs.Sources.{Line, block_behind}
+use Rattle.conf_rules.specs.Rows.{Row, Pass, First, Second, given}
+use Rattle.conf_rules.specs.Entries.{entry_of}
+use Rattle.conf_rules.specs.Resolution.{applies_at, start_of, active_before, wants_second, is_asked, is_active, effect_of, row_with, row_of}
 use Rattle.conf_fold.specs.declared.fold.Fold.{Fold}
 use Rattle.conf_reader.specs.declared.line.ConfLine.{ConfLine}
-use Rattle.conf_fold.specs.declared.errors.LineError.{LineError}
-use Rattle.conf_fold.specs.declared.errors.LineError.TheVariants as line_errors
-use Rattle.conf_rules.specs.Diagnostics.{is_fault}
-use Rattle.conf_fold.specs.Results.{Evaluated}
-use Rattle.conf_options.specs.Kept.{Given, Keeps}
-use Rattle.conf_reader.specs.Blocks.{Blocks, or_none, own_of, opens_block, blocks_of, open_behind, IsLine}
-use Rattle.conf_fold.specs.Stands.{open_applies, collects_here, IsBefore, EachBefore, collects, collected, InFirst, InSecond, InPass, Stands, IsAgain, IsNext, next_row, FoldsEntry, setting, host_so_far, block_name, view_of, entry_so_far, entered, own_mark, does_count, noted, if_counts}
-use Rattle.conf_fold.proofs.BlockLemmas.{slice_get-front, slice_get-next, applies-kept, marks-kept, applies-new, each-kept, each-take, each-more, own-before, own-marked, active-marked, marks-entered}
-use Rattle.conf_fold.proofs.SeenLemmas.{setting-value, host-same, name-same, view_with, view-same}
-use Rattle.conf_fold.proofs.EntryLemmas.{in-any-file, entry-any-file, line-says, entry-same, opens, bind-ok, is_block, host-meaning, match-meaning, besides, other-meaning, no-block, opens-by, opens-meaning, said-opens, entry-opens, unknown-collects, keyword-collects, line-collects, tested-collects, effect-collects, row-collects}
+use Rattle.conf_options.specs.Kept.{Keeps}
+use Rattle.conf_reader.specs.Blocks.{Blocks, own_of, opens_block, open_behind, IsLine}
+use Rattle.conf_fold.specs.Stands.{open_applies, collects_here, IsBefore, collects, collected, InPass, Stands, IsNext, next_row, entered, own_mark}
+use Rattle.conf_fold.proofs.BlockLemmas.{marks-kept, applies-new, each-kept, each-take, each-more, own-before, own-marked, active-marked, marks-entered}
+use Rattle.conf_fold.proofs.EntryLemmas.{line-collects, row-collects}
 
 -- ---- the row of a line
 

@@ -1,8 +1,8 @@
 -- A second pass begins: the lines of the command line give nothing that counts again.
-use Rattle.std.proofs.Common.{◌≡◌, ℕ, zero, suc, ◌+◌, ◌<◌, Bool, true, false, cond, not, ◌&&◌, ◌||◌, List, [], ◌∷◌, ◌++◌, length, map, take, Option, Some, None, Result, Ok, Err, refl, sym, ap, subst, ◌∙◌, append_assoc, arith}
+use Rattle.std.proofs.Common.{◌≡◌, suc, ◌+◌, Bool, true, false, cond, ◌||◌, List, [], ◌∷◌, ◌++◌, length, map, take, Option, Some, None, Result, Ok, Err, refl, sym, ap, subst, ◌∙◌, append_assoc, arith}
 use Rattle.std.specs.Prelude.{flat_map}
 use Rattle.std.specs.List.{list_any, slice_get}
-use Rattle.std.proofs.lemmas.List.{append-nil, length-append, length-map}
+use Rattle.std.proofs.lemmas.List.{append-nil, length-append}
 use Rattle.std.proofs.lemmas.Grind.{flat_map-append}
 use Rattle.conf_rules.specs.declared.key.Key.{Key}
 use Rattle.conf_rules.specs.declared.key.Key.TheVariants as keys
@@ -20,25 +20,25 @@ use Rattle.conf_rules.specs.Texts.{Bytes}
 use Rattle.conf_rules.specs.Heads.{Heading, Comment, Says, head_of}
 use Rattle.conf_rules.specs.Told.{Told}
 use Rattle.conf_rules.specs.Includes.{CommandLine}
-use Rattle.conf_rules.specs.Sources.{Line, Content, Spelled, Parts, Refused, asked_line}
-use Rattle.conf_rules.specs.Kinds.{TheFirst, keeping}
+use Rattle.conf_rules.specs.Sources.{Content, Spelled, Parts, Refused, asked_line}
+use Rattle.conf_rules.specs.Kinds.{TheFirst}
 use Rattle.conf_rules.specs.Keys.{same_key}
-use Rattle.conf_rules.specs.Rows.{Row, Pass, First, Second, Place, is_collected, given, entry_gives, kept, values, value, word_in}
+use Rattle.conf_rules.specs.Rows.{Row, First, Second, is_collected, given, entry_gives, kept, values, value, word_in}
 use Rattle.conf_rules.specs.Keywords.{meaning_of}
-use Rattle.conf_rules.specs.Entries.{SplitWords, split, entry_of, content_entry, headed_entry, keyword_entry, unknown_entry, takes_keyword}
+use Rattle.conf_rules.specs.Entries.{SplitWords, split, entry_of, content_entry, headed_entry, keyword_entry}
 use Rattle.conf_rules.specs.Resolution.{host_at, active_before, is_active_row, no_block, row_with, rows_from, first_place, is_refused, refusal_at, refusal_in, wants_second}
 use Rattle.conf_options.specs.Kept.{Given, Keeps}
 use Rattle.conf_reader.specs.Blocks.{Blocks}
 use Rattle.conf_rules.proofs.SameKeys.{same-key-refl}
 use Rattle.conf_fold.specs.declared.fold.Fold.{Fold}
-use Rattle.conf_fold.specs.Stands.{Stands, InFirst, InSecond, next_row, setting, host_so_far, collected}
-use Rattle.conf_fold.specs.Begins.{asked_rows, Behind, asked_again, SecondBegins}
+use Rattle.conf_fold.specs.Stands.{Stands, next_row, host_so_far, collected}
+use Rattle.conf_fold.specs.Begins.{Behind, asked_again, SecondBegins}
 use Rattle.conf_fold.proofs.AgainLemmas.{has_key, keeps-again, value-front}
 use Rattle.conf_fold.proofs.BlockLemmas.{slice_get-next}
 use Rattle.conf_fold.proofs.SeenLemmas.{host-same}
 use Rattle.conf_fold.proofs.EntryLemmas.{opens}
 use Rattle.conf_fold.proofs.RowLemmas.{given-more, wants-more, or-false}
-use Rattle.conf_fold.proofs.OrderLemmas.{from, refusal-behind, ok-none, not-none, none-parts, rows-on, rows-end, row-line, behind-ok, from-front}
+use Rattle.conf_fold.proofs.OrderLemmas.{from, refusal-behind, ok-none, not-none, none-parts, rows-on, rows-end, row-line, from-front}
 use Rattle.conf_fold.proofs.AskedLemmas.{asked_with, content-plain, asked-says, asked-row-is, asked-row-says, asked-collected, plain-wants}
 
 -- ---- what a line of the command line says again

@@ -1,47 +1,17 @@
 -- What a fold shows is what its rows show.
-use Rattle.std.proofs.Common.{◌≡◌, ℕ, zero, suc, ◌+◌, ◌<◌, ◌≤◌, Bool, true, false, cond, not, ◌&&◌, ◌||◌, List, [], ◌∷◌, ◌++◌, length, map, take, Option, Some, None, Result, Ok, Err, refl, sym, ap, subst, ◌∙◌, append_assoc, arith}
-use Rattle.std.specs.Prelude.{flat_map, option_to_list, unwrap_or, is_some, codes}
-use Rattle.std.specs.List.{list_all, list_any, slice_get}
-use Rattle.std.proofs.lemmas.List.{map-append, take-map, append-nil, length-append}
-use Rattle.std.proofs.lemmas.List.Folds.{list_all-append, list_any-append}
-use Rattle.std.proofs.lemmas.Grind.{flat_map-append}
-use Rattle.std.proofs.lemmas.Slice.Eq.{bytes_eq-Decides}
+use Rattle.std.proofs.Common.{◌≡◌, Bool, List, [], Option, refl, ap, ◌∙◌}
+use Rattle.std.specs.List.{slice_get}
 use Rattle.conf_rules.specs.declared.key.Key.{Key}
 use Rattle.conf_rules.specs.declared.key.Key.TheVariants as keys
 use Rattle.conf_rules.specs.declared.value.Value.{Value}
-use Rattle.conf_rules.specs.declared.criterion.Criterion.{Criterion}
-use Rattle.conf_rules.specs.declared.causes.Cause.{Cause}
-use Rattle.conf_rules.specs.declared.causes.TokenError.{TokenError}
-use Rattle.conf_rules.specs.declared.causes.Cause.TheVariants as causes
-use Rattle.conf_rules.specs.declared.causes.ResolveError.TheVariants as resolve_errors
-use Rattle.conf_rules.specs.declared.entry.Entry.{Entry}
-use Rattle.conf_rules.specs.declared.entry.Entry.TheVariants.{Nothing, Block, Tests, Gives}
-use Rattle.conf_rules.specs.Results.{◌>>=◌, as_error}
-use Rattle.conf_rules.specs.Texts.{Bytes, same_word, or_text, lower}
-use Rattle.conf_rules.specs.Heads.{Heading, Says, head_of}
-use Rattle.conf_rules.specs.Told.{Told, Facts}
+use Rattle.conf_rules.specs.Texts.{Bytes, or_text}
+use Rattle.conf_rules.specs.Told.{Told}
 use Rattle.conf_rules.specs.Tokens.{View}
-use Rattle.conf_rules.specs.Patterns.{answer_of, is_yes}
-use Rattle.conf_rules.specs.Evaluation.{Verdict, verdict}
-use Rattle.conf_rules.specs.Includes.{Source, CommandLine, UserFile, SystemFile}
-use Rattle.conf_rules.specs.Sources.{Line, Content, Spelled, own_block, block_behind}
-use Rattle.conf_rules.specs.Kinds.{keeping}
 use Rattle.conf_rules.specs.Rows.{Row, Pass, First, Second, Place, is_collected, values_among, kept, values, value, given, entry_gives, word_in}
-use Rattle.conf_rules.specs.declared.key_kind.KeyKind.{KeyKind}
-use Rattle.conf_rules.specs.declared.key_kind.KeyKind.TheVariants as kinds
-use Rattle.conf_rules.specs.Keywords.{meaning_of}
-use Rattle.conf_rules.specs.Entries.{ReadEntry, SplitWords, split, entry_of, keyword_entry, headed_entry, content_entry, in_file}
-use Rattle.conf_rules.specs.Resolution.{applies_at, start_of, host_from, host_at, view_at, seen_at, name_in_pass, active_before, is_active_row, wants_second, asks_again, is_final, is_asked, is_past_limit, counted, is_active, Effect, effect_of, no_block, tested, row_with, row_of, is_refused}
+use Rattle.conf_rules.specs.Resolution.{host_from, host_at, view_at, seen_at, name_in_pass}
 use Rattle.conf_fold.specs.declared.fold.Fold.{Fold}
-use Rattle.conf_reader.specs.declared.line.ConfLine.{ConfLine}
-use Rattle.conf_fold.specs.declared.errors.LineError.{LineError}
-use Rattle.conf_fold.specs.declared.errors.LineError.TheVariants as line_errors
-use Rattle.conf_rules.specs.Diagnostics.{is_fault}
-use Rattle.conf_fold.specs.Results.{Evaluated}
-use Rattle.conf_options.specs.Kept.{Given, Keeps}
-use Rattle.conf_reader.specs.Blocks.{Blocks, or_none, own_of, opens_block, blocks_of, open_behind, IsLine}
-use Rattle.conf_fold.specs.Stands.{open_applies, collects_here, IsBefore, EachBefore, collects, collected, InFirst, InSecond, InPass, Stands, IsAgain, IsNext, next_row, FoldsEntry, setting, host_so_far, block_name, view_of, entry_so_far, entered, own_mark, does_count, noted, if_counts}
-use Rattle.conf_fold.proofs.BlockLemmas.{slice_get-front, slice_get-next, applies-kept, marks-kept, applies-new, each-kept, each-take, each-more, own-before, own-marked, active-marked, marks-entered}
+use Rattle.conf_reader.specs.Blocks.{Blocks}
+use Rattle.conf_fold.specs.Stands.{Stands, setting, host_so_far, block_name, view_of}
 
 -- ---- values
 

@@ -1,5 +1,5 @@
 -- What lines say, in parts.
-use Rattle.std.specs.Prelude.{Bool, true, List, Option, Result, Ok}
+use Rattle.std.specs.Prelude.{Bool, true, List, Option, Ok}
 use Rattle.conf_rules.specs.declared.key.Key.{Key}
 use Rattle.conf_rules.specs.declared.causes.Cause.TheVariants as causes
 use Rattle.conf_rules.specs.declared.entry.Entry.{Entry}

@@ -16,7 +16,7 @@ use Rattle.conf_rules.specs.Tokens.{View}
 use Rattle.conf_rules.specs.Includes.{UserFile}
 use Rattle.conf_rules.specs.Diagnostics.{is_fault}
 use Rattle.conf_rules.specs.Sources.{Line}
-use Rattle.conf_rules.specs.Rows.{Row, Pass, First, Second, Place, is_collected, values_among, word_in, number_in, but_none, given}
+use Rattle.conf_rules.specs.Rows.{Row, Pass, First, Second, is_collected, values_among, word_in, number_in, but_none, given}
 use Rattle.conf_rules.specs.Entries.{entry_of, headed_entry}
 use Rattle.conf_rules.specs.Resolution.{applies_at, start_of, host_from, host_at, wants_second, is_asked, is_past_limit, row_of, is_refused, refusal_at}
 use Rattle.conf_options.specs.Kept.{Given, Keeps}

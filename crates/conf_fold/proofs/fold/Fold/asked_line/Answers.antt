@@ -1,4 +1,4 @@
-use Rattle.std.proofs.Common.{◌≡◌, ◌∙◌, sym, ap, subst, refl, Ok}
+use Rattle.std.proofs.Common.{◌≡◌, subst, Ok}
 use Rattle.conf_rules.specs.Includes.{CommandLine}
 use Rattle.conf_rules.specs.Sources.{asked_line}
 use Rattle.conf_rules.specs.Entries.{content_entry}

@@ -1,4 +1,4 @@
-use Rattle.std.proofs.Common.{◌≡◌, ◌∙◌, sym, ap, Ok, Err, refl}
+use Rattle.std.proofs.Common.{Err, refl}
 use Rattle.conf_fold.specs.Results.{breaks_line, breaks_off}
 use Rattle.conf_fold.proofs.RefusedLemmas.{entry-refused, placed-refusal}
 use Rattle.conf_fold.proofs.RanLemmas.{ran-weaker, refused-ran, breaks-placed, cause-placed, no-cause}

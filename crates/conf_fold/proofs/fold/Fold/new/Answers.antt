@@ -1,7 +1,6 @@
-use Rattle.std.proofs.Common.{◌≡◌, ◌∙◌, ◌∷◌, ◌+◌, [], drop, length, sym, ap, subst, refl, arith}
+use Rattle.std.proofs.Common.{◌≡◌, ◌∙◌, ◌∷◌, ◌+◌, [], drop, length, sym, ap, subst, arith}
 use Rattle.std.proofs.Math.ListN.{drop_of_length-le}
 use Rattle.conf_rules.specs.declared.asked.Asked.{Asked}
-use Rattle.conf_rules.specs.declared.asked.AskedLine.{AskedLine}
 use Rattle.conf_fold.specs.Begins.{IsEmpty}
 use Rattle.conf_fold.proofs.AskedLemmas.{SoFar, begins, goes-on, stops, ends, next-asked}
 use Rattle.conf_fold.proofs.fold.Fold.new.Goals as goal

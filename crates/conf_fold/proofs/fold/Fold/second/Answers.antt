@@ -1,7 +1,6 @@
-use Rattle.std.proofs.Common.{◌≡◌, ◌∙◌, sym, ap, refl, Ok, Some, []}
-use Rattle.conf_fold.specs.declared.fold.Fold.{Fold}
+use Rattle.std.proofs.Common.{◌≡◌, refl}
 use Rattle.conf_fold.specs.Stands.{host_so_far}
-use Rattle.conf_fold.proofs.SecondLemmas.{second-begins, again_of}
+use Rattle.conf_fold.proofs.SecondLemmas.{second-begins}
 use Rattle.conf_fold.proofs.fold.Fold.second.Goals as goal
 
 pub returns-clause-second : goal.returns-clause-second

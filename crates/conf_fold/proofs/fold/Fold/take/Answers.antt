@@ -1,10 +1,8 @@
-use Rattle.std.proofs.Common.{◌≡◌, ◌∙◌, sym, ap, Ok, Err, true, false, take, ◌++◌, ◌∷◌, [], refl}
-use Rattle.conf_rules.specs.Patterns.{answer_of, is_yes}
+use Rattle.std.proofs.Common.{◌∙◌, ap, Ok, Err, false, take, ◌++◌, ◌∷◌, [], refl}
 use Rattle.conf_rules.specs.Evaluation.{verdict}
 use Rattle.conf_fold.specs.declared.fold.Fold.{Fold}
-use Rattle.conf_fold.specs.declared.errors.LineError.{LineError}
-use Rattle.conf_fold.specs.Results.{RanUnless, breaks_line}
-use Rattle.conf_fold.specs.Stands.{block_name, view_of}
+use Rattle.conf_fold.specs.Results.{breaks_line}
+use Rattle.conf_fold.specs.Stands.{view_of}
 use Rattle.conf_fold.proofs.FoldLemmas.{folds-nothing, folds-block, folds-tests}
 use Rattle.conf_fold.proofs.GiveLemmas.{folds-gives}
 use Rattle.conf_fold.proofs.RefusedLemmas.{tests-failed, gives-depth}
