@@ -64,17 +64,15 @@ asked-ran told pass rows place l = on (entry_of rows (asked_line l)) refl
 pub asked-quiet : (told : Told) (pass : Pass) (ls : List AskedLine) (rows : List Row) (place : ℕ) → commands (from told pass rows place (map asked_line ls)) ≡ commands rows
 unfolding rows_from
 asked-quiet told pass [] rows place = refl
-asked-quiet told pass (l ∷ ls) rows place = on (is_refused (next_row told pass rows place (asked_line l)).entry) refl
+asked-quiet told pass (l ∷ ls) rows place = on (is_refused (next_row told pass rows place (asked_line l)).entry) refl (asked-quiet told pass ls (rows ++ next_row told pass rows place (asked_line l) ∷ []) (place + 1))
   where
-    row : Row
-    row = next_row told pass rows place (asked_line l)
-
     quiet : commands (rows ++ next_row told pass rows place (asked_line l) ∷ []) ≡ commands rows
     quiet = commands-quiet rows (next_row told pass rows place (asked_line l)) (asked-ran told pass rows place l)
 
-    on : (t : Bool) → is_refused (next_row told pass rows place (asked_line l)).entry ≡ t → commands (from told pass rows place (map asked_line (l ∷ ls))) ≡ commands rows
-    on true h = ap commands (rows-end told pass rows place (asked_line l) (map asked_line ls) h) ∙ quiet
-    on false h = ap commands (rows-on told pass rows place (asked_line l) (map asked_line ls) h) ∙ asked-quiet told pass ls (rows ++ next_row told pass rows place (asked_line l) ∷ []) (place + 1) ∙ quiet
+    on : (t : Bool) → is_refused (next_row told pass rows place (asked_line l)).entry ≡ t → commands (from told pass (rows ++ next_row told pass rows place (asked_line l) ∷ []) (place + 1) (map asked_line ls)) ≡ commands (rows ++ next_row told pass rows place (asked_line l) ∷ [])
+        → commands (from told pass rows place (map asked_line (l ∷ ls))) ≡ commands rows
+    on true h later = ap commands (rows-end told pass rows place (asked_line l) (map asked_line ls) h) ∙ quiet
+    on false h later = ap commands (rows-on told pass rows place (asked_line l) (map asked_line ls) h) ∙ later ∙ quiet
 
 -- ---- commands that were run
 

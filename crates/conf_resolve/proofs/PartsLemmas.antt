@@ -33,7 +33,7 @@ some-one r rs x false k later h = rw k (later (rw (ok-none r.line r.entry k) at 
 
 pub any-refused : (rows : List Row) (e : ResolveError) → refusal_in rows ≡ Some e → list_any refuses rows ≡ true
 any-refused [] e h = absurd cc
-any-refused (r ∷ rs) e h = some-one r rs e (is_refused r.entry) refl (some-refused rs e) h
+any-refused (r ∷ rs) e h = some-one r rs e (is_refused r.entry) refl (any-refused rs e) h
 
 -- ---- lines in two parts
 

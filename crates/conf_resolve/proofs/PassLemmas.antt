@@ -5,6 +5,7 @@ use Rattle.std.specs.List.{list_any, slice_get}
 use Rattle.std.proofs.lemmas.List.{append-nil, length-append}
 use Rattle.std.proofs.lemmas.Grind.{flat_map-append}
 use Rattle.conf_rules.specs.declared.causes.Cause.{Cause}
+use Rattle.conf_rules.specs.declared.causes.Cause.TheVariants as causes
 use Rattle.conf_rules.specs.declared.causes.ResolveError.{ResolveError}
 use Rattle.conf_rules.specs.declared.causes.ResolveError.TheVariants as errors
 use Rattle.conf_rules.specs.declared.entry.Entry.{Entry}
@@ -28,6 +29,7 @@ use Rattle.conf_fold.proofs.BlockLemmas.{marks-kept, each-kept}
 use Rattle.conf_fold.proofs.RowLemmas.{or-false, given-more, wants-more, collected-more, take-next, none-collected}
 use Rattle.conf_fold.proofs.FoldLemmas.{gives-nothing}
 use Rattle.conf_fold.proofs.OrderLemmas.{from, refusal-behind, ok-none, some-refused, rows-on, rows-end, row-line, from-front}
+use Rattle.conf_resolve.specs.Causes.{of_files}
 use Rattle.conf_resolve.specs.Passes.{Commands, commands, AreAgain, StandsFor, Passes, final_rows, Begins, file_lines}
 use Rattle.conf_resolve.proofs.CommandLemmas.{commands-more, commands-quiet, idle-commands, refused-ran, ran-on, ran-some, ran-front}
 
@@ -219,6 +221,12 @@ pub reader-fails : (told : Told) (pass : Pass) (rows : List Row) (fold : Fold) (
 reader-fails told pass rows fold old new first start now u errors.OutOfMemory r = tt
 reader-fails told pass rows fold old new first start now u (errors.At file number cause) r = λ fault. reader-refused told pass fold old (final_rows told pass rows) first start now u file number cause (r fault)
 
+-- a fault of files is a fault as before
+pub of-reader : (told : Told) (pass : Pass) (rows : List Row) (new : Fold) (e : ResolveError) → Passes told pass rows new (Err e) → Passes told pass rows new (Err (of_files e))
+of-reader told pass rows new errors.OutOfMemory p = p
+of-reader told pass rows new (errors.At file number causes.RunFault) p = λ fault. absurd cc
+of-reader told pass rows new (errors.At file number cause) p = p
+
 -- ---- commands
 
 -- the commands of a row and of what may come behind it
@@ -305,3 +313,10 @@ all-ran told pass fold old final first start now before u idle began =
     let all = left told u.place u.blocks old in
     let a = idle-many told pass fold u.blocks all [] u.rows final u.place u.stands u.at u.none idle (subst (AreAgain told pass u.place) (sym (append-nil all)) u.again) (ap (rows_from told entry_of u.rows (record { pass = pass; line = u.place })) (append-nil all) ∙ u.final_is) in
     subst (RanAll before now) (sym a.ran ∙ ap commands a.final_is) (u.ran before began)
+
+-- where nothing was read
+pub start-ran : (told : Told) (pass : Pass) (rows : List Row) (before now : Commands) → RanAll before now (commands rows) → RanSome before now (commands (final_rows told pass rows))
+start-ran told pass rows before now r =
+    let front = from-front told pass (file_lines told) rows (length told.asked.lines) in
+    let is : commands (final_rows told pass rows) ≡ commands rows ++ commands front.0 = ap commands front.1 ∙ flat_map-append (λ r. r.ran) rows front.0 in
+    subst (RanSome before now) (sym is) (ran-front before now (commands rows) (commands front.0) r)

@@ -40,7 +40,7 @@ asked-length told none = let k = rows-length told First (map asked_line told.ask
 pub first-begins : (told : Told) (fold : Fold) → Stands told First fold (asked_rows told) [] → refusal_in (asked_rows told) ≡ None → Begins told First fold (asked_rows told)
 first-begins told fold s none = record {
   stands = s;
-  at = asked-length told none;
+  at = let k = asked-length told none in omega (arith, k);
   none = none;
   again = again-first told _ _;
 }
@@ -143,18 +143,21 @@ take-front : (xs ys : List Row) → take (length xs) (xs ++ ys) ≡ xs
 take-front [] ys = refl
 take-front (x ∷ xs) ys = ap (λ zs. x ∷ zs) (take-front xs ys)
 
+row-again : (told : Told) (rows full : List Row) (place : ℕ) (x : Line) → take place full ≡ rows → next_row told First rows place x ≡ row_of told entry_of (take place full) (record { pass = First; line = place }) x
+unfolding next_row
+row-again told rows full place x e = ap (λ rs. row_of told entry_of rs (record { pass = First; line = place }) x) (sym e)
+
 -- each line of the first pass is given again
 again-all : (told : Told) (full : List Row) (lines : List Line) (rows : List Row) (place : ℕ) → place ≡ length rows → refusal_in rows ≡ None → refusal_in full ≡ None → full ≡ from told First rows place lines → AreAgain told (Second full) place lines
 unfolding rows_from
 again-all told full [] rows place at none all is = tt
-again-all told full (x ∷ xs) rows place at none all is = on (is_refused (next_row told First rows place x).entry) refl
+again-all told full (x ∷ xs) rows place at none all is = on (is_refused (next_row told First rows place x).entry) refl (again-all told full xs (rows ++ next_row told First rows place x ∷ []) (place + 1))
   where
-    row : Row
-    row = next_row told First rows place x
-
-    on : (t : Bool) → is_refused (next_row told First rows place x).entry ≡ t → AreAgain told (Second full) place (x ∷ xs)
-    on true h = absurd (ends-refused told First rows place x xs none h (ap refusal_in (sym is) ∙ all))
-    on false h =
+    on : (t : Bool) → is_refused (next_row told First rows place x).entry ≡ t
+        → (place + 1 ≡ length (rows ++ next_row told First rows place x ∷ []) → refusal_in (rows ++ next_row told First rows place x ∷ []) ≡ None → refusal_in full ≡ None → full ≡ from told First (rows ++ next_row told First rows place x ∷ []) (place + 1) xs → AreAgain told (Second full) (place + 1) xs)
+        → AreAgain told (Second full) place (x ∷ xs)
+    on true h more = absurd (ends-refused told First rows place x xs none h (ap refusal_in (sym is) ∙ all))
+    on false h more =
         let row = next_row told First rows place x in
         let later : full ≡ from told First (rows ++ row ∷ []) (place + 1) xs = is ∙ rows-on told First rows place x xs h in
         let front = from-front told First xs (rows ++ row ∷ []) (place + 1) in
@@ -163,11 +166,7 @@ again-all told full (x ∷ xs) rows place at none all is = on (is_refused (next_
         let here : slice_get full place ≡ Some row = ap (slice_get full) at ∙ ap (λ rs. slice_get rs (length rows)) parts ∙ slice_get-next rows row front.0 in
         let size : place + 1 ≡ length (rows ++ row ∷ []) = let k = length-append rows (row ∷ []) in omega (arith, at, k) in
         let low : refusal_in (rows ++ row ∷ []) ≡ None = (none-parts (rows ++ row ∷ []) front.0 (ap refusal_in (sym (later ∙ front.1)) ∙ all)).0 in
-        (here ∙ ap (λ x. Some x) (row-again told rows full place x before), again-all told full xs (rows ++ row ∷ []) (place + 1) size low all later)
-
-    row-again : (told : Told) (rows full : List Row) (place : ℕ) (x : Line) → take place full ≡ rows → next_row told First rows place x ≡ row_of told entry_of (take place full) (record { pass = First; line = place }) x
-    unfolding next_row
-    row-again told rows full place x e = ap (λ rs. row_of told entry_of rs (record { pass = First; line = place }) x) (sym e)
+        (here ∙ ap (λ x. Some x) (row-again told rows full place x before), more size low all later)
 
 -- the second pass begins
 pub second-begins : (told : Told) (new : Fold) → refusal_in (asked_rows told) ≡ None → refusal_in (first_rows told) ≡ None → SecondBegins told (first_rows told) new true → Begins told (Second (first_rows told)) new (asked_again told (first_rows told))
@@ -247,3 +246,17 @@ second-start told before now none r =
 
 pub twice-ran : (told : Told) (mid : Fold) (b : Bool) (before now : Commands) → refusal_in (first_rows told) ≡ None → SecondBegins told (first_rows told) mid true → RanUnless b before now (commands (final_rows told (Second (first_rows told)) (asked_again told (first_rows told)))) → RanUnless b before now (execs told)
 twice-ran told mid b before now none s r = subst (λ rs. RanUnless b before now (commands rs)) (twice-all told mid none s) r
+
+-- ---- the end
+
+-- the refusal of both passes is that of the resolution
+pub over : (told : Told) (new : Fold) (e : ResolveError) → BothPass told new (Err e) → Resolved told (Err e)
+over told new errors.OutOfMemory b = tt
+over told new (errors.At file number cause) b = b
+
+same-break : (e : ResolveError) → breaks_off {A = Unit {0}} (Err e) ≡ breaks_off {A = List Given} (Err e)
+same-break errors.OutOfMemory = refl
+same-break (errors.At file number cause) = refl
+
+pub over-err : (e : ResolveError) (before now : Commands) (cs : List (List ℕ)) → RanUnless (breaks_off {A = Unit {0}} (Err e)) before now cs → RanUnless (breaks_off {A = List Given} (Err e)) before now cs
+over-err e before now cs r = subst (λ b. RanUnless b before now cs) (same-break e) r

@@ -2,6 +2,6 @@
 //! `resolve` gives the lines of `LineReader` to a `Fold`, once, or twice where some `Match` line has the criterion `final`.
 #![tactic(auto)]
 
-mod resolve;
+mod resolution;
 
-pub use resolve::resolve;
+pub use resolution::resolve;

@@ -1,4 +1,4 @@
-use Rattle.std.proofs.Common.{◌≡◌, ◌≤◌, ◌-◌, ◌×◌, ℕ, List, length}
+use Rattle.std.proofs.Common.{◌≡◌, ◌≤◌, ◌-◌, ℕ, List, length}
 use Rattle.conf_rules.specs.Told.{Told}
 use Rattle.conf_rules.specs.Rows.{Row, Pass}
 use Rattle.conf_match.specs.Evaluated.{TellsStatus}
@@ -7,7 +7,7 @@ use Rattle.conf_reader.specs.Left.{Bounded}
 use Rattle.conf_tokens.specs.Known.{known}
 use Rattle.conf_resolve.specs.Passes.{Begins, final_rows}
 use Rattle.conf_resolve.proofs.PassLemmas.{Underway}
-use Rattle.conf_resolve.proofs.resolve.pass.Given as goal
+use Rattle.conf_resolve.proofs.resolution.pass.Given as goal
 
 abbrev pub invariant-loop-line : goal.invariant-loop-line
 invariant-loop-line g l = record {
