@@ -105,4 +105,3 @@ returns-in-Err-next-clause-ran g c = λ told pass rows before asked facts tells 
     (reader-ran told pass c.loop-line.fold c.loop-line.reader.lines c.next.new.self.lines (final_rows told pass rows) rows _ _ before u c.in-Err-next.e
     (c.in-Err-next.ensures.reads told u.place u.blocks (rw c.loop-line.invariant.files tells) (facts ∙ sym c.loop-line.invariant.facts) (ap (λ (a : Asked). a.original) asked ∙ sym c.loop-line.invariant.original) u.count u.bounded)
     began)
-
