@@ -1,0 +1,97 @@
+-- A value that is given again changes nothing that is kept, where its key doesn't collect.
+use Rattle.std.proofs.Common.{◌≡◌, Bool, true, false, cond, List, [], ◌∷◌, ◌++◌, Some, refl, sym, ap, ◌∙◌}
+use Rattle.std.specs.List.{list_any, slice_get}
+use Rattle.std.proofs.lemmas.List.{append-nil}
+use Rattle.conf_rules.specs.declared.key.Key.{Key}
+use Rattle.conf_rules.specs.declared.value.Value.{Value}
+use Rattle.conf_rules.specs.Keys.{same_key}
+use Rattle.conf_rules.specs.Kinds.{Keeping, TheFirst, Every, Patterns, Shared, keeping}
+use Rattle.conf_rules.specs.Rows.{values_among, first_of, is_shared, shared_value, one_value, kept, is_collected}
+use Rattle.conf_options.specs.Kept.{Given, Keeps}
+use Rattle.conf_rules.proofs.SameKeys.{same-key}
+use Rattle.conf_options.proofs.OfferLemmas.{among-append}
+
+-- whether a key has a value
+abbrev pub has_key : Key → List Given → Bool
+has_key key all = list_any (λ g. same_key key g.0) all
+
+-- ---- another key
+
+other-one : (k key : Key) (v : Value) → same_key k key ≡ false → values_among k ((key, v) ∷ []) ≡ []
+other-one k key v e = rw e refl
+
+other-more : (k key : Key) (v : Value) (all : List Given) → same_key k key ≡ false → values_among k (all ++ (key, v) ∷ []) ≡ values_among k all
+other-more k key v all e = among-append k all ((key, v) ∷ []) ∙ ap (λ l. values_among k all ++ l) (other-one k key v e) ∙ append-nil (values_among k all)
+
+shared-other : (k key : Key) (v : Value) (all : List Given) → same_key k key ≡ false → shared_value k (all ++ (key, v) ∷ []) ≡ shared_value k all
+shared-other k key v [] e = rw e (on (is_shared key))
+  where
+    none : List Value
+    none = []
+
+    on : (t : Bool) → cond t none none ≡ none
+    on true = refl
+    on false = refl
+shared-other k key v (g ∷ gs) e = ap (λ l. cond (is_shared g.0) (cond (same_key k g.0) (g.1 ∷ []) []) l) (shared-other k key v gs e)
+
+kept-other : (how : Keeping) (k key : Key) (v : Value) (all : List Given) → same_key k key ≡ false → kept how k (all ++ (key, v) ∷ []) ≡ kept how k all
+kept-other TheFirst k key v all e = ap first_of (other-more k key v all e)
+kept-other Every k key v all e = other-more k key v all e
+kept-other Patterns k key v all e = ap one_value (other-more k key v all e)
+kept-other Shared k key v all e = shared-other k key v all e
+
+-- ---- the key itself
+
+first-stays : (vs ws : List Value) (v : Value) (more : List Value) → vs ≡ v ∷ more → first_of (vs ++ ws) ≡ first_of vs
+first-stays vs ws v more e = rw e refl
+
+has-among : (key : Key) (all : List Given) → has_key key all ≡ true → (v : Value) × ((more : List Value) × (values_among key all ≡ v ∷ more))
+has-among key [] h = absurd cc
+has-among key (g ∷ gs) h = on (same_key key g.0) refl (has-among key gs)
+  where
+    on : (t : Bool) → same_key key g.0 ≡ t → (has_key key gs ≡ true → (v : Value) × ((more : List Value) × (values_among key gs ≡ v ∷ more))) → (v : Value) × ((more : List Value) × (values_among key (g ∷ gs) ≡ v ∷ more))
+    on true s later = (g.1, (values_among key gs, rw s refl))
+    on false s later = let k : has_key key gs ≡ true = rw s at h in let r = later k in (r.0, (r.1.0, rw s r.1.1))
+
+first-again : (key : Key) (v : Value) (all : List Given) → has_key key all ≡ true → first_of (values_among key (all ++ (key, v) ∷ [])) ≡ first_of (values_among key all)
+first-again key v all h = let r = has-among key all h in ap first_of (among-append key all ((key, v) ∷ [])) ∙ first-stays (values_among key all) (values_among key ((key, v) ∷ [])) r.0 r.1.0 r.1.1
+
+-- the shared place is set by the first that sets it
+shared-again : (k key : Key) (v : Value) (all : List Given) → is_shared key ≡ true → has_key key all ≡ true → shared_value k (all ++ (key, v) ∷ []) ≡ shared_value k all
+shared-again k key v [] s h = absurd cc
+shared-again k key v (g ∷ gs) s h = on (is_shared g.0) refl (shared-again k key v gs s)
+  where
+    apart : (t : Bool) → same_key key g.0 ≡ t → is_shared g.0 ≡ false → has_key key gs ≡ true
+    apart true e f = absurd (let same : key ≡ g.0 = same-key key g.0 e in let both : is_shared key ≡ false = ap is_shared same ∙ f in let k : true ≡ false = sym s ∙ both in cc)
+    apart false e f = rw e at h
+
+    on : (t : Bool) → is_shared g.0 ≡ t → (has_key key gs ≡ true → shared_value k (gs ++ (key, v) ∷ []) ≡ shared_value k gs) → shared_value k (g ∷ (gs ++ (key, v) ∷ [])) ≡ shared_value k (g ∷ gs)
+    on true e later = rw e refl
+    on false e later = rw e (later (apart (same_key key g.0) refl e))
+
+kept-same : (how : Keeping) (key : Key) (v : Value) (all : List Given) → keeping key ≡ how → is_collected key ≡ false → has_key key all ≡ true → kept how key (all ++ (key, v) ∷ []) ≡ kept how key all
+kept-same TheFirst key v all e c h = first-again key v all h
+kept-same Every key v all e c h = absurd (let k : is_collected key ≡ true = rw (e, is_collected) refl in let b : true ≡ false = sym k ∙ c in cc)
+kept-same Patterns key v all e c h = absurd (let k : is_collected key ≡ true = rw (e, is_collected) refl in let b : true ≡ false = sym k ∙ c in cc)
+kept-same Shared key v all e c h = shared-again key key v all (rw (e, is_shared) refl) h
+
+kept-again : (k key : Key) (v : Value) (all : List Given) (t : Bool) → same_key k key ≡ t → is_collected key ≡ false → has_key key all ≡ true → kept (keeping k) k (all ++ (key, v) ∷ []) ≡ kept (keeping k) k all
+kept-again k key v all true e c h = let same : k ≡ key = same-key k key e in rw same (kept-same (keeping key) key v all refl c h)
+kept-again k key v all false e c h = kept-other (keeping k) k key v all e
+
+-- settings keep what was given behind a value that is given again
+pub keeps-again : (settings all : List Given) (key : Key) (v : Value) → is_collected key ≡ false → has_key key all ≡ true → Keeps settings all → Keeps settings (all ++ (key, v) ∷ [])
+keeps-again settings all key v c h s = record { each = λ k. s.each k ∙ sym (kept-again k key v all (same_key k key) refl c h) }
+
+-- ---- a key whose first value counts
+
+first-front : (key : Key) (all more : List Given) (v : Value) → slice_get (first_of (values_among key all)) 0 ≡ Some v → slice_get (first_of (values_among key (all ++ more))) 0 ≡ Some v
+first-front key all more v e = on (values_among key all) refl e
+  where
+    on : (vs : List Value) → values_among key all ≡ vs → slice_get (first_of vs) 0 ≡ Some v → slice_get (first_of (values_among key (all ++ more))) 0 ≡ Some v
+    on [] is e = absurd cc
+    on (w ∷ ws) is e = rw (among-append key all more, is) e
+
+pub value-front : (how : Keeping) (key : Key) (all more : List Given) (v : Value) → how ≡ TheFirst → slice_get (kept how key all) 0 ≡ Some v → slice_get (kept how key (all ++ more)) 0 ≡ Some v
+value-front TheFirst key all more v e h = first-front key all more v h
+value-front how key all more v e h = absurd cc

@@ -1,0 +1,12 @@
+pub mod BlockLemmas
+pub mod SeenLemmas
+pub mod EntryLemmas
+pub mod RowLemmas
+pub mod FoldLemmas
+pub mod GiveLemmas
+pub mod RefusedLemmas
+pub mod RanLemmas
+pub mod AgainLemmas
+pub mod OrderLemmas
+pub mod AskedLemmas
+pub mod SecondLemmas

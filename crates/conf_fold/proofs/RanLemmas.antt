@@ -1,0 +1,152 @@
+-- Which commands a line runs, and where a fault comes from.
+use Rattle.std.proofs.Common.{◌≡◌, ◌≤◌, ℕ, Bool, true, false, List, [], take, Option, Some, None, Result, Ok, Err, refl, sym, ap, subst, ◌∙◌, arith}
+use Rattle.std.specs.List.{list_all}
+use Rattle.std.proofs.lemmas.List.{append-nil}
+use Rattle.mux_outside.specs.Counts.{Rose}
+use Rattle.conf_rules.specs.declared.criterion.Criterion.{Criterion}
+use Rattle.conf_rules.specs.declared.causes.Cause.{Cause}
+use Rattle.conf_rules.specs.declared.causes.Cause.TheVariants as causes
+use Rattle.conf_rules.specs.declared.causes.TokenError.{TokenError}
+use Rattle.conf_rules.specs.declared.causes.ResolveError.{ResolveError}
+use Rattle.conf_rules.specs.declared.causes.ResolveError.TheVariants as resolve_errors
+use Rattle.conf_rules.specs.declared.entry.Entry.{Entry}
+use Rattle.conf_rules.specs.declared.entry.Entry.TheVariants.{Nothing, Block, Tests, Gives}
+use Rattle.conf_rules.specs.Texts.{Bytes}
+use Rattle.conf_rules.specs.Told.{Told}
+use Rattle.conf_rules.specs.Diagnostics.{is_fault}
+use Rattle.conf_rules.specs.Evaluation.{verdict}
+use Rattle.conf_rules.specs.Sources.{Line}
+use Rattle.conf_rules.specs.Rows.{Row, Pass}
+use Rattle.conf_rules.specs.Entries.{entry_of}
+use Rattle.conf_rules.specs.Resolution.{seen_at, is_active, effect_of, tested}
+use Rattle.conf_match.specs.Evaluated.{RanAll, RanSome}
+use Rattle.conf_reader.specs.declared.line.ConfLine.{ConfLine}
+use Rattle.conf_reader.specs.Blocks.{Blocks}
+use Rattle.conf_fold.specs.declared.fold.Fold.{Fold}
+use Rattle.conf_fold.specs.declared.errors.LineError.{LineError}
+use Rattle.conf_fold.specs.declared.errors.LineError.TheVariants as line_errors
+use Rattle.conf_fold.specs.Results.{Refuses, RanUnless, breaks_line, breaks_off, HasLineCause, HasRunCause, is_line_fault, FailsLine}
+use Rattle.conf_fold.specs.Stands.{Stands, IsNext, next_row, entry_so_far, view_of}
+use Rattle.conf_fold.proofs.SeenLemmas.{view-same}
+use Rattle.conf_fold.proofs.EntryLemmas.{entry-same}
+use Rattle.conf_fold.proofs.RowLemmas.{said, row-said}
+use Rattle.conf_fold.proofs.FoldLemmas.{tests-active}
+
+-- commands that were run, where they are told
+abbrev pub Commands : Type 0
+Commands = Option (List Bytes)
+
+-- ---- no command
+
+none-behind : (old : Commands) → RanAll old old []
+none-behind None = refl
+none-behind (Some cs) = ap (λ x. Some x) (sym (append-nil cs))
+
+pub ran-none : (b : Bool) (old new : Commands) (commands : List Bytes) → commands ≡ [] → new ≡ old → RanUnless b old new commands
+ran-none true old new commands h k = record { done = []; others = []; parts = h; ran = k ∙ none-behind old }
+ran-none false old new commands h k = rw (h, k) (none-behind old)
+
+-- a call that did what it had to, and broke off later
+pub ran-weaker : (b c : Bool) (old new : Commands) (commands : List Bytes) → (b ≡ true → c ≡ true) → RanUnless b old new commands → RanUnless c old new commands
+ran-weaker true true old new commands h r = r
+ran-weaker true false old new commands h r = absurd (let k = h refl in cc)
+ran-weaker false true old new commands h r = record { done = commands; others = []; parts = sym (append-nil commands); ran = r }
+ran-weaker false false old new commands h r = r
+
+-- ---- the commands of a row
+
+-- what is no Match line runs nothing
+pub effect-quiet : (told : Told) (pass : Pass) (rows : List Row) (active : Bool) (e : Entry) → ((cs : List Criterion) → e ≡ Tests cs → ⊥) → (effect_of told pass rows active (Ok e)).ran ≡ []
+effect-quiet told pass rows true Nothing h = refl
+effect-quiet told pass rows false Nothing h = refl
+effect-quiet told pass rows true (Block ps) h = refl
+effect-quiet told pass rows false (Block ps) h = refl
+effect-quiet told pass rows true (Gives k v) h = refl
+effect-quiet told pass rows false (Gives k v) h = refl
+effect-quiet told pass rows active (Tests cs) h = absurd (h cs refl)
+
+pub quiet-row : (told : Told) (pass : Pass) (fold : Fold) (rows : List Row) (blocks : Blocks) (l : ConfLine) (place : ℕ) (line : Line) (e : Entry)
+    → Stands told pass fold rows blocks → IsNext told pass rows blocks l place line → entry_so_far fold l ≡ Ok e → ((cs : List Criterion) → e ≡ Tests cs → ⊥) → (next_row told pass rows place line).ran ≡ []
+unfolding said
+quiet-row told pass fold rows blocks l place line e s n h other =
+    let says : entry_of rows line ≡ Ok e = entry-same told pass fold rows blocks line l s n.is_line ∙ h in
+    ap (λ (r : Row). r.ran) (row-said told pass rows blocks l place line e n says) ∙ effect-quiet told pass rows (is_active rows pass line) e other
+
+tested-ran : (h : Result Bool TokenError) (ran : List Bytes) (cs : List Criterion) → (tested (record { holds = h; ran = ran }) (Tests cs)).ran ≡ ran
+tested-ran (Ok b) ran cs = refl
+tested-ran (Err e) ran cs = refl
+
+tests-run : (told : Told) (pass : Pass) (rows : List Row) (active : Bool) (cs : List Criterion) → active ≡ true → (effect_of told pass rows active (Ok (Tests cs))).ran ≡ (verdict told.status (seen_at told pass rows) cs).ran
+tests-run told pass rows true cs h = tested-ran (verdict told.status (seen_at told pass rows) cs).holds _ cs
+tests-run told pass rows false cs h = absurd cc
+
+tests-idle : (told : Told) (pass : Pass) (rows : List Row) (active : Bool) (cs : List Criterion) → active ≡ false → (effect_of told pass rows active (Ok (Tests cs))).ran ≡ []
+tests-idle told pass rows true cs h = absurd cc
+tests-idle told pass rows false cs h = refl
+
+-- a Match line runs what its criteria reach, where it is active
+pub tests-ran : (told : Told) (pass : Pass) (fold : Fold) (rows : List Row) (blocks : Blocks) (l : ConfLine) (place : ℕ) (line : Line) (cs : List Criterion) (t b : Bool) (old new : Commands)
+    → Stands told pass fold rows blocks → IsNext told pass rows blocks l place line → entry_so_far fold l ≡ Ok (Tests cs) → t ≡ list_all (λ m. m) (take l.depth fold.applies)
+    → (t ≡ true → RanUnless b old new (verdict told.status (view_of fold told.facts) cs).ran) → (t ≡ false → new ≡ old)
+    → RanUnless b old new (next_row told pass rows place line).ran
+unfolding said
+tests-ran told pass fold rows blocks l place line cs t b old new s n e a ran quiet =
+    let says : entry_of rows line ≡ Ok (Tests cs) = entry-same told pass fold rows blocks line l s n.is_line ∙ e in
+    let active : is_active rows pass line ≡ t = tests-active told pass fold rows blocks line l cs s n.is_line e ∙ sym a in
+    let row = ap (λ (r : Row). r.ran) (row-said told pass rows blocks l place line (Tests cs) n says) in
+    on t refl active row
+  where
+    on : (u : Bool) → t ≡ u → is_active rows pass line ≡ t → (next_row told pass rows place line).ran ≡ (effect_of told pass rows (is_active rows pass line) (Ok (Tests cs))).ran → RanUnless b old new (next_row told pass rows place line).ran
+    on true is active row =
+        let commands : (verdict told.status (view_of fold told.facts) cs).ran ≡ (next_row told pass rows place line).ran =
+        ap (λ v. (verdict told.status v cs).ran) (view-same told pass fold rows blocks s) ∙ sym (row ∙ tests-run told pass rows (is_active rows pass line) cs (active ∙ is)) in
+        subst (RanUnless b old new) commands (ran is)
+    on false is active row = ran-none b old new _ (row ∙ tests-idle told pass rows (is_active rows pass line) cs (active ∙ is)) (quiet is)
+
+refused-quiet : (told : Told) (pass : Pass) (rows : List Row) (active : Bool) (c : Cause) → (effect_of told pass rows active (Err c)).ran ≡ []
+refused-quiet told pass rows true c = refl
+refused-quiet told pass rows false c = refl
+
+some-broken : (old new : Commands) (commands : List Bytes) → new ≡ old → RanSome old new commands
+some-broken old new commands k = record { done = []; others = commands; parts = refl; ran = k ∙ none-behind old }
+
+-- a line that says nothing that can be read runs nothing
+pub refused-ran : (told : Told) (pass : Pass) (fold : Fold) (rows : List Row) (blocks : Blocks) (l : ConfLine) (place : ℕ) (line : Line) (e : LineError) (old new : Commands)
+    → Stands told pass fold rows blocks → IsNext told pass rows blocks l place line → FailsLine e (entry_so_far fold l) → new ≡ old → RanUnless (breaks_line {A = Unit {0}} (Err e)) old new (next_row told pass rows place line).ran
+unfolding next_row Rattle.conf_rules.specs.Resolution.row_of
+refused-ran told pass fold rows blocks l place line line_errors.OutOfMemory old new s n f k = some-broken old new _ k
+refused-ran told pass fold rows blocks l place line (line_errors.Refused c) old new s n f k =
+    let says : entry_of rows line ≡ Err c = entry-same told pass fold rows blocks line l s n.is_line ∙ f in
+    ran-none (is_fault c) old new _ (rw (n.within, says) (refused-quiet told pass rows (is_active rows pass line) c)) k
+
+-- ---- the place of a refusal
+
+pub breaks-placed : (e : LineError) (file : Bytes) (number : ℕ) (d : ResolveError) → Refuses e file number d → breaks_line {A = Unit {0}} (Err e) ≡ true → breaks_off {A = Unit {0}} (Err d) ≡ true
+breaks-placed e file number resolve_errors.OutOfMemory r h = refl
+breaks-placed line_errors.OutOfMemory file number (resolve_errors.At f n c) r h = absurd cc
+breaks-placed (line_errors.Refused cause) file number (resolve_errors.At f n c) r h = let same : c ≡ cause = cc in ap is_fault same ∙ h
+
+risen : (before now : ℕ) → Rose before now → before ≤ now
+risen before now r = r.later
+
+placed-cause : (c : Cause) (file : Bytes) (number before now : ℕ) → HasLineCause {A = Unit {0}} (Err (line_errors.Refused c)) before now → HasRunCause {A = Unit {0}} (Err (resolve_errors.At file number c)) before now
+placed-cause causes.RunFault file number before now h = h
+placed-cause causes.ReadFault file number before now h = h
+placed-cause c file number before now h = h
+
+lost-cause : (c : Cause) (before now : ℕ) → HasLineCause {A = Unit {0}} (Err (line_errors.Refused c)) before now → before ≤ now
+lost-cause causes.RunFault before now h = risen before now h
+lost-cause causes.ReadFault before now h = absurd h
+lost-cause c before now h = omega (arith, h)
+
+pub cause-placed : (e : LineError) (file : Bytes) (number before now : ℕ) (d : ResolveError) → Refuses e file number d → HasLineCause {A = Unit {0}} (Err e) before now → HasRunCause {A = Unit {0}} (Err d) before now
+cause-placed line_errors.OutOfMemory file number before now d r h = rw r (let k : now ≡ before = h in omega (arith, k))
+cause-placed (line_errors.Refused c) file number before now resolve_errors.OutOfMemory r h = lost-cause c before now h
+cause-placed (line_errors.Refused c) file number before now (resolve_errors.At f n d) r h = subst (λ x. HasRunCause {A = Unit {0}} (Err x) before now) (sym r) (placed-cause c file number before now h)
+
+-- where no fault is, the count stays
+pub no-cause : (e : LineError) (before now : ℕ) → is_line_fault e ≡ false → now ≡ before → HasLineCause {A = Unit {0}} (Err e) before now
+no-cause line_errors.OutOfMemory before now f h = h
+no-cause (line_errors.Refused causes.RunFault) before now f h = absurd cc
+no-cause (line_errors.Refused causes.ReadFault) before now f h = absurd cc
+no-cause (line_errors.Refused c) before now f h = h

@@ -1,0 +1,67 @@
+use Rattle.std.proofs.Common.{◌∙◌, ap, Ok, Err, false, take, ◌++◌, ◌∷◌, [], refl}
+use Rattle.conf_rules.specs.Evaluation.{verdict}
+use Rattle.conf_fold.specs.declared.fold.Fold.{Fold}
+use Rattle.conf_fold.specs.Results.{breaks_line}
+use Rattle.conf_fold.specs.Stands.{view_of}
+use Rattle.conf_fold.proofs.FoldLemmas.{folds-nothing, folds-block, folds-tests}
+use Rattle.conf_fold.proofs.GiveLemmas.{folds-gives}
+use Rattle.conf_fold.proofs.RefusedLemmas.{tests-failed, gives-depth}
+use Rattle.conf_fold.proofs.RanLemmas.{ran-none, ran-weaker, quiet-row, tests-ran}
+use Rattle.conf_fold.proofs.fold.Fold.take.Goals as goal
+
+pub returns-in_ok-enter-in-Nothing-clause-folds : goal.returns-in_ok-enter-in-Nothing-clause-folds
+returns-in_ok-enter-in-Nothing-clause-folds g c = λ told pass rows blocks place l facts status s n e.
+    folds-nothing told pass c.args.self.now _ rows blocks c.args.line.now place l s n (e ∙ ap (λ x. Ok x) c.in-Nothing.is) c.requires.known c.in_ok-enter-in-Nothing.ensures.ok
+
+pub returns-in_ok-enter-in-Nothing-clause-ran : goal.returns-in_ok-enter-in-Nothing-clause-ran
+returns-in_ok-enter-in-Nothing-clause-ran g c = λ told pass rows blocks place l facts status s n e.
+    ran-none false _ _ _ (quiet-row told pass c.args.self.now rows blocks c.args.line.now place l _ s n (e ∙ ap (λ x. Ok x) c.in-Nothing.is) (λ cs h. cc)) refl
+
+pub returns-in_ok-open-in-Block-clause-folds : goal.returns-in_ok-open-in-Block-clause-folds
+returns-in_ok-open-in-Block-clause-folds g c = λ told pass rows blocks place l facts status s n e.
+    folds-block told pass c.args.self.now _ rows blocks c.args.line.now place l _ s n (e ∙ ap (λ x. Ok x) c.in-Block.is)
+    (c.in_ok-open-in-Block.ensures.ok ∙ ap (λ b. record c.args.self.now { applies = take c.args.line.now.depth c.args.self.now.applies ++ b ∷ [] }) c.names_it-applies.ensures)
+
+pub returns-in_ok-open-in-Block-clause-ran : goal.returns-in_ok-open-in-Block-clause-ran
+returns-in_ok-open-in-Block-clause-ran g c = λ told pass rows blocks place l facts status s n e.
+    ran-none false _ _ _ (quiet-row told pass c.args.self.now rows blocks c.args.line.now place l _ s n (e ∙ ap (λ x. Ok x) c.in-Block.is) (λ cs h. cc)) refl
+
+pub returns-in_ok-open-in-Tests-clause-folds : goal.returns-in_ok-open-in-Tests-clause-folds
+returns-in_ok-open-in-Tests-clause-folds g c = λ told pass rows blocks place l facts status s n e.
+    folds-tests told pass c.args.self.now _ rows blocks c.args.line.now place l _ c.in-Ok.applies s n (e ∙ ap (λ x. Ok x) c.in-Tests.is)
+    (λ a. ap (λ f. (verdict told.status (view_of c.args.self.now f) c.in-Tests.criteria).holds) facts ∙ c.in-Ok.ensures.held told.status status (c.all_before-active.ensures ∙ a))
+    (λ a. let h = c.in-Ok.ensures.idle (c.all_before-active.ensures ∙ a) in cc)
+    (c.in_ok-open-in-Tests.ensures.ok ∙ ap (λ (f : Fold). record f { applies = take c.args.line.now.depth f.applies ++ c.in-Ok.applies ∷ [] }) c.ask.ensures)
+
+pub returns-in_ok-open-in-Tests-clause-ran : goal.returns-in_ok-open-in-Tests-clause-ran
+returns-in_ok-open-in-Tests-clause-ran g c = λ told pass rows blocks place l facts status s n e.
+    tests-ran told pass c.args.self.now rows blocks c.args.line.now place l _ c.all_before-active.result false _ _ s n (e ∙ ap (λ x. Ok x) c.in-Tests.is) c.all_before-active.ensures
+    (λ a. rw facts (c.in-Ok.ensures.ran told.status status a)) c.in-Ok.ensures.quiet
+
+pub returns-in_err-open-in-Tests-clause-ran : goal.returns-in_err-open-in-Tests-clause-ran
+returns-in_err-open-in-Tests-clause-ran g c = λ told pass rows blocks place l facts status s n e.
+    ran-weaker false (breaks_line c.from_residual-in_err-open-in-Tests.result) _ _ _ (λ h. absurd cc)
+    (tests-ran told pass c.args.self.now rows blocks c.args.line.now place l _ c.all_before-active.result false _ _ s n (e ∙ ap (λ x. Ok x) c.in-Tests.is) c.all_before-active.ensures
+    (λ a. rw facts (c.in-Ok.ensures.ran told.status status a)) c.in-Ok.ensures.quiet)
+
+pub returns-in-Err-clause-folds : goal.returns-in-Err-clause-folds
+returns-in-Err-clause-folds g c = λ told pass rows blocks place l facts status s n e.
+    tests-failed told pass c.args.self.now _ rows blocks c.args.line.now place l _ _ c.all_before-active.result s n (e ∙ ap (λ x. Ok x) c.in-Tests.is) c.all_before-active.ensures
+    (λ a. rw facts (c.in-Err.ensures.held told.status status a))
+    c.in-Err.ensures.idle
+
+pub returns-in-Err-clause-ran : goal.returns-in-Err-clause-ran
+returns-in-Err-clause-ran g c = λ told pass rows blocks place l facts status s n e.
+    tests-ran told pass c.args.self.now rows blocks c.args.line.now place l _ c.all_before-active.result (breaks_line {A = Unit {0}} (Err c.in-Err.e)) _ _ s n (e ∙ ap (λ x. Ok x) c.in-Tests.is) c.all_before-active.ensures
+    (λ a. rw facts (c.in-Err.ensures.ran told.status status a)) c.in-Err.ensures.quiet
+
+pub returns-in_ok-give-in-Gives-clause-folds : goal.returns-in_ok-give-in-Gives-clause-folds
+returns-in_ok-give-in-Gives-clause-folds g c = λ told pass rows blocks place l facts status s n e.
+    folds-gives told pass c.args.self.now _ _ rows blocks c.args.line.now place l _ _ _ s n (e ∙ ap (λ x. Ok x) c.in-Gives.is) c.requires.known c.is_active-active.ensures c.in_ok-enter-in-Gives.ensures.ok c.in_ok-give-in-Gives.ensures.keeps c.in_ok-give-in-Gives.ensures.others
+
+pub returns-in_ok-give-in-Gives-clause-ran : goal.returns-in_ok-give-in-Gives-clause-ran
+returns-in_ok-give-in-Gives-clause-ran g c = λ told pass rows blocks place l facts status s n e.
+    ran-none false _ _ _ (quiet-row told pass c.args.self.now rows blocks c.args.line.now place l _ s n (e ∙ ap (λ x. Ok x) c.in-Gives.is) (λ cs h. cc)) refl
+
+pub returns-in_ok-give-in-Gives-clause-depth : goal.returns-in_ok-give-in-Gives-clause-depth
+returns-in_ok-give-in-Gives-clause-depth g c = gives-depth c.args.self.now _ _ c.args.line.now _ _ c.requires.known c.requires.opened c.in_ok-enter-in-Gives.ensures.ok c.in_ok-give-in-Gives.ensures.others

@@ -1,0 +1,111 @@
+-- What the calls of this crate returned, and which commands they ran.
+use Rattle.std.specs.Prelude.{◌≡◌, ◌≤◌, ℕ, Bool, true, false, Option, Result, Ok, Err, List}
+use Rattle.std.specs.Bool.{MatchBool}
+use Rattle.mux_outside.specs.Counts.{Rose}
+use Rattle.conf_rules.specs.declared.causes.Cause.{Cause}
+use Rattle.conf_rules.specs.declared.causes.Cause.TheVariants as causes
+use Rattle.conf_rules.specs.declared.causes.LexError.{LexError}
+use Rattle.conf_rules.specs.declared.causes.LexError.TheVariants as lex_errors
+use Rattle.conf_rules.specs.declared.causes.ValueError.{ValueError}
+use Rattle.conf_rules.specs.declared.causes.ValueError.TheVariants as value_errors
+use Rattle.conf_rules.specs.declared.causes.MatchError.{MatchError}
+use Rattle.conf_rules.specs.declared.causes.MatchError.TheVariants as match_errors
+use Rattle.conf_rules.specs.declared.causes.TokenError.{TokenError}
+use Rattle.conf_rules.specs.declared.causes.ResolveError.{ResolveError}
+use Rattle.conf_rules.specs.declared.causes.ResolveError.TheVariants.{At, OutOfMemory}
+use Rattle.conf_rules.specs.Diagnostics.{is_fault}
+use Rattle.conf_rules.specs.Texts.{Bytes}
+use Rattle.conf_match.specs.declared.evaluation.EvalError.{EvalError}
+use Rattle.conf_match.specs.declared.evaluation.EvalError.TheVariants as eval_errors
+use Rattle.conf_match.specs.Evaluated.{RanAll, RanSome}
+use Rattle.conf_fold.specs.declared.errors.LineError.{LineError}
+use Rattle.conf_fold.specs.declared.errors.LineError.TheVariants as line_errors
+
+-- an error is the refusal of the reading, but want of memory may come at any time
+abbrev pub FailsLine : {Y : Type 0} → LineError → Result Y Cause → Type 0
+FailsLine line_errors.OutOfMemory reading = Unit {0}
+FailsLine (line_errors.Refused cause) reading = reading ≡ Err cause
+
+-- what was returned of a line is its reading, unless memory was wanting
+abbrev pub GivesLine : {Y : Type 0} → Result Y LineError → Result Y Cause → Type 0
+GivesLine (Ok x) reading = reading ≡ Ok x
+GivesLine (Err e) reading = FailsLine e reading
+
+-- a lexer's error as one of a line
+abbrev pub of_lex : LexError → LineError
+of_lex lex_errors.OutOfMemory = line_errors.OutOfMemory
+of_lex e = line_errors.Refused (causes.Lex e)
+
+-- a value's error as one of a line
+abbrev pub of_value : ValueError → LineError
+of_value value_errors.OutOfMemory = line_errors.OutOfMemory
+of_value e = line_errors.Refused (causes.Value e)
+
+-- a criterion's error as one of a line
+abbrev pub of_match : MatchError → LineError
+of_match match_errors.OutOfMemory = line_errors.OutOfMemory
+of_match e = line_errors.Refused (causes.Match e)
+
+-- an evaluation's error as one of a line
+abbrev pub of_eval : EvalError → LineError
+of_eval eval_errors.OutOfMemory = line_errors.OutOfMemory
+of_eval (eval_errors.Token e) = line_errors.Refused (causes.Token e)
+of_eval eval_errors.RunFault = line_errors.Refused causes.RunFault
+
+-- whether a line's error is a fault of the outside
+abbrev pub is_line_fault : LineError → Bool
+is_line_fault line_errors.OutOfMemory = false
+is_line_fault (line_errors.Refused cause) = is_fault cause
+
+-- whether a refusal is a fault of the outside
+abbrev pub is_fault_at : ResolveError → Bool
+is_fault_at OutOfMemory = false
+is_fault_at (At file line cause) = is_fault cause
+
+-- an evaluation gave what it should, unless memory or the runner failed
+abbrev pub Evaluated : Result Bool LineError → Result Bool TokenError → Type 0
+Evaluated (Ok b) holds = holds ≡ Ok b
+Evaluated (Err line_errors.OutOfMemory) holds = Unit {0}
+Evaluated (Err (line_errors.Refused (causes.Token e))) holds = holds ≡ Err e
+Evaluated (Err (line_errors.Refused cause)) holds = is_fault cause ≡ true
+
+-- the refusal of a line of a file, unless memory was wanting
+abbrev pub Refuses : LineError → Bytes → ℕ → ResolveError → Type 0
+Refuses line_errors.OutOfMemory file line error = error ≡ OutOfMemory
+Refuses (line_errors.Refused cause) file line OutOfMemory = Unit {0}
+Refuses (line_errors.Refused cause) file line (At f l c) = At f l c ≡ At file line cause
+
+-- ---- commands
+
+-- all of these commands were run, or, where a call broke off, the first of them
+abbrev pub RanUnless : Bool → Option (List Bytes) → Option (List Bytes) → List Bytes → Type 0
+RanUnless broken old new commands = MatchBool broken (RanSome old new commands) (RanAll old new commands)
+
+-- whether a line breaks off before what it says is done: memory or the runner failed
+abbrev pub breaks_line : {A : Type 0} → Result A LineError → Bool
+breaks_line (Ok x) = false
+breaks_line (Err line_errors.OutOfMemory) = true
+breaks_line (Err (line_errors.Refused cause)) = is_fault cause
+
+-- the same of a refusal with its place
+abbrev pub breaks_off : {A : Type 0} → Result A ResolveError → Bool
+breaks_off (Ok x) = false
+breaks_off (Err OutOfMemory) = true
+breaks_off (Err (At file line cause)) = is_fault cause
+
+-- ---- faults
+
+-- the runner's fault comes only where its count rose, and every other answer leaves it
+abbrev pub HasLineCause : {A : Type 0} → Result A LineError → ℕ → ℕ → Type 0
+HasLineCause (Err (line_errors.Refused causes.RunFault)) before now = Rose before now
+HasLineCause (Err (line_errors.Refused causes.ReadFault)) before now = ⊥
+HasLineCause result before now = now ≡ before
+
+-- The runner's fault comes only where its count rose, and no fault of files comes. Every other answer leaves the count, but want
+-- of memory, before which the runner may have failed.
+abbrev pub HasRunCause : {A : Type 0} → Result A ResolveError → ℕ → ℕ → Type 0
+HasRunCause (Ok x) before now = now ≡ before
+HasRunCause (Err OutOfMemory) before now = before ≤ now
+HasRunCause (Err (At file line causes.RunFault)) before now = Rose before now
+HasRunCause (Err (At file line causes.ReadFault)) before now = ⊥
+HasRunCause (Err (At file line cause)) before now = now ≡ before

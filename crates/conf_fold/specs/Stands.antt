@@ -1,0 +1,175 @@
+-- What a fold stands for: the rows of the places given so far, and the blocks that are open.
+use Rattle.std.specs.Prelude.{◌≡◌, ℕ, ◌+◌, ◌<◌, Bool, true, false, not, ◌&&◌, unwrap_or, if◌then◌else◌, List, [], ◌∷◌, ◌++◌, length, map, flat_map, take, Option, Some, None, is_some, Result, Ok, Err}
+use Rattle.std.specs.List.{list_any, slice_get}
+use Rattle.conf_rules.specs.declared.key.Key.{Key}
+use Rattle.conf_rules.specs.declared.key.Key.TheVariants as keys
+use Rattle.conf_rules.specs.declared.value.Value.{Value}
+use Rattle.conf_rules.specs.declared.causes.Cause.{Cause}
+use Rattle.conf_rules.specs.declared.causes.ResolveError.{ResolveError}
+use Rattle.conf_rules.specs.declared.causes.ResolveError.TheVariants.{At, OutOfMemory}
+use Rattle.conf_rules.specs.declared.entry.Entry.{Entry}
+use Rattle.conf_rules.specs.declared.entry.Entry.TheVariants.{Gives}
+use Rattle.conf_rules.specs.Texts.{Bytes, or_text}
+use Rattle.conf_rules.specs.Heads.{Says}
+use Rattle.conf_rules.specs.Told.{Told, Facts}
+use Rattle.conf_rules.specs.Tokens.{View}
+use Rattle.conf_rules.specs.Includes.{UserFile}
+use Rattle.conf_rules.specs.Diagnostics.{is_fault}
+use Rattle.conf_rules.specs.Sources.{Line}
+use Rattle.conf_rules.specs.Rows.{Row, Pass, First, Second, is_collected, values_among, word_in, number_in, but_none, given}
+use Rattle.conf_rules.specs.Entries.{entry_of, headed_entry}
+use Rattle.conf_rules.specs.Resolution.{applies_at, start_of, host_from, host_at, wants_second, is_asked, is_past_limit, row_of, is_refused, refusal_at}
+use Rattle.conf_options.specs.Kept.{Given, Keeps}
+use Rattle.conf_reader.specs.declared.line.ConfLine.{ConfLine}
+use Rattle.conf_reader.specs.Blocks.{Blocks, IsLine, open_behind}
+use Rattle.conf_fold.specs.declared.fold.Fold.{Fold}
+use Rattle.conf_fold.specs.declared.errors.LineError.{LineError}
+use Rattle.conf_fold.specs.declared.errors.LineError.TheVariants as line_errors
+
+-- ---- what a fold stands for
+
+-- whether the block that was opened at a line of a pass applies; where none is open, nothing stands in the way
+abbrev pub open_applies : List Row → Pass → Option ℕ → Bool
+open_applies rows pass None = true
+open_applies rows pass (Some line) = applies_at rows pass line
+
+-- a block was opened before
+abbrev pub IsBefore : List Row → Pass → Option ℕ → Type 0
+IsBefore rows pass None = Unit {0}
+IsBefore rows pass (Some line) = start_of pass + line < length rows
+
+-- each open block was opened before
+abbrev pub EachBefore : List Row → Pass → Blocks → Type 0
+EachBefore rows pass [] = Unit {0}
+EachBefore rows pass (b ∷ bs) = IsBefore rows pass b × EachBefore rows pass bs
+
+-- whether an entry gives a value to a key that collects
+abbrev pub collects : Result Entry Cause → Bool
+collects (Ok (Gives key value)) = is_collected key
+collects entry = false
+
+-- whether a row is one of a file and collects
+abbrev pub collects_here : Row → Bool
+collects_here row = not (is_asked row.line.source) && collects row.entry
+
+-- whether a row of a file that collects is active
+abbrev pub collected : Row → List Bool
+collected row = if collects_here row then row.active ∷ [] else []
+
+-- what a fold keeps of its pass
+pub record InFirst (fold : Fold) (rows : List Row) : Type 0 where
+  pub name : fold.name ≡ None
+  pub active : fold.were_active ≡ flat_map collected rows
+
+pub record InSecond (told : Told) (fold : Fold) (rows before : List Row) : Type 0 where
+  pub name : fold.name ≡ Some (host_at told.asked.original before)
+  pub active : fold.were_active ≡ flat_map collected before
+  pub seen : (line : ℕ) → length rows ≡ length before + line → fold.seen ≡ length (flat_map collected (take line before))
+
+abbrev pub InPass : Told → Pass → Fold → List Row → Type 0
+InPass told First fold rows = InFirst fold rows
+InPass told (Second before) fold rows = InSecond told fold rows before
+
+-- a fold stands for these rows of a pass, where these blocks are open
+pub record Stands (told : Told) (pass : Pass) (fold : Fold) (rows : List Row) (blocks : Blocks) : Type 0 where
+  pub original : fold.original ≡ told.asked.original
+  pub keeps : Keeps fold.settings (flat_map given rows)
+  pub applies : fold.applies ≡ map (open_applies rows pass) blocks
+  pub before : EachBefore rows pass blocks
+  pub again : fold.asks_again ≡ list_any wants_second rows
+  pub in_pass : InPass told pass fold rows
+
+-- ---- one line
+
+-- in the second pass the same lines are given again
+abbrev pub IsAgain : Told → Pass → ℕ → Line → Type 0
+IsAgain told First place line = Unit {0}
+IsAgain told (Second before) place line = slice_get before place ≡ Some (row_of told entry_of (take place before) (record { pass = First; line = place }) line)
+
+-- the line that comes next behind rows
+pub record IsNext (told : Told) (pass : Pass) (rows : List Row) (blocks : Blocks) (given : ConfLine) (place : ℕ) (line : Line) : Type 0 where
+  pub is_line : IsLine given blocks line
+  pub at : length rows ≡ start_of pass + place
+  pub within : is_past_limit told line place ≡ false
+  pub again : IsAgain told pass place line
+
+-- the row of a line at a place of a pass
+unfoldable pub next_row : Told → Pass → List Row → ℕ → Line → Row
+next_row told pass rows place line = row_of told entry_of rows (record { pass = pass; line = place }) line
+
+-- what reading and evaluating a line came to, before its refusal is placed
+abbrev pub FoldsEntry : Told → Pass → List Row → Blocks → ConfLine → ℕ → Line → Result (Unit {0}) LineError → Fold → Type 0
+FoldsEntry told pass rows blocks given place line (Ok x) new =
+    (is_refused (next_row told pass rows place line).entry ≡ false)
+    × Stands told pass new (rows ++ next_row told pass rows place line ∷ []) (open_behind given place blocks)
+FoldsEntry told pass rows blocks given place line (Err line_errors.OutOfMemory) new = Unit {0}
+FoldsEntry told pass rows blocks given place line (Err (line_errors.Refused cause)) new =
+    (is_fault cause ≡ false → (next_row told pass rows place line).entry ≡ Err cause)
+
+-- what a fold did with a line: it stands for one more row, or the row is refused
+abbrev pub Folds : Told → Pass → List Row → Blocks → ConfLine → ℕ → Line → Result (Unit {0}) ResolveError → Fold → Type 0
+Folds told pass rows blocks given place line (Ok x) new =
+    (is_refused (next_row told pass rows place line).entry ≡ false)
+    × Stands told pass new (rows ++ next_row told pass rows place line ∷ []) (open_behind given place blocks)
+Folds told pass rows blocks given place line (Err OutOfMemory) new = Unit {0}
+Folds told pass rows blocks given place line (Err (At file number cause)) new =
+    (is_fault cause ≡ false → refusal_at line (next_row told pass rows place line).entry ≡ Some (At file number cause))
+
+-- ---- what a fold shows
+
+-- the value of a key
+abbrev pub setting : Key → Fold → Option Value
+setting key fold = slice_get (values_among key fold.settings) 0
+
+-- the host name so far
+abbrev pub host_so_far : Fold → Bytes
+host_so_far fold = host_from fold.original (word_in (setting keys.Hostname fold))
+
+-- the name that a Host line sees
+abbrev pub block_name : Fold → Bytes
+block_name fold = or_text fold.original fold.name
+
+-- what tokens and criteria see
+abbrev pub view_of : Fold → Facts → View
+view_of fold facts = record {
+  original = fold.original;
+  host = host_so_far fold;
+  jump = or_text [] (but_none (word_in (setting keys.ProxyJump fold)));
+  tag = or_text [] (word_in (setting keys.Tag fold));
+  port = number_in 22 (setting keys.Port fold);
+  user = word_in (setting keys.User fold);
+  «alias» = word_in (setting keys.HostKeyAlias fold);
+  facts = facts;
+  last = is_some fold.name;
+  name = or_text (host_so_far fold) fold.name;
+}
+
+-- what a heading of a file says behind what was given so far
+unfoldable pub entry_so_far : Fold → ConfLine → Result Entry Cause
+entry_so_far fold line = headed_entry (word_in (setting keys.IgnoreUnknown fold)) UserFile (Says line.keyword line.rest)
+
+-- whether a value of an active line counts: one to collect only where the same line was not active in the first pass
+abbrev pub does_count : Key → Bool → Fold → Bool
+does_count key active fold = if is_collected key then (elim fold.name [
+  | None ↦ active
+  | Some name ↦ elim (slice_get fold.were_active fold.seen) [ None ↦ active | Some was ↦ active && not was ]
+]) else active
+
+-- a fold that has noted whether a line was active
+abbrev pub noted : Key → Bool → Fold → Fold
+noted key active fold = if is_collected key then (elim fold.name [
+  | None ↦ record fold { were_active = fold.were_active ++ active ∷ [] }
+  | Some name ↦ elim (slice_get fold.were_active fold.seen) [ None ↦ fold | Some was ↦ record fold { seen = fold.seen + 1 } ]
+]) else fold
+
+-- what is given, if it counts
+abbrev pub if_counts : Bool → Key → Value → List Given
+if_counts counts key value = if counts then (key, value) ∷ [] else []
+
+-- the marks of open blocks where a file is gone on with, or begun
+abbrev pub entered : ℕ → Bool → List Bool → List Bool
+entered depth opens marks = if opens then take depth marks ++ true ∷ [] else take (depth + 1) marks
+
+-- the mark of a line's own file
+abbrev pub own_mark : ℕ → Bool → List Bool → Bool
+own_mark depth opens marks = if opens then true else unwrap_or (slice_get marks depth) true

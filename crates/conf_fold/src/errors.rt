@@ -1,0 +1,81 @@
+ghost use Rattle.std.specs.Prelude.{◌≡◌};
+ghost use Rattle.conf_fold.specs.declared.errors.LineError.TheVariants as line_errors;
+ghost use Rattle.conf_fold.specs.Results.{of_lex, of_value, of_match, of_eval, Refuses};
+
+use conf_match::EvalError;
+use conf_rules::{Cause, LexError, MatchError, ResolveError, ValueError};
+use ssh_fields::{OutOfMemory, Text};
+use std::alloc::Global;
+
+/// Why a line has no reading.
+#[derive(Debug, Drop)]
+pub enum LineError {
+    Refused(Cause),
+    OutOfMemory,
+}
+
+impl From<LexError> for LineError {
+    ghost from_gives = { λ e d. d ≡ of_lex e };
+
+    fn from(e: LexError) -> LineError {
+        match e {
+            LexError::OutOfMemory => LineError::OutOfMemory,
+            other => LineError::Refused(Cause::Lex(other)),
+        }
+    }
+}
+
+impl From<ValueError> for LineError {
+    ghost from_gives = { λ e d. d ≡ of_value e };
+
+    fn from(e: ValueError) -> LineError {
+        match e {
+            ValueError::OutOfMemory => LineError::OutOfMemory,
+            other => LineError::Refused(Cause::Value(other)),
+        }
+    }
+}
+
+impl From<MatchError> for LineError {
+    ghost from_gives = { λ e d. d ≡ of_match e };
+
+    fn from(e: MatchError) -> LineError {
+        match e {
+            MatchError::OutOfMemory => LineError::OutOfMemory,
+            other => LineError::Refused(Cause::Match(other)),
+        }
+    }
+}
+
+impl From<EvalError> for LineError {
+    ghost from_gives = { λ e d. d ≡ of_eval e };
+
+    fn from(e: EvalError) -> LineError {
+        match e {
+            EvalError::OutOfMemory => LineError::OutOfMemory,
+            EvalError::Token(error) => LineError::Refused(Cause::Token(error)),
+            EvalError::RunFault => LineError::Refused(Cause::RunFault),
+        }
+    }
+}
+
+impl From<OutOfMemory> for LineError {
+    ghost from_gives = { λ _ e. e ≡ line_errors.OutOfMemory };
+
+    fn from(_e: OutOfMemory) -> LineError {
+        LineError::OutOfMemory
+    }
+}
+
+/// The refusal of a line.
+pub fn refuse(alloc: Global, file: &[u8], line: u64, error: LineError) -> ResolveError
+    ensures { Refuses error file.now line result }
+{
+    match error {
+        LineError::OutOfMemory => ResolveError::OutOfMemory,
+        LineError::Refused(cause) => match Text::copy(alloc, file) {
+            Ok(file) => ResolveError::At { file, line, cause },
+            Err(_) => ResolveError::OutOfMemory,
+        },
+    }
+}

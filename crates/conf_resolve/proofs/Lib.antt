@@ -1,0 +1,6 @@
+pub mod CauseLemmas
+pub mod CommandLemmas
+pub mod DepthLemmas
+pub mod PartsLemmas
+pub mod PassLemmas
+pub mod ResolveLemmas

@@ -1,0 +1,322 @@
+-- What a reader gives and a fold takes makes the rows of a pass.
+use Rattle.std.proofs.Common.{◌≡◌, ℕ, zero, suc, ◌+◌, ◌-◌, ◌<◌, ◌≤◌, Bool, true, false, cond, ◌&&◌, ◌||◌, List, [], ◌∷◌, ◌++◌, length, map, take, Option, Some, None, Result, Ok, Err, refl, sym, ap, subst, ◌∙◌, append_assoc, arith}
+use Rattle.std.specs.Prelude.{flat_map, option_to_list}
+use Rattle.std.specs.List.{list_any, slice_get}
+use Rattle.std.proofs.lemmas.List.{append-nil, length-append}
+use Rattle.std.proofs.lemmas.Grind.{flat_map-append}
+use Rattle.conf_rules.specs.declared.causes.Cause.{Cause}
+use Rattle.conf_rules.specs.declared.causes.Cause.TheVariants as causes
+use Rattle.conf_rules.specs.declared.causes.ResolveError.{ResolveError}
+use Rattle.conf_rules.specs.declared.causes.ResolveError.TheVariants as errors
+use Rattle.conf_rules.specs.declared.entry.Entry.{Entry}
+use Rattle.conf_rules.specs.declared.entry.Entry.TheVariants.{Nothing}
+use Rattle.conf_rules.specs.Told.{Told}
+use Rattle.conf_rules.specs.Diagnostics.{is_fault}
+use Rattle.conf_rules.specs.Sources.{Line}
+use Rattle.conf_rules.specs.Rows.{Row, Pass, First, Second, Place, given, entry_gives}
+use Rattle.conf_rules.specs.Entries.{entry_of}
+use Rattle.conf_rules.specs.Resolution.{start_of, counted, is_past_limit, is_active, active_before, Effect, effect_of, no_block, row_of, row_with, rows_from, is_refused, refusal_at, or_later, refusal_in, wants_second, asks_again}
+use Rattle.conf_reader.specs.declared.line.ConfLine.{ConfLine}
+use Rattle.conf_reader.specs.declared.reader.Lines.{Lines}
+use Rattle.conf_reader.specs.Blocks.{Blocks, IsLine, open_behind}
+use Rattle.conf_reader.specs.Left.{left, stack, Bounded}
+use Rattle.conf_reader.specs.Reads.{IsIdle, AreIdle, GivesNext, RefusesNext, Reads, LiesAt, IsGivenFrom, open_count}
+use Rattle.conf_match.specs.Evaluated.{RanAll, RanSome}
+use Rattle.conf_fold.specs.declared.fold.Fold.{Fold}
+use Rattle.conf_fold.specs.Results.{RanUnless, breaks_off}
+use Rattle.conf_fold.specs.Stands.{Stands, IsAgain, IsNext, next_row, Folds, InFirst, InSecond, InPass, collects, collected}
+use Rattle.conf_fold.proofs.BlockLemmas.{marks-kept, each-kept}
+use Rattle.conf_fold.proofs.RowLemmas.{or-false, given-more, wants-more, collected-more, take-next, none-collected}
+use Rattle.conf_fold.proofs.FoldLemmas.{gives-nothing}
+use Rattle.conf_fold.proofs.OrderLemmas.{from, refusal-behind, ok-none, some-refused, rows-on, rows-end, row-line, from-front}
+use Rattle.conf_resolve.specs.Causes.{of_files}
+use Rattle.conf_resolve.specs.Passes.{Commands, commands, AreAgain, StandsFor, Passes, final_rows, Begins, file_lines}
+use Rattle.conf_resolve.proofs.CommandLemmas.{commands-more, commands-quiet, idle-commands, refused-ran, ran-on, ran-some, ran-front}
+
+-- ---- lines that say nothing
+
+idle-effect : (told : Told) (pass : Pass) (rows : List Row) (active : Bool) → effect_of told pass rows active (Ok Nothing) ≡ no_block (Ok Nothing)
+idle-effect told pass rows true = refl
+idle-effect told pass rows false = refl
+
+idle-entry : (told : Told) (pass : Pass) (rows : List Row) (place : ℕ) (line : Line) → IsIdle told place line → (row_of told entry_of rows (record { pass = pass; line = place }) line).entry ≡ Ok Nothing
+unfolding row_of
+idle-entry told pass rows place line idle = rw (idle rows) (ap (λ (f : Effect). f.entry) (idle-effect told pass rows (is_active rows pass line)))
+
+pass-idle : (told : Told) (pass : Pass) (fold : Fold) (rows : List Row) (place : ℕ) (line : Line) (row : Row) → InPass told pass fold rows → length rows ≡ start_of pass + place → IsIdle told place line → IsAgain told pass place line → row.entry ≡ Ok Nothing → InPass told pass fold (rows ++ row ∷ [])
+pass-idle told First fold rows place line row p at idle again entry = record {
+  name = p.name;
+  active = p.active ∙ sym (append-nil (flat_map collected rows)) ∙ ap (λ xs. flat_map collected rows ++ xs) (sym (none-collected row (ap collects entry))) ∙ sym (collected-more rows row);
+}
+pass-idle told (Second before) fold rows place line row p at idle again entry = record {
+  name = p.name;
+  active = p.active;
+  seen = λ i e.
+      let b = row_of told entry_of (take place before) (record { pass = First; line = place }) line in
+      let k : length (rows ++ row ∷ []) ≡ length rows + 1 = length-append rows (row ∷ []) in
+      let i-is : i ≡ suc place = omega (arith, k, e, at) in
+      let none : b.entry ≡ Ok Nothing = idle-entry told First (take place before) place line idle in
+      let none-more : flat_map collected (take (suc place) before) ≡ flat_map collected (take place before) =
+      ap (flat_map collected) (take-next before place b again) ∙ collected-more (take place before) b ∙ ap (λ xs. flat_map collected (take place before) ++ xs) (none-collected b (ap collects none)) ∙ append-nil _ in
+      p.seen place at ∙ sym (ap length none-more) ∙ ap (λ m. length (flat_map collected (take m before))) (sym i-is);
+}
+
+-- the fold stands for one more idle row
+pub stands-idle : (told : Told) (pass : Pass) (fold : Fold) (rows : List Row) (blocks : Blocks) (place : ℕ) (line : Line) → Stands told pass fold rows blocks → length rows ≡ start_of pass + place → IsIdle told place line → IsAgain told pass place line
+    → ((next_row told pass rows place line).entry ≡ Ok Nothing) × Stands told pass fold (rows ++ next_row told pass rows place line ∷ []) blocks
+unfolding next_row
+stands-idle told pass fold rows blocks place line s at idle again =
+    let row = next_row told pass rows place line in
+    let entry : row.entry ≡ Ok Nothing = idle-entry told pass rows place line idle in (
+      entry,
+      record {
+        original = s.original;
+        keeps = rw (given-more rows row, gives-nothing row.active row.again row.entry (ap (entry_gives row.again) entry), append-nil (flat_map given rows)) s.keeps;
+        applies = s.applies ∙ sym (marks-kept rows row pass blocks s.before);
+        before = each-kept rows row pass blocks s.before;
+        again = s.again ∙ sym (wants-more rows row ∙ ap (λ r. list_any wants_second rows || asks_again r) entry ∙ or-false (list_any wants_second rows));
+        in_pass = pass-idle told pass fold rows place line row s.in_pass at idle again entry;
+      },
+    )
+
+-- behind idle lines
+pub record Ahead (told : Told) (pass : Pass) (fold : Fold) (blocks : Blocks) (place : ℕ) (rest : List Line) (final : List Row) (done : List (List ℕ)) : Type 0 where
+  pub rows : List Row
+  pub stands : Stands told pass fold rows blocks
+  pub at : length rows ≡ start_of pass + place
+  pub none : refusal_in rows ≡ None
+  pub final_is : rows_from told entry_of rows (record { pass = pass; line = place }) rest ≡ final
+  pub again : AreAgain told pass place rest
+  pub ran : commands rows ≡ done
+
+pub idle-many : (told : Told) (pass : Pass) (fold : Fold) (blocks : Blocks) (comments rest : List Line) (rows final : List Row) (place : ℕ) → Stands told pass fold rows blocks → length rows ≡ start_of pass + place → refusal_in rows ≡ None
+    → AreIdle told place comments → AreAgain told pass place (comments ++ rest) → rows_from told entry_of rows (record { pass = pass; line = place }) (comments ++ rest) ≡ final → Ahead told pass fold blocks (place + length comments) rest final (commands rows)
+idle-many told pass fold blocks [] rest rows final place s at none idle again final-is =
+    let z : place ≡ place + 0 = omega arith in
+    record {
+      rows = rows;
+      stands = s;
+      at = at ∙ ap (λ n. start_of pass + n) z;
+      none = none;
+      final_is = ap (λ n. rows_from told entry_of rows (record { pass = pass; line = n }) rest) (sym z) ∙ final-is;
+      again = subst (λ n. AreAgain told pass n rest) z again;
+      ran = refl;
+    }
+idle-many told pass fold blocks (l ∷ ls) rest rows final place s at none idle again final-is =
+    let one = stands-idle told pass fold rows blocks place l s at idle.0 again.0 in
+    let row = next_row told pass rows place l in
+    let ok : is_refused row.entry ≡ false = ap is_refused one.0 in
+    let k : length (rows ++ row ∷ []) ≡ length rows + 1 = length-append rows (row ∷ []) in
+    let at' : length (rows ++ row ∷ []) ≡ start_of pass + (place + 1) = omega (arith, k, at) in
+    let more = idle-many told pass fold blocks ls rest (rows ++ row ∷ []) final (place + 1) one.1 at' (refusal-behind rows row none ∙ ok-none row.line row.entry ok) idle.1 again.1 (sym (rows-on told pass rows place l (ls ++ rest) ok) ∙ final-is) in
+    let n : place + 1 + length ls ≡ place + suc (length ls) = omega arith in
+    let same : commands (rows ++ row ∷ []) ≡ commands rows = idle-commands told pass rows place l idle.0 in
+    subst (λ cs. Ahead told pass fold blocks (place + suc (length ls)) rest final cs) same (subst (λ m. Ahead told pass fold blocks m rest final (commands (rows ++ row ∷ []))) n more)
+
+-- ---- the steps of a pass
+
+-- where a pass stands that began behind these rows, with these commands run
+pub record Underway (told : Told) (pass : Pass) (fold : Fold) (reader : Lines) (final first : List Row) (start now : Commands) : Type 0 where
+  pub rows : List Row
+  pub place : ℕ
+  pub blocks : Blocks
+  pub stands : Stands told pass fold rows blocks
+  pub at : length rows ≡ start_of pass + place
+  pub none : refusal_in rows ≡ None
+  pub count : place ≡ length told.asked.lines + reader.read
+  pub bounded : Bounded reader.open (length blocks)
+  pub final_is : rows_from told entry_of rows (record { pass = pass; line = place }) (left told place blocks reader) ≡ final
+  pub again : AreAgain told pass place (left told place blocks reader)
+  pub ran : (before : Commands) → RanAll before start (commands first) → RanAll before now (commands rows)
+
+take-size : (d : ℕ) (bs : Blocks) → d ≤ length bs → length (take d bs) ≡ d
+take-size zero bs h = refl
+take-size (suc d) [] h = absurd (omega (arith, h))
+take-size (suc d) (b ∷ bs) h = ap suc (take-size d bs (omega (arith, h)))
+
+-- how many blocks are open behind a line
+behind-length : (line : ConfLine) (place : ℕ) (bs : Blocks) → line.depth ≤ length bs → length (open_behind line place bs) ≡ line.depth + 1
+behind-length line place bs h = length-append (take line.depth bs) (_ ∷ []) ∙ ap (λ n. n + 1) (take-size line.depth bs h)
+
+-- a line that was given and taken
+pub goes-on : (told : Told) (pass : Pass) (fold new : Fold) (old reader : Lines) (final : List Row) (first : List Row) (start now : Commands) (u : Underway told pass fold old final first start now) (line : ConfLine) → GivesNext told u.place u.blocks old reader line
+    → ((rows : List Row) (place : ℕ) (l : Line) → Stands told pass fold rows u.blocks → IsNext told pass rows u.blocks line place l → Folds told pass rows u.blocks line place l (Ok tt) new)
+    → Bounded reader.open (line.depth + 1) → line.depth ≤ length u.blocks → (later : Commands)
+    → ((rows : List Row) (place : ℕ) (l : Line) → Stands told pass fold rows u.blocks → IsNext told pass rows u.blocks line place l → RanAll now later (next_row told pass rows place l).ran)
+    → Underway told pass new reader final first start later
+goes-on told pass fold new old reader final first start now u line gives folds bounded deep later runs =
+    let place = u.place + length gives.comments in
+    let rest = left told (place + 1) (open_behind line place u.blocks) reader in
+    let a = idle-many told pass fold u.blocks gives.comments (gives.line ∷ rest) u.rows final u.place u.stands u.at u.none gives.idle (subst (AreAgain told pass u.place) gives.is u.again) (ap (rows_from told entry_of u.rows (record { pass = pass; line = u.place })) (sym gives.is) ∙ u.final_is) in
+    let next : IsNext told pass a.rows u.blocks line place gives.line = record { is_line = gives.is_line; at = a.at; within = gives.within; again = a.again.0 } in
+    let f = folds a.rows place gives.line a.stands next in
+    let row = next_row told pass a.rows place gives.line in
+    let k : length (a.rows ++ row ∷ []) ≡ length a.rows + 1 = length-append a.rows (row ∷ []) in
+    let h = a.at in
+    record {
+      rows = a.rows ++ row ∷ [];
+      place = place + 1;
+      blocks = open_behind line place u.blocks;
+      stands = f.1;
+      at = omega (arith, k, h);
+      none = refusal-behind a.rows row a.none ∙ ok-none row.line row.entry f.0;
+      count = gives.count;
+      bounded = subst (Bounded reader.open) (sym (behind-length line place u.blocks deep)) bounded;
+      final_is = sym (rows-on told pass a.rows place gives.line rest f.0) ∙ a.final_is;
+      again = a.again.1;
+      ran = λ before r. subst (RanAll before later) (sym (commands-more a.rows row)) (ran-on before now later (commands a.rows) row.ran (subst (RanAll before now) (sym a.ran) (u.ran before r)) (runs a.rows place gives.line a.stands next));
+    }
+
+-- a line that was given and refused
+pub line-refused : (told : Told) (pass : Pass) (fold new : Fold) (old reader : Lines) (final : List Row) (first : List Row) (start now : Commands) (u : Underway told pass fold old final first start now) (line : ConfLine) (file : List ℕ) (number : ℕ) (cause : Cause) → GivesNext told u.place u.blocks old reader line
+    → ((rows : List Row) (place : ℕ) (l : Line) → Stands told pass fold rows u.blocks → IsNext told pass rows u.blocks line place l → Folds told pass rows u.blocks line place l (Err (errors.At file number cause)) new)
+    → is_fault cause ≡ false → refusal_in final ≡ Some (errors.At file number cause)
+line-refused told pass fold new old reader final first start now u line file number cause gives folds fault =
+    let place = u.place + length gives.comments in
+    let rest = left told (place + 1) (open_behind line place u.blocks) reader in
+    let a = idle-many told pass fold u.blocks gives.comments (gives.line ∷ rest) u.rows final u.place u.stands u.at u.none gives.idle (subst (AreAgain told pass u.place) gives.is u.again) (ap (rows_from told entry_of u.rows (record { pass = pass; line = u.place })) (sym gives.is) ∙ u.final_is) in
+    let next : IsNext told pass a.rows u.blocks line place gives.line = record { is_line = gives.is_line; at = a.at; within = gives.within; again = a.again.0 } in
+    let row = next_row told pass a.rows place gives.line in
+    let says : refusal_at gives.line row.entry ≡ Some (errors.At file number cause) = folds a.rows place gives.line a.stands next fault in
+    let refused : is_refused row.entry ≡ true = some-refused gives.line row.entry _ says in
+    ap refusal_in (sym a.final_is ∙ rows-end told pass a.rows place gives.line rest refused) ∙ refusal-behind a.rows row a.none ∙ ap (λ l. refusal_at l row.entry) (row-line told pass a.rows place gives.line) ∙ says
+
+refused-entry : (told : Told) (pass : Pass) (rows : List Row) (active : Bool) (c : Cause) → (effect_of told pass rows active (Err c)).entry ≡ Err c
+refused-entry told pass rows true c = refl
+refused-entry told pass rows false c = refl
+
+row-refused : (told : Told) (pass : Pass) (rows : List Row) (place : ℕ) (line : Line) (c : Cause) → ((rows : List Row) → counted told entry_of rows line place ≡ Err c) → (next_row told pass rows place line).entry ≡ Err c
+unfolding next_row row_of
+row-refused told pass rows place line c refused = rw (refused rows) (refused-entry told pass rows (is_active rows pass line) c)
+
+-- what a reader refuses
+pub reader-refused : (told : Told) (pass : Pass) (fold : Fold) (old : Lines) (final : List Row) (first : List Row) (start now : Commands) (u : Underway told pass fold old final first start now) (file : List ℕ) (number : ℕ) (cause : Cause) → RefusesNext told u.place (left told u.place u.blocks old) file number cause
+    → refusal_in final ≡ Some (errors.At file number cause)
+reader-refused told pass fold old final first start now u file number cause r =
+    let place = u.place + length r.comments in
+    let a = idle-many told pass fold u.blocks r.comments (r.line ∷ r.rest) u.rows final u.place u.stands u.at u.none r.idle (subst (AreAgain told pass u.place) r.is u.again) (ap (rows_from told entry_of u.rows (record { pass = pass; line = u.place })) (sym r.is) ∙ u.final_is) in
+    let row = next_row told pass a.rows place r.line in
+    let entry : row.entry ≡ Err cause = row-refused told pass a.rows place r.line cause r.refused in
+    ap refusal_in (sym a.final_is ∙ rows-end told pass a.rows place r.line r.rest (ap is_refused entry)) ∙ refusal-behind a.rows row a.none
+    ∙ ap (λ l. refusal_at l row.entry) (row-line told pass a.rows place r.line) ∙ ap (refusal_at r.line) entry
+    ∙ ap (λ f. Some (errors.At f r.line.number cause)) r.file_is ∙ ap (λ n. Some (errors.At file n cause)) r.number_is
+
+-- the end of all lines
+pub all-given : (told : Told) (pass : Pass) (fold : Fold) (old : Lines) (final : List Row) (first : List Row) (start now : Commands) (u : Underway told pass fold old final first start now) → AreIdle told u.place (left told u.place u.blocks old) → StandsFor told pass fold final
+unfolding rows_from
+all-given told pass fold old final first start now u idle =
+    let all = left told u.place u.blocks old in
+    let a = idle-many told pass fold u.blocks all [] u.rows final u.place u.stands u.at u.none idle (subst (AreAgain told pass u.place) (sym (append-nil all)) u.again) (ap (rows_from told entry_of u.rows (record { pass = pass; line = u.place })) (append-nil all) ∙ u.final_is) in
+    record { blocks = u.blocks; stands = subst (λ rows. Stands told pass fold rows u.blocks) a.final_is a.stands; none = ap refusal_in (sym a.final_is) ∙ a.none }
+
+-- ---- as the code needs them
+
+pub line-fails : (told : Told) (pass : Pass) (rows : List Row) (fold new : Fold) (old reader : Lines) (first : List Row) (start now : Commands) (u : Underway told pass fold old (final_rows told pass rows) first start now) (line : ConfLine) (e : ResolveError) → GivesNext told u.place u.blocks old reader line
+    → ((rows : List Row) (place : ℕ) (l : Line) → Stands told pass fold rows u.blocks → IsNext told pass rows u.blocks line place l → Folds told pass rows u.blocks line place l (Err e) new)
+    → Passes told pass rows new (Err e)
+line-fails told pass rows fold new old reader first start now u line errors.OutOfMemory gives folds = tt
+line-fails told pass rows fold new old reader first start now u line (errors.At file number cause) gives folds = line-refused told pass fold new old reader (final_rows told pass rows) first start now u line file number cause gives folds
+
+pub reader-fails : (told : Told) (pass : Pass) (rows : List Row) (fold : Fold) (old new : Lines) (first : List Row) (start now : Commands) (u : Underway told pass fold old (final_rows told pass rows) first start now) (e : ResolveError) → Reads told u.place u.blocks old new (Err e) → Passes told pass rows fold (Err e)
+reader-fails told pass rows fold old new first start now u errors.OutOfMemory r = tt
+reader-fails told pass rows fold old new first start now u (errors.At file number cause) r = λ fault. reader-refused told pass fold old (final_rows told pass rows) first start now u file number cause (r fault)
+
+-- a fault of files is a fault as before
+pub of-reader : (told : Told) (pass : Pass) (rows : List Row) (new : Fold) (e : ResolveError) → Passes told pass rows new (Err e) → Passes told pass rows new (Err (of_files e))
+of-reader told pass rows new errors.OutOfMemory p = p
+of-reader told pass rows new (errors.At file number causes.RunFault) p = λ fault. absurd cc
+of-reader told pass rows new (errors.At file number cause) p = p
+
+-- ---- commands
+
+-- the commands of a row and of what may come behind it
+step-front : (told : Told) (pass : Pass) (rows : List Row) (place : ℕ) (line : Line) (rest : List Line)
+    → (more : List (List ℕ)) × (commands (from told pass rows place (line ∷ rest)) ≡ (commands rows ++ (next_row told pass rows place line).ran) ++ more)
+step-front told pass rows place line rest = on (is_refused (next_row told pass rows place line).entry) refl
+  where
+    on : (t : Bool) → is_refused (next_row told pass rows place line).entry ≡ t → (more : List (List ℕ)) × (commands (from told pass rows place (line ∷ rest)) ≡ (commands rows ++ (next_row told pass rows place line).ran) ++ more)
+    on true h = ([], ap commands (rows-end told pass rows place line rest h) ∙ commands-more rows (next_row told pass rows place line) ∙ sym (append-nil (commands rows ++ (next_row told pass rows place line).ran)))
+    on false h =
+        let row = next_row told pass rows place line in
+        let front = from-front told pass rest (rows ++ row ∷ []) (place + 1) in (
+          commands front.0,
+          ap commands (rows-on told pass rows place line rest h ∙ front.1) ∙ flat_map-append (λ r. r.ran) (rows ++ row ∷ []) front.0 ∙ ap (λ cs. cs ++ commands front.0) (commands-more rows row),
+        )
+
+-- a line that was given, and taken or refused
+pub line-ran : (told : Told) (pass : Pass) (fold new : Fold) (old reader : Lines) (final first : List Row) (start now later before : Commands) (u : Underway told pass fold old final first start now) (line : ConfLine) (e : ResolveError) → GivesNext told u.place u.blocks old reader line
+    → ((rows : List Row) (place : ℕ) (l : Line) → Stands told pass fold rows u.blocks → IsNext told pass rows u.blocks line place l → Folds told pass rows u.blocks line place l (Err e) new)
+    → ((rows : List Row) (place : ℕ) (l : Line) → Stands told pass fold rows u.blocks → IsNext told pass rows u.blocks line place l → RanUnless (breaks_off {A = Unit {0}} (Err e)) now later (next_row told pass rows place l).ran)
+    → RanAll before start (commands first) → RanUnless (breaks_off {A = Unit {0}} (Err e)) before later (commands final)
+line-ran told pass fold new old reader final first start now later before u line e gives folds runs began =
+    let place = u.place + length gives.comments in
+    let rest = left told (place + 1) (open_behind line place u.blocks) reader in
+    let a = idle-many told pass fold u.blocks gives.comments (gives.line ∷ rest) u.rows final u.place u.stands u.at u.none gives.idle (subst (AreAgain told pass u.place) gives.is u.again) (ap (rows_from told entry_of u.rows (record { pass = pass; line = u.place })) (sym gives.is) ∙ u.final_is) in
+    let next : IsNext told pass a.rows u.blocks line place gives.line = record { is_line = gives.is_line; at = a.at; within = gives.within; again = a.again.0 } in
+    let row = next_row told pass a.rows place gives.line in
+    let far : RanAll before now (commands a.rows) = subst (RanAll before now) (sym a.ran) (u.ran before began) in
+    broken e line u.blocks a.rows place gives.line rest (folds a.rows place gives.line a.stands next) (runs a.rows place gives.line a.stands next) far (ap commands (sym a.final_is))
+  where
+    some : (rows : List Row) (at : ℕ) (l : Line) (rest : List Line) → RanAll before now (commands rows) → commands final ≡ commands (from told pass rows at (l ∷ rest)) → RanSome now later (next_row told pass rows at l).ran → RanSome before later (commands final)
+    some rows at l rest far is r =
+        let front = step-front told pass rows at l rest in
+        subst (RanSome before later) (sym (is ∙ front.1)) (ran-some before now later (commands rows) (next_row told pass rows at l).ran front.0 far r)
+
+    all : (rows : List Row) (at : ℕ) (l : Line) (rest : List Line) → RanAll before now (commands rows) → commands final ≡ commands (from told pass rows at (l ∷ rest)) → is_refused (next_row told pass rows at l).entry ≡ true → RanAll now later (next_row told pass rows at l).ran → RanAll before later (commands final)
+    all rows at l rest far is refused r =
+        subst (RanAll before later) (sym (is ∙ ap commands (rows-end told pass rows at l rest refused) ∙ commands-more rows (next_row told pass rows at l))) (ran-on before now later (commands rows) (next_row told pass rows at l).ran far r)
+
+    by : (t : Bool) (file : List ℕ) (number : ℕ) (cause : Cause) (rows : List Row) (at : ℕ) (l : Line) (rest : List Line) → is_fault cause ≡ t → (is_fault cause ≡ false → refusal_at l (next_row told pass rows at l).entry ≡ Some (errors.At file number cause))
+        → RanUnless t now later (next_row told pass rows at l).ran → RanAll before now (commands rows) → commands final ≡ commands (from told pass rows at (l ∷ rest)) → RanUnless t before later (commands final)
+    by true file number cause rows at l rest h f r far is = some rows at l rest far is r
+    by false file number cause rows at l rest h f r far is = all rows at l rest far is (some-refused l (next_row told pass rows at l).entry _ (f h)) r
+
+    broken : (e : ResolveError) (given : ConfLine) (blocks : Blocks) (rows : List Row) (at : ℕ) (l : Line) (rest : List Line) → Folds told pass rows blocks given at l (Err e) new → RanUnless (breaks_off {A = Unit {0}} (Err e)) now later (next_row told pass rows at l).ran
+        → RanAll before now (commands rows) → commands final ≡ commands (from told pass rows at (l ∷ rest)) → RanUnless (breaks_off {A = Unit {0}} (Err e)) before later (commands final)
+    broken errors.OutOfMemory given blocks rows at l rest f r far is = some rows at l rest far is r
+    broken (errors.At file number cause) given blocks rows at l rest f r far is = by (is_fault cause) file number cause rows at l rest refl f r far is
+
+-- what a reader refuses, or its fault
+pub reader-ran : (told : Told) (pass : Pass) (fold : Fold) (old new : Lines) (final first : List Row) (start now before : Commands) (u : Underway told pass fold old final first start now) (e : ResolveError) → Reads told u.place u.blocks old new (Err e)
+    → RanAll before start (commands first) → RanUnless (breaks_off {A = Unit {0}} (Err e)) before now (commands final)
+reader-ran told pass fold old new final first start now before u e reads began = on e reads
+  where
+    some : RanSome before now (commands final)
+    some =
+        let front = from-front told pass (left told u.place u.blocks old) u.rows u.place in
+        let is : commands final ≡ commands u.rows ++ commands front.0 = ap commands (sym u.final_is ∙ front.1) ∙ flat_map-append (λ r. r.ran) u.rows front.0 in
+        subst (RanSome before now) (sym is) (ran-front before now (commands u.rows) (commands front.0) (u.ran before began))
+
+    all : (file : List ℕ) (number : ℕ) (cause : Cause) → RefusesNext told u.place (left told u.place u.blocks old) file number cause → RanAll before now (commands final)
+    all file number cause r =
+        let place = u.place + length r.comments in
+        let a = idle-many told pass fold u.blocks r.comments (r.line ∷ r.rest) u.rows final u.place u.stands u.at u.none r.idle (subst (AreAgain told pass u.place) r.is u.again) (ap (rows_from told entry_of u.rows (record { pass = pass; line = u.place })) (sym r.is) ∙ u.final_is) in
+        let row = next_row told pass a.rows place r.line in
+        let entry : row.entry ≡ Err cause = row-refused told pass a.rows place r.line cause r.refused in
+        let is : final ≡ a.rows ++ row ∷ [] = sym a.final_is ∙ rows-end told pass a.rows place r.line r.rest (ap is_refused entry) in
+        let quiet : commands final ≡ commands u.rows = ap commands is ∙ commands-quiet a.rows row (refused-ran told pass a.rows place r.line cause r.refused) ∙ a.ran in
+        subst (RanAll before now) (sym quiet) (u.ran before began)
+
+    by : (t : Bool) (file : List ℕ) (number : ℕ) (cause : Cause) → is_fault cause ≡ t → (is_fault cause ≡ false → RefusesNext told u.place (left told u.place u.blocks old) file number cause) → RanUnless t before now (commands final)
+    by true file number cause h r = some
+    by false file number cause h r = all file number cause (r h)
+
+    on : (e : ResolveError) → Reads told u.place u.blocks old new (Err e) → RanUnless (breaks_off {A = Unit {0}} (Err e)) before now (commands final)
+    on errors.OutOfMemory r = some
+    on (errors.At file number cause) r = by (is_fault cause) file number cause refl r
+
+-- the end of all lines
+pub all-ran : (told : Told) (pass : Pass) (fold : Fold) (old : Lines) (final first : List Row) (start now before : Commands) (u : Underway told pass fold old final first start now) → AreIdle told u.place (left told u.place u.blocks old)
+    → RanAll before start (commands first) → RanAll before now (commands final)
+unfolding rows_from
+all-ran told pass fold old final first start now before u idle began =
+    let all = left told u.place u.blocks old in
+    let a = idle-many told pass fold u.blocks all [] u.rows final u.place u.stands u.at u.none idle (subst (AreAgain told pass u.place) (sym (append-nil all)) u.again) (ap (rows_from told entry_of u.rows (record { pass = pass; line = u.place })) (append-nil all) ∙ u.final_is) in
+    subst (RanAll before now) (sym a.ran ∙ ap commands a.final_is) (u.ran before began)
+
+-- where nothing was read
+pub start-ran : (told : Told) (pass : Pass) (rows : List Row) (before now : Commands) → RanAll before now (commands rows) → RanSome before now (commands (final_rows told pass rows))
+start-ran told pass rows before now r =
+    let front = from-front told pass (file_lines told) rows (length told.asked.lines) in
+    let is : commands (final_rows told pass rows) ≡ commands rows ++ commands front.0 = ap commands front.1 ∙ flat_map-append (λ r. r.ran) rows front.0 in
+    subst (RanSome before now) (sym is) (ran-front before now (commands rows) (commands front.0) r)

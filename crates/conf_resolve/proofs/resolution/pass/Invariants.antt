@@ -1,0 +1,26 @@
+use Rattle.std.proofs.Common.{◌≡◌, ◌≤◌, ◌-◌, ℕ, List, length}
+use Rattle.conf_rules.specs.Told.{Told}
+use Rattle.conf_rules.specs.Rows.{Row, Pass}
+use Rattle.conf_match.specs.Evaluated.{TellsStatus}
+use Rattle.conf_reader.specs.Known.{TellsFiles}
+use Rattle.conf_reader.specs.Left.{Bounded}
+use Rattle.conf_tokens.specs.Known.{known}
+use Rattle.conf_resolve.specs.Passes.{Begins, final_rows}
+use Rattle.conf_resolve.proofs.PassLemmas.{Underway}
+use Rattle.conf_resolve.proofs.resolution.pass.Given as goal
+
+abbrev pub invariant-loop-line : goal.invariant-loop-line
+invariant-loop-line g l = record {
+  files : g.F.Files.told l.files ≡ g.F.Files.told l.fn.files;
+  runner : g.R.Runner.told l.runner ≡ g.R.Runner.told l.fn.runner;
+  file_faults : g.F.Files.faults l.files ≡ g.F.Files.faults l.fn.files;
+  run_faults : g.R.Runner.faults l.runner ≡ g.R.Runner.faults l.fn.runner;
+  facts : known l.reader.facts ≡ known l.facts;
+  original : l.reader.original ≡ l.asked.original;
+  fits : Bounded l.reader.lines.open (length l.fold.applies);
+  underway : (told : Told) (pass : Pass) (rows : List Row) → told.asked ≡ l.asked → told.facts ≡ known l.facts → TellsFiles (g.F.Files.told l.fn.files) told → TellsStatus (g.R.Runner.told l.fn.runner) told.status
+      → Begins told pass l.fn.fold rows → Underway told pass l.fold l.reader.lines (final_rows told pass rows) rows (g.R.Runner.ran l.fn.runner) (g.R.Runner.ran l.runner);
+}
+
+abbrev pub decreases-loop-line : goal.decreases-loop-line
+decreases-loop-line g l = 100000 - l.reader.lines.read
