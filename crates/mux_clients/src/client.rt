@@ -1,0 +1,162 @@
+ghost use Rattle.std.specs.Prelude.{◌≡◌, ◌≤◌, ◌+◌, ◌∷◌, ℕ, IfOk, OnOk, true};
+ghost use Rattle.ssh_grammar.specs.declared.framing.Framing.TheVariants.{Proxy};
+ghost use Rattle.ssh_grammar.specs.IsFrame.{IsContent};
+ghost use Rattle.ssh_grammar.specs.Frames.{frame_payload};
+ghost use Rattle.mux_clients.specs.State.{part, refusals_of};
+ghost use Rattle.mux_clients.specs.Hears.{HearsTold};
+ghost use Rattle.mux_clients.specs.Among.{ChangesOne, HearsFrames, client_index, is_present};
+ghost use Rattle.ssh_grammar.specs.Said.{first_in};
+ghost use Rattle.mux_clients.specs.State.{KeepsRoom};
+ghost use Rattle.mux_clients.specs.Stands.{is_read, mode_of};
+ghost use Rattle.mux_clients.specs.Nexts.{SaysNext};
+ghost use Rattle.mux_clients.specs.Pieces.{HearsPiece};
+
+use crate::decision::decide;
+use crate::heard::Heard;
+use crate::seat::Seat;
+use client_teardown::FAREWELL_ROOM;
+use mux_core::Core;
+use mux_outside::House;
+use proxy_frames::{Framer, Framing, Next, Queue};
+use ssh_fields::OutOfMemory;
+use std::marker::Model;
+
+/// A client: how it stands, and what it said that isn't cut yet.
+#[derive(Drop)]
+pub struct Client {
+    seat: Seat,
+    framer: Framer,
+}
+
+impl Model for Client {
+    ghost use Rattle.std.specs.Prelude.{◌≡◌, true, None};
+    ghost use Rattle.mux_clients.specs.State.{ClientState};
+    ghost use Rattle.mux_clients.specs.Stands.{is_read, rest_if, framing_of};
+
+    ghost Value = { ClientState };
+
+    ghost view = { λ a. record { seat = a.seat; rest = rest_if (is_read a.seat.standing) a.framer.rest } };
+
+    ghost invariant = { λ a. is_read a.seat.standing ≡ true → (a.framer.framing ≡ framing_of a.seat.standing) × (a.framer.fault ≡ None) };
+}
+
+fn index_of(clients: &[Client], number: u64) -> usize
+    ensures { result ≡ client_index number clients.now }
+{
+    for (i, client) in clients.iter().enumerate() {
+        if client.number() == number {
+            return i;
+        }
+    }
+    clients.len()
+}
+
+/// The client of a number hears a payload of the server, and then so many refusals, after the core has heard it.
+pub fn hear_at(
+    clients: &mut [Client],
+    number: u64,
+    payload: &[u8],
+    refusals: u32,
+    core: &mut Core,
+    up: &mut Queue,
+) -> Result<(), OutOfMemory>
+    requires payload { IsContent Proxy payload.now }
+    requires room { FAREWELL_ROOM ≤ up.old.spare }
+    ensures hears { OnOk result (is_present clients.old number ≡ true → ChangesOne number (HearsFrames (frame_payload payload.now ∷ refusals_of refusals) core.old core.new up.old up.new) clients.old clients.new) }
+    ensures present { OnOk result ((j : ℕ) → is_present clients.new j ≡ is_present clients.old j) }
+    ensures policy { core.new.policy ≡ core.old.policy }
+{
+    let i = index_of(clients, number);
+    if i < clients.len() {
+        clients[i].hears(payload, refusals, core, up)?;
+    }
+    Ok(())
+}
+
+impl Client {
+    pub fn number(&self) -> u64
+        ensures { result ≡ self.now.seat.number }
+    {
+        self.seat.number()
+    }
+
+    /// It hears a payload of the server, and then so many refusals, after the core has heard it.
+    pub fn hears(
+        &mut self,
+        payload: &[u8],
+        refusals: u32,
+        core: &mut Core,
+        up: &mut Queue,
+    ) -> Result<(), OutOfMemory>
+        requires payload { IsContent Proxy payload.now }
+        requires room { FAREWELL_ROOM ≤ up.old.spare }
+        ensures stands { OnOk result (HearsTold (frame_payload payload.now ∷ refusals_of refusals) (part core.old self.old.seat up.old) (part core.new self.new.seat up.new)) }
+        ensures policy { core.new.policy ≡ core.old.policy }
+    {
+        self.seat.hears(payload, refusals, core, up)
+    }
+    // What it says next: whether anything whole was there.
+    fn say_next<H: House>(
+        &mut self,
+        pid: u32,
+        heard: &mut Heard,
+        house: &mut H,
+        core: &mut Core,
+        up: &mut Queue,
+    ) -> Result<bool, OutOfMemory>
+        requires read { is_read self.old.seat.standing ≡ true }
+        requires room { FAREWELL_ROOM ≤ up.old.spare }
+        ensures next { IfOk result (λ more. SaysNext H.may (H.told house.old) (H.told house.new) pid more (first_in (mode_of self.old.seat.standing) self.old.rest) core.old core.new up.old up.new self.old heard.old self.new heard.new) }
+        ensures policy { core.new.policy ≡ core.old.policy }
+        ensures spare { OnOk result (KeepsRoom up.old up.new self.new.seat.standing) }
+    {
+        match self.framer.next() {
+            Next::More => Ok(false),
+            Next::Bad(fault) => {
+                self.seat.fails(fault, core, up);
+                Ok(true)
+            }
+            Next::Frame => {
+                if self.seat.is_proxied() {
+                    self.seat.says(self.framer.frame(), core, up)?;
+                    return Ok(true);
+                }
+                let body = self.framer.content();
+                let decision = decide(self.seat.number(), pid, self.seat.is_greeted(), body, house);
+                self.seat.follows(&decision, heard, core, up)?;
+                if self.seat.is_proxied() {
+                    self.framer.switch(Framing::Proxy);
+                }
+                Ok(true)
+            }
+        }
+    }
+
+    /// Its stream gave bytes, where it is read: what they did beyond it.
+    pub fn got<H: House>(
+        &mut self,
+        pid: u32,
+        bytes: &[u8],
+        house: &mut H,
+        core: &mut Core,
+        up: &mut Queue,
+    ) -> Result<Heard, OutOfMemory>
+        requires read { is_read self.old.seat.standing ≡ true }
+        requires room { FAREWELL_ROOM ≤ up.old.spare }
+        ensures hears { IfOk result (λ heard. HearsPiece H.may (H.told house.old) (H.told house.new) pid bytes.now core.old up.old self.old core.new up.new self.new heard) }
+        ensures policy { OnOk result (core.new.policy ≡ core.old.policy) }
+        ensures spare { OnOk result (KeepsRoom up.old up.new self.new.seat.standing) }
+    {
+        let mut heard = Heard {
+            stops: false,
+            ended: None,
+        };
+        self.framer.push(bytes)?;
+        while self.seat.is_read() {
+            if !self.say_next(pid, &mut heard, house, core, up)? {
+                break;
+            }
+        }
+        Ok(heard)
+    }
+}

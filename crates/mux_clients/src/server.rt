@@ -1,0 +1,61 @@
+ghost use Rattle.std.specs.Prelude.{◌≡◌, ◌≤◌, ◌+◌, ℕ, IfOk, OnOk, None};
+ghost use Rattle.ssh_grammar.specs.declared.framing.Framing.TheVariants.{Proxy as InFrames};
+ghost use Rattle.ssh_grammar.specs.Said.{first_in, InProxy};
+ghost use Rattle.mux_clients.specs.Server.{ServerNext};
+
+use crate::client::Client;
+use crate::hearing::hear;
+use client_teardown::FAREWELL_ROOM;
+use mux_core::Core;
+use mux_history::{Break, Ended};
+use proxy_frames::{Framer, Next, Queue};
+use ssh_fields::OutOfMemory;
+use std::marker::Model;
+
+/// The server: what it said that isn't cut yet, and the place of its next frame, counted from 1.
+#[derive(Drop)]
+pub struct Server {
+    framer: Framer,
+    index: u64,
+}
+
+impl Model for Server {
+    ghost use Rattle.mux_clients.specs.Server.{ServerState};
+
+    ghost Value = { ServerState };
+
+    ghost view = { λ a. record { framing = a.framer.framing; fault = a.framer.fault; rest = a.framer.rest; index = a.index } };
+}
+
+impl Server {
+    // What it says next: whether anything whole was there.
+    fn say_next(
+        &mut self,
+        clients: &mut [Client],
+        ended: &mut Option<Ended>,
+        core: &mut Core,
+        up: &mut Queue,
+    ) -> Result<bool, OutOfMemory>
+        requires cuts { self.old.framing ≡ InFrames }
+        requires well { self.old.fault ≡ None }
+        ensures next { IfOk result (λ more. ServerNext more (first_in InProxy self.old.rest) core.old core.new clients.old clients.new up.old up.new self.old self.new ended.old ended.new) }
+        ensures policy { OnOk result (core.new.policy ≡ core.old.policy) }
+    {
+        match self.framer.next() {
+            Next::More => Ok(false),
+            Next::Bad(fault) => {
+                *ended = Some(Ended::Broke {
+                    index: self.index,
+                    why: Break::Frame(fault),
+                });
+                Ok(true)
+            }
+            Next::Frame => {
+                up.reserve(FAREWELL_ROOM)?;
+                *ended = hear(clients, self.index, self.framer.frame(), core, up)?;
+                self.index = self.index.saturating_add(1);
+                Ok(true)
+            }
+        }
+    }
+}
