@@ -1,0 +1,4 @@
+pub mod Events
+pub mod Room
+pub mod Stands
+pub mod State

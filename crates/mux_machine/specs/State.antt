@@ -1,0 +1,80 @@
+-- What an engine keeps.
+use Rattle.std.specs.Prelude.{ℕ, Bool, true, false, not, List, [], ◌∷◌, ◌++◌, filter, if◌then◌else◌, ◌==◌, Option, Some, None, is_some, length}
+use Rattle.proxy_frames.specs.State.{QueueState}
+use Rattle.mux_history.specs.declared.why.Why.{Why}
+use Rattle.mux_history.specs.declared.ended.Ended.{Ended}
+use Rattle.mux_history.specs.Promises.{is_empty}
+use Rattle.mux_core.specs.State.{CoreState}
+use Rattle.mux_clients.specs.declared.standing.Standing.{Standing}
+use Rattle.mux_clients.specs.declared.standing.Standing.TheVariants.{Lost}
+use Rattle.mux_clients.specs.State.{ClientState}
+use Rattle.mux_clients.specs.Server.{ServerState}
+use Rattle.mux_clients.specs.Stands.{is_lost}
+
+-- the shared connection; what the server said that isn't cut yet, and what waits for it; the clients in the order in which
+-- they came; those that are lost and not closed in the order of their loss; the streams with something that waits; whether
+-- clients are accepted; and how the run ended
+pub record State : Type 0 where
+  pub pid : ℕ
+  pub core : CoreState
+  pub server : ServerState
+  pub up : QueueState
+  pub clients : List ClientState
+  pub leaving : List (ℕ × Option Why)
+  pub waiting : List ℕ
+  pub listening : Bool
+  pub ended : Option Ended
+  pub starved : Bool
+
+-- ---- the clients
+
+-- what is looked up in the client of a number, and another answer where there is none
+abbrev pub in_client : {A : Type 0} → A → (ClientState → A) → List ClientState → ℕ → A
+in_client none look [] k = none
+in_client none look (c ∷ cs) k = if c.seat.number == k then look c else in_client none look cs k
+
+abbrev pub numbers : List ClientState → List ℕ
+numbers [] = []
+numbers (c ∷ cs) = c.seat.number ∷ numbers cs
+
+-- a client whose stream was closed
+abbrev pub without_client : ℕ → List ClientState → List ClientState
+without_client k cs = filter (λ c. not (c.seat.number == k)) cs
+
+-- a client as it was
+abbrev pub SameClient : ℕ → List ClientState → List ClientState → Type 0
+SameClient k old new = in_client None (λ c. Some c) new k ≡ in_client None (λ c. Some c) old k
+
+-- ---- the streams, of which 0 is the server's
+
+-- what waits for a stream
+abbrev pub queue_in : State → ℕ → List ℕ
+queue_in s t = if t == 0 then s.up.waiting else in_client [] (λ c. c.seat.queue) s.clients t
+
+-- the bytes that a stream gave and that are not cut yet: none at the end of the run
+abbrev pub rest_in : State → ℕ → List ℕ
+rest_in s t =
+    if is_some s.ended then [] else if t == 0 then s.server.rest else in_client [] (λ c. c.rest) s.clients t
+
+-- the streams with something that waits
+abbrev pub waiting_clients : List ClientState → List ℕ
+waiting_clients [] = []
+waiting_clients (c ∷ cs) = if is_empty c.seat.queue then waiting_clients cs else c.seat.number ∷ waiting_clients cs
+
+abbrev pub waiting_in : State → List ℕ
+waiting_in s = if is_empty s.up.waiting then waiting_clients s.clients else 0 ∷ waiting_clients s.clients
+
+-- ---- losses
+
+-- a client that is lost, with the cause
+abbrev pub loss_in : Standing → ℕ → List (ℕ × Option Why)
+loss_in (Lost why) k = (k, why) ∷ []
+loss_in _ k = []
+
+-- a client that is lost just now, with the cause
+abbrev pub loss_between : Standing → Standing → ℕ → List (ℕ × Option Why)
+loss_between before now k = if is_lost before then [] else loss_in now k
+
+abbrev pub first_of : List (ℕ × Option Why) → Option (ℕ × Option Why)
+first_of [] = None
+first_of (l ∷ ls) = Some l
