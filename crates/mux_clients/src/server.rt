@@ -1,15 +1,16 @@
 ghost use Rattle.std.specs.Prelude.{◌≡◌, ◌≤◌, ◌+◌, ℕ, IfOk, OnOk, None};
 ghost use Rattle.ssh_grammar.specs.declared.framing.Framing.TheVariants.{Proxy as InFrames};
 ghost use Rattle.ssh_grammar.specs.Said.{first_in, InProxy};
-ghost use Rattle.mux_clients.specs.Server.{ServerNext};
+ghost use Rattle.mux_clients.specs.Server.{HearsBytes, ServerNext, new_server};
 
 use crate::client::Client;
 use crate::hearing::hear;
 use client_teardown::FAREWELL_ROOM;
 use mux_core::Core;
 use mux_history::{Break, Ended};
-use proxy_frames::{Framer, Next, Queue};
+use proxy_frames::{Framer, Framing, Next, Queue};
 use ssh_fields::OutOfMemory;
+use std::alloc::Global;
 use std::marker::Model;
 
 /// The server: what it said that isn't cut yet, and the place of its next frame, counted from 1.
@@ -28,6 +29,15 @@ impl Model for Server {
 }
 
 impl Server {
+    pub fn new(alloc: Global) -> Server
+        ensures { result ≡ new_server }
+    {
+        Server {
+            framer: Framer::new(alloc, Framing::Proxy),
+            index: 1,
+        }
+    }
+
     // What it says next: whether anything whole was there.
     fn say_next(
         &mut self,
@@ -57,5 +67,28 @@ impl Server {
                 Ok(true)
             }
         }
+    }
+
+    /// Its stream gave bytes, where it is read: how the run ended by them, if it did. After an end it isn't read again.
+    pub fn got(
+        &mut self,
+        clients: &mut [Client],
+        bytes: &[u8],
+        core: &mut Core,
+        up: &mut Queue,
+    ) -> Result<Option<Ended>, OutOfMemory>
+        requires cuts { self.old.framing ≡ InFrames }
+        requires well { self.old.fault ≡ None }
+        ensures hears { IfOk result (λ ended. HearsBytes bytes.now core.old clients.old up.old self.old core.new clients.new up.new self.new ended) }
+        ensures policy { OnOk result (core.new.policy ≡ core.old.policy) }
+    {
+        self.framer.push(bytes)?;
+        let mut ended = None;
+        while ended.is_none() {
+            if !self.say_next(clients, &mut ended, core, up)? {
+                break;
+            }
+        }
+        Ok(ended)
     }
 }
