@@ -1,9 +1,10 @@
 -- What an engine keeps.
-use Rattle.std.specs.Prelude.{ℕ, Bool, true, false, not, List, [], ◌∷◌, ◌++◌, filter, if◌then◌else◌, ◌==◌, Option, Some, None, is_some, length}
+use Rattle.std.specs.Prelude.{◌≡◌, ℕ, Bool, true, false, not, List, [], ◌∷◌, ◌++◌, filter, if◌then◌else◌, ◌==◌, Option, Some, None, is_some, length}
 use Rattle.proxy_frames.specs.State.{QueueState}
 use Rattle.mux_history.specs.declared.why.Why.{Why}
 use Rattle.mux_history.specs.declared.ended.Ended.{Ended}
 use Rattle.mux_history.specs.Promises.{is_empty}
+use Rattle.mux_outside.specs.Streams.{without}
 use Rattle.mux_core.specs.State.{CoreState}
 use Rattle.mux_clients.specs.declared.standing.Standing.{Standing}
 use Rattle.mux_clients.specs.declared.standing.Standing.TheVariants.{Lost}
@@ -78,3 +79,7 @@ loss_between before now k = if is_lost before then [] else loss_in now k
 abbrev pub first_of : List (ℕ × Option Why) → Option (ℕ × Option Why)
 first_of [] = None
 first_of (l ∷ ls) = Some l
+
+-- a client whose stream was closed: nothing waits for it any more
+abbrev pub closed_by : State → ℕ → State
+closed_by s k = record s { clients = without_client k s.clients; leaving = filter (λ (l : ℕ × Option Why). not (l.0 == k)) s.leaving; waiting = without k s.waiting }

@@ -1,13 +1,7 @@
-//! The machine of a run: what the streams of the clients and of the server say goes in as events, and what is to be
-//! written waits in a queue for each stream.
-//!
-//! An engine stands for the journal of a run: for the shared connection, for what each stream said so far, and for what
-//! waits for it. Each event adds one mark to that journal.
+//! The machine of a run.
 #![tactic(auto)]
 
-mod clients;
-mod engine;
 mod event;
+mod laws;
 
-pub use engine::Engine;
 pub use event::{Event, Went};
