@@ -1,2 +1,6 @@
 mod Closes
+mod Grows
 mod Lists
+mod Moved
+mod Takes
+mod Waits

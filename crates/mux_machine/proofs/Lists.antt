@@ -28,7 +28,7 @@ not_here k c cs p = elim (eqb_tells c.seat.number k) [
   | inr q ↦ (q.1, sym (ap (λ b. either b (is_present cs k)) q.0) ∙ p)
 ]
 
-without_head : (k j : ℕ) (js : List ℕ) (b : Bool) → (j == k) ≡ b → without k (j ∷ js) ≡ cond (not b) (j ∷ without k js) (without k js)
+pub without_head : (k j : ℕ) (js : List ℕ) (b : Bool) → (j == k) ≡ b → without k (j ∷ js) ≡ cond (not b) (j ∷ without k js) (without k js)
 without_head k j js b e = ap (λ t. cond (not t) (j ∷ without k js) (without k js)) e
 
 -- ---- a client less

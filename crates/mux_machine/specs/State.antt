@@ -1,5 +1,6 @@
 -- What an engine keeps.
-use Rattle.std.specs.Prelude.{◌≡◌, ℕ, Bool, true, false, not, List, [], ◌∷◌, ◌++◌, filter, if◌then◌else◌, ◌==◌, Option, Some, None, is_some, length}
+use Rattle.std.specs.Prelude.{◌≡◌, ℕ, Bool, true, false, not, List, [], ◌∷◌, ◌++◌, drop, filter, if◌then◌else◌, ◌==◌, Option, Some, None, is_some, length}
+use Rattle.proxy_frames.specs.Queued.{without_first}
 use Rattle.proxy_frames.specs.State.{QueueState}
 use Rattle.mux_history.specs.declared.why.Why.{Why}
 use Rattle.mux_history.specs.declared.ended.Ended.{Ended}
@@ -83,3 +84,20 @@ first_of (l ∷ ls) = Some l
 -- a client whose stream was closed: nothing waits for it any more
 abbrev pub closed_by : State → ℕ → State
 closed_by s k = record s { clients = without_client k s.clients; leaving = filter (λ (l : ℕ × Option Why). not (l.0 == k)) s.leaving; waiting = without k s.waiting }
+
+-- ---- what was taken
+
+-- the clients with the first of one number changed
+abbrev pub at_client : ℕ → (ClientState → ClientState) → List ClientState → List ClientState
+at_client k f [] = []
+at_client k f (c ∷ cs) = if c.seat.number == k then f c ∷ cs else c ∷ at_client k f cs
+
+abbrev pub client_took : ℕ → ClientState → ClientState
+client_took n c = record c { seat = record c.seat { queue = drop n c.seat.queue } }
+
+-- so many bytes that a stream took, and then the streams that wait
+abbrev pub took : State → ℕ → ℕ → State
+took s t n = if t == 0 then record s { up = without_first n s.up } else record s { clients = at_client t (client_took n) s.clients }
+
+abbrev pub taken : State → ℕ → ℕ → State
+taken s t n = record (took s t n) { waiting = if is_empty (queue_in (took s t n) t) then without t s.waiting else s.waiting }
