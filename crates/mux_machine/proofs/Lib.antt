@@ -2,5 +2,6 @@ mod Closes
 mod Grows
 mod Lists
 mod Moved
+mod Over
 mod Takes
 mod Waits

@@ -34,7 +34,7 @@ took_row t n = bare (Took t n) t silent
 
 -- ---- the log
 
-more-yes : (s : Setting) (rows : List Row) (item : Item) → makes_next rows item ≡ true → more_of s rows item ≡ next_row s rows item ∷ rows
+pub more-yes : (s : Setting) (rows : List Row) (item : Item) → makes_next rows item ≡ true → more_of s rows item ≡ next_row s rows item ∷ rows
 more-yes s rows item e = ap (λ b. elim b as (λ _. List Row) [ false ↦ rows | true ↦ next_row s rows item ∷ rows ]) e
 
 took-log : (s : State) (picks : List ℕ) (replies : List HouseReply) (t : ℕ) (bytes : List ℕ) (marks : List Mark) → log s picks replies (Takes t bytes ∷ marks) ≡ took_row t (length bytes) ∷ log s picks replies marks

@@ -3,7 +3,9 @@ use Rattle.std.specs.Prelude.{◌≡◌, ℕ, Bool, true, false, not, List, [], 
 use Rattle.proxy_frames.specs.Queued.{without_first}
 use Rattle.proxy_frames.specs.State.{QueueState}
 use Rattle.mux_history.specs.declared.why.Why.{Why}
+use Rattle.mux_history.specs.declared.broke.Break.TheVariants as broke
 use Rattle.mux_history.specs.declared.ended.Ended.{Ended}
+use Rattle.mux_history.specs.declared.ended.Ended.TheVariants as ended
 use Rattle.mux_history.specs.Promises.{is_empty}
 use Rattle.mux_outside.specs.Streams.{without}
 use Rattle.mux_core.specs.State.{CoreState}
@@ -101,3 +103,12 @@ took s t n = if t == 0 then record s { up = without_first n s.up } else record s
 
 abbrev pub taken : State → ℕ → ℕ → State
 taken s t n = record (took s t n) { waiting = if is_empty (queue_in (took s t n) t) then without t s.waiting else s.waiting }
+
+-- ---- the end of the run
+
+abbrev pub over : State → Ended → State
+over s cause = record s { ended = Some cause }
+
+-- why it ends where the server's stream does: inside a frame that breaks the protocol
+abbrev pub server_cause : State → Ended
+server_cause s = elim s.server.rest [ [] ↦ ended.ServerEnd | b ∷ rest ↦ ended.Broke s.server.index (broke.Cut (length (b ∷ rest))) ]
