@@ -1,0 +1,13 @@
+//! What an engine needs to know of the pieces that it gives: each function's contract is the law.
+
+ghost use Rattle.mux_clients.specs.Laws.{PiecesOfAClient, PiecesOfTheServer};
+
+/// A piece of a client's bytes makes the rows that the log has for it.
+pub fn pieces_of_a_client()
+    ensures { PiecesOfAClient }
+{}
+
+/// A piece of the server's bytes makes the rows that the log has for it.
+pub fn pieces_of_the_server()
+    ensures { PiecesOfTheServer }
+{}
