@@ -1,5 +1,5 @@
 -- The rows of a piece are those that the log has for it, and its bytes are read so afterwards.
-use Rattle.std.specs.Prelude.{◌≡◌, ◌+◌, ◌&&◌, not, ℕ, true, false, List, ◌++◌, length, Option, None}
+use Rattle.std.specs.Prelude.{◌≡◌, ◌+◌, ◌&&◌, not, ℕ, true, false, List, ◌∷◌, ◌++◌, length, Option, None}
 use Rattle.mux_outside.specs.declared.house.HouseReply.{HouseReply}
 use Rattle.ssh_fields.specs.Fields.{AreBytes}
 use Rattle.ssh_grammar.specs.Frames.{More}
@@ -7,20 +7,21 @@ use Rattle.ssh_grammar.specs.Said.{InControl, InProxy, first_in, parse}
 use Rattle.proxy_frames.specs.State.{QueueState}
 use Rattle.mux_history.specs.declared.ended.Ended.{Ended}
 use Rattle.mux_history.specs.Policy.{Policy}
-use Rattle.mux_history.specs.Rows.{Row, is_ended}
+use Rattle.mux_history.specs.Rows.{Row, Gone, is_ended}
 use Rattle.mux_history.specs.Choices.{numbers_taken, replies_given}
 use Rattle.mux_history.specs.Promises.{listens}
 use Rattle.mux_history.specs.Solo.{end_of}
 use Rattle.mux_history.specs.Right.{AreFresh}
 use Rattle.mux_history.specs.Settings.{by_lists}
 use Rattle.mux_history.specs.Journal.{new_heard, new_sayings}
-use Rattle.mux_history.specs.Log.{more_all}
+use Rattle.mux_history.specs.Log.{more_all, next_row}
 use Rattle.mux_core.specs.State.{CoreState}
 use Rattle.mux_clients.specs.declared.heard.Heard.{Heard}
 use Rattle.mux_clients.specs.State.{ClientState, part}
 use Rattle.mux_clients.specs.Stands.{Fits, is_read, mode_of}
 use Rattle.mux_clients.specs.Pieces.{RunsTo, ended_then}
-use Rattle.mux_clients.specs.Among.{AllFit}
+use Rattle.mux_clients.specs.Among.{AddsFor, AllFit, ChangesOne, MovesTo, is_present}
+use Rattle.mux_clients.specs.Hearings.{AreHere}
 use Rattle.mux_clients.specs.Server.{AllAwait, HeardTo}
 
 -- ---- a client
@@ -37,6 +38,7 @@ rows_given policy pid picks given k before bytes rows = more_all (by_lists polic
 -- how a piece leaves its client, by these rows
 pub record IsReadTo (k : ℕ) (before bytes picked : List ℕ) (used : List HouseReply) (rows rows' : List Row) (core : CoreState) (up : QueueState) (now : ClientState) (heard : Heard) : Type 0 where
   pub number : now.seat.number ≡ k
+  pub adds : AddsFor k rows rows'
   pub fits : Fits rows' (part core now.seat up)
   pub taken : numbers_taken rows' ≡ numbers_taken rows + length picked
   pub given_is : replies_given rows' ≡ replies_given rows + length used
@@ -81,3 +83,21 @@ PiecesOfTheServer =
     (policy : Policy) (pid : ℕ) (picks : List ℕ) (given : List HouseReply) (before bytes rest rest' : List ℕ) (rows : List Row) (core : CoreState) (cs : List ClientState) (queue : QueueState) (index : ℕ) (ended : Option Ended)
     → ServerReads before rest → (ended ≡ None → first_in InProxy rest' ≡ More) → HeardTo policy pid picks given (rest ++ bytes) rows core cs queue rest' index ended
     → IsHeardTo before bytes rows (rows_told policy pid picks given before bytes rows) core cs queue rest' index ended
+
+-- ---- all clients
+
+-- they stand for the rows with the one that went on, and each of them that isn't lost is here still
+pub record AllMoved (rows rows' : List Row) (core' : CoreState) (cs cs' : List ClientState) (up' : QueueState) : Type 0 where
+  pub fit : AllFit rows' core' cs' up'
+  pub here : AreHere rows cs → AreHere rows' cs'
+  pub present : (j : ℕ) → is_present cs' j ≡ is_present cs j
+
+-- where one of them goes on and the others stay
+abbrev pub OneMovesAll : Type 0
+OneMovesAll =
+    (k : ℕ) (rows rows' : List Row) (core core' : CoreState) (cs cs' : List ClientState) (up up' : QueueState)
+    → AllFit rows core cs up → AddsFor k rows rows' → is_present cs k ≡ true → ChangesOne k (MovesTo rows' core' up') cs cs' → AllMoved rows rows' core' cs cs' up'
+
+-- the row of a client whose stream is gone concerns it alone
+abbrev pub LossesAddForOne : Type 0
+LossesAddForOne = (policy : Policy) (pid : ℕ) (picks : List ℕ) (given : List HouseReply) (k : ℕ) (rows : List Row) → AddsFor k rows (next_row (by_lists policy pid picks given) rows (Gone k) ∷ rows)
