@@ -1,4 +1,4 @@
--- What the outcome of a payload depends on, and what one tells that drops its client.
+-- What the outcome of a payload depends on, what one tells that drops its client, and that none refuses it.
 use Rattle.std.proofs.Common.{◌≡◌, ℕ, List, [], ◌∷◌, true, false, Bool, refl, ◌∙◌, ap, sym, subst, Option, Some, None, Ok, Err, Result, length}
 use Rattle.std.specs.Prelude.{◌&&◌, ◌==◌, is_some, nat_lt, nat_le}
 use Rattle.ssh_grammar.specs.declared.side.Side.TheVariants.{Up}
@@ -12,7 +12,7 @@ use Rattle.mux_history.specs.declared.limits.TheConstants.{MAX_CHANNELS, MAX_GLO
 use Rattle.mux_history.specs.declared.why.Why.{Why}
 use Rattle.mux_history.specs.declared.why.Why.TheVariants as why
 use Rattle.mux_history.specs.Gist.{Gist, Transport, Requests, Succeeds, Refuses, Open, Confirmation, Within, Act, read_gist, reading, sender_of}
-use Rattle.mux_history.specs.Rows.{Row, Says, Fate, Goes, Drop, Refused, End}
+use Rattle.mux_history.specs.Rows.{Row, Says, Fate, Goes, Drop, Refused, End, is_refusal}
 use Rattle.mux_history.specs.Channels.{Channel, held_of, own_of, with_own}
 use Rattle.mux_history.specs.Choices.{takes_number}
 use Rattle.mux_history.specs.Ledger.{breach}
@@ -89,7 +89,7 @@ pick-free policy k own n pick p h = by_read (read_gist p) refl
 -- ---- what drops its client tells it nothing
 
 abbrev TellsUndropped : Outcome → Type 0
-TellsUndropped o = elim o.ends [ Drop cause ↦ o.told ≡ [] | Goes ↦ Unit {0} | Refused ↦ Unit {0} | End cause ↦ Unit {0} ]
+TellsUndropped o = elim o.ends [ Drop cause ↦ o.told ≡ [] | Goes ↦ Unit {0} | Refused ↦ ⊥ | End cause ↦ Unit {0} ]
 
 quiet-open : (own : List Row) (pick : ℕ) (p : List ℕ) (sender : ℕ) (b : Bool) → TellsUndropped (elim b as (λ _. Outcome) [ true ↦ sends_as pick p | false ↦ fails_open sender RESOURCE_SHORTAGE too_many_channels ])
 quiet-open own pick p sender true = tt
@@ -159,7 +159,16 @@ undropped policy k own pick p = by_read (read_gist p)
     by_read (Ok m) = quiet-gist policy k own pick p m
 
 by-drop : (o : Outcome) (f : Fate) (cause : Why) → o.ends ≡ f → f ≡ Drop cause → TellsUndropped o → o.told ≡ []
-by-drop o f cause e d q = subst (λ (f : Fate). elim f as (λ _. Type 0) [ Drop cause ↦ o.told ≡ [] | Goes ↦ Unit {0} | Refused ↦ Unit {0} | End cause ↦ Unit {0} ]) (e ∙ d) q
+by-drop o f cause e d q = subst (λ (f : Fate). elim f as (λ _. Type 0) [ Drop cause ↦ o.told ≡ [] | Goes ↦ Unit {0} | Refused ↦ ⊥ | End cause ↦ Unit {0} ]) (e ∙ d) q
 
 pub dropped-untold : (policy : Policy) (k : ℕ) (own : List Row) (pick : ℕ) (p : List ℕ) (cause : Why) → (said_payload policy k own pick p).ends ≡ Drop cause → (said_payload policy k own pick p).told ≡ []
 dropped-untold policy k own pick p cause e = by-drop (said_payload policy k own pick p) (said_payload policy k own pick p).ends cause refl e (undropped policy k own pick p)
+
+unrefused-by : (o : Outcome) (f : Fate) → o.ends ≡ f → TellsUndropped o → is_refusal f ≡ false
+unrefused-by o Goes e q = refl
+unrefused-by o (Drop cause) e q = refl
+unrefused-by o (End cause) e q = refl
+unrefused-by o Refused e q = absurd (subst (λ (f : Fate). elim f as (λ _. Type 0) [ Drop cause ↦ o.told ≡ [] | Goes ↦ Unit {0} | Refused ↦ ⊥ | End cause ↦ Unit {0} ]) e q)
+
+pub said-unrefused : (policy : Policy) (k : ℕ) (own : List Row) (pick : ℕ) (p : List ℕ) → is_refusal (said_payload policy k own pick p).ends ≡ false
+said-unrefused policy k own pick p = unrefused-by (said_payload policy k own pick p) (said_payload policy k own pick p).ends refl (undropped policy k own pick p)

@@ -9,7 +9,9 @@ ghost use Rattle.ssh_grammar.specs.Said.{first_in};
 ghost use Rattle.mux_clients.specs.State.{KeepsRoom};
 ghost use Rattle.mux_clients.specs.Stands.{is_read, mode_of};
 ghost use Rattle.mux_clients.specs.Nexts.{SaysNext};
-ghost use Rattle.mux_clients.specs.Pieces.{HearsPiece};
+ghost use Rattle.mux_clients.specs.Pieces.{HearsIn, HearsPiece};
+ghost use Rattle.mux_clients.specs.Losing.{LosesIn};
+ghost use Rattle.mux_clients.specs.Entering.{Enters, new_client};
 
 use crate::decision::decide;
 use crate::heard::Heard;
@@ -19,6 +21,7 @@ use mux_core::Core;
 use mux_outside::House;
 use proxy_frames::{Framer, Framing, Next, Queue};
 use ssh_fields::OutOfMemory;
+use std::alloc::Global;
 use std::marker::Model;
 
 /// A client: how it stands, and what it said that isn't cut yet.
@@ -73,7 +76,103 @@ pub fn hear_at(
     Ok(())
 }
 
+/// A piece of the bytes of the client of a number, where it is read: what it did beyond the client.
+pub fn got_at<H: House>(
+    clients: &mut [Client],
+    number: u64,
+    pid: u32,
+    bytes: &[u8],
+    house: &mut H,
+    core: &mut Core,
+    up: &mut Queue,
+) -> Result<Heard, OutOfMemory>
+    requires room { FAREWELL_ROOM ≤ up.old.spare }
+    ensures hears { IfOk result (λ heard. is_present clients.old number ≡ true → ChangesOne number (HearsIn H.may (H.told house.old) (H.told house.new) pid bytes.now core.old core.new up.old up.new heard) clients.old clients.new) }
+    ensures policy { OnOk result (core.new.policy ≡ core.old.policy) }
+{
+    let i = index_of(clients, number);
+    if i < clients.len() {
+        return clients[i].hear(pid, bytes, house, core, up);
+    }
+    Ok(Heard {
+        stops: false,
+        ended: None,
+    })
+}
+
+/// The stream of the client of a number is gone: what it left open is closed.
+pub fn lose_at(clients: &mut [Client], number: u64, core: &mut Core, up: &mut Queue)
+    requires room { FAREWELL_ROOM ≤ up.old.spare }
+    ensures loses { is_present clients.old number ≡ true → ChangesOne number (LosesIn core.old core.new up.old up.new) clients.old clients.new }
+    ensures policy { core.new.policy ≡ core.old.policy }
+{
+    let i = index_of(clients, number);
+    if i < clients.len() {
+        clients[i].lose(core, up);
+    }
+}
+
+/// A client comes: whether it is let in. Then the master's hello waits for it, and its own is awaited.
+pub fn admit(
+    clients: &mut Vec<Client>,
+    alloc: Global,
+    number: u64,
+    core: &mut Core,
+) -> Result<bool, OutOfMemory>
+    ensures enters { IfOk result (λ let_in. Enters number core.old core.new clients.old.items clients.new.items let_in) }
+    ensures policy { core.new.policy ≡ core.old.policy }
+{
+    let client = Client::new(alloc, number)?;
+    if !core.admit(number)? {
+        return Ok(false);
+    }
+    clients.push(client)?;
+    Ok(true)
+}
+
 impl Client {
+    /// A client that comes: the master's hello waits for it, and its own is awaited.
+    pub fn new(alloc: Global, number: u64) -> Result<Client, OutOfMemory>
+        ensures { IfOk result (λ client. client ≡ new_client number) }
+    {
+        Ok(Client {
+            seat: Seat::new(alloc, number)?,
+            framer: Framer::new(alloc, Framing::Control),
+        })
+    }
+
+    /// Its stream is gone: what it left open is closed.
+    pub fn lose(&mut self, core: &mut Core, up: &mut Queue)
+        requires room { FAREWELL_ROOM ≤ up.old.spare }
+        ensures loses { LosesIn core.old core.new up.old up.new self.old self.new }
+        ensures policy { core.new.policy ≡ core.old.policy }
+        ensures spare { up.old.spare ≤ up.new.spare + FAREWELL_ROOM }
+    {
+        self.seat.lose(core, up);
+    }
+
+    // A piece of its bytes, where it is read.
+    fn hear<H: House>(
+        &mut self,
+        pid: u32,
+        bytes: &[u8],
+        house: &mut H,
+        core: &mut Core,
+        up: &mut Queue,
+    ) -> Result<Heard, OutOfMemory>
+        requires room { FAREWELL_ROOM ≤ up.old.spare }
+        ensures hears { IfOk result (λ heard. HearsIn H.may (H.told house.old) (H.told house.new) pid bytes.now core.old core.new up.old up.new heard self.old self.new) }
+        ensures policy { OnOk result (core.new.policy ≡ core.old.policy) }
+    {
+        if self.seat.is_read() {
+            return self.got(pid, bytes, house, core, up);
+        }
+        Ok(Heard {
+            stops: false,
+            ended: None,
+        })
+    }
+
     pub fn number(&self) -> u64
         ensures { result ≡ self.now.seat.number }
     {

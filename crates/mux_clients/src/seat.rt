@@ -9,6 +9,8 @@ ghost use Rattle.mux_clients.specs.declared.standing.Standing.TheVariants.{Lost}
 ghost use Rattle.mux_clients.specs.State.{part, refusals_of, KeepsRoom};
 ghost use Rattle.mux_clients.specs.Says.{SaysPayload};
 ghost use Rattle.mux_clients.specs.Hears.{HearsTold};
+ghost use Rattle.mux_clients.specs.Losing.{Loses};
+ghost use Rattle.mux_clients.specs.Entering.{new_client};
 ghost use Rattle.mux_clients.specs.declared.standing.Standing.{Standing as TheStanding};
 ghost use Rattle.mux_clients.specs.Decisions.{frames, is_stops, GoesOn, StandsAs};
 ghost use Rattle.mux_clients.specs.Bodies.{FollowsBy};
@@ -24,9 +26,11 @@ use conn_messages::request_failure;
 use mux_core::{Core, Verdict};
 use mux_history::Why;
 use mux_history::limits::MAX_QUEUE;
+use mux_messages::hello;
 use proxy_frames::Queue;
 use ssh_fields::{OutOfMemory, Small};
 use ssh_grammar::BadFrame;
+use std::alloc::Global;
 use std::marker::Model;
 
 /// How many bytes the header of a proxy frame has.
@@ -66,6 +70,19 @@ fn stops(fate: Fate) -> bool
 }
 
 impl Seat {
+    /// A client that comes: the master's hello waits for it.
+    pub fn new(alloc: Global, number: u64) -> Result<Seat, OutOfMemory>
+        ensures { IfOk result (λ seat. seat ≡ (new_client number).seat) }
+    {
+        let mut queue = Queue::new(alloc);
+        queue.push_bytes(hello().as_bytes())?;
+        Ok(Seat {
+            number,
+            standing: Standing::Awaited,
+            queue,
+        })
+    }
+
     // It is told a payload where the frame fits into the queue; else why it is to be dropped.
     fn tell(&mut self, payload: &[u8]) -> Result<Option<Why>, OutOfMemory>
         requires { IsContent Proxy payload.now }
@@ -123,6 +140,18 @@ impl Seat {
         ensures spare { up.old.spare ≤ up.new.spare + FAREWELL_ROOM }
     {
         self.standing = Standing::Lost(Some(why));
+        core.gone(self.number, up);
+    }
+
+    /// Its stream is gone: what it left open is closed.
+    pub fn lose(&mut self, core: &mut Core, up: &mut Queue)
+        requires room { FAREWELL_ROOM ≤ up.old.spare }
+        ensures loses { Loses (part core.old self.old up.old) (part core.new self.new up.new) }
+        ensures out { is_read self.new.standing ≡ false }
+        ensures policy { core.new.policy ≡ core.old.policy }
+        ensures spare { up.old.spare ≤ up.new.spare + FAREWELL_ROOM }
+    {
+        self.standing = Standing::Lost(None);
         core.gone(self.number, up);
     }
 

@@ -1,0 +1,12 @@
+use Rattle.std.proofs.Common.{◌≡◌, sym, ◌∙◌, arith, true, false}
+use Rattle.mux_clients.specs.Among.{is_present}
+use Rattle.mux_clients.specs.Losing.{LosesIn}
+use Rattle.mux_clients.proofs.Amongs.{set-changes, placed-absent}
+use Rattle.mux_clients.proofs.client.lose_at.Goals as goal
+
+pub returns-then-i-clients-clause-loses : goal.returns-then-i-clients-clause-loses
+returns-then-i-clients-clause-loses c = λ here. set-changes c.args.number c.index_of-i.result (LosesIn c.args.core.now c.lose.new.core c.args.up.now c.lose.new.up) c.index-clients-i.result c.lose.new.self c.args.clients.now
+    c.index_of-i.ensures c.if-i-clients.true c.lose.ensures.loses
+
+pub returns-else-i-clients-clause-loses : goal.returns-else-i-clients-clause-loses
+returns-else-i-clients-clause-loses c = λ here. absurd (let gone : is_present c.args.clients.now c.args.number ≡ false = placed-absent c.args.number c.args.clients.now (omega (arith, c.index_of-i.ensures)) in let d : false ≡ true = sym gone ∙ here in cc)
