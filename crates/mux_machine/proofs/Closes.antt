@@ -14,9 +14,9 @@ use Rattle.mux_history.specs.Promises.{is_empty}
 use Rattle.mux_clients.specs.Among.{AllFit, InFits, is_present}
 use Rattle.mux_clients.specs.State.{ClientState}
 use Rattle.mux_clients.proofs.Stood.{out_is, or_true, own_row}
-use Rattle.mux_machine.specs.State.{State, closed_by, waiting_clients, waiting_in, without_client}
+use Rattle.mux_machine.specs.State.{State, closed_by, is_here, waiting_clients, waiting_in, without_client}
 use Rattle.mux_machine.specs.Stands.{BytesFit, Closes, EachReads, IsFirst, IsStrange, RowsFit, Stands, StandsFor, is_accepted, log, not_closed}
-use Rattle.mux_machine.proofs.Lists.{apart_less, each_less, gone_less, lost_less, present_less, test_other, true_false, waiting_less}
+use Rattle.mux_machine.proofs.Lists.{apart_less, each_less, gone_less, lost_less, present_less, test_other, true_false, waiting_less, among-gone, among-less, among-was}
 
 -- ---- who is out
 
@@ -149,6 +149,13 @@ reads_less k marks (c ∷ cs) each = by_test (not (c.seat.number == k)) (reads_l
 closed_test : (k j : ℕ) (closed : List ℕ) (b : Bool) → (k == j) ≡ b → among j (k ∷ closed) ≡ (b || among j closed)
 closed_test k j closed b e = ap (λ x. x || among j closed) e
 
+-- who is here with one closed
+here-other : (k j : ℕ) (s : State) → k ≢ j → is_here (closed_by s k) j ≡ is_here s j
+here-other k j s ne = ap (λ b. b || among j (without k s.refused)) (present_less k j s.clients ne) ∙ ap (λ b. is_present s.clients j || b) (among-less k j s.refused ne)
+
+here-gone : (k : ℕ) (s : State) → is_here (closed_by s k) k ≡ false
+here-gone k s = ap (λ b. b || among k (without k s.refused)) (gone_less k s.clients) ∙ among-gone k s.refused
+
 rows_closed : (taken : ℕ) (dn : List Asked) (s : State) (k : ℕ) (closed : List ℕ) (rows : List Row) → is_out (rows_of k rows) ≡ true → k ≢ 0 → RowsFit taken dn s closed rows → RowsFit taken dn (closed_by s k) (k ∷ closed) rows
 rows_closed taken dn s k closed rows out nz st = record {
   taken_is = st.taken_is;
@@ -164,12 +171,13 @@ rows_closed taken dn s k closed rows out nz st = record {
   place_is = st.place_is;
   absent = λ j z p q. elim (eqb_tells k j) [
     | inl t ↦ true_false (sym (closed_test k j closed true t.0) ∙ q)
-    | inr t ↦ st.absent j z (sym (present_less k j s.clients t.1) ∙ p) (sym (closed_test k j closed false t.0) ∙ q)
+    | inr t ↦ st.absent j z (sym (here-other k j s t.1) ∙ p) (sym (closed_test k j closed false t.0) ∙ q)
   ];
   closed_gone = λ j q. elim (eqb_tells k j) [
-    | inl t ↦ ap (is_present (without_client k s.clients)) (sym t.1) ∙ gone_less k s.clients
-    | inr t ↦ present_less k j s.clients t.1 ∙ st.closed_gone j (sym (closed_test k j closed false t.0) ∙ q)
+    | inl t ↦ ap (is_here (closed_by s k)) (sym t.1) ∙ here-gone k s
+    | inr t ↦ here-other k j s t.1 ∙ st.closed_gone j (sym (closed_test k j closed false t.0) ∙ q)
   ];
+  refused_out = λ j q. st.refused_out j (among-was k j s.refused q);
   closed_out = λ j q. elim (eqb_tells k j) [
     | inl t ↦ ap (λ i. is_out (rows_of i rows)) (sym t.1) ∙ out
     | inr t ↦ st.closed_out j (sym (closed_test k j closed false t.0) ∙ q)
@@ -178,17 +186,17 @@ rows_closed taken dn s k closed rows out nz st = record {
   server_in = st.server_in;
 }
 
-bytes_closed : (s : State) (k : ℕ) (marks : List Mark) (closed : List ℕ) (rows : List Row) → is_out (rows_of k rows) ≡ true → k ≢ 0 → ((j : ℕ) → j ≢ 0 → is_present s.clients j ≡ false → among j closed ≡ false → rows_of j rows ≡ []) → BytesFit s marks closed rows → BytesFit (closed_by s k) marks (k ∷ closed) rows
+bytes_closed : (s : State) (k : ℕ) (marks : List Mark) (closed : List ℕ) (rows : List Row) → is_out (rows_of k rows) ≡ true → k ≢ 0 → ((j : ℕ) → j ≢ 0 → is_here s j ≡ false → among j closed ≡ false → rows_of j rows ≡ []) → BytesFit s marks closed rows → BytesFit (closed_by s k) marks (k ∷ closed) rows
 bytes_closed s k marks closed rows out nz absent st = record {
   clients = λ l. reads_less k marks s.clients (st.clients l);
   server = st.server;
   there = λ live j a p. elim (eqb_tells k j) [
     | inl t ↦ closed_test k j closed true t.0
-    | inr t ↦ closed_test k j closed false t.0 ∙ st.there live j a (sym (present_less k j s.clients t.1) ∙ p)
+    | inr t ↦ closed_test k j closed false t.0 ∙ st.there live j a (sym (here-other k j s t.1) ∙ p)
   ];
   strange = λ j a. let v : IsStrange s marks closed j = st.strange j a in elim (eqb_tells k j) [
     | inl t ↦ let w : IsStrange s marks closed k = st.strange k (ap (λ i. is_accepted i marks) t.1 ∙ a) in true_false (sym out ∙ ap is_out (absent k nz w.not_here w.not_closed_yet))
-    | inr t ↦ record { not_here = present_less k j s.clients t.1 ∙ v.not_here; not_closed_yet = closed_test k j closed false t.0 ∙ v.not_closed_yet; no_bytes = v.no_bytes }
+    | inr t ↦ record { not_here = here-other k j s t.1 ∙ v.not_here; not_closed_yet = closed_test k j closed false t.0 ∙ v.not_closed_yet; no_bytes = v.no_bytes }
   ];
 }
 

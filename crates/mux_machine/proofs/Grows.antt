@@ -7,9 +7,9 @@ use Rattle.mux_history.specs.Rows.{Row, rows_of, any_of, loses, is_lost, is_out,
 use Rattle.mux_history.specs.Log.{entered, served}
 use Rattle.mux_clients.specs.State.{ClientState}
 use Rattle.mux_clients.specs.Stands as stands
-use Rattle.mux_clients.specs.Among.{EachFits, InFits, served_in}
+use Rattle.mux_clients.specs.Among.{EachFits, InFits}
 use Rattle.mux_clients.proofs.Stood.{out_is, or_true, own_row}
-use Rattle.mux_machine.specs.State.{State, numbers}
+use Rattle.mux_machine.specs.State.{numbers, served_in}
 use Rattle.mux_machine.specs.Stands.{IsKnown}
 use Rattle.mux_machine.proofs.Lists.{true_false}
 use Rattle.mux_machine.proofs.Closes.{other_row, out_more}

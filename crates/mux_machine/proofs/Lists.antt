@@ -1,15 +1,15 @@
 -- Lists of clients: one that is there or not, and one less.
-use Rattle.std.proofs.Common.{◌≡◌, ◌≢◌, ℕ, Bool, true, false, not, List, [], ◌∷◌, refl, sym, ap, ◌∙◌, inl, inr, cond}
+use Rattle.std.proofs.Common.{◌≡◌, ◌≢◌, ℕ, Bool, true, false, not, ◌||◌, List, [], ◌∷◌, refl, sym, ap, ◌∙◌, inl, inr, cond}
 use Rattle.std.specs.Prelude.{filter, ◌==◌}
 use Rattle.std.proofs.lemmas.Bool.{eq-eqb, eqb-true}
 use Rattle.std.proofs.lemmas.Bool.Decides.{eqb_tells}
-use Rattle.mux_outside.specs.Streams.{without}
+use Rattle.mux_outside.specs.Streams.{among, without}
 use Rattle.mux_history.specs.Rows.{Row}
 use Rattle.mux_history.specs.Promises.{is_empty}
 use Rattle.mux_clients.specs.State.{ClientState}
 use Rattle.mux_clients.specs.Stands.{is_lost}
-use Rattle.mux_clients.specs.Among.{AreApart, EachFits, InFits, is_present, served_in}
-use Rattle.mux_machine.specs.State.{waiting_clients, without_client}
+use Rattle.mux_clients.specs.Among.{AreApart, EachFits, InFits, is_present}
+use Rattle.mux_machine.specs.State.{served_in, waiting_clients, without_client}
 
 -- the head of a list is there, or else one behind it
 abbrev pub either : Bool → Bool → Bool
@@ -96,3 +96,25 @@ lost_less rows k (c ∷ cs) h each = by_test (c.seat.number == k) refl (lost_les
     by_test : (b : Bool) → (c.seat.number == k) ≡ b → served_in (without_client k cs) ≡ served_in cs → served_in (cond (not b) (c ∷ without_client k cs) (without_client k cs)) ≡ cond (is_lost c.seat.standing) (served_in cs) (c.seat.number ∷ served_in cs)
     by_test true t ih = ih ∙ sym (ap (λ b. cond b (served_in cs) (c.seat.number ∷ served_in cs)) (h c (eqb-true c.seat.number k t) each.0))
     by_test false t ih = ap (λ s. cond (is_lost c.seat.standing) s (c.seat.number ∷ s)) ih
+
+-- ---- a number less
+
+pub among-gone : (k : ℕ) (js : List ℕ) → among k (without k js) ≡ false
+among-gone k [] = refl
+among-gone k (j ∷ js) = elim (eqb_tells j k) [
+  | inl q ↦ ap (among k) (without_head k j js true q.0) ∙ among-gone k js
+  | inr q ↦ ap (among k) (without_head k j js false q.0) ∙ (ap (λ b. b || among k (without k js)) q.0 ∙ among-gone k js)
+]
+
+pub among-less : (k i : ℕ) (js : List ℕ) → k ≢ i → among i (without k js) ≡ among i js
+among-less k i [] ne = refl
+among-less k i (j ∷ js) ne = elim (eqb_tells j k) [
+  | inl q ↦ ap (among i) (without_head k j js true q.0) ∙ (among-less k i js ne ∙ sym (ap (λ b. b || among i js) (test_other j i (λ e. ne (sym q.1 ∙ e)))))
+  | inr q ↦ ap (among i) (without_head k j js false q.0) ∙ ap (λ b. (j == i) || b) (among-less k i js ne)
+]
+
+pub among-was : (k i : ℕ) (js : List ℕ) → among i (without k js) ≡ true → among i js ≡ true
+among-was k i js h = elim (eqb_tells k i) [
+  | inl q ↦ true_false (sym h ∙ (ap (λ j. among j (without k js)) (sym q.1) ∙ among-gone k js))
+  | inr q ↦ sym (among-less k i js q.1) ∙ h
+]

@@ -14,7 +14,7 @@ use Rattle.mux_history.specs.Promises.{listens}
 use Rattle.mux_clients.specs.State.{ClientState}
 use Rattle.mux_clients.specs.Among.{AllFit, is_present}
 use Rattle.mux_clients.specs.Asked.{asked_of}
-use Rattle.mux_machine.specs.State.{State, numbers, waiting_in}
+use Rattle.mux_machine.specs.State.{State, is_here, numbers, waiting_in}
 use Rattle.mux_machine.specs.Stands.{IsKnown, RowsFit, not_closed, place}
 use Rattle.mux_machine.proofs.Grows.{Grows, served-grows}
 use Rattle.mux_machine.proofs.Lists.{either}
@@ -43,6 +43,7 @@ filter-append p (x ∷ xs) ys = ap (λ l. cond (p x) (x ∷ l) l) (filter-append
 pub record Moves (taken : ℕ) (drawn : List Asked) (loss : List (ℕ × Option Why)) (closed : List ℕ) (old new : State) (rows rows' : List Row) : Type 0 where
   pub grows : Grows rows rows' loss
   pub numbers_are : numbers new.clients ≡ numbers old.clients
+  pub refused_is : new.refused ≡ old.refused
   pub taken_is : numbers_taken rows' ≡ taken
   pub drawn_is : replies_given rows' ≡ length drawn
   pub asked_is : asked_of rows' ≡ drawn
@@ -55,8 +56,11 @@ pub record Moves (taken : ℕ) (drawn : List Asked) (loss : List (ℕ × Option 
   -- those that are lost now were not closed before
   pub unclosed : filter (not_closed closed) loss ≡ loss
   pub place_is : is_ended rows' ≡ false → new.server.index ≡ place rows'
-  pub absent : (k : ℕ) → k ≢ 0 → is_present old.clients k ≡ false → rows_of k rows ≡ [] → rows_of k rows' ≡ []
+  pub absent : (k : ℕ) → k ≢ 0 → is_here old k ≡ false → rows_of k rows ≡ [] → rows_of k rows' ≡ []
   pub server_in : is_out (rows_of 0 rows') ≡ false
+
+pub here-same : (old new : State) (k : ℕ) → numbers new.clients ≡ numbers old.clients → new.refused ≡ old.refused → is_here new k ≡ is_here old k
+here-same old new k e r = ap (λ b. b || among k new.refused) (present-numbers old.clients new.clients k e) ∙ ap (λ js. is_present old.clients k || among k js) r
 
 pub moved : (taken taken' : ℕ) (drawn drawn' : List Asked) (loss : List (ℕ × Option Why)) (closed : List ℕ) (old new : State) (rows rows' : List Row) → RowsFit taken drawn old closed rows → Moves taken' drawn' loss closed old new rows rows' → RowsFit taken' drawn' new closed rows'
 moved taken taken' drawn drawn' loss closed old new rows rows' st m = record {
@@ -71,8 +75,9 @@ moved taken taken' drawn drawn' loss closed old new rows rows' st m = record {
   leaving_are = m.leaving_are ∙ (ap (λ l. l ++ loss) st.leaving_are ∙ (ap (λ l. filter (not_closed closed) (losses rows) ++ l) (sym m.unclosed) ∙ (sym (filter-append (not_closed closed) (losses rows) loss) ∙ ap (filter (not_closed closed)) (sym m.grows.losses_are))));
   served_are = served-grows rows rows' loss old.clients new.clients m.grows st.fit.each m.fit.each m.numbers_are st.served_are;
   place_is = m.place_is;
-  absent = λ k z p q. let here : is_present old.clients k ≡ false = sym (present-numbers old.clients new.clients k m.numbers_are) ∙ p in m.absent k z here (st.absent k z here q);
-  closed_gone = λ k q. present-numbers old.clients new.clients k m.numbers_are ∙ st.closed_gone k q;
+  absent = λ k z p q. let here : is_here old k ≡ false = sym (here-same old new k m.numbers_are m.refused_is) ∙ p in m.absent k z here (st.absent k z here q);
+  closed_gone = λ k q. here-same old new k m.numbers_are m.refused_is ∙ st.closed_gone k q;
+  refused_out = λ k q. m.grows.out_stays k (st.refused_out k (ap (among k) (sym m.refused_is) ∙ q));
   closed_out = λ k q. m.grows.out_stays k (st.closed_out k q);
   known = λ k a. m.grows.known k (st.known k (ap (among k) (sym m.grows.entered_is) ∙ a));
   server_in = m.server_in;

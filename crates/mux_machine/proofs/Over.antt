@@ -22,7 +22,7 @@ use Rattle.mux_clients.specs.State.{ClientState}
 use Rattle.mux_clients.specs.Among.{AllFit, EachFits, InFits, is_present}
 use Rattle.mux_clients.specs.Asked.{asked_of}
 use Rattle.mux_clients.proofs.Stood.{own_row}
-use Rattle.mux_clients.proofs.Amongs.{other-fits}
+use Rattle.mux_clients.proofs.Ones.{other-fits}
 use Rattle.mux_machine.specs.State.{State, over, server_cause, waiting_in}
 use Rattle.mux_machine.specs.Stands.{BytesFit, ClientReads, EachReads, GoesAlone, IsAllowed, IsStrange, RowsFit, ServerReads, Stands, StandsFor, log, place, setting}
 use Rattle.mux_machine.proofs.Closes.{other_row}
@@ -165,6 +165,7 @@ rows-of-end : (item : Item) (taken : ℕ) (dn : List Asked) (s : State) (cause :
 rows-of-end item taken dn s cause closed rows st numbers replies asks took admit = moved taken taken dn dn [] closed s (over s cause) rows (end_row item cause ∷ rows) st record {
   grows = grows-row item (end_row item cause) rows refl admit refl;
   numbers_are = refl;
+  refused_is = refl;
   taken_is = numbers ∙ st.taken_is;
   drawn_is = replies ∙ st.drawn_is;
   asked_is = ap (λ l. asked_of rows ++ l) asks ∙ (append-nil (asked_of rows) ∙ st.asked_is);

@@ -1,9 +1,10 @@
 -- An engine goes on where bytes are taken.
-use Rattle.std.proofs.Common.{◌≡◌, ◌≢◌, ℕ, Bool, true, false, not, List, [], ◌∷◌, ◌++◌, length, drop, Option, Some, None, refl, sym, ap, ◌∙◌, subst, inl, inr, cond, append-nil}
+use Rattle.std.proofs.Common.{◌≡◌, ◌≢◌, ℕ, Bool, true, false, not, ◌||◌, List, [], ◌∷◌, ◌++◌, length, drop, Option, Some, None, refl, sym, ap, ◌∙◌, subst, inl, inr, cond, append-nil}
 use Rattle.std.specs.Prelude.{filter, ◌==◌}
 use Rattle.std.proofs.lemmas.Bool.{eqb-true, eq-eqb}
 use Rattle.std.proofs.lemmas.Bool.Decides.{eqb_tells}
 use Rattle.mux_outside.specs.House.{Asked}
+use Rattle.mux_outside.specs.Streams.{among}
 use Rattle.mux_outside.specs.declared.house.HouseReply.{HouseReply}
 use Rattle.mux_outside.specs.declared.mark.Mark.{Mark}
 use Rattle.mux_outside.specs.declared.mark.Mark.TheVariants.{Takes}
@@ -20,13 +21,13 @@ use Rattle.mux_clients.specs.State.{ClientState}
 use Rattle.mux_clients.specs.Among.{AllFit, AreApart, EachFits, InFits, is_present}
 use Rattle.mux_clients.specs.Stands.{SeatFits}
 use Rattle.mux_clients.proofs.Stood.{own_row}
-use Rattle.mux_clients.proofs.Amongs.{other-fits}
-use Rattle.mux_machine.specs.State.{State, at_client, client_took, numbers, taken, waiting_in}
+use Rattle.mux_clients.proofs.Ones.{other-fits}
+use Rattle.mux_machine.specs.State.{State, at_client, client_took, is_here, numbers, taken, waiting_in}
 use Rattle.mux_machine.specs.Stands.{BytesFit, ClientReads, EachReads, GoesAlone, IsAllowed, IsStrange, RowsFit, Stands, StandsFor, log, setting}
 use Rattle.mux_machine.proofs.Closes.{other_row}
 use Rattle.mux_machine.proofs.Grows.{grows-row}
 use Rattle.mux_machine.proofs.Lists.{either, not_here, test_other, true_false}
-use Rattle.mux_machine.proofs.Moved.{Moves, moved}
+use Rattle.mux_machine.proofs.Moved.{Moves, here-same, moved}
 use Rattle.mux_machine.proofs.Waits.{waiting-taken}
 
 abbrev pub took_row : ℕ → ℕ → Row
@@ -158,6 +159,7 @@ pub record Same (s new : State) : Type 0 where
   pub pid : new.pid ≡ s.pid
   pub core : new.core ≡ s.core
   pub server : new.server ≡ s.server
+  pub refused : new.refused ≡ s.refused
   pub leaving : new.leaving ≡ s.leaving
   pub listening : new.listening ≡ s.listening
   pub ended : new.ended ≡ s.ended
@@ -167,8 +169,8 @@ pub taken-same : (s : State) (t n : ℕ) → Same s (taken s t n)
 taken-same s t n = by_server (t == 0)
   where
     by_server : (b : Bool) → (let s' : State = cond b (record s { up = without_first n s.up }) (record s { clients = at_client t (client_took n) s.clients }) in Same s (record s' { waiting = (taken s t n).waiting }))
-    by_server true = record { pid = refl; core = refl; server = refl; leaving = refl; listening = refl; ended = refl; starved = refl }
-    by_server false = record { pid = refl; core = refl; server = refl; leaving = refl; listening = refl; ended = refl; starved = refl }
+    by_server true = record { pid = refl; core = refl; server = refl; refused = refl; leaving = refl; listening = refl; ended = refl; starved = refl }
+    by_server false = record { pid = refl; core = refl; server = refl; refused = refl; leaving = refl; listening = refl; ended = refl; starved = refl }
 
 server-took : (t n : ℕ) (rows : List Row) → is_out (rows_of 0 rows) ≡ false → is_out (rows_of 0 (took_row t n ∷ rows)) ≡ false
 server-took t n rows h = elim (eqb_tells t 0) [
@@ -176,8 +178,8 @@ server-took t n rows h = elim (eqb_tells t 0) [
   | inr q ↦ ap is_out (other_row t 0 (took_row t n) rows refl q.1) ∙ h
 ]
 
-present-apart : (t k : ℕ) (cs : List ClientState) → (t ≢ 0 → is_present cs t ≡ true) → k ≢ 0 → is_present cs k ≡ false → t ≢ k
-present-apart t k cs here nz gone e = true_false (sym (here (λ z. nz (sym e ∙ z))) ∙ (ap (is_present cs) e ∙ gone))
+present-apart : (t k : ℕ) (s : State) → (t ≢ 0 → is_present s.clients t ≡ true) → k ≢ 0 → is_here s k ≡ false → t ≢ k
+present-apart t k s here nz gone e = true_false (sym (ap (λ b. b || among t s.refused) (here (λ z. nz (sym e ∙ z)))) ∙ (ap (is_here s) e ∙ gone))
 
 rows-took : (taken' : ℕ) (dn : List Asked) (s : State) (t n : ℕ) (closed : List ℕ) (rows : List Row) → (t ≢ 0 → is_present s.clients t ≡ true) → RowsFit taken' dn s closed rows → RowsFit taken' dn (taken s t n) closed (took_row t n ∷ rows)
 rows-took taken' dn s t n closed rows here st =
@@ -185,6 +187,7 @@ rows-took taken' dn s t n closed rows here st =
     moved taken' taken' dn dn [] closed s (taken s t n) rows (took_row t n ∷ rows) st record {
       grows = grows-row (Took t n) (took_row t n) rows refl tt refl;
       numbers_are = numbers-taken-as s t n;
+      refused_is = same.refused;
       taken_is = st.taken_is;
       drawn_is = st.drawn_is;
       asked_is = append-nil (Rattle.mux_clients.specs.Asked.asked_of rows) ∙ st.asked_is;
@@ -196,7 +199,7 @@ rows-took taken' dn s t n closed rows here st =
       leaving_are = same.leaving ∙ sym (append-nil s.leaving);
       unclosed = refl;
       place_is = λ l. ap (λ (v : Rattle.mux_clients.specs.Server.ServerState). v.index) same.server ∙ st.place_is l;
-      absent = λ k nz p q. ap (λ (l : List Row). l) (other_row t k (took_row t n) rows refl (present-apart t k s.clients here nz p)) ∙ q;
+      absent = λ k nz p q. ap (λ (l : List Row). l) (other_row t k (took_row t n) rows refl (present-apart t k s here nz p)) ∙ q;
       server_in = server-took t n rows st.server_in;
     }
 
@@ -204,9 +207,9 @@ bytes-took : (s : State) (t n : ℕ) (bytes : List ℕ) (marks : List Mark) (clo
 bytes-took s t n bytes marks closed rows st = record {
   clients = λ l. reads (t == 0) (st.clients l);
   server = λ l. subst (λ v. Rattle.mux_machine.specs.Stands.ServerReads (bytes_of 0 marks ++ []) v) (sym (taken-same s t n).server) (subst (λ b. Rattle.mux_machine.specs.Stands.ServerReads b s.server) (sym (append-nil (bytes_of 0 marks))) (st.server l));
-  there = λ l k a p. st.there l k a (sym (Rattle.mux_machine.proofs.Moved.present-numbers s.clients (taken s t n).clients k (numbers-taken-as s t n)) ∙ p);
+  there = λ l k a p. st.there l k a (sym (here-same s (taken s t n) k (numbers-taken-as s t n) (taken-same s t n).refused) ∙ p);
   strange = λ k a. let v : IsStrange s marks closed k = st.strange k a in record {
-    not_here = Rattle.mux_machine.proofs.Moved.present-numbers s.clients (taken s t n).clients k (numbers-taken-as s t n) ∙ v.not_here;
+    not_here = here-same s (taken s t n) k (numbers-taken-as s t n) (taken-same s t n).refused ∙ v.not_here;
     not_closed_yet = v.not_closed_yet;
     no_bytes = λ nz. append-nil (bytes_of k marks) ∙ v.no_bytes nz;
   };

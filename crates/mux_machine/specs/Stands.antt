@@ -20,10 +20,10 @@ pub use Rattle.mux_history.specs.Journal.{is_accepted}
 use Rattle.mux_history.specs.Promises.{listens, MayGive}
 use Rattle.mux_clients.specs.State.{ClientState}
 use Rattle.mux_clients.specs.Stands.{is_lost, is_read, mode_of}
-use Rattle.mux_clients.specs.Among.{AllFit, is_present, served_in}
+use Rattle.mux_clients.specs.Among.{AllFit, is_present}
 use Rattle.mux_clients.specs.Asked.{asked_of, TellsAsks}
 use Rattle.mux_clients.specs.Server.{ServerState}
-use Rattle.mux_machine.specs.State.{State, waiting_in, queue_in}
+use Rattle.mux_machine.specs.State.{State, is_here, served_in, waiting_in}
 
 -- the run of an engine with these numbers and replies
 abbrev pub setting : State → List ℕ → List HouseReply → Setting
@@ -62,8 +62,9 @@ pub record RowsFit (taken : ℕ) (drawn : List Asked) (s : State) (closed : List
   pub served_are : served_in s.clients ≡ served rows
   pub place_is : is_ended rows ≡ false → s.server.index ≡ place rows
   -- a client that is neither here nor closed has no rows
-  pub absent : (k : ℕ) → k ≢ 0 → is_present s.clients k ≡ false → among k closed ≡ false → rows_of k rows ≡ []
-  pub closed_gone : (k : ℕ) → among k closed ≡ true → is_present s.clients k ≡ false
+  pub absent : (k : ℕ) → k ≢ 0 → is_here s k ≡ false → among k closed ≡ false → rows_of k rows ≡ []
+  pub closed_gone : (k : ℕ) → among k closed ≡ true → is_here s k ≡ false
+  pub refused_out : (k : ℕ) → among k s.refused ≡ true → is_out (rows_of k rows) ≡ true
   pub closed_out : (k : ℕ) → among k closed ≡ true → is_out (rows_of k rows) ≡ true
   pub known : (k : ℕ) → among k (entered rows) ≡ true → IsKnown (rows_of k rows)
   pub server_in : is_out (rows_of 0 rows) ≡ false
@@ -85,7 +86,7 @@ pub record ServerReads (bytes : List ℕ) (server : ServerState) : Type 0 where
 
 -- a client that was never accepted: nobody knows of it, and it said nothing
 pub record IsStrange (s : State) (marks : List Mark) (closed : List ℕ) (k : ℕ) : Type 0 where
-  pub not_here : is_present s.clients k ≡ false
+  pub not_here : is_here s k ≡ false
   pub not_closed_yet : among k closed ≡ false
   pub no_bytes : k ≢ 0 → bytes_of k marks ≡ []
 
@@ -93,7 +94,7 @@ pub record BytesFit (s : State) (marks : List Mark) (closed : List ℕ) (rows : 
   pub clients : is_ended rows ≡ false → EachReads marks s.clients
   pub server : is_ended rows ≡ false → ServerReads (bytes_of 0 marks) s.server
   -- while the run goes on, one that was accepted is here or closed
-  pub there : is_ended rows ≡ false → (k : ℕ) → is_accepted k marks ≡ true → is_present s.clients k ≡ false → among k closed ≡ true
+  pub there : is_ended rows ≡ false → (k : ℕ) → is_accepted k marks ≡ true → is_here s k ≡ false → among k closed ≡ true
   pub strange : (k : ℕ) → is_accepted k marks ≡ false → IsStrange s marks closed k
 
 -- ---- for a journal

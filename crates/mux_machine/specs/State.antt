@@ -1,5 +1,5 @@
 -- What an engine keeps.
-use Rattle.std.specs.Prelude.{◌≡◌, ℕ, Bool, true, false, not, List, [], ◌∷◌, ◌++◌, drop, filter, if◌then◌else◌, ◌==◌, Option, Some, None, is_some, length}
+use Rattle.std.specs.Prelude.{◌≡◌, ℕ, Bool, true, false, not, List, [], ◌∷◌, ◌++◌, drop, filter, if◌then◌else◌, ◌==◌, ◌||◌, Option, Some, None, is_some, length}
 use Rattle.proxy_frames.specs.Queued.{without_first}
 use Rattle.proxy_frames.specs.State.{QueueState}
 use Rattle.mux_history.specs.declared.why.Why.{Why}
@@ -7,16 +7,17 @@ use Rattle.mux_history.specs.declared.broke.Break.TheVariants as broke
 use Rattle.mux_history.specs.declared.ended.Ended.{Ended}
 use Rattle.mux_history.specs.declared.ended.Ended.TheVariants as ended
 use Rattle.mux_history.specs.Promises.{is_empty}
-use Rattle.mux_outside.specs.Streams.{without}
+use Rattle.mux_outside.specs.Streams.{among, without}
 use Rattle.mux_core.specs.State.{CoreState}
 use Rattle.mux_clients.specs.declared.standing.Standing.{Standing}
 use Rattle.mux_clients.specs.declared.standing.Standing.TheVariants.{Lost}
 use Rattle.mux_clients.specs.State.{ClientState}
 use Rattle.mux_clients.specs.Server.{ServerState}
 use Rattle.mux_clients.specs.Stands.{is_lost}
+use Rattle.mux_clients.specs.Among.{is_present}
 
 -- the shared connection; what the server said that isn't cut yet, and what waits for it; the clients in the order in which
--- they came; those that are lost and not closed in the order of their loss; the streams with something that waits; whether
+-- they came; those that were refused and not closed; those that are lost or refused and not closed in that order; the streams with something that waits; whether
 -- clients are accepted; and how the run ended
 pub record State : Type 0 where
   pub pid : ℕ
@@ -24,6 +25,7 @@ pub record State : Type 0 where
   pub server : ServerState
   pub up : QueueState
   pub clients : List ClientState
+  pub refused : List ℕ
   pub leaving : List (ℕ × Option Why)
   pub waiting : List ℕ
   pub listening : Bool
@@ -85,7 +87,7 @@ first_of (l ∷ ls) = Some l
 
 -- a client whose stream was closed: nothing waits for it any more
 abbrev pub closed_by : State → ℕ → State
-closed_by s k = record s { clients = without_client k s.clients; leaving = filter (λ (l : ℕ × Option Why). not (l.0 == k)) s.leaving; waiting = without k s.waiting }
+closed_by s k = record s { clients = without_client k s.clients; refused = without k s.refused; leaving = filter (λ (l : ℕ × Option Why). not (l.0 == k)) s.leaving; waiting = without k s.waiting }
 
 -- ---- what was taken
 
@@ -112,3 +114,14 @@ over s cause = record s { ended = Some cause }
 -- why it ends where the server's stream does: inside a frame that breaks the protocol
 abbrev pub server_cause : State → Ended
 server_cause s = elim s.server.rest [ [] ↦ ended.ServerEnd | b ∷ rest ↦ ended.Broke s.server.index (broke.Cut (length (b ∷ rest))) ]
+
+-- ---- those that are served
+
+-- the clients that are not lost
+abbrev pub served_in : List ClientState → List ℕ
+served_in [] = []
+served_in (c ∷ cs) = if is_lost c.seat.standing then served_in cs else c.seat.number ∷ served_in cs
+
+-- the stream of a client is open: the client was let in, or it was refused and its stream is not closed yet
+abbrev pub is_here : State → ℕ → Bool
+is_here s k = is_present s.clients k || among k s.refused
