@@ -54,11 +54,11 @@ row-refused policy pid picks given k rows new many = ap (λ b. row_of (Admit k) 
 -- none of them has the number of a client that is new
 absent : (k : ℕ) (rows : List Row) (cs : List ClientState) → rows_of k rows ≡ [] → EachFits rows cs → is_present cs k ≡ false
 absent k rows [] new f = refl
-absent k rows (c ∷ cs) new f = by_head (c.seat.number == k) refl
+absent k rows (c ∷ cs) new f = by_head (c.seat.number == k) refl (absent k rows cs new f.1)
   where
-    by_head : (b : Bool) → (c.seat.number == k) ≡ b → (elim b as (λ _. Bool) [ true ↦ true | false ↦ is_present cs k ]) ≡ false
-    by_head true t = absurd (let d : false ≡ true = sym (ap (λ j. any_of is_admit (rows_of j rows)) (same-number c.seat.number k t) ∙ ap (any_of is_admit) new) ∙ f.0.seat.admitted in cc)
-    by_head false t = absent k rows cs new f.1
+    by_head : (b : Bool) → (c.seat.number == k) ≡ b → is_present cs k ≡ false → (elim b as (λ _. Bool) [ true ↦ true | false ↦ is_present cs k ]) ≡ false
+    by_head true t g = absurd (let d : false ≡ true = sym (ap (λ j. any_of is_admit (rows_of j rows)) (same-number c.seat.number k t) ∙ ap (any_of is_admit) new) ∙ f.0.seat.admitted in cc)
+    by_head false t g = g
 
 stay : (k : ℕ) (row : Row) (rows : List Row) → row.client ≡ k → OthersStay k rows (row ∷ rows)
 stay k row rows e j ne = idle_row j row rows (ap (λ i. i == j) e ∙ differs k j ne)

@@ -1,5 +1,5 @@
 -- What is kept of a client, and what one saying of it touches.
-use Rattle.std.specs.Prelude.{◌≤◌, ◌+◌, ℕ, List, replicate}
+use Rattle.std.specs.Prelude.{◌≤◌, ◌+◌, ℕ, List, drop, replicate}
 use Rattle.ssh_grammar.specs.Frames.{frame_payload}
 use Rattle.ssh_grammar.specs.SpellMessage.{request_failure}
 use Rattle.proxy_frames.specs.State.{QueueState}
@@ -36,3 +36,7 @@ refusals_of n = replicate n (frame_payload request_failure)
 abbrev pub KeepsRoom : QueueState → QueueState → Standing → Type 0
 KeepsRoom old new (Lost why) = old.spare ≤ new.spare + FAREWELL_ROOM
 KeepsRoom old new standing = old.spare ≤ new.spare
+
+-- so many of the bytes that wait for it were taken
+abbrev pub client_took : ℕ → ClientState → ClientState
+client_took n c = record c { seat = record c.seat { queue = drop n c.seat.queue } }

@@ -1,8 +1,8 @@
-ghost use Rattle.std.specs.Prelude.{◌≡◌, ◌≤◌, ◌+◌, ◌∷◌, ℕ, IfOk, OnOk, true};
+ghost use Rattle.std.specs.Prelude.{◌≡◌, ◌≤◌, ◌+◌, ◌∷◌, length, ℕ, IfOk, OnOk, true};
 ghost use Rattle.ssh_grammar.specs.declared.framing.Framing.TheVariants.{Proxy};
 ghost use Rattle.ssh_grammar.specs.IsFrame.{IsContent};
 ghost use Rattle.ssh_grammar.specs.Frames.{frame_payload};
-ghost use Rattle.mux_clients.specs.State.{part, refusals_of};
+ghost use Rattle.mux_clients.specs.State.{client_took, part, refusals_of};
 ghost use Rattle.mux_clients.specs.Hears.{HearsTold};
 ghost use Rattle.mux_clients.specs.Among.{ChangesOne, HearsFrames, client_index, is_present};
 ghost use Rattle.ssh_grammar.specs.Said.{first_in};
@@ -16,6 +16,7 @@ ghost use Rattle.mux_clients.specs.Entering.{Enters, new_client};
 use crate::decision::decide;
 use crate::heard::Heard;
 use crate::seat::Seat;
+use crate::standing::Standing;
 use client_teardown::FAREWELL_ROOM;
 use mux_core::Core;
 use mux_outside::House;
@@ -177,6 +178,27 @@ impl Client {
         ensures { result ≡ self.now.seat.number }
     {
         self.seat.number()
+    }
+
+    pub fn standing(&self) -> Standing
+        ensures { result ≡ self.now.seat.standing }
+    {
+        self.seat.standing()
+    }
+
+    /// The bytes that wait for it.
+    pub fn queue(&self) -> &[u8]
+        ensures { result.now ≡ self.now.seat.queue }
+    {
+        self.seat.queue()
+    }
+
+    /// So many of them were taken.
+    pub fn took(&mut self, n: usize)
+        requires { n ≤ length self.old.seat.queue }
+        ensures { self.new ≡ client_took n self.old }
+    {
+        self.seat.took(n);
     }
 
     /// It hears a payload of the server, and then so many refusals, after the core has heard it.

@@ -1,4 +1,4 @@
-ghost use Rattle.std.specs.Prelude.{◌≡◌, true, false, ◌≤◌, ◌+◌, ◌++◌, [], ◌∷◌, length, List, ℕ, IfOk, OnOk, OnErr, Some, None};
+ghost use Rattle.std.specs.Prelude.{◌≡◌, true, false, ◌≤◌, ◌+◌, ◌++◌, [], ◌∷◌, drop, length, List, ℕ, IfOk, OnOk, OnErr, Some, None};
 ghost use Rattle.ssh_grammar.specs.declared.framing.Framing.TheVariants.{Proxy};
 ghost use Rattle.ssh_grammar.specs.IsFrame.{IsContent};
 ghost use Rattle.ssh_grammar.specs.Frames.{frame_payload};
@@ -159,6 +159,27 @@ impl Seat {
         ensures { result ≡ self.now.number }
     {
         self.number
+    }
+
+    pub fn standing(&self) -> Standing
+        ensures { result ≡ self.now.standing }
+    {
+        self.standing
+    }
+
+    /// The bytes that wait for it.
+    pub fn queue(&self) -> &[u8]
+        ensures { result.now ≡ self.now.queue }
+    {
+        self.queue.front()
+    }
+
+    /// So many of them were taken.
+    pub fn took(&mut self, n: usize)
+        requires { n ≤ length self.old.queue }
+        ensures { self.new ≡ record self.old { queue = drop n self.old.queue } }
+    {
+        self.queue.took(n);
     }
 
     /// Whether what it says is read.

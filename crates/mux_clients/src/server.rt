@@ -1,7 +1,7 @@
 ghost use Rattle.std.specs.Prelude.{◌≡◌, ◌≤◌, ◌+◌, ℕ, IfOk, OnOk, None};
 ghost use Rattle.ssh_grammar.specs.declared.framing.Framing.TheVariants.{Proxy as InFrames};
 ghost use Rattle.ssh_grammar.specs.Said.{first_in, InProxy};
-ghost use Rattle.mux_clients.specs.Server.{HearsBytes, ServerNext, new_server};
+ghost use Rattle.mux_clients.specs.Server.{HearsBytes, ServerNext, new_server, stream_end};
 
 use crate::client::Client;
 use crate::hearing::hear;
@@ -35,6 +35,19 @@ impl Server {
         Server {
             framer: Framer::new(alloc, Framing::Proxy),
             index: 1,
+        }
+    }
+
+    /// How the run ends where its stream ends now.
+    pub fn end(&self) -> Ended
+        ensures { result ≡ stream_end self.now.rest self.now.index }
+    {
+        match self.framer.rest_len() {
+            0 => Ended::ServerEnd,
+            have => Ended::Broke {
+                index: self.index,
+                why: Break::Cut { have },
+            },
         }
     }
 
