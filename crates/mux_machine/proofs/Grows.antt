@@ -93,18 +93,33 @@ filter-first p q (x ∷ xs) h = by_test (q x) refl (filter-first p q xs h)
     by_test true e ih = ap (λ b. filter p (cond b (x ∷ filter q xs) (filter q xs))) e ∙ ap (λ l. cond (p x) (x ∷ l) l) ih
     by_test false e ih = ap (λ b. filter p (cond b (x ∷ filter q xs) (filter q xs))) e ∙ (ih ∙ sym (ap (λ b. cond b (x ∷ filter p xs) (filter p xs)) (h x e)))
 
-not-here : (rows rows' : List Row) (loss : List (ℕ × Option Why)) (k : ℕ) → Grows rows rows' loss → here_in rows k ≡ false → here_in rows' k ≡ false
-not-here rows rows' loss k g e = ap not (g.out_stays k (turn (is_out (rows_of k rows)) e))
+not-here : (rows rows' : List Row) (k : ℕ) → (is_out (rows_of k rows) ≡ true → is_out (rows_of k rows') ≡ true) → here_in rows k ≡ false → here_in rows' k ≡ false
+not-here rows rows' k stays e = ap not (stays (turn (is_out (rows_of k rows)) e))
   where
     turn : (b : Bool) → not b ≡ false → b ≡ true
     turn true e = refl
     turn false e = true_false e
 
--- where no client more comes, those that are served stay those that the rows serve
-pub served-grows : (rows rows' : List Row) (loss : List (ℕ × Option Why)) (cs cs' : List ClientState) → Grows rows rows' loss → EachFits rows cs → EachFits rows' cs' → numbers cs' ≡ numbers cs → served_in cs ≡ served rows → served_in cs' ≡ served rows'
-served-grows rows rows' loss cs cs' g each each' same was =
+pub filter-append : {A : Type 0} (p : A → Bool) (xs ys : List A) → filter p (xs ++ ys) ≡ filter p xs ++ filter p ys
+filter-append p [] ys = refl
+filter-append p (x ∷ xs) ys = ap (λ l. cond (p x) (x ∷ l) l) (filter-append p xs ys) ∙ head (p x) (filter p xs) (filter p ys)
+  where
+    head : (b : Bool) (l m : List _) → cond b (x ∷ (l ++ m)) (l ++ m) ≡ cond b (x ∷ l) l ++ m
+    head true l m = refl
+    head false l m = refl
+
+-- those that are served stay those that the rows serve, also where some come
+pub served-more : (rows rows' : List Row) (more : List ℕ) (cs cs' : List ClientState) → ((k : ℕ) → is_out (rows_of k rows) ≡ true → is_out (rows_of k rows') ≡ true) → EachFits rows cs → EachFits rows' cs' → numbers cs' ≡ numbers cs ++ more → entered rows' ≡ entered rows ++ more → served_in cs ≡ served rows → served_in cs' ≡ served rows'
+served-more rows rows' more cs cs' stays each each' same come was =
+    let old : filter (here_in rows') (numbers cs) ≡ filter (here_in rows') (entered rows) =
+    sym (filter-first (here_in rows') (here_in rows) (numbers cs) (λ k. not-here rows rows' k (stays k)))
+    ∙ (ap (filter (here_in rows')) (sym (served-numbers rows cs each) ∙ was)
+    ∙ filter-first (here_in rows') (here_in rows) (entered rows) (λ k. not-here rows rows' k (stays k))) in
     served-numbers rows' cs' each'
     ∙ (ap (filter (here_in rows')) same
-    ∙ (sym (filter-first (here_in rows') (here_in rows) (numbers cs) (λ k. not-here rows rows' loss k g))
-    ∙ (ap (filter (here_in rows')) (sym (served-numbers rows cs each) ∙ was)
-    ∙ (filter-first (here_in rows') (here_in rows) (entered rows) (λ k. not-here rows rows' loss k g) ∙ ap (filter (here_in rows')) (sym g.entered_is)))))
+    ∙ (filter-append (here_in rows') (numbers cs) more
+    ∙ (ap (λ l. l ++ filter (here_in rows') more) old
+    ∙ (sym (filter-append (here_in rows') (entered rows) more) ∙ ap (filter (here_in rows')) (sym come)))))
+
+pub served-grows : (rows rows' : List Row) (loss : List (ℕ × Option Why)) (cs cs' : List ClientState) → Grows rows rows' loss → EachFits rows cs → EachFits rows' cs' → numbers cs' ≡ numbers cs → served_in cs ≡ served rows → served_in cs' ≡ served rows'
+served-grows rows rows' loss cs cs' g each each' same was = served-more rows rows' [] cs cs' g.out_stays each each' (same ∙ sym (append-nil (numbers cs))) (g.entered_is ∙ sym (append-nil (entered rows))) was

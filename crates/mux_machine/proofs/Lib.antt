@@ -1,4 +1,5 @@
 mod Closes
+mod Comes
 mod Grows
 mod Lists
 mod Moved

@@ -16,7 +16,7 @@ use Rattle.mux_clients.specs.Among.{AllFit, is_present}
 use Rattle.mux_clients.specs.Asked.{asked_of}
 use Rattle.mux_machine.specs.State.{State, is_here, numbers, waiting_in}
 use Rattle.mux_machine.specs.Stands.{IsKnown, RowsFit, not_closed, place}
-use Rattle.mux_machine.proofs.Grows.{Grows, served-grows}
+use Rattle.mux_machine.proofs.Grows.{Grows, filter-append, served-grows}
 use Rattle.mux_machine.proofs.Lists.{either}
 
 -- who is there depends on the numbers alone
@@ -30,14 +30,6 @@ present-numbers cs cs' k e = present-in cs' ∙ (ap (λ l. in-list l) e ∙ sym 
     present-in : (cs : List ClientState) → is_present cs k ≡ in-list (numbers cs)
     present-in [] = refl
     present-in (c ∷ cs) = ap (either (c.seat.number == k)) (present-in cs)
-
-filter-append : {A : Type 0} (p : A → Bool) (xs ys : List A) → filter p (xs ++ ys) ≡ filter p xs ++ filter p ys
-filter-append p [] ys = refl
-filter-append p (x ∷ xs) ys = ap (λ l. cond (p x) (x ∷ l) l) (filter-append p xs ys) ∙ head (p x) (filter p xs) (filter p ys)
-  where
-    head : (b : Bool) (l m : List _) → cond b (x ∷ (l ++ m)) (l ++ m) ≡ cond b (x ∷ l) l ++ m
-    head true l m = refl
-    head false l m = refl
 
 -- what a move says of its own
 pub record Moves (taken : ℕ) (drawn : List Asked) (loss : List (ℕ × Option Why)) (closed : List ℕ) (old new : State) (rows rows' : List Row) : Type 0 where

@@ -219,10 +219,10 @@ ends-by s mark cause h makes live picked given marks closed st al = record {
       };
 }
 
-next-live : (rows : List Row) (item : Item) → is_ended rows ≡ false → makes_next rows item ≡ makes_row rows item
+pub next-live : (rows : List Row) (item : Item) → is_ended rows ≡ false → makes_next rows item ≡ makes_row rows item
 next-live rows item live = ap (λ b. elim b as (λ _. Bool) [ true ↦ is_took item | false ↦ makes_row rows item ]) live
 
-one-more : (s : State) (picks : List ℕ) (replies : List HouseReply) (rows : List Row) (item : Item) → is_ended rows ≡ false → makes_row rows item ≡ true → more_of (setting s picks replies) rows item ≡ next_row (setting s picks replies) rows item ∷ rows
+pub one-more : (s : State) (picks : List ℕ) (replies : List HouseReply) (rows : List Row) (item : Item) → is_ended rows ≡ false → makes_row rows item ≡ true → more_of (setting s picks replies) rows item ≡ next_row (setting s picks replies) rows item ∷ rows
 one-more s picks replies rows item live m = more-yes (setting s picks replies) rows item (next-live rows item live ∙ m)
 
 pub goes-failed : (s : State) → s.ended ≡ None → GoesAlone s (over s ended.ServerFailed) (Fails 0)

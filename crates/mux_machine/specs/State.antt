@@ -15,6 +15,7 @@ use Rattle.mux_clients.specs.State.{ClientState}
 use Rattle.mux_clients.specs.Server.{ServerState}
 use Rattle.mux_clients.specs.Stands.{is_lost}
 use Rattle.mux_clients.specs.Among.{is_present}
+use Rattle.mux_clients.specs.Entering.{new_client}
 
 -- the shared connection; what the server said that isn't cut yet, and what waits for it; the clients in the order in which
 -- they came; those that were refused and not closed; those that are lost or refused and not closed in that order; the streams with something that waits; whether
@@ -125,3 +126,14 @@ served_in (c ∷ cs) = if is_lost c.seat.standing then served_in cs else c.seat.
 -- the stream of a client is open: the client was let in, or it was refused and its stream is not closed yet
 abbrev pub is_here : State → ℕ → Bool
 is_here s k = is_present s.clients k || among k s.refused
+
+-- ---- a client comes
+
+-- it is let in, or refused, after which the streams that wait are listed anew
+abbrev pub entered : State → CoreState → QueueState → ℕ → Bool → State
+entered s core' up' k true =
+    let s' = record s { core = core'; up = up'; clients = s.clients ++ new_client k ∷ [] } in
+    record s' { waiting = waiting_in s' }
+entered s core' up' k false =
+    let s' = record s { core = core'; up = up'; refused = s.refused ++ k ∷ []; leaving = s.leaving ++ (k, None) ∷ [] } in
+    record s' { waiting = waiting_in s' }

@@ -2,6 +2,7 @@ use Rattle.std.proofs.Common.{rules}
 use Rattle.mux_machine.proofs.Closes.{closes}
 use Rattle.mux_machine.proofs.Takes.{goes-took}
 use Rattle.mux_machine.proofs.Over.{goes-ended}
+use Rattle.mux_machine.proofs.Comes.{goes-in}
 use Rattle.mux_machine.proofs.laws.closes.Goals as goal
 
 pub returns : goal.returns
