@@ -3,6 +3,7 @@ mod Comes
 mod Grows
 mod Lists
 mod Moved
+mod OneClient
 mod Over
 mod Takes
 mod Waits
