@@ -2,6 +2,7 @@ mod Closes
 mod Comes
 mod Grows
 mod Lists
+mod Loses
 mod Moved
 mod OneClient
 mod Over
