@@ -188,6 +188,7 @@ rows_closed taken dn s k closed rows out nz st = record {
 
 bytes_closed : (s : State) (k : ℕ) (marks : List Mark) (closed : List ℕ) (rows : List Row) → is_out (rows_of k rows) ≡ true → k ≢ 0 → ((j : ℕ) → j ≢ 0 → is_here s j ≡ false → among j closed ≡ false → rows_of j rows ≡ []) → BytesFit s marks closed rows → BytesFit (closed_by s k) marks (k ∷ closed) rows
 bytes_closed s k marks closed rows out nz absent st = record {
+  are_bytes = st.are_bytes;
   clients = λ l. reads_less k marks s.clients (st.clients l);
   server = st.server;
   there = λ live j a p. elim (eqb_tells k j) [

@@ -33,7 +33,7 @@ use Rattle.mux_machine.specs.Stands.{BytesFit, ClientReads, EachReads, GoesAlone
 use Rattle.mux_machine.proofs.Closes.{other_row, out_more}
 use Rattle.mux_machine.proofs.Grows.{filter-append, served-more}
 use Rattle.mux_machine.proofs.Lists.{test_other, true_false}
-use Rattle.mux_machine.proofs.Over.{next-live, one-more, some-end, strange-on}
+use Rattle.mux_machine.proofs.Over.{are-bytes-on, one-more, some-end, strange-on}
 
 -- ---- numbers at the end of a list
 
@@ -235,6 +235,7 @@ bytes-new s core' up' k b marks closed rows al st =
     let new : State = entered s core' up' k b in
     let v : IsStrange s marks closed k = st.strange k al.1 in
     record {
+      are_bytes = are-bytes-on s marks (Accepts k) tt al st.are_bytes;
       clients = λ l. reads-by s core' up' k b marks (v.no_bytes al.0) (st.clients (sym (ended-new k b rows) ∙ l));
       server = λ l. subst (ServerReads (bytes_of 0 marks ++ [])) (sym (kept-new s core' up' k b).server) (subst (λ x. ServerReads x s.server) (sym (append-nil (bytes_of 0 marks))) (st.server (sym (ended-new k b rows) ∙ l)));
       there = λ l j a p. elim (eqb_tells k j) [

@@ -6,5 +6,6 @@ mod Loses
 mod Moved
 mod OneClient
 mod Over
+mod Sayings
 mod Takes
 mod Waits

@@ -36,7 +36,7 @@ use Rattle.mux_machine.proofs.Grows.{grows-row}
 use Rattle.mux_machine.proofs.Lists.{true_false}
 use Rattle.mux_machine.proofs.Moved.{Moves, here-same, moved}
 use Rattle.mux_machine.proofs.OneClient.{all-fit, apart-here, changes-to, numbers-one, open-here, reads-one}
-use Rattle.mux_machine.proofs.Over.{IsEvent, next-live, one-more, some-end, strange-on}
+use Rattle.mux_machine.proofs.Over.{IsEvent, are-bytes-on, next-live, one-more, some-end, strange-on}
 
 -- the stream of a client that isn't lost is gone: what an engine keeps afterwards
 pub record LosesAt (s new : State) (k : ℕ) : Type 0 where
@@ -105,6 +105,7 @@ still-gone s new k mark nz g live same out picked given marks closed st al = sub
       record {
         rows = subst (RowsFit (length picked) st.asks s closed) (sym is) v.rows;
         bytes = subst (BytesFit s (mark ∷ marks) closed) (sym is) record {
+          are_bytes = are-bytes-on s marks mark (gone-event mark k g) al v.bytes.are_bytes;
           clients = λ l. quiet marks s.clients (v.bytes.clients l);
           server = λ l. subst (λ b. ServerReads b s.server) (sym (ap (λ b. bytes_of 0 marks ++ b) (gone-quiet mark k 0 g) ∙ append-nil (bytes_of 0 marks))) (v.bytes.server l);
           there = λ l j a p. v.bytes.there l j (sym (gone-accepts mark marks k j g) ∙ a) p;
@@ -179,6 +180,7 @@ bytes-lost : (taken : ℕ) (dn : List Asked) (s new : State) (k : ℕ) (mark : M
 bytes-lost taken dn s new k mark marks closed rows g al c here fit st =
     let same : numbers new.clients ≡ numbers s.clients = numbers-one k (λ x y. (is_lost x.seat.standing ≡ false) × LosesIn s.core new.core s.up new.up x y) s.clients new.clients (λ x y h. h.1.number) c.changes in
     record {
+      are_bytes = are-bytes-on s marks mark (gone-event mark k g) al st.are_bytes;
       clients = λ l. reads-one k (λ x y. (is_lost x.seat.standing ≡ false) × LosesIn s.core new.core s.up new.up x y) mark marks s.clients new.clients (λ j ne. gone-quiet mark k j g) (λ x y e r h. (h.1.number ∙ e, lost-reads (bytes_of k (mark ∷ marks)) y h.1.standing)) here (λ p. st.clients l) fit.fit.apart c.changes;
       server = λ l. subst (ServerReads (bytes_of 0 (mark ∷ marks))) (sym c.server) (subst (λ b. ServerReads b s.server) (sym (ap (λ b. bytes_of 0 marks ++ b) (gone-quiet mark k 0 g) ∙ append-nil (bytes_of 0 marks))) (st.server l));
       there = λ l j a p. st.there l j (sym (gone-accepts mark marks k j g) ∙ a) (sym (here-same s new j same c.refused) ∙ p);

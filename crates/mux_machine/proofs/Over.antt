@@ -8,6 +8,7 @@ use Rattle.mux_outside.specs.Streams.{among}
 use Rattle.mux_outside.specs.declared.house.HouseReply.{HouseReply}
 use Rattle.mux_outside.specs.declared.mark.Mark.{Mark}
 use Rattle.mux_outside.specs.declared.mark.Mark.TheVariants.{Waits, Accepts, Gets, Ends, Frees, Fails, Takes, Holds, WriteFails}
+use Rattle.ssh_fields.specs.Fields.{AreBytes}
 use Rattle.ssh_grammar.specs.Said.{Saying, Body, Payload, BadFraming, InProxy, parse, said}
 use Rattle.mux_history.specs.declared.ended.Ended.{Ended}
 use Rattle.mux_history.specs.declared.ended.Ended.TheVariants as ended
@@ -119,10 +120,32 @@ strange-on s marks closed mark j h al was a =
     let v : IsStrange s marks closed j = was j q.0 in
     record { not_here = v.not_here; not_closed_yet = v.not_closed_yet; no_bytes = λ nz. ap (λ b. bytes_of j marks ++ b) (q.1 nz) ∙ (append-nil (bytes_of j marks) ∙ v.no_bytes nz) }
 
+-- ---- what comes is bytes
+
+bytes-then : (a b : List ℕ) → AreBytes a → AreBytes b → AreBytes (a ++ b)
+bytes-then [] b x y = y
+bytes-then (n ∷ a) b x y = (x.0, bytes-then a b x.1 y)
+
+bytes-at : (s : State) (marks : List Mark) (mark : Mark) (j : ℕ) → IsEvent mark → IsAllowed s marks mark → AreBytes (bytes_in j mark)
+bytes-at s marks (Accepts k) j h al = tt
+bytes-at s marks (Gets k bytes) j h al = by_stream (k == j)
+  where
+    by_stream : (b : Bool) → AreBytes (elim b as (λ _. List ℕ) [ true ↦ bytes | false ↦ [] ])
+    by_stream true = al.1
+    by_stream false = tt
+bytes-at s marks (Ends k) j h al = tt
+bytes-at s marks (Fails k) j h al = tt
+bytes-at s marks (WriteFails k) j h al = tt
+bytes-at s marks mark j h al = absurd h
+
+pub are-bytes-on : (s : State) (marks : List Mark) (mark : Mark) → IsEvent mark → IsAllowed s marks mark → ((t : ℕ) → AreBytes (bytes_of t marks)) → (t : ℕ) → AreBytes (bytes_of t (mark ∷ marks))
+are-bytes-on s marks mark h al was t = bytes-then (bytes_of t marks) (bytes_in t mark) (was t) (bytes-at s marks mark t h al)
+
 -- ---- an engine whose run is over
 
 bytes-over : (s : State) (mark : Mark) (marks : List Mark) (closed : List ℕ) (rows : List Row) → IsEvent mark → IsAllowed s marks mark → is_ended rows ≡ true → BytesFit s marks closed rows → BytesFit s (mark ∷ marks) closed rows
 bytes-over s mark marks closed rows h al e st = record {
+  are_bytes = are-bytes-on s marks mark h al st.are_bytes;
   clients = λ l. true_false (sym e ∙ l);
   server = λ l. true_false (sym e ∙ l);
   there = λ l k a p. true_false (sym e ∙ l);
@@ -194,6 +217,7 @@ rows-end taken dn s item cause closed rows h st = absurd h
 
 bytes-end : (s : State) (item : Item) (cause : Ended) (mark : Mark) (marks : List Mark) (closed : List ℕ) (rows : List Row) → IsEvent mark → IsAllowed s marks mark → BytesFit s marks closed rows → BytesFit (over s cause) (mark ∷ marks) closed (end_row item cause ∷ rows)
 bytes-end s item cause mark marks closed rows h al st = record {
+  are_bytes = are-bytes-on s marks mark h al st.are_bytes;
   clients = λ l. true_false l;
   server = λ l. true_false l;
   there = λ l k a p. true_false l;

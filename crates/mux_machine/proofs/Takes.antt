@@ -205,6 +205,7 @@ rows-took taken' dn s t n closed rows here st =
 
 bytes-took : (s : State) (t n : ℕ) (bytes : List ℕ) (marks : List Mark) (closed : List ℕ) (rows : List Row) → BytesFit s marks closed rows → BytesFit (taken s t n) (Takes t bytes ∷ marks) closed (took_row t n ∷ rows)
 bytes-took s t n bytes marks closed rows st = record {
+  are_bytes = λ k. subst Rattle.ssh_fields.specs.Fields.AreBytes (sym (append-nil (bytes_of k marks))) (st.are_bytes k);
   clients = λ l. reads (t == 0) (st.clients l);
   server = λ l. subst (λ v. Rattle.mux_machine.specs.Stands.ServerReads (bytes_of 0 marks ++ []) v) (sym (taken-same s t n).server) (subst (λ b. Rattle.mux_machine.specs.Stands.ServerReads b s.server) (sym (append-nil (bytes_of 0 marks))) (st.server l));
   there = λ l k a p. st.there l k a (sym (here-same s (taken s t n) k (numbers-taken-as s t n) (taken-same s t n).refused) ∙ p);

@@ -91,6 +91,7 @@ pub record IsStrange (s : State) (marks : List Mark) (closed : List ℕ) (k : �
   pub no_bytes : k ≢ 0 → bytes_of k marks ≡ []
 
 pub record BytesFit (s : State) (marks : List Mark) (closed : List ℕ) (rows : List Row) : Type 0 where
+  pub are_bytes : (t : ℕ) → AreBytes (bytes_of t marks)
   pub clients : is_ended rows ≡ false → EachReads marks s.clients
   pub server : is_ended rows ≡ false → ServerReads (bytes_of 0 marks) s.server
   -- while the run goes on, one that was accepted is here or closed
