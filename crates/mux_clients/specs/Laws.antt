@@ -1,5 +1,6 @@
 -- The rows of a piece are those that the log has for it, and its bytes are read so afterwards.
 use Rattle.std.specs.Prelude.{◌≡◌, ◌+◌, ◌&&◌, not, ℕ, true, false, List, ◌∷◌, ◌++◌, length, Option, None}
+use Rattle.mux_outside.specs.House.{Asked}
 use Rattle.mux_outside.specs.declared.house.HouseReply.{HouseReply}
 use Rattle.ssh_fields.specs.Fields.{AreBytes}
 use Rattle.ssh_grammar.specs.Frames.{More}
@@ -19,6 +20,7 @@ use Rattle.mux_core.specs.State.{CoreState}
 use Rattle.mux_clients.specs.declared.heard.Heard.{Heard}
 use Rattle.mux_clients.specs.State.{ClientState, part}
 use Rattle.mux_clients.specs.Stands.{Fits, is_read, mode_of}
+use Rattle.mux_clients.specs.Asked.{asked_of}
 use Rattle.mux_clients.specs.Pieces.{RunsTo, ended_then}
 use Rattle.mux_clients.specs.Among.{AddsFor, AllFit, ChangesOne, MovesTo, is_present}
 use Rattle.mux_clients.specs.Hearings.{AreHere}
@@ -36,12 +38,13 @@ abbrev pub rows_given : Policy → ℕ → List ℕ → List HouseReply → ℕ 
 rows_given policy pid picks given k before bytes rows = more_all (by_lists policy pid picks given) rows (new_sayings k before (before ++ bytes))
 
 -- how a piece leaves its client, by these rows
-pub record IsReadTo (k : ℕ) (before bytes picked : List ℕ) (used : List HouseReply) (rows rows' : List Row) (core : CoreState) (up : QueueState) (now : ClientState) (heard : Heard) : Type 0 where
+pub record IsReadTo (k : ℕ) (before bytes picked : List ℕ) (used : List HouseReply) (asks : List Asked) (rows rows' : List Row) (core : CoreState) (up : QueueState) (now : ClientState) (heard : Heard) : Type 0 where
   pub number : now.seat.number ≡ k
   pub adds : AddsFor k rows rows'
   pub fits : Fits rows' (part core now.seat up)
   pub taken : numbers_taken rows' ≡ numbers_taken rows + length picked
   pub given_is : replies_given rows' ≡ replies_given rows + length used
+  pub asked : asked_of rows' ≡ asked_of rows ++ asks
   pub fresh : AreBytes before → AreBytes bytes → AreFresh rows → AreFresh rows'
   pub stops_is : listens rows' ≡ (not heard.stops && listens rows)
   pub ended_is : end_of rows' ≡ ended_then heard.ended (end_of rows)
@@ -51,10 +54,10 @@ pub record IsReadTo (k : ℕ) (before bytes picked : List ℕ) (used : List Hous
 -- what was said so far is all of the piece where nothing whole is left
 abbrev pub PiecesOfAClient : Type 0
 PiecesOfAClient =
-    (policy : Policy) (pid : ℕ) (picks : List ℕ) (given : List HouseReply) (k : ℕ) (before bytes : List ℕ) (first now : ClientState) (picked : List ℕ) (used : List HouseReply) (rows : List Row) (core : CoreState) (up : QueueState) (heard : Heard)
+    (policy : Policy) (pid : ℕ) (picks : List ℕ) (given : List HouseReply) (k : ℕ) (before bytes : List ℕ) (first now : ClientState) (picked : List ℕ) (used : List HouseReply) (asks : List Asked) (rows : List Row) (core : CoreState) (up : QueueState) (heard : Heard)
     → ReadsAs before first → (is_read now.seat.standing ≡ true → first_in (mode_of now.seat.standing) now.rest ≡ More)
-    → RunsTo policy pid picks given k (mode_of first.seat.standing) (first.rest ++ bytes) picked used rows core up now heard
-    → IsReadTo k before bytes picked used rows (rows_given policy pid picks given k before bytes rows) core up now heard
+    → RunsTo policy pid picks given k (mode_of first.seat.standing) (first.rest ++ bytes) picked used asks rows core up now heard
+    → IsReadTo k before bytes picked used asks rows (rows_given policy pid picks given k before bytes rows) core up now heard
 
 -- ---- the server
 
