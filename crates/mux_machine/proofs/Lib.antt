@@ -1,5 +1,6 @@
 mod Closes
 mod Comes
+mod Gains
 mod Grows
 mod Lists
 mod Loses

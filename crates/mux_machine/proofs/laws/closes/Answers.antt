@@ -3,7 +3,7 @@ use Rattle.mux_machine.proofs.Closes.{closes}
 use Rattle.mux_machine.proofs.Takes.{goes-took}
 use Rattle.mux_machine.proofs.Over.{goes-ended}
 use Rattle.mux_machine.proofs.Comes.{goes-in}
-use Rattle.mux_machine.proofs.Sayings.{says-on}
+use Rattle.mux_machine.proofs.Gains.{goes-piece}
 use Rattle.mux_machine.proofs.Loses.{goes-lost}
 use Rattle.mux_machine.proofs.laws.closes.Goals as goal
 
