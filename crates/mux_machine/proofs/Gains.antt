@@ -185,10 +185,10 @@ reads-now old bytes picked used asks rows rows' core up y heard k live r = recor
     by_read true e l = (r.reads e).mode
     by_read false e l = ?
 
-gets-quiet : (k j : ℕ) (bytes : List ℕ) → k ≢ j → Rattle.mux_history.specs.Journal.bytes_in j (Gets k bytes) ≡ []
+pub gets-quiet : (k j : ℕ) (bytes : List ℕ) → k ≢ j → Rattle.mux_history.specs.Journal.bytes_in j (Gets k bytes) ≡ []
 gets-quiet k j bytes ne = ap (λ b. elim b as (λ _. List ℕ) [ true ↦ bytes | false ↦ [] ]) (test_other k j ne)
 
-gets-own : (k : ℕ) (bytes : List ℕ) (marks : List Mark) → bytes_of k (Gets k bytes ∷ marks) ≡ bytes_of k marks ++ bytes
+pub gets-own : (k : ℕ) (bytes : List ℕ) (marks : List Mark) → bytes_of k (Gets k bytes ∷ marks) ≡ bytes_of k marks ++ bytes
 gets-own k bytes marks = ap (λ b. bytes_of k marks ++ elim b as (λ _. List ℕ) [ true ↦ bytes | false ↦ [] ]) (eq-eqb k k refl)
 
 bytes-gain : (May : HouseReply → Type 0) (before told : Option (List Asked)) (taken : ℕ) (dn : List Asked) (s new : State) (bytes : List ℕ) (x y : ClientState) (heard : Heard) (picked : List ℕ) (used : List HouseReply) (asks : List Asked) (marks : List Mark) (closed : List ℕ) (rows rows' : List Row)
@@ -210,7 +210,7 @@ bytes-gain May before told taken dn s new bytes x y heard picked used asks marks
 
 -- ---- all of it
 
-gets-log : (s : State) (picks : List ℕ) (replies : List HouseReply) (k : ℕ) (bytes : List ℕ) (marks : List Mark) → k ≢ 0 → log s picks replies (Gets k bytes ∷ marks) ≡ rows_given s.core.policy s.pid picks replies k (bytes_of k marks) bytes (log s picks replies marks)
+pub gets-log : (s : State) (picks : List ℕ) (replies : List HouseReply) (k : ℕ) (bytes : List ℕ) (marks : List Mark) → k ≢ 0 → log s picks replies (Gets k bytes ∷ marks) ≡ rows_given s.core.policy s.pid picks replies k (bytes_of k marks) bytes (log s picks replies marks)
 gets-log s picks replies k bytes marks nz = ap (λ b. more_all (setting s picks replies) (log s picks replies marks) (elim b as (λ _. List Rattle.mux_history.specs.Rows.Item) [ true ↦ new_heard (bytes_of 0 marks) (bytes_of 0 marks ++ bytes) | false ↦ new_sayings k (bytes_of k marks) (bytes_of k marks ++ bytes) ])) (test_other k 0 nz)
 
 piece-rows-of : (May : HouseReply → Type 0) (before told : Option (List Asked)) (s new : State) (bytes : List ℕ) (x y : ClientState) (heard : Heard) (c : PieceAt May before told s new bytes x y heard) (picks : List ℕ) (replies : List HouseReply) (taken : ℕ) (dn : List Asked) (marks : List Mark) (closed : List ℕ) (rows : List Row)

@@ -8,5 +8,6 @@ mod Moved
 mod OneClient
 mod Over
 mod Sayings
+mod Still
 mod Takes
 mod Waits
