@@ -7,6 +7,7 @@ use Rattle.ssh_grammar.specs.Said.{Body, Payload, BadFraming, InProxy, Mode, Par
 use Rattle.ssh_grammar.proofs.Parses.{parse-append, parse-at}
 use Rattle.proxy_frames.specs.State.{QueueState}
 use Rattle.mux_history.specs.declared.ended.Ended.{Ended}
+use Rattle.mux_history.specs.declared.why.Why.{Why}
 use Rattle.mux_history.specs.Policy.{Policy}
 use Rattle.mux_history.specs.Rows.{Row, Item, Says, Heard, BadServer, rows_of, is_ended}
 use Rattle.mux_history.specs.declared.limits.TheConstants.{NUMBERS_END}
@@ -110,10 +111,10 @@ says-new before bytes rest r =
     ∙ (ap (λ (m : Mode). (parse m ((parse InProxy before).rest ++ bytes)).says) r.mode ∙ ap (λ (l : List ℕ). (parse InProxy (l ++ bytes)).says) r.rest))
 
 -- with all that was heard in a piece, the rows are those of the mark
-rows-same : (policy : Policy) (pid : ℕ) (picks : List ℕ) (given : List HouseReply) (before bytes rest rest' : List ℕ) (rows : List Row) (core : CoreState) (cs : List ClientState) (queue : QueueState) (index : ℕ) (ended : Option Ended)
-    → ServerReads before rest → (ended ≡ None → first_in InProxy rest' ≡ More) → (r : HeardTo policy pid picks given (rest ++ bytes) rows core cs queue rest' index ended)
+rows-same : (policy : Policy) (pid : ℕ) (picks : List ℕ) (given : List HouseReply) (before bytes rest rest' : List ℕ) (noted : List (ℕ × Option Why)) (rows : List Row) (core : CoreState) (cs : List ClientState) (queue : QueueState) (index : ℕ) (ended : Option Ended)
+    → ServerReads before rest → (ended ≡ None → first_in InProxy rest' ≡ More) → (r : HeardTo policy pid picks given (rest ++ bytes) noted rows core cs queue rest' index ended)
     → rows_told policy pid picks given before bytes rows ≡ rows_heard policy pid picks given rows r.says
-rows-same policy pid picks given before bytes rest rest' rows core cs queue index ended reads whole r =
+rows-same policy pid picks given before bytes rest rest' noted rows core cs queue index ended reads whole r =
     ap (λ xs. more_all s rows (map heard_item xs)) (says-new before bytes rest reads) ∙ by_end ended refl
   where
     s : Setting
@@ -135,9 +136,9 @@ rows-same policy pid picks given before bytes rest rest' rows core cs queue inde
         ∙ (more-append s rows (map heard_item r.says) (map heard_item r.over.0) ∙ no-rows s r.over.0 rows' (ended-some rows' cause (sym e ∙ r.ended_is))))
 
 -- and while the run goes on all its bytes are read so
-reads-on : (policy : Policy) (pid : ℕ) (picks : List ℕ) (given : List HouseReply) (before bytes rest rest' : List ℕ) (rows : List Row) (core : CoreState) (cs : List ClientState) (queue : QueueState) (index : ℕ) (ended : Option Ended)
-    → ServerReads before rest → first_in InProxy rest' ≡ More → ended ≡ None → HeardTo policy pid picks given (rest ++ bytes) rows core cs queue rest' index ended → ServerReads (before ++ bytes) rest'
-reads-on policy pid picks given before bytes rest rest' rows core cs queue index ended reads whole e r =
+reads-on : (policy : Policy) (pid : ℕ) (picks : List ℕ) (given : List HouseReply) (before bytes rest rest' : List ℕ) (noted : List (ℕ × Option Why)) (rows : List Row) (core : CoreState) (cs : List ClientState) (queue : QueueState) (index : ℕ) (ended : Option Ended)
+    → ServerReads before rest → first_in InProxy rest' ≡ More → ended ≡ None → HeardTo policy pid picks given (rest ++ bytes) noted rows core cs queue rest' index ended → ServerReads (before ++ bytes) rest'
+reads-on policy pid picks given before bytes rest rest' noted rows core cs queue index ended reads whole e r =
     let on = r.on e in
     let more : parse (parse InProxy before).mode ((parse InProxy before).rest ++ bytes) ≡ behind r.says (record { says = []; mode = InProxy; rest = rest' }) =
     ap (λ (m : Mode). parse m ((parse InProxy before).rest ++ bytes)) reads.mode
@@ -148,16 +149,17 @@ reads-on policy pid picks given before bytes rest rest' rows core cs queue index
     }
 
 pub pieces-of-the-server : PiecesOfTheServer
-pieces-of-the-server policy pid picks given before bytes rest rest' rows core cs queue index ended reads whole r =
-    let same : rows_told policy pid picks given before bytes rows ≡ rows_heard policy pid picks given rows r.says = rows-same policy pid picks given before bytes rest rest' rows core cs queue index ended reads whole r in
+pieces-of-the-server policy pid picks given before bytes rest rest' noted rows core cs queue index ended reads whole r =
+    let same : rows_told policy pid picks given before bytes rows ≡ rows_heard policy pid picks given rows r.says = rows-same policy pid picks given before bytes rest rest' noted rows core cs queue index ended reads whole r in
     let quiet = quiet-all policy pid picks given r.says rows in
-    subst (λ (rows' : List Row). IsHeardTo before bytes rows rows' core cs queue rest' index ended) (sym same) (record {
+    subst (λ (rows' : List Row). IsHeardTo before bytes noted rows rows' core cs queue rest' index ended) (sym same) (record {
       fit = r.fit;
+      lost = r.lost;
       ended_is = r.ended_is;
       taken = quiet.taken;
       given_is = quiet.given_is;
       fresh = quiet.fresh;
       stops_is = quiet.stops_is;
       awaits = λ e. let on = r.on e in record { fit = r.fit; live = on.live; here = on.here; place = on.place };
-      reads = λ e. reads-on policy pid picks given before bytes rest rest' rows core cs queue index ended reads (whole e) e r;
+      reads = λ e. reads-on policy pid picks given before bytes rest rest' noted rows core cs queue index ended reads (whole e) e r;
     })

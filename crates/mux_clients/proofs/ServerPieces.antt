@@ -11,8 +11,9 @@ use Rattle.proxy_frames.specs.State.{QueueState}
 use Rattle.mux_history.specs.declared.broke.Break.TheVariants as broke
 use Rattle.mux_history.specs.declared.ended.Ended.{Ended}
 use Rattle.mux_history.specs.declared.ended.Ended.TheVariants as ended
+use Rattle.mux_history.specs.declared.why.Why.{Why}
 use Rattle.mux_history.specs.Policy.{Policy}
-use Rattle.mux_history.specs.Rows.{Row, BadServer, Fate, Goes, Refused, Drop, End, is_end, is_ended}
+use Rattle.mux_history.specs.Rows.{Row, BadServer, Fate, Goes, Refused, Drop, End, is_end, is_ended, losses}
 use Rattle.mux_history.specs.Heard.{next_index}
 use Rattle.mux_history.specs.Settings.{by_lists}
 use Rattle.mux_history.specs.Solo.{end_of}
@@ -55,102 +56,112 @@ ended-some rows cause e = by_end (is_ended rows) refl
 -- ---- before anything is heard
 
 pub heard-first : (policy : Policy) (pid : ℕ) (picks : List ℕ) (given : List HouseReply) (all : List ℕ) (rows : List Row) (core : CoreState) (cs : List ClientState) (queue : QueueState) (rest : List ℕ) (index : ℕ)
-    → rest ≡ all → AllAwait rows core cs queue index → HeardTo policy pid picks given all rows core cs queue rest index None
+    → rest ≡ all → AllAwait rows core cs queue index → HeardTo policy pid picks given all [] rows core cs queue rest index None
 heard-first policy pid picks given all rows core cs queue rest index e a = record {
   says = [];
   fit = a.fit;
+  lost = sym (append-nil (losses rows));
   ended_is = sym (end-none rows a.live);
   on = λ t. record { live = a.live; said_is = ap (parse InProxy) (sym e); here = a.here; place = a.place };
   over = ((parse InProxy all).says, refl);
 }
 
-pub hearing-first : (all : List ℕ) (core : CoreState) (cs : List ClientState) (queue : QueueState) (first now : ServerState) → now.framing ≡ first.framing → now.fault ≡ None → now.rest ≡ all → now.index ≡ first.index
-    → HearingAll all core cs queue first core cs queue now None
-hearing-first all core cs queue first now cuts well rest index = record {
+pub hearing-first : (all : List ℕ) (leaving : List (ℕ × Option Why)) (core : CoreState) (cs : List ClientState) (queue : QueueState) (first now : ServerState) → now.framing ≡ first.framing → now.fault ≡ None → now.rest ≡ all → now.index ≡ first.index
+    → HearingAll all leaving leaving core cs queue first core cs queue now None
+hearing-first all leaving core cs queue first now cuts well rest index = record {
+  noted = [];
+  leaves = sym (append-nil leaving);
   policy = refl;
   present = λ j. refl;
   framing = λ e. cuts;
   fault = λ e. well;
-  goes = λ pid picks given rows a. subst (λ i. HeardTo core.policy pid picks given all rows core cs queue now.rest i None) (sym index) (heard-first core.policy pid picks given all rows core cs queue now.rest first.index rest a);
+  goes = λ pid picks given rows a. subst (λ i. HeardTo core.policy pid picks given all [] rows core cs queue now.rest i None) (sym index) (heard-first core.policy pid picks given all rows core cs queue now.rest first.index rest a);
 }
 
 -- ---- one frame more
 
 -- with more room that lasts
-heard-roomy : (policy : Policy) (pid : ℕ) (picks : List ℕ) (given : List HouseReply) (all : List ℕ) (rows : List Row) (core : CoreState) (cs : List ClientState) (queue roomy : QueueState) (rest : List ℕ) (index : ℕ) (ended : Option Ended)
-    → roomy.waiting ≡ queue.waiting → HeardTo policy pid picks given all rows core cs queue rest index ended → HeardTo policy pid picks given all rows core cs roomy rest index ended
-heard-roomy policy pid picks given all rows core cs queue roomy rest index ended e r = record {
+heard-roomy : (policy : Policy) (pid : ℕ) (picks : List ℕ) (given : List HouseReply) (all : List ℕ) (noted : List (ℕ × Option Why)) (rows : List Row) (core : CoreState) (cs : List ClientState) (queue roomy : QueueState) (rest : List ℕ) (index : ℕ) (ended : Option Ended)
+    → roomy.waiting ≡ queue.waiting → HeardTo policy pid picks given all noted rows core cs queue rest index ended → HeardTo policy pid picks given all noted rows core cs roomy rest index ended
+heard-roomy policy pid picks given all noted rows core cs queue roomy rest index ended e r = record {
   says = r.says;
   fit = record { core = r.fit.core; each = r.fit.each; apart = r.fit.apart; up = e ∙ r.fit.up };
+  lost = r.lost;
   ended_is = r.ended_is;
   on = r.on;
   over = r.over;
 }
 
 -- a fault
-pub heard-fault : (policy : Policy) (pid : ℕ) (picks : List ℕ) (given : List HouseReply) (all : List ℕ) (rows : List Row) (core : CoreState) (cs : List ClientState) (queue : QueueState) (rest rest' : List ℕ) (i i' : ℕ) (fault : BadFrame)
-    → first_in InProxy rest ≡ Faulty fault → HeardTo policy pid picks given all rows core cs queue rest i None
-    → HeardTo policy pid picks given all rows core cs queue rest' i' (Some (ended.Broke i (broke.Frame fault)))
-heard-fault policy pid picks given all rows core cs queue rest rest' i i' fault front r =
+pub heard-fault : (policy : Policy) (pid : ℕ) (picks : List ℕ) (given : List HouseReply) (all : List ℕ) (noted : List (ℕ × Option Why)) (rows : List Row) (core : CoreState) (cs : List ClientState) (queue : QueueState) (rest rest' : List ℕ) (i i' : ℕ) (fault : BadFrame)
+    → first_in InProxy rest ≡ Faulty fault → HeardTo policy pid picks given all noted rows core cs queue rest i None
+    → HeardTo policy pid picks given all noted rows core cs queue rest' i' (Some (ended.Broke i (broke.Frame fault)))
+heard-fault policy pid picks given all noted rows core cs queue rest rest' i i' fault front r =
     let s : Setting = by_lists policy pid picks given in
     let rows' : List Row = rows_heard policy pid picks given rows r.says in
     let on : HearsOnwards all cs rest i rows' r.says = r.on refl in
     let row : Row = next_row s rows' (BadServer fault) in
     let last : rows_heard policy pid picks given rows (r.says ++ BadFraming fault ∷ []) ≡ row ∷ rows' =
     ap (more_all s rows) (map-last r.says (BadFraming fault)) ∙ (more-last s rows (map heard_item r.says) (BadServer fault) ∙ makes-heard s (BadServer fault) rows' on.live refl) in
-    let by : HeardBy core cs queue (Some (ended.Broke i (broke.Frame fault))) rows' row = fault-heard policy pid picks given fault rows' core core cs queue i r.fit on.live on.place in
+    let by : HeardBy [] core cs queue (Some (ended.Broke i (broke.Frame fault))) rows' row = fault-heard policy pid picks given fault rows' core core cs queue i r.fit on.live on.place in
     record {
       says = r.says ++ BadFraming fault ∷ [];
       fit = subst (λ l. AllFit l core cs queue) (sym last) by.fit;
+      lost = ap losses last ∙ (by.lost ∙ (append-nil (losses rows') ∙ r.lost));
       ended_is = by.ended_is ∙ (sym (end-shown row.fate row rows' refl (sym r.ended_is)) ∙ ap end_of (sym last));
       on = λ e. absurd (cc);
       over = ([], ap (λ (p : Parsed). p.says) (on.said_is ∙ ap (behind r.says) (parse-at InProxy rest (Faulty fault) front)) ∙ sym (append-nil (r.says ++ BadFraming fault ∷ [])));
     }
 
-hearing-frame : (all content rest : List ℕ) (core0 core core' : CoreState) (cs0 cs cs' : List ClientState) (queue0 queue queue' : QueueState) (first now new : ServerState) (ended' : Option Ended)
-    → core'.policy ≡ core.policy → first_in InProxy now.rest ≡ Frame content rest → HearingAll all core0 cs0 queue0 first core cs queue now None → ServerFrame content rest core core' cs cs' queue queue' now new ended'
-    → HearingAll all core0 cs0 queue0 first core' cs' queue' new ended'
-hearing-frame all content rest core0 core core' cs0 cs cs' queue0 queue queue' first now new ended' pol front h s = record {
+hearing-frame : (all content rest : List ℕ) (leaving0 leaving leaving' : List (ℕ × Option Why)) (core0 core core' : CoreState) (cs0 cs cs' : List ClientState) (queue0 queue queue' : QueueState) (first now new : ServerState) (ended' : Option Ended)
+    → core'.policy ≡ core.policy → first_in InProxy now.rest ≡ Frame content rest → HearingAll all leaving0 leaving core0 cs0 queue0 first core cs queue now None → ServerFrame content rest leaving leaving' core core' cs cs' queue queue' now new ended'
+    → HearingAll all leaving0 leaving' core0 cs0 queue0 first core' cs' queue' new ended'
+hearing-frame all content rest leaving0 leaving leaving' core0 core core' cs0 cs cs' queue0 queue queue' first now new ended' pol front h s = record {
+  noted = h.noted ++ s.hears.noted;
+  leaves = s.hears.leaves ∙ (ap (λ l. l ++ s.hears.noted) h.leaves ∙ append_assoc leaving0 h.noted s.hears.noted);
   policy = pol ∙ h.policy;
   present = λ j. s.present j ∙ h.present j;
   framing = λ e. s.framing ∙ h.framing refl;
   fault = λ e. s.fault;
   goes = λ pid picks given rows a.
-      payload-heard core0.policy pid picks given all rows core core' cs cs' s.roomy queue' now.rest new.rest content now.index new.index ended' h.policy (front ∙ ap (Frame content) (sym s.left)) s.hears s.present s.next
-      (heard-item core0.policy pid picks given content) (heard-roomy core0.policy pid picks given all rows core cs queue s.roomy now.rest now.index None s.waiting (h.goes pid picks given rows a));
+      payload-heard core0.policy pid picks given all h.noted s.hears.noted rows core core' cs cs' s.roomy queue' now.rest new.rest content now.index new.index ended' h.policy (front ∙ ap (Frame content) (sym s.left)) s.hears.hears s.present s.next
+      (heard-item core0.policy pid picks given content) (heard-roomy core0.policy pid picks given all h.noted rows core cs queue s.roomy now.rest now.index None s.waiting (h.goes pid picks given rows a));
 }
 
-hearing-fault : (all : List ℕ) (fault : BadFrame) (core0 core core' : CoreState) (cs0 cs cs' : List ClientState) (queue0 queue queue' : QueueState) (first now new : ServerState) (ended' : Option Ended)
-    → first_in InProxy now.rest ≡ Faulty fault → HearingAll all core0 cs0 queue0 first core cs queue now None → ServerFault fault core core' cs cs' queue queue' now ended'
-    → HearingAll all core0 cs0 queue0 first core' cs' queue' new ended'
-hearing-fault all fault core0 core core' cs0 cs cs' queue0 queue queue' first now new ended' front h s =
-    subst (λ (x : CoreState). HearingAll all core0 cs0 queue0 first x cs' queue' new ended') (sym s.core_same)
-    (subst (λ (x : List ClientState). HearingAll all core0 cs0 queue0 first core x queue' new ended') (sym s.clients_same)
-    (subst (λ (x : QueueState). HearingAll all core0 cs0 queue0 first core cs x new ended') (sym s.queue_same)
-    (subst (λ (x : Option Ended). HearingAll all core0 cs0 queue0 first core cs queue new x) (sym s.ends) (record {
+hearing-fault : (all : List ℕ) (fault : BadFrame) (leaving0 leaving leaving' : List (ℕ × Option Why)) (core0 core core' : CoreState) (cs0 cs cs' : List ClientState) (queue0 queue queue' : QueueState) (first now new : ServerState) (ended' : Option Ended)
+    → first_in InProxy now.rest ≡ Faulty fault → HearingAll all leaving0 leaving core0 cs0 queue0 first core cs queue now None → ServerFault fault leaving leaving' core core' cs cs' queue queue' now ended'
+    → HearingAll all leaving0 leaving' core0 cs0 queue0 first core' cs' queue' new ended'
+hearing-fault all fault leaving0 leaving leaving' core0 core core' cs0 cs cs' queue0 queue queue' first now new ended' front h s =
+    subst (λ (x : List (ℕ × Option Why)). HearingAll all leaving0 x core0 cs0 queue0 first core' cs' queue' new ended') (sym s.leaving_same)
+    (subst (λ (x : CoreState). HearingAll all leaving0 leaving core0 cs0 queue0 first x cs' queue' new ended') (sym s.core_same)
+    (subst (λ (x : List ClientState). HearingAll all leaving0 leaving core0 cs0 queue0 first core x queue' new ended') (sym s.clients_same)
+    (subst (λ (x : QueueState). HearingAll all leaving0 leaving core0 cs0 queue0 first core cs x new ended') (sym s.queue_same)
+    (subst (λ (x : Option Ended). HearingAll all leaving0 leaving core0 cs0 queue0 first core cs queue new x) (sym s.ends) (record {
+      noted = h.noted;
+      leaves = h.leaves;
       policy = h.policy;
       present = h.present;
       framing = λ e. absurd (cc);
       fault = λ e. absurd (cc);
-      goes = λ pid picks given rows a. heard-fault core0.policy pid picks given all rows core cs queue now.rest new.rest now.index new.index fault front (h.goes pid picks given rows a);
-    }))))
+      goes = λ pid picks given rows a. heard-fault core0.policy pid picks given all h.noted rows core cs queue now.rest new.rest now.index new.index fault front (h.goes pid picks given rows a);
+    })))))
 
-pub hearing-goes : (all : List ℕ) (core0 core core' : CoreState) (cs0 cs cs' : List ClientState) (queue0 queue queue' : QueueState) (first now new : ServerState) (ended' : Option Ended)
-    → core'.policy ≡ core.policy → HearingAll all core0 cs0 queue0 first core cs queue now None → ServerNext true (first_in InProxy now.rest) core core' cs cs' queue queue' now new None ended'
-    → HearingAll all core0 cs0 queue0 first core' cs' queue' new ended'
-hearing-goes all core0 core core' cs0 cs cs' queue0 queue queue' first now new ended' pol h says = by_front (first_in InProxy now.rest) refl says
+pub hearing-goes : (all : List ℕ) (leaving0 leaving leaving' : List (ℕ × Option Why)) (core0 core core' : CoreState) (cs0 cs cs' : List ClientState) (queue0 queue queue' : QueueState) (first now new : ServerState) (ended' : Option Ended)
+    → core'.policy ≡ core.policy → HearingAll all leaving0 leaving core0 cs0 queue0 first core cs queue now None → ServerNext true (first_in InProxy now.rest) leaving leaving' core core' cs cs' queue queue' now new None ended'
+    → HearingAll all leaving0 leaving' core0 cs0 queue0 first core' cs' queue' new ended'
+hearing-goes all leaving0 leaving leaving' core0 core core' cs0 cs cs' queue0 queue queue' first now new ended' pol h says = by_front (first_in InProxy now.rest) refl says
   where
-    by_front : (f : Front) → first_in InProxy now.rest ≡ f → ServerNext true f core core' cs cs' queue queue' now new None ended' → HearingAll all core0 cs0 queue0 first core' cs' queue' new ended'
-    by_front (Frame content rest) e s = hearing-frame all content rest core0 core core' cs0 cs cs' queue0 queue queue' first now new ended' pol e h s
+    by_front : (f : Front) → first_in InProxy now.rest ≡ f → ServerNext true f leaving leaving' core core' cs cs' queue queue' now new None ended' → HearingAll all leaving0 leaving' core0 cs0 queue0 first core' cs' queue' new ended'
+    by_front (Frame content rest) e s = hearing-frame all content rest leaving0 leaving leaving' core0 core core' cs0 cs cs' queue0 queue queue' first now new ended' pol e h s
     by_front More e s = absurd s
-    by_front (Faulty fault) e s = hearing-fault all fault core0 core core' cs0 cs cs' queue0 queue queue' first now new ended' e h s
+    by_front (Faulty fault) e s = hearing-fault all fault leaving0 leaving leaving' core0 core core' cs0 cs cs' queue0 queue queue' first now new ended' e h s
 
 -- what was said next, while the run went on, by whether there was anything
-pub turn : (more more' : Bool) (core core' : CoreState) (cs cs' : List ClientState) (queue queue' : QueueState) (now new : ServerState) (ended ended' : Option Ended)
-    → more ≡ more' → ended ≡ None → ServerNext more (first_in InProxy now.rest) core core' cs cs' queue queue' now new ended ended' → ServerNext more' (first_in InProxy now.rest) core core' cs cs' queue queue' now new None ended'
-turn more more' core core' cs cs' queue queue' now new ended ended' m e says =
-    subst (λ (b : Bool). ServerNext b (first_in InProxy now.rest) core core' cs cs' queue queue' now new None ended') m
-    (subst (λ (o : Option Ended). ServerNext more (first_in InProxy now.rest) core core' cs cs' queue queue' now new o ended') e says)
+pub turn : (more more' : Bool) (leaving leaving' : List (ℕ × Option Why)) (core core' : CoreState) (cs cs' : List ClientState) (queue queue' : QueueState) (now new : ServerState) (ended ended' : Option Ended)
+    → more ≡ more' → ended ≡ None → ServerNext more (first_in InProxy now.rest) leaving leaving' core core' cs cs' queue queue' now new ended ended' → ServerNext more' (first_in InProxy now.rest) leaving leaving' core core' cs cs' queue queue' now new None ended'
+turn more more' leaving leaving' core core' cs cs' queue queue' now new ended ended' m e says =
+    subst (λ (b : Bool). ServerNext b (first_in InProxy now.rest) leaving leaving' core core' cs cs' queue queue' now new None ended') m
+    (subst (λ (o : Option Ended). ServerNext more (first_in InProxy now.rest) leaving leaving' core core' cs cs' queue queue' now new o ended') e says)
 
 pub none-then : (o : Option Ended) → is_some o ≡ false → o ≡ None
 none-then None e = refl
@@ -167,43 +178,44 @@ left-less : (ended : Option Ended) (rest bytes : List ℕ) → length rest < len
 left-less None rest bytes lt = omega (arith, lt)
 left-less (Some cause) rest bytes lt = omega arith
 
-shorter-at : (bytes : List ℕ) (f : Front) (core core' : CoreState) (cs cs' : List ClientState) (queue queue' : QueueState) (now new : ServerState) (ended' : Option Ended) → 0 < length bytes → IsShorter (length bytes - 4) f
-    → ServerNext true f core core' cs cs' queue queue' now new None ended' → left_of ended' new.rest < suc (length bytes)
-shorter-at bytes (Frame content rest) core core' cs cs' queue queue' now new ended' some short s = left-less ended' new.rest bytes (omega (arith, ap length s.left, short, some))
-shorter-at bytes More core core' cs cs' queue queue' now new ended' some short s = absurd s
-shorter-at bytes (Faulty fault) core core' cs cs' queue queue' now new ended' some short s = let e : left_of ended' new.rest ≡ 0 = ap (λ o. left_of o new.rest) s.ends in omega (arith, e)
+shorter-at : (bytes : List ℕ) (f : Front) (leaving leaving' : List (ℕ × Option Why)) (core core' : CoreState) (cs cs' : List ClientState) (queue queue' : QueueState) (now new : ServerState) (ended' : Option Ended) → 0 < length bytes → IsShorter (length bytes - 4) f
+    → ServerNext true f leaving leaving' core core' cs cs' queue queue' now new None ended' → left_of ended' new.rest < suc (length bytes)
+shorter-at bytes (Frame content rest) leaving leaving' core core' cs cs' queue queue' now new ended' some short s = left-less ended' new.rest bytes (omega (arith, ap length s.left, short, some))
+shorter-at bytes More leaving leaving' core core' cs cs' queue queue' now new ended' some short s = absurd s
+shorter-at bytes (Faulty fault) leaving leaving' core core' cs cs' queue queue' now new ended' some short s = let e : left_of ended' new.rest ≡ 0 = ap (λ o. left_of o new.rest) s.ends in omega (arith, e)
 
-pub hearing-shorter : (bytes : List ℕ) (core core' : CoreState) (cs cs' : List ClientState) (queue queue' : QueueState) (now new : ServerState) (ended' : Option Ended)
-    → ServerNext true (first_in InProxy bytes) core core' cs cs' queue queue' now new None ended' → left_of ended' new.rest < suc (length bytes)
-hearing-shorter [] core core' cs cs' queue queue' now new ended' s = absurd s
-hearing-shorter (b ∷ bytes) core core' cs cs' queue queue' now new ended' s = shorter-at (b ∷ bytes) (first_in InProxy (b ∷ bytes)) core core' cs cs' queue queue' now new ended' (omega arith) (in-shorter InProxy (b ∷ bytes)) s
+pub hearing-shorter : (bytes : List ℕ) (leaving leaving' : List (ℕ × Option Why)) (core core' : CoreState) (cs cs' : List ClientState) (queue queue' : QueueState) (now new : ServerState) (ended' : Option Ended)
+    → ServerNext true (first_in InProxy bytes) leaving leaving' core core' cs cs' queue queue' now new None ended' → left_of ended' new.rest < suc (length bytes)
+hearing-shorter [] leaving leaving' core core' cs cs' queue queue' now new ended' s = absurd s
+hearing-shorter (b ∷ bytes) leaving leaving' core core' cs cs' queue queue' now new ended' s = shorter-at (b ∷ bytes) (first_in InProxy (b ∷ bytes)) leaving leaving' core core' cs cs' queue queue' now new ended' (omega arith) (in-shorter InProxy (b ∷ bytes)) s
 
 -- ---- all was heard
 
-hearing-same : (all : List ℕ) (core0 core core' : CoreState) (cs0 cs cs' : List ClientState) (queue0 queue queue' : QueueState) (first now new : ServerState) (ended' : Option Ended) → core' ≡ core → cs' ≡ cs → queue' ≡ queue → new ≡ now → ended' ≡ None
-    → HearingAll all core0 cs0 queue0 first core cs queue now None → HearingAll all core0 cs0 queue0 first core' cs' queue' new ended'
-hearing-same all core0 core core' cs0 cs cs' queue0 queue queue' first now new ended' a b c d e h =
-    subst (λ (x : CoreState). HearingAll all core0 cs0 queue0 first x cs' queue' new ended') (sym a)
-    (subst (λ (x : List ClientState). HearingAll all core0 cs0 queue0 first core x queue' new ended') (sym b)
-    (subst (λ (x : QueueState). HearingAll all core0 cs0 queue0 first core cs x new ended') (sym c)
-    (subst (λ (x : ServerState). HearingAll all core0 cs0 queue0 first core cs queue x ended') (sym d)
-    (subst (λ (x : Option Ended). HearingAll all core0 cs0 queue0 first core cs queue now x) (sym e) h))))
+hearing-same : (all : List ℕ) (leaving0 leaving leaving' : List (ℕ × Option Why)) (core0 core core' : CoreState) (cs0 cs cs' : List ClientState) (queue0 queue queue' : QueueState) (first now new : ServerState) (ended' : Option Ended) → leaving' ≡ leaving → core' ≡ core → cs' ≡ cs → queue' ≡ queue → new ≡ now → ended' ≡ None
+    → HearingAll all leaving0 leaving core0 cs0 queue0 first core cs queue now None → HearingAll all leaving0 leaving' core0 cs0 queue0 first core' cs' queue' new ended'
+hearing-same all leaving0 leaving leaving' core0 core core' cs0 cs cs' queue0 queue queue' first now new ended' n a b c d e h =
+    subst (λ (x : List (ℕ × Option Why)). HearingAll all leaving0 x core0 cs0 queue0 first core' cs' queue' new ended') (sym n)
+    (subst (λ (x : CoreState). HearingAll all leaving0 leaving core0 cs0 queue0 first x cs' queue' new ended') (sym a)
+    (subst (λ (x : List ClientState). HearingAll all leaving0 leaving core0 cs0 queue0 first core x queue' new ended') (sym b)
+    (subst (λ (x : QueueState). HearingAll all leaving0 leaving core0 cs0 queue0 first core cs x new ended') (sym c)
+    (subst (λ (x : ServerState). HearingAll all leaving0 leaving core0 cs0 queue0 first core cs queue x ended') (sym d)
+    (subst (λ (x : Option Ended). HearingAll all leaving0 leaving core0 cs0 queue0 first core cs queue now x) (sym e) h)))))
 
 -- nothing whole is left
-pub bytes-rest : (bytes : List ℕ) (core0 core core' : CoreState) (cs0 cs cs' : List ClientState) (queue0 queue queue' : QueueState) (first now new : ServerState) (ended' : Option Ended)
-    → HearingAll (first.rest ++ bytes) core0 cs0 queue0 first core cs queue now None → ServerNext false (first_in InProxy now.rest) core core' cs cs' queue queue' now new None ended'
-    → HearsBytes bytes core0 cs0 queue0 first core' cs' queue' new ended'
-bytes-rest bytes core0 core core' cs0 cs cs' queue0 queue queue' first now new ended' h says = by_front (first_in InProxy now.rest) refl says
+pub bytes-rest : (bytes : List ℕ) (leaving0 leaving leaving' : List (ℕ × Option Why)) (core0 core core' : CoreState) (cs0 cs cs' : List ClientState) (queue0 queue queue' : QueueState) (first now new : ServerState) (ended' : Option Ended)
+    → HearingAll (first.rest ++ bytes) leaving0 leaving core0 cs0 queue0 first core cs queue now None → ServerNext false (first_in InProxy now.rest) leaving leaving' core core' cs cs' queue queue' now new None ended'
+    → HearsBytes bytes leaving0 leaving' core0 cs0 queue0 first core' cs' queue' new ended'
+bytes-rest bytes leaving0 leaving leaving' core0 core core' cs0 cs cs' queue0 queue queue' first now new ended' h says = by_front (first_in InProxy now.rest) refl says
   where
-    by_front : (f : Front) → first_in InProxy now.rest ≡ f → ServerNext false f core core' cs cs' queue queue' now new None ended' → HearsBytes bytes core0 cs0 queue0 first core' cs' queue' new ended'
+    by_front : (f : Front) → first_in InProxy now.rest ≡ f → ServerNext false f leaving leaving' core core' cs cs' queue queue' now new None ended' → HearsBytes bytes leaving0 leaving' core0 cs0 queue0 first core' cs' queue' new ended'
     by_front (Frame content rest) e s = absurd s
     by_front More e s = record {
-      hearing = hearing-same (first.rest ++ bytes) core0 core core' cs0 cs cs' queue0 queue queue' first now new ended' s.core_same s.clients_same s.queue_same s.same s.ended_same h;
+      hearing = hearing-same (first.rest ++ bytes) leaving0 leaving leaving' core0 core core' cs0 cs cs' queue0 queue queue' first now new ended' s.leaving_same s.core_same s.clients_same s.queue_same s.same s.ended_same h;
       whole = λ t. ap (λ (x : ServerState). first_in InProxy x.rest) s.same ∙ e;
     }
     by_front (Faulty fault) e s = absurd s
 
 -- the run is over
-pub bytes-over : (bytes : List ℕ) (core0 core : CoreState) (cs0 cs : List ClientState) (queue0 queue : QueueState) (first now : ServerState) (cause : Ended)
-    → HearingAll (first.rest ++ bytes) core0 cs0 queue0 first core cs queue now (Some cause) → HearsBytes bytes core0 cs0 queue0 first core cs queue now (Some cause)
-bytes-over bytes core0 core cs0 cs queue0 queue first now cause h = record { hearing = h; whole = λ e. absurd (cc) }
+pub bytes-over : (bytes : List ℕ) (leaving0 leaving : List (ℕ × Option Why)) (core0 core : CoreState) (cs0 cs : List ClientState) (queue0 queue : QueueState) (first now : ServerState) (cause : Ended)
+    → HearingAll (first.rest ++ bytes) leaving0 leaving core0 cs0 queue0 first core cs queue now (Some cause) → HearsBytes bytes leaving0 leaving core0 cs0 queue0 first core cs queue now (Some cause)
+bytes-over bytes leaving0 leaving core0 core cs0 cs queue0 queue first now cause h = record { hearing = h; whole = λ e. absurd (cc) }

@@ -8,7 +8,8 @@ use Rattle.ssh_grammar.specs.Said.{InControl, InProxy, first_in, parse}
 use Rattle.proxy_frames.specs.State.{QueueState}
 use Rattle.mux_history.specs.declared.ended.Ended.{Ended}
 use Rattle.mux_history.specs.Policy.{Policy}
-use Rattle.mux_history.specs.Rows.{Row, Gone, is_ended}
+use Rattle.mux_history.specs.declared.why.Why.{Why}
+use Rattle.mux_history.specs.Rows.{Row, Gone, is_ended, losses}
 use Rattle.mux_history.specs.Choices.{numbers_taken, replies_given}
 use Rattle.mux_history.specs.Promises.{listens}
 use Rattle.mux_history.specs.Solo.{end_of}
@@ -70,9 +71,11 @@ pub record ServerReads (bytes left : List ℕ) : Type 0 where
 abbrev pub rows_told : Policy → ℕ → List ℕ → List HouseReply → List ℕ → List ℕ → List Row → List Row
 rows_told policy pid picks given before bytes rows = more_all (by_lists policy pid picks given) rows (new_heard before (before ++ bytes))
 
--- how a piece leaves all clients, by these rows: it takes no number and no reply, and stops nobody
-pub record IsHeardTo (before bytes : List ℕ) (rows rows' : List Row) (core : CoreState) (cs : List ClientState) (queue : QueueState) (rest : List ℕ) (index : ℕ) (ended : Option Ended) : Type 0 where
+-- how a piece leaves all clients, by these rows: it takes no number and no reply, and stops nobody, and these
+-- are the losses by it
+pub record IsHeardTo (before bytes : List ℕ) (noted : List (ℕ × Option Why)) (rows rows' : List Row) (core : CoreState) (cs : List ClientState) (queue : QueueState) (rest : List ℕ) (index : ℕ) (ended : Option Ended) : Type 0 where
   pub fit : AllFit rows' core cs queue
+  pub lost : losses rows' ≡ losses rows ++ noted
   pub ended_is : ended ≡ end_of rows'
   pub taken : numbers_taken rows' ≡ numbers_taken rows
   pub given_is : replies_given rows' ≡ replies_given rows
@@ -83,9 +86,9 @@ pub record IsHeardTo (before bytes : List ℕ) (rows rows' : List Row) (core : C
 
 abbrev pub PiecesOfTheServer : Type 0
 PiecesOfTheServer =
-    (policy : Policy) (pid : ℕ) (picks : List ℕ) (given : List HouseReply) (before bytes rest rest' : List ℕ) (rows : List Row) (core : CoreState) (cs : List ClientState) (queue : QueueState) (index : ℕ) (ended : Option Ended)
-    → ServerReads before rest → (ended ≡ None → first_in InProxy rest' ≡ More) → HeardTo policy pid picks given (rest ++ bytes) rows core cs queue rest' index ended
-    → IsHeardTo before bytes rows (rows_told policy pid picks given before bytes rows) core cs queue rest' index ended
+    (policy : Policy) (pid : ℕ) (picks : List ℕ) (given : List HouseReply) (before bytes rest rest' : List ℕ) (noted : List (ℕ × Option Why)) (rows : List Row) (core : CoreState) (cs : List ClientState) (queue : QueueState) (index : ℕ) (ended : Option Ended)
+    → ServerReads before rest → (ended ≡ None → first_in InProxy rest' ≡ More) → HeardTo policy pid picks given (rest ++ bytes) noted rows core cs queue rest' index ended
+    → IsHeardTo before bytes noted rows (rows_told policy pid picks given before bytes rows) core cs queue rest' index ended
 
 -- ---- all clients
 

@@ -1,10 +1,9 @@
-ghost use Rattle.std.specs.Prelude.{◌≡◌, ◌≤◌, ◌+◌, ◌∷◌, length, ℕ, IfOk, OnOk, true};
+ghost use Rattle.std.specs.Prelude.{◌≡◌, ◌≤◌, ◌+◌, ◌∷◌, length, IfOk, OnOk, true};
 ghost use Rattle.ssh_grammar.specs.declared.framing.Framing.TheVariants.{Proxy};
 ghost use Rattle.ssh_grammar.specs.IsFrame.{IsContent};
 ghost use Rattle.ssh_grammar.specs.Frames.{frame_payload};
 ghost use Rattle.mux_clients.specs.State.{client_took, part, refusals_of};
 ghost use Rattle.mux_clients.specs.Hears.{HearsTold};
-ghost use Rattle.mux_clients.specs.Among.{ChangesOne, HearsFrames, client_index, is_present};
 ghost use Rattle.ssh_grammar.specs.Said.{first_in};
 ghost use Rattle.mux_clients.specs.State.{KeepsRoom};
 ghost use Rattle.mux_clients.specs.Stands.{is_read, mode_of};
@@ -42,75 +41,6 @@ impl Model for Client {
     ghost view = { λ a. record { seat = a.seat; rest = rest_if (is_read a.seat.standing) a.framer.rest } };
 
     ghost invariant = { λ a. is_read a.seat.standing ≡ true → (a.framer.framing ≡ framing_of a.seat.standing) × (a.framer.fault ≡ None) };
-}
-
-fn index_of(clients: &[Client], number: u64) -> usize
-    ensures { result ≡ client_index number clients.now }
-{
-    for (i, client) in clients.iter().enumerate() {
-        if client.number() == number {
-            return i;
-        }
-    }
-    clients.len()
-}
-
-/// The client of a number hears a payload of the server, and then so many refusals, after the core has heard it.
-pub fn hear_at(
-    clients: &mut [Client],
-    number: u64,
-    payload: &[u8],
-    refusals: u32,
-    core: &mut Core,
-    up: &mut Queue,
-) -> Result<(), OutOfMemory>
-    requires payload { IsContent Proxy payload.now }
-    requires room { FAREWELL_ROOM ≤ up.old.spare }
-    ensures hears { OnOk result (is_present clients.old number ≡ true → ChangesOne number (HearsFrames (frame_payload payload.now ∷ refusals_of refusals) core.old core.new up.old up.new) clients.old clients.new) }
-    ensures present { OnOk result ((j : ℕ) → is_present clients.new j ≡ is_present clients.old j) }
-    ensures policy { core.new.policy ≡ core.old.policy }
-{
-    let i = index_of(clients, number);
-    if i < clients.len() {
-        clients[i].hears(payload, refusals, core, up)?;
-    }
-    Ok(())
-}
-
-/// A piece of the bytes of the client of a number, where it is read: what it did beyond the client.
-pub fn got_at<H: House>(
-    clients: &mut [Client],
-    number: u64,
-    pid: u32,
-    bytes: &[u8],
-    house: &mut H,
-    core: &mut Core,
-    up: &mut Queue,
-) -> Result<Heard, OutOfMemory>
-    requires room { FAREWELL_ROOM ≤ up.old.spare }
-    ensures hears { IfOk result (λ heard. is_present clients.old number ≡ true → ChangesOne number (HearsIn H.may (H.told house.old) (H.told house.new) pid bytes.now core.old core.new up.old up.new heard) clients.old clients.new) }
-    ensures policy { OnOk result (core.new.policy ≡ core.old.policy) }
-{
-    let i = index_of(clients, number);
-    if i < clients.len() {
-        return clients[i].hear(pid, bytes, house, core, up);
-    }
-    Ok(Heard {
-        stops: false,
-        ended: None,
-    })
-}
-
-/// The stream of the client of a number is gone: what it left open is closed.
-pub fn lose_at(clients: &mut [Client], number: u64, core: &mut Core, up: &mut Queue)
-    requires room { FAREWELL_ROOM ≤ up.old.spare }
-    ensures loses { is_present clients.old number ≡ true → ChangesOne number (LosesIn core.old core.new up.old up.new) clients.old clients.new }
-    ensures policy { core.new.policy ≡ core.old.policy }
-{
-    let i = index_of(clients, number);
-    if i < clients.len() {
-        clients[i].lose(core, up);
-    }
 }
 
 /// A client comes: whether it is let in. Then the master's hello waits for it, and its own is awaited.
@@ -152,8 +82,8 @@ impl Client {
         self.seat.lose(core, up);
     }
 
-    // A piece of its bytes, where it is read.
-    fn hear<H: House>(
+    /// A piece of its bytes, where it is read.
+    pub fn hear<H: House>(
         &mut self,
         pid: u32,
         bytes: &[u8],

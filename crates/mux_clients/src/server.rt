@@ -7,7 +7,7 @@ use crate::client::Client;
 use crate::hearing::hear;
 use client_teardown::FAREWELL_ROOM;
 use mux_core::Core;
-use mux_history::{Break, Ended};
+use mux_history::{Break, Ended, Why};
 use proxy_frames::{Framer, Framing, Next, Queue};
 use ssh_fields::OutOfMemory;
 use std::alloc::Global;
@@ -56,12 +56,13 @@ impl Server {
         &mut self,
         clients: &mut [Client],
         ended: &mut Option<Ended>,
+        leaving: &mut Vec<(u64, Option<Why>)>,
         core: &mut Core,
         up: &mut Queue,
     ) -> Result<bool, OutOfMemory>
         requires cuts { self.old.framing ≡ InFrames }
         requires well { self.old.fault ≡ None }
-        ensures next { IfOk result (λ more. ServerNext more (first_in InProxy self.old.rest) core.old core.new clients.old clients.new up.old up.new self.old self.new ended.old ended.new) }
+        ensures next { IfOk result (λ more. ServerNext more (first_in InProxy self.old.rest) leaving.old.items leaving.new.items core.old core.new clients.old clients.new up.old up.new self.old self.new ended.old ended.new) }
         ensures policy { OnOk result (core.new.policy ≡ core.old.policy) }
     {
         match self.framer.next() {
@@ -75,7 +76,7 @@ impl Server {
             }
             Next::Frame => {
                 up.reserve(FAREWELL_ROOM)?;
-                *ended = hear(clients, self.index, self.framer.frame(), core, up)?;
+                *ended = hear(clients, self.index, self.framer.frame(), leaving, core, up)?;
                 self.index = self.index.saturating_add(1);
                 Ok(true)
             }
@@ -83,22 +84,24 @@ impl Server {
     }
 
     /// Its stream gave bytes, where it is read: how the run ended by them, if it did. After an end it isn't read again.
+    /// The clients that are lost by it are pushed to `leaving`, in that order, each with the cause.
     pub fn got(
         &mut self,
         clients: &mut [Client],
         bytes: &[u8],
+        leaving: &mut Vec<(u64, Option<Why>)>,
         core: &mut Core,
         up: &mut Queue,
     ) -> Result<Option<Ended>, OutOfMemory>
         requires cuts { self.old.framing ≡ InFrames }
         requires well { self.old.fault ≡ None }
-        ensures hears { IfOk result (λ ended. HearsBytes bytes.now core.old clients.old up.old self.old core.new clients.new up.new self.new ended) }
+        ensures hears { IfOk result (λ ended. HearsBytes bytes.now leaving.old.items leaving.new.items core.old clients.old up.old self.old core.new clients.new up.new self.new ended) }
         ensures policy { OnOk result (core.new.policy ≡ core.old.policy) }
     {
         self.framer.push(bytes)?;
         let mut ended = None;
         while ended.is_none() {
-            if !self.say_next(clients, &mut ended, core, up)? {
+            if !self.say_next(clients, &mut ended, leaving, core, up)? {
                 break;
             }
         }

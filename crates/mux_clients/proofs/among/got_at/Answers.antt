@@ -3,7 +3,7 @@ use Rattle.mux_clients.specs.declared.heard.Heard.{Heard}
 use Rattle.mux_clients.specs.Among.{ChangesOne, is_present}
 use Rattle.mux_clients.specs.Pieces.{HearsIn}
 use Rattle.mux_clients.proofs.Amongs.{if-ok, set-changes, placed-absent}
-use Rattle.mux_clients.proofs.client.got_at.Goals as goal
+use Rattle.mux_clients.proofs.among.got_at.Goals as goal
 
 pub returns-then-i-clients-clause-hears : goal.returns-then-i-clients-clause-hears
 returns-then-i-clients-clause-hears g c = if-ok c.hear.result

@@ -2,7 +2,7 @@ use Rattle.std.proofs.Common.{◌≡◌, sym, ◌∙◌, arith, true, false}
 use Rattle.mux_clients.specs.Among.{is_present}
 use Rattle.mux_clients.specs.Losing.{LosesIn}
 use Rattle.mux_clients.proofs.Amongs.{set-changes, placed-absent}
-use Rattle.mux_clients.proofs.client.lose_at.Goals as goal
+use Rattle.mux_clients.proofs.among.lose_at.Goals as goal
 
 pub returns-then-i-clients-clause-loses : goal.returns-then-i-clients-clause-loses
 returns-then-i-clients-clause-loses c = λ here. set-changes c.args.number c.index_of-i.result (LosesIn c.args.core.now c.lose.new.core c.args.up.now c.lose.new.up) c.index-clients-i.result c.lose.new.self c.args.clients.now
