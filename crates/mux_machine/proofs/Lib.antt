@@ -2,6 +2,7 @@ mod Closes
 mod Comes
 mod Gains
 mod Grows
+mod HeardRows
 mod Lists
 mod Loses
 mod Moved
