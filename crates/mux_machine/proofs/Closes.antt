@@ -183,6 +183,7 @@ rows_closed taken dn s k closed rows out nz st = record {
     | inr t ↦ st.closed_out j (sym (closed_test k j closed false t.0) ∙ q)
   ];
   known = st.known;
+  unentered = st.unentered;
   server_in = st.server_in;
 }
 

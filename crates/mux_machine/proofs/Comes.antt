@@ -155,6 +155,10 @@ refused-on k false s core' up' rows was j a = elim (eqb_tells k j) [
   | inr q ↦ out_more j (refused k) rows (was j (sym (among-last j k s.refused ∙ or-none (among j s.refused) ((k == j) || false) (ap (λ t. t || false) q.0)) ∙ a))
 ]
 
+still-zero : (k : ℕ) (b : Bool) (js : List ℕ) → k ≢ 0 → among 0 js ≡ false → among 0 (js ++ come k b) ≡ false
+still-zero k true js nz e = among-last 0 k js ∙ (or-none (among 0 js) ((k == 0) || false) (ap (λ t. t || false) (test_other k 0 nz)) ∙ e)
+still-zero k false js nz e = ap (among 0) (append-nil js) ∙ e
+
 numbers-new : (k : ℕ) (b : Bool) (s : State) (core' : CoreState) (up' : QueueState) → numbers (entered s core' up' k b).clients ≡ numbers s.clients ++ come k b
 numbers-new k true s core' up' = numbers-last s.clients (new_client k)
 numbers-new k false s core' up' = sym (append-nil (numbers s.clients))
@@ -207,6 +211,7 @@ rows-new taken dn s core' up' k b closed rows unclosed c st =
       refused_out = refused-on k b s core' up' rows st.refused_out;
       closed_out = λ j q. out_more j row rows (st.closed_out j q);
       known = λ j a. known-on k b rows c.nonzero c.none st.known j (ap (among j) (sym (came-is k b rows)) ∙ a);
+      unentered = ap (among 0) (came-is k b rows) ∙ still-zero k b (came rows) c.nonzero st.unentered;
       server_in = ap is_out (other_row k 0 row rows (client-new k b) c.nonzero) ∙ st.server_in;
     }
 

@@ -3,6 +3,7 @@ mod Comes
 mod Gains
 mod Grows
 mod HeardRows
+mod Hearing
 mod Lists
 mod Loses
 mod Moved

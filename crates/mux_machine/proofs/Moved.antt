@@ -72,5 +72,6 @@ moved taken taken' drawn drawn' loss closed old new rows rows' st m = record {
   refused_out = λ k q. m.grows.out_stays k (st.refused_out k (ap (among k) (sym m.refused_is) ∙ q));
   closed_out = λ k q. m.grows.out_stays k (st.closed_out k q);
   known = λ k a. m.grows.known k (st.known k (ap (among k) (sym m.grows.entered_is) ∙ a));
+  unentered = ap (among 0) m.grows.entered_is ∙ st.unentered;
   server_in = m.server_in;
 }

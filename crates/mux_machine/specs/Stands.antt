@@ -67,6 +67,8 @@ pub record RowsFit (taken : ℕ) (drawn : List Asked) (s : State) (closed : List
   pub refused_out : (k : ℕ) → among k s.refused ≡ true → is_out (rows_of k rows) ≡ true
   pub closed_out : (k : ℕ) → among k closed ≡ true → is_out (rows_of k rows) ≡ true
   pub known : (k : ℕ) → among k (entered rows) ≡ true → IsKnown (rows_of k rows)
+  -- the server is no client
+  pub unentered : among 0 (entered rows) ≡ false
   pub server_in : is_out (rows_of 0 rows) ≡ false
 
 -- ---- for bytes

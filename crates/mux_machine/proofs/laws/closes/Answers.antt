@@ -5,7 +5,7 @@ use Rattle.mux_machine.proofs.Over.{goes-ended}
 use Rattle.mux_machine.proofs.Comes.{goes-in}
 use Rattle.mux_machine.proofs.Gains.{goes-piece}
 use Rattle.mux_machine.proofs.Still.{goes-unheard}
-use Rattle.mux_machine.proofs.HeardRows.{heard-on}
+use Rattle.mux_machine.proofs.Hearing.{HeardAt}
 use Rattle.mux_machine.proofs.Loses.{goes-lost}
 use Rattle.mux_machine.proofs.laws.closes.Goals as goal
 
