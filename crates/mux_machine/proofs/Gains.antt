@@ -28,6 +28,7 @@ use Rattle.mux_clients.specs.Pieces.{Hearing, HearsIn, HearsNothing, HearsPiece,
 use Rattle.mux_clients.proofs.Journaled.{pieces-of-a-client}
 use Rattle.mux_clients.proofs.Ones.{one-moves-all}
 use Rattle.mux_clients.proofs.Stood.{out_is}
+use Rattle.mux_machine.specs.Moves.{GainsAt}
 use Rattle.mux_machine.specs.State.{State, is_here, loss_between, numbers, waiting_in}
 use Rattle.mux_machine.specs.Stands.{BytesFit, ClientReads, EachReads, GoesBy, GoesOn, IsAllowed, IsStrange, RowsFit, ServerReads, Stands, StandsFor, log, setting}
 use Rattle.mux_machine.proofs.Lists.{either, test_other, true_false}
@@ -284,3 +285,22 @@ goes-piece May before told s new bytes x y heard none here nz fits reads c picke
     asked-at picks replies =
         subst (λ p. asked_of (log new p ((given ++ h.used) ++ replies) (Gets k bytes ∷ marks)) ≡ asked_of (log s p ((given ++ h.used) ++ replies) marks) ++ h.asks) (sym (append_assoc picked h.picked picks))
         (subst (λ r. asked_of (log new (picked ++ (h.picked ++ picks)) r (Gets k bytes ∷ marks)) ≡ asked_of (log s (picked ++ (h.picked ++ picks)) r marks) ++ h.asks) (sym (append_assoc given h.used replies)) (for-all picks replies).1)
+
+-- ---- among all
+
+pub goes-gained : (May : HouseReply → Type 0) (before told : Option (List Asked)) (s new : State) (k : ℕ) (bytes : List ℕ) → s.ended ≡ None → is_present s.clients k ≡ true → k ≢ 0 → GainsAt May before told s new k bytes → GoesOn May before told s new (Gets k bytes)
+goes-gained May before told s new k bytes none here nz c =
+    let p = pair k (λ x y. (is_read x.seat.standing ≡ true) × (HearsPiece May before told s.pid bytes s.core s.up x new.core new.up y c.heard × (new.leaving ≡ s.leaving ++ loss_between x.seat.standing y.seat.standing k))) s.clients new.clients here c.changes in
+    subst (λ j. GoesOn May before told s new (Gets j bytes)) p.number
+    (goes-piece May before told s new bytes p.first p.now c.heard none (ap (is_present s.clients) p.number ∙ here) (λ z. nz (sym p.number ∙ z)) p.fits p.reads record {
+      pid = c.pid;
+      server = c.server;
+      refused = c.refused;
+      one = subst (λ j. ChangesOne j (IsPair p.first p.now) s.clients new.clients) (sym p.number) p.one;
+      piece = p.is.1.0;
+      read = p.is.0;
+      listening = c.listening;
+      ended = c.ended;
+      leaving = p.is.1.1 ∙ ap (λ j. s.leaving ++ loss_between p.first.seat.standing p.now.seat.standing j) (sym p.number);
+      waiting = c.waiting;
+    })

@@ -20,13 +20,14 @@ use Rattle.mux_history.specs.Log.{more_all}
 use Rattle.mux_history.specs.Journal.{bytes_in, bytes_of, heard_item, is_accepted, log_of_journal, new_heard}
 use Rattle.mux_clients.specs.State.{ClientState}
 use Rattle.mux_clients.specs.Stands.{is_lost as lost, is_read, mode_of}
-use Rattle.mux_clients.specs.Among.{AllFit, EachFits, InFits, is_present}
+use Rattle.mux_clients.specs.Among.{AllFit, EachFits, InFits, KeepReading, is_present}
 use Rattle.mux_clients.specs.Asked.{asked_of}
 use Rattle.mux_clients.specs.Hearings.{AreHere}
 use Rattle.mux_clients.specs.Laws.{IsHeardTo, rows_told}
 use Rattle.mux_clients.specs.Laws as laws
 use Rattle.mux_clients.specs.Server.{AllAwait, HeardTo, HearsBytes, HearingAll}
 use Rattle.mux_clients.proofs.ServerJournaled.{pieces-of-the-server}
+use Rattle.mux_machine.specs.Moves.{HeardAt}
 use Rattle.mux_machine.specs.State.{State, is_here, numbers, waiting_in}
 use Rattle.mux_machine.specs.Stands.{BytesFit, ClientReads, EachReads, GoesAlone, IsAllowed, IsKnown, IsStrange, RowsFit, ServerReads, Stands, StandsFor, log, not_closed, place, setting}
 use Rattle.mux_machine.proofs.Closes.{in_losses, loss_is_out, other_row}
@@ -35,14 +36,6 @@ use Rattle.mux_machine.proofs.HeardRows.{HeardOn, heard-on}
 use Rattle.mux_machine.proofs.Lists.{either, test_other, true_false}
 use Rattle.mux_machine.proofs.Moved.{Moves, here-same, moved}
 use Rattle.mux_machine.proofs.Over.{are-bytes-on, some-end, strange-on}
-
--- what an engine keeps after a piece of the server's bytes
-pub record HeardAt (s new : State) (bytes : List ℕ) : Type 0 where
-  pub pid : new.pid ≡ s.pid
-  pub refused : new.refused ≡ s.refused
-  pub listening : new.listening ≡ s.listening
-  pub piece : HearsBytes bytes s.leaving new.leaving s.core s.clients s.up s.server new.core new.clients new.up new.server new.ended
-  pub waiting : new.waiting ≡ waiting_in new
 
 -- ---- who was lost
 
@@ -184,12 +177,6 @@ reads-others : (bytes : List ℕ) (marks : List Mark) (rows : List Row) (cs : Li
 reads-others bytes marks rows [] each e = tt
 reads-others bytes marks rows (c ∷ cs) each e =
     (subst (λ b. ClientReads b c) (sym (ap (λ b. bytes_of c.seat.number marks ++ b) (server-quiet c.seat.number bytes (λ z. true_false (sym (eq-eqb c.seat.number 0 z) ∙ each.0.nonzero))) ∙ append-nil (bytes_of c.seat.number marks))) e.0, reads-others bytes marks rows cs each.1 e.1)
-
--- the clients are read on as before, however they were told
-abbrev pub KeepReading : List ClientState → List ClientState → Type 0
-KeepReading [] ds = ds ≡ []
-KeepReading (c ∷ cs) [] = ⊥
-KeepReading (c ∷ cs) (d ∷ ds) = ((d.seat.number ≡ c.seat.number) × (lost d.seat.standing ≡ false → (d.seat.standing ≡ c.seat.standing) × (d.rest ≡ c.rest))) × KeepReading cs ds
 
 pub numbers-kept : (cs ds : List ClientState) → KeepReading cs ds → numbers ds ≡ numbers cs
 numbers-kept [] ds h = ap numbers h

@@ -23,12 +23,13 @@ use Rattle.mux_clients.specs.Stands.{Fits, is_lost, is_read, standing_of}
 use Rattle.mux_clients.specs.Among.{AllFit, ChangesOne, InFits, MovesTo, is_present}
 use Rattle.mux_clients.specs.Asked.{asked_of}
 use Rattle.mux_clients.specs.Laws.{AllMoved}
-use Rattle.mux_clients.specs.Losing.{Loses, LosesIn}
+use Rattle.mux_clients.specs.Losing.{Loses}
 use Rattle.mux_clients.proofs.Adds.{losses-add-for-one}
 use Rattle.mux_clients.proofs.Losses.{gone, gone-row}
 use Rattle.mux_clients.proofs.Ones.{one-moves-all}
 use Rattle.mux_clients.proofs.RowForms.{made}
 use Rattle.mux_clients.proofs.Stood.{out_is, own_row}
+use Rattle.mux_machine.specs.Moves.{IsEvent, IsGone, LosesAt}
 use Rattle.mux_machine.specs.State.{State, is_here, numbers, waiting_in}
 use Rattle.mux_machine.specs.Stands.{BytesFit, ClientReads, EachReads, GoesAlone, IsAllowed, IsStrange, RowsFit, ServerReads, Stands, StandsFor, log, not_closed, setting}
 use Rattle.mux_machine.proofs.Closes.{other_row}
@@ -36,26 +37,7 @@ use Rattle.mux_machine.proofs.Grows.{grows-row}
 use Rattle.mux_machine.proofs.Lists.{true_false}
 use Rattle.mux_machine.proofs.Moved.{Moves, here-same, moved}
 use Rattle.mux_machine.proofs.OneClient.{all-fit, apart-here, changes-to, numbers-one, open-here, reads-one}
-use Rattle.mux_machine.proofs.Over.{IsEvent, are-bytes-on, next-live, one-more, some-end, strange-on}
-
--- the stream of a client that isn't lost is gone: what an engine keeps afterwards
-pub record LosesAt (s new : State) (k : ℕ) : Type 0 where
-  pub pid : new.pid ≡ s.pid
-  pub policy : new.core.policy ≡ s.core.policy
-  pub server : new.server ≡ s.server
-  pub refused : new.refused ≡ s.refused
-  pub listening : new.listening ≡ s.listening
-  pub ended : new.ended ≡ s.ended
-  pub changes : ChangesOne k (λ x y. (is_lost x.seat.standing ≡ false) × LosesIn s.core new.core s.up new.up x y) s.clients new.clients
-  pub leaving : new.leaving ≡ s.leaving ++ (k, None) ∷ []
-  pub waiting : new.waiting ≡ waiting_in new
-
--- a mark at which a stream is gone
-abbrev pub IsGone : Mark → ℕ → Type 0
-IsGone (Ends j) k = j ≡ k
-IsGone (Fails j) k = j ≡ k
-IsGone (WriteFails j) k = j ≡ k
-IsGone mark k = ⊥
+use Rattle.mux_machine.proofs.Over.{are-bytes-on, next-live, one-more, some-end, strange-on}
 
 pub gone-event : (mark : Mark) (k : ℕ) → IsGone mark k → IsEvent mark
 gone-event (Ends j) k g = tt
@@ -136,7 +118,7 @@ found k R rows (c ∷ cs) cs' f all p h = by_head (c.seat.number == k) refl p h 
 abbrev lost_row : ℕ → List Row → Row
 lost_row k rows = made (Gone k) k [] (farewell (gone k) (rows_of k rows)) [] Goes
 
-moves-to : (s new : State) (k : ℕ) (picks : List ℕ) (replies : List HouseReply) (rows : List Row) → is_ended rows ≡ false → AllFit rows s.core s.clients s.up → (x y : ClientState) → x.seat.number ≡ k → InFits rows x → (is_lost x.seat.standing ≡ false) × LosesIn s.core new.core s.up new.up x y
+moves-to : (s new : State) (k : ℕ) (picks : List ℕ) (replies : List HouseReply) (rows : List Row) → is_ended rows ≡ false → AllFit rows s.core s.clients s.up → (x y : ClientState) → x.seat.number ≡ k → InFits rows x → (is_lost x.seat.standing ≡ false) × Loses (part s.core x.seat s.up) (part new.core y.seat new.up)
     → MovesTo (lost_row k rows ∷ rows) new.core new.up x y
 moves-to s new k picks replies rows live fit x y e f h = record {
   number = h.1.number;
@@ -148,14 +130,14 @@ all-moved : (s new : State) (k : ℕ) (picks : List ℕ) (replies : List HouseRe
 all-moved s new k picks replies rows c live here fit =
     one-moves-all k rows (lost_row k rows ∷ rows) s.core new.core s.clients new.clients s.up new.up fit
     (subst (λ r. Rattle.mux_clients.specs.Among.AddsFor k rows (r ∷ rows)) (gone-row s.core.policy s.pid picks replies k rows) (losses-add-for-one s.core.policy s.pid picks replies k rows)) here
-    (changes-to k (λ x y. (is_lost x.seat.standing ≡ false) × LosesIn s.core new.core s.up new.up x y) (MovesTo (lost_row k rows ∷ rows) new.core new.up) (InFits rows) s.clients new.clients (moves-to s new k picks replies rows live fit) (all-fit rows s.clients fit.each) c.changes)
+    (changes-to k (λ x y. (is_lost x.seat.standing ≡ false) × Loses (part s.core x.seat s.up) (part new.core y.seat new.up)) (MovesTo (lost_row k rows ∷ rows) new.core new.up) (InFits rows) s.clients new.clients (moves-to s new k picks replies rows live fit) (all-fit rows s.clients fit.each) c.changes)
 
 rows-lost : (taken : ℕ) (dn : List Asked) (s new : State) (k : ℕ) (picks : List ℕ) (replies : List HouseReply) (closed : List ℕ) (rows : List Row) → k ≢ 0 → LosesAt s new k → is_ended rows ≡ false → is_present s.clients k ≡ true → RowsFit taken dn s closed rows → RowsFit taken dn new closed (lost_row k rows ∷ rows)
 rows-lost taken dn s new k picks replies closed rows nz c live here st =
     let row : Row = lost_row k rows in
     moved taken taken dn dn ((k, None) ∷ []) closed s new rows (row ∷ rows) st record {
       grows = grows-row (Gone k) row rows refl tt refl;
-      numbers_are = numbers-one k (λ x y. (is_lost x.seat.standing ≡ false) × LosesIn s.core new.core s.up new.up x y) s.clients new.clients (λ x y h. h.1.number) c.changes;
+      numbers_are = numbers-one k (λ x y. (is_lost x.seat.standing ≡ false) × Loses (part s.core x.seat s.up) (part new.core y.seat new.up)) s.clients new.clients (λ x y h. h.1.number) c.changes;
       refused_is = c.refused;
       taken_is = st.taken_is;
       drawn_is = st.drawn_is;
@@ -178,10 +160,10 @@ lost-reads bytes y e = record { mode_is = λ l. true_false (sym (ap is_lost e) �
 
 bytes-lost : (taken : ℕ) (dn : List Asked) (s new : State) (k : ℕ) (mark : Mark) (marks : List Mark) (closed : List ℕ) (rows : List Row) → IsGone mark k → IsAllowed s marks mark → LosesAt s new k → is_present s.clients k ≡ true → RowsFit taken dn s closed rows → BytesFit s marks closed rows → BytesFit new (mark ∷ marks) closed (lost_row k rows ∷ rows)
 bytes-lost taken dn s new k mark marks closed rows g al c here fit st =
-    let same : numbers new.clients ≡ numbers s.clients = numbers-one k (λ x y. (is_lost x.seat.standing ≡ false) × LosesIn s.core new.core s.up new.up x y) s.clients new.clients (λ x y h. h.1.number) c.changes in
+    let same : numbers new.clients ≡ numbers s.clients = numbers-one k (λ x y. (is_lost x.seat.standing ≡ false) × Loses (part s.core x.seat s.up) (part new.core y.seat new.up)) s.clients new.clients (λ x y h. h.1.number) c.changes in
     record {
       are_bytes = are-bytes-on s marks mark (gone-event mark k g) al st.are_bytes;
-      clients = λ l. reads-one k (λ x y. (is_lost x.seat.standing ≡ false) × LosesIn s.core new.core s.up new.up x y) mark marks s.clients new.clients (λ j ne. gone-quiet mark k j g) (λ x y e r h. (h.1.number ∙ e, lost-reads (bytes_of k (mark ∷ marks)) y h.1.standing)) here (λ p. st.clients l) fit.fit.apart c.changes;
+      clients = λ l. reads-one k (λ x y. (is_lost x.seat.standing ≡ false) × Loses (part s.core x.seat s.up) (part new.core y.seat new.up)) mark marks s.clients new.clients (λ j ne. gone-quiet mark k j g) (λ x y e r h. (h.1.number ∙ e, lost-reads (bytes_of k (mark ∷ marks)) y h.1.standing)) here (λ p. st.clients l) fit.fit.apart c.changes;
       server = λ l. subst (ServerReads (bytes_of 0 (mark ∷ marks))) (sym c.server) (subst (λ b. ServerReads b s.server) (sym (ap (λ b. bytes_of 0 marks ++ b) (gone-quiet mark k 0 g) ∙ append-nil (bytes_of 0 marks))) (st.server l));
       there = λ l j a p. st.there l j (sym (gone-accepts mark marks k j g) ∙ a) (sym (here-same s new j same c.refused) ∙ p);
       strange = λ j a. let w : IsStrange s (mark ∷ marks) closed j = strange-on s marks closed mark j (gone-event mark k g) al st.strange a in record { not_here = here-same s new j same c.refused ∙ w.not_here; not_closed_yet = w.not_closed_yet; no_bytes = w.no_bytes };
@@ -195,7 +177,7 @@ goes-lost s new k mark nz g live here c picked given marks closed st al = record
       let v : StandsFor (picked ++ picks) (given ++ replies) (length picked) st.asks s marks closed = st.at picks replies in
       let rows : List Row = log s (picked ++ picks) (given ++ replies) marks in
       let on : is_ended rows ≡ false = sym (some-end rows) ∙ ap is_some (sym v.rows.ended_is ∙ live) in
-      let in' : is_out (rows_of k rows) ≡ false = found k (λ x y. (is_lost x.seat.standing ≡ false) × LosesIn s.core new.core s.up new.up x y) rows s.clients new.clients (λ x y h. h.0) (all-fit rows s.clients v.rows.fit.each) here c.changes in
+      let in' : is_out (rows_of k rows) ≡ false = found k (λ x y. (is_lost x.seat.standing ≡ false) × Loses (part s.core x.seat s.up) (part new.core y.seat new.up)) rows s.clients new.clients (λ x y h. h.0) (all-fit rows s.clients v.rows.fit.each) here c.changes in
       let is : log new (picked ++ picks) (given ++ replies) (mark ∷ marks) ≡ lost_row k rows ∷ rows =
       log-as (picked ++ picks) (given ++ replies) (mark ∷ marks) ∙ (gone-log s (picked ++ picks) (given ++ replies) mark marks k nz g
       ∙ (one-more s (picked ++ picks) (given ++ replies) rows (Gone k) on (ap not in') ∙ ap (λ r. r ∷ rows) (gone-row s.core.policy s.pid (picked ++ picks) (given ++ replies) k rows))) in

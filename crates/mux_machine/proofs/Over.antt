@@ -24,6 +24,7 @@ use Rattle.mux_clients.specs.Among.{AllFit, EachFits, InFits, is_present}
 use Rattle.mux_clients.specs.Asked.{asked_of}
 use Rattle.mux_clients.proofs.Stood.{own_row}
 use Rattle.mux_clients.proofs.Ones.{other-fits}
+use Rattle.mux_machine.specs.Moves.{IsEvent}
 use Rattle.mux_machine.specs.State.{State, over, server_cause, waiting_in}
 use Rattle.mux_machine.specs.Stands.{BytesFit, ClientReads, EachReads, GoesAlone, IsAllowed, IsStrange, RowsFit, ServerReads, Stands, StandsFor, log, place, setting}
 use Rattle.mux_machine.proofs.Closes.{other_row}
@@ -68,15 +69,6 @@ none-heard (BadFraming f ∷ xs) = (refl, none-heard xs)
 none-end : (rest : List ℕ) → NoneTaken (server_end rest ∷ [])
 none-end [] = (refl, tt)
 none-end (b ∷ rest) = (refl, tt)
-
--- of a mark of an event
-abbrev pub IsEvent : Mark → Type 0
-IsEvent (Accepts k) = Unit {0}
-IsEvent (Gets k bytes) = Unit {0}
-IsEvent (Ends k) = Unit {0}
-IsEvent (Fails k) = Unit {0}
-IsEvent (WriteFails k) = Unit {0}
-IsEvent mark = ⊥
 
 by-stream : (b : Bool) (xs ys : List Item) → NoneTaken xs → NoneTaken ys → NoneTaken (elim b as (λ _. List Item) [ true ↦ xs | false ↦ ys ])
 by-stream true xs ys m n = m

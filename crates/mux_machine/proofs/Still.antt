@@ -21,15 +21,13 @@ use Rattle.mux_clients.specs.Among.{EachFits, InFits, is_present}
 use Rattle.mux_clients.specs.Asked.{TellsAsks, asked_of}
 use Rattle.mux_clients.proofs.Asks.{tells_none}
 use Rattle.mux_clients.proofs.Stood.{out_is}
+use Rattle.mux_machine.specs.Moves.{IsGone, NoneStands, not_lost}
 use Rattle.mux_machine.specs.State.{State, is_here}
 use Rattle.mux_machine.specs.Stands.{BytesFit, ClientReads, EachReads, GoesAlone, GoesOn, IsAllowed, RowsFit, ServerReads, Stands, StandsFor, log, setting}
 use Rattle.mux_machine.proofs.Gains.{gets-log, gets-own, gets-quiet}
 use Rattle.mux_machine.proofs.Lists.{either, true_false}
+use Rattle.mux_machine.proofs.Loses.{still-gone}
 use Rattle.mux_machine.proofs.Over.{are-bytes-on, next-live, some-end, strange-on}
-
--- no client of a number stands so
-abbrev pub NoneStands : (Standing → Bool) → ℕ → List ClientState → Type 0
-NoneStands test k cs = AllByRecursion (λ c. (c.seat.number == k) ≡ true → test c.seat.standing ≡ false) cs
 
 -- ---- whoever isn't heard
 
@@ -86,7 +84,7 @@ here-stopped k rows marks (c ∷ cs) p n fit reads in' = by_head (c.seat.number 
     by_head false e q ih = ih q
 
 -- of one that isn't lost and is here
-here-in : (k : ℕ) (rows : List Row) (cs : List ClientState) → is_present cs k ≡ true → NoneStands (λ s. not (is_lost s)) k cs → EachFits rows cs → is_out (rows_of k rows) ≡ true
+here-in : (k : ℕ) (rows : List Row) (cs : List ClientState) → is_present cs k ≡ true → NoneStands not_lost k cs → EachFits rows cs → is_out (rows_of k rows) ≡ true
 here-in k rows [] p n fit = absurd (cc)
 here-in k rows (c ∷ cs) p n fit = by_head (c.seat.number == k) refl p (λ q. here-in k rows cs q n.1 fit.1)
   where
@@ -107,7 +105,7 @@ gone-out taken dn s marks closed rows k live al gone fit st = by_refused (among 
     by_refused false e = fit.closed_out k (st.there live k al (ap (λ b. b || among k s.refused) gone ∙ e))
 
 -- all clients of this number are lost, or there is none
-pub lost-out : (taken : ℕ) (dn : List Asked) (s : State) (marks : List Mark) (closed : List ℕ) (rows : List Row) (k : ℕ) → is_ended rows ≡ false → is_accepted k marks ≡ true → NoneStands (λ s. not (is_lost s)) k s.clients → RowsFit taken dn s closed rows → BytesFit s marks closed rows → is_out (rows_of k rows) ≡ true
+pub lost-out : (taken : ℕ) (dn : List Asked) (s : State) (marks : List Mark) (closed : List ℕ) (rows : List Row) (k : ℕ) → is_ended rows ≡ false → is_accepted k marks ≡ true → NoneStands not_lost k s.clients → RowsFit taken dn s closed rows → BytesFit s marks closed rows → is_out (rows_of k rows) ≡ true
 lost-out taken dn s marks closed rows k live al none fit st = by_present (is_present s.clients k) refl
   where
     by_present : (b : Bool) → is_present s.clients k ≡ b → is_out (rows_of k rows) ≡ true
@@ -190,3 +188,14 @@ goes-unheard May told s k bytes nz none unread picked given marks closed st al =
             };
           };
     }
+
+-- ---- a client that is lost already, or isn't there
+
+pub goes-unlost : (s : State) (k : ℕ) (mark : Mark) → k ≢ 0 → IsGone mark k → s.ended ≡ None → NoneStands not_lost k s.clients → GoesAlone s s mark
+goes-unlost s k mark nz g live none = still-gone s s k mark nz g live refl (λ picks replies taken dn marks closed v al on. lost-out taken dn s marks closed (log s picks replies marks) k on (accepted mark al g) none v.rows v.bytes)
+  where
+    accepted : {marks : List Mark} (mark : Mark) → IsAllowed s marks mark → IsGone mark k → is_accepted k marks ≡ true
+    accepted {marks} (Rattle.mux_outside.specs.declared.mark.Mark.TheVariants.Ends j) al g = ap (λ i. is_accepted i marks) (sym g) ∙ al (λ z. nz (sym g ∙ z))
+    accepted {marks} (Rattle.mux_outside.specs.declared.mark.Mark.TheVariants.Fails j) al g = ap (λ i. is_accepted i marks) (sym g) ∙ al (λ z. nz (sym g ∙ z))
+    accepted {marks} (Rattle.mux_outside.specs.declared.mark.Mark.TheVariants.WriteFails j) al g = ap (λ i. is_accepted i marks) (sym g) ∙ al (λ z. nz (sym g ∙ z))
+    accepted mark al g = absurd g

@@ -1,4 +1,3 @@
-pub mod Events
-pub mod Room
+pub mod Moves
 pub mod Stands
 pub mod State
