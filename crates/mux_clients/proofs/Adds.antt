@@ -30,10 +30,10 @@ use Rattle.mux_clients.proofs.Stood.{own_row}
 
 -- ---- a row of one client that lets nobody in and refuses nobody
 
-record IsOwn (k : ℕ) (row : Row) : Type 0 where
-  client_is : row.client ≡ k
-  unadmitted : is_admit row ≡ false
-  unrefused : is_refusal row.fate ≡ false
+pub record IsOwn (k : ℕ) (row : Row) : Type 0 where
+  pub client_is : row.client ≡ k
+  pub unadmitted : is_admit row ≡ false
+  pub unrefused : is_refusal row.fate ≡ false
 
 abbrev admits_one : Item → Bool
 admits_one (Admit k) = true
@@ -85,7 +85,7 @@ body-fine pid k given false r = first-fine r
 
 -- ---- the log's rows
 
-said-own : (policy : Policy) (pid : ℕ) (picks : List ℕ) (given : List HouseReply) (k : ℕ) (x : Saying) (rows : List Row) → IsOwn k (next_row (by_lists policy pid picks given) rows (said_item k x))
+pub said-own : (policy : Policy) (pid : ℕ) (picks : List ℕ) (given : List HouseReply) (k : ℕ) (x : Saying) (rows : List Row) → IsOwn k (next_row (by_lists policy pid picks given) rows (said_item k x))
 said-own policy pid picks given k (Payload p) rows =
     own-row-of (Says k (Payload p) None) k (said_payload policy k (rows_of k rows) (pick_of (FromLists picks given) rows (Says k (Payload p) None)) p) (rows_of k rows) refl
     (said-unrefused policy k (rows_of k rows) (pick_of (FromLists picks given) rows (Says k (Payload p) None)) p)
@@ -103,7 +103,7 @@ said-own policy pid picks given k (Body body) rows = by_ask (greeted (rows_of k 
         (body-fine pid k (Some (reply_at given (replies_given rows))) (greeted own) (read_control body))
     by_ask false = own-row-of (Says k (Body body) None) k (said_body pid k None (greeted own) body) own refl (body-fine pid k None (greeted own) (read_control body))
 
-gone-own : (policy : Policy) (pid : ℕ) (picks : List ℕ) (given : List HouseReply) (k : ℕ) (rows : List Row) → IsOwn k (next_row (by_lists policy pid picks given) rows (Gone k))
+pub gone-own : (policy : Policy) (pid : ℕ) (picks : List ℕ) (given : List HouseReply) (k : ℕ) (rows : List Row) → IsOwn k (next_row (by_lists policy pid picks given) rows (Gone k))
 gone-own policy pid picks given k rows = own-row-of (Gone k) k silent (rows_of k rows) refl refl
 
 -- ---- they concern it alone

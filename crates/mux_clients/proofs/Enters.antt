@@ -32,21 +32,21 @@ use Rattle.mux_clients.proofs.Stood.{own_row}
 
 -- ---- the row
 
-abbrev let-in : ℕ → Row
+abbrev pub let-in : ℕ → Row
 let-in k = made (Admit k) k [] [] (frame_answer (Greets VERSION) ∷ []) Goes
 
-abbrev refused : ℕ → Row
+abbrev pub refused : ℕ → Row
 refused k = made (Admit k) k [] [] [] Refused
 
 abbrev admits_if : Bool → Outcome
 admits_if b = elim b [ true ↦ tells (frame_answer (Greets VERSION)) | false ↦ record { sent = []; told = []; ends = Refused } ]
 
-row-let-in : (policy : Policy) (pid : ℕ) (picks : List ℕ) (given : List HouseReply) (k : ℕ) (rows : List Row) → rows_of k rows ≡ [] → nat_lt (open_matters rows) MAX_CLIENTS ≡ true → next_row (by_lists policy pid picks given) rows (Admit k) ≡ let-in k
+pub row-let-in : (policy : Policy) (pid : ℕ) (picks : List ℕ) (given : List HouseReply) (k : ℕ) (rows : List Row) → rows_of k rows ≡ [] → nat_lt (open_matters rows) MAX_CLIENTS ≡ true → next_row (by_lists policy pid picks given) rows (Admit k) ≡ let-in k
 row-let-in policy pid picks given k rows new few =
     ap (λ b. row_of (Admit k) k (admits_if b) (rows_of k rows)) few
     ∙ (ap (row_of (Admit k) k (admits_if true)) new ∙ row-on (Admit k) k (admits_if true) [] (frame_answer (Greets VERSION) ∷ []) refl refl refl refl)
 
-row-refused : (policy : Policy) (pid : ℕ) (picks : List ℕ) (given : List HouseReply) (k : ℕ) (rows : List Row) → rows_of k rows ≡ [] → nat_lt (open_matters rows) MAX_CLIENTS ≡ false → next_row (by_lists policy pid picks given) rows (Admit k) ≡ refused k
+pub row-refused : (policy : Policy) (pid : ℕ) (picks : List ℕ) (given : List HouseReply) (k : ℕ) (rows : List Row) → rows_of k rows ≡ [] → nat_lt (open_matters rows) MAX_CLIENTS ≡ false → next_row (by_lists policy pid picks given) rows (Admit k) ≡ refused k
 row-refused policy pid picks given k rows new many = ap (λ b. row_of (Admit k) k (admits_if b) (rows_of k rows)) many ∙ ap (row_of (Admit k) k (admits_if false)) new
 
 -- ---- the others
@@ -66,11 +66,11 @@ stay k row rows e j ne = idle_row j row rows (ap (λ i. i == j) e ∙ differs k 
 abbrev present_by : Bool → Bool → Bool
 present_by b rest = elim b [ true ↦ true | false ↦ rest ]
 
-present-last : (cs : List ClientState) (c : ClientState) (j : ℕ) → (c.seat.number == j) ≡ false → is_present (cs ++ c ∷ []) j ≡ is_present cs j
+pub present-last : (cs : List ClientState) (c : ClientState) (j : ℕ) → (c.seat.number == j) ≡ false → is_present (cs ++ c ∷ []) j ≡ is_present cs j
 present-last [] c j ne = ap (λ b. present_by b false) ne
 present-last (d ∷ cs) c j ne = ap (λ r. present_by (d.seat.number == j) r) (present-last cs c j ne)
 
-present-end : (cs : List ClientState) (c : ClientState) (j : ℕ) → (c.seat.number == j) ≡ true → is_present (cs ++ c ∷ []) j ≡ true
+pub present-end : (cs : List ClientState) (c : ClientState) (j : ℕ) → (c.seat.number == j) ≡ true → is_present (cs ++ c ∷ []) j ≡ true
 present-end [] c j e = ap (λ b. present_by b false) e
 present-end (d ∷ cs) c j e = ap (λ r. present_by (d.seat.number == j) r) (present-end cs c j e) ∙ either (d.seat.number == j)
   where

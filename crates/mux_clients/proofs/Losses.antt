@@ -32,7 +32,7 @@ drop-all : (xs : List (List ℕ)) → drop (length xs) xs ≡ []
 drop-all [] = refl
 drop-all (x ∷ xs) = drop-all xs
 
-abbrev gone : ℕ → Row
+abbrev pub gone : ℕ → Row
 gone k = made (Gone k) k [] [] [] Goes
 
 answers-same : (k : ℕ) (own : List Row) → answers (gone k ∷ own) ≡ answers own
@@ -49,7 +49,7 @@ untold k own = by_loss (not (is_lost own))
     by_loss false = refl
 
 -- so it has its farewell alone
-gone-row : (policy : Policy) (pid : ℕ) (picks : List ℕ) (given : List HouseReply) (k : ℕ) (rows : List Row) → next_row (by_lists policy pid picks given) rows (Gone k) ≡ made (Gone k) k [] (farewell (gone k) (rows_of k rows)) [] Goes
+pub gone-row : (policy : Policy) (pid : ℕ) (picks : List ℕ) (given : List HouseReply) (k : ℕ) (rows : List Row) → next_row (by_lists policy pid picks given) rows (Gone k) ≡ made (Gone k) k [] (farewell (gone k) (rows_of k rows)) [] Goes
 gone-row policy pid picks given k rows = ap (λ gs. with_farewell (queued gs (gone k) (rows_of k rows)) (rows_of k rows)) (untold k (rows_of k rows))
 
 -- ---- with it the part stands for the longer log

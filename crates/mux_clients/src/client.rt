@@ -1,4 +1,4 @@
-ghost use Rattle.std.specs.Prelude.{◌≡◌, ◌≤◌, ◌+◌, ◌∷◌, length, IfOk, OnOk, true, false};
+ghost use Rattle.std.specs.Prelude.{◌≡◌, ◌≤◌, ◌+◌, [], ◌∷◌, ◌++◌, length, IfOk, OnOk, true, false, if◌then◌else◌};
 ghost use Rattle.ssh_grammar.specs.declared.framing.Framing.TheVariants.{Proxy};
 ghost use Rattle.ssh_grammar.specs.IsFrame.{IsContent};
 ghost use Rattle.ssh_grammar.specs.Frames.{frame_payload};
@@ -51,6 +51,7 @@ pub fn admit(
     core: &mut Core,
 ) -> Result<bool, OutOfMemory>
     ensures enters { IfOk result (λ let_in. Enters number core.old core.new clients.old.items clients.new.items let_in) }
+    ensures clients { IfOk result (λ let_in. clients.new.items ≡ (if let_in then clients.old.items ++ new_client number ∷ [] else clients.old.items)) }
     ensures policy { core.new.policy ≡ core.old.policy }
 {
     let client = Client::new(alloc, number)?;
