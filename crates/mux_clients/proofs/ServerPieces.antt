@@ -24,6 +24,7 @@ use Rattle.mux_clients.specs.State.{ClientState}
 use Rattle.mux_clients.specs.Among.{AllFit, is_present}
 use Rattle.mux_clients.specs.Hearings.{HeardBy, end_by}
 use Rattle.mux_clients.specs.Pieces.{behind}
+use Rattle.mux_clients.specs.Room.{HasRoom}
 use Rattle.mux_clients.specs.Server.{AllAwait, HearingAll, HearsBytes, HearsOnwards, HeardTo, ServerFault, ServerFrame, ServerNext, ServerNone, ServerState, rows_heard}
 use Rattle.mux_clients.proofs.Served.{end-shown, fault-heard, heard-item, makes-heard, map-last, more-last, or-first, payload-heard}
 
@@ -80,18 +81,6 @@ hearing-first all leaving core cs queue first now cuts well rest index = record 
 
 -- ---- one frame more
 
--- with more room that lasts
-heard-roomy : (policy : Policy) (pid : ℕ) (picks : List ℕ) (given : List HouseReply) (all : List ℕ) (noted : List (ℕ × Option Why)) (rows : List Row) (core : CoreState) (cs : List ClientState) (queue roomy : QueueState) (rest : List ℕ) (index : ℕ) (ended : Option Ended)
-    → roomy.waiting ≡ queue.waiting → HeardTo policy pid picks given all noted rows core cs queue rest index ended → HeardTo policy pid picks given all noted rows core cs roomy rest index ended
-heard-roomy policy pid picks given all noted rows core cs queue roomy rest index ended e r = record {
-  says = r.says;
-  fit = record { core = r.fit.core; each = r.fit.each; apart = r.fit.apart; up = e ∙ r.fit.up };
-  lost = r.lost;
-  ended_is = r.ended_is;
-  on = r.on;
-  over = r.over;
-}
-
 -- a fault
 pub heard-fault : (policy : Policy) (pid : ℕ) (picks : List ℕ) (given : List HouseReply) (all : List ℕ) (noted : List (ℕ × Option Why)) (rows : List Row) (core : CoreState) (cs : List ClientState) (queue : QueueState) (rest rest' : List ℕ) (i i' : ℕ) (fault : BadFrame)
     → first_in InProxy rest ≡ Faulty fault → HeardTo policy pid picks given all noted rows core cs queue rest i None
@@ -124,8 +113,8 @@ hearing-frame all content rest leaving0 leaving leaving' core0 core core' cs0 cs
   framing = λ e. s.framing ∙ h.framing refl;
   fault = λ e. s.fault;
   goes = λ pid picks given rows a.
-      payload-heard core0.policy pid picks given all h.noted s.hears.noted rows core core' cs cs' s.roomy queue' now.rest new.rest content now.index new.index ended' h.policy (front ∙ ap (Frame content) (sym s.left)) s.hears.hears s.present s.next
-      (heard-item core0.policy pid picks given content) (heard-roomy core0.policy pid picks given all h.noted rows core cs queue s.roomy now.rest now.index None s.waiting (h.goes pid picks given rows a));
+      payload-heard core0.policy pid picks given all h.noted s.hears.noted rows core core' cs cs' queue queue' now.rest new.rest content now.index new.index ended' h.policy (front ∙ ap (Frame content) (sym s.left)) s.hears.hears s.present s.next
+      (heard-item core0.policy pid picks given content) (h.goes pid picks given rows a);
 }
 
 hearing-fault : (all : List ℕ) (fault : BadFrame) (leaving0 leaving leaving' : List (ℕ × Option Why)) (core0 core core' : CoreState) (cs0 cs cs' : List ClientState) (queue0 queue queue' : QueueState) (first now new : ServerState) (ended' : Option Ended)
@@ -219,3 +208,9 @@ bytes-rest bytes leaving0 leaving leaving' core0 core core' cs0 cs cs' queue0 qu
 pub bytes-over : (bytes : List ℕ) (leaving0 leaving : List (ℕ × Option Why)) (core0 core : CoreState) (cs0 cs : List ClientState) (queue0 queue : QueueState) (first now : ServerState) (cause : Ended)
     → HearingAll (first.rest ++ bytes) leaving0 leaving core0 cs0 queue0 first core cs queue now (Some cause) → HearsBytes bytes leaving0 leaving core0 cs0 queue0 first core cs queue now (Some cause)
 bytes-over bytes leaving0 leaving core0 core cs0 cs queue0 queue first now cause h = record { hearing = h; whole = λ e. absurd (cc) }
+
+-- ---- with the room
+
+pub record ServerLoop (all : List ℕ) (leaving0 leaving : List (ℕ × Option Why)) (core0 : CoreState) (cs0 : List ClientState) (queue0 : QueueState) (first : ServerState) (core : CoreState) (cs : List ClientState) (queue : QueueState) (now : ServerState) (ended : Option Ended) : Type 0 where
+  pub hearing : HearingAll all leaving0 leaving core0 cs0 queue0 first core cs queue now ended
+  pub room : HasRoom cs queue

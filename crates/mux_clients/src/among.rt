@@ -1,18 +1,18 @@
 //! One client among all of a master.
 
-ghost use Rattle.std.specs.Prelude.{◌≡◌, ◌≤◌, ◌++◌, ◌∷◌, ℕ, IfOk, OnOk, true};
+ghost use Rattle.std.specs.Prelude.{◌≡◌, ◌++◌, ◌∷◌, ℕ, IfOk, OnOk, Ok, true, false};
 ghost use Rattle.ssh_grammar.specs.declared.framing.Framing.TheVariants.{Proxy};
 ghost use Rattle.ssh_grammar.specs.IsFrame.{IsContent};
 ghost use Rattle.ssh_grammar.specs.Frames.{frame_payload};
 ghost use Rattle.mux_clients.specs.State.{refusals_of};
-ghost use Rattle.mux_clients.specs.Among.{ChangesOne, HearsAt, client_index, is_present};
-ghost use Rattle.mux_clients.specs.Pieces.{HearsIn};
+ghost use Rattle.mux_clients.specs.Among.{ChangesOne, HearsAt, IsUntouched, client_index, is_present, numbers};
+ghost use Rattle.mux_clients.specs.Pieces.{HearsIn, unheard};
 ghost use Rattle.mux_clients.specs.Losing.{LosesIn, loss_between};
+ghost use Rattle.mux_clients.specs.Room.{HasRoom};
 
 use crate::client::Client;
 use crate::heard::Heard;
 use crate::standing::Standing;
-use client_teardown::FAREWELL_ROOM;
 use mux_core::Core;
 use mux_history::Why;
 use mux_outside::House;
@@ -58,9 +58,10 @@ pub fn hear_at(
     up: &mut Queue,
 ) -> Result<(), OutOfMemory>
     requires payload { IsContent Proxy payload.now }
-    requires room { FAREWELL_ROOM ≤ up.old.spare }
+    requires room { HasRoom clients.old up.old }
     ensures hears { OnOk result (HearsAt number (frame_payload payload.now ∷ refusals_of refusals) leaving.old.items leaving.new.items core.old core.new up.old up.new clients.old clients.new) }
     ensures present { OnOk result ((j : ℕ) → is_present clients.new j ≡ is_present clients.old j) }
+    ensures room { OnOk result (HasRoom clients.old up.old → HasRoom clients.new up.new) }
     ensures policy { core.new.policy ≡ core.old.policy }
 {
     let i = index_of(clients, number);
@@ -83,8 +84,14 @@ pub fn got_at<H: House>(
     core: &mut Core,
     up: &mut Queue,
 ) -> Result<Heard, OutOfMemory>
-    requires room { FAREWELL_ROOM ≤ up.old.spare }
+    requires room { HasRoom clients.old up.old }
     ensures hears { IfOk result (λ heard. is_present clients.old number ≡ true → ChangesOne number (HearsIn H.may (H.told house.old) (H.told house.new) pid bytes.now core.old core.new up.old up.new heard) clients.old clients.new) }
+    ensures absent { is_present clients.old number ≡ false → IsUntouched clients.old clients.new core.old core.new up.old up.new }
+    ensures silent { is_present clients.old number ≡ false → result ≡ Ok unheard }
+    ensures untold { is_present clients.old number ≡ false → H.told house.new ≡ H.told house.old }
+    ensures present { OnOk result ((j : ℕ) → is_present clients.new j ≡ is_present clients.old j) }
+    ensures numbers { OnOk result (numbers clients.new ≡ numbers clients.old) }
+    ensures room { OnOk result (HasRoom clients.old up.old → HasRoom clients.new up.new) }
     ensures policy { OnOk result (core.new.policy ≡ core.old.policy) }
 {
     let i = index_of(clients, number);
@@ -97,10 +104,14 @@ pub fn got_at<H: House>(
     })
 }
 
-/// The stream of the client of a number is gone: what it left open is closed.
+/// The stream of the client of a number is gone: what it left open is closed, where it isn't lost already.
 pub fn lose_at(clients: &mut [Client], number: u64, core: &mut Core, up: &mut Queue)
-    requires room { FAREWELL_ROOM ≤ up.old.spare }
+    requires room { HasRoom clients.old up.old }
     ensures loses { is_present clients.old number ≡ true → ChangesOne number (LosesIn core.old core.new up.old up.new) clients.old clients.new }
+    ensures absent { is_present clients.old number ≡ false → IsUntouched clients.old clients.new core.old core.new up.old up.new }
+    ensures present { (j : ℕ) → is_present clients.new j ≡ is_present clients.old j }
+    ensures numbers { numbers clients.new ≡ numbers clients.old }
+    ensures room { HasRoom clients.old up.old → HasRoom clients.new up.new }
     ensures policy { core.new.policy ≡ core.old.policy }
 {
     let i = index_of(clients, number);

@@ -1,12 +1,12 @@
-ghost use Rattle.std.specs.Prelude.{◌≡◌, ◌≤◌, ◌+◌, ◌∷◌, length, IfOk, OnOk, true};
+ghost use Rattle.std.specs.Prelude.{◌≡◌, ◌≤◌, ◌+◌, [], ◌∷◌, ◌++◌, length, IfOk, OnOk, true, false, if◌then◌else◌};
 ghost use Rattle.ssh_grammar.specs.declared.framing.Framing.TheVariants.{Proxy};
 ghost use Rattle.ssh_grammar.specs.IsFrame.{IsContent};
 ghost use Rattle.ssh_grammar.specs.Frames.{frame_payload};
-ghost use Rattle.mux_clients.specs.State.{client_took, part, refusals_of};
+ghost use Rattle.mux_clients.specs.State.{client_took, part, refusals_of, KeepsRoom};
 ghost use Rattle.mux_clients.specs.Hears.{HearsTold};
 ghost use Rattle.ssh_grammar.specs.Said.{first_in};
-ghost use Rattle.mux_clients.specs.State.{KeepsRoom};
-ghost use Rattle.mux_clients.specs.Stands.{is_read, mode_of};
+ghost use Rattle.mux_clients.specs.Stands.{is_lost, is_read, mode_of};
+ghost use Rattle.mux_clients.specs.Room.{LeavesRoom};
 ghost use Rattle.mux_clients.specs.Nexts.{SaysNext};
 ghost use Rattle.mux_clients.specs.Pieces.{HearsIn, HearsPiece};
 ghost use Rattle.mux_clients.specs.Losing.{LosesIn};
@@ -51,6 +51,7 @@ pub fn admit(
     core: &mut Core,
 ) -> Result<bool, OutOfMemory>
     ensures enters { IfOk result (λ let_in. Enters number core.old core.new clients.old.items clients.new.items let_in) }
+    ensures clients { IfOk result (λ let_in. clients.new.items ≡ (if let_in then clients.old.items ++ new_client number ∷ [] else clients.old.items)) }
     ensures policy { core.new.policy ≡ core.old.policy }
 {
     let client = Client::new(alloc, number)?;
@@ -72,14 +73,25 @@ impl Client {
         })
     }
 
-    /// Its stream is gone: what it left open is closed.
+    /// Whether it is lost.
+    pub fn is_lost(&self) -> bool
+        ensures { result ≡ is_lost self.now.seat.standing }
+    {
+        matches!(self.seat.standing(), Standing::Lost(_))
+    }
+
+    /// Its stream is gone: what it left open is closed, where it isn't lost already.
     pub fn lose(&mut self, core: &mut Core, up: &mut Queue)
-        requires room { FAREWELL_ROOM ≤ up.old.spare }
+        requires room { is_lost self.old.seat.standing ≡ false → FAREWELL_ROOM ≤ up.old.spare }
         ensures loses { LosesIn core.old core.new up.old up.new self.old self.new }
         ensures policy { core.new.policy ≡ core.old.policy }
+        ensures number { self.new.seat.number ≡ self.old.seat.number }
         ensures spare { up.old.spare ≤ up.new.spare + FAREWELL_ROOM }
+        ensures room { LeavesRoom up.old up.new self.old self.new }
     {
-        self.seat.lose(core, up);
+        if !self.is_lost() {
+            self.seat.lose(core, up);
+        }
     }
 
     /// A piece of its bytes, where it is read.
@@ -91,7 +103,9 @@ impl Client {
         core: &mut Core,
         up: &mut Queue,
     ) -> Result<Heard, OutOfMemory>
-        requires room { FAREWELL_ROOM ≤ up.old.spare }
+        requires room { is_read self.old.seat.standing ≡ true → FAREWELL_ROOM ≤ up.old.spare }
+        ensures number { OnOk result (self.new.seat.number ≡ self.old.seat.number) }
+        ensures room { OnOk result (LeavesRoom up.old up.new self.old self.new) }
         ensures hears { IfOk result (λ heard. HearsIn H.may (H.told house.old) (H.told house.new) pid bytes.now core.old core.new up.old up.new heard self.old self.new) }
         ensures policy { OnOk result (core.new.policy ≡ core.old.policy) }
     {
@@ -131,7 +145,7 @@ impl Client {
         self.seat.took(n);
     }
 
-    /// It hears a payload of the server, and then so many refusals, after the core has heard it.
+    /// It hears a payload of the server, and then so many refusals, after the core has heard it. One that is lost hears nothing.
     pub fn hears(
         &mut self,
         payload: &[u8],
@@ -140,12 +154,17 @@ impl Client {
         up: &mut Queue,
     ) -> Result<(), OutOfMemory>
         requires payload { IsContent Proxy payload.now }
-        requires room { FAREWELL_ROOM ≤ up.old.spare }
+        requires room { is_lost self.old.seat.standing ≡ false → FAREWELL_ROOM ≤ up.old.spare }
         ensures stands { OnOk result (HearsTold (frame_payload payload.now ∷ refusals_of refusals) (part core.old self.old.seat up.old) (part core.new self.new.seat up.new)) }
         ensures policy { core.new.policy ≡ core.old.policy }
+        ensures room { OnOk result (LeavesRoom up.old up.new self.old self.new) }
     {
+        if self.is_lost() {
+            return Ok(());
+        }
         self.seat.hears(payload, refusals, core, up)
     }
+
     // What it says next: whether anything whole was there.
     fn say_next<H: House>(
         &mut self,
@@ -159,6 +178,7 @@ impl Client {
         requires room { FAREWELL_ROOM ≤ up.old.spare }
         ensures next { IfOk result (λ more. SaysNext H.may (H.told house.old) (H.told house.new) pid more (first_in (mode_of self.old.seat.standing) self.old.rest) core.old core.new up.old up.new self.old heard.old self.new heard.new) }
         ensures policy { core.new.policy ≡ core.old.policy }
+        ensures number { OnOk result (self.new.seat.number ≡ self.old.seat.number) }
         ensures spare { OnOk result (KeepsRoom up.old up.new self.new.seat.standing) }
     {
         match self.framer.next() {
@@ -196,6 +216,7 @@ impl Client {
         requires room { FAREWELL_ROOM ≤ up.old.spare }
         ensures hears { IfOk result (λ heard. HearsPiece H.may (H.told house.old) (H.told house.new) pid bytes.now core.old up.old self.old core.new up.new self.new heard) }
         ensures policy { OnOk result (core.new.policy ≡ core.old.policy) }
+        ensures number { OnOk result (self.new.seat.number ≡ self.old.seat.number) }
         ensures spare { OnOk result (KeepsRoom up.old up.new self.new.seat.standing) }
     {
         let mut heard = Heard {

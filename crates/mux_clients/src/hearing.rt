@@ -1,12 +1,12 @@
-ghost use Rattle.std.specs.Prelude.{◌≡◌, ◌≤◌, ℕ, IfOk, OnOk};
+ghost use Rattle.std.specs.Prelude.{◌≡◌, ℕ, IfOk, OnOk};
 ghost use Rattle.mux_clients.specs.Hearings.{HearsPayload};
 ghost use Rattle.mux_clients.specs.Among.{is_present};
+ghost use Rattle.mux_clients.specs.Room.{HasRoom};
 ghost use Rattle.ssh_grammar.specs.IsFrame.{IsContent};
 ghost use Rattle.ssh_grammar.specs.declared.framing.Framing.TheVariants.{Proxy};
 
 use crate::among::hear_at;
 use crate::client::Client;
-use client_teardown::FAREWELL_ROOM;
 use mux_core::{Core, Heard};
 use mux_history::{Ended, Why};
 use proxy_frames::Queue;
@@ -23,9 +23,10 @@ pub fn hear(
     up: &mut Queue,
 ) -> Result<Option<Ended>, OutOfMemory>
     requires payload { IsContent Proxy payload.old }
-    requires room { FAREWELL_ROOM ≤ up.old.spare }
+    requires room { HasRoom clients.old up.old }
     ensures hears { IfOk result (λ ended. HearsPayload payload.old index leaving.old.items leaving.new.items core.old core.new clients.old clients.new up.old up.new ended) }
     ensures present { OnOk result ((j : ℕ) → is_present clients.new j ≡ is_present clients.old j) }
+    ensures room { OnOk result (HasRoom clients.old up.old → HasRoom clients.new up.new) }
     ensures policy { OnOk result (core.new.policy ≡ core.old.policy) }
 {
     match core.heard(payload, up)? {

@@ -211,6 +211,7 @@ impl Seat {
         requires room { FAREWELL_ROOM ≤ up.old.spare }
         ensures faults { (heard : TheHeard) → FaultBy fault (part core.old self.old up.old) heard (part core.new self.new up.new) heard }
         ensures out { is_read self.new.standing ≡ false }
+        ensures number { self.new.number ≡ self.old.number }
         ensures policy { core.new.policy ≡ core.old.policy }
         ensures spare { KeepsRoom up.old up.new self.new.standing }
     {
@@ -301,6 +302,7 @@ impl Seat {
         requires room { FAREWELL_ROOM ≤ up.old.spare }
         ensures err { OnErr result (is_read self.new.standing ≡ true → self.new.standing ≡ self.old.standing) }
         ensures follows { OnOk result (FollowsBy decision.now (part core.old self.old up.old) heard.old (part core.new self.new up.new) heard.new) }
+        ensures number { OnOk result (self.new.number ≡ self.old.number) }
         ensures policy { core.new.policy ≡ core.old.policy }
         ensures spare { OnOk result (KeepsRoom up.old up.new self.new.standing) }
     {

@@ -1,11 +1,11 @@
-ghost use Rattle.std.specs.Prelude.{◌≡◌, ◌≤◌, ◌+◌, ℕ, IfOk, OnOk, None};
+ghost use Rattle.std.specs.Prelude.{◌≡◌, IfOk, OnOk, None};
 ghost use Rattle.ssh_grammar.specs.declared.framing.Framing.TheVariants.{Proxy as InFrames};
 ghost use Rattle.ssh_grammar.specs.Said.{first_in, InProxy};
 ghost use Rattle.mux_clients.specs.Server.{HearsBytes, ServerNext, new_server, stream_end};
+ghost use Rattle.mux_clients.specs.Room.{HasRoom};
 
 use crate::client::Client;
 use crate::hearing::hear;
-use client_teardown::FAREWELL_ROOM;
 use mux_core::Core;
 use mux_history::{Break, Ended, Why};
 use proxy_frames::{Framer, Framing, Next, Queue};
@@ -62,7 +62,9 @@ impl Server {
     ) -> Result<bool, OutOfMemory>
         requires cuts { self.old.framing ≡ InFrames }
         requires well { self.old.fault ≡ None }
+        requires room { HasRoom clients.old up.old }
         ensures next { IfOk result (λ more. ServerNext more (first_in InProxy self.old.rest) leaving.old.items leaving.new.items core.old core.new clients.old clients.new up.old up.new self.old self.new ended.old ended.new) }
+        ensures room { OnOk result (HasRoom clients.old up.old → HasRoom clients.new up.new) }
         ensures policy { OnOk result (core.new.policy ≡ core.old.policy) }
     {
         match self.framer.next() {
@@ -75,7 +77,6 @@ impl Server {
                 Ok(true)
             }
             Next::Frame => {
-                up.reserve(FAREWELL_ROOM)?;
                 *ended = hear(clients, self.index, self.framer.frame(), leaving, core, up)?;
                 self.index = self.index.saturating_add(1);
                 Ok(true)
@@ -95,7 +96,9 @@ impl Server {
     ) -> Result<Option<Ended>, OutOfMemory>
         requires cuts { self.old.framing ≡ InFrames }
         requires well { self.old.fault ≡ None }
+        requires room { HasRoom clients.old up.old }
         ensures hears { IfOk result (λ ended. HearsBytes bytes.now leaving.old.items leaving.new.items core.old clients.old up.old self.old core.new clients.new up.new self.new ended) }
+        ensures room { OnOk result (HasRoom clients.old up.old → HasRoom clients.new up.new) }
         ensures policy { OnOk result (core.new.policy ≡ core.old.policy) }
     {
         self.framer.push(bytes)?;

@@ -3,8 +3,9 @@ use Rattle.ssh_grammar.specs.Frames.{frame_payload}
 use Rattle.mux_clients.specs.State.{refusals_of}
 use Rattle.mux_clients.specs.Among.{HearsNoting, is_present}
 use Rattle.mux_clients.specs.Losing.{loss_between}
-use Rattle.mux_clients.proofs.Amongs.{set-changes, placed-absent, present-set}
 use Rattle.mux_clients.proofs.Noted.{loss-same}
+use Rattle.mux_clients.proofs.Placed.{placed-absent, present-set, set-changes}
+use Rattle.mux_clients.proofs.Rooms.{room-at, room-set}
 use Rattle.mux_clients.proofs.among.hear_at.Goals as goal
 
 pub returns-in_ok-note_loss-clause-hears : goal.returns-in_ok-note_loss-clause-hears
@@ -28,3 +29,9 @@ returns-else-i-clients-clause-hears c = record {
 
 pub returns-in_ok-note_loss-clause-present : goal.returns-in_ok-note_loss-clause-present
 returns-in_ok-note_loss-clause-present c = present-set c.index_of-i.result c.index-clients-i.result c.hears.new.self c.args.clients.now c.if-i-clients.true c.in_ok-hears.ensures.stands.number
+
+pub returns-in_ok-note_loss-clause-room : goal.returns-in_ok-note_loss-clause-room
+returns-in_ok-note_loss-clause-room c = room-set c.index_of-i.result c.index-clients-i.result c.hears.new.self c.args.clients.now c.args.up.now c.hears.new.up c.if-i-clients.true c.in_ok-hears.ensures.room
+
+pub hears-requires-clause-room : goal.hears-requires-clause-room
+hears-requires-clause-room c = λ here. room-at c.index_of-i.result c.index-clients-i.result c.args.clients.now c.args.up.now c.if-i-clients.true here c.requires.room
