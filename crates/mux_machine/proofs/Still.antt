@@ -192,10 +192,10 @@ goes-unheard May told s k bytes nz none unread picked given marks closed st al =
 -- ---- a client that is lost already, or isn't there
 
 pub goes-unlost : (s : State) (k : ℕ) (mark : Mark) → k ≢ 0 → IsGone mark k → s.ended ≡ None → NoneStands not_lost k s.clients → GoesAlone s s mark
-goes-unlost s k mark nz g live none = still-gone s s k mark nz g live refl (λ picks replies taken dn marks closed v al on. lost-out taken dn s marks closed (log s picks replies marks) k on (accepted mark al g) none v.rows v.bytes)
+goes-unlost s k mark nz g live none = still-gone s s k mark nz g live refl (λ picks replies taken dn marks closed v al on. lost-out taken dn s marks closed (log s picks replies marks) k on (accepted marks mark al g) none v.rows v.bytes)
   where
-    accepted : {marks : List Mark} (mark : Mark) → IsAllowed s marks mark → IsGone mark k → is_accepted k marks ≡ true
-    accepted {marks} (Rattle.mux_outside.specs.declared.mark.Mark.TheVariants.Ends j) al g = ap (λ i. is_accepted i marks) (sym g) ∙ al (λ z. nz (sym g ∙ z))
-    accepted {marks} (Rattle.mux_outside.specs.declared.mark.Mark.TheVariants.Fails j) al g = ap (λ i. is_accepted i marks) (sym g) ∙ al (λ z. nz (sym g ∙ z))
-    accepted {marks} (Rattle.mux_outside.specs.declared.mark.Mark.TheVariants.WriteFails j) al g = ap (λ i. is_accepted i marks) (sym g) ∙ al (λ z. nz (sym g ∙ z))
-    accepted mark al g = absurd g
+    accepted : (marks : List Mark) (mark : Mark) → IsAllowed s marks mark → IsGone mark k → is_accepted k marks ≡ true
+    accepted marks (Rattle.mux_outside.specs.declared.mark.Mark.TheVariants.Ends j) al g = ap (λ i. is_accepted i marks) (sym g) ∙ al (λ z. nz (sym g ∙ z))
+    accepted marks (Rattle.mux_outside.specs.declared.mark.Mark.TheVariants.Fails j) al g = ap (λ i. is_accepted i marks) (sym g) ∙ al (λ z. nz (sym g ∙ z))
+    accepted marks (Rattle.mux_outside.specs.declared.mark.Mark.TheVariants.WriteFails j) al g = ap (λ i. is_accepted i marks) (sym g) ∙ al (λ z. nz (sym g ∙ z))
+    accepted marks mark al g = absurd g
