@@ -4,7 +4,7 @@ use Rattle.mux_outside.specs.House.{Asked}
 use Rattle.mux_outside.specs.declared.house.HouseReply.{HouseReply}
 use Rattle.ssh_fields.specs.Fields.{AreBytes}
 use Rattle.ssh_grammar.specs.Frames.{More}
-use Rattle.ssh_grammar.specs.Said.{InControl, InProxy, first_in, parse}
+use Rattle.ssh_grammar.specs.Said.{InControl, InProxy, Stopped, first_in, parse}
 use Rattle.proxy_frames.specs.State.{QueueState}
 use Rattle.mux_history.specs.declared.ended.Ended.{Ended}
 use Rattle.mux_history.specs.Policy.{Policy}
@@ -20,7 +20,7 @@ use Rattle.mux_history.specs.Log.{more_all, next_row}
 use Rattle.mux_core.specs.State.{CoreState}
 use Rattle.mux_clients.specs.declared.heard.Heard.{Heard}
 use Rattle.mux_clients.specs.State.{ClientState, part}
-use Rattle.mux_clients.specs.Stands.{Fits, is_read, mode_of}
+use Rattle.mux_clients.specs.Stands.{Fits, is_lost, is_read, mode_of}
 use Rattle.mux_clients.specs.Asked.{asked_of}
 use Rattle.mux_clients.specs.Pieces.{RunsTo, ended_then}
 use Rattle.mux_clients.specs.Among.{AddsFor, AllFit, ChangesOne, MovesTo, is_present}
@@ -50,6 +50,8 @@ pub record IsReadTo (k : ℕ) (before bytes picked : List ℕ) (used : List Hous
   pub stops_is : listens rows' ≡ (not heard.stops && listens rows)
   pub ended_is : end_of rows' ≡ ended_then heard.ended (end_of rows)
   pub live : is_read now.seat.standing ≡ true → is_ended rows' ≡ false
+  -- one that isn't read any more, nor lost, has stopped for good
+  pub stopped : is_read now.seat.standing ≡ false → is_lost now.seat.standing ≡ false → is_ended rows' ≡ false → (parse InControl (before ++ bytes)).mode ≡ Stopped
   pub reads : is_read now.seat.standing ≡ true → ReadsAs (before ++ bytes) now
 
 -- what was said so far is all of the piece where nothing whole is left

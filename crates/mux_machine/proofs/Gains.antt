@@ -184,7 +184,7 @@ reads-now old bytes picked used asks rows rows' core up y heard k live r = recor
 
     by_read : (b : Bool) → is_read y.seat.standing ≡ b → is_lost y.seat.standing ≡ false → (parse InControl (old ++ bytes)).mode ≡ Rattle.mux_clients.specs.Stands.mode_of y.seat.standing
     by_read true e l = (r.reads e).mode
-    by_read false e l = ?
+    by_read false e l = r.stopped e l live ∙ sym (unread y.seat.standing e l)
 
 pub gets-quiet : (k j : ℕ) (bytes : List ℕ) → k ≢ j → Rattle.mux_history.specs.Journal.bytes_in j (Gets k bytes) ≡ []
 gets-quiet k j bytes ne = ap (λ b. elim b as (λ _. List ℕ) [ true ↦ bytes | false ↦ [] ]) (test_other k j ne)
