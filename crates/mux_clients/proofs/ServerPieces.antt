@@ -26,6 +26,7 @@ use Rattle.mux_clients.specs.Hearings.{HeardBy, end_by}
 use Rattle.mux_clients.specs.Pieces.{behind}
 use Rattle.mux_clients.specs.Room.{HasRoom}
 use Rattle.mux_clients.specs.Server.{AllAwait, HearingAll, HearsBytes, HearsOnwards, HeardTo, ServerFault, ServerFrame, ServerNext, ServerNone, ServerState, rows_heard}
+use Rattle.mux_clients.proofs.Keeping.{among-then, keep-same, keep-then}
 use Rattle.mux_clients.proofs.Served.{end-shown, fault-heard, heard-item, makes-heard, map-last, more-last, or-first, payload-heard}
 
 -- ---- the end of a run
@@ -74,6 +75,8 @@ hearing-first all leaving core cs queue first now cuts well rest index = record 
   leaves = sym (append-nil leaving);
   policy = refl;
   present = λ j. refl;
+  among = tt;
+  reading = keep-same cs;
   framing = λ e. cuts;
   fault = λ e. well;
   goes = λ pid picks given rows a. subst (λ i. HeardTo core.policy pid picks given all [] rows core cs queue now.rest i None) (sym index) (heard-first core.policy pid picks given all rows core cs queue now.rest first.index rest a);
@@ -110,6 +113,8 @@ hearing-frame all content rest leaving0 leaving leaving' core0 core core' cs0 cs
   leaves = s.hears.leaves ∙ (ap (λ l. l ++ s.hears.noted) h.leaves ∙ append_assoc leaving0 h.noted s.hears.noted);
   policy = pol ∙ h.policy;
   present = λ j. s.present j ∙ h.present j;
+  among = among-then cs0 cs h.noted s.hears.noted h.present h.among s.hears.among;
+  reading = keep-then cs0 cs cs' h.reading s.hears.reading;
   framing = λ e. s.framing ∙ h.framing refl;
   fault = λ e. s.fault;
   goes = λ pid picks given rows a.
@@ -130,6 +135,8 @@ hearing-fault all fault leaving0 leaving leaving' core0 core core' cs0 cs cs' qu
       leaves = h.leaves;
       policy = h.policy;
       present = h.present;
+      among = h.among;
+      reading = h.reading;
       framing = λ e. absurd (cc);
       fault = λ e. absurd (cc);
       goes = λ pid picks given rows a. heard-fault core0.policy pid picks given all h.noted rows core cs queue now.rest new.rest now.index new.index fault front (h.goes pid picks given rows a);

@@ -156,6 +156,7 @@ impl Client {
         requires payload { IsContent Proxy payload.now }
         requires room { is_lost self.old.seat.standing ≡ false → FAREWELL_ROOM ≤ up.old.spare }
         ensures stands { OnOk result (HearsTold (frame_payload payload.now ∷ refusals_of refusals) (part core.old self.old.seat up.old) (part core.new self.new.seat up.new)) }
+        ensures reads { is_lost self.new.seat.standing ≡ false → (self.new.seat.standing ≡ self.old.seat.standing) × (self.new.rest ≡ self.old.rest) }
         ensures policy { core.new.policy ≡ core.old.policy }
         ensures room { OnOk result (LeavesRoom up.old up.new self.old self.new) }
     {

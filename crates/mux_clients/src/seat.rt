@@ -16,7 +16,7 @@ ghost use Rattle.mux_clients.specs.Decisions.{frames, is_stops, GoesOn, StandsAs
 ghost use Rattle.mux_clients.specs.Bodies.{FollowsBy};
 ghost use Rattle.mux_clients.specs.declared.heard.Heard.{Heard as TheHeard};
 ghost use Rattle.mux_clients.specs.Nexts.{FaultBy};
-ghost use Rattle.mux_clients.specs.Stands.{is_read, is_proxied, is_greeted};
+ghost use Rattle.mux_clients.specs.Stands.{is_lost, is_read, is_proxied, is_greeted};
 
 use crate::decision::{Decision, Fate};
 use crate::heard::Heard;
@@ -260,6 +260,7 @@ impl Seat {
         requires payload { IsContent Proxy payload.now }
         requires room { FAREWELL_ROOM ≤ up.old.spare }
         ensures keeps { is_read self.new.standing ≡ true → self.new.standing ≡ self.old.standing }
+        ensures stays { is_lost self.new.standing ≡ false → self.new.standing ≡ self.old.standing }
         ensures stands { OnOk result (HearsTold (frame_payload payload.now ∷ refusals_of refusals) (part core.old self.old up.old) (part core.new self.new up.new)) }
         ensures policy { core.new.policy ≡ core.old.policy }
         ensures spare { OnOk result (KeepsRoom up.old up.new self.new.standing) }
