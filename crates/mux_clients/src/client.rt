@@ -174,12 +174,14 @@ impl Client {
         })
     }
 
+    /// Its number, by which the wire names its stream.
     pub fn number(&self) -> u64
         ensures { result ≡ self.now.seat.number }
     {
         self.seat.number()
     }
 
+    /// How it stands.
     pub fn standing(&self) -> Standing
         ensures { result ≡ self.now.seat.standing }
     {
@@ -216,6 +218,7 @@ impl Client {
     {
         self.seat.hears(payload, refusals, core, up)
     }
+
     // What it says next: whether anything whole was there.
     fn say_next<H: House>(
         &mut self,

@@ -1,4 +1,4 @@
-ghost use Rattle.std.specs.Prelude.{◌≡◌, ◌≤◌, ◌+◌, ℕ, IfOk, OnOk, length};
+ghost use Rattle.std.specs.Prelude.{◌≡◌, ◌≤◌, ℕ, IfOk, OnOk};
 ghost use Rattle.mux_clients.specs.Hearings.{HearsAll};
 ghost use Rattle.mux_clients.specs.Among.{is_present};
 ghost use Rattle.ssh_grammar.specs.IsFrame.{IsContent};

@@ -1,4 +1,4 @@
-ghost use Rattle.std.specs.Prelude.{◌≡◌, ◌≤◌, ◌+◌, ℕ, IfOk, OnOk, None};
+ghost use Rattle.std.specs.Prelude.{◌≡◌, IfOk, OnOk, None};
 ghost use Rattle.ssh_grammar.specs.declared.framing.Framing.TheVariants.{Proxy as InFrames};
 ghost use Rattle.ssh_grammar.specs.Said.{first_in, InProxy};
 ghost use Rattle.mux_clients.specs.Server.{HearsBytes, ServerNext, new_server, stream_end};
@@ -29,6 +29,7 @@ impl Model for Server {
 }
 
 impl Server {
+    /// A server that said nothing yet.
     pub fn new(alloc: Global) -> Server
         ensures { result ≡ new_server }
     {
