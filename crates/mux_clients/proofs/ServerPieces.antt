@@ -1,10 +1,10 @@
 -- A piece of the server's bytes, one frame after another.
-use Rattle.std.proofs.Common.{◌≡◌, ◌≤◌, ◌<◌, ◌+◌, ◌-◌, ◌^◌, min, ℕ, suc, Bool, true, false, ◌||◌, List, [], ◌∷◌, ◌++◌, length, map, Option, Some, None, refl, sym, ap, ◌∙◌, subst, append_assoc, append-nil, arith}
+use Rattle.std.proofs.Common.{◌≡◌, ◌<◌, ◌-◌, ℕ, suc, Bool, true, false, ◌||◌, List, [], ◌∷◌, ◌++◌, length, map, Option, Some, None, refl, sym, ap, ◌∙◌, subst, append-nil, arith}
 use Rattle.std.specs.Prelude.{is_some}
 use Rattle.mux_outside.specs.declared.house.HouseReply.{HouseReply}
 use Rattle.ssh_grammar.specs.declared.fault.BadFrame.{BadFrame}
 use Rattle.ssh_grammar.specs.Frames.{Front, Frame, More, Faulty}
-use Rattle.ssh_grammar.specs.Said.{InProxy, Saying, BadFraming, Parsed, first_in, parse}
+use Rattle.ssh_grammar.specs.Said.{InProxy, BadFraming, Parsed, first_in, parse}
 use Rattle.ssh_grammar.proofs.Cuts.{IsShorter}
 use Rattle.ssh_grammar.proofs.Parses.{in-shorter, parse-at}
 use Rattle.proxy_frames.specs.State.{QueueState}
@@ -13,17 +13,16 @@ use Rattle.mux_history.specs.declared.ended.Ended.{Ended}
 use Rattle.mux_history.specs.declared.ended.Ended.TheVariants as ended
 use Rattle.mux_history.specs.Policy.{Policy}
 use Rattle.mux_history.specs.Rows.{Row, BadServer, Fate, Goes, Refused, Drop, End, is_end, is_ended}
-use Rattle.mux_history.specs.Heard.{next_index}
 use Rattle.mux_history.specs.Settings.{by_lists}
 use Rattle.mux_history.specs.Solo.{end_of}
 use Rattle.mux_history.specs.Journal.{heard_item}
 use Rattle.mux_history.specs.Log.{Setting, more_all, next_row}
 use Rattle.mux_core.specs.State.{CoreState}
 use Rattle.mux_clients.specs.State.{ClientState}
-use Rattle.mux_clients.specs.Among.{AllFit, is_present}
+use Rattle.mux_clients.specs.Among.{AllFit}
 use Rattle.mux_clients.specs.Hearings.{HeardBy, end_by}
 use Rattle.mux_clients.specs.Pieces.{behind}
-use Rattle.mux_clients.specs.Server.{AllAwait, HearingAll, HearsBytes, HearsOnwards, HeardTo, ServerFault, ServerFrame, ServerNext, ServerNone, ServerState, rows_heard}
+use Rattle.mux_clients.specs.Server.{AllAwait, HearingAll, HearsBytes, HearsOnwards, HeardTo, ServerFault, ServerFrame, ServerNext, ServerState, rows_heard}
 use Rattle.mux_clients.proofs.Served.{end-shown, fault-heard, heard-item, makes-heard, map-last, more-last, or-first, payload-heard}
 
 -- ---- the end of a run
