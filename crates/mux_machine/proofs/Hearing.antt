@@ -224,8 +224,8 @@ bytes-heard taken dn s new bytes marks closed rows rows' c kept al w fit st =
 heard-log : (s : State) (picks : List ℕ) (replies : List HouseReply) (bytes : List ℕ) (marks : List Mark) → log s picks replies (Gets 0 bytes ∷ marks) ≡ rows_told s.core.policy s.pid picks replies (bytes_of 0 marks) bytes (log s picks replies marks)
 heard-log s picks replies bytes marks = refl
 
-pub goes-heard : (s new : State) (bytes : List ℕ) → s.ended ≡ None → (c : HeardAt s new bytes) → KeepReading s.clients new.clients → AllByRecursion (λ l. is_present s.clients l.0 ≡ true) c.piece.hearing.noted → GoesAlone s new (Gets 0 bytes)
-goes-heard s new bytes none c kept all picked given marks closed st al = record {
+goes-heard-so : (s new : State) (bytes : List ℕ) → s.ended ≡ None → (c : HeardAt s new bytes) → KeepReading s.clients new.clients → AllByRecursion (λ l. is_present s.clients l.0 ≡ true) c.piece.hearing.noted → GoesAlone s new (Gets 0 bytes)
+goes-heard-so s new bytes none c kept all picked given marks closed st al = record {
   asks = st.asks;
   each = st.each;
   at = λ picks replies.
@@ -253,3 +253,6 @@ goes-heard s new bytes none c kept all picked given marks closed st al = record 
   where
     log-as : (picks : List ℕ) (replies : List HouseReply) (marks : List Mark) → log new picks replies marks ≡ log s picks replies marks
     log-as picks replies marks = ap (λ p. log_of_journal (by_lists p new.pid picks replies) marks) c.piece.hearing.policy ∙ ap (λ p. log_of_journal (by_lists s.core.policy p picks replies) marks) c.pid
+
+pub goes-heard : (s new : State) (bytes : List ℕ) → s.ended ≡ None → HeardAt s new bytes → GoesAlone s new (Gets 0 bytes)
+goes-heard s new bytes none c = goes-heard-so s new bytes none c c.piece.hearing.reading c.piece.hearing.among

@@ -13,7 +13,7 @@ use Rattle.mux_clients.specs.declared.heard.Heard.{Heard}
 use Rattle.mux_clients.specs.declared.standing.Standing.{Standing}
 use Rattle.mux_clients.specs.State.{ClientState}
 use Rattle.mux_clients.specs.Stands.{is_lost, is_read}
-use Rattle.mux_clients.specs.Among.{ChangesOne, KeepReading, is_present}
+use Rattle.mux_clients.specs.Among.{ChangesOne, is_present}
 use Rattle.mux_clients.specs.Entering.{Enters}
 use Rattle.mux_clients.specs.Losing.{Loses}
 use Rattle.mux_clients.specs.Pieces.{HearsPiece}
@@ -120,6 +120,4 @@ UnheardStays = (May : HouseReply → Type 0) (told : Option (List Asked)) (s : S
 
 -- the server gave bytes
 abbrev pub HeardGoesOn : Type 0
-HeardGoesOn =
-    (s new : State) (bytes : List ℕ) → s.ended ≡ None → (c : HeardAt s new bytes)
-    → KeepReading s.clients new.clients → AllByRecursion (λ l. is_present s.clients l.0 ≡ true) c.piece.hearing.noted → GoesAlone s new (Gets 0 bytes)
+HeardGoesOn = (s new : State) (bytes : List ℕ) → s.ended ≡ None → HeardAt s new bytes → GoesAlone s new (Gets 0 bytes)
