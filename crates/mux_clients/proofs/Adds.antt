@@ -1,21 +1,21 @@
 -- The rows of what one client says, and of its loss, concern it alone.
-use Rattle.std.proofs.Common.{◌≡◌, ℕ, Bool, true, false, ◌||◌, ◌&&◌, List, [], ◌∷◌, map, Option, Some, None, Ok, Err, Result, refl, sym, ap, ◌∙◌}
+use Rattle.std.proofs.Common.{◌≡◌, ℕ, Bool, true, false, ◌||◌, ◌&&◌, List, [], ◌∷◌, Option, Some, None, Ok, Err, Result, refl, sym, ap, ◌∙◌}
 use Rattle.std.specs.Prelude.{◌==◌}
 use Rattle.mux_outside.specs.declared.house.HouseReply.{HouseReply}
 use Rattle.ssh_grammar.specs.declared.fault.BadControl.{BadControl}
 use Rattle.ssh_grammar.specs.declared.fault.BadControl.TheVariants as bad
 use Rattle.ssh_grammar.specs.declared.numbers.TheConstants.{VERSION}
-use Rattle.ssh_grammar.specs.Control.{Control, Hello, NewSession, AliveCheck, Terminate, OpenForward, CloseForward, StdioForward, StopListening, Proxy}
+use Rattle.ssh_grammar.specs.Control.{Control, Hello, OpenForward, CloseForward}
 use Rattle.ssh_grammar.specs.ReadControl.{read_control}
 use Rattle.ssh_grammar.specs.Said.{Saying, Body, Payload, BadFraming}
 use Rattle.mux_history.specs.declared.why.Why.TheVariants as why
 use Rattle.mux_history.specs.Policy.{Policy}
-use Rattle.mux_history.specs.Rows.{Row, rows_of, any_of, is_admit, is_lost, is_refusal, loses, Item, Admit, Says, Gone, Fate, Goes, Refused, Drop, End}
+use Rattle.mux_history.specs.Rows.{Row, rows_of, any_of, is_admit, is_lost, is_refusal, loses, Item, Admit, Says, Gone, Fate, Refused}
 use Rattle.mux_history.specs.Choices.{FromLists, pick_of, replies_given, reply_at}
-use Rattle.mux_history.specs.Controls.{body_asks, first_control, first_unread, greeted, later_control, later_unread, said_body, said_first, said_later}
+use Rattle.mux_history.specs.Controls.{body_asks, greeted, later_control, later_unread, said_body, said_first, said_later}
 use Rattle.mux_history.specs.Said.{Outcome, drops, silent, said_payload}
 use Rattle.mux_history.specs.Settings.{by_lists}
-use Rattle.mux_history.specs.Treat.{row_of, said_by_client, treat}
+use Rattle.mux_history.specs.Treat.{row_of, treat}
 use Rattle.mux_history.specs.Journal.{said_item}
 use Rattle.mux_history.specs.Log.{makes_next, more_of, next_row}
 use Rattle.mux_history.proofs.OwnRows.{idle_row}

@@ -1,29 +1,27 @@
 -- A client that comes among all.
-use Rattle.std.proofs.Common.{◌≡◌, ◌≢◌, ℕ, Bool, true, false, ◌||◌, List, [], ◌∷◌, ◌++◌, refl, sym, ap, ◌∙◌, subst, append-nil}
+use Rattle.std.proofs.Common.{◌≡◌, ◌≢◌, ℕ, Bool, true, false, List, [], ◌∷◌, ◌++◌, refl, sym, ap, ◌∙◌, subst, append-nil}
 use Rattle.std.specs.Prelude.{◌==◌, nat_lt}
-use Rattle.std.proofs.lemmas.Bool.{eq-eqb}
 use Rattle.mux_outside.specs.declared.house.HouseReply.{HouseReply}
 use Rattle.ssh_grammar.specs.declared.numbers.TheConstants.{VERSION}
 use Rattle.ssh_grammar.specs.Control.{Greets}
 use Rattle.ssh_grammar.specs.Frames.{frame_answer}
-use Rattle.proxy_frames.specs.State.{QueueState}
 use Rattle.mux_history.specs.declared.limits.TheConstants.{MAX_CLIENTS}
 use Rattle.mux_history.specs.Policy.{Policy}
-use Rattle.mux_history.specs.Rows.{Row, rows_of, any_of, is_admit, is_ended, is_lost, is_refusal, Admit, Goes, Refused}
+use Rattle.mux_history.specs.Rows.{Row, rows_of, any_of, is_admit, is_lost, is_refusal, Admit, Goes, Refused}
 use Rattle.mux_history.specs.Pending.{pending_up}
 use Rattle.mux_history.specs.Said.{Outcome, tells}
 use Rattle.mux_history.specs.Settings.{by_lists}
-use Rattle.mux_history.specs.Treat.{admits, bare, open_matters, row_of}
+use Rattle.mux_history.specs.Treat.{bare, open_matters, row_of}
 use Rattle.mux_history.specs.Log.{next_row}
 use Rattle.mux_history.proofs.Bools.{same-number}
 use Rattle.mux_history.proofs.OwnRows.{idle_row}
 use Rattle.mux_core.specs.State.{CoreState}
 use Rattle.mux_core.specs.Stands.{Stands}
-use Rattle.mux_core.specs.Calls.{Admits, AdmitsOn, IsNew}
+use Rattle.mux_core.specs.Calls.{Admits, AdmitsOn}
 use Rattle.mux_clients.specs.declared.standing.Standing.TheVariants.{Awaited}
 use Rattle.mux_clients.specs.State.{ClientState}
 use Rattle.mux_clients.specs.Stands.{SeatFits}
-use Rattle.mux_clients.specs.Among.{AllFit, AreApart, EachFits, InFits, is_present}
+use Rattle.mux_clients.specs.Among.{AreApart, EachFits, InFits, is_present}
 use Rattle.mux_clients.specs.Hearings.{AreHere}
 use Rattle.mux_clients.specs.Entering.{Enters, EntersBy, new_client}
 use Rattle.mux_clients.proofs.Ones.{OthersStay, differs, others-fit}

@@ -5,16 +5,14 @@ use Rattle.mux_outside.specs.declared.house.HouseReply.{HouseReply}
 use Rattle.ssh_grammar.specs.Frames.{frame_payload}
 use Rattle.proxy_frames.specs.State.{QueueState}
 use Rattle.mux_history.specs.Policy.{Policy}
-use Rattle.mux_history.specs.Rows.{Row, rows_of, any_of, is_admit, is_ended, is_lost, Gone, Goes}
+use Rattle.mux_history.specs.Rows.{Row, rows_of, is_admit, is_lost, Gone, Goes}
 use Rattle.mux_history.specs.Requests.{answers, answers_to, replies, wanted}
-use Rattle.mux_history.specs.Pending.{joined, pending_down, pending_up}
+use Rattle.mux_history.specs.Pending.{joined, pending_down}
 use Rattle.mux_history.specs.Farewell.{farewell}
-use Rattle.mux_history.specs.Said.{silent}
 use Rattle.mux_history.specs.Settings.{by_lists}
-use Rattle.mux_history.specs.Treat.{all_told, bare, new_answers, queued, with_farewell}
+use Rattle.mux_history.specs.Treat.{all_told, new_answers, queued, with_farewell}
 use Rattle.mux_history.specs.Log.{next_row}
 use Rattle.mux_core.specs.State.{CoreState}
-use Rattle.mux_core.specs.State as core
 use Rattle.mux_core.specs.Stands.{Stands}
 use Rattle.mux_core.specs.Calls.{Leaves, LeavesUnsent}
 use Rattle.mux_clients.specs.declared.standing.Standing.TheVariants.{Lost}
@@ -24,7 +22,7 @@ use Rattle.mux_clients.specs.Stands as stands
 use Rattle.mux_clients.specs.Losing.{Loses}
 use Rattle.mux_clients.proofs.RowForms.{made}
 use Rattle.mux_clients.proofs.Steps.{served-of}
-use Rattle.mux_clients.proofs.Stood.{not_lost, or_true, out_is, own_row}
+use Rattle.mux_clients.proofs.Stood.{not_lost, out_is, own_row}
 
 -- ---- the row tells nothing
 

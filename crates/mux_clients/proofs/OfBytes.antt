@@ -1,5 +1,5 @@
 -- What is said by bytes is of bytes.
-use Rattle.std.proofs.Common.{◌≡◌, ℕ, zero, suc, ◌-◌, Bool, true, false, List, [], ◌∷◌, ◌++◌, length, take, drop, subst}
+use Rattle.std.proofs.Common.{ℕ, zero, suc, ◌-◌, true, false, List, [], ◌∷◌, ◌++◌, length, take, drop}
 use Rattle.std.specs.Prelude.{nat_le, nat_lt, nat_eq}
 use Rattle.ssh_fields.specs.Fields.{AreBytes, of_four}
 use Rattle.ssh_fields.proofs.Fields.{AreBytes-take, AreBytes-drop}

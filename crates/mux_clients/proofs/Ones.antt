@@ -1,5 +1,5 @@
 -- One client goes on among all, and the others stay.
-use Rattle.std.proofs.Common.{◌≡◌, ℕ, Bool, true, false, ◌||◌, List, [], ◌∷◌, Option, Some, None, refl, sym, ap, ◌∙◌, subst}
+use Rattle.std.proofs.Common.{◌≡◌, ℕ, Bool, true, false, List, [], ◌∷◌, Option, Some, None, refl, sym, ap, ◌∙◌, subst}
 use Rattle.std.specs.Prelude.{◌==◌, MatchBool}
 use Rattle.proxy_frames.specs.State.{QueueState}
 use Rattle.mux_history.specs.declared.why.Why.{Why}
@@ -15,9 +15,8 @@ use Rattle.mux_core.specs.Stands.{Stands}
 use Rattle.mux_clients.specs.State.{ClientState, part}
 use Rattle.mux_clients.specs.Stands.{Fits, SeatFits}
 use Rattle.mux_clients.specs.Hearings.{AreHere}
-use Rattle.mux_clients.specs.Among.{AddsFor, AllFit, AreApart, ChangesOne, EachFits, InFits, MovesTo, is_present}
-use Rattle.mux_clients.specs.Laws.{AllMoved, OneMovesAll}
-use Rattle.mux_clients.proofs.Stood.{own_row}
+use Rattle.mux_clients.specs.Among.{AddsFor, AreApart, ChangesOne, EachFits, InFits, MovesTo, is_present}
+use Rattle.mux_clients.specs.Laws.{OneMovesAll}
 
 -- a row refuses nobody whose outcome doesn't
 unrefused-with : (f : Fate) (w : Option Why) → is_refusal f ≡ false → is_refusal (fate_with f w) ≡ false

@@ -1,23 +1,23 @@
 -- What the outcome of a payload depends on, what one tells that drops its client, and that none refuses it.
 use Rattle.std.proofs.Common.{◌≡◌, ℕ, List, [], ◌∷◌, true, false, Bool, refl, ◌∙◌, ap, sym, subst, Option, Some, None, Ok, Err, Result, length}
-use Rattle.std.specs.Prelude.{◌&&◌, ◌==◌, is_some, nat_lt, nat_le}
+use Rattle.std.specs.Prelude.{◌&&◌, ◌==◌, is_some, nat_lt}
 use Rattle.ssh_grammar.specs.declared.side.Side.TheVariants.{Up}
 use Rattle.ssh_grammar.specs.declared.fault.Bad.{Bad}
 use Rattle.ssh_grammar.specs.declared.fault.Breach.{Breach}
-use Rattle.ssh_grammar.specs.declared.numbers.TheConstants.{DISCONNECT, ADMINISTRATIVELY_PROHIBITED, UNKNOWN_CHANNEL_TYPE, RESOURCE_SHORTAGE}
+use Rattle.ssh_grammar.specs.declared.numbers.TheConstants.{DISCONNECT, ADMINISTRATIVELY_PROHIBITED, RESOURCE_SHORTAGE}
 use Rattle.ssh_grammar.specs.SpellMessage.{not_permitted, too_many_channels}
 use Rattle.ssh_grammar.specs.Messages.{Opens, Session, Direct, Global, Forward, Cancel, KeepAlive, OtherName}
 use Rattle.ssh_grammar.specs.Said.{Payload}
 use Rattle.mux_history.specs.declared.limits.TheConstants.{MAX_CHANNELS, MAX_GLOBAL_REQUESTS}
 use Rattle.mux_history.specs.declared.why.Why.{Why}
 use Rattle.mux_history.specs.declared.why.Why.TheVariants as why
-use Rattle.mux_history.specs.Gist.{Gist, Transport, Requests, Succeeds, Refuses, Open, Confirmation, Within, Act, read_gist, reading, sender_of}
+use Rattle.mux_history.specs.Gist.{Gist, Transport, Requests, Succeeds, Refuses, Open, Confirmation, Within, Act, read_gist, sender_of}
 use Rattle.mux_history.specs.Rows.{Row, Says, Fate, Goes, Drop, Refused, End, is_refusal}
 use Rattle.mux_history.specs.Channels.{Channel, held_of, own_of, with_own}
 use Rattle.mux_history.specs.Choices.{takes_number}
 use Rattle.mux_history.specs.Ledger.{breach}
 use Rattle.mux_history.specs.Policy.{Policy, permits}
-use Rattle.mux_history.specs.Said.{Outcome, silent, sends, tells, drops, confirmed_at, waiting_at, fails_open, is_failing, is_full_of_asks, on_breach, on_confirmed, on_unused, on_waiting, said_gist, said_open, said_payload, said_request, said_within, sends_as, sends_if, sends_open}
+use Rattle.mux_history.specs.Said.{Outcome, silent, sends, drops, confirmed_at, waiting_at, fails_open, is_failing, is_full_of_asks, on_breach, on_confirmed, on_unused, on_waiting, said_gist, said_open, said_payload, said_request, sends_as, sends_if, sends_open}
 use Rattle.mux_history.specs.Treat.{bare}
 use Rattle.mux_history.proofs.Readings.{reading-ok}
 

@@ -18,7 +18,6 @@ use Rattle.mux_history.specs.Promises.{listens, stops}
 use Rattle.mux_history.specs.Requests.{is_sent}
 use Rattle.mux_history.specs.Right.{AreFresh, carried_number}
 use Rattle.mux_history.specs.Settings.{by_lists}
-use Rattle.mux_history.specs.Solo.{end_of}
 use Rattle.mux_history.specs.Journal.{heard_item}
 use Rattle.mux_history.specs.Log.{Setting, goes, makes_next, more_all, more_of, next_row}
 use Rattle.mux_core.specs.State.{CoreState}

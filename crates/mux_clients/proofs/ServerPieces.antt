@@ -1,10 +1,10 @@
 -- A piece of the server's bytes, one frame after another.
-use Rattle.std.proofs.Common.{◌≡◌, ◌≤◌, ◌<◌, ◌+◌, ◌-◌, ◌^◌, min, ℕ, suc, Bool, true, false, ◌||◌, List, [], ◌∷◌, ◌++◌, length, map, Option, Some, None, refl, sym, ap, ◌∙◌, subst, append_assoc, append-nil, arith}
+use Rattle.std.proofs.Common.{◌≡◌, ◌<◌, ◌-◌, ℕ, suc, Bool, true, false, ◌||◌, List, [], ◌∷◌, ◌++◌, length, map, Option, Some, None, refl, sym, ap, ◌∙◌, subst, append_assoc, append-nil, arith}
 use Rattle.std.specs.Prelude.{is_some}
 use Rattle.mux_outside.specs.declared.house.HouseReply.{HouseReply}
 use Rattle.ssh_grammar.specs.declared.fault.BadFrame.{BadFrame}
 use Rattle.ssh_grammar.specs.Frames.{Front, Frame, More, Faulty}
-use Rattle.ssh_grammar.specs.Said.{InProxy, Saying, BadFraming, Parsed, first_in, parse}
+use Rattle.ssh_grammar.specs.Said.{InProxy, BadFraming, Parsed, first_in, parse}
 use Rattle.ssh_grammar.proofs.Cuts.{IsShorter}
 use Rattle.ssh_grammar.proofs.Parses.{in-shorter, parse-at}
 use Rattle.proxy_frames.specs.State.{QueueState}
@@ -21,7 +21,7 @@ use Rattle.mux_history.specs.Journal.{heard_item}
 use Rattle.mux_history.specs.Log.{Setting, more_all, next_row}
 use Rattle.mux_core.specs.State.{CoreState}
 use Rattle.mux_clients.specs.State.{ClientState}
-use Rattle.mux_clients.specs.Among.{AllFit, is_present}
+use Rattle.mux_clients.specs.Among.{AllFit}
 use Rattle.mux_clients.specs.Hearings.{HeardBy, end_by}
 use Rattle.mux_clients.specs.Pieces.{behind}
 use Rattle.mux_clients.specs.Room.{HasRoom}

@@ -1,23 +1,20 @@
 -- The verdicts on a client's payload.
-use Rattle.std.proofs.Common.{◌≡◌, ◌<◌, ◌≤◌, ◌^◌, ◌+◌, ℕ, Bool, true, false, ◌&&◌, List, [], ◌∷◌, ◌++◌, length, Option, Some, None, Ok, Err, Result, refl, sym, ap, ◌∙◌, subst, append-nil, arith, inl, inr, ◌⊎◌}
+use Rattle.std.proofs.Common.{◌≡◌, ◌<◌, ◌≤◌, ◌^◌, ℕ, Bool, true, false, ◌&&◌, List, [], ◌∷◌, ◌++◌, length, Option, Some, None, Ok, Err, Result, refl, sym, ap, ◌∙◌, subst, append-nil, arith, inl, inr, ◌⊎◌}
 use Rattle.std.specs.Prelude.{is_some}
-use Rattle.mux_outside.specs.declared.house.HouseReply.{HouseReply}
 use Rattle.ssh_fields.specs.Fields.{AreBytes, u32, u32_at}
 use Rattle.ssh_grammar.specs.declared.fault.Bad.{Bad}
 use Rattle.ssh_grammar.specs.Frames.{frame_payload}
-use Rattle.ssh_grammar.specs.Said.{Payload}
 use Rattle.ssh_grammar.proofs.Renumbered.{u32_at-between}
 use Rattle.proxy_frames.specs.State.{QueueState}
 use Rattle.mux_history.specs.declared.limits.TheConstants.{NUMBERS_END}
 use Rattle.mux_history.specs.declared.why.Why.{Why}
 use Rattle.mux_history.specs.declared.why.Why.TheVariants as why
 use Rattle.mux_history.specs.Gist.{Gist, read_gist, sender_of}
-use Rattle.mux_history.specs.Rows.{Row, rows_of, is_ended, Item, Says, Goes, Drop}
+use Rattle.mux_history.specs.Rows.{Row, rows_of}
 use Rattle.mux_history.specs.Channels.{holder, own_of}
 use Rattle.mux_history.specs.Choices.{said_number, takes_number}
 use Rattle.mux_history.specs.Pending.{joined}
 use Rattle.mux_history.specs.Policy.{Policy}
-use Rattle.mux_history.specs.Requests.{is_sent}
 use Rattle.mux_history.specs.Right.{carried_number}
 use Rattle.mux_history.specs.Said.{Outcome, drops, said_gist, said_payload}
 use Rattle.mux_history.specs.Treat.{bare, fitting, overflow}
@@ -30,8 +27,7 @@ use Rattle.mux_core.specs.State.{CoreState}
 use Rattle.mux_core.specs.Calls.{IsFresh, LeavesTold, LeavesUnsent, SaysIn, SaysOn, said_row}
 use Rattle.mux_clients.specs.declared.standing.Standing.{Standing}
 use Rattle.mux_clients.specs.declared.standing.Standing.TheVariants.{Awaited, Greeted, Proxied, Unread, Lost}
-use Rattle.mux_clients.specs.State.{SeatState, Part, part, KeepsRoom}
-use Rattle.mux_clients.specs.Stands.{Fits}
+use Rattle.mux_clients.specs.State.{SeatState, part, KeepsRoom}
 use Rattle.mux_clients.specs.Says.{SaysPayload}
 use Rattle.mux_clients.proofs.Saids.{Answered, Before, FreshBy, picked_if, said, said-drops, said-full, said-on, served-before}
 

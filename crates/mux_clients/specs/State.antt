@@ -1,8 +1,11 @@
 -- What is kept of a client, and what one saying of it touches.
-use Rattle.std.specs.Prelude.{◌≤◌, ◌+◌, ℕ, List, drop, replicate}
+use Rattle.std.specs.Prelude.{◌≤◌, ◌+◌, ℕ, List, ◌++◌, length, drop, replicate, Option}
 use Rattle.ssh_grammar.specs.Frames.{frame_payload}
 use Rattle.ssh_grammar.specs.SpellMessage.{request_failure}
 use Rattle.proxy_frames.specs.State.{QueueState}
+use Rattle.mux_history.specs.declared.why.Why.{Why}
+use Rattle.mux_history.specs.Pending.{joined}
+use Rattle.mux_history.specs.Log.{fitting, overflow}
 use Rattle.client_teardown.specs.declared.farewell.TheConstants.{FAREWELL_ROOM}
 use Rattle.mux_core.specs.State.{CoreState}
 use Rattle.mux_clients.specs.declared.standing.Standing.{Standing}
@@ -36,6 +39,14 @@ refusals_of n = replicate n (frame_payload request_failure)
 abbrev pub KeepsRoom : QueueState → QueueState → Standing → Type 0
 KeepsRoom old new (Lost why) = old.spare ≤ new.spare + FAREWELL_ROOM
 KeepsRoom old new standing = old.spare ≤ new.spare
+
+-- a client that is told these frames, as far as they fit into its queue
+abbrev pub told : List (List ℕ) → SeatState → SeatState
+told fs s = record s { queue = s.queue ++ joined (fitting (length s.queue) fs) }
+
+-- and why it is to be dropped, where they don't
+abbrev pub full_of : List (List ℕ) → SeatState → Option Why
+full_of fs s = overflow (length s.queue) fs
 
 -- so many of the bytes that wait for it were taken
 abbrev pub client_took : ℕ → ClientState → ClientState

@@ -118,12 +118,14 @@ impl Client {
         })
     }
 
+    /// Its number, by which the wire names its stream.
     pub fn number(&self) -> u64
         ensures { result ≡ self.now.seat.number }
     {
         self.seat.number()
     }
 
+    /// How it stands.
     pub fn standing(&self) -> Standing
         ensures { result ≡ self.now.seat.standing }
     {

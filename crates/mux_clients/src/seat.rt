@@ -1,12 +1,10 @@
-ghost use Rattle.std.specs.Prelude.{◌≡◌, true, false, ◌≤◌, ◌+◌, ◌++◌, [], ◌∷◌, drop, length, List, ℕ, IfOk, OnOk, OnErr, Some, None};
+ghost use Rattle.std.specs.Prelude.{◌≡◌, true, false, ◌≤◌, ◌+◌, [], ◌∷◌, drop, length, IfOk, OnOk, OnErr, Some, None};
 ghost use Rattle.ssh_grammar.specs.declared.framing.Framing.TheVariants.{Proxy};
 ghost use Rattle.ssh_grammar.specs.IsFrame.{IsContent};
 ghost use Rattle.ssh_grammar.specs.Frames.{frame_payload};
-ghost use Rattle.mux_history.specs.Pending.{joined};
-ghost use Rattle.mux_history.specs.Log.{fitting, overflow};
 ghost use Rattle.mux_core.specs.Calls.{LeavesUnsent, LeavesTold};
 ghost use Rattle.mux_clients.specs.declared.standing.Standing.TheVariants.{Lost};
-ghost use Rattle.mux_clients.specs.State.{part, refusals_of, KeepsRoom};
+ghost use Rattle.mux_clients.specs.State.{full_of, part, refusals_of, told, KeepsRoom};
 ghost use Rattle.mux_clients.specs.Says.{SaysPayload};
 ghost use Rattle.mux_clients.specs.Hears.{HearsTold};
 ghost use Rattle.mux_clients.specs.Losing.{Loses};
@@ -86,8 +84,8 @@ impl Seat {
     // It is told a payload where the frame fits into the queue; else why it is to be dropped.
     fn tell(&mut self, payload: &[u8]) -> Result<Option<Why>, OutOfMemory>
         requires { IsContent Proxy payload.now }
-        ensures queue { OnOk result (self.new ≡ record self.old { queue = self.old.queue ++ joined (fitting (length self.old.queue) (frame_payload payload.now ∷ [])) }) }
-        ensures full { IfOk result (λ full. full ≡ overflow (length self.old.queue) (frame_payload payload.now ∷ [])) }
+        ensures queue { OnOk result (self.new ≡ told (frame_payload payload.now ∷ []) self.old) }
+        ensures full { IfOk result (λ full. full ≡ full_of (frame_payload payload.now ∷ []) self.old) }
         ensures stays { self.new.standing ≡ self.old.standing }
     {
         let have = self.queue.len();
@@ -101,8 +99,8 @@ impl Seat {
 
     // It is told so many refusals, as far as they fit into the queue.
     fn refuse(&mut self, refusals: u32) -> Result<Option<Why>, OutOfMemory>
-        ensures queue { OnOk result (self.new ≡ record self.old { queue = self.old.queue ++ joined (fitting (length self.old.queue) (refusals_of refusals)) }) }
-        ensures full { IfOk result (λ full. full ≡ overflow (length self.old.queue) (refusals_of refusals)) }
+        ensures queue { OnOk result (self.new ≡ told (refusals_of refusals) self.old) }
+        ensures full { IfOk result (λ full. full ≡ full_of (refusals_of refusals) self.old) }
         ensures stays { self.new.standing ≡ self.old.standing }
     {
         let refusal = request_failure();
@@ -119,8 +117,8 @@ impl Seat {
     // It is told a payload and then so many refusals, as far as they fit into the queue.
     fn tell_all(&mut self, payload: &[u8], refusals: u32) -> Result<Option<Why>, OutOfMemory>
         requires { IsContent Proxy payload.now }
-        ensures queue { OnOk result (self.new ≡ record self.old { queue = self.old.queue ++ joined (fitting (length self.old.queue) (frame_payload payload.now ∷ refusals_of refusals)) }) }
-        ensures full { IfOk result (λ full. full ≡ overflow (length self.old.queue) (frame_payload payload.now ∷ refusals_of refusals)) }
+        ensures queue { OnOk result (self.new ≡ told (frame_payload payload.now ∷ refusals_of refusals) self.old) }
+        ensures full { IfOk result (λ full. full ≡ full_of (frame_payload payload.now ∷ refusals_of refusals) self.old) }
         ensures stays { self.new.standing ≡ self.old.standing }
     {
         match self.tell(payload)? {
@@ -155,12 +153,14 @@ impl Seat {
         core.gone(self.number, up);
     }
 
+    /// Its number, by which the wire names its stream.
     pub fn number(&self) -> u64
         ensures { result ≡ self.now.number }
     {
         self.number
     }
 
+    /// How it stands.
     pub fn standing(&self) -> Standing
         ensures { result ≡ self.now.standing }
     {
@@ -274,12 +274,12 @@ impl Seat {
     }
 
     // It is told a control frame, where there is one and it fits into the queue; else why it is to be dropped.
-    fn tell_frame(&mut self, told: &Option<Small>) -> Result<Option<Why>, OutOfMemory>
-        ensures queue { OnOk result (self.new ≡ record self.old { queue = self.old.queue ++ joined (fitting (length self.old.queue) (frames told.now)) }) }
-        ensures full { IfOk result (λ full. full ≡ overflow (length self.old.queue) (frames told.now)) }
+    fn tell_frame(&mut self, answer: &Option<Small>) -> Result<Option<Why>, OutOfMemory>
+        ensures queue { OnOk result (self.new ≡ told (frames answer.now) self.old) }
+        ensures full { IfOk result (λ full. full ≡ full_of (frames answer.now) self.old) }
         ensures stays { self.new.standing ≡ self.old.standing }
     {
-        let Some(frame) = told else {
+        let Some(frame) = answer else {
             return Ok(None);
         };
         let have = self.queue.len();

@@ -29,6 +29,7 @@ impl Model for Server {
 }
 
 impl Server {
+    /// A server that said nothing yet.
     pub fn new(alloc: Global) -> Server
         ensures { result ≡ new_server }
     {

@@ -1,5 +1,7 @@
 // What no clause says: that there is memory for whole pieces, and which bytes go where.
-ghost use Rattle.std.specs.Prelude.{◌≡◌, ◌≤◌, length, IfOk, OnOk};
+ghost use Rattle.std.specs.Prelude.{◌≤◌, OnOk};
+ghost use Rattle.ssh_grammar.specs.declared.framing.Framing.TheVariants.{Proxy};
+ghost use Rattle.ssh_grammar.specs.IsFrame.{IsContent};
 
 use super::*;
 use client_teardown::FAREWELL_ROOM;
@@ -57,21 +59,40 @@ fn with_a_client(alloc: Global) -> Result<Bench, Fail> {
 }
 
 impl Bench {
-    /// Client 1 says these pieces.
-    fn says(&mut self, pieces: &[&[u8]]) -> Result<(), Fail> {
-        for piece in pieces {
-            room(&mut self.up)?;
-            let _ = got_at(
-                &mut self.clients,
-                1,
-                4321,
-                piece,
-                &mut NoHouse,
-                &mut self.core,
-                &mut self.up,
-            )?;
-        }
+    /// A piece of client 1.
+    fn hears(&mut self, piece: &[u8]) -> Result<(), OutOfMemory> {
+        room(&mut self.up)?;
+        let _ = got_at(
+            &mut self.clients,
+            1,
+            4321,
+            piece,
+            &mut NoHouse,
+            &mut self.core,
+            &mut self.up,
+        )?;
         Ok(())
+    }
+
+    /// A piece of a server that said nothing before.
+    fn hears_server(&mut self, piece: &[u8]) -> Result<Option<Ended>, OutOfMemory> {
+        let mut server = Server::new(self.alloc);
+        server.got(&mut self.clients, piece, &mut self.core, &mut self.up)
+    }
+
+    /// Client 1 is told a payload.
+    fn tells(&mut self, payload: &[u8]) -> Result<(), OutOfMemory>
+        requires { IsContent Proxy payload.now }
+    {
+        room(&mut self.up)?;
+        hear_at(
+            &mut self.clients,
+            1,
+            payload,
+            0,
+            &mut self.core,
+            &mut self.up,
+        )
     }
 
     /// Whether these bytes wait for the server and for client 1, which stands so.
@@ -85,69 +106,73 @@ impl Bench {
     }
 }
 
+/// The pieces of client 1, and what waits then for the server and for it.
+fn shows(
+    alloc: Global,
+    pieces: &[&[u8]],
+    up: &[u8],
+    down: &[u8],
+    standing: Standing,
+) -> Result<bool, Fail> {
+    let mut bench = with_a_client(alloc)?;
+    for piece in pieces {
+        bench.hears(piece)?;
+    }
+    Ok(bench.shows(up, down, standing))
+}
+
 #[test]
 fn no_byte_behind_a_proxy_is_lost(rt: HostRuntime) -> Result<(), Fail> {
-    let mut whole = with_a_client(rt.alloc())?;
-    whole.says(&[PROXIED])?;
-    assert!(rt; whole.shows(OPENED, ANSWERED, Standing::Proxied));
-    let mut cut = with_a_client(rt.alloc())?;
-    let (front, rest) = PROXIED.split_at(17);
-    cut.says(&[front, rest])?;
-    assert!(rt; cut.shows(OPENED, ANSWERED, Standing::Proxied));
+    let alloc = rt.alloc();
+    assert!(rt; shows(alloc, &[PROXIED], OPENED, ANSWERED, Standing::Proxied)?);
+    let cut = [&PROXIED[..17], &PROXIED[17..]];
+    assert!(rt; shows(alloc, &cut, OPENED, ANSWERED, Standing::Proxied)?);
     Ok(())
 }
 
 #[test]
 fn a_client_without_a_hello_is_dropped(rt: HostRuntime) -> Result<(), Fail> {
-    let mut b = with_a_client(rt.alloc())?;
-    b.says(&[&PROXIED[12..]])?;
     let why = Why::NoHello { kind: 0x1000_000f };
-    assert!(rt; b.shows(b"", HELLO, Standing::Lost(Some(why))));
+    let dropped = Standing::Lost(Some(why));
+    assert!(rt; shows(rt.alloc(), &[&PROXIED[12..]], b"", HELLO, dropped)?);
     Ok(())
 }
 
-/// The longest payload, of zeros.
-fn longest(alloc: Global) -> Result<Vec<u8>, OutOfMemory>
-    ensures { IfOk result (λ v. length v.items ≡ 262143) }
-{
-    let mut payload = Vec::new(alloc);
+/// Client 1 is told 128 of the longest payloads. The hello has 12 bytes, and each frame 262,148.
+fn fill(bench: &mut Bench) -> Result<(), OutOfMemory> {
+    let mut payload = Vec::new(bench.alloc);
     payload.resize(262_143, 0)?;
-    Ok(payload)
+    for _ in 0..128 {
+        bench.tells(&payload)?;
+    }
+    Ok(())
 }
 
 #[test]
 fn a_client_whose_queue_is_full_is_dropped(rt: HostRuntime) -> Result<(), Fail> {
-    let mut b = with_a_client(rt.alloc())?;
-    let payload = longest(rt.alloc())?;
-    // The hello has 12 bytes, and each frame 262,148.
-    for _ in 0..128 {
-        room(&mut b.up)?;
-        hear_at(&mut b.clients, 1, &payload, 0, &mut b.core, &mut b.up)?;
-    }
+    let mut bench = with_a_client(rt.alloc())?;
+    fill(&mut bench)?;
     let why = Why::QueueFull {
         have: 33_292_808,
         want: 262_148,
     };
-    let standing = b.clients.first().map(|client| client.standing());
+    let standing = bench.clients.first().map(|client| client.standing());
     assert_eq!(rt; standing, Some(Standing::Lost(Some(why))));
     Ok(())
 }
 
+/// The server refuses channel 0, and then closes channel 7, which nobody has.
+const REFUSED: &[u8] =
+    b"\0\0\0\x14\0\x5c\0\0\0\0\0\0\0\x01\0\0\0\x02no\0\0\0\0\0\0\0\x06\0\x61\0\0\0\x07";
+
 #[test]
 fn what_the_server_says_goes_to_the_client_that_opened(rt: HostRuntime) -> Result<(), Fail> {
-    let mut b = with_a_client(rt.alloc())?;
-    b.says(&[PROXIED])?;
-    let mut server = Server::new(b.alloc);
-    // The server refuses the open, and then names a channel that nobody has.
-    let ended = server.got(
-        &mut b.clients,
-        b"\0\0\0\x14\0\x5c\0\0\0\0\0\0\0\x01\0\0\0\x02no\0\0\0\0\0\0\0\x06\0\x61\0\0\0\x07",
-        &mut b.core,
-        &mut b.up,
-    )?;
+    let mut bench = with_a_client(rt.alloc())?;
+    bench.hears(PROXIED)?;
+    let ended = bench.hears_server(REFUSED)?;
     let why = Break::NoChannel { number: 7 };
     assert_eq!(rt; ended, Some(Ended::Broke { index: 2, why }));
-    let queue = b.clients.first().map(|client| client.queue().len());
+    let queue = bench.clients.first().map(|client| client.queue().len());
     assert_eq!(rt; queue, Some(ANSWERED.len() + 24));
     Ok(())
 }
