@@ -1,5 +1,6 @@
 // What no clause says: that there is memory for whole pieces, and which bytes go where.
-ghost use Rattle.std.specs.Prelude.{◌≤◌, OnOk};
+ghost use Rattle.std.specs.Prelude.{OnOk};
+ghost use Rattle.mux_clients.specs.Room.{HasRoom};
 ghost use Rattle.ssh_grammar.specs.declared.framing.Framing.TheVariants.{Proxy};
 ghost use Rattle.ssh_grammar.specs.IsFrame.{IsContent};
 
@@ -34,14 +35,18 @@ struct Bench {
     alloc: Global,
     core: Core,
     clients: Vec<Client>,
+    leaving: Vec<(u64, Option<Why>)>,
     up: Queue,
 }
 
-/// With room for one farewell.
-fn room(up: &mut Queue) -> Result<(), OutOfMemory>
-    ensures { OnOk result (FAREWELL_ROOM ≤ up.new.spare) }
+/// With room for the farewell of the only client.
+fn room(clients: &[Client], up: &mut Queue) -> Result<(), OutOfMemory>
+    ensures { OnOk result (HasRoom clients.now up.new) }
 {
-    up.reserve(FAREWELL_ROOM)
+    match clients {
+        [_] => up.reserve(FAREWELL_ROOM),
+        _ => Err(OutOfMemory),
+    }
 }
 
 /// One that permits all, with client 1.
@@ -54,6 +59,7 @@ fn with_a_client(alloc: Global) -> Result<Bench, Fail> {
         alloc,
         core,
         clients,
+        leaving: Vec::new(alloc),
         up: Queue::new(alloc),
     })
 }
@@ -61,7 +67,7 @@ fn with_a_client(alloc: Global) -> Result<Bench, Fail> {
 impl Bench {
     /// A piece of client 1.
     fn hears(&mut self, piece: &[u8]) -> Result<(), OutOfMemory> {
-        room(&mut self.up)?;
+        room(&self.clients, &mut self.up)?;
         let _ = got_at(
             &mut self.clients,
             1,
@@ -77,19 +83,27 @@ impl Bench {
     /// A piece of a server that said nothing before.
     fn hears_server(&mut self, piece: &[u8]) -> Result<Option<Ended>, OutOfMemory> {
         let mut server = Server::new(self.alloc);
-        server.got(&mut self.clients, piece, &mut self.core, &mut self.up)
+        room(&self.clients, &mut self.up)?;
+        server.got(
+            &mut self.clients,
+            piece,
+            &mut self.leaving,
+            &mut self.core,
+            &mut self.up,
+        )
     }
 
     /// Client 1 is told a payload.
     fn tells(&mut self, payload: &[u8]) -> Result<(), OutOfMemory>
         requires { IsContent Proxy payload.now }
     {
-        room(&mut self.up)?;
+        room(&self.clients, &mut self.up)?;
         hear_at(
             &mut self.clients,
             1,
             payload,
             0,
+            &mut self.leaving,
             &mut self.core,
             &mut self.up,
         )
