@@ -126,7 +126,6 @@ filter_twice : {A : Type 0} (p q r : A → Bool) (xs : List A) → ((x : A) → 
 filter_twice p q r [] h = refl
 filter_twice p q r (x ∷ xs) h = twice_head p (q x) (r x) x (filter q xs) (filter r xs) (h x) (filter_twice p q r xs h)
 
-
 -- ---- the parts of it
 
 -- the streams that wait, without one

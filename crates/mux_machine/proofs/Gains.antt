@@ -268,13 +268,15 @@ goes-piece May before told s new bytes x y heard none here nz fits reads c picke
         let next : Rattle.mux_clients.specs.Pieces.ReplyNext h.used rows r = (replies, ap (λ n. drop n r) (v.rows.drawn_is ∙ st.each) ∙ drop-front given (h.used ++ replies)) in
         let rows' : List Row = rows_given s.core.policy s.pid p r k (bytes_of k marks) bytes rows in
         let w : PieceRows s new x y heard h.picked h.used h.asks rows rows' (bytes_of k marks) bytes = piece-rows-of May before told s new bytes x y heard c p r (length picked) st.asks marks closed rows live fx v.rows v.bytes (reads marks (v.bytes.clients live)) come next in
-        let is : log new p r (Gets k bytes ∷ marks) ≡ rows' = log-as p r (Gets k bytes ∷ marks) ∙ gets-log s p r k bytes marks nz in
-        (record {
-          rows = subst (RowsFit (length (picked ++ h.picked)) (st.asks ++ h.asks) new closed) (sym is)
-              (subst (λ n. RowsFit n (st.asks ++ h.asks) new closed rows') (sym (length-append picked h.picked))
-              (rows-gain May before told (length picked) st.asks given s new bytes (bytes_of k marks) x y heard h.picked h.used h.asks closed rows rows' (v.bytes.are_bytes k) al.1 h.each here nz fx c w v.rows));
-          bytes = subst (BytesFit new (Gets k bytes ∷ marks) closed) (sym is) (bytes-gain May before told (length picked) st.asks s new bytes x y heard h.picked h.used h.asks marks closed rows rows' here nz al c w v.rows v.bytes);
-        }, ap asked_of is ∙ w.to.asked)
+        let is : log new p r (Gets k bytes ∷ marks) ≡ rows' = log-as p r (Gets k bytes ∷ marks) ∙ gets-log s p r k bytes marks nz in (
+          record {
+            rows = subst (RowsFit (length (picked ++ h.picked)) (st.asks ++ h.asks) new closed) (sym is)
+                (subst (λ n. RowsFit n (st.asks ++ h.asks) new closed rows') (sym (length-append picked h.picked))
+                (rows-gain May before told (length picked) st.asks given s new bytes (bytes_of k marks) x y heard h.picked h.used h.asks closed rows rows' (v.bytes.are_bytes k) al.1 h.each here nz fx c w v.rows));
+            bytes = subst (BytesFit new (Gets k bytes ∷ marks) closed) (sym is) (bytes-gain May before told (length picked) st.asks s new bytes x y heard h.picked h.used h.asks marks closed rows rows' here nz al c w v.rows v.bytes);
+          },
+          ap asked_of is ∙ w.to.asked,
+        )
 
     stands-at : (picks : List ℕ) (replies : List HouseReply) → StandsFor ((picked ++ h.picked) ++ picks) ((given ++ h.used) ++ replies) (length (picked ++ h.picked)) (st.asks ++ h.asks) new (Gets k bytes ∷ marks) closed
     stands-at picks replies =

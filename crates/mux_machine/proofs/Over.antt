@@ -97,10 +97,13 @@ still-strange s marks (Accepts k) j h al a = (before (k == j) a, λ nz. refl)
     before : (b : Bool) → cond b true (is_accepted j marks) ≡ false → is_accepted j marks ≡ false
     before true e = true_false e
     before false e = e
-still-strange s marks (Gets k bytes) j h al a = (a, λ nz. elim (eqb_tells k 0) [
-  | inl q ↦ of-bytes k j bytes (λ e. nz (sym e ∙ q.1))
-  | inr q ↦ of-bytes k j bytes (accepted-apart k j marks (al.0 q.1) a)
-])
+still-strange s marks (Gets k bytes) j h al a = (
+  a,
+  λ nz. elim (eqb_tells k 0) [
+    | inl q ↦ of-bytes k j bytes (λ e. nz (sym e ∙ q.1))
+    | inr q ↦ of-bytes k j bytes (accepted-apart k j marks (al.0 q.1) a)
+  ],
+)
 still-strange s marks (Ends k) j h al a = (a, λ nz. refl)
 still-strange s marks (Fails k) j h al a = (a, λ nz. refl)
 still-strange s marks (WriteFails k) j h al a = (a, λ nz. refl)

@@ -15,7 +15,6 @@ use Rattle.mux_machine.proofs.Lists.{either, not_here, test_other, without_head}
 abbrev queue_at : List ClientState → ℕ → List ℕ
 queue_at cs k = in_client [] (λ c. c.seat.queue) cs k
 
-
 pub absent_waiting : (k : ℕ) (cs : List ClientState) → is_present cs k ≡ false → without k (waiting_clients cs) ≡ waiting_clients cs
 absent_waiting k [] p = refl
 absent_waiting k (c ∷ cs) p = let q : (c.seat.number ≢ k) × (is_present cs k ≡ false) = not_here k c cs p in by_empty (is_empty c.seat.queue) (test_other c.seat.number k q.0) (absent_waiting k cs q.1)

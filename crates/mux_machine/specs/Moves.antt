@@ -111,12 +111,12 @@ pub record LossLaws : Type 0 where
   pub stays : (s : State) (k : ℕ) (mark : Mark) → k ≢ 0 → IsGone mark k → s.ended ≡ None → NoneStands not_lost k s.clients → GoesAlone s s mark
 
 -- a client that is read gave bytes
-abbrev pub GainedGoesOn : Type 1
-GainedGoesOn = (May : HouseReply → Type 0) (before told : Option (List Asked)) (s new : State) (k : ℕ) (bytes : List ℕ) → s.ended ≡ None → is_present s.clients k ≡ true → k ≢ 0 → GainsAt May before told s new k bytes → GoesOn May before told s new (Gets k bytes)
+abbrev pub GainedGoesOn : (HouseReply → Type 0) → Type 0
+GainedGoesOn May = (before told : Option (List Asked)) (s new : State) (k : ℕ) (bytes : List ℕ) → s.ended ≡ None → is_present s.clients k ≡ true → k ≢ 0 → GainsAt May before told s new k bytes → GoesOn May before told s new (Gets k bytes)
 
 -- and one that isn't
-abbrev pub UnheardStays : Type 1
-UnheardStays = (May : HouseReply → Type 0) (told : Option (List Asked)) (s : State) (k : ℕ) (bytes : List ℕ) → k ≢ 0 → s.ended ≡ None → NoneStands is_read k s.clients → GoesOn May told told s s (Gets k bytes)
+abbrev pub UnheardStays : (HouseReply → Type 0) → Type 0
+UnheardStays May = (told : Option (List Asked)) (s : State) (k : ℕ) (bytes : List ℕ) → k ≢ 0 → s.ended ≡ None → NoneStands is_read k s.clients → GoesOn May told told s s (Gets k bytes)
 
 -- the server gave bytes
 abbrev pub HeardGoesOn : Type 0
