@@ -1,0 +1,223 @@
+-- A piece of the server's bytes, one frame after another.
+use Rattle.std.proofs.Common.{◌≡◌, ◌<◌, ◌-◌, ℕ, suc, Bool, true, false, ◌||◌, List, [], ◌∷◌, ◌++◌, length, map, Option, Some, None, refl, sym, ap, ◌∙◌, subst, append_assoc, append-nil, arith}
+use Rattle.std.specs.Prelude.{is_some}
+use Rattle.mux_outside.specs.declared.house.HouseReply.{HouseReply}
+use Rattle.ssh_grammar.specs.declared.fault.BadFrame.{BadFrame}
+use Rattle.ssh_grammar.specs.Frames.{Front, Frame, More, Faulty}
+use Rattle.ssh_grammar.specs.Said.{InProxy, BadFraming, Parsed, first_in, parse}
+use Rattle.ssh_grammar.proofs.Cuts.{IsShorter}
+use Rattle.ssh_grammar.proofs.Parses.{in-shorter, parse-at}
+use Rattle.proxy_frames.specs.State.{QueueState}
+use Rattle.mux_history.specs.declared.broke.Break.TheVariants as broke
+use Rattle.mux_history.specs.declared.ended.Ended.{Ended}
+use Rattle.mux_history.specs.declared.ended.Ended.TheVariants as ended
+use Rattle.mux_history.specs.declared.why.Why.{Why}
+use Rattle.mux_history.specs.Policy.{Policy}
+use Rattle.mux_history.specs.Rows.{Row, BadServer, Fate, Goes, Refused, Drop, End, is_end, is_ended, losses}
+use Rattle.mux_history.specs.Heard.{next_index}
+use Rattle.mux_history.specs.Settings.{by_lists}
+use Rattle.mux_history.specs.Solo.{end_of}
+use Rattle.mux_history.specs.Journal.{heard_item}
+use Rattle.mux_history.specs.Log.{Setting, more_all, next_row}
+use Rattle.mux_core.specs.State.{CoreState}
+use Rattle.mux_clients.specs.State.{ClientState}
+use Rattle.mux_clients.specs.Among.{AllFit}
+use Rattle.mux_clients.specs.Hearings.{HeardBy, end_by}
+use Rattle.mux_clients.specs.Pieces.{behind}
+use Rattle.mux_clients.specs.Room.{HasRoom}
+use Rattle.mux_clients.specs.Server.{AllAwait, HearingAll, HearsBytes, HearsOnwards, HeardTo, ServerFault, ServerFrame, ServerNext, ServerNone, ServerState, rows_heard}
+use Rattle.mux_clients.proofs.Keeping.{among-then, keep-same, keep-then}
+use Rattle.mux_clients.proofs.Served.{end-shown, fault-heard, heard-item, makes-heard, map-last, more-last, or-first, payload-heard}
+
+-- ---- the end of a run
+
+unended : (f : Fate) → is_end f ≡ false → end_by f ≡ None
+unended (End cause) e = absurd (cc)
+unended Goes e = refl
+unended Refused e = refl
+unended (Drop why) e = refl
+
+or-left : (a b : Bool) → (a || b) ≡ false → a ≡ false
+or-left true b e = absurd (cc)
+or-left false b e = refl
+
+-- a run that goes on has no end
+pub end-none : (rows : List Row) → is_ended rows ≡ false → end_of rows ≡ None
+end-none [] e = refl
+end-none (row ∷ rows) e =
+    end-shown row.fate row rows refl (end-none rows (or-first (is_end row.fate) (is_ended rows) e)) ∙ unended row.fate (or-left (is_end row.fate) (is_ended rows) e)
+
+-- and one that has an end is over
+pub ended-some : (rows : List Row) (cause : Ended) → Some cause ≡ end_of rows → is_ended rows ≡ true
+ended-some rows cause e = by_end (is_ended rows) refl
+  where
+    by_end : (b : Bool) → is_ended rows ≡ b → is_ended rows ≡ true
+    by_end true t = t
+    by_end false t = absurd (let d : Some cause ≡ None = e ∙ end-none rows t in cc)
+
+-- ---- before anything is heard
+
+pub heard-first : (policy : Policy) (pid : ℕ) (picks : List ℕ) (given : List HouseReply) (all : List ℕ) (rows : List Row) (core : CoreState) (cs : List ClientState) (queue : QueueState) (rest : List ℕ) (index : ℕ)
+    → rest ≡ all → AllAwait rows core cs queue index → HeardTo policy pid picks given all [] rows core cs queue rest index None
+heard-first policy pid picks given all rows core cs queue rest index e a = record {
+  says = [];
+  fit = a.fit;
+  lost = sym (append-nil (losses rows));
+  ended_is = sym (end-none rows a.live);
+  on = λ t. record { live = a.live; said_is = ap (parse InProxy) (sym e); here = a.here; place = a.place };
+  over = ((parse InProxy all).says, refl);
+}
+
+pub hearing-first : (all : List ℕ) (leaving : List (ℕ × Option Why)) (core : CoreState) (cs : List ClientState) (queue : QueueState) (first now : ServerState) → now.framing ≡ first.framing → now.fault ≡ None → now.rest ≡ all → now.index ≡ first.index
+    → HearingAll all leaving leaving core cs queue first core cs queue now None
+hearing-first all leaving core cs queue first now cuts well rest index = record {
+  noted = [];
+  leaves = sym (append-nil leaving);
+  policy = refl;
+  present = λ j. refl;
+  among = tt;
+  reading = keep-same cs;
+  framing = λ e. cuts;
+  fault = λ e. well;
+  goes = λ pid picks given rows a. subst (λ i. HeardTo core.policy pid picks given all [] rows core cs queue now.rest i None) (sym index) (heard-first core.policy pid picks given all rows core cs queue now.rest first.index rest a);
+}
+
+-- ---- one frame more
+
+-- a fault
+pub heard-fault : (policy : Policy) (pid : ℕ) (picks : List ℕ) (given : List HouseReply) (all : List ℕ) (noted : List (ℕ × Option Why)) (rows : List Row) (core : CoreState) (cs : List ClientState) (queue : QueueState) (rest rest' : List ℕ) (i i' : ℕ) (fault : BadFrame)
+    → first_in InProxy rest ≡ Faulty fault → HeardTo policy pid picks given all noted rows core cs queue rest i None
+    → HeardTo policy pid picks given all noted rows core cs queue rest' i' (Some (ended.Broke i (broke.Frame fault)))
+heard-fault policy pid picks given all noted rows core cs queue rest rest' i i' fault front r =
+    let s : Setting = by_lists policy pid picks given in
+    let rows' : List Row = rows_heard policy pid picks given rows r.says in
+    let on : HearsOnwards all cs rest i rows' r.says = r.on refl in
+    let row : Row = next_row s rows' (BadServer fault) in
+    let last : rows_heard policy pid picks given rows (r.says ++ BadFraming fault ∷ []) ≡ row ∷ rows' =
+    ap (more_all s rows) (map-last r.says (BadFraming fault)) ∙ (more-last s rows (map heard_item r.says) (BadServer fault) ∙ makes-heard s (BadServer fault) rows' on.live refl) in
+    let by : HeardBy [] core cs queue (Some (ended.Broke i (broke.Frame fault))) rows' row = fault-heard policy pid picks given fault rows' core core cs queue i r.fit on.live on.place in
+    record {
+      says = r.says ++ BadFraming fault ∷ [];
+      fit = subst (λ l. AllFit l core cs queue) (sym last) by.fit;
+      lost = ap losses last ∙ (by.lost ∙ (append-nil (losses rows') ∙ r.lost));
+      ended_is = by.ended_is ∙ (sym (end-shown row.fate row rows' refl (sym r.ended_is)) ∙ ap end_of (sym last));
+      on = λ e. absurd (cc);
+      over = ([], ap (λ (p : Parsed). p.says) (on.said_is ∙ ap (behind r.says) (parse-at InProxy rest (Faulty fault) front)) ∙ sym (append-nil (r.says ++ BadFraming fault ∷ [])));
+    }
+
+hearing-frame : (all content rest : List ℕ) (leaving0 leaving leaving' : List (ℕ × Option Why)) (core0 core core' : CoreState) (cs0 cs cs' : List ClientState) (queue0 queue queue' : QueueState) (first now new : ServerState) (ended' : Option Ended)
+    → core'.policy ≡ core.policy → first_in InProxy now.rest ≡ Frame content rest → HearingAll all leaving0 leaving core0 cs0 queue0 first core cs queue now None → ServerFrame content rest leaving leaving' core core' cs cs' queue queue' now new ended'
+    → HearingAll all leaving0 leaving' core0 cs0 queue0 first core' cs' queue' new ended'
+hearing-frame all content rest leaving0 leaving leaving' core0 core core' cs0 cs cs' queue0 queue queue' first now new ended' pol front h s = record {
+  noted = h.noted ++ s.hears.noted;
+  leaves = s.hears.leaves ∙ (ap (λ l. l ++ s.hears.noted) h.leaves ∙ append_assoc leaving0 h.noted s.hears.noted);
+  policy = pol ∙ h.policy;
+  present = λ j. s.present j ∙ h.present j;
+  among = among-then cs0 cs h.noted s.hears.noted h.present h.among s.hears.among;
+  reading = keep-then cs0 cs cs' h.reading s.hears.reading;
+  framing = λ e. s.framing ∙ h.framing refl;
+  fault = λ e. s.fault;
+  goes = λ pid picks given rows a.
+      payload-heard core0.policy pid picks given all h.noted s.hears.noted rows core core' cs cs' queue queue' now.rest new.rest content now.index new.index ended' h.policy (front ∙ ap (Frame content) (sym s.left)) s.hears.hears s.present s.next
+      (heard-item core0.policy pid picks given content) (h.goes pid picks given rows a);
+}
+
+hearing-fault : (all : List ℕ) (fault : BadFrame) (leaving0 leaving leaving' : List (ℕ × Option Why)) (core0 core core' : CoreState) (cs0 cs cs' : List ClientState) (queue0 queue queue' : QueueState) (first now new : ServerState) (ended' : Option Ended)
+    → first_in InProxy now.rest ≡ Faulty fault → HearingAll all leaving0 leaving core0 cs0 queue0 first core cs queue now None → ServerFault fault leaving leaving' core core' cs cs' queue queue' now ended'
+    → HearingAll all leaving0 leaving' core0 cs0 queue0 first core' cs' queue' new ended'
+hearing-fault all fault leaving0 leaving leaving' core0 core core' cs0 cs cs' queue0 queue queue' first now new ended' front h s =
+    subst (λ (x : List (ℕ × Option Why)). HearingAll all leaving0 x core0 cs0 queue0 first core' cs' queue' new ended') (sym s.leaving_same)
+    (subst (λ (x : CoreState). HearingAll all leaving0 leaving core0 cs0 queue0 first x cs' queue' new ended') (sym s.core_same)
+    (subst (λ (x : List ClientState). HearingAll all leaving0 leaving core0 cs0 queue0 first core x queue' new ended') (sym s.clients_same)
+    (subst (λ (x : QueueState). HearingAll all leaving0 leaving core0 cs0 queue0 first core cs x new ended') (sym s.queue_same)
+    (subst (λ (x : Option Ended). HearingAll all leaving0 leaving core0 cs0 queue0 first core cs queue new x) (sym s.ends) (record {
+      noted = h.noted;
+      leaves = h.leaves;
+      policy = h.policy;
+      present = h.present;
+      among = h.among;
+      reading = h.reading;
+      framing = λ e. absurd (cc);
+      fault = λ e. absurd (cc);
+      goes = λ pid picks given rows a. heard-fault core0.policy pid picks given all h.noted rows core cs queue now.rest new.rest now.index new.index fault front (h.goes pid picks given rows a);
+    })))))
+
+pub hearing-goes : (all : List ℕ) (leaving0 leaving leaving' : List (ℕ × Option Why)) (core0 core core' : CoreState) (cs0 cs cs' : List ClientState) (queue0 queue queue' : QueueState) (first now new : ServerState) (ended' : Option Ended)
+    → core'.policy ≡ core.policy → HearingAll all leaving0 leaving core0 cs0 queue0 first core cs queue now None → ServerNext true (first_in InProxy now.rest) leaving leaving' core core' cs cs' queue queue' now new None ended'
+    → HearingAll all leaving0 leaving' core0 cs0 queue0 first core' cs' queue' new ended'
+hearing-goes all leaving0 leaving leaving' core0 core core' cs0 cs cs' queue0 queue queue' first now new ended' pol h says = by_front (first_in InProxy now.rest) refl says
+  where
+    by_front : (f : Front) → first_in InProxy now.rest ≡ f → ServerNext true f leaving leaving' core core' cs cs' queue queue' now new None ended' → HearingAll all leaving0 leaving' core0 cs0 queue0 first core' cs' queue' new ended'
+    by_front (Frame content rest) e s = hearing-frame all content rest leaving0 leaving leaving' core0 core core' cs0 cs cs' queue0 queue queue' first now new ended' pol e h s
+    by_front More e s = absurd s
+    by_front (Faulty fault) e s = hearing-fault all fault leaving0 leaving leaving' core0 core core' cs0 cs cs' queue0 queue queue' first now new ended' e h s
+
+-- what was said next, while the run went on, by whether there was anything
+pub turn : (more more' : Bool) (leaving leaving' : List (ℕ × Option Why)) (core core' : CoreState) (cs cs' : List ClientState) (queue queue' : QueueState) (now new : ServerState) (ended ended' : Option Ended)
+    → more ≡ more' → ended ≡ None → ServerNext more (first_in InProxy now.rest) leaving leaving' core core' cs cs' queue queue' now new ended ended' → ServerNext more' (first_in InProxy now.rest) leaving leaving' core core' cs cs' queue queue' now new None ended'
+turn more more' leaving leaving' core core' cs cs' queue queue' now new ended ended' m e says =
+    subst (λ (b : Bool). ServerNext b (first_in InProxy now.rest) leaving leaving' core core' cs cs' queue queue' now new None ended') m
+    (subst (λ (o : Option Ended). ServerNext more (first_in InProxy now.rest) leaving leaving' core core' cs cs' queue queue' now new o ended') e says)
+
+pub none-then : (o : Option Ended) → is_some o ≡ false → o ≡ None
+none-then None e = refl
+none-then (Some cause) e = absurd (cc)
+
+-- ---- which leaves less
+
+-- how much may be read yet
+abbrev pub left_of : Option Ended → List ℕ → ℕ
+left_of None rest = suc (length rest)
+left_of (Some cause) rest = 0
+
+left-less : (ended : Option Ended) (rest bytes : List ℕ) → length rest < length bytes → left_of ended rest < suc (length bytes)
+left-less None rest bytes lt = omega (arith, lt)
+left-less (Some cause) rest bytes lt = omega arith
+
+shorter-at : (bytes : List ℕ) (f : Front) (leaving leaving' : List (ℕ × Option Why)) (core core' : CoreState) (cs cs' : List ClientState) (queue queue' : QueueState) (now new : ServerState) (ended' : Option Ended) → 0 < length bytes → IsShorter (length bytes - 4) f
+    → ServerNext true f leaving leaving' core core' cs cs' queue queue' now new None ended' → left_of ended' new.rest < suc (length bytes)
+shorter-at bytes (Frame content rest) leaving leaving' core core' cs cs' queue queue' now new ended' some short s = left-less ended' new.rest bytes (omega (arith, ap length s.left, short, some))
+shorter-at bytes More leaving leaving' core core' cs cs' queue queue' now new ended' some short s = absurd s
+shorter-at bytes (Faulty fault) leaving leaving' core core' cs cs' queue queue' now new ended' some short s = let e : left_of ended' new.rest ≡ 0 = ap (λ o. left_of o new.rest) s.ends in omega (arith, e)
+
+pub hearing-shorter : (bytes : List ℕ) (leaving leaving' : List (ℕ × Option Why)) (core core' : CoreState) (cs cs' : List ClientState) (queue queue' : QueueState) (now new : ServerState) (ended' : Option Ended)
+    → ServerNext true (first_in InProxy bytes) leaving leaving' core core' cs cs' queue queue' now new None ended' → left_of ended' new.rest < suc (length bytes)
+hearing-shorter [] leaving leaving' core core' cs cs' queue queue' now new ended' s = absurd s
+hearing-shorter (b ∷ bytes) leaving leaving' core core' cs cs' queue queue' now new ended' s = shorter-at (b ∷ bytes) (first_in InProxy (b ∷ bytes)) leaving leaving' core core' cs cs' queue queue' now new ended' (omega arith) (in-shorter InProxy (b ∷ bytes)) s
+
+-- ---- all was heard
+
+hearing-same : (all : List ℕ) (leaving0 leaving leaving' : List (ℕ × Option Why)) (core0 core core' : CoreState) (cs0 cs cs' : List ClientState) (queue0 queue queue' : QueueState) (first now new : ServerState) (ended' : Option Ended) → leaving' ≡ leaving → core' ≡ core → cs' ≡ cs → queue' ≡ queue → new ≡ now → ended' ≡ None
+    → HearingAll all leaving0 leaving core0 cs0 queue0 first core cs queue now None → HearingAll all leaving0 leaving' core0 cs0 queue0 first core' cs' queue' new ended'
+hearing-same all leaving0 leaving leaving' core0 core core' cs0 cs cs' queue0 queue queue' first now new ended' n a b c d e h =
+    subst (λ (x : List (ℕ × Option Why)). HearingAll all leaving0 x core0 cs0 queue0 first core' cs' queue' new ended') (sym n)
+    (subst (λ (x : CoreState). HearingAll all leaving0 leaving core0 cs0 queue0 first x cs' queue' new ended') (sym a)
+    (subst (λ (x : List ClientState). HearingAll all leaving0 leaving core0 cs0 queue0 first core x queue' new ended') (sym b)
+    (subst (λ (x : QueueState). HearingAll all leaving0 leaving core0 cs0 queue0 first core cs x new ended') (sym c)
+    (subst (λ (x : ServerState). HearingAll all leaving0 leaving core0 cs0 queue0 first core cs queue x ended') (sym d)
+    (subst (λ (x : Option Ended). HearingAll all leaving0 leaving core0 cs0 queue0 first core cs queue now x) (sym e) h)))))
+
+-- nothing whole is left
+pub bytes-rest : (bytes : List ℕ) (leaving0 leaving leaving' : List (ℕ × Option Why)) (core0 core core' : CoreState) (cs0 cs cs' : List ClientState) (queue0 queue queue' : QueueState) (first now new : ServerState) (ended' : Option Ended)
+    → HearingAll (first.rest ++ bytes) leaving0 leaving core0 cs0 queue0 first core cs queue now None → ServerNext false (first_in InProxy now.rest) leaving leaving' core core' cs cs' queue queue' now new None ended'
+    → HearsBytes bytes leaving0 leaving' core0 cs0 queue0 first core' cs' queue' new ended'
+bytes-rest bytes leaving0 leaving leaving' core0 core core' cs0 cs cs' queue0 queue queue' first now new ended' h says = by_front (first_in InProxy now.rest) refl says
+  where
+    by_front : (f : Front) → first_in InProxy now.rest ≡ f → ServerNext false f leaving leaving' core core' cs cs' queue queue' now new None ended' → HearsBytes bytes leaving0 leaving' core0 cs0 queue0 first core' cs' queue' new ended'
+    by_front (Frame content rest) e s = absurd s
+    by_front More e s = record {
+      hearing = hearing-same (first.rest ++ bytes) leaving0 leaving leaving' core0 core core' cs0 cs cs' queue0 queue queue' first now new ended' s.leaving_same s.core_same s.clients_same s.queue_same s.same s.ended_same h;
+      whole = λ t. ap (λ (x : ServerState). first_in InProxy x.rest) s.same ∙ e;
+    }
+    by_front (Faulty fault) e s = absurd s
+
+-- the run is over
+pub bytes-over : (bytes : List ℕ) (leaving0 leaving : List (ℕ × Option Why)) (core0 core : CoreState) (cs0 cs : List ClientState) (queue0 queue : QueueState) (first now : ServerState) (cause : Ended)
+    → HearingAll (first.rest ++ bytes) leaving0 leaving core0 cs0 queue0 first core cs queue now (Some cause) → HearsBytes bytes leaving0 leaving core0 cs0 queue0 first core cs queue now (Some cause)
+bytes-over bytes leaving0 leaving core0 core cs0 cs queue0 queue first now cause h = record { hearing = h; whole = λ e. absurd (cc) }
+
+-- ---- with the room
+
+pub record ServerLoop (all : List ℕ) (leaving0 leaving : List (ℕ × Option Why)) (core0 : CoreState) (cs0 : List ClientState) (queue0 : QueueState) (first : ServerState) (core : CoreState) (cs : List ClientState) (queue : QueueState) (now : ServerState) (ended : Option Ended) : Type 0 where
+  pub hearing : HearingAll all leaving0 leaving core0 cs0 queue0 first core cs queue now ended
+  pub room : HasRoom cs queue

@@ -1,0 +1,42 @@
+use Rattle.std.proofs.Common.{◌≡◌, ◌∷◌, [], sym, ◌∙◌, append-nil, arith, true, false}
+use Rattle.ssh_grammar.specs.Frames.{frame_payload}
+use Rattle.mux_clients.specs.State.{refusals_of}
+use Rattle.mux_clients.specs.Among.{HearsNoting, is_present}
+use Rattle.mux_clients.specs.Losing.{loss_between}
+use Rattle.mux_clients.proofs.Keeping.{among-loss, keep-same, keep-set}
+use Rattle.mux_clients.proofs.Noted.{loss-same}
+use Rattle.mux_clients.proofs.Placed.{placed-absent, placed-present, present-set, set-changes}
+use Rattle.mux_clients.proofs.Rooms.{room-at, room-set}
+use Rattle.mux_clients.proofs.among.hear_at.Goals as goal
+
+pub returns-in_ok-note_loss-clause-hears : goal.returns-in_ok-note_loss-clause-hears
+returns-in_ok-note_loss-clause-hears c = record {
+  noted = loss_between c.standing-before.result c.standing.result c.args.number;
+  leaves = c.in_ok-note_loss.ensures;
+  changes = λ here. set-changes c.args.number c.index_of-i.result
+      (HearsNoting c.args.number (frame_payload c.args.payload.now ∷ refusals_of c.args.refusals) (loss_between c.standing-before.result c.standing.result c.args.number) c.args.core.now c.hears.new.core c.args.up.now c.hears.new.up)
+      c.index-clients-i.result c.hears.new.self c.args.clients.now c.index_of-i.ensures c.if-i-clients.true (record {
+        hears = c.in_ok-hears.ensures.stands;
+        noted_is = loss-same c.standing-before.result c.standing.result _ _ c.args.number c.standing-before.ensures c.standing.ensures;
+      });
+  among = among-loss c.args.clients.now c.standing-before.result c.standing.result c.args.number (placed-present c.args.number c.index_of-i.result c.args.clients.now c.index_of-i.ensures c.if-i-clients.true);
+  reading = keep-set c.index_of-i.result c.index-clients-i.result c.hears.new.self c.args.clients.now c.if-i-clients.true c.in_ok-hears.ensures.stands.number c.hears.ensures.reads;
+}
+
+pub returns-else-i-clients-clause-hears : goal.returns-else-i-clients-clause-hears
+returns-else-i-clients-clause-hears c = record {
+  noted = [];
+  leaves = sym (append-nil c.args.leaving.now.items);
+  changes = λ here. absurd (let gone : is_present c.args.clients.now c.args.number ≡ false = placed-absent c.args.number c.args.clients.now (omega (arith, c.index_of-i.ensures)) in let d : false ≡ true = sym gone ∙ here in cc);
+  among = tt;
+  reading = keep-same c.args.clients.now;
+}
+
+pub returns-in_ok-note_loss-clause-present : goal.returns-in_ok-note_loss-clause-present
+returns-in_ok-note_loss-clause-present c = present-set c.index_of-i.result c.index-clients-i.result c.hears.new.self c.args.clients.now c.if-i-clients.true c.in_ok-hears.ensures.stands.number
+
+pub returns-in_ok-note_loss-clause-room : goal.returns-in_ok-note_loss-clause-room
+returns-in_ok-note_loss-clause-room c = room-set c.index_of-i.result c.index-clients-i.result c.hears.new.self c.args.clients.now c.args.up.now c.hears.new.up c.if-i-clients.true c.in_ok-hears.ensures.room
+
+pub hears-requires-clause-room : goal.hears-requires-clause-room
+hears-requires-clause-room c = λ here. room-at c.index_of-i.result c.index-clients-i.result c.args.clients.now c.args.up.now c.if-i-clients.true here c.requires.room

@@ -1,0 +1,33 @@
+use Rattle.std.proofs.Common.{sym, ap, ◌∙◌, refl, List, ℕ}
+use Rattle.mux_core.specs.declared.verdict.Verdict.TheVariants as verdict
+use Rattle.mux_clients.specs.State.{SeatState}
+use Rattle.mux_clients.proofs.Verdicts.{says-quiet, says-answer, says-full, says-drop, quiet-of, on-verdict, keeps_room}
+use Rattle.mux_clients.proofs.seat.Seat.says.Goals as goal
+
+pub returns-in-Sent-clause-stands : goal.returns-in-Sent-clause-stands
+returns-in-Sent-clause-stands c = says-quiet c.in_ok-said.field-0 c.args.payload.now c.args.core.now c.said.new.self c.args.self.now c.args.up.now c.said.new.up (quiet-of _ c.in-Sent.is)
+    (on-verdict c.in_ok-said.field-0 c.in_ok-said.field-0 c.args.payload.now c.args.core.now c.said.new.self c.self.inside.number c.args.self.now.number c.args.up.now c.said.new.up refl (sym (ap (λ (t : SeatState). t.number) c.self.view_is)) c.in_ok-said.ensures.stands)
+
+pub returns-in-Sent-clause-spare : goal.returns-in-Sent-clause-spare
+returns-in-Sent-clause-spare c = keeps_room c.args.up.now c.said.new.up c.args.self.now.standing c.in_ok-said.ensures.spare
+
+pub returns-in-None-clause-stands : goal.returns-in-None-clause-stands
+returns-in-None-clause-stands c =
+    says-answer c.as_bytes.result.now c.args.payload.now c.args.core.now c.said.new.self c.args.self.now c.tell.new.self c.args.up.now c.said.new.up
+    (on-verdict c.in_ok-said.field-0 (verdict.Answer c.as_bytes.result.now) c.args.payload.now c.args.core.now c.said.new.self c.self.inside.number c.args.self.now.number c.args.up.now c.said.new.up
+    (c.in-Answer.is ∙ ap (λ (l : List ℕ). verdict.Answer l) (sym c.as_bytes.ensures.value)) (sym (ap (λ (t : SeatState). t.number) c.self.view_is)) c.in_ok-said.ensures.stands)
+    c.in_ok-tell-in-Answer.ensures.queue (sym c.in_ok-tell-in-Answer.ensures.full ∙ c.in-None.is)
+
+pub returns-in-Some-clause-stands : goal.returns-in-Some-clause-stands
+returns-in-Some-clause-stands c =
+    says-full c.as_bytes.result.now c.args.payload.now c.in-Some.why c.args.core.now c.said.new.self c.leave.new.core c.args.self.now c.tell.new.self c.leave.new.self c.args.up.now c.said.new.up c.leave.new.up
+    (on-verdict c.in_ok-said.field-0 (verdict.Answer c.as_bytes.result.now) c.args.payload.now c.args.core.now c.said.new.self c.self.inside.number c.args.self.now.number c.args.up.now c.said.new.up
+    (c.in-Answer.is ∙ ap (λ (l : List ℕ). verdict.Answer l) (sym c.as_bytes.ensures.value)) (sym (ap (λ (t : SeatState). t.number) c.self.view_is)) c.in_ok-said.ensures.stands)
+    c.in_ok-tell-in-Answer.ensures.queue (sym c.in_ok-tell-in-Answer.ensures.full ∙ c.in-Some.is)
+    c.leave.ensures.seat c.leave.ensures.told
+
+pub returns-in-Drop-clause-stands : goal.returns-in-Drop-clause-stands
+returns-in-Drop-clause-stands c =
+    says-drop c.args.payload.now c.in-Drop.why c.args.core.now c.said.new.self c.leave-in-Drop.new.core c.args.self.now c.leave-in-Drop.new.self c.args.up.now c.said.new.up c.leave-in-Drop.new.up
+    (on-verdict c.in_ok-said.field-0 (verdict.Drop c.in-Drop.why) c.args.payload.now c.args.core.now c.said.new.self c.self.inside.number c.args.self.now.number c.args.up.now c.said.new.up c.in-Drop.is (sym (ap (λ (t : SeatState). t.number) c.self.view_is)) c.in_ok-said.ensures.stands)
+    c.leave-in-Drop.ensures.seat c.leave-in-Drop.ensures.unsent

@@ -1,0 +1,23 @@
+-- The room that lasts in the server's queue for what is said of clients that leave.
+use Rattle.std.specs.Prelude.{◌≤◌, ◌+◌, ◌*◌, ℕ, List, [], ◌∷◌, length, if◌then◌else◌}
+use Rattle.proxy_frames.specs.State.{QueueState}
+use Rattle.client_teardown.specs.declared.farewell.TheConstants.{FAREWELL_ROOM}
+use Rattle.mux_clients.specs.State.{ClientState}
+use Rattle.mux_clients.specs.Stands.{is_lost}
+
+-- the clients that are not lost
+abbrev pub served_in : List ClientState → List ℕ
+served_in [] = []
+served_in (c ∷ cs) = if is_lost c.seat.standing then served_in cs else c.seat.number ∷ served_in cs
+
+-- there is room for the farewell of each of them
+abbrev pub HasRoom : List ClientState → QueueState → Type 0
+HasRoom cs up = FAREWELL_ROOM * length (served_in cs) ≤ up.spare
+
+-- the room that a client's farewell may need yet
+abbrev pub farewell_of : ClientState → ℕ
+farewell_of c = if is_lost c.seat.standing then 0 else FAREWELL_ROOM
+
+-- where a client goes on so, the room for all others stays
+abbrev pub LeavesRoom : QueueState → QueueState → ClientState → ClientState → Type 0
+LeavesRoom up up' x y = up.spare + farewell_of y ≤ up'.spare + farewell_of x

@@ -1,0 +1,53 @@
+-- What is kept of a client, and what one saying of it touches.
+use Rattle.std.specs.Prelude.{◌≤◌, ◌+◌, ℕ, List, ◌++◌, length, drop, replicate, Option}
+use Rattle.ssh_grammar.specs.Frames.{frame_payload}
+use Rattle.ssh_grammar.specs.SpellMessage.{request_failure}
+use Rattle.proxy_frames.specs.State.{QueueState}
+use Rattle.mux_history.specs.declared.why.Why.{Why}
+use Rattle.mux_history.specs.Pending.{joined}
+use Rattle.mux_history.specs.Log.{fitting, overflow}
+use Rattle.client_teardown.specs.declared.farewell.TheConstants.{FAREWELL_ROOM}
+use Rattle.mux_core.specs.State.{CoreState}
+use Rattle.mux_clients.specs.declared.standing.Standing.{Standing}
+use Rattle.mux_clients.specs.declared.standing.Standing.TheVariants.{Lost}
+
+-- a client but for what it says
+pub record SeatState : Type 0 where
+  pub number : ℕ
+  pub standing : Standing
+  pub queue : List ℕ
+
+-- a client: the bytes of it that are not cut yet are kept while it is read
+pub record ClientState : Type 0 where
+  pub seat : SeatState
+  pub rest : List ℕ
+
+-- the shared connection, a client, and what waits for the server
+pub record Part : Type 0 where
+  pub core : CoreState
+  pub seat : SeatState
+  pub up : QueueState
+
+abbrev pub part : CoreState → SeatState → QueueState → Part
+part core seat up = record { core = core; seat = seat; up = up }
+
+-- the frames of so many refusals
+abbrev pub refusals_of : ℕ → List (List ℕ)
+refusals_of n = replicate n (frame_payload request_failure)
+
+-- the room that lasts stays while the client isn't lost, and its loss takes a farewell of it
+abbrev pub KeepsRoom : QueueState → QueueState → Standing → Type 0
+KeepsRoom old new (Lost why) = old.spare ≤ new.spare + FAREWELL_ROOM
+KeepsRoom old new standing = old.spare ≤ new.spare
+
+-- a client that is told these frames, as far as they fit into its queue
+abbrev pub told : List (List ℕ) → SeatState → SeatState
+told fs s = record s { queue = s.queue ++ joined (fitting (length s.queue) fs) }
+
+-- and why it is to be dropped, where they don't
+abbrev pub full_of : List (List ℕ) → SeatState → Option Why
+full_of fs s = overflow (length s.queue) fs
+
+-- so many of the bytes that wait for it were taken
+abbrev pub client_took : ℕ → ClientState → ClientState
+client_took n c = record c { seat = record c.seat { queue = drop n c.seat.queue } }

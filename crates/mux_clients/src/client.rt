@@ -1,0 +1,237 @@
+ghost use Rattle.std.specs.Prelude.{◌≡◌, ◌≤◌, ◌+◌, [], ◌∷◌, ◌++◌, length, IfOk, OnOk, true, false, if◌then◌else◌};
+ghost use Rattle.ssh_grammar.specs.declared.framing.Framing.TheVariants.{Proxy};
+ghost use Rattle.ssh_grammar.specs.IsFrame.{IsContent};
+ghost use Rattle.ssh_grammar.specs.Frames.{frame_payload};
+ghost use Rattle.mux_clients.specs.State.{client_took, part, refusals_of, KeepsRoom};
+ghost use Rattle.mux_clients.specs.Hears.{HearsTold};
+ghost use Rattle.ssh_grammar.specs.Said.{first_in};
+ghost use Rattle.mux_clients.specs.Stands.{is_lost, is_read, mode_of};
+ghost use Rattle.mux_clients.specs.Room.{LeavesRoom};
+ghost use Rattle.mux_clients.specs.Nexts.{SaysNext};
+ghost use Rattle.mux_clients.specs.Pieces.{HearsIn, HearsPiece};
+ghost use Rattle.mux_clients.specs.Losing.{LosesIn};
+ghost use Rattle.mux_clients.specs.Entering.{Enters, new_client};
+
+use crate::decision::decide;
+use crate::heard::Heard;
+use crate::seat::Seat;
+use crate::standing::Standing;
+use client_teardown::FAREWELL_ROOM;
+use mux_core::Core;
+use mux_outside::House;
+use proxy_frames::{Framer, Framing, Next, Queue};
+use ssh_fields::OutOfMemory;
+use std::alloc::Global;
+use std::marker::Model;
+
+/// A client: how it stands, and what it said that isn't cut yet.
+#[derive(Drop)]
+pub struct Client {
+    seat: Seat,
+    framer: Framer,
+}
+
+impl Model for Client {
+    ghost use Rattle.std.specs.Prelude.{◌≡◌, true, None};
+    ghost use Rattle.mux_clients.specs.State.{ClientState};
+    ghost use Rattle.mux_clients.specs.Stands.{is_read, rest_if, framing_of};
+
+    ghost Value = { ClientState };
+
+    ghost view = { λ a. record { seat = a.seat; rest = rest_if (is_read a.seat.standing) a.framer.rest } };
+
+    ghost invariant = { λ a. is_read a.seat.standing ≡ true → (a.framer.framing ≡ framing_of a.seat.standing) × (a.framer.fault ≡ None) };
+}
+
+/// A client comes: whether it is let in. Then the master's hello waits for it, and its own is awaited.
+pub fn admit(
+    clients: &mut Vec<Client>,
+    alloc: Global,
+    number: u64,
+    core: &mut Core,
+) -> Result<bool, OutOfMemory>
+    ensures enters { IfOk result (λ let_in. Enters number core.old core.new clients.old.items clients.new.items let_in) }
+    ensures clients { IfOk result (λ let_in. clients.new.items ≡ (if let_in then clients.old.items ++ new_client number ∷ [] else clients.old.items)) }
+    ensures policy { core.new.policy ≡ core.old.policy }
+{
+    let client = Client::new(alloc, number)?;
+    if !core.admit(number)? {
+        return Ok(false);
+    }
+    clients.push(client)?;
+    Ok(true)
+}
+
+impl Client {
+    /// A client that comes: the master's hello waits for it, and its own is awaited.
+    pub fn new(alloc: Global, number: u64) -> Result<Client, OutOfMemory>
+        ensures { IfOk result (λ client. client ≡ new_client number) }
+    {
+        Ok(Client {
+            seat: Seat::new(alloc, number)?,
+            framer: Framer::new(alloc, Framing::Control),
+        })
+    }
+
+    /// Whether it is lost.
+    pub fn is_lost(&self) -> bool
+        ensures { result ≡ is_lost self.now.seat.standing }
+    {
+        matches!(self.seat.standing(), Standing::Lost(_))
+    }
+
+    /// Its stream is gone: what it left open is closed, where it isn't lost already.
+    pub fn lose(&mut self, core: &mut Core, up: &mut Queue)
+        requires room { is_lost self.old.seat.standing ≡ false → FAREWELL_ROOM ≤ up.old.spare }
+        ensures loses { LosesIn core.old core.new up.old up.new self.old self.new }
+        ensures policy { core.new.policy ≡ core.old.policy }
+        ensures number { self.new.seat.number ≡ self.old.seat.number }
+        ensures spare { up.old.spare ≤ up.new.spare + FAREWELL_ROOM }
+        ensures room { LeavesRoom up.old up.new self.old self.new }
+    {
+        if !self.is_lost() {
+            self.seat.lose(core, up);
+        }
+    }
+
+    /// A piece of its bytes, where it is read.
+    pub fn hear<H: House>(
+        &mut self,
+        pid: u32,
+        bytes: &[u8],
+        house: &mut H,
+        core: &mut Core,
+        up: &mut Queue,
+    ) -> Result<Heard, OutOfMemory>
+        requires room { is_read self.old.seat.standing ≡ true → FAREWELL_ROOM ≤ up.old.spare }
+        ensures number { OnOk result (self.new.seat.number ≡ self.old.seat.number) }
+        ensures room { OnOk result (LeavesRoom up.old up.new self.old self.new) }
+        ensures hears { IfOk result (λ heard. HearsIn H.may (H.told house.old) (H.told house.new) pid bytes.now core.old core.new up.old up.new heard self.old self.new) }
+        ensures policy { OnOk result (core.new.policy ≡ core.old.policy) }
+    {
+        if self.seat.is_read() {
+            return self.got(pid, bytes, house, core, up);
+        }
+        Ok(Heard {
+            stops: false,
+            ended: None,
+        })
+    }
+
+    /// Its number, by which the wire names its stream.
+    pub fn number(&self) -> u64
+        ensures { result ≡ self.now.seat.number }
+    {
+        self.seat.number()
+    }
+
+    /// How it stands.
+    pub fn standing(&self) -> Standing
+        ensures { result ≡ self.now.seat.standing }
+    {
+        self.seat.standing()
+    }
+
+    /// The bytes that wait for it.
+    pub fn queue(&self) -> &[u8]
+        ensures { result.now ≡ self.now.seat.queue }
+    {
+        self.seat.queue()
+    }
+
+    /// So many of them were taken.
+    pub fn took(&mut self, n: usize)
+        requires { n ≤ length self.old.seat.queue }
+        ensures { self.new ≡ client_took n self.old }
+    {
+        self.seat.took(n);
+    }
+
+    /// It hears a payload of the server, and then so many refusals, after the core has heard it. One that is lost hears nothing.
+    pub fn hears(
+        &mut self,
+        payload: &[u8],
+        refusals: u32,
+        core: &mut Core,
+        up: &mut Queue,
+    ) -> Result<(), OutOfMemory>
+        requires payload { IsContent Proxy payload.now }
+        requires room { is_lost self.old.seat.standing ≡ false → FAREWELL_ROOM ≤ up.old.spare }
+        ensures stands { OnOk result (HearsTold (frame_payload payload.now ∷ refusals_of refusals) (part core.old self.old.seat up.old) (part core.new self.new.seat up.new)) }
+        ensures reads { is_lost self.new.seat.standing ≡ false → (self.new.seat.standing ≡ self.old.seat.standing) × (self.new.rest ≡ self.old.rest) }
+        ensures policy { core.new.policy ≡ core.old.policy }
+        ensures room { OnOk result (LeavesRoom up.old up.new self.old self.new) }
+    {
+        if self.is_lost() {
+            return Ok(());
+        }
+        self.seat.hears(payload, refusals, core, up)
+    }
+
+    // What it says next: whether anything whole was there.
+    fn say_next<H: House>(
+        &mut self,
+        pid: u32,
+        heard: &mut Heard,
+        house: &mut H,
+        core: &mut Core,
+        up: &mut Queue,
+    ) -> Result<bool, OutOfMemory>
+        requires read { is_read self.old.seat.standing ≡ true }
+        requires room { FAREWELL_ROOM ≤ up.old.spare }
+        ensures next { IfOk result (λ more. SaysNext H.may (H.told house.old) (H.told house.new) pid more (first_in (mode_of self.old.seat.standing) self.old.rest) core.old core.new up.old up.new self.old heard.old self.new heard.new) }
+        ensures policy { core.new.policy ≡ core.old.policy }
+        ensures number { OnOk result (self.new.seat.number ≡ self.old.seat.number) }
+        ensures spare { OnOk result (KeepsRoom up.old up.new self.new.seat.standing) }
+    {
+        match self.framer.next() {
+            Next::More => Ok(false),
+            Next::Bad(fault) => {
+                self.seat.fails(fault, core, up);
+                Ok(true)
+            }
+            Next::Frame => {
+                if self.seat.is_proxied() {
+                    self.seat.says(self.framer.frame(), core, up)?;
+                    return Ok(true);
+                }
+                let body = self.framer.content();
+                let decision = decide(self.seat.number(), pid, self.seat.is_greeted(), body, house);
+                self.seat.follows(&decision, heard, core, up)?;
+                if self.seat.is_proxied() {
+                    self.framer.switch(Framing::Proxy);
+                }
+                Ok(true)
+            }
+        }
+    }
+
+    /// Its stream gave bytes, where it is read: what they did beyond it.
+    pub fn got<H: House>(
+        &mut self,
+        pid: u32,
+        bytes: &[u8],
+        house: &mut H,
+        core: &mut Core,
+        up: &mut Queue,
+    ) -> Result<Heard, OutOfMemory>
+        requires read { is_read self.old.seat.standing ≡ true }
+        requires room { FAREWELL_ROOM ≤ up.old.spare }
+        ensures hears { IfOk result (λ heard. HearsPiece H.may (H.told house.old) (H.told house.new) pid bytes.now core.old up.old self.old core.new up.new self.new heard) }
+        ensures policy { OnOk result (core.new.policy ≡ core.old.policy) }
+        ensures number { OnOk result (self.new.seat.number ≡ self.old.seat.number) }
+        ensures spare { OnOk result (KeepsRoom up.old up.new self.new.seat.standing) }
+    {
+        let mut heard = Heard {
+            stops: false,
+            ended: None,
+        };
+        self.framer.push(bytes)?;
+        while self.seat.is_read() {
+            if !self.say_next(pid, &mut heard, house, core, up)? {
+                break;
+            }
+        }
+        Ok(heard)
+    }
+}

@@ -1,0 +1,336 @@
+ghost use Rattle.std.specs.Prelude.{◌≡◌, true, false, ◌≤◌, ◌+◌, [], ◌∷◌, drop, length, IfOk, OnOk, OnErr, Some, None};
+ghost use Rattle.ssh_grammar.specs.declared.framing.Framing.TheVariants.{Proxy};
+ghost use Rattle.ssh_grammar.specs.IsFrame.{IsContent};
+ghost use Rattle.ssh_grammar.specs.Frames.{frame_payload};
+ghost use Rattle.mux_core.specs.Calls.{LeavesUnsent, LeavesTold};
+ghost use Rattle.mux_clients.specs.declared.standing.Standing.TheVariants.{Lost};
+ghost use Rattle.mux_clients.specs.State.{full_of, part, refusals_of, told, KeepsRoom};
+ghost use Rattle.mux_clients.specs.Says.{SaysPayload};
+ghost use Rattle.mux_clients.specs.Hears.{HearsTold};
+ghost use Rattle.mux_clients.specs.Losing.{Loses};
+ghost use Rattle.mux_clients.specs.Entering.{new_client};
+ghost use Rattle.mux_clients.specs.declared.standing.Standing.{Standing as TheStanding};
+ghost use Rattle.mux_clients.specs.Decisions.{frames, is_stops, GoesOn, StandsAs};
+ghost use Rattle.mux_clients.specs.Bodies.{FollowsBy};
+ghost use Rattle.mux_clients.specs.declared.heard.Heard.{Heard as TheHeard};
+ghost use Rattle.mux_clients.specs.Nexts.{FaultBy};
+ghost use Rattle.mux_clients.specs.Stands.{is_lost, is_read, is_proxied, is_greeted};
+
+use crate::decision::{Decision, Fate};
+use crate::heard::Heard;
+use crate::standing::Standing;
+use client_teardown::FAREWELL_ROOM;
+use conn_messages::request_failure;
+use mux_core::{Core, Verdict};
+use mux_history::Why;
+use mux_history::limits::MAX_QUEUE;
+use mux_messages::hello;
+use proxy_frames::Queue;
+use ssh_fields::{OutOfMemory, Small};
+use ssh_grammar::BadFrame;
+use std::alloc::Global;
+use std::marker::Model;
+
+/// How many bytes the header of a proxy frame has.
+const HEADER: usize = 5;
+
+/// A client but for what it says: how it stands, and what waits for it.
+#[derive(Drop)]
+pub struct Seat {
+    number: u64,
+    standing: Standing,
+    queue: Queue,
+}
+
+impl Model for Seat {
+    ghost use Rattle.mux_clients.specs.State.{SeatState};
+
+    ghost Value = { SeatState };
+
+    ghost view = { λ a. record { number = a.number; standing = a.standing; queue = a.queue.waiting } };
+}
+
+// How a client stands that goes on so.
+fn standing_by(fate: Fate) -> Standing
+    ensures { (s : TheStanding) → StandsAs fate s → GoesOn fate → result ≡ s }
+{
+    match fate {
+        Fate::Switches => Standing::Proxied,
+        Fate::Unreads => Standing::Unread,
+        Fate::Goes | Fate::Stops | Fate::Ends(_) | Fate::Drops(_) => Standing::Greeted,
+    }
+}
+
+fn stops(fate: Fate) -> bool
+    ensures { result ≡ is_stops fate }
+{
+    matches!(fate, Fate::Stops)
+}
+
+impl Seat {
+    /// A client that comes: the master's hello waits for it.
+    pub fn new(alloc: Global, number: u64) -> Result<Seat, OutOfMemory>
+        ensures { IfOk result (λ seat. seat ≡ (new_client number).seat) }
+    {
+        let mut queue = Queue::new(alloc);
+        queue.push_bytes(hello().as_bytes())?;
+        Ok(Seat {
+            number,
+            standing: Standing::Awaited,
+            queue,
+        })
+    }
+
+    // It is told a payload where the frame fits into the queue; else why it is to be dropped.
+    fn tell(&mut self, payload: &[u8]) -> Result<Option<Why>, OutOfMemory>
+        requires { IsContent Proxy payload.now }
+        ensures queue { OnOk result (self.new ≡ told (frame_payload payload.now ∷ []) self.old) }
+        ensures full { IfOk result (λ full. full ≡ full_of (frame_payload payload.now ∷ []) self.old) }
+        ensures stays { self.new.standing ≡ self.old.standing }
+    {
+        let have = self.queue.len();
+        let want = payload.len() + HEADER;
+        if MAX_QUEUE - want < have {
+            return Ok(Some(Why::QueueFull { have, want }));
+        }
+        self.queue.push_payload(payload)?;
+        Ok(None)
+    }
+
+    // It is told so many refusals, as far as they fit into the queue.
+    fn refuse(&mut self, refusals: u32) -> Result<Option<Why>, OutOfMemory>
+        ensures queue { OnOk result (self.new ≡ told (refusals_of refusals) self.old) }
+        ensures full { IfOk result (λ full. full ≡ full_of (refusals_of refusals) self.old) }
+        ensures stays { self.new.standing ≡ self.old.standing }
+    {
+        let refusal = request_failure();
+        let mut left = refusals;
+        while left > 0 {
+            if let Some(why) = self.tell(refusal.as_bytes())? {
+                return Ok(Some(why));
+            }
+            left -= 1;
+        }
+        Ok(None)
+    }
+
+    // It is told a payload and then so many refusals, as far as they fit into the queue.
+    fn tell_all(&mut self, payload: &[u8], refusals: u32) -> Result<Option<Why>, OutOfMemory>
+        requires { IsContent Proxy payload.now }
+        ensures queue { OnOk result (self.new ≡ told (frame_payload payload.now ∷ refusals_of refusals) self.old) }
+        ensures full { IfOk result (λ full. full ≡ full_of (frame_payload payload.now ∷ refusals_of refusals) self.old) }
+        ensures stays { self.new.standing ≡ self.old.standing }
+    {
+        match self.tell(payload)? {
+            Some(why) => Ok(Some(why)),
+            None => self.refuse(refusals),
+        }
+    }
+
+    // It is dropped, and says farewell.
+    fn leave(&mut self, why: Why, core: &mut Core, up: &mut Queue)
+        requires room { FAREWELL_ROOM ≤ up.old.spare }
+        ensures seat { self.new ≡ record self.old { standing = Lost (Some why) } }
+        ensures out { is_read self.new.standing ≡ false }
+        ensures unsent { LeavesUnsent core.old core.new self.old.number up.old up.new }
+        ensures told { LeavesTold core.old core.new self.old.number up.old up.new }
+        ensures policy { core.new.policy ≡ core.old.policy }
+        ensures spare { up.old.spare ≤ up.new.spare + FAREWELL_ROOM }
+    {
+        self.standing = Standing::Lost(Some(why));
+        core.gone(self.number, up);
+    }
+
+    /// Its stream is gone: what it left open is closed.
+    pub fn lose(&mut self, core: &mut Core, up: &mut Queue)
+        requires room { FAREWELL_ROOM ≤ up.old.spare }
+        ensures loses { Loses (part core.old self.old up.old) (part core.new self.new up.new) }
+        ensures out { is_read self.new.standing ≡ false }
+        ensures policy { core.new.policy ≡ core.old.policy }
+        ensures spare { up.old.spare ≤ up.new.spare + FAREWELL_ROOM }
+    {
+        self.standing = Standing::Lost(None);
+        core.gone(self.number, up);
+    }
+
+    /// Its number, by which the wire names its stream.
+    pub fn number(&self) -> u64
+        ensures { result ≡ self.now.number }
+    {
+        self.number
+    }
+
+    /// How it stands.
+    pub fn standing(&self) -> Standing
+        ensures { result ≡ self.now.standing }
+    {
+        self.standing
+    }
+
+    /// The bytes that wait for it.
+    pub fn queue(&self) -> &[u8]
+        ensures { result.now ≡ self.now.queue }
+    {
+        self.queue.front()
+    }
+
+    /// So many of them were taken.
+    pub fn took(&mut self, n: usize)
+        requires { n ≤ length self.old.queue }
+        ensures { self.new ≡ record self.old { queue = drop n self.old.queue } }
+    {
+        self.queue.took(n);
+    }
+
+    /// Whether what it says is read.
+    pub fn is_read(&self) -> bool
+        ensures { result ≡ is_read self.now.standing }
+    {
+        matches!(
+            self.standing,
+            Standing::Awaited | Standing::Greeted | Standing::Proxied
+        )
+    }
+
+    /// Whether it speaks to the server.
+    pub fn is_proxied(&self) -> bool
+        ensures { result ≡ is_proxied self.now.standing }
+    {
+        matches!(self.standing, Standing::Proxied)
+    }
+
+    /// Whether it has said its hello.
+    pub fn is_greeted(&self) -> bool
+        ensures { result ≡ is_greeted self.now.standing }
+    {
+        !matches!(self.standing, Standing::Awaited)
+    }
+
+    /// What it says is no frame.
+    pub fn fails(&mut self, fault: BadFrame, core: &mut Core, up: &mut Queue)
+        requires room { FAREWELL_ROOM ≤ up.old.spare }
+        ensures faults { (heard : TheHeard) → FaultBy fault (part core.old self.old up.old) heard (part core.new self.new up.new) heard }
+        ensures out { is_read self.new.standing ≡ false }
+        ensures number { self.new.number ≡ self.old.number }
+        ensures policy { core.new.policy ≡ core.old.policy }
+        ensures spare { KeepsRoom up.old up.new self.new.standing }
+    {
+        self.leave(Why::BadFrame(fault), core, up);
+    }
+
+    /// It says a payload.
+    pub fn says(
+        &mut self,
+        payload: &mut [u8],
+        core: &mut Core,
+        up: &mut Queue,
+    ) -> Result<(), OutOfMemory>
+        requires length { length payload.old ≤ 262143 }
+        requires room { FAREWELL_ROOM ≤ up.old.spare }
+        ensures stands { OnOk result (SaysPayload payload.old (part core.old self.old up.old) (part core.new self.new up.new)) }
+        ensures keeps { is_read self.new.standing ≡ true → self.new.standing ≡ self.old.standing }
+        ensures number { OnOk result (self.new.number ≡ self.old.number) }
+        ensures policy { core.new.policy ≡ core.old.policy }
+        ensures spare { OnOk result (KeepsRoom up.old up.new self.new.standing) }
+    {
+        match core.said(self.number, payload, up)? {
+            Verdict::Sent | Verdict::Held | Verdict::Silent => Ok(()),
+            Verdict::Answer(answer) => match self.tell(answer.as_bytes())? {
+                None => Ok(()),
+                Some(why) => {
+                    self.leave(why, core, up);
+                    Ok(())
+                }
+            },
+            Verdict::Drop(why) => {
+                self.leave(why, core, up);
+                Ok(())
+            }
+        }
+    }
+
+    /// It hears a payload of the server, and then so many refusals, after the core has heard it.
+    pub fn hears(
+        &mut self,
+        payload: &[u8],
+        refusals: u32,
+        core: &mut Core,
+        up: &mut Queue,
+    ) -> Result<(), OutOfMemory>
+        requires payload { IsContent Proxy payload.now }
+        requires room { FAREWELL_ROOM ≤ up.old.spare }
+        ensures keeps { is_read self.new.standing ≡ true → self.new.standing ≡ self.old.standing }
+        ensures stays { is_lost self.new.standing ≡ false → self.new.standing ≡ self.old.standing }
+        ensures stands { OnOk result (HearsTold (frame_payload payload.now ∷ refusals_of refusals) (part core.old self.old up.old) (part core.new self.new up.new)) }
+        ensures policy { core.new.policy ≡ core.old.policy }
+        ensures spare { OnOk result (KeepsRoom up.old up.new self.new.standing) }
+    {
+        match self.tell_all(payload, refusals)? {
+            None => Ok(()),
+            Some(why) => {
+                self.leave(why, core, up);
+                Ok(())
+            }
+        }
+    }
+
+    // It is told a control frame, where there is one and it fits into the queue; else why it is to be dropped.
+    fn tell_frame(&mut self, answer: &Option<Small>) -> Result<Option<Why>, OutOfMemory>
+        ensures queue { OnOk result (self.new ≡ told (frames answer.now) self.old) }
+        ensures full { IfOk result (λ full. full ≡ full_of (frames answer.now) self.old) }
+        ensures stays { self.new.standing ≡ self.old.standing }
+    {
+        let Some(frame) = answer else {
+            return Ok(None);
+        };
+        let have = self.queue.len();
+        let want = frame.as_bytes().len();
+        if MAX_QUEUE - want < have {
+            return Ok(Some(Why::QueueFull { have, want }));
+        }
+        self.queue.push_bytes(frame.as_bytes())?;
+        Ok(None)
+    }
+
+    /// It follows what was decided of a control message.
+    pub fn follows(
+        &mut self,
+        decision: &Decision,
+        heard: &mut Heard,
+        core: &mut Core,
+        up: &mut Queue,
+    ) -> Result<(), OutOfMemory>
+        requires room { FAREWELL_ROOM ≤ up.old.spare }
+        ensures err { OnErr result (is_read self.new.standing ≡ true → self.new.standing ≡ self.old.standing) }
+        ensures follows { OnOk result (FollowsBy decision.now (part core.old self.old up.old) heard.old (part core.new self.new up.new) heard.new) }
+        ensures number { OnOk result (self.new.number ≡ self.old.number) }
+        ensures policy { core.new.policy ≡ core.old.policy }
+        ensures spare { OnOk result (KeepsRoom up.old up.new self.new.standing) }
+    {
+        match decision.fate {
+            Fate::Drops(why) => {
+                self.leave(why, core, up);
+                Ok(())
+            }
+            Fate::Ends(cause) => {
+                self.tell_frame(&decision.told)?;
+                self.standing = Standing::Unread;
+                heard.ended = Some(cause);
+                Ok(())
+            }
+            Fate::Goes | Fate::Switches | Fate::Unreads | Fate::Stops => match self.tell_frame(
+                &decision.told,
+            )? {
+                Some(why) => {
+                    self.leave(why, core, up);
+                    Ok(())
+                }
+                None => {
+                    self.standing = standing_by(decision.fate);
+                    heard.stops |= stops(decision.fate);
+                    Ok(())
+                }
+            },
+        }
+    }
+}

@@ -1,0 +1,114 @@
+ghost use Rattle.std.specs.Prelude.{◌≡◌, IfOk, OnOk, None};
+ghost use Rattle.ssh_grammar.specs.declared.framing.Framing.TheVariants.{Proxy as InFrames};
+ghost use Rattle.ssh_grammar.specs.Said.{first_in, InProxy};
+ghost use Rattle.mux_clients.specs.Server.{HearsBytes, ServerNext, new_server, stream_end};
+ghost use Rattle.mux_clients.specs.Room.{HasRoom};
+
+use crate::client::Client;
+use crate::hearing::hear;
+use mux_core::Core;
+use mux_history::{Break, Ended, Why};
+use proxy_frames::{Framer, Framing, Next, Queue};
+use ssh_fields::OutOfMemory;
+use std::alloc::Global;
+use std::marker::Model;
+
+/// The server: what it said that isn't cut yet, and the place of its next frame, counted from 1.
+#[derive(Drop)]
+pub struct Server {
+    framer: Framer,
+    index: u64,
+}
+
+impl Model for Server {
+    ghost use Rattle.mux_clients.specs.Server.{ServerState};
+
+    ghost Value = { ServerState };
+
+    ghost view = { λ a. record { framing = a.framer.framing; fault = a.framer.fault; rest = a.framer.rest; index = a.index } };
+}
+
+impl Server {
+    /// A server that said nothing yet.
+    pub fn new(alloc: Global) -> Server
+        ensures { result ≡ new_server }
+    {
+        Server {
+            framer: Framer::new(alloc, Framing::Proxy),
+            index: 1,
+        }
+    }
+
+    /// How the run ends where its stream ends now.
+    pub fn end(&self) -> Ended
+        ensures { result ≡ stream_end self.now.rest self.now.index }
+    {
+        match self.framer.rest_len() {
+            0 => Ended::ServerEnd,
+            have => Ended::Broke {
+                index: self.index,
+                why: Break::Cut { have },
+            },
+        }
+    }
+
+    // What it says next: whether anything whole was there.
+    fn say_next(
+        &mut self,
+        clients: &mut [Client],
+        ended: &mut Option<Ended>,
+        leaving: &mut Vec<(u64, Option<Why>)>,
+        core: &mut Core,
+        up: &mut Queue,
+    ) -> Result<bool, OutOfMemory>
+        requires cuts { self.old.framing ≡ InFrames }
+        requires well { self.old.fault ≡ None }
+        requires room { HasRoom clients.old up.old }
+        ensures next { IfOk result (λ more. ServerNext more (first_in InProxy self.old.rest) leaving.old.items leaving.new.items core.old core.new clients.old clients.new up.old up.new self.old self.new ended.old ended.new) }
+        ensures room { OnOk result (HasRoom clients.old up.old → HasRoom clients.new up.new) }
+        ensures policy { OnOk result (core.new.policy ≡ core.old.policy) }
+    {
+        match self.framer.next() {
+            Next::More => Ok(false),
+            Next::Bad(fault) => {
+                *ended = Some(Ended::Broke {
+                    index: self.index,
+                    why: Break::Frame(fault),
+                });
+                Ok(true)
+            }
+            Next::Frame => {
+                *ended = hear(clients, self.index, self.framer.frame(), leaving, core, up)?;
+                self.index = self.index.saturating_add(1);
+                Ok(true)
+            }
+        }
+    }
+
+    /// Its stream gave bytes, where it is read: how the run ended by them, if it did. After an end it isn't read again.
+    /// The clients that are lost by it are pushed to `leaving`, in that order, each with the cause.
+    pub fn got(
+        &mut self,
+        clients: &mut [Client],
+        bytes: &[u8],
+        leaving: &mut Vec<(u64, Option<Why>)>,
+        core: &mut Core,
+        up: &mut Queue,
+    ) -> Result<Option<Ended>, OutOfMemory>
+        requires cuts { self.old.framing ≡ InFrames }
+        requires well { self.old.fault ≡ None }
+        requires room { HasRoom clients.old up.old }
+        ensures hears { IfOk result (λ ended. HearsBytes bytes.now leaving.old.items leaving.new.items core.old clients.old up.old self.old core.new clients.new up.new self.new ended) }
+        ensures room { OnOk result (HasRoom clients.old up.old → HasRoom clients.new up.new) }
+        ensures policy { OnOk result (core.new.policy ≡ core.old.policy) }
+    {
+        self.framer.push(bytes)?;
+        let mut ended = None;
+        while ended.is_none() {
+            if !self.say_next(clients, &mut ended, leaving, core, up)? {
+                break;
+            }
+        }
+        Ok(ended)
+    }
+}

@@ -1,0 +1,15 @@
+mod Closes
+mod Comes
+mod Gains
+mod Grows
+mod HeardRows
+mod Hearing
+mod Lists
+mod Loses
+mod Moved
+mod OneClient
+mod Over
+mod Sayings
+mod Still
+mod Takes
+mod Waits

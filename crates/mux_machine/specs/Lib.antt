@@ -1,0 +1,3 @@
+pub mod Moves
+pub mod Stands
+pub mod State

@@ -1,0 +1,139 @@
+-- What an engine keeps.
+use Rattle.std.specs.Prelude.{◌≡◌, ℕ, Bool, true, false, not, List, [], ◌∷◌, ◌++◌, drop, filter, if◌then◌else◌, ◌==◌, ◌||◌, Option, Some, None, is_some, length}
+use Rattle.proxy_frames.specs.Queued.{without_first}
+use Rattle.proxy_frames.specs.State.{QueueState}
+use Rattle.mux_history.specs.declared.why.Why.{Why}
+use Rattle.mux_history.specs.declared.broke.Break.TheVariants as broke
+use Rattle.mux_history.specs.declared.ended.Ended.{Ended}
+use Rattle.mux_history.specs.declared.ended.Ended.TheVariants as ended
+use Rattle.mux_history.specs.Promises.{is_empty}
+use Rattle.mux_outside.specs.Streams.{among, without}
+use Rattle.mux_core.specs.State.{CoreState}
+use Rattle.mux_clients.specs.declared.standing.Standing.{Standing}
+use Rattle.mux_clients.specs.declared.standing.Standing.TheVariants.{Lost}
+use Rattle.mux_clients.specs.State.{ClientState}
+use Rattle.mux_clients.specs.Server.{ServerState}
+use Rattle.mux_clients.specs.Stands.{is_lost}
+use Rattle.mux_clients.specs.Among.{is_present}
+use Rattle.mux_clients.specs.Entering.{new_client}
+
+-- the shared connection; what the server said that isn't cut yet, and what waits for it; the clients in the order in which
+-- they came; those that were refused and not closed; those that are lost or refused and not closed in that order; the streams with something that waits; whether
+-- clients are accepted; and how the run ended
+pub record State : Type 0 where
+  pub pid : ℕ
+  pub core : CoreState
+  pub server : ServerState
+  pub up : QueueState
+  pub clients : List ClientState
+  pub refused : List ℕ
+  pub leaving : List (ℕ × Option Why)
+  pub waiting : List ℕ
+  pub listening : Bool
+  pub ended : Option Ended
+  pub starved : Bool
+
+-- ---- the clients
+
+-- what is looked up in the client of a number, and another answer where there is none
+abbrev pub in_client : {A : Type 0} → A → (ClientState → A) → List ClientState → ℕ → A
+in_client none look [] k = none
+in_client none look (c ∷ cs) k = if c.seat.number == k then look c else in_client none look cs k
+
+abbrev pub numbers : List ClientState → List ℕ
+numbers [] = []
+numbers (c ∷ cs) = c.seat.number ∷ numbers cs
+
+-- a client whose stream was closed
+abbrev pub without_client : ℕ → List ClientState → List ClientState
+without_client k cs = filter (λ c. not (c.seat.number == k)) cs
+
+-- a client as it was
+abbrev pub SameClient : ℕ → List ClientState → List ClientState → Type 0
+SameClient k old new = in_client None (λ c. Some c) new k ≡ in_client None (λ c. Some c) old k
+
+-- ---- the streams, of which 0 is the server's
+
+-- what waits for a stream
+abbrev pub queue_in : State → ℕ → List ℕ
+queue_in s t = if t == 0 then s.up.waiting else in_client [] (λ c. c.seat.queue) s.clients t
+
+-- the bytes that a stream gave and that are not cut yet: none at the end of the run
+abbrev pub rest_in : State → ℕ → List ℕ
+rest_in s t =
+    if is_some s.ended then [] else if t == 0 then s.server.rest else in_client [] (λ c. c.rest) s.clients t
+
+-- the streams with something that waits
+abbrev pub waiting_clients : List ClientState → List ℕ
+waiting_clients [] = []
+waiting_clients (c ∷ cs) = if is_empty c.seat.queue then waiting_clients cs else c.seat.number ∷ waiting_clients cs
+
+abbrev pub waiting_in : State → List ℕ
+waiting_in s = if is_empty s.up.waiting then waiting_clients s.clients else 0 ∷ waiting_clients s.clients
+
+-- ---- losses
+
+-- a client that is lost, with the cause
+abbrev pub loss_in : Standing → ℕ → List (ℕ × Option Why)
+loss_in (Lost why) k = (k, why) ∷ []
+loss_in _ k = []
+
+-- a client that is lost just now, with the cause
+abbrev pub loss_between : Standing → Standing → ℕ → List (ℕ × Option Why)
+loss_between before now k = if is_lost before then [] else loss_in now k
+
+abbrev pub first_of : List (ℕ × Option Why) → Option (ℕ × Option Why)
+first_of [] = None
+first_of (l ∷ ls) = Some l
+
+-- a client whose stream was closed: nothing waits for it any more
+abbrev pub closed_by : State → ℕ → State
+closed_by s k = record s { clients = without_client k s.clients; refused = without k s.refused; leaving = filter (λ (l : ℕ × Option Why). not (l.0 == k)) s.leaving; waiting = without k s.waiting }
+
+-- ---- what was taken
+
+-- the clients with the first of one number changed
+abbrev pub at_client : ℕ → (ClientState → ClientState) → List ClientState → List ClientState
+at_client k f [] = []
+at_client k f (c ∷ cs) = if c.seat.number == k then f c ∷ cs else c ∷ at_client k f cs
+
+abbrev pub client_took : ℕ → ClientState → ClientState
+client_took n c = record c { seat = record c.seat { queue = drop n c.seat.queue } }
+
+-- so many bytes that a stream took, and then the streams that wait
+abbrev pub took : State → ℕ → ℕ → State
+took s t n = if t == 0 then record s { up = without_first n s.up } else record s { clients = at_client t (client_took n) s.clients }
+
+abbrev pub taken : State → ℕ → ℕ → State
+taken s t n = record (took s t n) { waiting = if is_empty (queue_in (took s t n) t) then without t s.waiting else s.waiting }
+
+-- ---- the end of the run
+
+abbrev pub over : State → Ended → State
+over s cause = record s { ended = Some cause }
+
+-- why it ends where the server's stream does: inside a frame that breaks the protocol
+abbrev pub server_cause : State → Ended
+server_cause s = elim s.server.rest [ [] ↦ ended.ServerEnd | b ∷ rest ↦ ended.Broke s.server.index (broke.Cut (length (b ∷ rest))) ]
+
+-- ---- those that are served
+
+-- the clients that are not lost
+abbrev pub served_in : List ClientState → List ℕ
+served_in [] = []
+served_in (c ∷ cs) = if is_lost c.seat.standing then served_in cs else c.seat.number ∷ served_in cs
+
+-- the stream of a client is open: the client was let in, or it was refused and its stream is not closed yet
+abbrev pub is_here : State → ℕ → Bool
+is_here s k = is_present s.clients k || among k s.refused
+
+-- ---- a client comes
+
+-- it is let in, or refused, after which the streams that wait are listed anew
+abbrev pub entered : State → CoreState → QueueState → ℕ → Bool → State
+entered s core' up' k true =
+    let s' = record s { core = core'; up = up'; clients = s.clients ++ new_client k ∷ [] } in
+    record s' { waiting = waiting_in s' }
+entered s core' up' k false =
+    let s' = record s { core = core'; up = up'; refused = s.refused ++ k ∷ []; leaving = s.leaving ++ (k, None) ∷ [] } in
+    record s' { waiting = waiting_in s' }

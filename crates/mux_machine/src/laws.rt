@@ -1,0 +1,50 @@
+//! What happens to an engine: each function's contract is the law.
+
+ghost use Rattle.mux_machine.specs.Moves.{ClosedGoesOn, EnteredGoesOn, GainedGoesOn, HeardGoesOn, LossLaws, OverStays, ServerLaws, TakenGoesOn, UnheardStays};
+
+use mux_outside::House;
+
+/// The stream of the client that was lost first is closed.
+pub fn a_stream_is_closed()
+    ensures { ClosedGoesOn }
+{}
+
+/// Bytes are taken of what waits for a stream.
+pub fn bytes_are_taken()
+    ensures { TakenGoesOn }
+{}
+
+/// After the end of the run nothing changes.
+pub fn an_end_stays()
+    ensures { OverStays }
+{}
+
+/// The server's stream ends or fails.
+pub fn the_server_ends()
+    ensures { ServerLaws }
+{}
+
+/// A client comes, and is let in or refused.
+pub fn a_client_comes()
+    ensures { EnteredGoesOn }
+{}
+
+/// The stream of a client is gone.
+pub fn a_client_is_lost()
+    ensures { LossLaws }
+{}
+
+/// A client that is read gave bytes, by which a house may have been asked.
+pub fn a_client_is_heard<H: House>()
+    ensures { GainedGoesOn H.may }
+{}
+
+/// Bytes of a client that isn't read are passed over.
+pub fn a_client_is_not_read<H: House>()
+    ensures { UnheardStays H.may }
+{}
+
+/// The server gave bytes.
+pub fn the_server_is_heard()
+    ensures { HeardGoesOn }
+{}
