@@ -3,5 +3,7 @@
 #![tactic(auto)]
 
 mod resolution;
+#[cfg(test)]
+mod tests;
 
 pub use resolution::resolve;
