@@ -5,6 +5,7 @@ pub mod Closed
 pub mod Closing
 pub mod Counts
 pub mod Covers
+pub mod Early
 pub mod Entries
 pub mod Farewells
 pub mod Few

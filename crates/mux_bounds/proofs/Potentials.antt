@@ -10,7 +10,7 @@ use Rattle.mux_history.specs.Log.{more_all, more_of}
 use Rattle.mux_history.specs.Pending.{pending_up}
 use Rattle.mux_history.specs.Policy.{Policy}
 use Rattle.mux_history.specs.Requests.{asks, asks_of, is_sent, replies, reply_in, wanted_by}
-use Rattle.mux_history.specs.Rows.{Admit, BadServer, Gone, Heard, Item, Row, RunEnd, Says, ServerCut, ServerEnd, ServerFailed, Took, Unserved}
+use Rattle.mux_history.specs.Rows.{Admit, BadServer, Gone, Heard, Item, Row, RunEnd, Says, ServerCut, ServerEnd, ServerFailed, Took}
 use Rattle.mux_history.specs.Steps.{one_if}
 use Rattle.mux_history.proofs.LawfulItems.{treat-item}
 use Rattle.mux_history.proofs.MattersSteps.{admits_one}
@@ -102,7 +102,6 @@ owed-row policy pid before row facts mute = by_item row.item refl mute
     by_item ServerFailed e m = let s = still ServerFailed e refl refl refl refl in omega (arith, s)
     by_item (Took stream size) e m = let s = still (Took stream size) e refl refl refl refl in omega (arith, s)
     by_item (RunEnd cause) e m = let s = still (RunEnd cause) e refl refl refl refl in omega (arith, s)
-    by_item Unserved e m = let s = still Unserved e refl refl refl refl in omega (arith, s)
 
 -- ---- the rows of some items
 

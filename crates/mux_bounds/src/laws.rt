@@ -1,4 +1,5 @@
 ghost use Rattle.std.specs.Prelude.{◌≡◌};
+ghost use Rattle.mux_bounds.specs.Awaited.{RepliesAreAwaited};
 ghost use Rattle.mux_bounds.specs.Few.{NothingIsLeft, ChannelsAreFew, ForwardingsAreFew, RequestsAreFew, ClientsAreFew};
 ghost use Rattle.mux_bounds.specs.Bounds.{CancelsAreShort, FarewellsAreShort, longest_cancel, longest_farewell, longest_farewells};
 ghost use Rattle.mux_bounds.specs.Bounds.{RowsAddLittle, MarksAddLittle, ServerQueueIsBounded, RunsAreBounded, RestsAreShort};
@@ -26,6 +27,12 @@ pub fn requests_are_few()
 /// At no row do more than 64 clients have open matters.
 pub fn clients_are_few()
     ensures { ClientsAreFew }
+{}
+
+/// While the run goes on, no reply of a client came before its request: the view has none that is
+/// early.
+pub fn replies_are_awaited()
+    ensures { RepliesAreAwaited }
 {}
 
 /// A cancel of a key that may be asked for is at most 308 bytes as a frame, a farewell 28,928, and those of

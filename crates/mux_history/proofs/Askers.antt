@@ -12,7 +12,7 @@ use Rattle.mux_history.specs.Ledger.{asked}
 use Rattle.mux_history.specs.Log.{admits, bare, heard_row, said_by_client, treat}
 use Rattle.mux_history.specs.Policy.{Policy}
 use Rattle.mux_history.specs.Requests.{Ask, asker, asks, asks_of, is_reply, is_sent, replies, reply_in, wanted_by}
-use Rattle.mux_history.specs.Rows.{Admit, BadServer, Gone, Heard, Item, Row, RunEnd, Says, ServerCut, ServerEnd, ServerFailed, Took, Unserved, is_end, rows_of}
+use Rattle.mux_history.specs.Rows.{Admit, BadServer, Gone, Heard, Item, Row, RunEnd, Says, ServerCut, ServerEnd, ServerFailed, Took, is_end, rows_of}
 use Rattle.mux_history.specs.Said.{silent}
 use Rattle.ssh_grammar.specs.Messages.{Cancel, Forward, Global, KeepAlive, OtherName}
 use Rattle.ssh_grammar.specs.SpellMessage.{wants}
@@ -232,7 +232,6 @@ orderly-treat policy pid pick before (Says k saying reply) orderly going = row-p
 orderly-treat policy pid pick before (Gone k) orderly going = row-parts (OrderlyNext before) (Gone k) k silent (rows_of k before) (λ fw parting down fate going'. orderly-still _ before refl orderly) going
 orderly-treat policy pid pick before (Heard p) orderly going = orderly-heard before orderly p (dest before p) refl going
 orderly-treat policy pid pick before (Took stream size) orderly going = orderly-still _ before refl orderly
-orderly-treat policy pid pick before Unserved orderly going = orderly-still _ before refl orderly
 orderly-treat policy pid pick before (RunEnd cause) orderly going = orderly-still _ before refl orderly
 orderly-treat policy pid pick before (BadServer fault) orderly going = cc
 orderly-treat policy pid pick before ServerEnd orderly going = cc

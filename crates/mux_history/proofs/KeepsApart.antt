@@ -12,7 +12,7 @@ use Rattle.mux_history.specs.Kept.{Every}
 use Rattle.mux_history.specs.Log.{admits, bare, heard_row, said_by_client, treat}
 use Rattle.mux_history.specs.Policy.{Policy}
 use Rattle.mux_history.specs.Right.{carried_number}
-use Rattle.mux_history.specs.Rows.{Admit, BadServer, Fate, Gone, Heard, Item, Row, RunEnd, Says, ServerCut, ServerEnd, ServerFailed, Took, Unserved, any_of, rows_of}
+use Rattle.mux_history.specs.Rows.{Admit, BadServer, Fate, Gone, Heard, Item, Row, RunEnd, Says, ServerCut, ServerEnd, ServerFailed, Took, any_of, rows_of}
 use Rattle.mux_history.specs.Said.{Outcome, drops, said_gist, said_payload, silent}
 use Rattle.mux_outside.specs.declared.house.HouseReply.{HouseReply}
 use Rattle.ssh_fields.specs.Fields.{AreBytes}
@@ -332,4 +332,3 @@ good-treat policy pid pick before (ServerCut left) good lawful fresh = good-bare
 good-treat policy pid pick before ServerFailed good lawful fresh = good-bare before good ServerFailed (finishes ended.ServerFailed) tt refl
 good-treat policy pid pick before (Took stream size) good lawful fresh = good-mute before good (bare (Took stream size) stream silent) tt refl (λ x. refl) refl
 good-treat policy pid pick before (RunEnd cause) good lawful fresh = good-bare before good (RunEnd cause) silent tt refl
-good-treat policy pid pick before Unserved good lawful fresh = good-bare before good Unserved silent tt refl

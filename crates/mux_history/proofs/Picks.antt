@@ -12,7 +12,7 @@ use Rattle.mux_history.specs.Log.{admits, bare, heard_row, log_of, makes_next, m
 use Rattle.mux_history.specs.Policy.{Policy}
 use Rattle.mux_history.specs.Requests.{is_sent}
 use Rattle.mux_history.specs.Right.{IsRight, TakesPick, carried_number}
-use Rattle.mux_history.specs.Rows.{Admit, BadServer, Fate, Gone, Heard, Item, Row, RunEnd, Says, ServerCut, ServerEnd, ServerFailed, Took, Unserved, any_of, rows_of}
+use Rattle.mux_history.specs.Rows.{Admit, BadServer, Fate, Gone, Heard, Item, Row, RunEnd, Says, ServerCut, ServerEnd, ServerFailed, Took, any_of, rows_of}
 use Rattle.mux_history.specs.Said.{Outcome, drops, said_gist, said_payload, silent}
 use Rattle.mux_history.specs.Settings.{by_lists}
 use Rattle.mux_outside.specs.declared.house.HouseReply.{HouseReply}
@@ -83,7 +83,6 @@ treat-taken policy pid pick before ServerEnd lawful = unowned-taken pick (treat 
 treat-taken policy pid pick before (ServerCut left) lawful = unowned-taken pick (treat policy pid pick before (ServerCut left)) refl
 treat-taken policy pid pick before ServerFailed lawful = unowned-taken pick (treat policy pid pick before ServerFailed) refl
 treat-taken policy pid pick before (RunEnd cause) lawful = unowned-taken pick (treat policy pid pick before (RunEnd cause)) refl
-treat-taken policy pid pick before Unserved lawful = unowned-taken pick (treat policy pid pick before Unserved) refl
 
 module _ (policy : Policy) (pid : ℕ) (picks : List ℕ) (replies : List HouseReply) where
   more-taken : (rows : List Row) (before : List Item) (item : Item) → ((j : ℕ) → any_of (admits_client j) before ≡ false → any_of (λ row. admits_client j row.item) rows ≡ false) → LawfulIn before item → ForEach (TakesPick (FromLists picks replies)) rows → ForEach (TakesPick (FromLists picks replies)) (more_of (by_lists policy pid picks replies) rows item)

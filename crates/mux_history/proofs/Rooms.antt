@@ -12,7 +12,7 @@ use Rattle.mux_history.specs.Laws.{IsAccounted, IsWithin, RoomsHold, kept, with_
 use Rattle.mux_history.specs.Ledger.{answered, asked, breach, carried, other_side, room, sum_of, unanswered}
 use Rattle.mux_history.specs.Log.{admits, all_told, bare, heard_row, queued, row_of, treat}
 use Rattle.mux_history.specs.Policy.{Policy}
-use Rattle.mux_history.specs.Rows.{Admit, BadServer, Fate, Gone, Heard, Item, Row, RunEnd, Says, ServerCut, ServerEnd, ServerFailed, Took, Unserved, rows_of}
+use Rattle.mux_history.specs.Rows.{Admit, BadServer, Fate, Gone, Heard, Item, Row, RunEnd, Says, ServerCut, ServerEnd, ServerFailed, Took, rows_of}
 use Rattle.mux_history.specs.Said.{Outcome, confirmed_at, drops, is_failing, on_breach, on_confirmed, on_waiting, said_gist, said_payload, said_within, sends, silent, waiting_at}
 use Rattle.mux_outside.specs.declared.house.HouseReply.{HouseReply}
 use Rattle.ssh_fields.specs.Fields.{AreBytes}
@@ -446,7 +446,6 @@ accounts-treat policy pid pick before ServerEnd good lawful = master-item before
 accounts-treat policy pid pick before (ServerCut left) good lawful = master-item before (treat policy pid pick before (ServerCut left)) good refl tt
 accounts-treat policy pid pick before ServerFailed good lawful = master-item before (treat policy pid pick before ServerFailed) good refl tt
 accounts-treat policy pid pick before (RunEnd cause) good lawful = master-item before (treat policy pid pick before (RunEnd cause)) good refl tt
-accounts-treat policy pid pick before Unserved good lawful = master-item before (treat policy pid pick before Unserved) good refl tt
 
 -- ---- every row
 

@@ -5,7 +5,6 @@ use Rattle.std.proofs.lemmas.List.Elements.{filter-append}
 use Rattle.mux_history.specs.Channels.{Channel, after_farewell, after_item, begun_by, channels_of, heard_by, held_of, is_held, is_number, own_of, with_down, with_up, with_ups}
 use Rattle.mux_history.specs.Gist.{Carries, Confirmation, Gist, Within, read_gist, reading}
 use Rattle.mux_history.specs.Ledger.{initial, room}
-use Rattle.mux_history.specs.NotBuilt.{leaves}
 use Rattle.mux_history.specs.Rows.{Heard, Item, Row}
 use Rattle.ssh_grammar.specs.declared.side.Side.{Side}
 use Rattle.ssh_grammar.specs.declared.side.Side.TheVariants.{Down, Up}

@@ -1,29 +1,25 @@
 -- What a stream took and what waits for it make up what it is given.
-use Rattle.std.proofs.Common.{◌≡◌, ℕ, Option, Some, None, List, [], ◌∷◌, ◌++◌, true, false, Bool, refl, ◌∙◌, ap, sym, subst, map, drop, length, append_assoc, arith}
+use Rattle.std.proofs.Common.{◌≡◌, ℕ, Some, None, List, [], ◌∷◌, ◌++◌, true, false, Bool, refl, ◌∙◌, ap, sym, subst, map, drop, length, append_assoc, arith}
 use Rattle.std.specs.Prelude.{◌==◌, ◌&&◌}
 use Rattle.std.proofs.lemmas.List.{append-nil}
 use Rattle.std.proofs.Math.Seq.{drop-append_seam}
 use Rattle.std.proofs.lemmas.Bool.Decides.{nat_tests}
 use Rattle.mux_history.specs.Choices.{Choices, FromLists, TheirOwn, pick_of, replies_given, reply_at, with_reply}
 use Rattle.mux_history.specs.Controls.{body_asks, greeted}
-use Rattle.mux_history.specs.Journal.{built_items, bytes_of, control_items, heard_item, items, items_in, log_of_journal, new_heard, new_sayings, new_spoken, said_item, server_end, server_gives, taken_by, taken_in}
+use Rattle.mux_history.specs.Journal.{bytes_of, heard_item, items, items_in, log_of_journal, new_heard, new_sayings, said_item, server_end, taken_by, taken_in}
 use Rattle.mux_history.specs.Laws.{AddsUp}
 use Rattle.mux_history.specs.Log.{Setting, bare, is_took, makes_next, more_all, more_of, next_row, treat}
-use Rattle.mux_history.specs.NotBuilt.{Form, GlobalRequest, LossOfMatters, ProxyMode, ServerSays, built, fate_if, form_row, in_global, leaves, otherwise, proxy_outcome, server_fate, skips_proxy, skips_server, unbuilt}
 use Rattle.mux_history.specs.Pending.{given_by, given_to, joined, pending, pending_down, pending_up, took_by, took_up}
 use Rattle.mux_history.specs.Promises.{IsFront, TakesFront, Throughout}
-use Rattle.mux_history.specs.declared.why.Why.TheVariants as why
-use Rattle.mux_history.specs.declared.ended.Ended.TheVariants as ended
-use Rattle.mux_history.specs.Rows.{Drop, End, Fate, Gone, Item, Row, Says, ServerFailed, Took, Unserved, loses, rows_of, sent_by}
-use Rattle.mux_history.specs.Said.{Outcome, silent}
+use Rattle.mux_history.specs.Rows.{Gone, Item, Row, Says, ServerFailed, Took, rows_of, sent_by}
+use Rattle.mux_history.specs.Said.{silent}
 use Rattle.mux_outside.specs.declared.mark.Mark.{Mark}
 use Rattle.mux_outside.specs.declared.mark.Mark.TheVariants.{Accepts, Frees, Gets, Takes, Waits, WriteFails}
 use Rattle.ssh_grammar.specs.Frames.{frame_payload}
-use Rattle.ssh_grammar.specs.ReadMessage.{forms}
 use Rattle.ssh_grammar.specs.Said.{BadFraming, Body, InProxy, Payload, Saying, parse}
 use Rattle.mux_outside.specs.declared.mark.Mark.TheVariants as wire
 use Rattle.mux_history.proofs.Finds.{filter-no, filter-yes}
-use Rattle.mux_history.proofs.LawfulItems.{item-of, treat-item}
+use Rattle.mux_history.proofs.LawfulItems.{treat-item}
 use Rattle.mux_history.proofs.Nexts.{next-took}
 
 -- ---- a row that is not taken adds to what waits
@@ -52,24 +48,6 @@ pending-still t row rows still = by_stream (t == 0)
 
 -- ---- what makes a row
 
-unbuilt-item : (o : Option Fate) (row : Row) → (unbuilt o row).item ≡ row.item
-unbuilt-item None row = refl
-unbuilt-item (Some fate) row = refl
-
-otherwise-item : (o : Option Outcome) (row : Row) (own : List Row) → (otherwise o row own).item ≡ row.item
-otherwise-item None row own = refl
-otherwise-item (Some o) row own = item-of row.item row.client o own
-
-form-item : (form : Form) (row : Row) (own : List Row) → (form_row form row own).item ≡ row.item
-form-item ProxyMode row own = otherwise-item (proxy_outcome row.item own) row own
-form-item ServerSays row own = unbuilt-item (server_fate row.item) row
-form-item GlobalRequest row own = unbuilt-item (fate_if (in_global row.item) (Drop why.NotBuilt)) row
-form-item LossOfMatters row own = unbuilt-item (fate_if (loses row && leaves own) (End ended.NotBuilt)) row
-
-built-item : (forms : List Form) (row : Row) (own : List Row) → (built forms row own).item ≡ row.item
-built-item [] row own = refl
-built-item (form ∷ forms) row own = built-item forms (form_row form row own) own ∙ form-item form row own
-
 reply-took : (choices : Choices) (rows : List Row) (item : Item) → is_took (with_reply choices rows item) ≡ is_took item
 reply-took (FromLists picks given) rows (Says k (Body body) old) = elim (greeted (rows_of k rows) && body_asks body) as (λ b. is_took (elim b as (λ _. Item) [ true ↦ Says k (Body body) (Some (reply_at given (replies_given rows))) | false ↦ Says k (Body body) None ]) ≡ false) [ true ↦ refl | false ↦ refl ]
 reply-took (FromLists picks given) rows (Says k (Payload p) old) = refl
@@ -79,11 +57,8 @@ reply-took TheirOwn rows item = refl
 
 next-still : (setting : Setting) (rows : List Row) (item : Item) → is_took item ≡ false → IsStill (next_row setting rows item)
 next-still setting rows item still =
-    ap is_took (built-item setting.missing the_row (rows_of the_row.client rows) ∙ treat-item setting.policy setting.pid (pick_of setting.choices rows item) rows (with_reply setting.choices rows item))
+    ap is_took (treat-item setting.policy setting.pid (pick_of setting.choices rows item) rows (with_reply setting.choices rows item))
     ∙ (reply-took setting.choices rows item ∙ still)
-  where
-    the_row : Row
-    the_row = treat setting.policy setting.pid (pick_of setting.choices rows item) rows (with_reply setting.choices rows item)
 
 -- ---- items that are not taken
 
@@ -112,22 +87,14 @@ holds-all setting t taken rows (item ∷ items) still h = holds-all setting t ta
 
 -- ---- what is taken
 
--- no form is of it
-built-took : (forms : List Form) (t n : ℕ) (own : List Row) → built forms (bare (Took t n) t silent) own ≡ bare (Took t n) t silent
-built-took [] t n own = refl
-built-took (ProxyMode ∷ forms) t n own = built-took forms t n own
-built-took (ServerSays ∷ forms) t n own = built-took forms t n own
-built-took (GlobalRequest ∷ forms) t n own = built-took forms t n own
-built-took (LossOfMatters ∷ forms) t n own = built-took forms t n own
-
 more-took : (setting : Setting) (rows : List Row) (t n : ℕ) → more_of setting rows (Took t n) ≡ bare (Took t n) t silent ∷ rows
 more-took setting rows t n =
     ap (λ b. elim b as (λ _. List Row) [ false ↦ rows | true ↦ next_row setting rows (Took t n) ∷ rows ]) (next-took rows t n)
     ∙ ap (λ row. row ∷ rows) (by_choices setting.choices)
   where
-    by_choices : (choices : Choices) → built setting.missing (treat setting.policy setting.pid (pick_of choices rows (Took t n)) rows (with_reply choices rows (Took t n))) (rows_of (treat setting.policy setting.pid (pick_of choices rows (Took t n)) rows (with_reply choices rows (Took t n))).client rows) ≡ bare (Took t n) t silent
-    by_choices (FromLists picks given) = built-took setting.missing t n (rows_of t rows)
-    by_choices TheirOwn = built-took setting.missing t n (rows_of t rows)
+    by_choices : (choices : Choices) → treat setting.policy setting.pid (pick_of choices rows (Took t n)) rows (with_reply choices rows (Took t n)) ≡ bare (Took t n) t silent
+    by_choices (FromLists picks given) = refl
+    by_choices TheirOwn = refl
 
 given-took : (t s n : ℕ) → given_by t (bare (Took s n) s silent) ≡ []
 given-took t s n = by_stream (t == 0) (s == t)
@@ -197,24 +164,6 @@ end-still (b ∷ rest) = refl
 gone-still : (stream : ℕ) (item : Item) → is_took item ≡ false → AreStill (elim (stream == 0) as (λ _. List Item) [ true ↦ item ∷ [] | false ↦ Gone stream ∷ [] ])
 gone-still stream item still = elim (stream == 0) as (λ b. AreStill (elim b as (λ _. List Item) [ true ↦ item ∷ [] | false ↦ Gone stream ∷ [] ])) [ true ↦ (still, tt) | false ↦ (refl, tt) ]
 
--- the same where no PROXY is served
-still-control : (before : List Mark) (m : Mark) → AreStill (items_in before m) → AreStill (control_items before m)
-still-control before (wire.Gets stream bytes) still = elim (stream == 0) as (λ b. AreStill (elim b as (λ _. List Item) [ true ↦ new_heard (bytes_of 0 before) (bytes_of 0 before ++ bytes) | false ↦ new_spoken stream (bytes_of stream before) (bytes_of stream before ++ bytes) ])) [ true ↦ heard-still _ | false ↦ said-still stream _ ]
-still-control before m still = still
-
--- a mark at which nothing is taken
-still-built : (missing : List Form) (before : List Mark) (m : Mark) → AreStill (items_in before m) → AreStill (built_items missing before m)
-still-built missing before m still = by_server (skips_server missing && server_gives m) (skips_proxy missing)
-  where
-    by_server : (a b : Bool) → AreStill (elim a as (λ _. List Item) [ true ↦ Unserved ∷ [] | false ↦ elim b as (λ _. List Item) [ true ↦ control_items before m | false ↦ items_in before m ] ])
-    by_server true b = (refl, tt)
-    by_server false true = still-control before m still
-    by_server false false = still
-
-and-false : (b : Bool) → (b && false) ≡ false
-and-false true = refl
-and-false false = refl
-
 module _ (setting : Setting) (before : List Mark) (t : ℕ) (known : Holds t (taken_by t before) (log_of_journal setting before)) where
   abbrev log : List Row
   log = log_of_journal setting before
@@ -223,7 +172,7 @@ module _ (setting : Setting) (before : List Mark) (t : ℕ) (known : Holds t (ta
   nothing m none still =
       ap (λ xs. (taken_by t before ++ xs) ++ pending t (log_of_journal setting (m ∷ before))) none
       ∙ (ap (λ xs. xs ++ pending t (log_of_journal setting (m ∷ before))) (append-nil (taken_by t before))
-      ∙ holds-all setting t (taken_by t before) log (built_items setting.missing before m) (still-built setting.missing before m still) known)
+      ∙ holds-all setting t (taken_by t before) log (items_in before m) still known)
 
   pub one-mark : (m : Mark) → TakesFront setting before m → taken_by t (m ∷ before) ++ pending t (log_of_journal setting (m ∷ before)) ≡ given_to t (log_of_journal setting (m ∷ before))
   one-mark (wire.Accepts k) front = nothing (wire.Accepts k) refl (refl, tt)
@@ -237,13 +186,8 @@ module _ (setting : Setting) (before : List Mark) (t : ℕ) (known : Holds t (ta
   one-mark (wire.Takes stream bytes) front =
       subst (λ (rows : List Row). taken_by t (wire.Takes stream bytes ∷ before) ++ pending t rows ≡ given_to t rows) (sym rows_are) (holds-took t stream (taken_by t before) bytes log front known)
     where
-      by_proxy : (b : Bool) → more_all setting log (elim b as (λ _. List Item) [ true ↦ Took stream (length bytes) ∷ [] | false ↦ Took stream (length bytes) ∷ [] ]) ≡ more_of setting log (Took stream (length bytes))
-      by_proxy true = refl
-      by_proxy false = refl
-
       rows_are : log_of_journal setting (wire.Takes stream bytes ∷ before) ≡ bare (Took stream (length bytes)) stream silent ∷ log
-      rows_are = ap (λ b. more_all setting log (elim b as (λ _. List Item) [ true ↦ Unserved ∷ [] | false ↦ elim (skips_proxy setting.missing) as (λ _. List Item) [ true ↦ Took stream (length bytes) ∷ [] | false ↦ Took stream (length bytes) ∷ [] ] ])) (and-false (skips_server setting.missing))
-          ∙ (by_proxy (skips_proxy setting.missing) ∙ more-took setting log stream (length bytes))
+      rows_are = more-took setting log stream (length bytes)
 
 pub adds-up : (setting : Setting) (marks : List Mark) → Throughout (TakesFront setting) marks → AddsUp setting marks
 adds-up setting [] fronts t = by_stream (t == 0)

@@ -1,11 +1,10 @@
 -- What a wire was seen to do, the newest mark first, and the items that it gives.
-use Rattle.std.specs.Prelude.{ℕ, ◌==◌, ◌≡◌, ◌<◌, ◌≤◌, List, [], ◌∷◌, ◌++◌, None, Option, Bool, true, ◌&&◌, ◌||◌, if◌then◌else◌, option_map, false, length, drop, map, reverse, All, IsTrue}
+use Rattle.std.specs.Prelude.{ℕ, ◌==◌, ◌≡◌, ◌<◌, ◌≤◌, List, [], ◌∷◌, ◌++◌, None, Option, Bool, true, ◌||◌, if◌then◌else◌, option_map, false, length, drop, map, reverse, All, IsTrue}
 use Rattle.mux_outside.specs.declared.mark.Mark.{Mark}
 use Rattle.mux_outside.specs.declared.mark.Mark.TheVariants.{Waits, Accepts, Gets, Ends, Frees, Fails, Takes, Holds, WriteFails}
 use Rattle.ssh_fields.specs.Fields.{AreBytes}
-use Rattle.ssh_grammar.specs.Said.{Saying, Body, Payload, BadFraming, said, InControl, InProxy, parse}
-use Rattle.mux_history.specs.Rows.{Item, Admit, Says, Gone, Heard, BadServer, ServerEnd, ServerCut, ServerFailed, Took, Unserved, Row}
-use Rattle.mux_history.specs.NotBuilt.{Form, skips_server, skips_proxy, spoken}
+use Rattle.ssh_grammar.specs.Said.{Saying, Body, Payload, BadFraming, said, InProxy, parse}
+use Rattle.mux_history.specs.Rows.{Item, Admit, Says, Gone, Heard, BadServer, ServerEnd, ServerCut, ServerFailed, Took, Row}
 use Rattle.mux_history.specs.Log.{Setting, more_all}
 
 -- ---- what streams gave and took
@@ -86,39 +85,11 @@ abbrev pub items : List Mark → List Item
 items [] = []
 items (mark ∷ before) = reverse (items_in before mark) ++ items before
 
--- the server gave bytes
-abbrev pub server_gives : Mark → Bool
-server_gives (Gets stream bytes) = stream == 0
-server_gives _ = false
-
--- what a client says by its new bytes, where a PROXY is not served
-abbrev pub new_spoken : ℕ → List ℕ → List ℕ → List Item
-new_spoken k before after =
-    map (said_item k) (drop (length (spoken InControl before).says) (spoken InControl after).says)
-
--- the items of a mark then
-abbrev pub control_items : List Mark → Mark → List Item
-control_items before (Gets stream bytes) = elim (stream == 0) [
-  | true ↦ new_heard (bytes_of 0 before) (bytes_of 0 before ++ bytes)
-  | false ↦ new_spoken stream (bytes_of stream before) (bytes_of stream before ++ bytes)
-]
-control_items before mark = items_in before mark
-
--- the items as far as they are read
-abbrev pub built_items : List Form → List Mark → Mark → List Item
-built_items missing before mark = elim (skips_server missing && server_gives mark) [
-  | true ↦ Unserved ∷ []
-  | false ↦ elim (skips_proxy missing) [
-    | true ↦ control_items before mark
-    | false ↦ items_in before mark
-  ]
-]
-
 -- the rows of what was seen: each mark adds those of its items
 abbrev pub log_of_journal : Setting → List Mark → List Row
 log_of_journal setting [] = []
 log_of_journal setting (mark ∷ before) =
-    more_all setting (log_of_journal setting before) (built_items setting.missing before mark)
+    more_all setting (log_of_journal setting before) (items_in before mark)
 
 -- what a wire told at first, and what it tells after these marks: a wire's list has the oldest mark first
 abbrev pub Tells : Option (List Mark) → Option (List Mark) → List Mark → Type 0

@@ -120,7 +120,7 @@ pub record LogsAreRight (setting : Setting) (marks : List Mark) : Type 0 where
   pub whole : AreFresh (log_of_journal setting marks) → IsRight setting marks 0 (log_of_journal setting marks)
   pub cut : (rows : List Row) → IsCut setting marks rows → AreFresh rows → (left : ℕ) × IsRight setting marks left rows
 
--- of every journal, where all forms are built
+-- of every journal
 abbrev pub JournalsGiveRightLogs : Type 0
 JournalsGiveRightLogs =
     (policy : Policy) (pid : ℕ) (picks : List ℕ) (given : List HouseReply) (marks : List Mark) → LogsAreRight (by_lists policy pid picks given) marks

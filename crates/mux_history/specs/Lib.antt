@@ -13,7 +13,6 @@ pub mod Said
 pub mod Controls
 pub mod Heard
 pub mod Treat
-pub mod NotBuilt
 pub mod Choices
 pub mod Log
 pub mod Journal

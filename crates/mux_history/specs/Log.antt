@@ -2,7 +2,6 @@
 use Rattle.std.specs.Prelude.{ℕ, List, [], ◌∷◌, Bool, true, false, not}
 use Rattle.mux_history.specs.Rows.{Row, rows_of, is_out, is_ended, Item, Says, Gone, Took, RunEnd}
 use Rattle.mux_history.specs.Policy.{Policy}
-use Rattle.mux_history.specs.NotBuilt.{Form, built}
 use Rattle.mux_history.specs.Choices.{Choices, pick_of, with_reply}
 pub use Rattle.mux_history.specs.Treat.{bare, new_answers, goes, all_told, fitting, overflow, fate_with, queued, with_farewell, row_of, said_by_client, entered, matters_of, open_matters, served, admits, heard_row, treat}
 
@@ -26,19 +25,16 @@ makes_next rows item = elim (is_ended rows) [ true ↦ is_took item | false ↦ 
 
 -- ---- the log
 
--- what a run is given: what it permits, its process id, its choices, and the forms that are not built yet
+-- what a run is given: what it permits, its process id, and its choices
 pub record Setting : Type 0 where
   pub policy : Policy
   pub pid : ℕ
   pub choices : Choices
-  pub missing : List Form
 
 -- the row that an item makes
 abbrev pub next_row : Setting → List Row → Item → Row
 next_row setting rows item =
-    let row =
-    treat setting.policy setting.pid (pick_of setting.choices rows item) rows (with_reply setting.choices rows item) in
-    built setting.missing row (rows_of row.client rows)
+    treat setting.policy setting.pid (pick_of setting.choices rows item) rows (with_reply setting.choices rows item)
 
 -- the rows after one more item
 abbrev pub more_of : Setting → List Row → Item → List Row

@@ -14,7 +14,7 @@ use Rattle.mux_history.specs.Pending.{pending}
 use Rattle.mux_history.specs.Controls.{greeted, body_stops}
 use Rattle.mux_history.specs.Log.{Setting, goes, served, more_all}
 use Rattle.mux_history.specs.Solo.{end_of}
-use Rattle.mux_history.specs.Journal.{is_blocked, built_items, log_of_journal}
+use Rattle.mux_history.specs.Journal.{is_blocked, items_in, log_of_journal}
 
 -- a fact of each mark and the marks before it
 abbrev pub Throughout : (List Mark → Mark → Type 0) → List Mark → Type 0
@@ -133,7 +133,7 @@ ConnectionEnds setting turns marks answer = EndsAs turns marks (end_of (log_of_j
 abbrev pub IsCut : Setting → List Mark → List Row → Type 0
 IsCut setting [] rows = rows ≡ []
 IsCut setting (mark ∷ before) rows =
-    (n : ℕ) × (rows ≡ more_all setting (log_of_journal setting before) (take n (built_items setting.missing before mark)))
+    (n : ℕ) × (rows ≡ more_all setting (log_of_journal setting before) (take n (items_in before mark)))
 
 -- ---- the house
 

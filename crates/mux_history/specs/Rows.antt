@@ -20,8 +20,6 @@ pub data Item : Type 0 where
   ServerFailed : Item
   Took : (stream size : ℕ) → Item
   RunEnd : (cause : Ended) → Item
-  -- bytes of the server where they are not read yet
-  Unserved : Item
 
 -- what becomes of the run and of the row's client
 pub data Fate : Type 0 where

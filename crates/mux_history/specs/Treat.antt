@@ -10,7 +10,7 @@ use Rattle.mux_history.specs.declared.why.Why.{Why}
 use Rattle.mux_history.specs.declared.why.Why.TheVariants as why
 use Rattle.mux_history.specs.declared.broke.Break.TheVariants as broke
 use Rattle.mux_history.specs.declared.ended.Ended.TheVariants as ended
-use Rattle.mux_history.specs.Rows.{Row, rows_of, loses, is_lost, is_admit, is_out, Item, Admit, Says, Gone, Heard, BadServer, ServerEnd, ServerCut, ServerFailed, Took, RunEnd, Unserved, Fate, Goes, Refused, Drop, End}
+use Rattle.mux_history.specs.Rows.{Row, rows_of, loses, is_lost, is_admit, is_out, Item, Admit, Says, Gone, Heard, BadServer, ServerEnd, ServerCut, ServerFailed, Took, RunEnd, Fate, Goes, Refused, Drop, End}
 use Rattle.mux_history.specs.Pending.{waiting_down}
 use Rattle.mux_history.specs.Requests.{answers}
 use Rattle.mux_history.specs.Policy.{Policy}
@@ -133,4 +133,3 @@ treat policy pid pick rows (ServerCut left) = bare (ServerCut left) 0 (broken ro
 treat policy pid pick rows ServerFailed = bare ServerFailed 0 (finishes ended.ServerFailed)
 treat policy pid pick rows (Took stream size) = bare (Took stream size) stream silent
 treat policy pid pick rows (RunEnd cause) = bare (RunEnd cause) 0 silent
-treat policy pid pick rows Unserved = bare Unserved 0 silent

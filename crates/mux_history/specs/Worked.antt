@@ -27,7 +27,7 @@ hex (c ∷ d ∷ text) = elim (c == 32) [ true ↦ hex (d ∷ text) | false ↦ 
 -- a run under a policy
 abbrev pub under : Policy → ℕ → List HouseReply → Setting
 under policy pid replies =
-    record { policy = policy; pid = pid; choices = FromLists (0 ∷ 1 ∷ 2 ∷ 3 ∷ []) replies; missing = [] }
+    record { policy = policy; pid = pid; choices = FromLists (0 ∷ 1 ∷ 2 ∷ 3 ∷ []) replies }
 
 -- a run in which all is permitted
 abbrev pub open_setting : Setting

@@ -60,8 +60,7 @@ data_too_early = closed ++ (Gets 1 (session 1) ∷ data_to_one ∷ [])
 
 -- the picks give number 1 twice
 abbrev pub again_setting : Setting
-again_setting =
-    record { policy = any_policy; pid = 42; choices = FromLists (0 ∷ 1 ∷ 1 ∷ []) []; missing = [] }
+again_setting = record { policy = any_policy; pid = 42; choices = FromLists (0 ∷ 1 ∷ 1 ∷ []) [] }
 
 -- a client writes to another's channel
 abbrev pub foreign_data : List Mark

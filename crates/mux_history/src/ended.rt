@@ -25,7 +25,4 @@ pub enum Ended {
     /// There was no memory.
     #[error("out of memory")]
     OutOfMemory,
-    /// Something came that isn't served yet.
-    #[error("not built yet")]
-    NotBuilt,
 }

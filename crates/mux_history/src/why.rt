@@ -43,7 +43,4 @@ pub enum Why {
     /// A frame for it doesn't fit into its queue.
     #[error("{have} bytes wait, and {want} more don't fit")]
     QueueFull { have: usize, want: usize },
-    /// It said what isn't served yet.
-    #[error("not built yet")]
-    NotBuilt,
 }

@@ -8,7 +8,7 @@ use Rattle.mux_history.specs.Log.{Setting, admits, bare, log_of, makes_next, mor
 use Rattle.mux_history.specs.Policy.{Policy}
 use Rattle.mux_history.specs.Requests.{replies}
 use Rattle.mux_history.specs.Right.{AreFresh}
-use Rattle.mux_history.specs.Rows.{Admit, BadServer, Gone, Heard, Item, Row, RunEnd, Says, ServerCut, ServerEnd, ServerFailed, Took, Unserved, any_of, is_admit, is_end, is_ended, rows_of}
+use Rattle.mux_history.specs.Rows.{Admit, BadServer, Gone, Heard, Item, Row, RunEnd, Says, ServerCut, ServerEnd, ServerFailed, Took, any_of, is_admit, is_end, is_ended, rows_of}
 use Rattle.mux_history.specs.Said.{silent}
 use Rattle.mux_history.specs.Settings.{by_lists, by_own}
 use Rattle.mux_history.specs.Solo.{IsUnshared, end_of, item_for, items_for, run_end, seen_alone}
@@ -65,7 +65,6 @@ module _ (policy : Policy) (pid pick k : ℕ) (real : k ≡ 0 → ⊥) (before :
   once-item ServerFailed lawful mine = tt
   once-item (Took stream size) lawful mine = tt
   once-item (RunEnd cause) lawful mine = tt
-  once-item Unserved lawful mine = tt
 
   next-good : AreApart (channels_of (treat policy pid pick before item ∷ before))
   next-good = good-treat policy pid pick before item facts.good lawful fresh

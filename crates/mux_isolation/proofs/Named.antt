@@ -7,7 +7,7 @@ use Rattle.mux_history.specs.Gist.{Confirmation, Gist, Open, Within, read_gist, 
 use Rattle.mux_history.specs.Heard.{Breaks, ToClient, dest, own_number}
 use Rattle.mux_history.specs.Kept.{Every}
 use Rattle.mux_history.specs.Policy.{Policy}
-use Rattle.mux_history.specs.Rows.{Admit, BadServer, Fate, Gone, Heard, Item, Row, RunEnd, Says, ServerCut, ServerEnd, ServerFailed, Took, Unserved, rows_of}
+use Rattle.mux_history.specs.Rows.{Admit, BadServer, Fate, Gone, Heard, Item, Row, RunEnd, Says, ServerCut, ServerEnd, ServerFailed, Took, rows_of}
 use Rattle.mux_history.specs.Said.{Outcome, drops, said_gist, said_payload}
 use Rattle.mux_history.specs.Solo.{item_for, own_ups}
 use Rattle.mux_outside.specs.declared.house.HouseReply.{HouseReply}
@@ -100,7 +100,6 @@ module _ (before : List Row) (good : AreApart (channels_of before)) (k : ℕ) wh
   small-item ServerFailed = tt
   small-item (Took stream size) = tt
   small-item (RunEnd cause) = tt
-  small-item Unserved = tt
 
   pub holder-local : (n : ℕ) (x : Channel) → holder before n ≡ Some x → x.client ≡ k → holder (rows_of k before) n ≡ Some x
   holder-local n x held mine =

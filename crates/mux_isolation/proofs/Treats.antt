@@ -9,7 +9,7 @@ use Rattle.mux_history.specs.Heard.{Breaks, Dest, Disconnects, ToClient, ToMaste
 use Rattle.mux_history.specs.Kept.{Every}
 use Rattle.mux_history.specs.Log.{admits, all_told, bare, entered, heard_row, makes_row, matters_of, open_matters, queued, row_of, treat}
 use Rattle.mux_history.specs.Policy.{Policy}
-use Rattle.mux_history.specs.Rows.{Admit, BadServer, Fate, Gone, Heard, Item, Refused, Row, RunEnd, Says, ServerCut, ServerEnd, ServerFailed, Took, Unserved, any_of, is_admit, is_end, is_ended, is_out, is_refusal, loses, rows_of}
+use Rattle.mux_history.specs.Rows.{Admit, BadServer, Fate, Gone, Heard, Item, Refused, Row, RunEnd, Says, ServerCut, ServerEnd, ServerFailed, Took, any_of, is_admit, is_end, is_ended, is_out, is_refusal, loses, rows_of}
 use Rattle.mux_history.specs.Said.{Outcome, drops, said_gist, said_payload, silent, tells}
 use Rattle.mux_history.specs.Solo.{item_for, own_ups}
 use Rattle.mux_outside.specs.declared.house.HouseReply.{HouseReply}
@@ -259,4 +259,3 @@ module _ (policy : Policy) (pid pick : ℕ) (before : List Row) (good : AreApart
     own-treat (ServerCut left) lawful makes mine = not-zero mine
     own-treat ServerFailed lawful makes mine = not-zero mine
     own-treat (RunEnd cause) lawful makes mine = cc
-    own-treat Unserved lawful makes mine = not-zero mine

@@ -7,6 +7,7 @@ pub mod Piece
 pub mod Runner
 pub mod Script
 pub mod ScriptWire
+pub mod Seen
 pub mod Sink
 pub mod Streams
 pub mod Tally

@@ -1,9 +1,10 @@
 -- How a wire in memory follows its script.
-use Rattle.std.specs.Prelude.{◌≡◌, ℕ, Bool, true, false, List, [], slice_index, Result, Ok, Err}
+use Rattle.std.specs.Prelude.{◌≡◌, ℕ, Bool, true, false, List, [], slice_index, Some, Result, Ok, Err}
 use Rattle.mux_outside.specs.Streams.{among}
 use Rattle.mux_outside.specs.declared.file_error.FileError.{FileError}
 use Rattle.mux_outside.specs.declared.file_error.FileError.TheVariants.{Failed, OutOfMemory}
-use Rattle.mux_outside.specs.Calls.{next_call}
+use Rattle.mux_outside.specs.Counts.{counted}
+use Rattle.mux_outside.specs.Seen.{Seen, no_calls}
 use Rattle.mux_outside.specs.Script.{is_given, from_first, turn_of, piece_of, steps_after, steps_from, entry_at, answer_of}
 use Rattle.mux_outside.specs.declared.script.Step.{Step}
 use Rattle.mux_outside.specs.declared.script.WriteEntry.{WriteEntry}
@@ -14,6 +15,16 @@ use Rattle.mux_outside.specs.declared.turn.Turn.TheVariants.{Writable}
 use Rattle.mux_outside.specs.declared.turn.Wrote.{Wrote}
 use Rattle.mux_outside.specs.declared.plan.Place.{Place}
 use Rattle.mux_outside.specs.declared.script_wire.ScriptWire.{ScriptWire}
+
+-- what is seen of a wire in memory, which tells its marks
+abbrev pub seen_of : ScriptWire → Seen
+seen_of w = record {
+  told = Some w.marks.items;
+  streams = w.streams;
+  blocked = w.blocked;
+  listens = w.listening;
+  last = w.last;
+}
 
 -- the steps that are left
 abbrev pub steps_left : ScriptWire → List Step
@@ -66,12 +77,12 @@ pub record GivesNext (want : Want) (waiting : List ℕ) (old new : ScriptWire) (
 pub record FollowsEntry (len : ℕ) (old new : ScriptWire) (wrote : Wrote) : Type 0 where
   pub wrote_is : wrote ≡ answer_of (entry_at old.writes old.written) len
   pub writes_kept : new.writes ≡ old.writes
-  pub written_is : new.written ≡ next_call old.written
+  pub written_is : new.written ≡ counted old.written
 
 -- a call of open that was counted, and whether it is one of those that fail
 pub record CountsOpen (fails : Bool) (old new : ScriptWire) : Type 0 where
-  pub number_fails : among (next_call old.opens) old.fails ≡ fails
-  pub opens_are : new.opens ≡ next_call old.opens
+  pub number_fails : among (counted old.opens) old.fails ≡ fails
+  pub opens_are : new.opens ≡ counted old.opens
   pub fails_kept : new.fails ≡ old.fails
 
 -- a call of open fails exactly where its number is among those that fail, and isn't counted for want
@@ -93,6 +104,7 @@ pub record Starts (w : ScriptWire) (steps : List Step) (writes : List WriteEntry
   pub streams_are : w.streams ≡ []
   pub blocked_are : w.blocked ≡ []
   pub last_is : w.last ≡ 0
+  pub calls_are : w.calls ≡ no_calls
   pub server_faults_are : w.server_faults ≡ 0
   pub client_faults_are : w.client_faults ≡ 0
   pub openings_are : w.openings.items ≡ []

@@ -1,5 +1,4 @@
 ghost use Rattle.std.specs.Prelude.{◌≡◌, [], ◌∷◌, ◌++◌, length, OnOk, OnErr, slice_get};
-ghost use Rattle.mux_outside.specs.Calls.{next_call as next_call_number};
 ghost use Rattle.mux_outside.specs.Streams.{among};
 
 use ssh_fields::OutOfMemory;
@@ -65,11 +64,4 @@ impl Calls {
     {
         self.numbers.iter().any(|n| *n == number)
     }
-}
-
-// The number of the call after so many calls.
-pub fn next_call(calls: u64) -> u64
-    ensures { result ≡ next_call_number calls }
-{
-    calls.saturating_add(1)
 }

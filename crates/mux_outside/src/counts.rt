@@ -1,11 +1,19 @@
-ghost use Rattle.mux_outside.specs.Counts.{Rose};
+ghost use Rattle.std.specs.Prelude.{◌≡◌};
+ghost use Rattle.mux_outside.specs.Counts.{counted as count_after, Rose};
 ghost use Rattle.mux_outside.specs.Wire.{StreamFault};
+
+/// A count after one more: it stays at the end of its type.
+pub fn counted(count: u64) -> u64
+    ensures { result ≡ count_after count }
+{
+    count.saturating_add(1)
+}
 
 /// A count of faults after one more: it stays at the end of its type.
 pub fn raised(count: u64) -> u64
     ensures { Rose count result }
 {
-    count.saturating_add(1)
+    counted(count)
 }
 
 /// Counts a fault of a stream: stream 0 is the server's, the others are those of the clients.

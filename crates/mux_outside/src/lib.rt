@@ -2,6 +2,7 @@
 //! and for the master's own forwardings, the facts of the machine, and objects in memory.
 #![tactic(auto)]
 
+mod call_counts;
 mod calls;
 mod counts;
 mod directories;
@@ -28,8 +29,9 @@ mod tests;
 mod turn;
 mod wire;
 
+pub use call_counts::CallCounts;
 pub use calls::Calls;
-pub use counts::{count_fault, raised};
+pub use counts::{count_fault, counted, raised};
 pub use facts::Facts;
 pub use file_error::FileError;
 pub use files::Files;

@@ -3,8 +3,8 @@ ghost use Rattle.mux_outside.specs.Calls.{FailsByNumber, calls_after};
 ghost use Rattle.mux_outside.specs.Counts.{HasCause};
 ghost use Rattle.mux_outside.specs.Sink.{TakesTold, TakesOrNothing};
 
-use crate::calls::{Calls, next_call};
-use crate::counts::raised;
+use crate::calls::Calls;
+use crate::counts::{counted, raised};
 use crate::file_error::FileError;
 use crate::sink::Sink;
 use ssh_fields::Text;
@@ -56,7 +56,7 @@ impl Sink for ListSink {
         ensures calls { self.new.calls ≡ calls_after result self.old.calls }
         ensures fails { self.new.fails ≡ self.old.fails }
     {
-        let call = next_call(self.calls);
+        let call = counted(self.calls);
         if self.fails.contains(call) {
             self.calls = call;
             self.faults = raised(self.faults);

@@ -5,8 +5,8 @@ ghost use Rattle.mux_outside.specs.Files.{Reads, Lists, ListsNames, content_at};
 ghost use Rattle.std.specs.Prelude.{take};
 ghost use Rattle.std.specs.Option.{option_map};
 
-use crate::calls::{Calls, next_call};
-use crate::counts::raised;
+use crate::calls::Calls;
+use crate::counts::{counted, raised};
 use crate::directories::{is_directory, names_in, value_at};
 use crate::file_error::FileError;
 use crate::files::Files;
@@ -86,7 +86,7 @@ impl Files for MapFiles {
         ensures calls { self.new.calls ≡ calls_after result self.old.calls }
         ensures fails { self.new.fails ≡ self.old.fails }
     {
-        let call = next_call(self.calls);
+        let call = counted(self.calls);
         if self.fails.contains(call) {
             self.calls = call;
             self.faults = raised(self.faults);
@@ -105,7 +105,7 @@ impl Files for MapFiles {
         ensures calls { self.new.calls ≡ calls_after result self.old.calls }
         ensures fails { self.new.fails ≡ self.old.fails }
     {
-        let call = next_call(self.calls);
+        let call = counted(self.calls);
         if self.fails.contains(call) {
             self.calls = call;
             self.faults = raised(self.faults);

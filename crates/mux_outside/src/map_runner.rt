@@ -4,8 +4,8 @@ ghost use Rattle.mux_outside.specs.Calls.{FailsByNumber, calls_after};
 ghost use Rattle.mux_outside.specs.Counts.{HasCause};
 ghost use Rattle.mux_outside.specs.Runner.{EndsWith, commands_run, status_of as status_by};
 
-use crate::calls::{Calls, next_call};
-use crate::counts::raised;
+use crate::calls::Calls;
+use crate::counts::{counted, raised};
 use crate::file_error::FileError;
 use crate::runner::Runner;
 use crate::statuses::{CommandStatus, Statuses};
@@ -79,7 +79,7 @@ impl Runner for MapRunner {
         ensures calls { self.new.calls ≡ calls_after result self.old.calls }
         ensures fails { self.new.fails ≡ self.old.fails }
     {
-        let call = next_call(self.calls);
+        let call = counted(self.calls);
         if self.fails.contains(call) {
             self.calls = call;
             self.faults = raised(self.faults);

@@ -1,21 +1,19 @@
-ghost use Rattle.std.specs.Prelude.{◌≡◌, ◌≢◌, ◌<◌, ◌++◌, ◌∷◌, [], true, false, is_ok, Some, IsTrue, All, OnOk, IfOk, length, if◌then◌else◌};
+ghost use Rattle.std.specs.Prelude.{◌≡◌, ◌≢◌, ◌<◌, ◌++◌, false, Some, IsTrue, All, IfOk, length};
 ghost use Rattle.std.specs.Option.{option_map};
-ghost use Rattle.mux_outside.specs.Calls.{FailsByNumber, calls_after};
-ghost use Rattle.mux_outside.specs.Counts.{Rose};
-ghost use Rattle.mux_outside.specs.Streams.{among, without};
+ghost use Rattle.mux_outside.specs.Streams.{among};
 ghost use Rattle.mux_outside.specs.Tally.{no_tally};
 ghost use Rattle.mux_outside.specs.declared.turn.Want.TheVariants.{WriteOnly};
 ghost use Rattle.mux_outside.specs.declared.turn.Turn.TheVariants.{NoMemory};
 ghost use Rattle.mux_outside.specs.declared.turn.Wrote.TheVariants.{NoMemory as NoMemoryToWrite};
 ghost use Rattle.mux_outside.specs.Marks.{bytes_taken as all_taken};
-ghost use Rattle.mux_outside.specs.Wire.{openings_of, OpenFaults};
-ghost use Rattle.mux_outside.specs.Wire.{TurnFits, TurnFaults, wait_marks, open_after, blocked_after, last_after};
-ghost use Rattle.mux_outside.specs.Wire.{WroteFits, WroteFaults, write_marks, blocked_after_write};
-ghost use Rattle.mux_outside.specs.ScriptWire.{GivesAt, GivesNext, FollowsEntry, OpensByNumber, Starts};
+ghost use Rattle.mux_outside.specs.Wire.{openings_of, OpenFaults, TurnFits, TurnFaults, WroteFits, WroteFaults};
+ghost use Rattle.mux_outside.specs.Seen.{seen_after_open, seen_after_turn, seen_after_write, calls_after_wait, calls_after_write};
+ghost use Rattle.mux_outside.specs.ScriptWire.{seen_of, GivesAt, GivesNext, FollowsEntry, OpensByNumber, Starts};
 ghost use Rattle.mux_outside.specs.ScriptWire.{KeepsSteps, KeepsWrites, KeepsOpens};
 
-use crate::calls::{Calls, next_call};
-use crate::counts::{count_fault, raised};
+use crate::call_counts::CallCounts;
+use crate::calls::Calls;
+use crate::counts::{count_fault, counted, raised};
 use crate::file_error::FileError;
 use crate::mark::{Mark, Opening, bytes_taken};
 use crate::piece::Piece;
@@ -46,6 +44,7 @@ pub struct ScriptWire {
     blocked: Streams,
     last: u64,
     listening: bool,
+    calls: CallCounts,
     server_faults: u64,
     client_faults: u64,
     openings: Vec<Opening>,
@@ -70,6 +69,7 @@ impl ScriptWire {
             blocked: Streams::new(alloc),
             last: 0,
             listening: false,
+            calls: CallCounts::new(),
             server_faults: 0,
             client_faults: 0,
             openings: Vec::new(alloc),
@@ -147,15 +147,9 @@ impl ScriptWire {
 impl Wire for ScriptWire {
     ghost openings = { λ w. Some w.openings.items };
 
-    ghost told = { λ w. Some w.marks.items };
+    ghost seen = { seen_of };
 
-    ghost streams = { λ w. w.streams };
-
-    ghost blocked = { λ w. w.blocked };
-
-    ghost listens = { λ w. w.listening };
-
-    ghost last = { λ w. w.last };
+    ghost calls = { λ w. w.calls };
 
     ghost server_faults = { λ w. w.server_faults };
 
@@ -167,11 +161,8 @@ impl Wire for ScriptWire {
         ensures openings { Some self.new.openings.items
             ≡ option_map (λ os. os ++ openings_of result control.now transport.now)
             (Some self.old.openings.items) }
-        ensures told { Some self.new.marks.items ≡ Some self.old.marks.items }
-        ensures streams { self.new.streams ≡ (if is_ok result then 0 ∷ [] else self.old.streams) }
-        ensures blocked { self.new.blocked ≡ (if is_ok result then [] else self.old.blocked) }
-        ensures listens { self.new.listening ≡ (if is_ok result then true else self.old.listening) }
-        ensures last { self.new.last ≡ self.old.last }
+        ensures seen { seen_of self.new ≡ seen_after_open result (seen_of self.old) }
+        ensures calls { self.new.calls ≡ self.old.calls }
         ensures cause { OpenFaults result self.old.server_faults self.new.server_faults
             self.old.client_faults self.new.client_faults }
         ensures exact { OpensByNumber result self.old self.new }
@@ -186,7 +177,7 @@ impl Wire for ScriptWire {
         if self.openings.push(opening).is_err() {
             return Err(FileError::OutOfMemory);
         }
-        self.opens = next_call(self.opens);
+        self.opens = counted(self.opens);
         if self.fails.contains(self.opens) {
             self.server_faults = raised(self.server_faults);
             return Err(FileError::Failed);
@@ -205,13 +196,8 @@ impl Wire for ScriptWire {
         ensures turn { TurnFits result want self.old.listening self.old.last self.old.streams
             self.old.blocked into.new }
         ensures openings { Some self.new.openings.items ≡ Some self.old.openings.items }
-        ensures told { Some self.new.marks.items
-            ≡ option_map (λ m. m ++ wait_marks result waiting.now want self.old.streams
-            self.old.listening into.new) (Some self.old.marks.items) }
-        ensures streams { self.new.streams ≡ open_after result self.old.streams }
-        ensures blocked { self.new.blocked ≡ blocked_after result self.old.blocked }
-        ensures listens { self.new.listening ≡ self.old.listening }
-        ensures last { self.new.last ≡ last_after result self.old.last }
+        ensures seen { seen_of self.new ≡ seen_after_turn result waiting.now want into.new (seen_of self.old) }
+        ensures calls { self.new.calls ≡ calls_after_wait result self.old.calls }
         ensures cause { TurnFaults result self.old.server_faults self.new.server_faults
             self.old.client_faults self.new.client_faults }
         ensures script { result ≢ NoMemory
@@ -232,8 +218,10 @@ impl Wire for ScriptWire {
         )
         .is_err()
         {
+            self.calls.waited(Turn::NoMemory);
             return Turn::NoMemory;
         }
+        self.calls.waited(given.turn);
         self.place = given.place;
         match given.turn {
             Turn::Accepted(client) => self.last = client,
@@ -254,13 +242,8 @@ impl Wire for ScriptWire {
         requires some { 0 < length bytes.now }
         ensures wrote { WroteFits result (length bytes.now) }
         ensures openings { Some self.new.openings.items ≡ Some self.old.openings.items }
-        ensures told { Some self.new.marks.items
-            ≡ option_map (λ m. m ++ write_marks result stream bytes.now)
-            (Some self.old.marks.items) }
-        ensures streams { self.new.streams ≡ self.old.streams }
-        ensures blocked { self.new.blocked ≡ blocked_after_write result stream self.old.blocked }
-        ensures listens { self.new.listening ≡ self.old.listening }
-        ensures last { self.new.last ≡ self.old.last }
+        ensures seen { seen_of self.new ≡ seen_after_write result stream bytes.now (seen_of self.old) }
+        ensures calls { self.new.calls ≡ calls_after_write result self.old.calls }
         ensures cause { WroteFaults result stream self.old.server_faults self.new.server_faults
             self.old.client_faults self.new.client_faults }
         ensures script { result ≢ NoMemoryToWrite → FollowsEntry (length bytes.now) self.old self.new result }
@@ -278,8 +261,10 @@ impl Wire for ScriptWire {
         )
         .is_err()
         {
+            self.calls.wrote(Wrote::NoMemory);
             return Wrote::NoMemory;
         }
+        self.calls.wrote(wrote);
         self.written = self.written.saturating_add(1);
         if wrote == Wrote::Failed {
             count_fault(stream, &mut self.server_faults, &mut self.client_faults);

@@ -55,6 +55,24 @@ impl Streams {
         self.numbers.pop()
     }
 
+    /// Takes all streams away, and keeps the room for as many.
+    pub fn clear(&mut self)
+        ensures { self.new ≡ [] }
+    {
+        self.numbers.clear();
+    }
+
+    /// Puts these streams in place of those before. It takes no memory where there is room for them.
+    /// After an `Err` there is none.
+    pub fn refill(&mut self, numbers: &[u64]) -> Result<(), OutOfMemory>
+        ensures ok { OnOk result (self.new ≡ numbers.now) }
+        ensures err { OnErr result (self.new ≡ []) }
+    {
+        self.numbers.clear();
+        self.numbers.extend_from_slice(numbers)?;
+        Ok(())
+    }
+
     /// Takes a stream away. It takes no memory.
     pub fn remove(&mut self, stream: u64)
         ensures { self.new ≡ without stream self.old }

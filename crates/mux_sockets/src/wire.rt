@@ -1,9 +1,16 @@
-ghost use Rattle.std.specs.Prelude.{◌≡◌, ◌+◌, [], false, true, IfSome, None};
+ghost use Rattle.std.specs.Prelude.{◌≡◌, ◌<◌, ◌+◌, ℕ, List, [], length, false, true, IfSome, IsTrue, None};
+ghost use Rattle.mux_outside.specs.Seen.{no_calls};
+ghost use Rattle.mux_outside.specs.Streams.{among};
 ghost use Rattle.mux_outside.specs.Tally.{no_tally};
+ghost use Rattle.mux_outside.specs.Wire.{TurnFits, TurnFaults, open_after, blocked_after, last_after};
+ghost use Rattle.mux_outside.specs.Wire.{WroteFits, WroteFaults, blocked_after_write};
 ghost use Rattle.mux_outside.specs.declared.turn.Want.TheVariants.{Read as WantsAll};
+ghost use Rattle.mux_sockets.specs.Sockets.{FoundFits};
 
 use crate::sockets::{Fault, Found, Sent, Sockets};
-use mux_outside::{FileError, Piece, Streams, Tally, Turn, Want, Wire, Wrote, count_fault, raised};
+use mux_outside::{
+    CallCounts, FileError, Piece, Streams, Tally, Turn, Want, Wire, Wrote, count_fault, raised,
+};
 use std::alloc::Global;
 use std::fs::Files;
 use std::net::Net;
@@ -20,6 +27,7 @@ pub struct RealWire<R: Files + Net + Clone + Drop> {
     blocked: Streams,
     last: u64,
     listening: bool,
+    calls: CallCounts,
     server_faults: u64,
     client_faults: u64,
 }
@@ -31,6 +39,7 @@ impl<R: Files + Net + Clone + Drop> RealWire<R> {
         ensures blocked { result.blocked ≡ [] }
         ensures listens { result.listening ≡ false }
         ensures last { result.last ≡ 0 }
+        ensures calls { result.calls ≡ no_calls }
         ensures server { result.server_faults ≡ 0 }
         ensures client { result.client_faults ≡ 0 }
     {
@@ -42,6 +51,7 @@ impl<R: Files + Net + Clone + Drop> RealWire<R> {
             blocked: Streams::new(alloc),
             last: 0,
             listening: false,
+            calls: CallCounts::new(),
             server_faults: 0,
             client_faults: 0,
         }
@@ -74,18 +84,96 @@ impl<R: Files + Net + Clone + Drop> RealWire<R> {
     }
 }
 
+impl<R: Files + Net + Clone + Drop> RealWire<R> {
+    // The turn of what the sockets found. What they may not find is a fault of the server's stream.
+    fn turn_of(&mut self, found: Found, want: Want, client: Option<u64>) -> Turn
+        requires next { IfSome client (λ k.
+            (want ≡ WantsAll) × (self.old.listening ≡ true) × (k ≡ self.old.last + 1)) }
+        requires server { IsTrue (among 0 self.old.streams) }
+        ensures turn { (bytes : List ℕ) → FoundFits found client bytes → TurnFits result want
+            self.old.listening self.old.last self.old.streams self.old.blocked bytes }
+        ensures streams { self.new.streams ≡ open_after result self.old.streams }
+        ensures blocked { self.new.blocked ≡ blocked_after result self.old.blocked }
+        ensures listens { self.new.listening ≡ self.old.listening }
+        ensures last { self.new.last ≡ last_after result self.old.last }
+        ensures calls { self.new.calls ≡ self.old.calls }
+        ensures cause { TurnFaults result self.old.server_faults self.new.server_faults
+            self.old.client_faults self.new.client_faults }
+    {
+        match found {
+            Found::Client(number) if client == Some(number) => {
+                if self.streams.push(number).is_err() {
+                    drop_socket(&mut self.sockets, number);
+                    return Turn::NoMemory;
+                }
+                self.last = number;
+                Turn::Accepted(number)
+            }
+            Found::Bytes(t) if want == Want::Read && self.streams.contains(t) => Turn::Got(t),
+            Found::End(t) if want == Want::Read && self.streams.contains(t) => Turn::End(t),
+            Found::Writable(t) if self.streams.contains(t) && self.blocked.contains(t) => {
+                self.blocked.remove(t);
+                Turn::Writable(t)
+            }
+            Found::Failed(t) if self.streams.contains(t) => {
+                count_fault(t, &mut self.server_faults, &mut self.client_faults);
+                Turn::Failed(t)
+            }
+            Found::NoMemory => Turn::NoMemory,
+            _ => {
+                self.server_faults = raised(self.server_faults);
+                Turn::Failed(0)
+            }
+        }
+    }
+
+    // Hands bytes to a stream's socket.
+    fn hand_over(&mut self, stream: u64, bytes: &[u8]) -> Wrote
+        requires { 0 < length bytes.now }
+        ensures wrote { WroteFits result (length bytes.now) }
+        ensures streams { self.new.streams ≡ self.old.streams }
+        ensures blocked { self.new.blocked ≡ blocked_after_write result stream self.old.blocked }
+        ensures listens { self.new.listening ≡ self.old.listening }
+        ensures last { self.new.last ≡ self.old.last }
+        ensures calls { self.new.calls ≡ self.old.calls }
+        ensures cause { WroteFaults result stream self.old.server_faults self.new.server_faults
+            self.old.client_faults self.new.client_faults }
+    {
+        // The room for a stream that blocks comes before the write, which can't be taken back.
+        if self.blocked.push(stream).is_err() {
+            return Wrote::NoMemory;
+        }
+        let sent = match &mut self.sockets {
+            Some(sockets) => sockets.write(stream, bytes),
+            None => Sent::Failed,
+        };
+        match sent {
+            Sent::Later => Wrote::Later,
+            Sent::Took(count) => {
+                let _ = self.blocked.pop();
+                Wrote::Took(count)
+            }
+            Sent::Failed => {
+                let _ = self.blocked.pop();
+                count_fault(stream, &mut self.server_faults, &mut self.client_faults);
+                Wrote::Failed
+            }
+        }
+    }
+}
+
 impl<R: Files + Net + Clone + Drop> Wire for RealWire<R> {
     ghost openings = { λ _. None };
 
-    ghost told = { λ _. None };
+    ghost seen = { λ w. record {
+      told = None;
+      streams = w.streams;
+      blocked = w.blocked;
+      listens = w.listening;
+      last = w.last;
+    } };
 
-    ghost streams = { λ w. w.streams };
-
-    ghost blocked = { λ w. w.blocked };
-
-    ghost listens = { λ w. w.listening };
-
-    ghost last = { λ w. w.last };
+    ghost calls = { λ w. w.calls };
 
     ghost server_faults = { λ w. w.server_faults };
 
@@ -122,54 +210,15 @@ impl<R: Files + Net + Clone + Drop> Wire for RealWire<R> {
             Some(sockets) => sockets.next(waiting.as_slice(), want, client, into),
             None => Found::Failed(0),
         };
-        match found {
-            Found::Client(number) if client == Some(number) => {
-                if self.streams.push(number).is_err() {
-                    drop_socket(&mut self.sockets, number);
-                    return Turn::NoMemory;
-                }
-                self.last = number;
-                Turn::Accepted(number)
-            }
-            Found::Bytes(t) if want == Want::Read && self.streams.contains(t) => Turn::Got(t),
-            Found::End(t) if want == Want::Read && self.streams.contains(t) => Turn::End(t),
-            Found::Writable(t) if self.streams.contains(t) && self.blocked.contains(t) => {
-                self.blocked.remove(t);
-                Turn::Writable(t)
-            }
-            Found::Failed(t) if self.streams.contains(t) => {
-                count_fault(t, &mut self.server_faults, &mut self.client_faults);
-                Turn::Failed(t)
-            }
-            Found::NoMemory => Turn::NoMemory,
-            _ => {
-                self.server_faults = raised(self.server_faults);
-                Turn::Failed(0)
-            }
-        }
+        let turn = self.turn_of(found, want, client);
+        self.calls.waited(turn);
+        turn
     }
 
     fn write(&mut self, stream: u64, bytes: &[u8]) -> Wrote {
-        // The room for a stream that blocks comes before the write, which can't be taken back.
-        if self.blocked.push(stream).is_err() {
-            return Wrote::NoMemory;
-        }
-        let sent = match &mut self.sockets {
-            Some(sockets) => sockets.write(stream, bytes),
-            None => Sent::Failed,
-        };
-        match sent {
-            Sent::Later => Wrote::Later,
-            Sent::Took(count) => {
-                let _ = self.blocked.pop();
-                Wrote::Took(count)
-            }
-            Sent::Failed => {
-                let _ = self.blocked.pop();
-                count_fault(stream, &mut self.server_faults, &mut self.client_faults);
-                Wrote::Failed
-            }
-        }
+        let wrote = self.hand_over(stream, bytes);
+        self.calls.wrote(wrote);
+        wrote
     }
 
     fn stop_listening(&mut self) {

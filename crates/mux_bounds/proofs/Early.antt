@@ -4,7 +4,7 @@ use Rattle.mux_history.specs.Kept.{AtEach, ForEach}
 use Rattle.mux_history.specs.Policy.{Policy}
 use Rattle.mux_history.specs.Requests.{replies, wanted}
 use Rattle.mux_history.specs.Rows.{Row, is_ended, rows_of}
-use Rattle.mux_control.specs.Awaited.{RepliesAwaited}
+use Rattle.mux_bounds.specs.Awaited.{RepliesAwaited}
 use Rattle.mux_isolation.specs.View.{left_of}
 use Rattle.mux_history.proofs.Askers.{Orderly}
 use Rattle.mux_history.proofs.RightLogs.{RowKnown}

@@ -1,7 +1,7 @@
 -- Replies come after their requests.
 use Rattle.mux_history.proofs.RightLogs.{LogKnown, right-known}
-use Rattle.mux_control.proofs.Early.{each-awaited}
-use Rattle.mux_control.proofs.laws.replies_are_awaited.Goals as goal
+use Rattle.mux_bounds.proofs.Early.{each-awaited}
+use Rattle.mux_bounds.proofs.laws.replies_are_awaited.Goals as goal
 
 pub returns : goal.returns
 returns c = λ policy pid picks given marks left rows lawful right.

@@ -1,0 +1,103 @@
+-- What is seen of a wire, how often it was called, and what each call leaves of both.
+use Rattle.std.specs.Prelude.{ℕ, Bool, true, false, if◌then◌else◌, ◌==◌, List, [], ◌∷◌, ◌++◌, Result, Ok, Err, Option}
+use Rattle.std.specs.Option.{option_map}
+use Rattle.mux_outside.specs.Counts.{counted}
+use Rattle.mux_outside.specs.Streams.{without}
+use Rattle.mux_outside.specs.Wire.{wait_marks, open_after, blocked_after, last_after, write_marks, blocked_after_write}
+use Rattle.mux_outside.specs.declared.file_error.FileError.{FileError}
+use Rattle.mux_outside.specs.declared.turn.Want.{Want}
+use Rattle.mux_outside.specs.declared.turn.Turn.{Turn}
+use Rattle.mux_outside.specs.declared.turn.Turn.TheVariants.{Accepted, Got, End, Writable, Failed, NoMemory}
+use Rattle.mux_outside.specs.declared.turn.Wrote.{Wrote}
+use Rattle.mux_outside.specs.declared.turn.Wrote.TheVariants.{Took, Later, Failed as FailedWrite, NoMemory as NoMemoryToWrite}
+use Rattle.mux_outside.specs.declared.mark.Mark.{Mark}
+
+-- what is seen of a wire: its marks so far, where they are told; the open streams, in the order in
+-- which they were opened; those that take no bytes for now; whether clients are accepted; and the
+-- last client accepted, 0 before the first
+pub record Seen : Type 0 where
+  pub told : Option (List Mark)
+  pub streams : List ℕ
+  pub blocked : List ℕ
+  pub listens : Bool
+  pub last : ℕ
+
+-- how often `wait` was called; how many calls of `wait` and `write` found no memory; and how many
+-- came behind one that found none
+pub record Calls : Type 0 where
+  pub waits : ℕ
+  pub wants : ℕ
+  pub late : ℕ
+
+-- ---- what is seen
+
+-- after a call of open: the server's stream alone is open, and clients are accepted
+abbrev pub seen_after_open : Result (Unit {0}) FileError → Seen → Seen
+seen_after_open (Ok x) seen = record seen { streams = 0 ∷ []; blocked = []; listens = true }
+seen_after_open (Err e) seen = seen
+
+-- after a turn
+abbrev pub seen_after_turn : Turn → List ℕ → Want → List ℕ → Seen → Seen
+seen_after_turn turn waiting want bytes seen = record seen {
+  told = option_map (λ m. m ++ wait_marks turn waiting want seen.streams seen.listens bytes) seen.told;
+  streams = open_after turn seen.streams;
+  blocked = blocked_after turn seen.blocked;
+  last = last_after turn seen.last;
+}
+
+-- after a write
+abbrev pub seen_after_write : Wrote → ℕ → List ℕ → Seen → Seen
+seen_after_write wrote stream bytes seen = record seen {
+  told = option_map (λ m. m ++ write_marks wrote stream bytes) seen.told;
+  blocked = blocked_after_write wrote stream seen.blocked;
+}
+
+-- after a stream was closed
+abbrev pub seen_after_close : ℕ → Seen → Seen
+seen_after_close stream seen = record seen {
+  streams = without stream seen.streams;
+  blocked = without stream seen.blocked;
+}
+
+-- ---- how often it was called
+
+-- nothing was called
+abbrev pub no_calls : Calls
+no_calls = record { waits = 0; wants = 0; late = 0 }
+
+-- how many calls came behind one that found no memory, after one call more
+abbrev pub late_after : Calls → ℕ
+late_after calls = if calls.wants == 0 then calls.late else counted calls.late
+
+-- after a call of wait or write that found no memory, or did
+abbrev pub calls_after_one : Bool → Calls → Calls
+calls_after_one starved calls = record calls {
+  wants = if starved then counted calls.wants else calls.wants;
+  late = late_after calls;
+}
+
+-- whether there was no memory for a turn
+abbrev pub is_starved : Turn → Bool
+is_starved NoMemory = true
+is_starved (Accepted k) = false
+is_starved (Got t) = false
+is_starved (End t) = false
+is_starved (Writable t) = false
+is_starved (Failed t) = false
+
+-- whether there was none for the answer to a write
+abbrev pub is_starved_write : Wrote → Bool
+is_starved_write NoMemoryToWrite = true
+is_starved_write (Took n) = false
+is_starved_write Later = false
+is_starved_write FailedWrite = false
+
+-- after a call of wait, which is counted
+abbrev pub calls_after_wait : Turn → Calls → Calls
+calls_after_wait turn calls = record (calls_after_one (is_starved turn) calls) {
+  waits = counted calls.waits;
+}
+
+-- after a call of write
+abbrev pub calls_after_write : Wrote → Calls → Calls
+calls_after_write wrote calls = calls_after_one (is_starved_write wrote) calls
