@@ -5,6 +5,7 @@ ghost use Rattle.ssh_grammar.specs.declared.framing.Framing.TheVariants.{Proxy};
 ghost use Rattle.ssh_grammar.specs.IsFrame.{IsContent};
 ghost use Rattle.ssh_grammar.specs.Frames.{frame_payload};
 ghost use Rattle.mux_clients.specs.State.{refusals_of};
+ghost use Rattle.mux_clients.specs.Asked.{AsksMore};
 ghost use Rattle.mux_clients.specs.Among.{ChangesOne, HearsAt, IsUntouched, client_index, is_present, numbers};
 ghost use Rattle.mux_clients.specs.Pieces.{HearsIn, unheard};
 ghost use Rattle.mux_clients.specs.Losing.{LosesIn, loss_between};
@@ -88,6 +89,7 @@ pub fn got_at<H: House>(
     ensures hears { IfOk result (λ heard. is_present clients.old number ≡ true → ChangesOne number (HearsIn H.may (H.told house.old) (H.told house.new) pid bytes.now core.old core.new up.old up.new heard) clients.old clients.new) }
     ensures absent { is_present clients.old number ≡ false → IsUntouched clients.old clients.new core.old core.new up.old up.new }
     ensures silent { is_present clients.old number ≡ false → result ≡ Ok unheard }
+    ensures asks { AsksMore (H.told house.old) (H.told house.new) }
     ensures untold { is_present clients.old number ≡ false → H.told house.new ≡ H.told house.old }
     ensures present { OnOk result ((j : ℕ) → is_present clients.new j ≡ is_present clients.old j) }
     ensures numbers { OnOk result (numbers clients.new ≡ numbers clients.old) }

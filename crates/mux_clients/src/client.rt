@@ -2,6 +2,7 @@ ghost use Rattle.std.specs.Prelude.{◌≡◌, ◌≤◌, ◌+◌, [], ◌∷◌
 ghost use Rattle.ssh_grammar.specs.declared.framing.Framing.TheVariants.{Proxy};
 ghost use Rattle.ssh_grammar.specs.IsFrame.{IsContent};
 ghost use Rattle.ssh_grammar.specs.Frames.{frame_payload};
+ghost use Rattle.mux_clients.specs.Asked.{AsksMore};
 ghost use Rattle.mux_clients.specs.State.{client_took, part, refusals_of, KeepsRoom};
 ghost use Rattle.mux_clients.specs.Hears.{HearsTold};
 ghost use Rattle.ssh_grammar.specs.Said.{first_in};
@@ -107,6 +108,7 @@ impl Client {
         ensures number { OnOk result (self.new.seat.number ≡ self.old.seat.number) }
         ensures room { OnOk result (LeavesRoom up.old up.new self.old self.new) }
         ensures hears { IfOk result (λ heard. HearsIn H.may (H.told house.old) (H.told house.new) pid bytes.now core.old core.new up.old up.new heard self.old self.new) }
+        ensures asks { AsksMore (H.told house.old) (H.told house.new) }
         ensures policy { OnOk result (core.new.policy ≡ core.old.policy) }
     {
         if self.seat.is_read() {
@@ -130,6 +132,18 @@ impl Client {
         ensures { result ≡ self.now.seat.standing }
     {
         self.seat.standing()
+    }
+
+    /// How many of its bytes are not cut yet: none of one that isn't read.
+    pub fn rest_len(&self) -> usize
+        ensures exact { result ≡ length self.now.rest }
+        ensures unread { is_read self.now.seat.standing ≡ false → self.now.rest ≡ [] }
+    {
+        if self.seat.is_read() {
+            self.framer.rest_len()
+        } else {
+            0
+        }
     }
 
     /// The bytes that wait for it.
@@ -179,6 +193,7 @@ impl Client {
     ) -> Result<bool, OutOfMemory>
         requires read { is_read self.old.seat.standing ≡ true }
         requires room { FAREWELL_ROOM ≤ up.old.spare }
+        ensures asks { AsksMore (H.told house.old) (H.told house.new) }
         ensures next { IfOk result (λ more. SaysNext H.may (H.told house.old) (H.told house.new) pid more (first_in (mode_of self.old.seat.standing) self.old.rest) core.old core.new up.old up.new self.old heard.old self.new heard.new) }
         ensures policy { core.new.policy ≡ core.old.policy }
         ensures number { OnOk result (self.new.seat.number ≡ self.old.seat.number) }
@@ -217,6 +232,7 @@ impl Client {
     ) -> Result<Heard, OutOfMemory>
         requires read { is_read self.old.seat.standing ≡ true }
         requires room { FAREWELL_ROOM ≤ up.old.spare }
+        ensures asks { AsksMore (H.told house.old) (H.told house.new) }
         ensures hears { IfOk result (λ heard. HearsPiece H.may (H.told house.old) (H.told house.new) pid bytes.now core.old up.old self.old core.new up.new self.new heard) }
         ensures policy { OnOk result (core.new.policy ≡ core.old.policy) }
         ensures number { OnOk result (self.new.seat.number ≡ self.old.seat.number) }

@@ -1,4 +1,4 @@
-ghost use Rattle.std.specs.Prelude.{◌≡◌, IfOk, OnOk, None};
+ghost use Rattle.std.specs.Prelude.{◌≡◌, length, IfOk, OnOk, None};
 ghost use Rattle.ssh_grammar.specs.declared.framing.Framing.TheVariants.{Proxy as InFrames};
 ghost use Rattle.ssh_grammar.specs.Said.{first_in, InProxy};
 ghost use Rattle.mux_clients.specs.Server.{HearsBytes, ServerNext, new_server, stream_end};
@@ -37,6 +37,13 @@ impl Server {
             framer: Framer::new(alloc, Framing::Proxy),
             index: 1,
         }
+    }
+
+    /// How many of its bytes are not cut yet.
+    pub fn rest_len(&self) -> usize
+        ensures { result ≡ length self.now.rest }
+    {
+        self.framer.rest_len()
     }
 
     /// How the run ends where its stream ends now.
