@@ -176,7 +176,7 @@ rows_closed taken dn s k closed rows out nz st = record {
     | inl t ↦ ap (is_here (closed_by s k)) (sym t.1) ∙ here-gone k s
     | inr t ↦ here-other k j s t.1 ∙ st.closed_gone j (sym (closed_test k j closed false t.0) ∙ q)
   ];
-  refused_out = λ j q. st.refused_out j (among-was k j s.refused q);
+  refused_only = λ j q. st.refused_only j (among-was k j s.refused q);
   closed_out = λ j q. elim (eqb_tells k j) [
     | inl t ↦ ap (λ i. is_out (rows_of i rows)) (sym t.1) ∙ out
     | inr t ↦ st.closed_out j (sym (closed_test k j closed false t.0) ∙ q)

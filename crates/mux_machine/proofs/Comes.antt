@@ -29,11 +29,12 @@ use Rattle.mux_clients.specs.Entering.{Enters, EntersBy, new_client}
 use Rattle.mux_clients.proofs.Enters.{let-in, present-end, present-last, refused, row-let-in, row-refused}
 use Rattle.mux_clients.proofs.Stood.{or_true, own_row}
 use Rattle.mux_machine.specs.State.{State, entered, is_here, numbers, served_in, waiting_in}
-use Rattle.mux_machine.specs.Stands.{BytesFit, ClientReads, EachReads, GoesAlone, IsAllowed, IsKnown, IsStrange, RowsFit, ServerReads, Stands, StandsFor, log, not_closed, setting}
+use Rattle.mux_machine.specs.Stands.{BytesFit, ClientReads, EachReads, GoesAlone, IsAllowed, IsKnown, IsStrange, RowsFit, ServerReads, Stands, StandsFor, log, not_closed, refusal, setting}
 use Rattle.mux_machine.proofs.Closes.{other_row, out_more}
 use Rattle.mux_machine.proofs.Grows.{filter-append, served-more}
 use Rattle.mux_machine.proofs.Lists.{test_other, true_false}
 use Rattle.mux_machine.proofs.Over.{are-bytes-on, one-more, some-end, strange-on}
+use Rattle.mux_machine.proofs.Refused.{refused-out}
 
 -- ---- numbers at the end of a list
 
@@ -148,11 +149,14 @@ known-on k false rows nz new was j a = let w : IsKnown (rows_of j rows) = was j 
   | inr q ↦ subst IsKnown (sym (other_row k j (refused k) rows refl q.1)) w
 ]
 
-refused-on : (k : ℕ) (b : Bool) (s : State) (core' : CoreState) (up' : QueueState) (rows : List Row) → ((j : ℕ) → among j s.refused ≡ true → is_out (rows_of j rows) ≡ true) → (j : ℕ) → among j (entered s core' up' k b).refused ≡ true → is_out (rows_of j (new_row k b ∷ rows)) ≡ true
-refused-on k true s core' up' rows was j a = out_more j (let-in k) rows (was j a)
-refused-on k false s core' up' rows was j a = elim (eqb_tells k j) [
-  | inl q ↦ ap is_out (own_row j (refused k) rows q.1)
-  | inr q ↦ out_more j (refused k) rows (was j (sym (among-last j k s.refused ∙ or-none (among j s.refused) ((k == j) || false) (ap (λ t. t || false) q.0)) ∙ a))
+refused-on : (k : ℕ) (b : Bool) (s : State) (core' : CoreState) (up' : QueueState) (rows : List Row) → rows_of k rows ≡ [] → ((j : ℕ) → among j s.refused ≡ true → rows_of j rows ≡ refusal j ∷ []) → (j : ℕ) → among j (entered s core' up' k b).refused ≡ true → rows_of j (new_row k b ∷ rows) ≡ refusal j ∷ []
+refused-on k true s core' up' rows new was j a = elim (eqb_tells k j) [
+  | inl q ↦ true_false (sym (refused-out j rows (was j a)) ∙ ap is_out (ap (λ i. rows_of i rows) (sym q.1) ∙ new))
+  | inr q ↦ other_row k j (let-in k) rows refl q.1 ∙ was j a
+]
+refused-on k false s core' up' rows new was j a = elim (eqb_tells k j) [
+  | inl q ↦ own_row j (refused k) rows q.1 ∙ (ap (λ l. refused k ∷ l) (ap (λ i. rows_of i rows) (sym q.1) ∙ new) ∙ ap (λ i. refusal i ∷ []) q.1)
+  | inr q ↦ other_row k j (refused k) rows refl q.1 ∙ was j (sym (among-last j k s.refused ∙ or-none (among j s.refused) ((k == j) || false) (ap (λ t. t || false) q.0)) ∙ a)
 ]
 
 still-zero : (k : ℕ) (b : Bool) (js : List ℕ) → k ≢ 0 → among 0 js ≡ false → among 0 (js ++ come k b) ≡ false
@@ -208,7 +212,7 @@ rows-new taken dn s core' up' k b closed rows unclosed c st =
         | inl t ↦ true_false (sym q ∙ (ap (λ i. among i closed) (sym t.1) ∙ unclosed))
         | inr t ↦ here-old s core' up' k j b t.1 ∙ st.closed_gone j q
       ];
-      refused_out = refused-on k b s core' up' rows st.refused_out;
+      refused_only = refused-on k b s core' up' rows c.none st.refused_only;
       closed_out = λ j q. out_more j row rows (st.closed_out j q);
       known = λ j a. known-on k b rows c.nonzero c.none st.known j (ap (among j) (sym (came-is k b rows)) ∙ a);
       unentered = ap (among 0) (came-is k b rows) ∙ still-zero k b (came rows) c.nonzero st.unentered;

@@ -35,6 +35,7 @@ use Rattle.mux_machine.proofs.Lists.{either, test_other, true_false}
 use Rattle.mux_machine.proofs.Moved.{Moves, here-same, moved}
 use Rattle.mux_machine.proofs.OneClient.{apart-here, changes-to, numbers-one, open-here, reads-one, unclosed-one}
 use Rattle.mux_machine.proofs.Over.{are-bytes-on, some-end, strange-on}
+use Rattle.mux_machine.proofs.Refused.{apart-refused}
 use Rattle.mux_machine.proofs.Sayings.{SaysOn, says-on}
 
 -- ---- the client that goes on, before and afterwards
@@ -154,6 +155,7 @@ rows-gain May before told taken dn given s new bytes old x y heard picked used a
       unclosed = unclosed-one closed k x.seat.standing y.seat.standing (open-here taken dn s closed rows k st here);
       place_is = λ l. ap (λ (v : Rattle.mux_clients.specs.Server.ServerState). v.index) c.server ∙ (st.place_is w.live ∙ ap (λ n. min n (2 ^ 64 - 1)) (sym w.on.index));
       absent = λ j z p q. w.to.adds.others j (other j (apart-here s k j here p)) ∙ q;
+      refused_stay = λ j q. w.to.adds.others j (other j (apart-refused rows s.clients k j st.fit.each here q)) ∙ q;
       server_in = ap is_out (w.to.adds.others 0 (other 0 nz)) ∙ st.server_in;
     }
   where

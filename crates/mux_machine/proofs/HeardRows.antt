@@ -25,34 +25,47 @@ use Rattle.mux_clients.specs.Asked.{asked_of}
 use Rattle.mux_clients.proofs.Hearings.{heard-goes}
 use Rattle.mux_clients.proofs.Mores.{parts-of}
 use Rattle.mux_clients.proofs.Ones.{unrefused-row}
+use Rattle.mux_machine.specs.Stands.{refusal}
 use Rattle.mux_machine.proofs.Closes.{other_row}
 use Rattle.mux_machine.proofs.Grows.{Grows, grows-none, grows-on, grows-row}
 use Rattle.mux_machine.proofs.Lists.{test_other, true_false}
 
--- ---- nothing goes to a client of which there is nothing
+-- ---- nothing goes to a client that holds nothing
 
-never-asked : (rows : List Row) (k : ℕ) → rows_of k rows ≡ [] → Asked rows k → ⊥
+-- no request, no channel and no forwarding
+pub record IsIdle (own : List Row) : Type 0 where
+  pub asks_none : asks own ≡ []
+  pub channels_none : channels_of own ≡ []
+  pub live_none : (key : _) → live_at own key ≡ None
+
+pub idle-none : (own : List Row) → own ≡ [] → IsIdle own
+idle-none own e = record { asks_none = ap asks e; channels_none = ap channels_of e; live_none = λ key. ap (λ l. live_at l key) e }
+
+pub idle-refused : (k : ℕ) (own : List Row) → own ≡ refusal k ∷ [] → IsIdle own
+idle-refused k own e = record { asks_none = ap asks e; channels_none = ap channels_of e; live_none = λ key. ap (λ l. live_at l key) e }
+
+never-asked : (rows : List Row) (k : ℕ) → IsIdle (rows_of k rows) → Asked rows k → ⊥
 never-asked rows k none a =
     let got = get-filter (asks_for k) (asks rows) (length (replies rows)) a.ask a.is (ap (λ c. c == k) a.client ∙ eq-eqb k k refl) in
-    let at = ap (λ xs. slice_get xs (length (filter (asks_for k) (take (length (replies rows)) (asks rows))))) (asks-local k rows ∙ ap asks none) in
+    let at = ap (λ xs. slice_get xs (length (filter (asks_for k) (take (length (replies rows)) (asks rows))))) (asks-local k rows ∙ none.asks_none) in
     none-get (length (filter (asks_for k) (take (length (replies rows)) (asks rows)))) a.ask (sym at ∙ got)
   where
     none-get : (n : ℕ) (a : Ask) → slice_get [] n ≡ Some a → ⊥
     none-get zero a e = cc
     none-get (suc n) a e = cc
 
-never-reached : (rows : List Row) (n k : ℕ) → rows_of k rows ≡ [] → Reached rows n k → ⊥
+never-reached : (rows : List Row) (n k : ℕ) → IsIdle (rows_of k rows) → Reached rows n k → ⊥
 never-reached rows n k none there =
     let found = find-part is_held (is_of k) (λ (x : Channel). is_number x.number n) there.channel (channels_of rows) there.is (ap (λ c. c == k) there.client ∙ eq-eqb k k refl) in
-    let nobody = ap (λ xs. find (λ (x : Channel). is_number x.number n) (filter is_held xs)) (channels-local k rows ∙ ap channels_of none) in
+    let nobody = ap (λ xs. find (λ (x : Channel). is_number x.number n) (filter is_held xs)) (channels-local k rows ∙ none.channels_none) in
     let bad : None ≡ Some there.channel = sym nobody ∙ found in absurd (let h = bad in cc)
 
-never-offered : (rows : List Row) (k s : ℕ) (what : _) → rows_of k rows ≡ [] → Offered rows s what k → ⊥
+never-offered : (rows : List Row) (k s : ℕ) (what : _) → IsIdle (rows_of k rows) → Offered rows s what k → ⊥
 never-offered rows k s what none o =
     let found = live-local k rows o.key o.forwarding o.live o.client in
-    let bad : None ≡ Some o.forwarding = sym (ap (λ l. live_at l o.key) none) ∙ found in absurd (let h = bad in cc)
+    let bad : None ≡ Some o.forwarding = sym (none.live_none o.key) ∙ found in absurd (let h = bad in cc)
 
-pub never-told : (rows : List Row) (p : List ℕ) (k : ℕ) → rows_of k rows ≡ [] → dest rows p ≡ ToClient k → ⊥
+pub never-told : (rows : List Row) (p : List ℕ) (k : ℕ) → IsIdle (rows_of k rows) → dest rows p ≡ ToClient k → ⊥
 never-told rows p k none to = by_read (read_gist p) refl
   where
     by_number : (b : Bool) → (elim b as (λ _. Dest) [ true ↦ Disconnects | false ↦ ToMaster ]) ≡ ToClient k → ⊥
@@ -81,7 +94,7 @@ record IsHeard (rows : List Row) (row : Row) : Type 0 where
   admits : Rattle.mux_machine.proofs.Grows.NotAdmit item
   asks_none : Rattle.mux_clients.specs.Asked.item_asks row.item ≡ []
   unrefused : is_refusal row.fate ≡ false
-  apart : (j : ℕ) → j ≢ 0 → rows_of j rows ≡ [] → row.client ≢ j
+  apart : (j : ℕ) → j ≢ 0 → IsIdle (rows_of j rows) → row.client ≢ j
 
 master-goes : (p : List ℕ) → is_refusal (heard_master p).ends ≡ false
 master-goes p = by_read (read_gist p)
@@ -128,21 +141,21 @@ pub record HeardOn (rows rows' : List Row) : Type 0 where
   pub loss : List (ℕ × Option Why)
   pub grows : Grows rows rows' loss
   pub asked : asked_of rows' ≡ asked_of rows
-  pub absent : (j : ℕ) → j ≢ 0 → rows_of j rows ≡ [] → rows_of j rows' ≡ []
+  pub idle : (j : ℕ) → j ≢ 0 → IsIdle (rows_of j rows) → rows_of j rows' ≡ rows_of j rows
 
 heard-row : (rows : List Row) (row : Row) → IsHeard rows row → HeardOn rows (row ∷ rows)
 heard-row rows row h = record {
   loss = loss_by row;
   grows = grows-row h.item row rows h.is h.admits h.unrefused;
   asked = ap (λ l. asked_of rows ++ l) h.asks_none ∙ append-nil (asked_of rows);
-  absent = λ j nz none. other_row row.client j row rows refl (h.apart j nz none) ∙ none;
+  idle = λ j nz none. other_row row.client j row rows refl (h.apart j nz none);
 }
 
 heard-none : (rows : List Row) → HeardOn rows rows
-heard-none rows = record { loss = []; grows = grows-none rows; asked = refl; absent = λ j nz e. e }
+heard-none rows = record { loss = []; grows = grows-none rows; asked = refl; idle = λ j nz e. refl }
 
 heard-then : (a b c : List Row) → HeardOn a b → HeardOn b c → HeardOn a c
-heard-then a b c x y = record { loss = x.loss ++ y.loss; grows = grows-on a b c x.loss y.loss x.grows y.grows; asked = y.asked ∙ x.asked; absent = λ j nz e. y.absent j nz (x.absent j nz e) }
+heard-then a b c x y = record { loss = x.loss ++ y.loss; grows = grows-on a b c x.loss y.loss x.grows y.grows; asked = y.asked ∙ x.asked; idle = λ j nz e. y.idle j nz (subst IsIdle (sym (x.idle j nz e)) e) ∙ x.idle j nz e }
 
 heard-one : (policy : Policy) (pid : ℕ) (picks : List ℕ) (given : List HouseReply) (x : Saying) (rows : List Row) → HeardOn rows (more_of (by_lists policy pid picks given) rows (heard_item x))
 heard-one policy pid picks given x rows = by_makes (makes_next rows (heard_item x))

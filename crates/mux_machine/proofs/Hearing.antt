@@ -32,10 +32,11 @@ use Rattle.mux_machine.specs.State.{State, is_here, numbers, waiting_in}
 use Rattle.mux_machine.specs.Stands.{BytesFit, ClientReads, EachReads, GoesAlone, IsAllowed, IsKnown, IsStrange, RowsFit, ServerReads, Stands, StandsFor, log, not_closed, place, setting}
 use Rattle.mux_machine.proofs.Closes.{in_losses, loss_is_out, other_row}
 use Rattle.mux_machine.proofs.Grows.{Grows}
-use Rattle.mux_machine.proofs.HeardRows.{HeardOn, heard-on}
+use Rattle.mux_machine.proofs.HeardRows.{HeardOn, heard-on, idle-none, idle-refused}
 use Rattle.mux_machine.proofs.Lists.{either, test_other, true_false}
 use Rattle.mux_machine.proofs.Moved.{Moves, here-same, moved}
 use Rattle.mux_machine.proofs.Over.{are-bytes-on, some-end, strange-on}
+use Rattle.mux_machine.proofs.Refused.{refused-client, refused-out}
 
 -- ---- who was lost
 
@@ -127,7 +128,7 @@ are-here taken dn s marks closed rows live st k a l = by_present (is_present s.c
     by_present false e = by_here (among k s.refused) (among k closed) refl refl
       where
         by_here : (x y : Bool) → among k s.refused ≡ x → among k closed ≡ y → false ≡ true
-        by_here true y f g = true_false (sym (st.refused_out k f) ∙ still)
+        by_here true y f g = true_false (sym (refused-out k rows (st.refused_only k f)) ∙ still)
         by_here false true f g = true_false (sym (st.closed_out k g) ∙ still)
         by_here false false f g = true_false (sym a ∙ ap (any_of is_admit) (st.absent k nonzero (ap (λ b. b || among k s.refused) e ∙ f) g))
 
@@ -156,7 +157,8 @@ rows-heard taken dn s new bytes old closed rows rows' c same all w st =
       leaving_are = c.piece.hearing.leaves;
       unclosed = unclosed-noted taken dn s closed rows noted st all;
       place_is = λ l. (w.to.awaits (w.to.ended_is ∙ none-ended rows' l)).place;
-      absent = λ j nz p q. w.on.absent j nz q;
+      absent = λ j nz p q. w.on.idle j nz (idle-none (rows_of j rows) q) ∙ q;
+      refused_stay = λ j q. w.on.idle j (refused-client rows j st.server_in q) (idle-refused j (rows_of j rows) q) ∙ q;
       server_in = server-stays rows rows' s.clients noted st.fit.each all w.to.lost st.server_in;
     }
   where

@@ -38,6 +38,7 @@ use Rattle.mux_machine.proofs.Lists.{true_false}
 use Rattle.mux_machine.proofs.Moved.{Moves, here-same, moved}
 use Rattle.mux_machine.proofs.OneClient.{all-fit, apart-here, changes-to, numbers-one, open-here, reads-one}
 use Rattle.mux_machine.proofs.Over.{are-bytes-on, next-live, one-more, some-end, strange-on}
+use Rattle.mux_machine.proofs.Refused.{apart-refused}
 
 pub gone-event : (mark : Mark) (k : ℕ) → IsGone mark k → IsEvent mark
 gone-event (Ends j) k g = tt
@@ -151,6 +152,7 @@ rows-lost taken dn s new k picks replies closed rows nz c live here st =
       unclosed = ap (λ t. cond (not t) ((k, None) ∷ []) []) (open-here taken dn s closed rows k st here);
       place_is = λ l. ap (λ (v : Rattle.mux_clients.specs.Server.ServerState). v.index) c.server ∙ st.place_is l;
       absent = λ j z p q. other_row k j row rows refl (apart-here s k j here p) ∙ q;
+      refused_stay = λ j q. other_row k j row rows refl (apart-refused rows s.clients k j st.fit.each here q) ∙ q;
       server_in = ap is_out (other_row k 0 row rows refl nz) ∙ st.server_in;
     }
 

@@ -15,7 +15,7 @@ use Rattle.mux_clients.specs.State.{ClientState}
 use Rattle.mux_clients.specs.Among.{AllFit, is_present}
 use Rattle.mux_clients.specs.Asked.{asked_of}
 use Rattle.mux_machine.specs.State.{State, is_here, numbers, waiting_in}
-use Rattle.mux_machine.specs.Stands.{IsKnown, RowsFit, not_closed, place}
+use Rattle.mux_machine.specs.Stands.{IsKnown, RowsFit, not_closed, place, refusal}
 use Rattle.mux_machine.proofs.Grows.{Grows, filter-append, served-grows}
 use Rattle.mux_machine.proofs.Lists.{either}
 
@@ -49,6 +49,8 @@ pub record Moves (taken : ℕ) (drawn : List Asked) (loss : List (ℕ × Option 
   pub unclosed : filter (not_closed closed) loss ≡ loss
   pub place_is : is_ended rows' ≡ false → new.server.index ≡ place rows'
   pub absent : (k : ℕ) → k ≢ 0 → is_here old k ≡ false → rows_of k rows ≡ [] → rows_of k rows' ≡ []
+  -- a client that was refused has no row more
+  pub refused_stay : (k : ℕ) → rows_of k rows ≡ refusal k ∷ [] → rows_of k rows' ≡ refusal k ∷ []
   pub server_in : is_out (rows_of 0 rows') ≡ false
 
 pub here-same : (old new : State) (k : ℕ) → numbers new.clients ≡ numbers old.clients → new.refused ≡ old.refused → is_here new k ≡ is_here old k
@@ -69,7 +71,7 @@ moved taken taken' drawn drawn' loss closed old new rows rows' st m = record {
   place_is = m.place_is;
   absent = λ k z p q. let here : is_here old k ≡ false = sym (here-same old new k m.numbers_are m.refused_is) ∙ p in m.absent k z here (st.absent k z here q);
   closed_gone = λ k q. here-same old new k m.numbers_are m.refused_is ∙ st.closed_gone k q;
-  refused_out = λ k q. m.grows.out_stays k (st.refused_out k (ap (among k) (sym m.refused_is) ∙ q));
+  refused_only = λ k q. let was : among k old.refused ≡ true = ap (among k) (sym m.refused_is) ∙ q in m.refused_stay k (st.refused_only k was);
   closed_out = λ k q. m.grows.out_stays k (st.closed_out k q);
   known = λ k a. m.grows.known k (st.known k (ap (among k) (sym m.grows.entered_is) ∙ a));
   unentered = ap (among 0) m.grows.entered_is ∙ st.unentered;

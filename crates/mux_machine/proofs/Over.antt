@@ -29,6 +29,7 @@ use Rattle.mux_machine.specs.State.{State, over, server_cause, waiting_in}
 use Rattle.mux_machine.specs.Stands.{BytesFit, ClientReads, EachReads, GoesAlone, IsAllowed, IsStrange, RowsFit, ServerReads, Stands, StandsFor, log, place, setting}
 use Rattle.mux_machine.proofs.Closes.{other_row}
 use Rattle.mux_machine.proofs.Grows.{NotAdmit, grows-row}
+use Rattle.mux_machine.proofs.Refused.{refused-client}
 use Rattle.mux_machine.proofs.Lists.{test_other, true_false}
 use Rattle.mux_machine.proofs.Moved.{Moves, moved}
 use Rattle.mux_machine.proofs.Takes.{more-yes}
@@ -201,6 +202,7 @@ rows-of-end item taken dn s cause closed rows st numbers replies asks took admit
   unclosed = refl;
   place_is = λ l. true_false l;
   absent = λ k nz p q. other_row 0 k (end_row item cause) rows refl (λ e. nz (sym e)) ∙ q;
+  refused_stay = λ k q. other_row 0 k (end_row item cause) rows refl (λ e. refused-client rows k st.server_in q (sym e)) ∙ q;
   server_in = st.server_in;
 }
 

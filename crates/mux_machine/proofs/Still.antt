@@ -27,6 +27,7 @@ use Rattle.mux_machine.specs.Stands.{BytesFit, ClientReads, EachReads, GoesAlone
 use Rattle.mux_machine.proofs.Gains.{gets-log, gets-own, gets-quiet}
 use Rattle.mux_machine.proofs.Lists.{either, true_false}
 use Rattle.mux_machine.proofs.Loses.{still-gone}
+use Rattle.mux_machine.proofs.Refused.{refused-out}
 use Rattle.mux_machine.proofs.Over.{are-bytes-on, next-live, some-end, strange-on}
 
 -- ---- whoever isn't heard
@@ -101,7 +102,7 @@ pub gone-out : (taken : ℕ) (dn : List Asked) (s : State) (marks : List Mark) (
 gone-out taken dn s marks closed rows k live al gone fit st = by_refused (among k s.refused) refl
   where
     by_refused : (b : Bool) → among k s.refused ≡ b → is_out (rows_of k rows) ≡ true
-    by_refused true e = fit.refused_out k e
+    by_refused true e = refused-out k rows (fit.refused_only k e)
     by_refused false e = fit.closed_out k (st.there live k al (ap (λ b. b || among k s.refused) gone ∙ e))
 
 -- all clients of this number are lost, or there is none

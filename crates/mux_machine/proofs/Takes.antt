@@ -23,11 +23,12 @@ use Rattle.mux_clients.specs.Stands.{SeatFits}
 use Rattle.mux_clients.proofs.Stood.{own_row}
 use Rattle.mux_clients.proofs.Ones.{other-fits}
 use Rattle.mux_machine.specs.State.{State, at_client, client_took, is_here, numbers, taken, waiting_in}
-use Rattle.mux_machine.specs.Stands.{BytesFit, ClientReads, EachReads, GoesAlone, IsAllowed, IsStrange, RowsFit, Stands, StandsFor, log, setting}
+use Rattle.mux_machine.specs.Stands.{BytesFit, ClientReads, EachReads, GoesAlone, IsAllowed, IsStrange, RowsFit, Stands, StandsFor, log, refusal, setting}
 use Rattle.mux_machine.proofs.Closes.{other_row}
 use Rattle.mux_machine.proofs.Grows.{grows-row}
 use Rattle.mux_machine.proofs.Lists.{either, not_here, test_other, true_false}
 use Rattle.mux_machine.proofs.Moved.{Moves, here-same, moved}
+use Rattle.mux_machine.proofs.Refused.{apart-refused, refused-client}
 use Rattle.mux_machine.proofs.Waits.{waiting-taken}
 
 abbrev pub took_row : ℕ → ℕ → Row
@@ -200,8 +201,12 @@ rows-took taken' dn s t n closed rows here st =
       unclosed = refl;
       place_is = λ l. ap (λ (v : Rattle.mux_clients.specs.Server.ServerState). v.index) same.server ∙ st.place_is l;
       absent = λ k nz p q. ap (λ (l : List Row). l) (other_row t k (took_row t n) rows refl (present-apart t k s here nz p)) ∙ q;
+      refused_stay = λ k q. other_row t k (took_row t n) rows refl (refused-apart k q) ∙ q;
       server_in = server-took t n rows st.server_in;
     }
+  where
+    refused-apart : (k : ℕ) → rows_of k rows ≡ refusal k ∷ [] → t ≢ k
+    refused-apart k q e = apart-refused rows s.clients t k st.fit.each (here (λ z. refused-client rows k st.server_in q (sym e ∙ z))) q e
 
 bytes-took : (s : State) (t n : ℕ) (bytes : List ℕ) (marks : List Mark) (closed : List ℕ) (rows : List Row) → BytesFit s marks closed rows → BytesFit (taken s t n) (Takes t bytes ∷ marks) closed (took_row t n ∷ rows)
 bytes-took s t n bytes marks closed rows st = record {

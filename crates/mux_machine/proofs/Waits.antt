@@ -12,7 +12,7 @@ use Rattle.mux_clients.specs.Among.{AreApart, EachFits, is_present}
 use Rattle.mux_machine.specs.State.{State, at_client, client_took, in_client, queue_in, taken, took, waiting_clients, waiting_in}
 use Rattle.mux_machine.proofs.Lists.{either, not_here, test_other, without_head}
 
-abbrev queue_at : List ClientState → ℕ → List ℕ
+abbrev pub queue_at : List ClientState → ℕ → List ℕ
 queue_at cs k = in_client [] (λ c. c.seat.queue) cs k
 
 pub absent_waiting : (k : ℕ) (cs : List ClientState) → is_present cs k ≡ false → without k (waiting_clients cs) ≡ waiting_clients cs

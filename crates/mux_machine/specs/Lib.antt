@@ -1,3 +1,6 @@
+pub mod Events
 pub mod Moves
+pub mod Ready
 pub mod Stands
 pub mod State
+pub mod Steps

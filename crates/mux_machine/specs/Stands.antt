@@ -8,12 +8,12 @@ use Rattle.mux_outside.specs.Streams.{among}
 use Rattle.mux_outside.specs.declared.mark.Mark.{Mark}
 use Rattle.mux_outside.specs.declared.mark.Mark.TheVariants.{Waits, Accepts, Gets, Ends, Frees, Fails, Takes, Holds, WriteFails}
 use Rattle.mux_history.specs.declared.why.Why.{Why}
-use Rattle.mux_history.specs.Rows.{Row, rows_of, is_out, is_ended, losses, any_of, is_lost as has_loss, is_admit}
+use Rattle.mux_history.specs.Rows.{Row, rows_of, is_out, is_ended, losses, any_of, is_lost as has_loss, is_admit, Admit, Refused}
 use Rattle.mux_history.specs.Choices.{numbers_taken, replies_given}
 use Rattle.mux_history.specs.Right.{AreFresh}
 use Rattle.mux_history.specs.Heard.{next_index}
 use Rattle.mux_history.specs.Settings.{by_lists}
-use Rattle.mux_history.specs.Log.{Setting, served, entered}
+use Rattle.mux_history.specs.Log.{Setting, bare, served, entered}
 use Rattle.mux_history.specs.Solo.{end_of}
 use Rattle.mux_history.specs.Journal.{bytes_of, log_of_journal}
 pub use Rattle.mux_history.specs.Journal.{is_accepted}
@@ -43,6 +43,10 @@ pub record IsKnown (own : List Row) : Type 0 where
   pub admitted : any_of is_admit own ≡ true
   pub out_is : is_out own ≡ has_loss own
 
+-- the only row of a client that was refused
+abbrev pub refusal : ℕ → Row
+refusal k = bare (Admit k) k (record { sent = []; told = []; ends = Refused })
+
 -- the place of the server's next frame
 abbrev pub place : List Row → ℕ
 place rows = min (next_index rows) (2 ^ 64 - 1)
@@ -64,7 +68,7 @@ pub record RowsFit (taken : ℕ) (drawn : List Asked) (s : State) (closed : List
   -- a client that is neither here nor closed has no rows
   pub absent : (k : ℕ) → k ≢ 0 → is_here s k ≡ false → among k closed ≡ false → rows_of k rows ≡ []
   pub closed_gone : (k : ℕ) → among k closed ≡ true → is_here s k ≡ false
-  pub refused_out : (k : ℕ) → among k s.refused ≡ true → is_out (rows_of k rows) ≡ true
+  pub refused_only : (k : ℕ) → among k s.refused ≡ true → rows_of k rows ≡ refusal k ∷ []
   pub closed_out : (k : ℕ) → among k closed ≡ true → is_out (rows_of k rows) ≡ true
   pub known : (k : ℕ) → among k (entered rows) ≡ true → IsKnown (rows_of k rows)
   -- the server is no client

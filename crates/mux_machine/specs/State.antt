@@ -9,13 +9,14 @@ use Rattle.mux_history.specs.declared.ended.Ended.TheVariants as ended
 use Rattle.mux_history.specs.Promises.{is_empty}
 use Rattle.mux_outside.specs.Streams.{among, without}
 use Rattle.mux_core.specs.State.{CoreState}
-use Rattle.mux_clients.specs.declared.standing.Standing.{Standing}
-use Rattle.mux_clients.specs.declared.standing.Standing.TheVariants.{Lost}
 use Rattle.mux_clients.specs.State.{ClientState}
+pub use Rattle.mux_clients.specs.State.{client_took}
 use Rattle.mux_clients.specs.Server.{ServerState}
-use Rattle.mux_clients.specs.Stands.{is_lost}
 use Rattle.mux_clients.specs.Among.{is_present}
 use Rattle.mux_clients.specs.Entering.{new_client}
+pub use Rattle.mux_clients.specs.Among.{numbers}
+pub use Rattle.mux_clients.specs.Losing.{loss_in, loss_between}
+pub use Rattle.mux_clients.specs.Room.{served_in}
 
 -- the shared connection; what the server said that isn't cut yet, and what waits for it; the clients in the order in which
 -- they came; those that were refused and not closed; those that are lost or refused and not closed in that order; the streams with something that waits; whether
@@ -39,10 +40,6 @@ pub record State : Type 0 where
 abbrev pub in_client : {A : Type 0} → A → (ClientState → A) → List ClientState → ℕ → A
 in_client none look [] k = none
 in_client none look (c ∷ cs) k = if c.seat.number == k then look c else in_client none look cs k
-
-abbrev pub numbers : List ClientState → List ℕ
-numbers [] = []
-numbers (c ∷ cs) = c.seat.number ∷ numbers cs
 
 -- a client whose stream was closed
 abbrev pub without_client : ℕ → List ClientState → List ClientState
@@ -71,16 +68,7 @@ waiting_clients (c ∷ cs) = if is_empty c.seat.queue then waiting_clients cs el
 abbrev pub waiting_in : State → List ℕ
 waiting_in s = if is_empty s.up.waiting then waiting_clients s.clients else 0 ∷ waiting_clients s.clients
 
--- ---- losses
-
--- a client that is lost, with the cause
-abbrev pub loss_in : Standing → ℕ → List (ℕ × Option Why)
-loss_in (Lost why) k = (k, why) ∷ []
-loss_in _ k = []
-
--- a client that is lost just now, with the cause
-abbrev pub loss_between : Standing → Standing → ℕ → List (ℕ × Option Why)
-loss_between before now k = if is_lost before then [] else loss_in now k
+-- ---- those that are lost or refused and not closed
 
 abbrev pub first_of : List (ℕ × Option Why) → Option (ℕ × Option Why)
 first_of [] = None
@@ -96,9 +84,6 @@ closed_by s k = record s { clients = without_client k s.clients; refused = witho
 abbrev pub at_client : ℕ → (ClientState → ClientState) → List ClientState → List ClientState
 at_client k f [] = []
 at_client k f (c ∷ cs) = if c.seat.number == k then f c ∷ cs else c ∷ at_client k f cs
-
-abbrev pub client_took : ℕ → ClientState → ClientState
-client_took n c = record c { seat = record c.seat { queue = drop n c.seat.queue } }
 
 -- so many bytes that a stream took, and then the streams that wait
 abbrev pub took : State → ℕ → ℕ → State
@@ -116,12 +101,7 @@ over s cause = record s { ended = Some cause }
 abbrev pub server_cause : State → Ended
 server_cause s = elim s.server.rest [ [] ↦ ended.ServerEnd | b ∷ rest ↦ ended.Broke s.server.index (broke.Cut (length (b ∷ rest))) ]
 
--- ---- those that are served
-
--- the clients that are not lost
-abbrev pub served_in : List ClientState → List ℕ
-served_in [] = []
-served_in (c ∷ cs) = if is_lost c.seat.standing then served_in cs else c.seat.number ∷ served_in cs
+-- ---- who is here
 
 -- the stream of a client is open: the client was let in, or it was refused and its stream is not closed yet
 abbrev pub is_here : State → ℕ → Bool

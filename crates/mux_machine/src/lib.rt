@@ -1,7 +1,14 @@
-//! What an engine in proxy mode stands for: the journal of its run, the newest mark first, with the numbers that were picked
-//! and the replies that the house gave; and that each thing that happens leaves it standing for the journal with its mark.
-//!
-//! These are definitions and their laws alone. The engine whose calls keep them comes above.
+//! The engine of a master in proxy mode: it takes in what happens at the streams, and shows what waits for each of them
+//! and which are to be closed. It stands for the journal of its run, the newest mark first, with the numbers that were
+//! picked and the replies that the house gave.
 #![tactic(auto)]
 
+mod clients;
+mod engine;
+mod event;
 pub mod laws;
+#[cfg(test)]
+mod tests;
+
+pub use engine::Engine;
+pub use event::{Event, Went};

@@ -1,0 +1,131 @@
+-- An engine is the same for a journal whether there was memory or not.
+use Rattle.std.proofs.Common.{◌≡◌, ℕ, Bool, true, false, List, ◌∷◌, ◌++◌, Option, Some, None, refl, sym, ap, ◌∙◌, subst}
+use Rattle.mux_outside.specs.House.{Asked}
+use Rattle.mux_outside.specs.declared.house.HouseReply.{HouseReply}
+use Rattle.mux_outside.specs.declared.mark.Mark.{Mark}
+use Rattle.mux_outside.specs.declared.mark.Mark.TheVariants.{Waits, Accepts, Gets, Ends, Frees, Fails, Takes, Holds, WriteFails}
+use Rattle.mux_history.specs.declared.ended.Ended.{Ended}
+use Rattle.mux_history.specs.Rows.{Row}
+use Rattle.mux_machine.specs.declared.event.Event.{Event}
+use Rattle.mux_machine.specs.declared.event.Event.TheVariants as event
+use Rattle.mux_machine.specs.Events.{Arrives, EndsBy, Keeps, LeavesOthers}
+use Rattle.mux_machine.specs.State.{State}
+use Rattle.mux_machine.specs.Stands.{BytesFit, GoesBy, GoesOn, IsAllowed, RowsFit, Stands}
+
+abbrev pub fed : Bool → State → State
+fed b s = record s { starved = b }
+
+rows-fed : (taken : ℕ) (dn : List Asked) (s : State) (b : Bool) (closed : List ℕ) (rows : List Row) → RowsFit taken dn s closed rows → RowsFit taken dn (fed b s) closed rows
+rows-fed taken dn s b closed rows h = record {
+  taken_is = h.taken_is;
+  drawn_is = h.drawn_is;
+  asked_is = h.asked_is;
+  fresh = h.fresh;
+  fit = h.fit;
+  ended_is = h.ended_is;
+  listening_is = h.listening_is;
+  waiting_is = h.waiting_is;
+  leaving_are = h.leaving_are;
+  served_are = h.served_are;
+  place_is = h.place_is;
+  absent = h.absent;
+  closed_gone = h.closed_gone;
+  refused_only = h.refused_only;
+  closed_out = h.closed_out;
+  known = h.known;
+  unentered = h.unentered;
+  server_in = h.server_in;
+}
+
+bytes-fed : (s : State) (b : Bool) (marks : List Mark) (closed : List ℕ) (rows : List Row) → BytesFit s marks closed rows → BytesFit (fed b s) marks closed rows
+bytes-fed s b marks closed rows h = record {
+  are_bytes = h.are_bytes;
+  clients = h.clients;
+  server = h.server;
+  there = h.there;
+  strange = λ k a. let v = h.strange k a in record { not_here = v.not_here; not_closed_yet = v.not_closed_yet; no_bytes = v.no_bytes };
+}
+
+pub stands-fed : (picked : List ℕ) (given : List HouseReply) (s : State) (b : Bool) (marks : List Mark) (closed : List ℕ) → Stands picked given s marks closed → Stands picked given (fed b s) marks closed
+stands-fed picked given s b marks closed st = record {
+  asks = st.asks;
+  each = st.each;
+  at = λ picks replies. let v = st.at picks replies in record { rows = rows-fed _ st.asks s b closed _ v.rows; bytes = bytes-fed s b marks closed _ v.bytes };
+}
+
+allowed-fed : (s : State) (b : Bool) (marks : List Mark) (mark : Mark) → IsAllowed s marks mark → IsAllowed (fed b s) marks mark
+allowed-fed s b marks (Accepts k) al = al
+allowed-fed s b marks (Gets k bytes) al = al
+allowed-fed s b marks (Ends k) al = al
+allowed-fed s b marks (Fails k) al = al
+allowed-fed s b marks (WriteFails k) al = al
+allowed-fed s b marks (Takes k bytes) al = al
+allowed-fed s b marks (Frees k) al = al
+allowed-fed s b marks (Holds k) al = al
+allowed-fed s b marks (Waits waiting want streams listens) al = al
+
+goes-fed : (May : HouseReply → Type 0) (before told : Option (List Asked)) (s t : State) (a b : Bool) (mark : Mark) → GoesOn May before told (fed a s) t mark → GoesOn May before told s (fed b t) mark
+goes-fed May before told s t a b mark h picked given marks closed st al =
+    let g : GoesBy May before told picked given (fed a s) t mark marks closed = h picked given marks closed (stands-fed picked given s a marks closed st) (allowed-fed s a marks mark al) in
+    record {
+      picks = g.picks;
+      replies = g.replies;
+      asks = g.asks;
+      may = g.may;
+      stands = stands-fed (picked ++ g.picks) (given ++ g.replies) t b (mark ∷ marks) closed g.stands;
+      told = g.told;
+      asked = g.asked;
+    }
+
+others-fed : (s t : State) (a b : Bool) (e : Event) → LeavesOthers e (fed a s) t → LeavesOthers e s (fed b t)
+others-fed s t a b (event.Accepted k) h = h
+others-fed s t a b (event.FromClient k bytes) h = h
+others-fed s t a b (event.ClientEnd k) h = h
+others-fed s t a b (event.ClientFailed k) h = h
+others-fed s t a b (event.FromServer bytes) h = h
+others-fed s t a b event.ServerEnd h = h
+others-fed s t a b event.ServerFailed h = h
+
+arrives-fed : (s t : State) (a b : Bool) (e : Event) → Arrives e (fed a s) t → Arrives e s (fed b t)
+arrives-fed s t a b (event.Accepted k) h = elim h [
+  | Rattle.std.proofs.Common.inl w ↦ Rattle.std.proofs.Common.inl record { clients = w.clients; refused = w.refused }
+  | Rattle.std.proofs.Common.inr w ↦ Rattle.std.proofs.Common.inr record { clients = w.clients; refused = w.refused }
+]
+arrives-fed s t a b (event.FromClient k bytes) h = record { clients = h.clients; refused = h.refused }
+arrives-fed s t a b (event.ClientEnd k) h = record { clients = h.clients; refused = h.refused }
+arrives-fed s t a b (event.ClientFailed k) h = record { clients = h.clients; refused = h.refused }
+arrives-fed s t a b (event.FromServer bytes) h = record { clients = h.clients; refused = h.refused }
+arrives-fed s t a b event.ServerEnd h = record { clients = h.clients; refused = h.refused }
+arrives-fed s t a b event.ServerFailed h = record { clients = h.clients; refused = h.refused }
+
+keeps-fed : (s t : State) (a b : Bool) (e : Event) → s.ended ≡ None → Keeps e (fed a s) t → Keeps e s (fed b t)
+keeps-fed s t a b e live h = record {
+  pid = h.pid;
+  policy = h.policy;
+  others = others-fed s t a b e h.others;
+  streams = λ on. arrives-fed s t a b e (h.streams on);
+  more_leaving = h.more_leaving;
+  leaving = h.leaving;
+  over = λ cause o. absurd (let z : None ≡ Some cause = sym live ∙ o in cc);
+}
+
+-- ---- as the code shows them: the parts before a step, what it is, and those behind it
+
+pub goes-shown : (May : HouseReply → Type 0) (before told : Option (List Asked)) (parts s parts' t : State) (mark : Mark) → parts ≡ s → parts' ≡ t → GoesOn May before told (fed true parts) t mark → GoesOn May before told s (fed false parts') mark
+goes-shown May before told parts s parts' t mark is is' h =
+    subst (λ (x : State). GoesOn May before told x (fed false parts') mark) is
+    (subst (λ (y : State). GoesOn May before told parts (fed false y) mark) (sym is') (goes-fed May before told parts t true false mark h))
+
+pub keeps-shown : (parts s parts' t : State) (e : Event) → parts ≡ s → parts' ≡ t → parts.ended ≡ None → Keeps e (fed true parts) t → Keeps e s (fed false parts')
+keeps-shown parts s parts' t e is is' live h =
+    subst (λ (x : State). Keeps e x (fed false parts')) is
+    (subst (λ (y : State). Keeps e parts (fed false y)) (sym is') (keeps-fed parts t true false e live h))
+
+-- the same of how it may end
+pub ends-shown : (parts s parts' t : State) (e : Event) (mark : Mark) → parts ≡ s → parts' ≡ t → EndsBy e (fed true parts) t mark → EndsBy e s (fed false parts') mark
+ends-shown parts s parts' t e mark is is' h =
+    subst (λ (x : State). EndsBy e x (fed false parts') mark) is
+    (subst (λ (y : State). EndsBy e parts (fed false y) mark) (sym is') (λ picked given marks closed st al live. h picked given marks closed (stands-fed picked given parts true marks closed st) (allowed-fed parts true marks mark al) live))
+
+pub ends-over : (s : State) (e : Event) (mark : Mark) (cause : Ended) → s.ended ≡ Some cause → EndsBy e s s mark
+ends-over s e mark cause over picked given marks closed st al live = absurd (let z : None ≡ Some cause = sym live ∙ over in cc)

@@ -1,0 +1,130 @@
+-- What an engine keeps, where a stream is closed, bytes are taken or clients leave.
+use Rattle.std.proofs.Common.{◌≡◌, ◌≢◌, ◌≤◌, ◌+◌, ◌*◌, ℕ, Bool, true, false, not, ◌||◌, List, [], ◌∷◌, ◌++◌, length, map, Option, None, refl, sym, ap, ◌∙◌, inl, inr, cond, arith}
+use Rattle.std.specs.Prelude.{◌==◌, filter}
+use Rattle.std.proofs.lemmas.Bool.{eq-eqb}
+use Rattle.std.proofs.lemmas.Bool.Decides.{eqb_tells}
+use Rattle.std.proofs.lemmas.List.Folds.{list_any-append}
+use Rattle.proxy_frames.specs.Queued.{without_first}
+use Rattle.mux_outside.specs.Streams.{among, without}
+use Rattle.mux_history.specs.declared.why.Why.{Why}
+use Rattle.mux_clients.specs.State.{ClientState}
+use Rattle.mux_clients.specs.Stands.{is_lost}
+use Rattle.mux_clients.specs.Room.{HasRoom, served_in}
+use Rattle.mux_machine.specs.Ready.{AreListed, IsReady, IsSound}
+use Rattle.mux_machine.specs.State.{State, at_client, client_took, closed_by, taken, without_client}
+use Rattle.mux_machine.proofs.Lists.{among-gone, among-less, among-was, true_false}
+use Rattle.mux_machine.proofs.Takes.{Same, taken-same}
+
+-- ---- those that are to be closed
+
+abbrev pub listed : List (ℕ × Option Why) → List ℕ
+listed ls = map (λ (l : ℕ × Option Why). l.0) ls
+
+or-first : (a b : Bool) → a ≡ true → (a || b) ≡ true
+or-first a b e = ap (λ t. t || b) e
+
+or-last : (a b : Bool) → b ≡ true → (a || b) ≡ true
+or-last true b e = refl
+or-last false b e = e
+
+listed-append : (ls more : List (ℕ × Option Why)) → listed (ls ++ more) ≡ listed ls ++ listed more
+listed-append [] more = refl
+listed-append (l ∷ ls) more = ap (λ js. l.0 ∷ js) (listed-append ls more)
+
+among-append : (k : ℕ) (is js : List ℕ) → among k (is ++ js) ≡ (among k is || among k js)
+among-append k is js = list_any-append (λ (i : ℕ). i == k) is js
+
+-- more of them
+pub listed-more : (ks : List ℕ) (ls more : List (ℕ × Option Why)) → AreListed ks ls → AreListed ks (ls ++ more)
+listed-more ks ls more h k a = ap (among k) (listed-append ls more) ∙ (among-append k (listed ls) (listed more) ∙ or-first (among k (listed ls)) (among k (listed more)) (h k a))
+
+-- one more that was refused
+pub listed-both : (j : ℕ) (why : Option Why) (ks : List ℕ) (ls : List (ℕ × Option Why)) → AreListed ks ls → AreListed (ks ++ j ∷ []) (ls ++ (j, why) ∷ [])
+listed-both j why ks ls h k a = by_old (among k ks) refl
+  where
+    by_old : (b : Bool) → among k ks ≡ b → among k (listed (ls ++ (j, why) ∷ [])) ≡ true
+    by_old true e = listed-more ks ls ((j, why) ∷ []) h k e
+    by_old false e =
+        let last : among k (j ∷ []) ≡ true = sym (among-append k ks (j ∷ []) ∙ ap (λ t. t || among k (j ∷ [])) e) ∙ a in
+        ap (among k) (listed-append ls ((j, why) ∷ [])) ∙ (among-append k (listed ls) (j ∷ []) ∙ or-last (among k (listed ls)) (among k (j ∷ [])) last)
+
+-- one less
+listed-less : (k : ℕ) (ls : List (ℕ × Option Why)) → listed (filter (λ (l : ℕ × Option Why). not (l.0 == k)) ls) ≡ without k (listed ls)
+listed-less k [] = refl
+listed-less k (l ∷ ls) = by_test (not (l.0 == k)) (listed-less k ls)
+  where
+    by_test : (b : Bool) → listed (filter (λ (l : ℕ × Option Why). not (l.0 == k)) ls) ≡ without k (listed ls) → listed (cond b (l ∷ filter (λ (l : ℕ × Option Why). not (l.0 == k)) ls) (filter (λ (l : ℕ × Option Why). not (l.0 == k)) ls)) ≡ cond b (l.0 ∷ without k (listed ls)) (without k (listed ls))
+    by_test true ih = ap (λ js. l.0 ∷ js) ih
+    by_test false ih = ih
+
+listed-closed : (k : ℕ) (ks : List ℕ) (ls : List (ℕ × Option Why)) → AreListed ks ls → AreListed (without k ks) (filter (λ (l : ℕ × Option Why). not (l.0 == k)) ls)
+listed-closed k ks ls h j a = elim (eqb_tells k j) [
+  | inl q ↦ true_false (sym a ∙ (ap (λ i. among i (without k ks)) (sym q.1) ∙ among-gone k ks))
+  | inr q ↦ ap (among j) (listed-less k ls) ∙ (among-less k j (listed ls) q.1 ∙ h j (among-was k j ks a))
+]
+
+-- where nobody is to be closed nobody was refused
+pub none-refused : (s : State) → IsSound s → s.leaving ≡ [] → s.refused ≡ []
+none-refused s h e = by_list s.refused s.leaving h.refused e
+  where
+    by_list : (ks : List ℕ) (ls : List (ℕ × Option Why)) → AreListed ks ls → ls ≡ [] → ks ≡ []
+    by_list [] ls h e = refl
+    by_list (k ∷ ks) ls h e = true_false (sym (h k (ap (λ b. b || among k ks) (eq-eqb k k refl))) ∙ ap (λ l. among k (listed l)) e)
+
+-- ---- the room
+
+served-less : (k : ℕ) (cs : List ClientState) → length (served_in (without_client k cs)) ≤ length (served_in cs)
+served-less k [] = omega arith
+served-less k (c ∷ cs) = by_test (not (c.seat.number == k)) (served-less k cs)
+  where
+    less : List ClientState
+    less = without_client k cs
+
+    kept : (lost : Bool) → length (served_in less) ≤ length (served_in cs) → length (cond lost (served_in less) (c.seat.number ∷ served_in less)) ≤ length (cond lost (served_in cs) (c.seat.number ∷ served_in cs))
+    kept true ih = ih
+    kept false ih = omega (arith, ih)
+
+    gone : (lost : Bool) → length (served_in less) ≤ length (served_in cs) → length (served_in less) ≤ length (cond lost (served_in cs) (c.seat.number ∷ served_in cs))
+    gone true ih = ih
+    gone false ih = omega (arith, ih)
+
+    by_test : (b : Bool) → length (served_in less) ≤ length (served_in cs) → length (served_in (cond b (c ∷ less) less)) ≤ length (cond (is_lost c.seat.standing) (served_in cs) (c.seat.number ∷ served_in cs))
+    by_test true ih = kept (is_lost c.seat.standing) ih
+    by_test false ih = gone (is_lost c.seat.standing) ih
+
+served-took : (t n : ℕ) (cs : List ClientState) → served_in (at_client t (client_took n) cs) ≡ served_in cs
+served-took t n [] = refl
+served-took t n (c ∷ cs) = by_head (c.seat.number == t) (served-took t n cs)
+  where
+    by_head : (b : Bool) → served_in (at_client t (client_took n) cs) ≡ served_in cs → served_in (cond b (client_took n c ∷ cs) (c ∷ at_client t (client_took n) cs)) ≡ cond (is_lost c.seat.standing) (served_in cs) (c.seat.number ∷ served_in cs)
+    by_head true ih = refl
+    by_head false ih = ap (λ l. cond (is_lost c.seat.standing) l (c.seat.number ∷ l)) ih
+
+room-taken : (s : State) (t n : ℕ) → HasRoom s.clients s.up → HasRoom (taken s t n).clients (taken s t n).up
+room-taken s t n room = by_server (t == 0)
+  where
+    by_server : (b : Bool) → (let s' : State = cond b (record s { up = without_first n s.up }) (record s { clients = at_client t (client_took n) s.clients }) in HasRoom s'.clients s'.up)
+    by_server true = room
+    by_server false = omega (arith, ap length (served-took t n s.clients), room)
+
+-- ---- an engine
+
+-- one that had no memory on the way
+pub sound-starved : (s : State) → s.starved ≡ true → AreListed s.refused s.leaving → IsSound s
+sound-starved s starved h = record { ready = λ no on. true_false (sym starved ∙ no); refused = h }
+
+pub sound-closed : (s : State) (k : ℕ) → IsSound s → IsSound (closed_by s k)
+sound-closed s k h = record {
+  ready = λ fed on. let r : IsReady s = h.ready fed on in record { room = omega (arith, served-less k s.clients, r.room); cuts = r.cuts; well = r.well };
+  refused = listed-closed k s.refused s.leaving h.refused;
+}
+
+pub sound-taken : (s : State) (t n : ℕ) → IsSound s → IsSound (taken s t n)
+sound-taken s t n h =
+    let same : Same s (taken s t n) = taken-same s t n in
+    record {
+      ready = λ fed on.
+          let r : IsReady s = h.ready (sym same.starved ∙ fed) (sym same.ended ∙ on) in
+          record { room = room-taken s t n r.room; cuts = ap (λ (v : _). v.framing) same.server ∙ r.cuts; well = ap (λ (v : _). v.fault) same.server ∙ r.well };
+      refused = λ k a. ap (λ ls. among k (listed ls)) same.leaving ∙ h.refused k (ap (among k) (sym same.refused) ∙ a);
+    }

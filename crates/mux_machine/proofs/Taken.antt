@@ -1,0 +1,75 @@
+-- The parts of an engine after bytes were taken or a stream was closed.
+use Rattle.std.proofs.Common.{◌≡◌, ◌≤◌, ℕ, Bool, true, false, not, List, [], ◌∷◌, ◌++◌, length, take, drop, Option, refl, sym, ap, ◌∙◌, subst, cond}
+use Rattle.std.specs.Prelude.{◌==◌, filter}
+use Rattle.proxy_frames.specs.Queued.{without_first}
+use Rattle.proxy_frames.specs.State.{QueueState}
+use Rattle.mux_outside.specs.Streams.{without}
+use Rattle.mux_history.specs.Promises.{is_empty}
+use Rattle.mux_history.specs.declared.why.Why.{Why}
+use Rattle.mux_clients.specs.State.{ClientState}
+use Rattle.mux_machine.specs.Ready.{IsSound}
+use Rattle.mux_machine.specs.State.{State, at_client, client_took, closed_by, in_client, queue_in, taken, without_client}
+use Rattle.mux_machine.specs.Steps.{waiting_for}
+use Rattle.mux_machine.proofs.Sound.{sound-taken}
+use Rattle.mux_machine.proofs.Written.{whole-written}
+
+pub record TakeParts (parts : State) (t n m : ℕ) (lent cs : List ClientState) (up : QueueState) (empty : Bool) (ws : List ℕ) : Type 0 where
+  pub lends : lent ≡ parts.clients
+  pub all : m ≡ length parts.clients
+  pub same : length cs ≡ length lent
+  pub up_is : up ≡ cond (t == 0) (without_first n parts.up) parts.up
+  pub clients_are : cs ≡ cond (t == 0) lent (at_client t (client_took n) lent)
+  pub empty_is : empty ≡ is_empty (waiting_for up cs t)
+  pub waits : ws ≡ cond empty (without t parts.waiting) parts.waiting
+
+abbrev pub take_new : State → ℕ → List ClientState → QueueState → List ℕ → State
+take_new parts m cs up ws = record parts { up = up; clients = take m (cs ++ drop (length cs) parts.clients); waiting = ws }
+
+-- with the clients as they are
+take-as : (parts : State) (t n : ℕ) (cs : List ClientState) (up : QueueState) (empty : Bool) (ws : List ℕ) → up ≡ cond (t == 0) (without_first n parts.up) parts.up → cs ≡ cond (t == 0) parts.clients (at_client t (client_took n) parts.clients) → empty ≡ is_empty (waiting_for up cs t) → ws ≡ cond empty (without t parts.waiting) parts.waiting
+    → record parts { up = up; clients = cs; waiting = ws } ≡ taken parts t n
+take-as parts t n cs up empty ws u k e w = by_server (t == 0) u k (w ∙ ap (λ b. cond b (without t parts.waiting) parts.waiting) e)
+  where
+    after : Bool → State
+    after b = cond b (record parts { up = without_first n parts.up }) (record parts { clients = at_client t (client_took n) parts.clients })
+
+    left : Bool → State → List ℕ
+    left b s = cond b s.up.waiting (in_client [] (λ c. c.seat.queue) s.clients t)
+
+    by_server : (b : Bool) → up ≡ cond b (without_first n parts.up) parts.up → cs ≡ cond b parts.clients (at_client t (client_took n) parts.clients) → ws ≡ cond (is_empty (cond b up.waiting (in_client [] (λ c. c.seat.queue) cs t))) (without t parts.waiting) parts.waiting
+        → record parts { up = up; clients = cs; waiting = ws } ≡ record (after b) { waiting = cond (is_empty (left b (after b))) (without t parts.waiting) parts.waiting }
+    by_server true u k w =
+        ap (λ (l : List ℕ). record parts { up = up; clients = cs; waiting = l }) w
+        ∙ (ap (λ (q : QueueState). record parts { up = q; clients = cs; waiting = cond (is_empty q.waiting) (without t parts.waiting) parts.waiting }) u
+        ∙ ap (λ (l : List ClientState). record parts { up = without_first n parts.up; clients = l; waiting = cond (is_empty (without_first n parts.up).waiting) (without t parts.waiting) parts.waiting }) k)
+    by_server false u k w =
+        ap (λ (l : List ℕ). record parts { up = up; clients = cs; waiting = l }) w
+        ∙ (ap (λ (q : QueueState). record parts { up = q; clients = cs; waiting = cond (is_empty (in_client [] (λ c. c.seat.queue) cs t)) (without t parts.waiting) parts.waiting }) u
+        ∙ ap (λ (l : List ClientState). record parts { clients = l; waiting = cond (is_empty (in_client [] (λ c. c.seat.queue) l t)) (without t parts.waiting) parts.waiting }) k)
+
+pub take-written : (parts : State) (t n m : ℕ) (lent cs : List ClientState) (up : QueueState) (empty : Bool) (ws : List ℕ) → TakeParts parts t n m lent cs up empty ws → take_new parts m cs up ws ≡ taken parts t n
+take-written parts t n m lent cs up empty ws p =
+    let whole : take m (cs ++ drop (length cs) parts.clients) ≡ cs = whole-written m cs parts.clients p.all (p.same ∙ ap length p.lends) in
+    let clients : cs ≡ cond (t == 0) parts.clients (at_client t (client_took n) parts.clients) = p.clients_are ∙ ap (λ (l : List ClientState). cond (t == 0) l (at_client t (client_took n) l)) p.lends in
+    ap (λ (l : List ClientState). record parts { up = up; clients = l; waiting = ws }) whole ∙ take-as parts t n cs up empty ws p.up_is clients p.empty_is p.waits
+
+-- what may be taken
+pub may-take : (s parts : State) (t n : ℕ) (lent : List ClientState) → parts ≡ s → lent ≡ parts.clients → n ≤ length (queue_in s t) → n ≤ length (waiting_for parts.up lent t)
+may-take s parts t n lent view lends le =
+    subst (λ (l : List ClientState). n ≤ length (waiting_for parts.up l t)) (sym lends) (subst (λ (x : State). n ≤ length (queue_in x t)) (sym view) le)
+
+pub sound-take : (parts : State) (t n m : ℕ) (lent cs : List ClientState) (up : QueueState) (empty : Bool) (ws : List ℕ) → IsSound parts → TakeParts parts t n m lent cs up empty ws → IsSound (take_new parts m cs up ws)
+sound-take parts t n m lent cs up empty ws h p = subst IsSound (sym (take-written parts t n m lent cs up empty ws p)) (sound-taken parts t n h)
+
+-- ---- a stream that was closed
+
+abbrev pub close_new : State → List ClientState → List ℕ → List (ℕ × Option Why) → List ℕ → State
+close_new parts cs refused ls ws = record parts { clients = cs; refused = refused; leaving = ls; waiting = ws }
+
+pub close-written : (parts : State) (k : ℕ) (cs : List ClientState) (refused : List ℕ) (ls : List (ℕ × Option Why)) (ws : List ℕ) → cs ≡ without_client k parts.clients → refused ≡ without k parts.refused → ls ≡ filter (λ (l : ℕ × Option Why). not (l.0 == k)) parts.leaving → ws ≡ without k parts.waiting
+    → close_new parts cs refused ls ws ≡ closed_by parts k
+close-written parts k cs refused ls ws a b c d =
+    ap (λ (x : List ClientState). close_new parts x refused ls ws) a
+    ∙ (ap (λ (x : List ℕ). close_new parts (without_client k parts.clients) x ls ws) b
+    ∙ (ap (λ (x : List (ℕ × Option Why)). close_new parts (without_client k parts.clients) (without k parts.refused) x ws) c
+    ∙ ap (λ (x : List ℕ). close_new parts (without_client k parts.clients) (without k parts.refused) (filter (λ (l : ℕ × Option Why). not (l.0 == k)) parts.leaving) x) d))

@@ -1,0 +1,27 @@
+use Rattle.std.proofs.Common.{◌&&◌, not, refl, ap, ◌∙◌}
+use Rattle.std.proofs.lemmas.Result.{on_ok_weaker}
+use Rattle.mux_machine.specs.State.{State}
+use Rattle.mux_machine.specs.Steps.{is_heard}
+use Rattle.mux_machine.proofs.Written.{gain-written, gain_new}
+use Rattle.mux_machine.proofs.engine.Engine.got.Goals as goal
+
+pub returns-clause-gains : goal.returns-clause-gains
+returns-clause-gains g c =
+    let s = c.self.inside in
+    let parts : State = record { pid = s.pid; core = s.core; server = s.server; up = s.up; clients = s.clients.items; refused = s.refused; leaving = s.leaving.items; waiting = s.waiting; listening = s.listening; ended = s.ended; starved = s.starved } in
+    on_ok_weaker c.list_waiting.result
+    (λ waits read. gain-written g.H.House.may (g.H.House.told c.args.house.now) (g.H.House.told c.got_at.new.house) c.args.self.now parts
+    (gain_new parts c.self.inside.clients.len c.got_at.new.clients c.got_at.new.core c.got_at.new.up c.in_ok-heard.heard c.note_loss.new.leaving.items c.list_waiting.new.list (c.self.inside.listening && not c.in_ok-heard.heard.stops))
+    c.args.client c.args.bytes.now c.self.inside.clients.len c.deref_mut.result.now c.got_at.new.clients c.deref-2.result.now c.deref-3.result.now c.got_at.new.core c.got_at.new.up c.in_ok-heard.heard c.note_loss.new.leaving.items c.list_waiting.new.list (c.self.inside.listening && not c.in_ok-heard.heard.stops) c.self.view_is refl record {
+      read = ap (λ (x : State). is_heard x.clients c.args.client) c.self.view_is ∙ read;
+      lends = c.deref_mut.ensures.value;
+      all = c.self.inside.clients.ok.0;
+      same = c.got_at.auto.clients;
+      notes = c.deref-2.ensures.value;
+      shows = c.deref-3.ensures.value;
+      numbers_are = c.in_ok-heard.ensures.numbers;
+      hears = c.in_ok-heard.ensures.hears;
+      leaves = c.in_ok-note_loss.ensures.ok;
+      listens = refl;
+      waits = waits;
+    }) c.list_waiting.ensures

@@ -1,0 +1,87 @@
+-- What the events of an engine are in the journal, and what they change.
+use Rattle.std.specs.Prelude.{◌≡◌, ◌≢◌, ◌⊎◌, ℕ, List, [], ◌∷◌, ◌++◌, Option, Some, None}
+use Rattle.mux_history.specs.declared.ended.Ended.{Ended}
+use Rattle.mux_history.specs.declared.ended.Ended.TheVariants as ended
+use Rattle.mux_history.specs.declared.why.Why.{Why}
+use Rattle.mux_outside.specs.declared.house.HouseReply.{HouseReply}
+use Rattle.mux_outside.specs.declared.mark.Mark.{Mark}
+use Rattle.mux_outside.specs.declared.mark.Mark.TheVariants.{Accepts, Gets, Ends, Fails, WriteFails}
+use Rattle.mux_machine.specs.declared.event.Event.{Event}
+use Rattle.mux_machine.specs.declared.event.Event.TheVariants.{Accepted, FromClient, ClientEnd, ClientFailed, FromServer, ServerEnd, ServerFailed}
+use Rattle.mux_machine.specs.declared.event.Went.{Went}
+use Rattle.mux_machine.specs.declared.event.Went.TheVariants.{On, Ended as Over}
+use Rattle.mux_machine.specs.State.{State, SameClient, numbers}
+use Rattle.mux_machine.specs.Stands.{IsAllowed, Stands}
+
+-- a mark tells this event; a stream fails at a wait or at a write
+abbrev pub Tells : Event → Mark → Type 0
+Tells (Accepted k) mark = mark ≡ Accepts k
+Tells (FromClient k bytes) mark = (k ≢ 0) × (mark ≡ Gets k bytes.now)
+Tells (ClientEnd k) mark = (k ≢ 0) × (mark ≡ Ends k)
+Tells (ClientFailed k) mark = (k ≢ 0) × ((mark ≡ Fails k) ⊎ (mark ≡ WriteFails k))
+Tells (FromServer bytes) mark = mark ≡ Gets 0 bytes.now
+Tells ServerEnd mark = mark ≡ Ends 0
+Tells ServerFailed mark = (mark ≡ Fails 0) ⊎ (mark ≡ WriteFails 0)
+
+abbrev pub went_of : Option Ended → Went
+went_of None = On
+went_of (Some ended) = Over ended
+
+-- ---- what an event leaves as it was
+
+-- the streams of clients that are open: of those that were let in, then of those that were refused
+abbrev pub here : State → List ℕ
+here s = numbers s.clients ++ s.refused
+
+-- the same streams are open
+pub record SameStreams (old new : State) : Type 0 where
+  pub clients : numbers new.clients ≡ numbers old.clients
+  pub refused : new.refused ≡ old.refused
+
+-- a client was let in
+pub record LetsIn (k : ℕ) (old new : State) : Type 0 where
+  pub clients : numbers new.clients ≡ numbers old.clients ++ k ∷ []
+  pub refused : new.refused ≡ old.refused
+
+-- a client was refused
+pub record Refuses (k : ℕ) (old new : State) : Type 0 where
+  pub clients : numbers new.clients ≡ numbers old.clients
+  pub refused : new.refused ≡ old.refused ++ k ∷ []
+
+-- who is here after an event of a run that goes on
+abbrev pub Arrives : Event → State → State → Type 0
+Arrives (Accepted k) old new = LetsIn k old new ⊎ Refuses k old new
+Arrives event old new = SameStreams old new
+
+-- each client but the one that the event tells of; the server may say something to each of them
+abbrev pub LeavesOthers : Event → State → State → Type 0
+LeavesOthers (Accepted k) old new = (j : ℕ) → k ≢ j → SameClient j old.clients new.clients
+LeavesOthers (FromClient k bytes) old new = (j : ℕ) → k ≢ j → SameClient j old.clients new.clients
+LeavesOthers (ClientEnd k) old new = (j : ℕ) → k ≢ j → SameClient j old.clients new.clients
+LeavesOthers (ClientFailed k) old new = (j : ℕ) → k ≢ j → SameClient j old.clients new.clients
+LeavesOthers (FromServer bytes) old new = Unit {0}
+LeavesOthers ServerEnd old new = new.clients ≡ old.clients
+LeavesOthers ServerFailed old new = new.clients ≡ old.clients
+
+-- how an event may end a run that goes on: only what a client or the server says may, and the end or the failure of the server
+abbrev pub MayEnd : Event → Option Ended → Type 0
+MayEnd (Accepted k) now = now ≡ None
+MayEnd (ClientEnd k) now = now ≡ None
+MayEnd (ClientFailed k) now = now ≡ None
+MayEnd ServerFailed now = now ≡ Some ended.ServerFailed
+MayEnd event now = now ≢ Some ended.ServerFailed
+
+-- from each journal for which the engine stood while the run went on
+abbrev pub EndsBy : Event → State → State → Mark → Type 0
+EndsBy event old new mark =
+    (picked : List ℕ) (given : List HouseReply) (marks : List Mark) (closed : List ℕ)
+    → Stands picked given old marks closed → IsAllowed old marks mark → old.ended ≡ None → MayEnd event new.ended
+
+pub record Keeps (event : Event) (old new : State) : Type 0 where
+  pub pid : new.pid ≡ old.pid
+  pub policy : new.core.policy ≡ old.core.policy
+  pub others : LeavesOthers event old new
+  pub streams : old.ended ≡ None → Arrives event old new
+  pub more_leaving : List (ℕ × Option Why)
+  pub leaving : new.leaving ≡ old.leaving ++ more_leaving
+  pub over : (cause : Ended) → old.ended ≡ Some cause → new ≡ old

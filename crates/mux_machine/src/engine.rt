@@ -1,0 +1,356 @@
+ghost use Rattle.std.specs.Prelude.{◌≡◌, ◌≤◌, ◌++◌, [], length, filter, List, ℕ, true, false, IfOk, OnOk, OnErr, IsErr, None};
+ghost use Rattle.ssh_fields.specs.Fields.{AreBytes};
+ghost use Rattle.mux_outside.specs.Streams.{among};
+ghost use Rattle.mux_outside.specs.declared.mark.Mark.{Mark as TheMark};
+ghost use Rattle.mux_outside.specs.declared.mark.Mark.TheVariants.{Takes};
+ghost use Rattle.mux_outside.specs.declared.house.HouseReply.{HouseReply as TheReply};
+ghost use Rattle.mux_history.specs.Rows.{losses};
+ghost use Rattle.mux_history.specs.Log.{open_matters};
+ghost use Rattle.mux_history.specs.Pending.{pending};
+ghost use Rattle.mux_history.specs.Promises.{listens, has_output};
+ghost use Rattle.mux_clients.specs.Asked.{AsksMore};
+ghost use Rattle.mux_machine.specs.Events.{EndsBy, Keeps, Tells, went_of};
+ghost use Rattle.mux_machine.specs.Moves.{GainsAt, HeardAt, LosesAt};
+ghost use Rattle.mux_machine.specs.Ready.{IsReady};
+ghost use Rattle.mux_machine.specs.Stands.{Closes, GoesAlone, GoesOn, IsFirst, Stands, log, not_closed};
+ghost use Rattle.mux_machine.specs.State.{closed_by, first_of, numbers, over, queue_in, rest_in, server_cause, taken, waiting_in};
+ghost use Rattle.mux_machine.specs.Steps.{EntersAt, is_heard, is_served};
+
+use crate::clients::*;
+use crate::event::{Event, Went};
+use forward_rules::Policy;
+use mux_clients::{Client, Server, got_at, lose_at};
+use mux_core::Core;
+use mux_history::{Ended, Why};
+use mux_outside::{House, Streams};
+use proxy_frames::Queue;
+use ssh_fields::OutOfMemory;
+use std::alloc::Global;
+use std::marker::Model;
+
+/// The machine of a run.
+#[derive(Drop)]
+pub struct Engine {
+    alloc: Global,
+    pid: u32,
+    core: Core,
+    server: Server,
+    /// What waits for the server.
+    up: Queue,
+    clients: Vec<Client>,
+    /// The clients that were refused and whose streams are not closed.
+    refused: Streams,
+    /// The clients that are lost or refused and whose streams are not closed, in that order.
+    leaving: Vec<(u64, Option<Why>)>,
+    /// The streams with something that waits.
+    waiting: Streams,
+    listening: bool,
+    ended: Option<Ended>,
+    /// There was no memory for an event.
+    starved: bool,
+}
+
+impl Model for Engine {
+    ghost use Rattle.mux_machine.specs.State.{State};
+    ghost use Rattle.mux_machine.specs.Ready.{IsSound};
+
+    ghost Value = { State };
+
+    ghost view = { λ a. record { pid = a.pid; core = a.core; server = a.server; up = a.up; clients = a.clients.items; refused = a.refused; leaving = a.leaving.items; waiting = a.waiting; listening = a.listening; ended = a.ended; starved = a.starved } };
+
+    ghost invariant = { λ a. IsSound (record { pid = a.pid; core = a.core; server = a.server; up = a.up; clients = a.clients.items; refused = a.refused; leaving = a.leaving.items; waiting = a.waiting; listening = a.listening; ended = a.ended; starved = a.starved }) };
+}
+
+fn went_by(ended: Option<Ended>) -> Went
+    ensures { result ≡ went_of ended }
+{
+    match ended {
+        None => Went::On,
+        Some(cause) => Went::Ended(cause),
+    }
+}
+
+impl Engine {
+    /// An engine that was told nothing yet. It permits what the policy does, and tells the process id to clients that
+    /// check.
+    pub fn new(alloc: Global, policy: Policy, pid: u32) -> Result<Engine, OutOfMemory>
+        ensures policy { IfOk result (λ engine. engine.core.policy ≡ policy) }
+        ensures pid { IfOk result (λ engine. engine.pid ≡ pid) }
+        ensures goes { IfOk result (λ engine. engine.ended ≡ None) }
+        ensures clients { IfOk result (λ engine. engine.clients ≡ []) }
+        ensures refused { IfOk result (λ engine. engine.refused ≡ []) }
+        ensures leaving { IfOk result (λ engine. engine.leaving ≡ []) }
+        ensures waiting { IfOk result (λ engine. engine.waiting ≡ []) }
+        ensures silent { IfOk result (λ engine. engine.up.waiting ≡ []) }
+        ensures listening { IfOk result (λ engine. engine.listening ≡ true) }
+        ensures stands { IfOk result (λ engine. Stands [] [] engine [] []) }
+    {
+        Ok(Engine {
+            alloc,
+            pid,
+            core: Core::new(alloc, policy)?,
+            server: Server::new(alloc),
+            up: Queue::new(alloc),
+            clients: Vec::new(alloc),
+            refused: Streams::new(alloc),
+            leaving: Vec::new(alloc),
+            waiting: Streams::new(alloc),
+            listening: true,
+            ended: None,
+            starved: false,
+        })
+    }
+
+    /// Takes in what happened at a stream, and tells the house what the client asks by it. A client is accepted once,
+    /// with a number from 1 on, and all other events of clients name one that was accepted. Once there was no memory
+    /// there is none for any later event.
+    pub fn event<H: House>(&mut self, e: Event<'_>, house: &mut H) -> Result<Went, OutOfMemory>
+        ensures stands { OnOk result ((mark : TheMark) → Tells e.entry mark → GoesOn H.may (H.told house.old) (H.told house.new) self.old self.new mark) }
+        ensures asks { AsksMore (H.told house.old) (H.told house.new) }
+        ensures keeps { OnOk result (Keeps e.entry self.old self.new) }
+        ensures ends { OnOk result ((mark : TheMark) → Tells e.entry mark → EndsBy e.entry self.old self.new mark) }
+        ensures went { IfOk result (λ went. went ≡ went_of self.new.ended) }
+        ensures starved { self.old.starved ≡ true → IsErr result }
+        ensures err { OnErr result (self.new.starved ≡ true) }
+    {
+        if self.starved {
+            return Err(OutOfMemory);
+        }
+        if let Some(cause) = self.ended {
+            return Ok(Went::Ended(cause));
+        }
+        // It stays so where there is no memory on the way.
+        self.starved = true;
+        self.step(e, house)?;
+        self.starved = false;
+        Ok(went_by(self.ended))
+    }
+}
+
+impl Engine {
+    // What an event does while the run goes on.
+    fn step<H: House>(&mut self, e: Event<'_>, house: &mut H) -> Result<(), OutOfMemory>
+        requires goes { self.old.ended ≡ None }
+        requires starved { self.old.starved ≡ true }
+        requires ready { IsReady self.old }
+        ensures stands { OnOk result ((mark : TheMark) → Tells e.entry mark → GoesOn H.may (H.told house.old) (H.told house.new) self.old self.new mark) }
+        ensures asks { AsksMore (H.told house.old) (H.told house.new) }
+        ensures keeps { OnOk result (Keeps e.entry self.old self.new) }
+        ensures ends { OnOk result ((mark : TheMark) → Tells e.entry mark → EndsBy e.entry self.old self.new mark) }
+        ensures ready { OnOk result (self.new.ended ≡ None → IsReady self.new) }
+        ensures starved { self.new.starved ≡ true }
+    {
+        match e {
+            Event::Accepted(client) => self.enter(client),
+            Event::FromClient(client, bytes) => self.got(client, bytes, house),
+            Event::ClientEnd(client) => self.lose(client),
+            Event::ClientFailed(client) => self.lose(client),
+            Event::FromServer(bytes) => self.hear(bytes),
+            Event::ServerEnd => {
+                let cause = self.server.end();
+                self.end(cause)
+            }
+            Event::ServerFailed => self.end(Ended::ServerFailed),
+        }
+    }
+
+    // A client comes: it is let in, where fewer than 64 have open matters.
+    fn enter(&mut self, client: u64) -> Result<(), OutOfMemory>
+        requires starved { self.old.starved ≡ true }
+        requires ready { IsReady self.old }
+        ensures enters { OnOk result (EntersAt self.old self.new client) }
+        ensures ready { OnOk result (IsReady self.new) }
+        ensures starved { self.new.starved ≡ true }
+    {
+        reserve_for_one_more(&mut self.up, &self.clients)?;
+        receive(
+            &mut self.clients,
+            &mut self.refused,
+            &mut self.leaving,
+            self.alloc,
+            client,
+            &mut self.core,
+        )?;
+        list_waiting(&mut self.waiting, &self.up, &self.clients)
+    }
+
+    // A client's stream gave bytes, which are read as long as it is.
+    fn got<H: House>(&mut self, client: u64, bytes: &[u8], house: &mut H) -> Result<(), OutOfMemory>
+        requires goes { self.old.ended ≡ None }
+        requires starved { self.old.starved ≡ true }
+        requires ready { IsReady self.old }
+        ensures gains { OnOk result (is_heard self.old.clients client ≡ true → GainsAt H.may (H.told house.old) (H.told house.new) self.old self.new client bytes.now) }
+        ensures stays { OnOk result (is_heard self.old.clients client ≡ false → self.new ≡ self.old) }
+        ensures untold { is_heard self.old.clients client ≡ false → H.told house.new ≡ H.told house.old }
+        ensures asks { AsksMore (H.told house.old) (H.told house.new) }
+        ensures policy { OnOk result (self.new.core.policy ≡ self.old.core.policy) }
+        ensures numbers { OnOk result (numbers self.new.clients ≡ numbers self.old.clients) }
+        ensures ready { OnOk result (IsReady self.new) }
+        ensures starved { self.new.starved ≡ true }
+    {
+        if !is_heard(&self.clients, client) {
+            return Ok(());
+        }
+        let heard = got_at(
+            &mut self.clients,
+            client,
+            self.pid,
+            bytes,
+            house,
+            &mut self.core,
+            &mut self.up,
+        )?;
+        note_loss(&mut self.leaving, &self.clients, client)?;
+        self.listening &= !heard.stops;
+        self.ended = heard.ended;
+        list_waiting(&mut self.waiting, &self.up, &self.clients)
+    }
+
+    // A client's stream is gone.
+    fn lose(&mut self, client: u64) -> Result<(), OutOfMemory>
+        requires starved { self.old.starved ≡ true }
+        requires ready { IsReady self.old }
+        ensures loses { OnOk result (is_served self.old.clients client ≡ true → LosesAt self.old self.new client) }
+        ensures stays { OnOk result (is_served self.old.clients client ≡ false → self.new ≡ self.old) }
+        ensures ready { OnOk result (IsReady self.new) }
+        ensures starved { self.new.starved ≡ true }
+    {
+        if !is_served(&self.clients, client) {
+            return Ok(());
+        }
+        self.leaving.push((client, None))?;
+        lose_at(&mut self.clients, client, &mut self.core, &mut self.up);
+        list_waiting(&mut self.waiting, &self.up, &self.clients)
+    }
+
+    // The server's stream gave bytes.
+    fn hear(&mut self, bytes: &[u8]) -> Result<(), OutOfMemory>
+        requires goes { self.old.ended ≡ None }
+        requires starved { self.old.starved ≡ true }
+        requires ready { IsReady self.old }
+        ensures heard { OnOk result (HeardAt self.old self.new bytes.now) }
+        ensures ready { OnOk result (self.new.ended ≡ None → IsReady self.new) }
+        ensures starved { self.new.starved ≡ true }
+    {
+        let mut lost = Vec::new(self.alloc);
+        self.ended = self.server.got(
+            &mut self.clients,
+            bytes,
+            &mut lost,
+            &mut self.core,
+            &mut self.up,
+        )?;
+        self.leaving.extend_from_slice(&lost)?;
+        list_waiting(&mut self.waiting, &self.up, &self.clients)
+    }
+
+    // The run is over.
+    fn end(&mut self, cause: Ended) -> Result<(), OutOfMemory>
+        requires starved { self.old.starved ≡ true }
+        ensures { self.new ≡ over self.old cause }
+    {
+        self.ended = Some(cause);
+        Ok(())
+    }
+}
+
+impl Engine {
+    /// The bytes that wait for a stream.
+    pub fn queue_of(&self, stream: u64) -> &[u8]
+        ensures exact { result.now ≡ queue_in self.now stream }
+        ensures bytes { AreBytes result.now }
+        ensures waits { (picked : List ℕ) (given : List TheReply) (marks : List TheMark) (closed : List ℕ) → Stands picked given self.now marks closed → among stream closed ≡ false → (picks : List ℕ) (replies : List TheReply) → result.now ≡ pending stream (log self.now (picked ++ picks) (given ++ replies) marks) }
+    {
+        // Named first: what a name holds is known to be bytes.
+        let bytes = self.do_queue_of(stream);
+        bytes
+    }
+
+    fn do_queue_of(&self, stream: u64) -> &[u8]
+        ensures { result.now ≡ queue_in self.now stream }
+    {
+        if stream == 0 {
+            return self.up.front();
+        }
+        queue_at(&self.clients, stream)
+    }
+
+    /// So many bytes that wait for a stream were taken.
+    pub fn took(&mut self, stream: u64, n: usize)
+        requires { n ≤ length (queue_in self.old stream) }
+        ensures exact { self.new ≡ taken self.old stream n }
+        ensures stands { (bytes : List ℕ) → length bytes ≡ n → GoesAlone self.old self.new (Takes stream bytes) }
+    {
+        if take(&mut self.up, &mut self.clients, stream, n) {
+            self.waiting.remove(stream);
+        }
+    }
+
+    /// How many bytes that a stream gave are not cut yet: less than the longest frame has, and none at the end of the run.
+    pub fn rest_of(&self, stream: u64) -> usize
+        ensures exact { result ≡ length (rest_in self.now stream) }
+        ensures short { (picked : List ℕ) (given : List TheReply) (marks : List TheMark) (closed : List ℕ) → Stands picked given self.now marks closed → result ≤ 262147 }
+    {
+        if self.ended.is_some() {
+            return 0;
+        }
+        if stream == 0 {
+            return self.server.rest_len();
+        }
+        rest_at(&self.clients, stream)
+    }
+
+    /// The streams for which bytes wait: the server's first, then the clients' in the order in which they came.
+    pub fn waiting(&self) -> &Streams
+        ensures exact { result.now ≡ self.now.waiting }
+        ensures waits { (picked : List ℕ) (given : List TheReply) (marks : List TheMark) (closed : List ℕ) → Stands picked given self.now marks closed → (t : ℕ) → among t closed ≡ false → (picks : List ℕ) (replies : List TheReply) → among t result.now ≡ has_output (log self.now (picked ++ picks) (given ++ replies) marks) t }
+        ensures listed { (picked : List ℕ) (given : List TheReply) (marks : List TheMark) (closed : List ℕ) → Stands picked given self.now marks closed → result.now ≡ waiting_in self.now }
+    {
+        &self.waiting
+    }
+
+    /// Whether clients are to be accepted.
+    pub fn listening(&self) -> bool
+        ensures exact { result ≡ self.now.listening }
+        ensures stands { (picked : List ℕ) (given : List TheReply) (marks : List TheMark) (closed : List ℕ) → Stands picked given self.now marks closed → (picks : List ℕ) (replies : List TheReply) → result ≡ listens (log self.now (picked ++ picks) (given ++ replies) marks) }
+    {
+        self.listening
+    }
+
+    /// How the run ended, if it did.
+    pub fn ended(&self) -> Option<Ended>
+        ensures exact { result ≡ self.now.ended }
+    {
+        self.ended
+    }
+
+    /// How many clients have open matters, while the run goes on: channels, requests without a reply, forwardings, or a
+    /// stream.
+    pub fn open_matters(&self) -> u32
+        ensures stands { (picked : List ℕ) (given : List TheReply) (marks : List TheMark) (closed : List ℕ) → Stands picked given self.now marks closed → self.now.ended ≡ None → (picks : List ℕ) (replies : List TheReply) → result ≡ open_matters (log self.now (picked ++ picks) (given ++ replies) marks) }
+    {
+        self.core.open_matters()
+    }
+
+    /// The client that was lost or refused first of those that were not closed, with the cause for which it was
+    /// dropped, if it was.
+    pub fn closing(&self) -> Option<(u64, Option<Why>)>
+        ensures exact { result ≡ first_of self.now.leaving }
+        ensures stands { (picked : List ℕ) (given : List TheReply) (marks : List TheMark) (closed : List ℕ) → Stands picked given self.now marks closed → (picks : List ℕ) (replies : List TheReply) → result ≡ first_of (filter (not_closed closed) (losses (log self.now (picked ++ picks) (given ++ replies) marks))) }
+        ensures none { self.now.leaving ≡ [] → self.now.refused ≡ [] }
+    {
+        self.leaving.first().copied()
+    }
+
+    /// The stream of the client that `closing` shows was closed: nothing waits for it any more.
+    pub fn closed(&mut self, client: u64)
+        requires { IsFirst client self.old.leaving }
+        ensures exact { self.new ≡ closed_by self.old client }
+        ensures stands { Closes self.old self.new client }
+    {
+        close_at(&mut self.clients, client);
+        self.refused.remove(client);
+        leave_at(&mut self.leaving, client);
+        self.waiting.remove(client);
+    }
+}
