@@ -1,105 +1,194 @@
--- The arms of an offer.
-use Rattle.std.proofs.Common.{◌≡◌, ◌≢◌, ◌≤◌, ◌<◌, ◌-◌, ℕ, Bool, true, false, List, [], ◌∷◌, length, drop, Option, refl, sym, ap, ◌∙◌, subst, inl, inr, cond, arith, length-drop}
-use Rattle.std.specs.Prelude.{◌==◌, is_some, Result, Ok, Err, MatchResult, IsErr}
+-- The arms of an offer: which calls are counted, how the run may end, and an error handed on.
+use Rattle.std.proofs.Common.{◌≡◌, ◌≢◌, ◌≤◌, ◌<◌, ◌+◌, ◌-◌, ℕ, Bool, true, false, List, [], ◌∷◌, ◌++◌, length, Option, Some, None, refl, sym, ap, ◌∙◌, inl, inr, ◌⊎◌, cond, arith}
+use Rattle.std.specs.Prelude.{◌==◌, Result, Ok, Err, MatchResult, IsErr, OnOk}
 use Rattle.std.specs.Bool.{MatchBool}
-use Rattle.std.proofs.lemmas.Bool.{eqb-true}
+use Rattle.std.proofs.lemmas.Bool.{eqb-true, eq-eqb}
 use Rattle.std.proofs.lemmas.Bool.Decides.{eqb_tells}
-use Rattle.mux_outside.specs.Counts.{Rose}
-use Rattle.mux_outside.specs.Streams.{without}
-use Rattle.mux_outside.specs.House.{Asked}
+use Rattle.mux_outside.specs.Counts.{Rose, counted}
+use Rattle.mux_outside.specs.Seen.{Calls, calls_after_one}
 use Rattle.mux_outside.specs.Wire.{StreamFault}
-use Rattle.mux_outside.specs.declared.house.HouseReply.{HouseReply}
 use Rattle.mux_outside.specs.declared.mark.Mark.{Mark}
 use Rattle.mux_outside.specs.declared.mark.Mark.TheVariants.{WriteFails}
+use Rattle.mux_history.specs.declared.ended.Ended.{Ended}
 use Rattle.mux_history.specs.declared.ended.Ended.TheVariants as ended
-use Rattle.mux_engine.specs.State.{ClientState, State}
-use Rattle.mux_engine.specs.Asked.{TellsAsks}
-use Rattle.mux_engine.proofs.Asks.{tells_same}
-use Rattle.mux_engine.specs.Step.{is_present, numbers, queue_in, at_client, client_took, taken, over, changed, lost_client, after, Steps}
-use Rattle.mux_engine.specs.Stands.{setting, StandsFor}
-use Rattle.mux_engine.specs.Serving.{ServingBy}
-use Rattle.mux_engine.proofs.Grows.{test_other}
-use Rattle.mux_engine.proofs.Wires.{numbers_at}
-use Rattle.mux_engine.proofs.Offers.{serve_empty, without_other, AtStream, at_stream, nonzero_here}
+use Rattle.mux_machine.specs.declared.event.Event.{Event}
+use Rattle.mux_machine.specs.declared.event.Event.TheVariants.{Accepted, FromClient, ClientEnd, ClientFailed, FromServer, ServerEnd, ServerFailed}
+use Rattle.mux_machine.specs.State.{State, numbers}
+use Rattle.mux_machine.specs.Events.{Keeps, MayEnd, SameStreams, Tells, here}
+use Rattle.mux_engine.specs.Counted.{Counts, Cut, Well}
+use Rattle.mux_engine.specs.Serving.{StaysOrFails}
 
-pub seen_same : (rs : List HouseReply) (dn : List Asked) (pid : ℕ) (start told : Option (List Mark)) (streams streams' blocked blocked' held held' : List ℕ) (listens listens' : Bool) (last last' given : ℕ) (todo : List ℕ) (s s' : State) → ServingBy rs dn pid start told streams blocked held listens last given todo s
-    → streams' ≡ streams → blocked' ≡ blocked → held' ≡ held → listens' ≡ listens → last' ≡ last → s' ≡ s → ServingBy rs dn pid start told streams' blocked' held' listens' last' given todo s'
-seen_same rs dn pid start told streams streams' blocked blocked' held held' listens listens' last last' given todo s s' v a b c d e f =
-    subst (λ x. ServingBy rs dn pid start told x blocked' held' listens' last' given todo s') (sym a)
-    (subst (λ x. ServingBy rs dn pid start told streams x held' listens' last' given todo s') (sym b)
-    (subst (λ x. ServingBy rs dn pid start told streams blocked x listens' last' given todo s') (sym c)
-    (subst (λ x. ServingBy rs dn pid start told streams blocked held x last' given todo s') (sym d)
-    (subst (λ x. ServingBy rs dn pid start told streams blocked held listens x given todo s') (sym e)
-    (subst (λ x. ServingBy rs dn pid start told streams blocked held listens last given todo x) (sym f) v)))))
+-- ---- calls
 
-pub le_of : (a b : ℕ) → a ≡ b → a ≤ b
-le_of a b e = omega arith
+counted-most : (n : ℕ) → counted n ≤ n + 1
+counted-most n = omega arith
 
-took_head : (b : Bool) (k n : ℕ) (c : ClientState) (cs ds : List ClientState) → (c.number == k) ≡ b → (b ≡ false → queue_in ds k ≡ drop n (queue_in cs k)) → queue_in (cond b (client_took n c ∷ cs) (c ∷ ds)) k ≡ drop n (cond b c.queue (queue_in cs k))
-took_head true k n c cs ds e ih = ap (λ b. cond b (drop n c.queue) (queue_in cs k)) e
-took_head false k n c cs ds e ih = ap (λ b. cond b c.queue (queue_in ds k)) e ∙ ih refl
+counted-least : (m n : ℕ) → m ≤ n → counted m ≤ counted n
+counted-least m n h = omega arith
 
--- what waits after bytes were taken
-took_queue : (k n : ℕ) (cs : List ClientState) → is_present cs k ≡ true → queue_in (at_client k (client_took n) cs) k ≡ drop n (queue_in cs k)
-took_queue k n [] p = absurd (cc)
-took_queue k n (c ∷ cs) p = took_head (c.number == k) k n c cs (at_client k (client_took n) cs) refl (λ e. took_queue k n cs (sym (ap (λ b. cond b true (is_present cs k)) e) ∙ p))
+pub well-none : (c : Calls) → Well 0 c c
+well-none c = record { few = omega arith; wants = refl; late = λ z. refl }
 
-pub took_less : (s s' : State) (k n : ℕ) → s' ≡ taken s k n → is_present s.clients k ≡ true → 1 ≤ n → n ≤ length (queue_in s.clients k) → length (queue_in s'.clients k) < length (queue_in s.clients k)
-took_less s s' k n e here one fits =
-    let q : queue_in s'.clients k ≡ drop n (queue_in s.clients k) = ap (λ (t : State). queue_in t.clients k) e ∙ took_queue k n s.clients here in
-    let l : length (queue_in s'.clients k) ≡ length (queue_in s.clients k) - n = ap length q ∙ length-drop n (queue_in s.clients k) in
-    omega arith
+late-one : (c : Calls) (b : Bool) → c.wants ≡ 0 → (calls_after_one b c).late ≡ c.late
+late-one c b e = ap (λ t. cond t c.late (counted c.late)) (eq-eqb c.wants 0 e)
 
-pub took_numbers : (s s' : State) (k n : ℕ) → s' ≡ taken s k n → numbers s'.clients ≡ numbers s.clients
-took_numbers s s' k n e = ap (λ (t : State). numbers t.clients) e ∙ numbers_at k (client_took n) s.clients (λ c. refl)
+pub well-one : (c : Calls) → Well 0 c (calls_after_one false c)
+well-one c = record { few = omega arith; wants = refl; late = late-one c false }
 
-pub failed_ended : (s : State) (more : List HouseReply) (k : ℕ) → k ≢ 0 → (after s more (WriteFails k)).ended ≡ s.ended
-failed_ended s more k nz = ap (λ b. (cond (is_some s.ended) s (cond b (over s ended.ServerFailed) (changed s k lost_client))).ended) (test_other k 0 nz) ∙ by_end (is_some s.ended)
+pub cut-one : (c : Calls) → Cut 0 c (calls_after_one true c)
+cut-one c = record { few = omega arith; wants = counted-most c.wants; late = late-one c true }
+
+pub well-cut : (n : ℕ) (a b : Calls) → Well n a b → Cut n a b
+well-cut n a b w = let e : b.wants ≡ a.wants = w.wants in record { few = w.few; wants = omega arith; late = w.late }
+
+pub well-then : (a b c : Calls) → Well 0 a b → Well 0 b c → Well 0 a c
+well-then a b c v w = let f : b.waits ≤ a.waits + 0 = v.few in let g : c.waits ≤ b.waits + 0 = w.few in
+    record { few = omega arith; wants = w.wants ∙ v.wants; late = λ z. w.late (v.wants ∙ z) ∙ v.late z }
+
+pub cut-then : (a b c : Calls) → Well 0 a b → Cut 0 b c → Cut 0 a c
+cut-then a b c v w = let f : b.waits ≤ a.waits + 0 = v.few in let g : c.waits ≤ b.waits + 0 = w.few in let e : b.wants ≡ a.wants = v.wants in let h : c.wants ≤ b.wants + 1 = w.wants in
+    record { few = omega arith; wants = omega arith; late = λ z. w.late (v.wants ∙ z) ∙ v.late z }
+
+-- ---- the end
+
+pub le-of : (a b : ℕ) → a ≡ b → a ≤ b
+le-of a b e = omega arith
+
+pub stays : (old new : Option Ended) (faults faults' : ℕ) → new ≡ old → faults' ≡ faults → StaysOrFails old new faults faults'
+stays old new faults faults' e f = inl (e, le-of faults faults' (sym f))
+
+rose-later : (m n o : ℕ) → m ≤ n → Rose n o → Rose m o
+rose-later m n o h r = let l : n ≤ o = r.later in let c : counted n ≤ o = r.rose in let d : counted m ≤ counted n = counted-least m n h in
+    record { later = omega arith; rose = omega arith }
+
+rose-stays : (m n o : ℕ) → Rose m n → n ≤ o → Rose m o
+rose-stays m n o r h = let l : m ≤ n = r.later in let c : counted m ≤ n = r.rose in record { later = omega arith; rose = omega arith }
+
+pub then-stays-or-fails : (a b c : Option Ended) (m n o : ℕ) → StaysOrFails a b m n → StaysOrFails b c n o → StaysOrFails a c m o
+then-stays-or-fails a b c m n o (inl x) (inl y) = let f : m ≤ n = x.1 in let g : n ≤ o = y.1 in inl (y.0 ∙ x.0, omega arith)
+then-stays-or-fails a b c m n o (inl x) (inr y) = inr (y.0, rose-later m n o x.1 y.1)
+then-stays-or-fails a b c m n o (inr x) (inl y) = inr (y.0 ∙ x.0, rose-stays m n o x.1 y.1)
+then-stays-or-fails a b c m n o (inr x) (inr y) = let r : Rose m n = x.1 in inr (y.0, rose-later m n o r.later y.1)
+
+-- ---- a stream that failed at a write
+
+-- what its event leaves of the engine
+pub record Failing (k : ℕ) (old new : State) : Type 0 where
+  pub policy : new.core.policy ≡ old.core.policy
+  pub pid : new.pid ≡ old.pid
+  pub streams : here new ≡ here old
+  pub live : new.ended ≡ None → old.ended ≡ None
+  pub server : k ≡ 0 → (new.ended ≡ old.ended) ⊎ (new.ended ≡ Some ended.ServerFailed)
+  pub over : k ≡ 0 → new.ended ≢ None
+  pub client : k ≢ 0 → new.ended ≡ old.ended
+
+same-here : (old new : State) → SameStreams old new → here new ≡ here old
+same-here old new s = ap (λ l. l ++ new.refused) s.clients ∙ ap (λ l. numbers old.clients ++ l) s.refused
+
+client-fails : (k j : ℕ) (old new : State) → j ≢ 0 → j ≡ k → Keeps (ClientFailed j) old new → (old.ended ≡ None → new.ended ≡ None) → Failing k old new
+client-fails k j old new nz same keeps ends = by_end old.ended refl
   where
-    by_end : (b : Bool) → (cond b s (changed s k lost_client)).ended ≡ s.ended
-    by_end true = refl
-    by_end false = refl
+    by_end : (o : Option Ended) → old.ended ≡ o → Failing k old new
+    by_end None e = record {
+      policy = keeps.policy;
+      pid = keeps.pid;
+      streams = same-here old new (keeps.streams e);
+      live = λ l. e;
+      server = λ z. absurd (nz (same ∙ z));
+      over = λ z. absurd (nz (same ∙ z));
+      client = λ z. ends e ∙ sym e;
+    }
+    by_end (Some cause) e = let s : new ≡ old = keeps.over cause e in record {
+      policy = keeps.policy;
+      pid = keeps.pid;
+      streams = ap here s;
+      live = λ l. ap (λ (t : State). t.ended) (sym s) ∙ l;
+      server = λ z. absurd (nz (same ∙ z));
+      over = λ z. absurd (nz (same ∙ z));
+      client = λ z. ap (λ (t : State). t.ended) s;
+    }
 
--- a stream that failed draws no reply
-pub failed_state : {May : HouseReply → Type 0} {before now : Option (List Asked)} (s s' : State) (k : ℕ) (more : List HouseReply) → Steps May before now s s' (WriteFails k) → s' ≡ after s more (WriteFails k)
-failed_state s s' k more steps = steps.state []
-
--- nor is anything asked
-pub failed_told : {May : HouseReply → Type 0} (before now : Option (List Asked)) (s s' : State) (k : ℕ) → Steps May before now s s' (WriteFails k) → now ≡ before
-failed_told before now s s' k steps = tells_same before now (subst (TellsAsks before now) (sym (steps.asked []) ∙ never (is_some s.ended)) steps.told)
+server-fails : (k : ℕ) (old new : State) → k ≡ 0 → Keeps ServerFailed old new → (old.ended ≡ None → new.ended ≡ Some ended.ServerFailed) → Failing k old new
+server-fails k old new zero keeps ends = by_end old.ended refl
   where
-    empty : List Asked
-    empty = []
+    none-some : (cause : Ended) → new.ended ≡ Some cause → new.ended ≢ None
+    none-some cause e n = let z : Some cause ≡ None = sym e ∙ n in absurd (cc)
 
-    never : (b : Bool) → cond b empty empty ≡ empty
-    never true = refl
-    never false = refl
+    by_end : (o : Option Ended) → old.ended ≡ o → Failing k old new
+    by_end None e = record {
+      policy = keeps.policy;
+      pid = keeps.pid;
+      streams = same-here old new (keeps.streams e);
+      live = λ l. e;
+      server = λ z. inr (ends e);
+      over = λ z. none-some ended.ServerFailed (ends e);
+      client = λ nz. absurd (nz zero);
+    }
+    by_end (Some cause) e = let s : new ≡ old = keeps.over cause e in record {
+      policy = keeps.policy;
+      pid = keeps.pid;
+      streams = ap here s;
+      live = λ l. ap (λ (t : State). t.ended) (sym s) ∙ l;
+      server = λ z. inl (ap (λ (t : State). t.ended) s);
+      over = λ z. none-some cause (ap (λ (t : State). t.ended) s ∙ e);
+      client = λ nz. absurd (nz zero);
+    }
 
--- where a client's stream failed, the server's count stays
-pub client_fault : (k a b c d : ℕ) → k ≢ 0 → StreamFault k a b c d → b ≡ a
-client_fault k a b c d nz f = by_test (k == 0) (test_other k 0 nz) f
+abbrev stream-of : Mark → ℕ
+stream-of (WriteFails k) = k
+stream-of mark = 0
+
+pub failing : (e : Event) (k : ℕ) (old new : State) → Tells e (WriteFails k) → Keeps e old new → (old.ended ≡ None → MayEnd e new.ended) → Failing k old new
+failing (Accepted j) k old new t keeps ends = absurd (cc)
+failing (FromClient j bytes) k old new t keeps ends = absurd (let z = t.1 in cc)
+failing (ClientEnd j) k old new t keeps ends = absurd (let z = t.1 in cc)
+failing (ClientFailed j) k old new t keeps ends = elim t.1 [ inl m ↦ absurd (cc) | inr m ↦ client-fails k j old new t.0 (sym (ap stream-of m)) keeps ends ]
+failing (FromServer bytes) k old new t keeps ends = absurd (cc)
+failing ServerEnd k old new t keeps ends = absurd (cc)
+failing ServerFailed k old new t keeps ends = elim t [ inl m ↦ absurd (cc) | inr m ↦ server-fails k old new (ap stream-of m) keeps ends ]
+
+-- the count of the server's side rose where it is the server's stream
+pub fault-ended : (k : ℕ) (old new : State) (a b c d : ℕ) → Failing k old new → StreamFault k a b c d → StaysOrFails old.ended new.ended a b
+fault-ended k old new a b c d f fault = elim (eqb_tells k 0) [
+  | inl q ↦ let r : Rose a b = (of-server (k == 0) q.0 fault) in elim (f.server q.1) [ inl e ↦ inl (e, r.later) | inr e ↦ inr (e, r) ]
+  | inr q ↦ inl (f.client q.1, le-of a b (sym (of-client (k == 0) q.0 fault)))
+]
   where
-    by_test : (t : Bool) → t ≡ false → MatchBool t (Rose a b × (d ≡ c)) ((b ≡ a) × Rose c d) → b ≡ a
-    by_test true e f = absurd (cc)
-    by_test false e f = f.0
+    of-server : (t : Bool) → t ≡ true → MatchBool t (Rose a b × (d ≡ c)) ((b ≡ a) × Rose c d) → Rose a b
+    of-server true e x = x.0
+    of-server false e x = absurd (cc)
 
-pub here_nonzero : (rs : List HouseReply) (dn : List Asked) (pid : ℕ) (start told : Option (List Mark)) (streams blocked held : List ℕ) (listens : Bool) (last given : ℕ) (todo : List ℕ) (s : State) (k : ℕ) → ServingBy rs dn pid start told streams blocked held listens last given todo s → is_present s.clients k ≡ true → k ≢ 0
-here_nonzero rs dn pid start told streams blocked held listens last given todo s k v here = nonzero_here rs dn s v.journal v.closed k v.stands here
+    of-client : (t : Bool) → t ≡ false → MatchBool t (Rose a b × (d ≡ c)) ((b ≡ a) × Rose c d) → b ≡ a
+    of-client true e x = absurd (cc)
+    of-client false e x = x.0
 
--- a stream for which nothing waits is settled
-pub nothing_left : (rs : List HouseReply) (dn : List Asked) (pid : ℕ) (start told : Option (List Mark)) (streams blocked held : List ℕ) (listens : Bool) (last given : ℕ) (todo : List ℕ) (s : State) (k : ℕ) → ServingBy rs dn pid start told streams blocked held listens last given todo s → is_present s.clients k ≡ true → queue_in s.clients k ≡ []
-    → ServingBy rs dn pid start told streams blocked held listens last given (without k todo) s
-nothing_left rs dn pid start told streams blocked held listens last given todo s k v here none =
-    serve_empty rs dn pid start told streams blocked held listens last given todo (without k todo) s v
-    (λ t journal closed e st b a. elim (eqb_tells k t) [
-      | inl q ↦ inr (inl (let at : AtStream rs dn pid s journal closed k = at_stream rs dn pid s journal closed k e st here in ap (λ i. Rattle.mux_history.specs.Pending.pending i (Rattle.mux_engine.specs.Stands.log pid rs journal)) (sym q.1) ∙ (sym at.queue ∙ none)))
-      | inr q ↦ inl (sym (without_other k t todo q.1) ∙ a)
-    ])
+-- where a stream failed, the server's count did not fall
+pub fault-later : (k a b c d : ℕ) → StreamFault k a b c d → a ≤ b
+fault-later k a b c d f = by_test (k == 0) f
+  where
+    by_test : (t : Bool) → MatchBool t (Rose a b × (d ≡ c)) ((b ≡ a) × Rose c d) → a ≤ b
+    by_test true x = let r : Rose a b = x.0 in r.later
+    by_test false x = le-of a b (sym x.0)
 
-pub empty_is : (bytes : List ℕ) → (length bytes == 0) ≡ true → bytes ≡ []
-empty_is [] e = refl
-empty_is (b ∷ bytes) e = absurd (let z : length (b ∷ bytes) ≡ 0 = eqb-true (length (b ∷ bytes)) 0 e in omega arith)
+-- ---- errors
 
-pub on_err : {T E : Type 0} (r : Result T E) (P : T → Type 0) (Q : Type 0) → IsErr r → Q → MatchResult r P (λ e. Q)
-on_err (Ok x) P Q h q = absurd (let z : false ≡ true = h in cc)
-on_err (Err e) P Q h q = q
+pub empty-is : (bytes : List ℕ) → (length bytes == 0) ≡ true → bytes ≡ []
+empty-is [] e = refl
+empty-is (b ∷ bytes) e = absurd (let z : length (b ∷ bytes) ≡ 0 = eqb-true (length (b ∷ bytes)) 0 e in omega arith)
+
+pub some-bytes : (bytes : List ℕ) → (length bytes == 0) ≡ false → 0 < length bytes
+some-bytes [] e = absurd (let z : true ≡ false = e in cc)
+some-bytes (b ∷ bytes) e = omega arith
+
+pub on-err : {T E : Type 0} (r : Result T E) (P : T → Type 0) (Q : Type 0) → IsErr r → Q → MatchResult r P (λ e. Q)
+on-err (Ok x) P Q h q = absurd (let z : false ≡ true = h in cc)
+on-err (Err e) P Q h q = q
+
+pub on-ok : {T E P Q : Type 0} (r : Result T E) → (P → Q) → OnOk r P → OnOk r Q
+on-ok (Ok x) f p = f p
+on-ok (Err e) f p = tt
+
+-- calls that ended well come before
+pub counts-then : {A E : Type 0} (r : Result A E) (a b c : Calls) → Well 0 a b → Counts 0 r b c → Counts 0 r a c
+counts-then (Ok x) a b c v w = well-then a b c v w
+counts-then (Err e) a b c v w = cut-then a b c v w

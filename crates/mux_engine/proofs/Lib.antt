@@ -1,33 +1,18 @@
-pub mod Spoken
-pub mod Asks
-pub mod Decided
-pub mod Nexts
-pub mod Hearing
-pub mod HearsThere
-pub mod Clients
-pub mod RowFacts
-pub mod Says
-pub mod Fits
-pub mod Grows
-pub mod Sayings
-pub mod Pieces
-pub mod Listed
-pub mod Served
-pub mod Moved
-pub mod Goes
-pub mod Ends
-pub mod Comes
-pub mod GoesOn
-pub mod Drawn
-pub mod Closes
-pub mod Queues
-pub mod Others
-pub mod Wires
-pub mod Offers
-pub mod Arms
-pub mod Loops
-pub mod Turns
-pub mod Marks
-pub mod Turned
-pub mod Runs
-pub mod Alone
+mod Arms
+mod Counting
+mod Keeps
+mod Lists
+mod Logs
+mod Looped
+mod Loops
+mod Marks
+mod Offers
+mod Outs
+mod Runs
+mod Silent
+mod Taken
+mod Told
+mod Turned
+mod Turns
+mod Unshared
+mod Waits

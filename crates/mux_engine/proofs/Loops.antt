@@ -1,156 +1,229 @@
 -- The loops over streams that are offered what waits for them, and over clients that are closed.
-use Rattle.std.proofs.Common.{◌≡◌, ◌≢◌, ◌≤◌, ◌<◌, ◌+◌, ℕ, zero, suc, Bool, true, false, not, ◌||◌, List, [], ◌∷◌, length, get_or, drop, Option, Some, None, refl, sym, ap, ◌∙◌, subst, inl, inr, ◌⊎◌, cond, arith}
-use Rattle.std.specs.Prelude.{◌==◌, filter}
-use Rattle.std.proofs.Math.Seq.{drop-cons}
-use Rattle.std.proofs.lemmas.Bool.{eq-eqb}
+use Rattle.std.proofs.Common.{◌≡◌, ◌≢◌, ◌≤◌, ◌<◌, ◌+◌, ℕ, zero, suc, Bool, true, false, not, ◌||◌, List, [], ◌∷◌, ◌++◌, length, drop, Option, Some, None, refl, sym, ap, ◌∙◌, subst, inl, inr, ◌⊎◌, cond, arith}
+use Rattle.std.specs.Prelude.{◌==◌, filter, Result, Ok, Err, IsErr}
+use Rattle.std.specs.List.{list_any}
+use Rattle.std.proofs.lemmas.Bool.{eq-eqb, eqb-true}
 use Rattle.std.proofs.lemmas.Bool.Decides.{eqb_tells}
-use Rattle.mux_outside.specs.Streams.{among, without}
+use Rattle.std.proofs.lemmas.List.Folds.{list_any-append}
 use Rattle.mux_outside.specs.House.{Asked}
+use Rattle.mux_outside.specs.Seen.{Calls, Seen, seen_after_close}
+use Rattle.mux_outside.specs.Streams.{among, without}
 use Rattle.mux_outside.specs.declared.house.HouseReply.{HouseReply}
 use Rattle.mux_outside.specs.declared.mark.Mark.{Mark}
 use Rattle.mux_history.specs.declared.why.Why.{Why}
-use Rattle.mux_history.specs.Rows.{rows_of, is_out, losses}
-use Rattle.mux_history.specs.Promises.{IsSettled, is_empty}
+use Rattle.mux_history.specs.Policy.{Policy}
+use Rattle.mux_history.specs.Rows.{Row, rows_of, is_out, losses, loss_by, loses, is_refusal, Item, Gone, Fate, Goes, Refused, Drop, End}
+use Rattle.mux_history.specs.Pending.{pending}
+use Rattle.mux_history.specs.Settings.{by_lists}
+use Rattle.mux_history.specs.Promises.{IsSettled, has_output, is_empty}
 use Rattle.mux_history.proofs.Wires.{wire-keeps}
-use Rattle.mux_engine.specs.State.{ClientState, State}
-use Rattle.mux_engine.specs.Step.{is_present, numbers, queue_in, without_client, closed_by, first_of}
-use Rattle.mux_engine.specs.Stands.{setting, log, StandsFor, IsFirst, not_closed}
-use Rattle.mux_engine.specs.Serving.{ServingBy, IsUnseen}
-use Rattle.mux_engine.proofs.Grows.{test_other, or_true}
-use Rattle.mux_engine.proofs.Moved.{true_false}
-use Rattle.mux_engine.proofs.Served.{gone_less, present_less}
-use Rattle.mux_engine.proofs.Closes.{closes_by, in_losses, first_in, unfiltered, loss_is_out}
-use Rattle.mux_engine.proofs.Queues.{waits_among, none_waits}
-use Rattle.mux_engine.proofs.Wires.{among_numbers}
-use Rattle.mux_engine.proofs.Offers.{serve_empty, without_other, AtStream, at_stream}
+use Rattle.mux_clients.specs.State.{ClientState}
+use Rattle.mux_clients.specs.Among.{is_present}
+use Rattle.mux_clients.proofs.Stood.{own_row}
+use Rattle.mux_machine.specs.State.{State, closed_by, first_of, waiting_clients, waiting_in}
+use Rattle.mux_machine.specs.Events.{here}
+use Rattle.mux_machine.specs.Stands.{Closes, IsFirst, Stands, StandsFor, log, not_closed}
+use Rattle.mux_engine.specs.Counted.{Counts, Cut}
+use Rattle.mux_engine.specs.Serving.{IsSound, IsUnseen, Serving, is_open}
+use Rattle.mux_engine.proofs.Lists.{among-here, among-less, among-open, apart-or-left, either, here-open, none-without, or-true, test-other, true-false, without-other}
+use Rattle.mux_engine.proofs.Logs.{out-more}
+use Rattle.mux_engine.proofs.Marks.{log-is}
+use Rattle.mux_engine.proofs.Offers.{AtStream, at-stream, narrower, serve-todo}
+use Rattle.mux_engine.proofs.Taken.{here-less}
 
-pub wider : (rs : List HouseReply) (dn : List Asked) (pid : ℕ) (start told : Option (List Mark)) (streams blocked held : List ℕ) (listens : Bool) (last given : ℕ) (todo : List ℕ) (s : State) (k : ℕ) → ServingBy rs dn pid start told streams blocked held listens last given todo s → ServingBy rs dn pid start told streams blocked held listens last given (k ∷ todo) s
-wider rs dn pid start told streams blocked held listens last given todo s k v = serve_empty rs dn pid start told streams blocked held listens last given todo (k ∷ todo) s v (λ t journal closed e st b a. inl (by_test t (k == t) a))
-  where
-    by_test : (t : ℕ) (b : Bool) → (b || among t todo) ≡ false → among t todo ≡ false
-    by_test t true a = true_false a
-    by_test t false a = a
+-- ---- offers of one stream
 
-pub none_without : (k : ℕ) (todo : List ℕ) → among k (without k todo) ≡ false
-none_without k [] = refl
-none_without k (j ∷ todo) = elim (eqb_tells j k) [
-  | inl q ↦ ap (λ b. among k (cond (not b) (j ∷ without k todo) (without k todo))) q.0 ∙ none_without k todo
-  | inr q ↦ ap (λ b. among k (cond (not b) (j ∷ without k todo) (without k todo))) q.0 ∙ (ap (λ b. b || among k (without k todo)) q.0 ∙ none_without k todo)
-]
+pub twice-among : (k : ℕ) (todo : List ℕ) → among 0 (k ∷ todo) ≡ true → among 0 (k ∷ (k ∷ todo)) ≡ true
+twice-among k todo e = ap (λ b. (k == 0) || b) e ∙ or-true (k == 0)
 
--- the stream that was offered is done with
-pub narrower : (rs : List HouseReply) (dn : List Asked) (pid : ℕ) (start told : Option (List Mark)) (streams blocked held : List ℕ) (listens : Bool) (last given : ℕ) (todo : List ℕ) (s : State) (k : ℕ) → ServingBy rs dn pid start told streams blocked held listens last given (without k (k ∷ todo)) s → ServingBy rs dn pid start told streams blocked held listens last given todo s
-narrower rs dn pid start told streams blocked held listens last given todo s k v = serve_empty rs dn pid start told streams blocked held listens last given (without k (k ∷ todo)) todo s v (λ t journal closed e st b a. inl (elim (eqb_tells k t) [
-  | inl q ↦ ap (λ i. among i (without k (k ∷ todo))) (sym q.1) ∙ none_without k (k ∷ todo)
-  | inr q ↦ without_other k t (k ∷ todo) q.1 ∙ (ap (λ b. b || among t todo) q.0 ∙ a)
-]))
+pub zero-among : (k : ℕ) (todo : List ℕ) → among 0 (k ∷ (0 ∷ todo)) ≡ true
+zero-among k todo = or-true (k == 0)
 
 -- after one offer more is to be offered, or nothing
-pub on_more : (rs : List HouseReply) (dn : List Asked) (pid : ℕ) (start told : Option (List Mark)) (streams blocked held : List ℕ) (listens : Bool) (last given : ℕ) (todo : List ℕ) (s : State) (k : ℕ) (more : Bool) → more ≡ true → ServingBy rs dn pid start told streams blocked held listens last given (cond more (k ∷ (k ∷ todo)) (without k (k ∷ todo))) s → ServingBy rs dn pid start told streams blocked held listens last given (k ∷ todo) s
-on_more rs dn pid start told streams blocked held listens last given todo s k more e v = serve_empty rs dn pid start told streams blocked held listens last given (k ∷ (k ∷ todo)) (k ∷ todo) s (subst (λ (m : Bool). ServingBy rs dn pid start told streams blocked held listens last given (cond m (k ∷ (k ∷ todo)) (without k (k ∷ todo))) s) e v) (λ t journal closed e st b a. inl (by_test t (k == t) a))
+pub on-more : {May : HouseReply → Type 0} {before now : Option (List Asked)} {policy : Policy} {pid : ℕ} {start : Option (List Mark)} {seen : Seen} {held : List ℕ} {given : ℕ} {s : State} (k : ℕ) (todo : List ℕ) (more : Bool) → more ≡ true
+    → Serving May before now policy pid start seen held given (cond more (k ∷ (k ∷ todo)) (without k (k ∷ todo))) s → Serving May before now policy pid start seen held given (k ∷ todo) s
+on-more {May} {before} {now} {policy} {pid} {start} {seen} {held} {given} {s} k todo more e v =
+    serve-todo (subst (λ (m : Bool). Serving May before now policy pid start seen held given (cond m (k ∷ (k ∷ todo)) (without k (k ∷ todo))) s) e v) (k ∷ todo) (λ t a. inl (by_test t (k == t) a))
   where
     by_test : (t : ℕ) (b : Bool) → (b || among t todo) ≡ false → (b || (b || among t todo)) ≡ false
-    by_test t true a = true_false a
+    by_test t true a = true-false a
     by_test t false a = a
 
-pub on_done : (rs : List HouseReply) (dn : List Asked) (pid : ℕ) (start told : Option (List Mark)) (streams blocked held : List ℕ) (listens : Bool) (last given : ℕ) (todo : List ℕ) (s : State) (k : ℕ) (more : Bool) → more ≡ false → ServingBy rs dn pid start told streams blocked held listens last given (cond more (k ∷ (k ∷ todo)) (without k (k ∷ todo))) s → ServingBy rs dn pid start told streams blocked held listens last given todo s
-on_done rs dn pid start told streams blocked held listens last given todo s k more e v = narrower rs dn pid start told streams blocked held listens last given todo s k (subst (λ (m : Bool). ServingBy rs dn pid start told streams blocked held listens last given (cond m (k ∷ (k ∷ todo)) (without k (k ∷ todo))) s) e v)
+pub on-done : {May : HouseReply → Type 0} {before now : Option (List Asked)} {policy : Policy} {pid : ℕ} {start : Option (List Mark)} {seen : Seen} {held : List ℕ} {given : ℕ} {s : State} (k : ℕ) (todo : List ℕ) (more : Bool) → more ≡ false
+    → Serving May before now policy pid start seen held given (cond more (k ∷ (k ∷ todo)) (without k (k ∷ todo))) s → Serving May before now policy pid start seen held given todo s
+on-done {May} {before} {now} {policy} {pid} {start} {seen} {held} {given} {s} k todo more e v =
+    narrower k (subst (λ (m : Bool). Serving May before now policy pid start seen held given (cond m (k ∷ (k ∷ todo)) (without k (k ∷ todo))) s) e v)
 
--- a stream that is blocked is settled
-pub held_back : (rs : List HouseReply) (dn : List Asked) (pid : ℕ) (start told : Option (List Mark)) (streams blocked held : List ℕ) (listens : Bool) (last given : ℕ) (todo : List ℕ) (s : State) (k : ℕ) → ServingBy rs dn pid start told streams blocked held listens last given (k ∷ todo) s → is_present s.clients k ≡ true → among k held ≡ true
-    → ServingBy rs dn pid start told streams blocked held listens last given todo s
-held_back rs dn pid start told streams blocked held listens last given todo s k v here h = serve_empty rs dn pid start told streams blocked held listens last given (k ∷ todo) todo s v (λ t journal closed e st b a. elim (eqb_tells k t) [
-  | inl q ↦ inr (inr (inl (sym (b t (ap (is_present s.clients) (sym q.1) ∙ here)) ∙ (ap (λ i. among i blocked) (sym q.1) ∙ (ap (among k) (sym v.held_is) ∙ h)))))
-  | inr q ↦ inl (ap (λ b. b || among t todo) q.0 ∙ a)
-])
+pub counts-err : {A E : Type 0} (r : Result A E) (waits : ℕ) (old new : Calls) → IsErr r → Cut waits old new → Counts waits r old new
+counts-err (Ok x) waits old new h c = absurd (let z : false ≡ true = h in cc)
+counts-err (Err e) waits old new h c = c
 
-not_empty : (q : List ℕ) → not (is_empty q) ≡ false → q ≡ []
-not_empty [] e = refl
-not_empty (b ∷ q) e = true_false e
+-- ---- the streams that wait
 
--- only the streams that wait are left to be offered something
-pub only_waiting : (rs : List HouseReply) (dn : List Asked) (pid : ℕ) (start told : Option (List Mark)) (streams blocked held : List ℕ) (listens : Bool) (last given : ℕ) (s : State) → ServingBy rs dn pid start told streams blocked held listens last given (numbers s.clients) s → ServingBy rs dn pid start told streams blocked held listens last given s.waiting s
-only_waiting rs dn pid start told streams blocked held listens last given s v = serve_empty rs dn pid start told streams blocked held listens last given (numbers s.clients) s.waiting s v (λ t journal closed e st b a. by_here t journal closed e st a (among t (numbers s.clients)) refl)
+not-empty : (q : List ℕ) → not (is_empty q) ≡ false → q ≡ []
+not-empty [] e = refl
+not-empty (b ∷ q) e = true-false e
+
+-- the server's stream and those that wait are left to be offered something
+pub only-waiting : {May : HouseReply → Type 0} {before now : Option (List Asked)} {policy : Policy} {pid : ℕ} {start : Option (List Mark)} {seen : Seen} {held : List ℕ} {given : ℕ} {s : State} (v : Serving May before now policy pid start seen held given (0 ∷ here s) s) (waiting : List ℕ)
+    → ((t : ℕ) → among t v.closed ≡ false → (picks : List ℕ) (later : List HouseReply) → among t waiting ≡ has_output (log s (v.picked ++ picks) (v.replies ++ later) v.journal) t)
+    → Serving May before now policy pid start seen held given (0 ∷ without 0 waiting) s
+only-waiting {policy = policy} {pid = pid} {s = s} v waiting waits = serve-todo v (0 ∷ without 0 waiting) (λ t a. by_here t (apart-or-left 0 t (without 0 waiting) a) (among t (here s)) refl)
   where
-    by_here : (t : ℕ) (journal : List Mark) (closed : List ℕ) → s.pid ≡ pid → StandsFor rs dn s journal closed → among t s.waiting ≡ false → (b : Bool) → among t (numbers s.clients) ≡ b → (among t (numbers s.clients) ≡ false) ⊎ IsSettled (setting pid rs) journal t
-    by_here t journal closed e st a false h = inl h
-    by_here t journal closed e st a true h =
-        let at : AtStream rs dn pid s journal closed t = at_stream rs dn pid s journal closed t e st (sym (among_numbers t s.clients) ∙ h) in
-        inr (inl (sym at.queue ∙ not_empty (queue_in s.clients t) (sym (waits_among t s.clients st.apart) ∙ (ap (among t) (sym st.waiting_is) ∙ a))))
+    by_here : (t : ℕ) → (0 ≢ t) × (among t (without 0 waiting) ≡ false) → (b : Bool) → among t (here s) ≡ b → (among t (0 ∷ here s) ≡ false) ⊎ ((picks : List ℕ) (later : List HouseReply) → IsSettled (by_lists policy pid (v.picked ++ picks) (v.replies ++ later)) v.journal t)
+    by_here t q false h = inl (ap (λ b. b || among t (here s)) (test-other 0 t q.0) ∙ h)
+    by_here t q true h =
+        let at : AtStream s v.journal v.closed t = at-stream v.stands t (here-open s t (sym (among-here s t) ∙ h)) in
+        let none : among t waiting ≡ false = sym (without-other 0 t waiting q.0) ∙ q.1 in
+        inr (λ picks later. inl (ap (pending t) (sym (log-is s policy pid (v.picked ++ picks) (v.replies ++ later) v.journal v.policy_is v.pid_is))
+        ∙ not-empty (pending t (log s (v.picked ++ picks) (v.replies ++ later) v.journal)) (sym (waits t at.not_closed picks later) ∙ none)))
 
-pub waits_here : (rs : List HouseReply) (dn : List Asked) (s : State) (marks : List Mark) (closed : List ℕ) (t : ℕ) → StandsFor rs dn s marks closed → among t s.waiting ≡ true → is_present s.clients t ≡ true
-waits_here rs dn s marks closed t st a = by_here (is_present s.clients t) refl
+waiting-present : (t : ℕ) (cs : List ClientState) → among t (waiting_clients cs) ≡ true → is_present cs t ≡ true
+waiting-present t [] a = absurd (let z : false ≡ true = a in cc)
+waiting-present t (c ∷ cs) a = by_empty (waiting-present t cs) (is_empty c.seat.queue) a
   where
-    by_here : (b : Bool) → is_present s.clients t ≡ b → b ≡ true
-    by_here true e = refl
-    by_here false e = true_false (sym a ∙ (ap (among t) st.waiting_is ∙ none_waits t s.clients e))
+    by_head : (among t (waiting_clients cs) ≡ true → is_present cs t ≡ true) → (b : Bool) → (b || among t (waiting_clients cs)) ≡ true → either b (is_present cs t) ≡ true
+    by_head ih true e = refl
+    by_head ih false e = ih e
 
-pub element_among : (i : ℕ) (xs : List ℕ) → i < length xs → among (get_or xs i 0) xs ≡ true
-element_among i [] lt = absurd (omega arith)
-element_among zero (x ∷ xs) lt = ap (λ b. b || among x xs) (eq-eqb x x refl)
-element_among (suc i) (x ∷ xs) lt = ap (λ b. (x == get_or xs i 0) || b) (element_among i xs (omega arith)) ∙ or_true (x == get_or xs i 0)
+    or-rest : (b : Bool) → is_present cs t ≡ true → either b (is_present cs t) ≡ true
+    or-rest true e = refl
+    or-rest false e = e
 
-pub still_here : (s t : State) (k : ℕ) → numbers t.clients ≡ numbers s.clients → is_present s.clients k ≡ true → is_present t.clients k ≡ true
-still_here s t k e here = sym (among_numbers k t.clients) ∙ (ap (among k) e ∙ (among_numbers k s.clients ∙ here))
+    by_empty : (among t (waiting_clients cs) ≡ true → is_present cs t ≡ true) → (b : Bool) → among t (cond b (waiting_clients cs) (c.seat.number ∷ waiting_clients cs)) ≡ true → either (c.seat.number == t) (is_present cs t) ≡ true
+    by_empty ih true e = or-rest (c.seat.number == t) (ih e)
+    by_empty ih false e = by_head ih (c.seat.number == t) e
 
-pub drop_next : (i : ℕ) (xs : List ℕ) → i < length xs → drop i xs ≡ get_or xs i 0 ∷ drop (i + 1) xs
-drop_next i xs lt = let e : suc i ≡ i + 1 = omega arith in drop-cons xs i 0 lt ∙ ap (λ m. get_or xs i 0 ∷ drop m xs) e
+-- a client that waits is here
+pub waits-open : (s : State) (t : ℕ) → among t (without 0 (waiting_in s)) ≡ true → is_open s t ≡ true
+waits-open s t a = elim (eqb_tells 0 t) [
+  | inl q ↦ true-false (sym a ∙ (ap (λ i. among i (without 0 (waiting_in s))) (sym q.1) ∙ none-without 0 (waiting_in s)))
+  | inr q ↦ here-open s t (ap (λ b. b || among t s.refused) (waiting-present t s.clients (by_server (is_empty s.up.waiting) q.0 (sym (without-other 0 t (waiting_in s) q.1) ∙ a))))
+]
+  where
+    by_server : (b : Bool) → (0 == t) ≡ false → among t (cond b (waiting_clients s.clients) (0 ∷ waiting_clients s.clients)) ≡ true → among t (waiting_clients s.clients) ≡ true
+    by_server true e h = h
+    by_server false e h = sym (ap (λ b. b || among t (waiting_clients s.clients)) e) ∙ h
 
-pub drop_all : (n : ℕ) (xs : List ℕ) → length xs ≤ n → drop n xs ≡ []
-drop_all n [] le = Rattle.mux_engine.proofs.Served.drop_none n
-drop_all zero (x ∷ xs) le = absurd (omega arith)
-drop_all (suc n) (x ∷ xs) le = drop_all n xs (omega arith)
+pub drop-all : (n : ℕ) (xs : List ℕ) → length xs ≤ n → drop n xs ≡ []
+drop-all zero [] le = refl
+drop-all (suc n) [] le = refl
+drop-all zero (x ∷ xs) le = absurd (omega arith)
+drop-all (suc n) (x ∷ xs) le = drop-all n xs (omega arith)
+
+-- the next stream comes before the server's
+pub next-first : {May : HouseReply → Type 0} {before now : Option (List Asked)} {policy : Policy} {pid : ℕ} {start : Option (List Mark)} {seen : Seen} {held : List ℕ} {given : ℕ} {s : State} (todo : List ℕ) (k : ℕ) (rest : List ℕ) → todo ≡ k ∷ rest
+    → Serving May before now policy pid start seen held given (0 ∷ todo) s → Serving May before now policy pid start seen held given (k ∷ (0 ∷ rest)) s
+next-first todo k rest e v = serve-todo v (k ∷ (0 ∷ rest)) (λ t a. inl (ap (λ l. among t (0 ∷ l)) e ∙ by_tests t (0 == t) (k == t) a))
+  where
+    by_tests : (t : ℕ) (b c : Bool) → (c || (b || among t rest)) ≡ false → (b || (c || among t rest)) ≡ false
+    by_tests t true true a = a
+    by_tests t true false a = a
+    by_tests t false true a = a
+    by_tests t false false a = a
+
+pub todo-is : {May : HouseReply → Type 0} {before now : Option (List Asked)} {policy : Policy} {pid : ℕ} {start : Option (List Mark)} {seen : Seen} {held : List ℕ} {given : ℕ} {s : State} (todo todo' : List ℕ) → todo ≡ todo'
+    → Serving May before now policy pid start seen held given todo s → Serving May before now policy pid start seen held given todo' s
+todo-is {May} {before} {now} {policy} {pid} {start} {seen} {held} {given} {s} todo todo' e v = subst (λ x. Serving May before now policy pid start seen held given x s) e v
 
 -- ---- clients that are closed
 
-pub first_out : (rs : List HouseReply) (dn : List Asked) (s : State) (marks : List Mark) (closed : List ℕ) (k : ℕ) → StandsFor rs dn s marks closed → IsFirst k s.leaving → is_out (rows_of k (log s.pid rs marks)) ≡ true
-first_out rs dn s marks closed k st first = loss_is_out k (log s.pid rs marks) (unfiltered k (not_closed closed) (losses (log s.pid rs marks)) (subst (λ ls. in_losses k ls ≡ true) st.leaving_are (first_in k s.leaving first)))
+abbrev in-losses : ℕ → List (ℕ × Option Why) → Bool
+in-losses k ls = list_any (λ l. l.0 == k) ls
 
-first_nonzero : (rs : List HouseReply) (dn : List Asked) (s : State) (marks : List Mark) (closed : List ℕ) (k : ℕ) → StandsFor rs dn s marks closed → IsFirst k s.leaving → k ≢ 0
-first_nonzero rs dn s marks closed k st first e = true_false (sym (first_out rs dn s marks closed k st first) ∙ (ap (λ j. is_out (rows_of j (log s.pid rs marks))) e ∙ st.server_in))
+first-in : (k : ℕ) (ls : List (ℕ × Option Why)) → IsFirst k ls → in-losses k ls ≡ true
+first-in k [] f = absurd f
+first-in k (l ∷ ls) f = ap (λ b. b || in-losses k ls) (eq-eqb l.0 k f)
 
-without_numbers : (k : ℕ) (cs : List ClientState) → without k (numbers cs) ≡ numbers (without_client k cs)
-without_numbers k [] = refl
-without_numbers k (c ∷ cs) = by_test (c.number == k) (without_numbers k cs)
+unfiltered : (k : ℕ) (p : ℕ × Option Why → Bool) (ls : List (ℕ × Option Why)) → in-losses k (filter p ls) ≡ true → in-losses k ls ≡ true
+unfiltered k p [] h = h
+unfiltered k p (l ∷ ls) h = by_test (p l) (unfiltered k p ls) h
   where
-    by_test : (b : Bool) → without k (numbers cs) ≡ numbers (without_client k cs) → cond (not b) (c.number ∷ without k (numbers cs)) (without k (numbers cs)) ≡ numbers (cond (not b) (c ∷ without_client k cs) (without_client k cs))
-    by_test true ih = ih
-    by_test false ih = ap (λ l. c.number ∷ l) ih
+    by_test : (b : Bool) → (in-losses k (filter p ls) ≡ true → in-losses k ls ≡ true) → in-losses k (cond b (l ∷ filter p ls) (filter p ls)) ≡ true → ((l.0 == k) || in-losses k ls) ≡ true
+    by_test true ih h = by_own (l.0 == k) h
+      where
+        by_own : (c : Bool) → (c || in-losses k (filter p ls)) ≡ true → (c || in-losses k ls) ≡ true
+        by_own true h = refl
+        by_own false h = ih h
+    by_test false ih h = ap (λ b. (l.0 == k) || b) (ih h) ∙ or-true (l.0 == k)
 
-among_less : (k t : ℕ) (xs : List ℕ) → among t xs ≡ false → among t (without k xs) ≡ false
-among_less k t xs a = elim (eqb_tells k t) [
-  | inl q ↦ ap (λ i. among i (without k xs)) (sym q.1) ∙ none_without k xs
-  | inr q ↦ without_other k t xs q.1 ∙ a
+or-one : (a : Bool) → (a || false) ≡ true → a ≡ true
+or-one true e = refl
+or-one false e = e
+
+own-out : (k : ℕ) (row : Row) (rows : List Row) → row.client ≡ k → (loses row || is_refusal row.fate) ≡ true → is_out (rows_of k (row ∷ rows)) ≡ true
+own-out k row rows e p = ap is_out (own_row k row rows e) ∙ ap (λ b. b || is_out (rows_of k rows)) p
+
+loss-out : (k : ℕ) (row : Row) (rows : List Row) (f : Fate) (i : Item) → row.fate ≡ f → row.item ≡ i → in-losses k (loss_by row) ≡ true → is_out (rows_of k (row ∷ rows)) ≡ true
+loss-out k row rows (Drop cause) i e j h = own-out k row rows (eqb-true row.client k (or-one (row.client == k) (rw e at h))) (rw e refl)
+loss-out k row rows Refused i e j h = own-out k row rows (eqb-true row.client k (or-one (row.client == k) (rw e at h))) (rw e refl)
+loss-out k row rows (End cause) i e j h = true-false (sym (rw e at h))
+loss-out k row rows Goes (Gone n) e j h = own-out k row rows (eqb-true row.client k (or-one (row.client == k) (rw (e, j) at h))) (rw (e, j) refl)
+loss-out k row rows Goes i e j h = true-false (sym (rw (e, j) at h))
+
+split-losses : (k : ℕ) (a b : List (ℕ × Option Why)) → in-losses k (a ++ b) ≡ true → (in-losses k a ≡ true) ⊎ (in-losses k b ≡ true)
+split-losses k a b h = by_first (in-losses k a) refl (sym (list_any-append (λ (l : ℕ × Option Why). l.0 == k) a b) ∙ h)
+  where
+    by_first : (x : Bool) → in-losses k a ≡ x → (in-losses k a || in-losses k b) ≡ true → (in-losses k a ≡ true) ⊎ (in-losses k b ≡ true)
+    by_first true e t = inl e
+    by_first false e t = inr (sym (ap (λ y. y || in-losses k b) e) ∙ t)
+
+-- a client that was lost or refused is out
+loss-is-out : (k : ℕ) (rows : List Row) → in-losses k (losses rows) ≡ true → is_out (rows_of k rows) ≡ true
+loss-is-out k [] h = true-false (sym h)
+loss-is-out k (row ∷ rows) h = elim (split-losses k (losses rows) (loss_by row) h) [
+  | inl a ↦ out-more k row rows (loss-is-out k rows a)
+  | inr b ↦ loss-out k row rows row.fate row.item refl refl b
 ]
 
-pub serve_closed : (rs : List HouseReply) (dn : List Asked) (pid : ℕ) (start told : Option (List Mark)) (streams blocked held : List ℕ) (listens : Bool) (last given : ℕ) (todo : List ℕ) (s : State) (k : ℕ) → ServingBy rs dn pid start told streams blocked held listens last given todo s → IsFirst k s.leaving
-    → ServingBy rs dn pid start told (without k streams) (without k blocked) (without k held) listens last given todo (closed_by s k)
-serve_closed rs dn pid start told streams blocked held listens last given todo s k v first =
-    let nz : k ≢ 0 = first_nonzero rs dn s v.journal v.closed k v.stands first in
+-- so the server's stream is never closed
+pub first-nonzero : {picked : List ℕ} {replies : List HouseReply} {s : State} {marks : List Mark} {closed : List ℕ} (st : Stands picked replies s marks closed) (k : ℕ) → IsFirst k s.leaving → k ≢ 0
+first-nonzero {picked} {replies} {s} {marks} {closed} st k first e =
+    let rows : List Row = log s (picked ++ []) (replies ++ []) marks in
+    let v : StandsFor (picked ++ []) (replies ++ []) (length picked) st.asks s marks closed = st.at [] [] in
+    let out : is_out (rows_of k rows) ≡ true = loss-is-out k rows (unfiltered k (not_closed closed) (losses rows) (subst (λ ls. in-losses k ls ≡ true) v.rows.leaving_are (first-in k s.leaving first))) in
+    true-false (sym out ∙ (ap (λ j. is_out (rows_of j rows)) e ∙ v.rows.server_in))
+
+pub closed-open : (s : State) (k t : ℕ) → is_open (closed_by s k) t ≡ true → (k ≢ t) → is_open s t ≡ true
+closed-open s k t opened ne = sym (among-open s t) ∙ (ap (λ b. (0 == t) || b) (sym (without-other k t (here s) ne) ∙ ap (among t) (here-less s k)) ∙ (among-open (closed_by s k) t ∙ opened))
+
+pub closed-gone : (s : State) (k t : ℕ) → k ≢ 0 → is_open (closed_by s k) t ≡ true → k ≡ t → ⊥
+closed-gone s k t nz opened e = true-false (sym opened ∙ (sym (among-open (closed_by s k) t) ∙ (ap (λ b. b || among t (here (closed_by s k))) (test-other 0 t (λ z. nz (e ∙ sym z))) ∙ (ap (among t) (sym (here-less s k)) ∙ (ap (λ i. among i (without k (here s))) (sym e) ∙ none-without k (here s))))))
+
+unfoldable pub serve-closed : {May : HouseReply → Type 0} {before now : Option (List Asked)} {policy : Policy} {pid : ℕ} {start : Option (List Mark)} {seen : Seen} {held : List ℕ} {given : ℕ} {todo : List ℕ} {s : State} (v : Serving May before now policy pid start seen held given todo s) (k : ℕ)
+    → IsFirst k s.leaving → Closes s (closed_by s k) k → Serving May before now policy pid start (seen_after_close k seen) (without k held) given todo (closed_by s k)
+serve-closed {May} {before} {now} {policy} {pid} {start} {seen} {held} {given} {todo} {s} v k first closes =
+    let nz : k ≢ 0 = first-nonzero v.stands k first in
+    let st : Stands v.picked v.replies (closed_by s k) v.journal (k ∷ v.closed) = closes v.picked v.replies v.journal v.closed v.stands in
+    let asks : st.asks ≡ v.stands.asks = sym (st.at [] []).rows.asked_is ∙ (v.stands.at [] []).rows.asked_is in
     record {
       journal = v.journal;
       closed = k ∷ v.closed;
+      picked = v.picked;
+      replies = v.replies;
+      policy_is = v.policy_is;
       pid_is = v.pid_is;
+      may = v.may;
+      stands = st;
+      house = subst (Rattle.mux_clients.specs.Asked.TellsAsks before now) (sym asks) v.house;
       tells = v.tells;
-      of_wire = (wire-keeps streams blocked last v.journal).close k v.of_wire;
-      stands = closes_by rs dn s k first v.journal v.closed v.stands;
-      kept = v.kept;
+      of_wire = (wire-keeps seen.streams seen.blocked seen.last v.journal).close k v.of_wire;
       waits = v.waits;
-      open_are = ap (without k) v.open_are ∙ (ap (λ b. cond (not b) (0 ∷ without k (numbers s.clients)) (without k (numbers s.clients))) (test_other 0 k (λ e. nz (sym e))) ∙ ap (λ l. 0 ∷ l) (without_numbers k s.clients));
+      open_are = ap (without k) v.open_are ∙ (ap (λ b. cond (not b) (0 ∷ without k (here s)) (without k (here s))) (test-other 0 k (λ e. nz (sym e))) ∙ ap (λ l. 0 ∷ l) (here-less s k));
       held_is = ap (without k) v.held_is;
       blocked_is = λ t p. elim (eqb_tells k t) [
-        | inl q ↦ true_false (sym p ∙ (ap (is_present (without_client k s.clients)) (sym q.1) ∙ gone_less k s.clients))
-        | inr q ↦ without_other k t blocked q.1 ∙ v.blocked_is t (sym (present_less k t s.clients q.1) ∙ p)
+        | inl q ↦ absurd (closed-gone s k t nz p q.1)
+        | inr q ↦ without-other k t seen.blocked q.1 ∙ v.blocked_is t (closed-open s k t p q.1)
       ];
-      failed_out = v.failed_out;
-      unseen = λ j lt. let u : IsUnseen v.journal blocked j = v.unseen j lt in record { not_accepted = u.not_accepted; never_blocked = u.never_blocked; not_blocked = among_less k j blocked u.not_blocked };
-      settled = v.settled;
+      unseen = λ j lt. let u : IsUnseen v.journal seen.blocked j = v.unseen j lt in record { not_accepted = u.not_accepted; never_blocked = u.never_blocked; not_blocked = among-less k j seen.blocked u.not_blocked };
       hears = v.hears;
+      sound = λ picks later. let old : IsSound (by_lists policy pid (v.picked ++ picks) (v.replies ++ later)) v.journal todo s = v.sound picks later in
+          record { kept = old.kept; failed_out = old.failed_out; settled = old.settled };
     }
 
-filter_short : (p : ℕ × Option Why → Bool) (ls : List (ℕ × Option Why)) → length (filter p ls) ≤ length ls
-filter_short p [] = omega arith
-filter_short p (l ∷ ls) = by_test (p l) (filter_short p ls)
+filter-short : (p : ℕ × Option Why → Bool) (ls : List (ℕ × Option Why)) → length (filter p ls) ≤ length ls
+filter-short p [] = omega arith
+filter-short p (l ∷ ls) = by_test (p l) (filter-short p ls)
   where
     by_test : (b : Bool) → length (filter p ls) ≤ length ls → length (cond b (l ∷ filter p ls) (filter p ls)) ≤ length (l ∷ ls)
     by_test true ih = omega arith
@@ -159,19 +232,38 @@ filter_short p (l ∷ ls) = by_test (p l) (filter_short p ls)
 pub fewer : (k : ℕ) (ls : List (ℕ × Option Why)) → IsFirst k ls → length (filter (λ (l : ℕ × Option Why). not (l.0 == k)) ls) < length ls
 fewer k [] f = absurd f
 fewer k (l ∷ ls) f = let e : filter (λ (l : ℕ × Option Why). not (l.0 == k)) (l ∷ ls) ≡ filter (λ (l : ℕ × Option Why). not (l.0 == k)) ls = ap (λ b. cond (not b) (l ∷ filter (λ (l : ℕ × Option Why). not (l.0 == k)) ls) (filter (λ (l : ℕ × Option Why). not (l.0 == k)) ls)) (eq-eqb l.0 k f) in
-    let s : length (filter (λ (l : ℕ × Option Why). not (l.0 == k)) ls) ≤ length ls = filter_short (λ (l : ℕ × Option Why). not (l.0 == k)) ls in
+    let s : length (filter (λ (l : ℕ × Option Why). not (l.0 == k)) ls) ≤ length ls = filter-short (λ (l : ℕ × Option Why). not (l.0 == k)) ls in
     omega (arith, ap length e)
 
-pub first_is : (k : ℕ) (why : Option Why) (ls : List (ℕ × Option Why)) → first_of ls ≡ Some (k, why) → IsFirst k ls
-first_is k why [] e = absurd (cc)
-first_is k why (l ∷ ls) e = let p : l ≡ (k, why) = cc in ap (λ (x : ℕ × Option Why). x.0) p
+pub first-is : (k : ℕ) (why : Option Why) (ls : List (ℕ × Option Why)) → first_of ls ≡ Some (k, why) → IsFirst k ls
+first-is k why [] e = absurd (cc)
+first-is k why (l ∷ ls) e = let p : l ≡ (k, why) = cc in ap (λ (x : ℕ × Option Why). x.0) p
 
-pub first_none : (ls : List (ℕ × Option Why)) → first_of ls ≡ None → ls ≡ []
-first_none [] e = refl
-first_none (l ∷ ls) e = absurd (cc)
+pub first-none : (ls : List (ℕ × Option Why)) → first_of ls ≡ None → ls ≡ []
+first-none [] e = refl
+first-none (l ∷ ls) e = absurd (cc)
 
-pub todo_is : (rs : List HouseReply) (dn : List Asked) (pid : ℕ) (start told : Option (List Mark)) (streams blocked held : List ℕ) (listens : Bool) (last given : ℕ) (todo todo' : List ℕ) (s : State) → ServingBy rs dn pid start told streams blocked held listens last given todo s → todo ≡ todo' → ServingBy rs dn pid start told streams blocked held listens last given todo' s
-todo_is rs dn pid start told streams blocked held listens last given todo todo' s v e = subst (λ x. ServingBy rs dn pid start told streams blocked held listens last given x s) e v
+-- ---- clients are accepted no more
 
-pub told_is : (rs : List HouseReply) (dn : List Asked) (pid : ℕ) (start told told' : Option (List Mark)) (streams blocked held : List ℕ) (listens : Bool) (last given : ℕ) (todo : List ℕ) (s : State) → ServingBy rs dn pid start told streams blocked held listens last given todo s → told' ≡ told → ServingBy rs dn pid start told' streams blocked held listens last given todo s
-told_is rs dn pid start told told' streams blocked held listens last given todo s v e = subst (λ x. ServingBy rs dn pid start x streams blocked held listens last given todo s) (sym e) v
+unfoldable pub serve-hushed : {May : HouseReply → Type 0} {before now : Option (List Asked)} {policy : Policy} {pid : ℕ} {start : Option (List Mark)} {seen : Seen} {held : List ℕ} {given : ℕ} {todo : List ℕ} {s : State} (v : Serving May before now policy pid start seen held given todo s)
+    → s.listening ≡ false → Serving May before now policy pid start (record seen { listens = false }) held given todo s
+serve-hushed v none = record {
+  journal = v.journal;
+  closed = v.closed;
+  picked = v.picked;
+  replies = v.replies;
+  policy_is = v.policy_is;
+  pid_is = v.pid_is;
+  may = v.may;
+  stands = v.stands;
+  house = v.house;
+  tells = v.tells;
+  of_wire = v.of_wire;
+  waits = v.waits;
+  open_are = v.open_are;
+  held_is = v.held_is;
+  blocked_is = v.blocked_is;
+  unseen = v.unseen;
+  hears = λ l. true-false (sym l ∙ none);
+  sound = v.sound;
+}

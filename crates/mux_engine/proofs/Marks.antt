@@ -1,149 +1,202 @@
--- What a turn makes of what holds while a wire is served.
-use Rattle.std.proofs.Common.{drop, ◌≡◌, ◌≢◌, ◌<◌, ◌+◌, ℕ, Bool, true, false, ◌||◌, List, [], ◌∷◌, ◌++◌, Option, None, refl, sym, ap, ◌∙◌, inl, inr, cond, arith, length}
-use Rattle.std.specs.Prelude.{◌==◌}
-use Rattle.std.proofs.lemmas.Bool.{eq-eqb}
-use Rattle.std.proofs.lemmas.Bool.Decides.{eqb_tells}
-use Rattle.std.proofs.lemmas.List.Folds.{list_any-append}
-use Rattle.mux_outside.specs.Streams.{among, without}
+-- One mark more: what holds while a wire is served goes on with it, and is left of it for want of memory.
+use Rattle.std.proofs.Common.{◌≡◌, ◌≤◌, ◌<◌, ℕ, true, false, List, [], ◌∷◌, ◌++◌, length, Option, None, refl, sym, ap, ◌∙◌, subst, inl, inr, arith, append_assoc, append-nil}
+use Rattle.std.specs.Option.{option_map}
 use Rattle.mux_outside.specs.House.{Asked}
+use Rattle.mux_outside.specs.Seen.{Seen}
+use Rattle.mux_outside.specs.Streams.{among}
 use Rattle.mux_outside.specs.declared.house.HouseReply.{HouseReply}
 use Rattle.mux_outside.specs.declared.mark.Mark.{Mark}
-use Rattle.mux_outside.specs.declared.mark.Mark.TheVariants.{Waits, Accepts, Gets, Ends, Frees, Fails, Takes, Holds, WriteFails}
-use Rattle.mux_history.specs.Journal.{is_blocked}
-use Rattle.mux_history.specs.Promises.{IsSettled, write_failed, waits_in}
+use Rattle.mux_history.specs.Policy.{Policy}
+use Rattle.mux_history.specs.Rows.{Row, rows_of, is_out}
+use Rattle.mux_history.specs.Log.{Setting}
+use Rattle.mux_history.specs.Settings.{by_lists}
+use Rattle.mux_history.specs.Journal.{is_blocked, log_of_journal}
+use Rattle.mux_history.specs.Promises.{IsSettled, MayGive, OpenAt, TakesFront, WaitsAt, waits_in, write_failed}
 use Rattle.mux_history.specs.Wires.{OfWire}
-use Rattle.mux_engine.specs.State.{State}
-use Rattle.mux_engine.specs.Step.{is_present, numbers, after, asked_at}
-use Rattle.mux_engine.specs.Stands.{setting, log, StandsFor, is_accepted}
-use Rattle.mux_engine.specs.Serving.{ServingBy, IsUnseen}
-use Rattle.mux_engine.proofs.Grows.{test_other}
-use Rattle.mux_engine.proofs.Moved.{true_false}
-use Rattle.mux_engine.proofs.GoesOn.{goes_on}
-use Rattle.mux_engine.proofs.Others.{mark_stream, server_pending}
-use Rattle.mux_engine.proofs.Wires.{among_numbers, arrival_numbers, after_numbers, NotArrival, Next, PromiseAt, settled_other, log_out}
-use Rattle.mux_engine.proofs.Offers.{accepted_here, unseen_more, without_other, same_present, plain_at}
-use Rattle.mux_engine.proofs.Loops.{none_without}
+use Rattle.mux_bounds.specs.Bounds.{IsLog}
+use Rattle.mux_clients.specs.Asked.{asked_of, TellsAsks}
+use Rattle.mux_machine.specs.State.{State}
+use Rattle.mux_machine.specs.Events.{here}
+use Rattle.mux_machine.specs.Stands.{GoesBy, RowsFit, Stands, StandsFor, log}
+use Rattle.mux_engine.specs.Run.{IsOfWire}
+use Rattle.mux_engine.specs.Serving.{IsLeft, IsSound, IsUnseen, Kept, Promised, Serving, is_open}
+use Rattle.mux_engine.proofs.Logs.{log-listens, log-live}
+use Rattle.mux_engine.proofs.Told.{may-more, tells-more, tells-none, tells-then}
 
--- a stream that is open is the server's or that of a client that is here
-pub stream_here : (rs : List HouseReply) (dn : List Asked) (pid : ℕ) (start told : Option (List Mark)) (streams blocked held : List ℕ) (listens : Bool) (last given : ℕ) (todo : List ℕ) (s : State) (k : ℕ) → ServingBy rs dn pid start told streams blocked held listens last given todo s → among k streams ≡ true → k ≢ 0 → is_present s.clients k ≡ true
-stream_here rs dn pid start told streams blocked held listens last given todo s k v found nz =
-    sym (among_numbers k s.clients) ∙ (sym (ap (λ b. b || among k (numbers s.clients)) (test_other 0 k (λ e. nz (sym e)))) ∙ (sym (ap (among k) v.open_are) ∙ found))
+-- ---- what stood before, with the numbers and replies of now
 
--- whoever has no stream that is named by the mark is settled as before
-rest_settled : (rs : List HouseReply) (dn : List Asked) (pid : ℕ) (start told : Option (List Mark)) (streams blocked held : List ℕ) (listens : Bool) (last given : ℕ) (s : State) (v : ServingBy rs dn pid start told streams blocked held listens last given [] s) (mark : Mark)
-    → (dn' : List Asked) → StandsFor rs dn' (after s (drop (length dn) rs) mark) (mark ∷ v.journal) v.closed → (after s (drop (length dn) rs) mark).pid ≡ pid → (mark_stream mark ≢ 0 → among (mark_stream mark) (numbers (after s (drop (length dn) rs) mark).clients) ≡ true)
-    → (t : ℕ) → among t (numbers (after s (drop (length dn) rs) mark).clients) ≡ false → IsSettled (setting pid rs) (mark ∷ v.journal) t
-rest_settled rs dn pid start told streams blocked held listens last given s v mark dn' st same here t a = elim (eqb_tells t 0) [
-  | inl z ↦ inl (ap (λ i. Rattle.mux_history.specs.Pending.pending i (log pid rs (mark ∷ v.journal))) z.1 ∙ server_pending (log pid rs (mark ∷ v.journal)) (plain_at rs dn' pid (after s (drop (length dn) rs) mark) (mark ∷ v.journal) v.closed same st))
-  | inr z ↦ settled_other rs pid mark v.journal t (plain_at rs dn pid s v.journal v.closed v.pid_is v.stands) (plain_at rs dn' pid (after s (drop (length dn) rs) mark) (mark ∷ v.journal) v.closed same st)
-      (λ e. true_false (sym (ap (λ i. among i (numbers (after s (drop (length dn) rs) mark).clients)) (sym e) ∙ here (λ w. z.1 (sym e ∙ w))) ∙ a))
-      (v.settled t refl)
-]
+pub log-is : (s : State) (policy : Policy) (pid : ℕ) (picks : List ℕ) (replies : List HouseReply) (marks : List Mark) → s.core.policy ≡ policy → s.pid ≡ pid → log s picks replies marks ≡ log_of_journal (by_lists policy pid picks replies) marks
+log-is s policy pid picks replies marks e f = ap (λ x. log_of_journal (by_lists x s.pid picks replies) marks) e ∙ ap (λ x. log_of_journal (by_lists policy x picks replies) marks) f
 
--- what is told by the stream of the server or of a client that is here
-abbrev pub OfStream : Mark → Type 0
-OfStream (Gets k bytes) = Unit {0}
-OfStream (Ends k) = Unit {0}
-OfStream (Fails k) = Unit {0}
-OfStream (Waits waiting want streams listens) = ⊥
-OfStream (Accepts k) = ⊥
-OfStream (Frees k) = ⊥
-OfStream (Takes k bytes) = ⊥
-OfStream (Holds k) = ⊥
-OfStream (WriteFails k) = ⊥
+-- an engine that goes on has the same rows
+pub log-same : (s s' : State) (picks : List ℕ) (replies : List HouseReply) (marks : List Mark) → s'.core.policy ≡ s.core.policy → s'.pid ≡ s.pid → log s' picks replies marks ≡ log s picks replies marks
+log-same s s' picks replies marks e f = log-is s' s.core.policy s.pid picks replies marks e f
 
-record Says (s : State) (journal : List Mark) (mark : Mark) : Type 0 where
-  pub allowed : Rattle.mux_engine.specs.Stands.IsAllowed s journal mark
-  pub promise : (rs : List HouseReply) (pid : ℕ) → PromiseAt rs pid journal mark
-  pub waits : waits_in (mark ∷ journal) ≡ waits_in journal
-  pub comes : NotArrival mark
-  pub blocked : (t : ℕ) → is_blocked t (mark ∷ journal) ≡ is_blocked t journal
-  pub failed : (t : ℕ) → write_failed t (mark ∷ journal) ≡ write_failed t journal
+more-picks : {A : Type 0} (xs' xs more later : List A) → xs' ≡ xs ++ more → xs' ++ later ≡ xs ++ (more ++ later)
+more-picks xs' xs more later e = ap (λ l. l ++ later) e ∙ append_assoc xs more later
 
-says_mark : (s : State) (journal : List Mark) (mark : Mark) → OfStream mark → (mark_stream mark ≢ 0 → is_accepted (mark_stream mark) journal ≡ true) → Says s journal mark
-says_mark s journal (Gets k bytes) o acc = record { allowed = acc; promise = λ rs pid. record { takes = tt; waits = tt; open_streams = tt }; waits = refl; comes = tt; blocked = λ t. refl; failed = λ t. refl }
-says_mark s journal (Ends k) o acc = record { allowed = acc; promise = λ rs pid. record { takes = tt; waits = tt; open_streams = tt }; waits = refl; comes = tt; blocked = λ t. refl; failed = λ t. refl }
-says_mark s journal (Fails k) o acc = record { allowed = acc; promise = λ rs pid. record { takes = tt; waits = tt; open_streams = tt }; waits = refl; comes = tt; blocked = λ t. refl; failed = λ t. refl }
-says_mark s journal (Waits waiting want streams listens) o acc = absurd o
-says_mark s journal (Accepts k) o acc = absurd o
-says_mark s journal (Frees k) o acc = absurd o
-says_mark s journal (Takes k bytes) o acc = absurd o
-says_mark s journal (Holds k) o acc = absurd o
-says_mark s journal (WriteFails k) o acc = absurd o
+pub stood-at : {picked : List ℕ} {replies : List HouseReply} {s : State} {marks : List Mark} {closed : List ℕ} (st : Stands picked replies s marks closed) (p : List ℕ) (r : List HouseReply) (picked' : List ℕ) (replies' : List HouseReply) → picked' ≡ picked ++ p → replies' ≡ replies ++ r
+    → (picks : List ℕ) (later : List HouseReply) → StandsFor (picked' ++ picks) (replies' ++ later) (length picked) st.asks s marks closed
+stood-at {picked} {replies} {s} {marks} {closed} st p r picked' replies' e f picks later =
+    subst (λ ps. StandsFor ps (replies' ++ later) (length picked) st.asks s marks closed) (sym (more-picks picked' picked p picks e))
+    (subst (λ rs. StandsFor (picked ++ (p ++ picks)) rs (length picked) st.asks s marks closed) (sym (more-picks replies' replies r later f)) (st.at (p ++ picks) (r ++ later)))
 
-pub next_says : (rs : List HouseReply) (dn : List Asked) (pid : ℕ) (start told : Option (List Mark)) (streams blocked held : List ℕ) (hears : Bool) (last given : ℕ) (s : State) (v : ServingBy rs dn pid start told streams blocked held hears last given [] s) (mark : Mark)
-    → OfStream mark → among (mark_stream mark) streams ≡ true → OfWire streams blocked last (mark ∷ v.journal) → Next rs dn pid s v.journal streams blocked held last given (numbers (after s (drop (length dn) rs) mark).clients) mark
-next_says rs dn pid start told streams blocked held hears last given s v mark o found of =
-    let acc : mark_stream mark ≢ 0 → is_accepted (mark_stream mark) v.journal ≡ true = λ nz. accepted_here rs dn s v.journal v.closed (mark_stream mark) v.stands (stream_here rs dn pid start told streams blocked held hears last given [] s (mark_stream mark) v found nz) in
-    let m : Says s v.journal mark = says_mark s v.journal mark o acc in
-    record {
-      allowed = m.allowed;
-      of_wire = of;
-      promise = m.promise rs pid;
-      waits = m.waits ∙ v.waits;
-      open_are = v.open_are ∙ ap (λ l. 0 ∷ l) (sym (after_numbers s (drop (length dn) rs) mark m.comes));
-      held_is = v.held_is;
-      blocked_is = λ t p. v.blocked_is t (sym (same_present s (drop (length dn) rs) mark t m.comes) ∙ p) ∙ sym (m.blocked t);
-      failed_out = λ t w live. log_out pid rs mark v.journal t (v.failed_out t (sym (m.failed t) ∙ w) live);
-      unseen = unseen_more rs dn s v.journal v.closed blocked blocked last mark v.stands m.comes acc v.unseen (λ j ne. refl);
-      settled = rest_settled rs dn pid start told streams blocked held hears last given s v mark (dn ++ asked_at s (drop (length dn) rs) mark) (goes_on rs dn s mark v.journal v.closed v.stands m.allowed) (Rattle.mux_engine.proofs.Wires.after_pid s (drop (length dn) rs) mark ∙ v.pid_is)
-          (λ nz. ap (among (mark_stream mark)) (after_numbers s (drop (length dn) rs) mark m.comes) ∙ (among_numbers (mark_stream mark) s.clients ∙ stream_here rs dn pid start told streams blocked held hears last given [] s (mark_stream mark) v found nz));
-    }
+pub sound-at : {May : HouseReply → Type 0} {before now : Option (List Asked)} {policy : Policy} {pid : ℕ} {start : Option (List Mark)} {seen : Seen} {held : List ℕ} {given : ℕ} {todo : List ℕ} {s : State} (v : Serving May before now policy pid start seen held given todo s) (p : List ℕ) (r : List HouseReply) (picked' : List ℕ) (replies' : List HouseReply)
+    → picked' ≡ v.picked ++ p → replies' ≡ v.replies ++ r → (picks : List ℕ) (later : List HouseReply) → IsSound (by_lists policy pid (picked' ++ picks) (replies' ++ later)) v.journal todo s
+sound-at {policy = policy} {pid = pid} {todo = todo} {s = s} v p r picked' replies' e f picks later =
+    subst (λ ps. IsSound (by_lists policy pid ps (replies' ++ later)) v.journal todo s) (sym (more-picks picked' v.picked p picks e))
+    (subst (λ rs. IsSound (by_lists policy pid (v.picked ++ (p ++ picks)) rs) v.journal todo s) (sym (more-picks replies' v.replies r later f)) (v.sound (p ++ picks) (r ++ later)))
 
--- a client comes
-pub next_accepts : (rs : List HouseReply) (dn : List Asked) (pid : ℕ) (start told : Option (List Mark)) (streams blocked held : List ℕ) (hears : Bool) (last given : ℕ) (s : State) (v : ServingBy rs dn pid start told streams blocked held hears last given [] s) (k : ℕ)
-    → k ≡ last + 1 → s.ended ≡ None → OfWire (streams ++ k ∷ []) blocked k (Accepts k ∷ v.journal) → Next rs dn pid s v.journal (streams ++ k ∷ []) blocked held k given (numbers (after s (drop (length dn) rs) (Accepts k)).clients) (Accepts k)
-next_accepts rs dn pid start told streams blocked held hears last given s v k e live of =
-    let mark : Mark = Accepts k in
-    let new : last < k = omega arith in
-    let u : IsUnseen v.journal blocked k = v.unseen k new in
-    let nz : k ≢ 0 = λ z. absurd (omega arith) in
-    let more : numbers (after s (drop (length dn) rs) mark).clients ≡ numbers s.clients ++ k ∷ [] = arrival_numbers s (drop (length dn) rs) k live in
-    let among_more : (t : ℕ) → among t (numbers s.clients ++ k ∷ []) ≡ (among t (numbers s.clients) || ((k == t) || false)) = λ t. list_any-append (λ (i : ℕ). i == t) (numbers s.clients) (k ∷ []) in
-    record {
-      allowed = (nz, u.not_accepted);
-      of_wire = of;
-      promise = record { takes = tt; waits = tt; open_streams = tt };
-      waits = v.waits;
-      open_are = ap (λ l. l ++ k ∷ []) v.open_are ∙ ap (λ l. 0 ∷ l) (sym more);
-      held_is = v.held_is;
-      blocked_is = λ t p. elim (eqb_tells k t) [
-        | inl q ↦ ap (λ i. among i blocked) (sym q.1) ∙ (u.not_blocked ∙ (sym u.never_blocked ∙ ap (λ i. is_blocked i v.journal) q.1))
-        | inr q ↦ v.blocked_is t (sym (among_numbers t s.clients) ∙ (sym (or_none (among t (numbers s.clients))) ∙ (sym (ap (λ b. among t (numbers s.clients) || (b || false)) q.0) ∙ (sym (among_more t) ∙ (sym (ap (among t) more) ∙ (among_numbers t (after s (drop (length dn) rs) mark).clients ∙ p))))))
-      ];
-      failed_out = λ t w l. log_out pid rs mark v.journal t (v.failed_out t w l);
-      unseen = λ j lt. let w : IsUnseen v.journal blocked j = v.unseen j (omega arith) in
-          record { not_accepted = ap (λ b. cond b true (is_accepted j v.journal)) (test_other k j (λ q. absurd (omega arith))) ∙ w.not_accepted; never_blocked = w.never_blocked; not_blocked = w.not_blocked };
-      settled = rest_settled rs dn pid start told streams blocked held hears last given s v mark (dn ++ asked_at s (drop (length dn) rs) mark) (goes_on rs dn s mark v.journal v.closed v.stands (nz, u.not_accepted)) (Rattle.mux_engine.proofs.Wires.after_pid s (drop (length dn) rs) mark ∙ v.pid_is)
-          (λ z. ap (among k) more ∙ (among_more k ∙ (ap (λ b. among k (numbers s.clients) || (b || false)) (eq-eqb k k refl) ∙ or_last (among k (numbers s.clients)))));
-    }
-  where
-    or_last : (a : Bool) → (a || (true || false)) ≡ true
-    or_last true = refl
-    or_last false = refl
+-- ---- what is to be shown of a mark
 
-    or_none : (a : Bool) → (a || (false || false)) ≡ a
-    or_none true = refl
-    or_none false = refl
+-- what was promised of it
+pub record PromiseAt (setting : Setting) (before : List Mark) (mark : Mark) : Type 0 where
+  pub takes : TakesFront setting before mark
+  pub waits : WaitsAt setting before mark
+  pub open_streams : OpenAt setting before mark
 
--- a stream takes bytes again
-pub next_frees : (rs : List HouseReply) (dn : List Asked) (pid : ℕ) (start told : Option (List Mark)) (streams blocked held : List ℕ) (hears : Bool) (last given : ℕ) (s : State) (v : ServingBy rs dn pid start told streams blocked held hears last given [] s) (k : ℕ)
-    → among k streams ≡ true → OfWire streams (without k blocked) last (Frees k ∷ v.journal) → Next rs dn pid s v.journal streams (without k blocked) (without k held) last given (numbers s.clients) (Frees k)
-next_frees rs dn pid start told streams blocked held hears last given s v k found of =
-    let mark : Mark = Frees k in
-    let here : k ≢ 0 → is_present s.clients k ≡ true = λ nz. stream_here rs dn pid start told streams blocked held hears last given [] s k v found nz in
-    record {
-      allowed = tt;
-      of_wire = of;
-      promise = record { takes = tt; waits = tt; open_streams = tt };
-      waits = v.waits;
-      open_are = v.open_are;
-      held_is = ap (without k) v.held_is;
-      blocked_is = λ t p. elim (eqb_tells k t) [
-        | inl q ↦ ap (λ i. among i (without k blocked)) (sym q.1) ∙ (none_without k blocked ∙ sym (ap (λ b. elim b as (λ _. Bool) [ true ↦ false | false ↦ is_blocked t v.journal ]) q.0))
-        | inr q ↦ without_other k t blocked q.1 ∙ (v.blocked_is t p ∙ sym (ap (λ b. elim b as (λ _. Bool) [ true ↦ false | false ↦ is_blocked t v.journal ]) q.0))
-      ];
-      failed_out = λ t w l. log_out pid rs mark v.journal t (v.failed_out t w l);
-      unseen = unseen_more rs dn s v.journal v.closed blocked (without k blocked) last mark v.stands tt (λ nz. accepted_here rs dn s v.journal v.closed k v.stands (here nz)) v.unseen (λ j ne. without_other k j blocked ne);
-      settled = rest_settled rs dn pid start told streams blocked held hears last given s v mark (dn ++ asked_at s (drop (length dn) rs) mark) (goes_on rs dn s mark v.journal v.closed v.stands tt) v.pid_is (λ nz. among_numbers k s.clients ∙ here nz);
-    }
+pub kept-more : (setting : Setting) (journal : List Mark) (mark : Mark) → Kept setting journal → PromiseAt setting journal mark → Kept setting (mark ∷ journal)
+kept-more setting journal mark k p = record { written = record { takes = (p.takes, k.written.takes); waits = (p.waits, k.written.waits) }; open_streams = (p.open_streams, k.open_streams) }
+
+-- and who is out and settled behind it
+pub record SoundAt (setting : Setting) (journal : List Mark) (mark : Mark) (todo : List ℕ) (s : State) : Type 0 where
+  pub promise : PromiseAt setting journal mark
+  pub failed_out : (t : ℕ) → write_failed t (mark ∷ journal) ≡ true → s.ended ≡ None → is_out (rows_of t (log_of_journal setting (mark ∷ journal))) ≡ true
+  pub settled : (t : ℕ) → among t todo ≡ false → IsSettled setting (mark ∷ journal) t
+
+-- how the wire and the engine, which was `s` and is `s'`, stand behind it, with the numbers and replies of now
+pub record Next (policy : Policy) (pid : ℕ) (picked : List ℕ) (replies : List HouseReply) (s s' : State) (journal : List Mark) (seen seen' : Seen) (held given todo : _) (mark : Mark) : Type 0 where
+  pub told : seen'.told ≡ option_map (λ m. m ++ mark ∷ []) seen.told
+  pub policy_is : s'.core.policy ≡ s.core.policy
+  pub pid_is : s'.pid ≡ s.pid
+  pub of_wire : OfWire seen'.streams seen'.blocked seen'.last (mark ∷ journal)
+  pub waits : waits_in (mark ∷ journal) ≡ given
+  pub open_are : seen'.streams ≡ 0 ∷ here s'
+  pub held_is : held ≡ seen'.blocked
+  pub blocked_is : (t : ℕ) → is_open s' t ≡ true → among t seen'.blocked ≡ is_blocked t (mark ∷ journal)
+  pub unseen : (k : ℕ) → seen'.last < k → IsUnseen (mark ∷ journal) seen'.blocked k
+  pub listens : seen.listens ≡ true → seen'.listens ≡ true
+  pub sound : (picks : List ℕ) (later : List HouseReply) → SoundAt (by_lists policy pid (picked ++ picks) (replies ++ later)) journal mark todo s'
+
+-- ---- one mark more
+
+-- where clients are accepted, they were accepted before
+pub hears-before : {picked : List ℕ} {replies : List HouseReply} {s : State} {marks : List Mark} {closed : List ℕ} (st : Stands picked replies s marks closed) (s' : State) (mark : Mark) (p : List ℕ) (r : List HouseReply) (picked' : List ℕ) (replies' : List HouseReply)
+    → picked' ≡ picked ++ p → replies' ≡ replies ++ r → s'.core.policy ≡ s.core.policy → s'.pid ≡ s.pid → Stands picked' replies' s' (mark ∷ marks) closed → s'.listening ≡ true → s.listening ≡ true
+hears-before {s = s} {marks = marks} {closed = closed} st s' mark p r picked' replies' e f g h st' l =
+    let old = stood-at st p r picked' replies' e f [] [] in
+    let new = st'.at [] [] in
+    old.rows.listening_is ∙ log-listens (by_lists s.core.policy s.pid (picked' ++ []) (replies' ++ [])) mark marks (ap Rattle.mux_history.specs.Promises.listens (sym (log-same s s' (picked' ++ []) (replies' ++ []) (mark ∷ marks) g h)) ∙ (sym new.rows.listening_is ∙ l))
+
+-- a run that goes on went on before
+pub live-before : {picked : List ℕ} {replies : List HouseReply} {s : State} {marks : List Mark} {closed : List ℕ} (st : Stands picked replies s marks closed) (s' : State) (mark : Mark) (p : List ℕ) (r : List HouseReply) (picked' : List ℕ) (replies' : List HouseReply)
+    → picked' ≡ picked ++ p → replies' ≡ replies ++ r → s'.core.policy ≡ s.core.policy → s'.pid ≡ s.pid → Stands picked' replies' s' (mark ∷ marks) closed → s'.ended ≡ None → s.ended ≡ None
+live-before {s = s} {marks = marks} {closed = closed} st s' mark p r picked' replies' e f g h st' l =
+    let old = stood-at st p r picked' replies' e f [] [] in
+    let new = st'.at [] [] in
+    old.rows.ended_is ∙ log-live (by_lists s.core.policy s.pid (picked' ++ []) (replies' ++ [])) mark marks (ap Rattle.mux_history.specs.Solo.end_of (sym (log-same s s' (picked' ++ []) (replies' ++ []) (mark ∷ marks) g h)) ∙ (sym new.rows.ended_is ∙ l))
+
+-- with so many numbers and replies more, where the house was asked this
+unfoldable pub serve-on : {May : HouseReply → Type 0} {before now : Option (List Asked)} {policy : Policy} {pid : ℕ} {start : Option (List Mark)} {seen : Seen} {held : List ℕ} {given : ℕ} {todo : List ℕ} {s : State} (v : Serving May before now policy pid start seen held given todo s) (now' : Option (List Asked)) (seen' : Seen) (held' : List ℕ) (given' : ℕ) (todo' : List ℕ) (s' : State) (mark : Mark) (p : List ℕ) (r : List HouseReply) (asks : List Asked) (picked' : List ℕ) (replies' : List HouseReply)
+    → picked' ≡ v.picked ++ p → replies' ≡ v.replies ++ r → MayGive May r → (st : Stands picked' replies' s' (mark ∷ v.journal) v.closed) → st.asks ≡ v.stands.asks ++ asks → TellsAsks now now' asks
+    → Next policy pid picked' replies' s s' v.journal seen seen' held' given' todo' mark → Serving May before now' policy pid start seen' held' given' todo' s'
+serve-on {May} {before} {now} {policy} {pid} {start} {seen} {held} {given} {todo} {s} v now' seen' held' given' todo' s' mark p r asks picked' replies' e f may st a h n = record {
+  journal = mark ∷ v.journal;
+  closed = v.closed;
+  picked = picked';
+  replies = replies';
+  policy_is = n.policy_is ∙ v.policy_is;
+  pid_is = n.pid_is ∙ v.pid_is;
+  may = subst (MayGive May) (sym f) (may-more May v.replies r v.may may);
+  stands = st;
+  house = subst (TellsAsks before now') (sym a) (tells-then before now now' v.stands.asks asks v.house h);
+  tells = tells-more start seen.told seen'.told v.journal (mark ∷ []) v.tells n.told;
+  of_wire = n.of_wire;
+  waits = n.waits;
+  open_are = n.open_are;
+  held_is = n.held_is;
+  blocked_is = n.blocked_is;
+  unseen = n.unseen;
+  hears = λ l. n.listens (v.hears (hears-before v.stands s' mark p r picked' replies' e f n.policy_is n.pid_is st l));
+  sound = λ picks later.
+      let set : Setting = by_lists policy pid (picked' ++ picks) (replies' ++ later) in
+      let at : SoundAt set v.journal mark todo' s' = n.sound picks later in
+      record {
+        kept = kept-more set v.journal mark (sound-at v p r picked' replies' e f picks later).kept at.promise;
+        failed_out = at.failed_out;
+        settled = at.settled;
+      };
+}
+
+-- the asks of what stands now
+pub asks-more : {May : HouseReply → Type 0} {before now : Option (List Asked)} {old new : State} {mark : Mark} {picked : List ℕ} {replies : List HouseReply} {marks : List Mark} {closed : List ℕ} (st : Stands picked replies old marks closed) (g : GoesBy May before now picked replies old new mark marks closed) → g.stands.asks ≡ st.asks ++ g.asks
+asks-more {picked = picked} {replies = replies} st g =
+    let was = stood-at st g.picks g.replies (picked ++ g.picks) (replies ++ g.replies) refl refl [] [] in
+    sym (g.stands.at [] []).rows.asked_is ∙ (g.asked [] [] ∙ ap (λ l. l ++ g.asks) was.rows.asked_is)
+
+-- with what an event picks and the house replies to it
+unfoldable pub serve-next : {May : HouseReply → Type 0} {before now : Option (List Asked)} {policy : Policy} {pid : ℕ} {start : Option (List Mark)} {seen : Seen} {held : List ℕ} {given : ℕ} {todo : List ℕ} {s : State} (v : Serving May before now policy pid start seen held given todo s) (now' : Option (List Asked)) (seen' : Seen) (held' : List ℕ) (given' : ℕ) (todo' : List ℕ) (s' : State) (mark : Mark)
+    → (g : GoesBy May now now' v.picked v.replies s s' mark v.journal v.closed) → Next policy pid (v.picked ++ g.picks) (v.replies ++ g.replies) s s' v.journal seen seen' held' given' todo' mark → Serving May before now' policy pid start seen' held' given' todo' s'
+serve-next v now' seen' held' given' todo' s' mark g n =
+    serve-on v now' seen' held' given' todo' s' mark g.picks g.replies g.asks (v.picked ++ g.picks) (v.replies ++ g.replies) refl refl g.may g.stands (asks-more v.stands g) g.told n
+
+-- where nothing is picked and the house isn't asked
+unfoldable pub serve-alone : {May : HouseReply → Type 0} {before now : Option (List Asked)} {policy : Policy} {pid : ℕ} {start : Option (List Mark)} {seen : Seen} {held : List ℕ} {given : ℕ} {todo : List ℕ} {s : State} (v : Serving May before now policy pid start seen held given todo s) (seen' : Seen) (held' : List ℕ) (given' : ℕ) (todo' : List ℕ) (s' : State) (mark : Mark)
+    → Stands v.picked v.replies s' (mark ∷ v.journal) v.closed → ((picks : List ℕ) (replies : List HouseReply) → asked_of (log s' picks replies (mark ∷ v.journal)) ≡ asked_of (log s picks replies v.journal))
+    → Next policy pid v.picked v.replies s s' v.journal seen seen' held' given' todo' mark → Serving May before now policy pid start seen' held' given' todo' s'
+serve-alone {now = now} v seen' held' given' todo' s' mark st same n =
+    let asks : st.asks ≡ v.stands.asks = sym (st.at [] []).rows.asked_is ∙ (same (v.picked ++ []) (v.replies ++ []) ∙ (v.stands.at [] []).rows.asked_is) in
+    serve-on v now seen' held' given' todo' s' mark [] [] [] v.picked v.replies (sym (append-nil v.picked)) (sym (append-nil v.replies)) tt st (asks ∙ sym (append-nil v.stands.asks)) (tells-none now) n
+
+-- ---- want of memory
+
+pub of-streams : (streams blocked : List ℕ) (last : ℕ) (journal : List Mark) → OfWire streams blocked last journal → IsOfWire journal
+of-streams streams blocked last journal of = record { lawful = of.lawful; asked = of.asked }
+
+pub rows-left : (setting : Setting) (journal : List Mark) (taken : ℕ) (drawn : List Asked) (s : State) (closed : List ℕ) (rows : List Row) → Kept setting journal → IsLog setting journal rows → RowsFit taken drawn s closed rows → IsLeft setting journal taken drawn
+rows-left setting journal taken drawn s closed rows k l fit = record { kept = k; rows = rows; is_log = l; fresh = fit.fresh; taken_is = fit.taken_is; given_is = fit.drawn_is; asked_is = fit.asked_is }
+
+-- the rows before the mark are left, whatever the house was asked at the mark
+unfoldable pub cut-next : {May : HouseReply → Type 0} {before now : Option (List Asked)} {policy : Policy} {pid : ℕ} {start : Option (List Mark)} {seen : Seen} {held : List ℕ} {given : ℕ} {todo : List ℕ} {s : State} (v : Serving May before now policy pid start seen held given todo s) (now' : Option (List Asked)) (told' : Option (List Mark)) (given' : ℕ) (mark : Mark) (more : List Asked)
+    → told' ≡ option_map (λ m. m ++ mark ∷ []) seen.told → TellsAsks now now' more → IsOfWire (mark ∷ v.journal) → waits_in (mark ∷ v.journal) ≤ given'
+    → ((picks : List ℕ) (later : List HouseReply) → PromiseAt (by_lists policy pid (v.picked ++ picks) (v.replies ++ later)) v.journal mark) → Promised May before now' policy pid start told' given'
+cut-next {May} {before} {now} {policy} {pid} {start} {seen} {held} {given} {todo} {s} v now' told' given' mark more e h of le promise = record {
+  journal = mark ∷ v.journal;
+  picked = v.picked;
+  replies = v.replies;
+  asks = v.stands.asks;
+  more_asks = more;
+  may = v.may;
+  each = v.stands.each;
+  house = tells-then before now now' v.stands.asks more v.house h;
+  tells = tells-more start seen.told told' v.journal (mark ∷ []) v.tells e;
+  of_wire = of;
+  waits = le;
+  left = λ picks later.
+      let set : Setting = by_lists policy pid (v.picked ++ picks) (v.replies ++ later) in
+      let rows : List Row = log_of_journal set v.journal in
+      rows-left set (mark ∷ v.journal) (length v.picked) v.stands.asks s v.closed rows (kept-more set v.journal mark (v.sound picks later).kept (promise picks later)) (inr (0, refl))
+      (subst (RowsFit (length v.picked) v.stands.asks s v.closed) (log-is s policy pid (v.picked ++ picks) (v.replies ++ later) v.journal v.policy_is v.pid_is) (v.stands.at picks later).rows);
+}
+
+-- all rows are left where the wire told no mark
+unfoldable pub cut-here : {May : HouseReply → Type 0} {before now : Option (List Asked)} {policy : Policy} {pid : ℕ} {start : Option (List Mark)} {seen : Seen} {held : List ℕ} {given : ℕ} {todo : List ℕ} {s : State} (v : Serving May before now policy pid start seen held given todo s) (now' : Option (List Asked)) (told' : Option (List Mark)) (given' : ℕ) (more : List Asked)
+    → told' ≡ seen.told → TellsAsks now now' more → given ≤ given' → Promised May before now' policy pid start told' given'
+cut-here {May} {before} {now} {policy} {pid} {start} {seen} {held} {given} {todo} {s} v now' told' given' more e h le = record {
+  journal = v.journal;
+  picked = v.picked;
+  replies = v.replies;
+  asks = v.stands.asks;
+  more_asks = more;
+  may = v.may;
+  each = v.stands.each;
+  house = tells-then before now now' v.stands.asks more v.house h;
+  tells = e ∙ v.tells;
+  of_wire = of-streams seen.streams seen.blocked seen.last v.journal v.of_wire;
+  waits = let w : waits_in v.journal ≡ given = v.waits in omega arith;
+  left = λ picks later.
+      let set : Setting = by_lists policy pid (v.picked ++ picks) (v.replies ++ later) in
+      let rows : List Row = log_of_journal set v.journal in
+      rows-left set v.journal (length v.picked) v.stands.asks s v.closed rows (v.sound picks later).kept (inl refl)
+      (subst (RowsFit (length v.picked) v.stands.asks s v.closed) (log-is s policy pid (v.picked ++ picks) (v.replies ++ later) v.journal v.policy_is v.pid_is) (v.stands.at picks later).rows);
+}

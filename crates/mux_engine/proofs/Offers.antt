@@ -1,235 +1,294 @@
 -- What an answer to a write makes of what holds while a wire is served.
-use Rattle.std.proofs.Common.{◌≡◌, ◌≢◌, ◌≤◌, ◌<◌, ℕ, Bool, true, false, not, ◌||◌, List, [], ◌∷◌, ◌++◌, take, drop, length, Option, None, refl, sym, ap, ◌∙◌, subst, inl, inr, ◌⊎◌, cond, arith}
-use Rattle.std.specs.Prelude.{◌==◌, is_some}
-use Rattle.std.proofs.lemmas.Bool.{eq-eqb}
+use Rattle.std.proofs.Common.{◌≡◌, ◌≢◌, ◌≤◌, ◌<◌, ℕ, Bool, true, false, ◌||◌, List, [], ◌∷◌, ◌++◌, take, drop, length, Option, None, refl, sym, ap, ◌∙◌, inl, inr, ◌⊎◌, arith}
+use Rattle.std.specs.Prelude.{◌==◌, is_some, reverse}
 use Rattle.std.proofs.lemmas.Bool.Decides.{eqb_tells}
 use Rattle.std.proofs.lemmas.List.{take-append-drop}
-use Rattle.std.proofs.lemmas.List.Folds.{list_any-append}
-use Rattle.mux_outside.specs.Streams.{among, without}
+use Rattle.ssh_fields.specs.Fields.{AreBytes}
 use Rattle.mux_outside.specs.House.{Asked}
+use Rattle.mux_outside.specs.Seen.{Seen, seen_after_write}
+use Rattle.mux_outside.specs.Streams.{among, without}
 use Rattle.mux_outside.specs.declared.house.HouseReply.{HouseReply}
 use Rattle.mux_outside.specs.declared.mark.Mark.{Mark}
-use Rattle.mux_outside.specs.declared.mark.Mark.TheVariants.{Waits, Accepts, Gets, Ends, Frees, Fails, Takes, Holds, WriteFails}
+use Rattle.mux_outside.specs.declared.mark.Mark.TheVariants.{Takes, Holds, WriteFails}
+use Rattle.mux_outside.specs.Wire.{WroteFits, blocked_after_write, write_marks}
+use Rattle.mux_outside.specs.declared.turn.Wrote.{Wrote}
 use Rattle.mux_outside.specs.declared.turn.Wrote.TheVariants as wrote
-use Rattle.ssh_fields.specs.Fields.{AreBytes}
-use Rattle.mux_history.specs.Rows.{Row, rows_of, is_out, is_ended, Gone, ServerFailed}
+use Rattle.mux_history.specs.Policy.{Policy}
+use Rattle.mux_history.specs.Rows.{Row, rows_of, is_out, is_ended, Fate, Goes, Refused, Drop, End}
 use Rattle.mux_history.specs.Pending.{pending}
-use Rattle.mux_history.specs.Journal.{is_blocked}
-use Rattle.mux_history.specs.Promises.{IsSettled, write_failed}
+use Rattle.mux_history.specs.Solo.{end_of}
+use Rattle.mux_history.specs.Log.{Setting}
+use Rattle.mux_history.specs.Settings.{by_lists}
+use Rattle.mux_history.specs.Journal.{is_accepted, is_blocked, log_of_journal}
+use Rattle.mux_history.specs.Promises.{IsSettled, waits_in}
 use Rattle.mux_history.proofs.Wires.{wire-keeps}
-use Rattle.mux_engine.specs.State.{State}
-use Rattle.mux_engine.specs.Step.{is_present, queue_in, after}
-use Rattle.mux_engine.specs.Stands.{setting, log, ArePlain, StandsFor, is_accepted, IsStrange}
-use Rattle.mux_engine.specs.Serving.{IsUnseen, ServingBy}
-use Rattle.mux_engine.proofs.Grows.{test_other, or_true}
-use Rattle.mux_engine.proofs.Moved.{true_false}
-use Rattle.mux_engine.proofs.Goes.{open_here, gone_is, gone_log}
-use Rattle.mux_engine.proofs.GoesOn.{ended_is, by_number}
-use Rattle.mux_engine.proofs.Closes.{own_out}
-use Rattle.mux_engine.proofs.Queues.{zero_absent, queue_pending}
-use Rattle.mux_engine.proofs.Others.{mark_stream}
-use Rattle.mux_engine.proofs.Wires.{NotArrival, among_numbers, after_numbers, Next, PromiseAt, settled_other, log_out, stands_next}
+use Rattle.mux_machine.specs.State.{State}
+use Rattle.mux_machine.specs.Events.{here}
+use Rattle.mux_machine.specs.Stands.{GoesBy, Stands, StandsFor, log}
+use Rattle.mux_clients.specs.Asked.{TellsAsks}
+use Rattle.mux_engine.specs.Run.{IsOfWire}
+use Rattle.mux_engine.specs.Serving.{IsSound, IsUnseen, Promised, Serving, is_open}
+use Rattle.mux_engine.proofs.Lists.{among-last, among-open, among-other-last, apart-or-left, open-here, or-last, same-open, test-other, true-false, without-other, none-without}
+use Rattle.mux_engine.proofs.Logs.{NotArrival, accepted-same, blocked-other, failed-other, failed-pending, fails-failed, holds-blocked, holds-failed, log-out, lost-out, mark_stream, settled-as, takes-failed, took-pending}
+use Rattle.mux_engine.proofs.Marks.{Next, cut-here, cut-next, log-is, of-streams, sound-at, stood-at}
+use Rattle.mux_engine.proofs.Told.{tells-none, told-none}
 
-pub nonzero_here : (rs : List HouseReply) (dn : List Asked) (s : State) (marks : List Mark) (closed : List ℕ) (k : ℕ) → StandsFor rs dn s marks closed → is_present s.clients k ≡ true → k ≢ 0
-nonzero_here rs dn s marks closed k st here e = true_false (sym here ∙ (ap (is_present s.clients) e ∙ zero_absent (log s.pid rs marks) marks s.clients st.clients))
+-- ---- a stream that is open
 
-pub accepted_here : (rs : List HouseReply) (dn : List Asked) (s : State) (marks : List Mark) (closed : List ℕ) (k : ℕ) → StandsFor rs dn s marks closed → is_present s.clients k ≡ true → is_accepted k marks ≡ true
-accepted_here rs dn s marks closed k st here = by_accepted (is_accepted k marks) refl
+pub record AtStream (s : State) (marks : List Mark) (closed : List ℕ) (k : ℕ) : Type 0 where
+  pub not_closed : among k closed ≡ false
+  pub accepted : k ≢ 0 → is_accepted k marks ≡ true
+
+pub at-stream : {picked : List ℕ} {replies : List HouseReply} {s : State} {marks : List Mark} {closed : List ℕ} (st : Stands picked replies s marks closed) (k : ℕ) → is_open s k ≡ true → AtStream s marks closed k
+at-stream {picked} {replies} {s} {marks} {closed} st k opened = record { not_closed = by_closed (among k closed) refl; accepted = λ nz. by_accepted nz (is_accepted k marks) refl }
   where
-    by_accepted : (b : Bool) → is_accepted k marks ≡ b → b ≡ true
-    by_accepted true e = refl
-    by_accepted false e = let v : IsStrange s marks closed k = st.strange k e in true_false (sym here ∙ v.not_here)
+    v : StandsFor (picked ++ []) (replies ++ []) (length picked) st.asks s marks closed
+    v = st.at [] []
 
-pub same_present : (s : State) (more : List HouseReply) (mark : Mark) (t : ℕ) → NotArrival mark → is_present (after s more mark).clients t ≡ is_present s.clients t
-same_present s more mark t n = sym (among_numbers t (after s more mark).clients) ∙ (ap (among t) (after_numbers s more mark n) ∙ among_numbers t s.clients)
+    by_closed : (b : Bool) → among k closed ≡ b → b ≡ false
+    by_closed false e = refl
+    by_closed true e = elim (eqb_tells k 0) [
+      | inl q ↦ true-false (sym (v.rows.closed_out k e) ∙ (ap (λ i. is_out (rows_of i (log s (picked ++ []) (replies ++ []) marks))) q.1 ∙ v.rows.server_in))
+      | inr q ↦ true-false (sym (open-here s k opened q.1) ∙ v.rows.closed_gone k e)
+    ]
 
-accepted_same : (mark : Mark) (journal : List Mark) (k : ℕ) → NotArrival mark → is_accepted k (mark ∷ journal) ≡ is_accepted k journal
-accepted_same (Accepts j) journal k n = absurd n
-accepted_same (Waits waiting want streams listens) journal k n = refl
-accepted_same (Gets j bytes) journal k n = refl
-accepted_same (Ends j) journal k n = refl
-accepted_same (Frees j) journal k n = refl
-accepted_same (Fails j) journal k n = refl
-accepted_same (Takes j bytes) journal k n = refl
-accepted_same (Holds j) journal k n = refl
-accepted_same (WriteFails j) journal k n = refl
+    by_accepted : k ≢ 0 → (b : Bool) → is_accepted k marks ≡ b → b ≡ true
+    by_accepted nz true e = refl
+    by_accepted nz false e = true-false (sym (open-here s k opened nz) ∙ (v.bytes.strange k e).not_here)
 
-blocked_apart : (mark : Mark) (journal : List Mark) (t : ℕ) → mark_stream mark ≢ t → is_blocked t (mark ∷ journal) ≡ is_blocked t journal
-blocked_apart mark journal t ne = Rattle.mux_engine.proofs.Wires.blocked_other mark journal t ne
+-- the wire has it open
+pub stream-open : {May : HouseReply → Type 0} {before now : Option (List Asked)} {policy : Policy} {pid : ℕ} {start : Option (List Mark)} {seen : Seen} {held : List ℕ} {given : ℕ} {todo : List ℕ} {s : State} (v : Serving May before now policy pid start seen held given todo s) (k : ℕ) → is_open s k ≡ true → among k seen.streams ≡ true
+stream-open {s = s} v k opened = ap (among k) v.open_are ∙ (among-open s k ∙ opened)
 
 -- a client that did not come yet has no part in a mark
-pub unseen_more : (rs : List HouseReply) (dn : List Asked) (s : State) (journal : List Mark) (closed blocked blocked' : List ℕ) (last : ℕ) (mark : Mark) → StandsFor rs dn s journal closed → NotArrival mark → (mark_stream mark ≢ 0 → is_accepted (mark_stream mark) journal ≡ true)
-    → ((j : ℕ) → last < j → IsUnseen journal blocked j) → ((j : ℕ) → mark_stream mark ≢ j → among j blocked' ≡ among j blocked) → (j : ℕ) → last < j → IsUnseen (mark ∷ journal) blocked' j
-unseen_more rs dn s journal closed blocked blocked' last mark st n acc unseen same j lt =
-    let u : IsUnseen journal blocked j = unseen j lt in
-    let apart : mark_stream mark ≢ j = λ e. by_zero e (eqb_tells (mark_stream mark) 0) in
-    record { not_accepted = accepted_same mark journal j n ∙ u.not_accepted; never_blocked = blocked_apart mark journal j apart ∙ u.never_blocked; not_blocked = same j apart ∙ u.not_blocked }
+pub unseen-more : {May : HouseReply → Type 0} {before now : Option (List Asked)} {policy : Policy} {pid : ℕ} {start : Option (List Mark)} {seen : Seen} {held : List ℕ} {given : ℕ} {todo : List ℕ} {s : State} (v : Serving May before now policy pid start seen held given todo s) (mark : Mark) (blocked' : List ℕ)
+    → NotArrival mark → (mark_stream mark ≢ 0 → is_accepted (mark_stream mark) v.journal ≡ true) → ((j : ℕ) → mark_stream mark ≢ j → among j blocked' ≡ among j seen.blocked) → (j : ℕ) → seen.last < j → IsUnseen (mark ∷ v.journal) blocked' j
+unseen-more {seen = seen} v mark blocked' n acc same j lt =
+    let u : IsUnseen v.journal seen.blocked j = v.unseen j lt in
+    let apart : mark_stream mark ≢ j = λ e. by_zero u e (eqb_tells (mark_stream mark) 0) in
+    record { not_accepted = accepted-same mark v.journal j n ∙ u.not_accepted; never_blocked = blocked-other mark v.journal j apart ∙ u.never_blocked; not_blocked = same j apart ∙ u.not_blocked }
   where
-    by_zero : mark_stream mark ≡ j → (((mark_stream mark == 0) ≡ true) × (mark_stream mark ≡ 0)) ⊎ (((mark_stream mark == 0) ≡ false) × (mark_stream mark ≢ 0)) → ⊥
-    by_zero e (inl z) = let zero_is : j ≡ 0 = sym e ∙ z.1 in omega arith
-    by_zero e (inr z) = let u : IsUnseen journal blocked j = unseen j lt in true_false (sym (acc z.1) ∙ (ap (λ i. is_accepted i journal) e ∙ u.not_accepted))
+    by_zero : IsUnseen v.journal seen.blocked j → mark_stream mark ≡ j → (((mark_stream mark == 0) ≡ true) × (mark_stream mark ≡ 0)) ⊎ (((mark_stream mark == 0) ≡ false) × (mark_stream mark ≢ 0)) → ⊥
+    by_zero u e (inl z) = let zero_is : j ≡ 0 = sym e ∙ z.1 in omega arith
+    by_zero u e (inr z) = true-false (sym (acc z.1) ∙ (ap (λ i. is_accepted i v.journal) e ∙ u.not_accepted))
 
-pub plain_at : (rs : List HouseReply) (dn : List Asked) (pid : ℕ) (s : State) (journal : List Mark) (closed : List ℕ) → s.pid ≡ pid → StandsFor rs dn s journal closed → ArePlain (log pid rs journal)
-plain_at rs dn pid s journal closed e st = subst (λ p. ArePlain (log p rs journal)) e st.plain
+-- an engine that goes on with the same streams and the same end
+pub record SameRun (s s' : State) : Type 0 where
+  pub policy : s'.core.policy ≡ s.core.policy
+  pub pid : s'.pid ≡ s.pid
+  pub streams : here s' ≡ here s
+  pub ended : s'.ended ≡ s.ended
 
-pub without_other : (k t : ℕ) (todo : List ℕ) → k ≢ t → among t (without k todo) ≡ among t todo
-without_other k t [] ne = refl
-without_other k t (j ∷ todo) ne = elim (eqb_tells j k) [
-  | inl q ↦ ap (λ b. among t (cond (not b) (j ∷ without k todo) (without k todo))) q.0 ∙ (without_other k t todo ne ∙ sym (ap (λ b. b || among t todo) (test_other j t (λ e. ne (sym q.1 ∙ e)))))
-  | inr q ↦ ap (λ b. among t (cond (not b) (j ∷ without k todo) (without k todo))) q.0 ∙ ap (λ b. (j == t) || b) (without_other k t todo ne)
-]
-
--- the streams in `todo` but one
-apart_or_left : (k t : ℕ) (todo : List ℕ) → among t (k ∷ todo) ≡ false → (k ≢ t) × (among t todo ≡ false)
-apart_or_left k t todo a = elim (eqb_tells k t) [
-  | inl q ↦ true_false (sym (ap (λ b. b || among t todo) q.0) ∙ a)
-  | inr q ↦ (q.1, sym (ap (λ b. b || among t todo) q.0) ∙ a)
-]
-
-same_number : (k : ℕ) → (k == k) ≡ true
-same_number k = eq-eqb k k refl
-
-pub record AtStream (rs : List HouseReply) (dn : List Asked) (pid : ℕ) (s : State) (journal : List Mark) (closed : List ℕ) (k : ℕ) : Type 0 where
-  pub nonzero : k ≢ 0
-  pub accepted : is_accepted k journal ≡ true
-  pub queue : queue_in s.clients k ≡ pending k (log pid rs journal)
-
-pub at_stream : (rs : List HouseReply) (dn : List Asked) (pid : ℕ) (s : State) (journal : List Mark) (closed : List ℕ) (k : ℕ) → s.pid ≡ pid → StandsFor rs dn s journal closed → is_present s.clients k ≡ true → AtStream rs dn pid s journal closed k
-at_stream rs dn pid s journal closed k e st here = record {
-  nonzero = nonzero_here rs dn s journal closed k st here;
-  accepted = accepted_here rs dn s journal closed k st here;
-  queue = queue_pending rs dn s journal closed k st (open_here rs dn s journal closed k st here) ∙ ap (λ p. pending k (log p rs journal)) e;
-}
-
--- the stream of a client that is here is open
-pub here_open : (rs : List HouseReply) (dn : List Asked) (pid : ℕ) (start told : Option (List Mark)) (streams blocked held : List ℕ) (listens : Bool) (last given : ℕ) (todo : List ℕ) (s : State) (k : ℕ) → ServingBy rs dn pid start told streams blocked held listens last given todo s → is_present s.clients k ≡ true → among k streams ≡ true
-here_open rs dn pid start told streams blocked held listens last given todo s k v here = ap (among k) v.open_are ∙ (ap (λ b. (0 == k) || b) (among_numbers k s.clients ∙ here) ∙ or_true (0 == k))
+-- what waits for a stream, as the engine shows it
+abbrev pub Waiting : List ℕ → ℕ → State → List ℕ → List HouseReply → List Mark → Type 0
+Waiting bytes k s picked replies marks = (picks : List ℕ) (later : List HouseReply) → bytes ≡ pending k (log s (picked ++ picks) (replies ++ later) marks)
 
 -- ---- bytes that were taken
 
-pub next_takes : (rs : List HouseReply) (dn : List Asked) (pid : ℕ) (start told : Option (List Mark)) (streams blocked held : List ℕ) (listens : Bool) (last given : ℕ) (todo : List ℕ) (s : State) (v : ServingBy rs dn pid start told streams blocked held listens last given todo s) (k n : ℕ)
-    → is_present s.clients k ≡ true → AreBytes (queue_in s.clients k) → 1 ≤ n → n ≤ length (queue_in s.clients k) → Next rs dn pid s v.journal streams blocked held last given (k ∷ todo) (Takes k (take n (queue_in s.clients k)))
-next_takes rs dn pid start told streams blocked held listens last given todo s v k n here are one fits =
-    let bytes : List ℕ = queue_in s.clients k in
+pub next-takes : {May : HouseReply → Type 0} {before now : Option (List Asked)} {policy : Policy} {pid : ℕ} {start : Option (List Mark)} {seen : Seen} {held : List ℕ} {given : ℕ} {todo : List ℕ} {s : State} (v : Serving May before now policy pid start seen held given todo s) (s' : State) (k n : ℕ) (bytes : List ℕ)
+    → is_open s k ≡ true → SameRun s s' → AreBytes bytes → 1 ≤ n → n ≤ length bytes → Waiting bytes k s v.picked v.replies v.journal
+    → Next policy pid v.picked v.replies s s' v.journal seen (seen_after_write (wrote.Took n) k bytes seen) held given (k ∷ todo) (Takes k (take n bytes))
+next-takes {May} {before} {now} {policy} {pid} {start} {seen} {held} {given} {todo} {s} v s' k n bytes opened same are one fits waiting =
     let mark : Mark = Takes k (take n bytes) in
-    let at : AtStream rs dn pid s v.journal v.closed k = at_stream rs dn pid s v.journal v.closed k v.pid_is v.stands here in
-    let st' : StandsFor rs dn (after s (drop (length dn) rs) mark) (mark ∷ v.journal) v.closed = stands_next rs dn pid start told streams blocked held listens last given todo s mark v tt here in
+    let at : AtStream s v.journal v.closed k = at-stream v.stands k opened in
     record {
-      allowed = here;
-      of_wire = (wire-keeps streams blocked last v.journal).write (wrote.Took n) k bytes are (omega arith) (here_open rs dn pid start told streams blocked held listens last given todo s k v here) (one, fits) v.of_wire;
-      promise = record { takes = (drop n bytes, sym at.queue ∙ sym (take-append-drop n bytes)); waits = tt; open_streams = tt };
+      told = refl;
+      policy_is = same.policy;
+      pid_is = same.pid;
+      of_wire = (wire-keeps seen.streams seen.blocked seen.last v.journal).write (wrote.Took n) k bytes are (omega arith) (stream-open v k opened) (one, fits) v.of_wire;
       waits = v.waits;
-      open_are = v.open_are ∙ ap (λ l. 0 ∷ l) (sym (after_numbers s (drop (length dn) rs) mark tt));
+      open_are = v.open_are ∙ ap (λ l. 0 ∷ l) (sym same.streams);
       held_is = v.held_is;
-      blocked_is = λ t p. v.blocked_is t (sym (same_present s (drop (length dn) rs) mark t tt) ∙ p);
-      failed_out = λ t w live. elim (eqb_tells k t) [
-        | inl q ↦ true_false (sym w ∙ ap (λ b. elim b as (λ _. Bool) [ true ↦ false | false ↦ write_failed t v.journal ]) q.0)
-        | inr q ↦ log_out pid rs mark v.journal t (v.failed_out t (sym (ap (λ b. elim b as (λ _. Bool) [ true ↦ false | false ↦ write_failed t v.journal ]) q.0) ∙ w) live)
-      ];
-      unseen = unseen_more rs dn s v.journal v.closed blocked blocked last mark v.stands tt (λ z. at.accepted) v.unseen (λ j ne. refl);
-      settled = λ t a. let q : (k ≢ t) × (among t todo ≡ false) = apart_or_left k t todo a in
-          settled_other rs pid mark v.journal t (plain_at rs dn pid s v.journal v.closed v.pid_is v.stands) (plain_at rs dn pid (after s (drop (length dn) rs) mark) (mark ∷ v.journal) v.closed v.pid_is st') q.0 (v.settled t q.1);
+      blocked_is = λ t p. v.blocked_is t (sym (same-open s s' t same.streams) ∙ p);
+      unseen = unseen-more v mark seen.blocked tt at.accepted (λ j ne. refl);
+      listens = λ l. l;
+      sound = λ picks later.
+          let set : Setting = by_lists policy pid (v.picked ++ picks) (v.replies ++ later) in
+          let old : IsSound set v.journal todo s = v.sound picks later in
+          record {
+            promise = record { takes = (drop n bytes, sym (waiting picks later ∙ ap (pending k) (log-is s policy pid (v.picked ++ picks) (v.replies ++ later) v.journal v.policy_is v.pid_is)) ∙ sym (take-append-drop n bytes)); waits = tt; open_streams = tt };
+            failed_out = λ t w live. elim (eqb_tells k t) [
+              | inl q ↦ true-false (sym w ∙ takes-failed k t (take n bytes) v.journal true q.0)
+              | inr q ↦ log-out set mark v.journal t (old.failed_out t (sym (failed-other mark v.journal t q.1) ∙ w) (sym same.ended ∙ live))
+            ];
+            settled = λ t a. let q : (k ≢ t) × (among t todo ≡ false) = apart-or-left k t todo a in
+                settled-as set mark v.journal t (took-pending policy pid (v.picked ++ picks) (v.replies ++ later) k t (take n bytes) v.journal q.0) (blocked-other mark v.journal t q.0) (failed-other mark v.journal t q.0) (old.settled t q.1);
+          };
     }
 
 -- ---- a stream that is blocked now
 
--- the mark names no bytes, so it is the same whichever were handed in
-pub next_holds : (rs : List HouseReply) (dn : List Asked) (pid : ℕ) (start told : Option (List Mark)) (streams blocked held : List ℕ) (listens : Bool) (last given : ℕ) (todo : List ℕ) (s : State) (v : ServingBy rs dn pid start told streams blocked held listens last given todo s) (k : ℕ)
-    → is_present s.clients k ≡ true → Next rs dn pid s v.journal streams (blocked ++ k ∷ []) (held ++ k ∷ []) last given (without k todo) (Holds k)
-next_holds rs dn pid start told streams blocked held listens last given todo s v k here =
+pub next-holds : {May : HouseReply → Type 0} {before now : Option (List Asked)} {policy : Policy} {pid : ℕ} {start : Option (List Mark)} {seen : Seen} {held : List ℕ} {given : ℕ} {todo : List ℕ} {s : State} (v : Serving May before now policy pid start seen held given todo s) (k : ℕ) (bytes : List ℕ)
+    → is_open s k ≡ true → AreBytes bytes → 0 < length bytes → Next policy pid v.picked v.replies s s v.journal seen (seen_after_write wrote.Later k bytes seen) (held ++ k ∷ []) given (without k todo) (Holds k)
+next-holds {May} {before} {now} {policy} {pid} {start} {seen} {held} {given} {todo} {s} v k bytes opened are some =
     let mark : Mark = Holds k in
-    let at : AtStream rs dn pid s v.journal v.closed k = at_stream rs dn pid s v.journal v.closed k v.pid_is v.stands here in
-    let among_more : (t : ℕ) → among t (blocked ++ k ∷ []) ≡ (among t blocked || ((k == t) || false)) = λ t. list_any-append (λ (i : ℕ). i == t) blocked (k ∷ []) in
+    let at : AtStream s v.journal v.closed k = at-stream v.stands k opened in
     record {
-      allowed = tt;
-      of_wire = (wire-keeps streams blocked last v.journal).write wrote.Later k (0 ∷ []) (omega arith, tt) (omega arith) (here_open rs dn pid start told streams blocked held listens last given todo s k v here) tt v.of_wire;
-      promise = record { takes = tt; waits = tt; open_streams = tt };
+      told = refl;
+      policy_is = refl;
+      pid_is = refl;
+      of_wire = (wire-keeps seen.streams seen.blocked seen.last v.journal).write wrote.Later k bytes are some (stream-open v k opened) tt v.of_wire;
       waits = v.waits;
       open_are = v.open_are;
       held_is = ap (λ l. l ++ k ∷ []) v.held_is;
-      blocked_is = λ t p. among_more t ∙ elim (eqb_tells k t) [
-        | inl q ↦ ap (λ b. among t blocked || (b || false)) q.0 ∙ (or_last (among t blocked) ∙ sym (ap (λ b. elim b as (λ _. Bool) [ true ↦ true | false ↦ is_blocked t v.journal ]) q.0))
-        | inr q ↦ ap (λ b. among t blocked || (b || false)) q.0 ∙ (or_none (among t blocked) ∙ (v.blocked_is t p ∙ sym (ap (λ b. elim b as (λ _. Bool) [ true ↦ true | false ↦ is_blocked t v.journal ]) q.0)))
+      blocked_is = λ t p. elim (eqb_tells k t) [
+        | inl q ↦ among-last k t seen.blocked ∙ (ap (λ b. among t seen.blocked || (b || false)) q.0 ∙ (or-last (among t seen.blocked) ∙ sym (holds-blocked k t v.journal true q.0)))
+        | inr q ↦ among-other-last k t seen.blocked q.1 ∙ (v.blocked_is t p ∙ sym (blocked-other mark v.journal t q.1))
       ];
-      failed_out = λ t w live. elim (eqb_tells k t) [
-        | inl q ↦ true_false (sym w ∙ ap (λ b. elim b as (λ _. Bool) [ true ↦ false | false ↦ write_failed t v.journal ]) q.0)
-        | inr q ↦ log_out pid rs mark v.journal t (v.failed_out t (sym (ap (λ b. elim b as (λ _. Bool) [ true ↦ false | false ↦ write_failed t v.journal ]) q.0) ∙ w) live)
-      ];
-      unseen = unseen_more rs dn s v.journal v.closed blocked (blocked ++ k ∷ []) last mark v.stands tt (λ z. at.accepted) v.unseen (λ j ne. among_more j ∙ (ap (λ b. among j blocked || (b || false)) (test_other k j ne) ∙ or_none (among j blocked)));
-      settled = λ t a. elim (eqb_tells k t) [
-        | inl q ↦ inr (inl (ap (λ b. elim b as (λ _. Bool) [ true ↦ true | false ↦ is_blocked t v.journal ]) q.0))
-        | inr q ↦ settled_other rs pid mark v.journal t (plain_at rs dn pid s v.journal v.closed v.pid_is v.stands) (plain_at rs dn pid s v.journal v.closed v.pid_is v.stands) q.1 (v.settled t (sym (without_other k t todo q.1) ∙ a))
-      ];
+      unseen = unseen-more v mark (seen.blocked ++ k ∷ []) tt at.accepted (λ j ne. among-other-last k j seen.blocked ne);
+      listens = λ l. l;
+      sound = λ picks later.
+          let set : Setting = by_lists policy pid (v.picked ++ picks) (v.replies ++ later) in
+          let old : IsSound set v.journal todo s = v.sound picks later in
+          record {
+            promise = record { takes = tt; waits = tt; open_streams = tt };
+            failed_out = λ t w live. elim (eqb_tells k t) [
+              | inl q ↦ true-false (sym w ∙ holds-failed k t v.journal true q.0)
+              | inr q ↦ log-out set mark v.journal t (old.failed_out t (sym (failed-other mark v.journal t q.1) ∙ w) live)
+            ];
+            settled = λ t a. elim (eqb_tells k t) [
+              | inl q ↦ inr (inl (holds-blocked k t v.journal true q.0))
+              | inr q ↦ settled-as set mark v.journal t refl (blocked-other mark v.journal t q.1) (failed-other mark v.journal t q.1) (old.settled t (sym (without-other k t todo q.1) ∙ a))
+            ];
+          };
     }
-  where
-    or_last : (a : Bool) → (a || (true || false)) ≡ true
-    or_last true = refl
-    or_last false = refl
-
-    or_none : (a : Bool) → (a || (false || false)) ≡ a
-    or_none true = refl
-    or_none false = refl
 
 -- ---- a stream that failed
 
-lost_out : (rs : List HouseReply) (dn : List Asked) (s : State) (journal : List Mark) (closed : List ℕ) (k : ℕ) → k ≢ 0 → StandsFor rs dn s journal closed → s.ended ≡ None → is_out (rows_of k (log s.pid rs (WriteFails k ∷ journal))) ≡ true
-lost_out rs dn s journal closed k nz st live =
-    let rows : List Row = log s.pid rs journal in
-    let on : is_ended rows ≡ false = sym (ended_is rs dn s journal closed st) ∙ ap is_some live in
-    let out : Bool = is_out (rows_of k rows) in
-    ap (λ r. is_out (rows_of k r)) (by_number s.pid rs rows k ServerFailed nz ∙ gone_log s.pid k rs rows out on refl) ∙ by_out out refl
-  where
-    by_out : (b : Bool) → is_out (rows_of k (log s.pid rs journal)) ≡ b → is_out (rows_of k (Rattle.mux_engine.proofs.Goes.rows_gone s.pid k rs (log s.pid rs journal) b)) ≡ true
-    by_out true e = e
-    by_out false e =
-        let r = gone_is s.pid k rs (log s.pid rs journal) st.plain in
-        own_out k (Rattle.mux_engine.proofs.Goes.gone_row s.pid k rs (log s.pid rs journal)) (log s.pid rs journal) r.client_is (ap (λ f. Rattle.mux_engine.proofs.Fits.puts_out f (Rattle.mux_engine.proofs.Goes.gone_row s.pid k rs (log s.pid rs journal)).item) r.fate_is ∙ ap (Rattle.mux_engine.proofs.Fits.puts_out Rattle.mux_history.specs.Rows.Goes) r.item_is)
+end-is : (f : Fate) (row : Row) (rows : List Row) → row.fate ≡ f → is_some (end_of rows) ≡ is_ended rows → is_some (end_of (row ∷ rows)) ≡ is_ended (row ∷ rows)
+end-is Goes row rows e ih = rw e ih
+end-is Refused row rows e ih = rw e ih
+end-is (Drop why) row rows e ih = rw e ih
+end-is (End cause) row rows e ih = rw e refl
 
--- the mark names no bytes here either
-pub next_write_fails : (rs : List HouseReply) (dn : List Asked) (pid : ℕ) (start told : Option (List Mark)) (streams blocked held : List ℕ) (listens : Bool) (last given : ℕ) (todo : List ℕ) (s : State) (v : ServingBy rs dn pid start told streams blocked held listens last given todo s) (k : ℕ)
-    → is_present s.clients k ≡ true → Next rs dn pid s v.journal streams blocked held last given (without k todo) (WriteFails k)
-next_write_fails rs dn pid start told streams blocked held listens last given todo s v k here =
+pub some-end : (rows : List Row) → is_some (end_of rows) ≡ is_ended rows
+some-end [] = refl
+some-end (row ∷ rows) = end-is row.fate row rows refl (some-end rows)
+
+-- of the server that is the end; a client's farewell is left to the server's stream
+pub next-fails : {May : HouseReply → Type 0} {before now now' : Option (List Asked)} {policy : Policy} {pid : ℕ} {start : Option (List Mark)} {seen : Seen} {held : List ℕ} {given : ℕ} {todo : List ℕ} {s s' : State} (v : Serving May before now policy pid start seen held given todo s) (k : ℕ) (bytes : List ℕ) (g : GoesBy May now now' v.picked v.replies s s' (WriteFails k) v.journal v.closed)
+    → is_open s k ≡ true → AreBytes bytes → 0 < length bytes → among 0 (k ∷ todo) ≡ true → s'.core.policy ≡ s.core.policy → s'.pid ≡ s.pid → here s' ≡ here s → (s'.ended ≡ None → s.ended ≡ None) → (k ≡ 0 → s'.ended ≢ None)
+    → Next policy pid (v.picked ++ g.picks) (v.replies ++ g.replies) s s' v.journal seen (seen_after_write wrote.Failed k bytes seen) held given (without k todo) (WriteFails k)
+next-fails {May} {before} {now} {now'} {policy} {pid} {start} {seen} {held} {given} {todo} {s} {s'} v k bytes g opened are some zero same_policy same_pid same on over =
     let mark : Mark = WriteFails k in
-    let at : AtStream rs dn pid s v.journal v.closed k = at_stream rs dn pid s v.journal v.closed k v.pid_is v.stands here in
-    let st' : StandsFor rs dn (after s (drop (length dn) rs) mark) (mark ∷ v.journal) v.closed = stands_next rs dn pid start told streams blocked held listens last given todo s mark v tt (λ z. at.accepted) in
+    let at : AtStream s v.journal v.closed k = at-stream v.stands k opened in
     record {
-      allowed = λ z. at.accepted;
-      of_wire = (wire-keeps streams blocked last v.journal).write wrote.Failed k (0 ∷ []) (omega arith, tt) (omega arith) (here_open rs dn pid start told streams blocked held listens last given todo s k v here) tt v.of_wire;
-      promise = record { takes = tt; waits = tt; open_streams = tt };
+      told = refl;
+      policy_is = same_policy;
+      pid_is = same_pid;
+      of_wire = (wire-keeps seen.streams seen.blocked seen.last v.journal).write wrote.Failed k bytes are some (stream-open v k opened) tt v.of_wire;
       waits = v.waits;
-      open_are = v.open_are ∙ ap (λ l. 0 ∷ l) (sym (after_numbers s (drop (length dn) rs) mark tt));
+      open_are = v.open_are ∙ ap (λ l. 0 ∷ l) (sym same);
       held_is = v.held_is;
-      blocked_is = λ t p. v.blocked_is t (sym (same_present s (drop (length dn) rs) mark t tt) ∙ p);
-      failed_out = λ t w live. elim (eqb_tells k t) [
-        | inl q ↦ ap (λ i. is_out (rows_of i (log pid rs (mark ∷ v.journal)))) (sym q.1) ∙ (ap (λ p. is_out (rows_of k (log p rs (mark ∷ v.journal)))) (sym v.pid_is) ∙ lost_out rs dn s v.journal v.closed k at.nonzero v.stands live)
-        | inr q ↦ log_out pid rs mark v.journal t (v.failed_out t (sym (ap (λ b. elim b as (λ _. Bool) [ true ↦ true | false ↦ write_failed t v.journal ]) q.0) ∙ w) live)
-      ];
-      unseen = unseen_more rs dn s v.journal v.closed blocked blocked last mark v.stands tt (λ z. at.accepted) v.unseen (λ j ne. refl);
-      settled = λ t a. elim (eqb_tells k t) [
-        | inl q ↦ inr (inr (ap (λ b. elim b as (λ _. Bool) [ true ↦ true | false ↦ write_failed t v.journal ]) q.0))
-        | inr q ↦ settled_other rs pid mark v.journal t (plain_at rs dn pid s v.journal v.closed v.pid_is v.stands) (plain_at rs dn pid (after s (drop (length dn) rs) mark) (mark ∷ v.journal) v.closed (Rattle.mux_engine.proofs.Wires.after_pid s (drop (length dn) rs) mark ∙ v.pid_is) st') q.1 (v.settled t (sym (without_other k t todo q.1) ∙ a))
-      ];
+      blocked_is = λ t p. v.blocked_is t (sym (same-open s s' t same) ∙ p);
+      unseen = unseen-more v mark seen.blocked tt at.accepted (λ j ne. refl);
+      listens = λ l. l;
+      sound = λ picks later.
+          let ps : List ℕ = (v.picked ++ g.picks) ++ picks in
+          let rs : List HouseReply = (v.replies ++ g.replies) ++ later in
+          let set : Setting = by_lists policy pid ps rs in
+          let old : IsSound set v.journal todo s = sound-at v g.picks g.replies (v.picked ++ g.picks) (v.replies ++ g.replies) refl refl picks later in
+          let live-rows : s.ended ≡ None → is_ended (log_of_journal set v.journal) ≡ false = λ l.
+          sym (some-end (log_of_journal set v.journal)) ∙ ap is_some (ap end_of (sym (log-is s policy pid ps rs v.journal v.policy_is v.pid_is)) ∙ (sym (stood-at v.stands g.picks g.replies (v.picked ++ g.picks) (v.replies ++ g.replies) refl refl picks later).rows.ended_is ∙ l)) in
+          record {
+            promise = record { takes = tt; waits = tt; open_streams = tt };
+            failed_out = λ t w live. elim (eqb_tells k t) [
+              | inl q ↦ elim (eqb_tells k 0) [
+                | inl z ↦ absurd (over z.1 live)
+                | inr z ↦ ap (λ i. is_out (rows_of i (log_of_journal set (mark ∷ v.journal)))) (sym q.1) ∙ lost-out policy pid ps rs k v.journal z.1 (live-rows (on live))
+              ]
+              | inr q ↦ log-out set mark v.journal t (old.failed_out t (sym (failed-other mark v.journal t q.1) ∙ w) (on live))
+            ];
+            settled = λ t a. elim (eqb_tells k t) [
+              | inl q ↦ inr (inr (fails-failed k t v.journal true q.0))
+              | inr q ↦
+                  let left : among t todo ≡ false = sym (without-other k t todo q.1) ∙ a in
+                  let nz : t ≢ 0 = λ z. true-false (sym zero ∙ (ap (λ b. b || among 0 todo) (test-other k 0 (λ e. q.1 (e ∙ sym z))) ∙ (ap (λ i. among i todo) (sym z) ∙ left))) in
+                  settled-as set mark v.journal t (failed-pending policy pid ps rs k t v.journal q.1 nz) (blocked-other mark v.journal t q.1) (failed-other mark v.journal t q.1) (old.settled t left)
+            ];
+          };
     }
 
--- ---- a stream for which nothing waits
+-- ---- want of memory
 
-pub serve_empty : (rs : List HouseReply) (dn : List Asked) (pid : ℕ) (start told : Option (List Mark)) (streams blocked held : List ℕ) (listens : Bool) (last given : ℕ) (todo todo' : List ℕ) (s : State) → ServingBy rs dn pid start told streams blocked held listens last given todo s
-    → ((t : ℕ) (journal : List Mark) (closed : List ℕ) → s.pid ≡ pid → StandsFor rs dn s journal closed → ((t : ℕ) → is_present s.clients t ≡ true → among t blocked ≡ is_blocked t journal) → among t todo' ≡ false → (among t todo ≡ false) ⊎ IsSettled (setting pid rs) journal t)
-    → ServingBy rs dn pid start told streams blocked held listens last given todo' s
-serve_empty rs dn pid start told streams blocked held listens last given todo todo' s v h = record {
+wrote-of-wire : {May : HouseReply → Type 0} {before now : Option (List Asked)} {policy : Policy} {pid : ℕ} {start : Option (List Mark)} {seen : Seen} {held : List ℕ} {given : ℕ} {todo : List ℕ} {s : State} (v : Serving May before now policy pid start seen held given todo s) (answer : Wrote) (k : ℕ) (bytes : List ℕ)
+    → is_open s k ≡ true → AreBytes bytes → 0 < length bytes → WroteFits answer (length bytes) → IsOfWire (reverse (write_marks answer k bytes) ++ v.journal)
+wrote-of-wire {seen = seen} v answer k bytes opened are some fits =
+    of-streams seen.streams (blocked_after_write answer k seen.blocked) seen.last (reverse (write_marks answer k bytes) ++ v.journal)
+    ((wire-keeps seen.streams seen.blocked seen.last v.journal).write answer k bytes are some (stream-open v k opened) fits v.of_wire)
+
+-- none to note that the stream is blocked
+pub cut-holds : {May : HouseReply → Type 0} {before now : Option (List Asked)} {policy : Policy} {pid : ℕ} {start : Option (List Mark)} {seen : Seen} {held : List ℕ} {given : ℕ} {todo : List ℕ} {s : State} (v : Serving May before now policy pid start seen held given todo s) (seen' : Seen) (k : ℕ) (bytes : List ℕ)
+    → is_open s k ≡ true → AreBytes bytes → 0 < length bytes → seen' ≡ seen_after_write wrote.Later k bytes seen → Promised May before now policy pid start seen'.told given
+cut-holds {now = now} {given = given} v seen' k bytes opened are some e =
+    cut-next v now seen'.told given (Holds k) [] (ap (λ (x : Seen). x.told) e) (tells-none now) (wrote-of-wire v wrote.Later k bytes opened are some tt) (let w : waits_in v.journal ≡ given = v.waits in omega arith)
+    (λ picks later. record { takes = tt; waits = tt; open_streams = tt })
+
+-- none for the event of a stream that failed
+pub cut-fails : {May : HouseReply → Type 0} {before now : Option (List Asked)} {policy : Policy} {pid : ℕ} {start : Option (List Mark)} {seen : Seen} {held : List ℕ} {given : ℕ} {todo : List ℕ} {s : State} (v : Serving May before now policy pid start seen held given todo s) (now' : Option (List Asked)) (seen' : Seen) (k : ℕ) (bytes : List ℕ)
+    → is_open s k ≡ true → AreBytes bytes → 0 < length bytes → seen' ≡ seen_after_write wrote.Failed k bytes seen → ((more : List Asked) × TellsAsks now now' more) → Promised May before now' policy pid start seen'.told given
+cut-fails {given = given} v now' seen' k bytes opened are some e asks =
+    cut-next v now' seen'.told given (WriteFails k) asks.0 (ap (λ (x : Seen). x.told) e) asks.1 (wrote-of-wire v wrote.Failed k bytes opened are some tt) (let w : waits_in v.journal ≡ given = v.waits in omega arith)
+    (λ picks later. record { takes = tt; waits = tt; open_streams = tt })
+
+-- none for the write
+pub cut-starved : {May : HouseReply → Type 0} {before now : Option (List Asked)} {policy : Policy} {pid : ℕ} {start : Option (List Mark)} {seen : Seen} {held : List ℕ} {given : ℕ} {todo : List ℕ} {s : State} (v : Serving May before now policy pid start seen held given todo s) (seen' : Seen) (k : ℕ) (bytes : List ℕ)
+    → seen' ≡ seen_after_write wrote.NoMemory k bytes seen → Promised May before now policy pid start seen'.told given
+cut-starved {now = now} {seen = seen} {given = given} v seen' k bytes e =
+    cut-here v now seen'.told given [] (ap (λ (x : Seen). x.told) e ∙ told-none seen.told) (tells-none now) (omega arith)
+
+-- ---- a stream for which nothing is to be written now
+
+-- other streams are to be offered what waits for them, where those that are not were so before or are settled
+pub serve-todo : {May : HouseReply → Type 0} {before now : Option (List Asked)} {policy : Policy} {pid : ℕ} {start : Option (List Mark)} {seen : Seen} {held : List ℕ} {given : ℕ} {todo : List ℕ} {s : State} (v : Serving May before now policy pid start seen held given todo s) (todo' : List ℕ)
+    → ((t : ℕ) → among t todo' ≡ false → (among t todo ≡ false) ⊎ ((picks : List ℕ) (later : List HouseReply) → IsSettled (by_lists policy pid (v.picked ++ picks) (v.replies ++ later)) v.journal t))
+    → Serving May before now policy pid start seen held given todo' s
+serve-todo {May} {before} {now} {policy} {pid} {start} {seen} {held} {given} {todo} {s} v todo' h = record {
   journal = v.journal;
   closed = v.closed;
+  picked = v.picked;
+  replies = v.replies;
+  policy_is = v.policy_is;
   pid_is = v.pid_is;
+  may = v.may;
+  stands = v.stands;
+  house = v.house;
   tells = v.tells;
   of_wire = v.of_wire;
-  stands = v.stands;
-  kept = v.kept;
   waits = v.waits;
   open_are = v.open_are;
   held_is = v.held_is;
   blocked_is = v.blocked_is;
-  failed_out = v.failed_out;
   unseen = v.unseen;
-  settled = λ t a. elim (h t v.journal v.closed v.pid_is v.stands v.blocked_is a) [ inl b ↦ v.settled t b | inr d ↦ d ];
   hears = v.hears;
+  sound = λ picks later. let old : IsSound (by_lists policy pid (v.picked ++ picks) (v.replies ++ later)) v.journal todo s = v.sound picks later in
+      record { kept = old.kept; failed_out = old.failed_out; settled = λ t a. elim (h t a) [ inl b ↦ old.settled t b | inr d ↦ d picks later ] };
 }
+
+-- nothing waits for it
+pub nothing-left : {May : HouseReply → Type 0} {before now : Option (List Asked)} {policy : Policy} {pid : ℕ} {start : Option (List Mark)} {seen : Seen} {held : List ℕ} {given : ℕ} {todo : List ℕ} {s : State} (v : Serving May before now policy pid start seen held given todo s) (k : ℕ) (bytes : List ℕ)
+    → Waiting bytes k s v.picked v.replies v.journal → bytes ≡ [] → Serving May before now policy pid start seen held given (without k todo) s
+nothing-left {policy = policy} {pid = pid} {todo = todo} {s = s} v k bytes waiting none = serve-todo v (without k todo) (λ t a. elim (eqb_tells k t) [
+  | inl q ↦ inr (λ picks later. inl (ap (λ i. pending i (log_of_journal (by_lists policy pid (v.picked ++ picks) (v.replies ++ later)) v.journal)) (sym q.1)
+      ∙ (sym (waiting picks later ∙ ap (pending k) (log-is s policy pid (v.picked ++ picks) (v.replies ++ later) v.journal v.policy_is v.pid_is)) ∙ none)))
+  | inr q ↦ inl (sym (without-other k t todo q.1) ∙ a)
+])
+
+-- it is blocked
+pub held-back : {May : HouseReply → Type 0} {before now : Option (List Asked)} {policy : Policy} {pid : ℕ} {start : Option (List Mark)} {seen : Seen} {held : List ℕ} {given : ℕ} {todo : List ℕ} {s : State} (k : ℕ) (v : Serving May before now policy pid start seen held given (k ∷ todo) s)
+    → is_open s k ≡ true → among k held ≡ true → Serving May before now policy pid start seen held given todo s
+held-back {seen = seen} {todo = todo} {s = s} k v opened h = serve-todo v todo (λ t a. elim (eqb_tells k t) [
+  | inl q ↦ inr (λ picks later. inr (inl (ap (λ i. is_blocked i v.journal) (sym q.1) ∙ (sym (v.blocked_is k opened) ∙ (ap (among k) (sym v.held_is) ∙ h)))))
+  | inr q ↦ inl (ap (λ b. b || among t todo) q.0 ∙ a)
+])
+
+-- one stream more is to be offered what waits for it
+pub wider : {May : HouseReply → Type 0} {before now : Option (List Asked)} {policy : Policy} {pid : ℕ} {start : Option (List Mark)} {seen : Seen} {held : List ℕ} {given : ℕ} {todo : List ℕ} {s : State} (k : ℕ) (v : Serving May before now policy pid start seen held given todo s) → Serving May before now policy pid start seen held given (k ∷ todo) s
+wider {todo = todo} k v = serve-todo v (k ∷ todo) (λ t a. inl (apart-or-left k t todo a).1)
+
+-- the stream that was offered is done with
+pub narrower : {May : HouseReply → Type 0} {before now : Option (List Asked)} {policy : Policy} {pid : ℕ} {start : Option (List Mark)} {seen : Seen} {held : List ℕ} {given : ℕ} {todo : List ℕ} {s : State} (k : ℕ) (v : Serving May before now policy pid start seen held given (without k (k ∷ todo)) s) → Serving May before now policy pid start seen held given todo s
+narrower {todo = todo} k v = serve-todo v todo (λ t a. inl (elim (eqb_tells k t) [
+  | inl q ↦ ap (λ i. among i (without k (k ∷ todo))) (sym q.1) ∙ none-without k (k ∷ todo)
+  | inr q ↦ without-other k t (k ∷ todo) q.1 ∙ (ap (λ b. b || among t todo) q.0 ∙ a)
+]))

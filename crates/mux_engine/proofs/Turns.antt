@@ -1,175 +1,234 @@
--- A call of wait, and the turn that it gives.
-use Rattle.std.proofs.Common.{◌≡◌, ◌≢◌, ◌+◌, ℕ, Bool, true, false, not, ◌||◌, List, [], ◌∷◌, ◌++◌, length, Option, Some, None, refl, sym, ap, ◌∙◌, subst, inl, inr, ◌⊎◌, cond, arith}
-use Rattle.std.specs.Prelude.{◌==◌, filter, All, IsTrue}
+-- What a turn tells of a stream makes of what holds while a wire is served.
+use Rattle.std.proofs.Common.{◌≡◌, ◌≢◌, ◌<◌, ◌+◌, ℕ, Bool, true, false, ◌||◌, List, [], ◌∷◌, ◌++◌, length, Option, None, refl, sym, ap, ◌∙◌, subst, inl, inr, cond, arith}
+use Rattle.std.specs.Prelude.{◌==◌}
+use Rattle.std.specs.Option.{option_map}
 use Rattle.std.proofs.lemmas.Bool.{eq-eqb}
 use Rattle.std.proofs.lemmas.Bool.Decides.{eqb_tells}
-use Rattle.std.proofs.lemmas.List.Elements.{All-nil, All-cons}
-use Rattle.mux_outside.specs.Streams.{among}
 use Rattle.mux_outside.specs.House.{Asked}
+use Rattle.mux_outside.specs.Seen.{Seen}
+use Rattle.mux_outside.specs.Streams.{among, without}
 use Rattle.mux_outside.specs.declared.house.HouseReply.{HouseReply}
 use Rattle.mux_outside.specs.declared.mark.Mark.{Mark}
-use Rattle.mux_outside.specs.declared.mark.Mark.TheVariants.{Waits}
-use Rattle.mux_outside.specs.declared.turn.Want.TheVariants.{Read}
-use Rattle.mux_history.specs.declared.why.Why.{Why}
-use Rattle.mux_history.specs.Rows.{Row, rows_of, is_out, losses, loss_by, Item, Gone, Fate, Goes, Refused, Drop, End}
-use Rattle.mux_history.specs.Pending.{pending}
-use Rattle.mux_history.specs.Log.{served}
-use Rattle.mux_history.specs.Journal.{is_blocked}
-use Rattle.mux_history.specs.Promises.{is_empty, has_output, listens}
-use Rattle.mux_engine.specs.State.{ClientState, State}
-use Rattle.mux_engine.specs.Step.{is_lost, is_present, numbers, queue_in, waiting_in, served_in}
-use Rattle.mux_engine.specs.Stands.{log, ArePlain, StandsFor, EachStands, not_closed}
-use Rattle.mux_engine.specs.Serving.{ServingBy, IsUnseen}
-use Rattle.mux_engine.proofs.Fits.{out_row, puts_out}
-use Rattle.mux_engine.proofs.Grows.{own_row, other_row, test_other, or_true}
-use Rattle.mux_engine.proofs.Moved.{true_false, lost_is}
-use Rattle.mux_engine.proofs.Goes.{open_here}
-use Rattle.mux_engine.proofs.Closes.{in_losses}
-use Rattle.mux_engine.proofs.Queues.{waits_among}
-use Rattle.mux_engine.proofs.Others.{server_pending}
-use Rattle.mux_engine.proofs.Wires.{among_numbers, Next}
-use Rattle.mux_engine.proofs.Offers.{AtStream, at_stream}
-use Rattle.mux_engine.proofs.Loops.{waits_here}
+use Rattle.mux_outside.specs.declared.mark.Mark.TheVariants.{Accepts, Gets, Ends, Frees, Fails}
+use Rattle.mux_history.specs.Policy.{Policy}
+use Rattle.mux_history.specs.Rows.{Row, rows_of}
+use Rattle.mux_history.specs.Pending.{pending, pending_down, pending_up}
+use Rattle.mux_history.specs.Settings.{by_lists}
+use Rattle.mux_history.specs.Log.{Setting}
+use Rattle.mux_history.specs.Journal.{IsLawful, is_accepted, is_blocked, log_of_journal}
+use Rattle.mux_history.specs.Promises.{IsSettled, waits_in, write_failed}
+use Rattle.mux_history.specs.Wires.{OfWire}
+use Rattle.mux_history.proofs.Bools.{or-left, or-right}
+use Rattle.mux_machine.specs.State.{State, is_here}
+use Rattle.mux_machine.specs.Events.{here}
+use Rattle.mux_machine.specs.Stands.{GoesBy, RowsFit}
+use Rattle.mux_engine.specs.Serving.{IsSound, IsUnseen, Serving, is_open}
+use Rattle.mux_engine.proofs.Lists.{among-last, among-open, none-without, or-none, same-open, test-other, true-false, without-other}
+use Rattle.mux_engine.proofs.Logs.{NotArrival, log-out, mark_stream, settled-as}
+use Rattle.mux_engine.proofs.Marks.{Next, PromiseAt, log-is, sound-at, stood-at}
+use Rattle.mux_engine.proofs.Offers.{at-stream, unseen-more}
+use Rattle.mux_engine.proofs.Outs.{Spares, waits-closed}
 
--- ---- nobody is lost where nobody leaves
+-- ---- what happened at a stream
 
-loss_in : (k : ℕ) (row : Row) (f : Fate) (i : Item) → row.fate ≡ f → row.item ≡ i → row.client ≡ k → puts_out f i ≡ true → in_losses k (loss_by row) ≡ true
-loss_in k row (Drop cause) i e j c p = ap (in_losses k) (ap (λ (f : Fate). elim f as (λ _. List (ℕ × Option Why)) [ Drop cause ↦ (row.client, Some cause) ∷ [] | Refused ↦ (row.client, None) ∷ [] | Goes ↦ elim row.item as (λ _. List (ℕ × Option Why)) [ Gone k ↦ (row.client, None) ∷ [] | _ ↦ [] ] | End cause ↦ [] ]) e) ∙ ap (λ b. b || false) (eq-eqb row.client k c)
-loss_in k row Refused i e j c p = ap (in_losses k) (ap (λ (f : Fate). elim f as (λ _. List (ℕ × Option Why)) [ Drop cause ↦ (row.client, Some cause) ∷ [] | Refused ↦ (row.client, None) ∷ [] | Goes ↦ elim row.item as (λ _. List (ℕ × Option Why)) [ Gone k ↦ (row.client, None) ∷ [] | _ ↦ [] ] | End cause ↦ [] ]) e) ∙ ap (λ b. b || false) (eq-eqb row.client k c)
-loss_in k row (End cause) i e j c p = true_false (sym p)
-loss_in k row Goes (Gone n) e j c p = let t : (row.client == k) ≡ true = eq-eqb row.client k c in rw (e, j) (ap (λ b. b || false) t)
-loss_in k row Goes i e j c p = true_false (sym p)
+-- what waits for a client
+client-pending : (t : ℕ) (rows : List Row) → (t == 0) ≡ false → pending t rows ≡ pending_down (rows_of t rows)
+client-pending t rows e = ap (λ b. elim b as (λ _. List ℕ) [ true ↦ pending_up rows | false ↦ pending_down (rows_of t rows) ]) e
 
-more_losses : (k : ℕ) (a b : List (ℕ × Option Why)) → (in_losses k a ≡ true) ⊎ (in_losses k b ≡ true) → in_losses k (a ++ b) ≡ true
-more_losses k [] b (inl h) = true_false (sym h)
-more_losses k [] b (inr h) = h
-more_losses k (l ∷ a) b h = by_own (l.0 == k) refl h (more_losses k a b)
+-- a turn tells it
+abbrev pub IsTold : Mark → Type 0
+IsTold (Accepts k) = Unit {0}
+IsTold (Gets k bytes) = Unit {0}
+IsTold (Ends k) = Unit {0}
+IsTold (Fails k) = Unit {0}
+IsTold mark = ⊥
+
+-- it says nothing of writing
+told-blocked : (mark : Mark) (journal : List Mark) (t : ℕ) → IsTold mark → is_blocked t (mark ∷ journal) ≡ is_blocked t journal
+told-blocked (Accepts k) journal t h = refl
+told-blocked (Gets k bytes) journal t h = refl
+told-blocked (Ends k) journal t h = refl
+told-blocked (Fails k) journal t h = refl
+told-blocked mark journal t h = absurd h
+
+told-failed : (mark : Mark) (journal : List Mark) (t : ℕ) → IsTold mark → write_failed t (mark ∷ journal) ≡ write_failed t journal
+told-failed (Accepts k) journal t h = refl
+told-failed (Gets k bytes) journal t h = refl
+told-failed (Ends k) journal t h = refl
+told-failed (Fails k) journal t h = refl
+told-failed mark journal t h = absurd h
+
+pub told-waits : (mark : Mark) (journal : List Mark) → IsTold mark → waits_in (mark ∷ journal) ≡ waits_in journal
+told-waits (Accepts k) journal h = refl
+told-waits (Gets k bytes) journal h = refl
+told-waits (Ends k) journal h = refl
+told-waits (Fails k) journal h = refl
+told-waits mark journal h = absurd h
+
+pub told-promise : (set : Setting) (mark : Mark) (journal : List Mark) → IsTold mark → PromiseAt set journal mark
+told-promise set (Accepts k) journal h = record { takes = tt; waits = tt; open_streams = tt }
+told-promise set (Gets k bytes) journal h = record { takes = tt; waits = tt; open_streams = tt }
+told-promise set (Ends k) journal h = record { takes = tt; waits = tt; open_streams = tt }
+told-promise set (Fails k) journal h = record { takes = tt; waits = tt; open_streams = tt }
+told-promise set mark journal h = absurd h
+
+module _ {May : HouseReply → Type 0} {before now : Option (List Asked)} {policy : Policy} {pid : ℕ} {start : Option (List Mark)} {seen : Seen} {held : List ℕ} {given : ℕ} {s : State}
+    (v : Serving May before now policy pid start seen held given [] s) {now' : Option (List Asked)} {s' : State} (mark : Mark) (g : GoesBy May now now' v.picked v.replies s s' mark v.journal v.closed)
+    (same_policy : s'.core.policy ≡ s.core.policy) (same_pid : s'.pid ≡ s.pid) (told : IsTold mark) (lawful : IsLawful (mark ∷ v.journal)) where
+  abbrev picks-then : List ℕ → List ℕ
+  picks-then picks = (v.picked ++ g.picks) ++ picks
+
+  abbrev replies-then : List HouseReply → List HouseReply
+  replies-then later = (v.replies ++ g.replies) ++ later
+
+  abbrev setting : List ℕ → List HouseReply → Setting
+  setting picks later = by_lists policy pid (picks-then picks) (replies-then later)
+
+  fits-before : (picks : List ℕ) (later : List HouseReply) → RowsFit (length v.picked) v.stands.asks s v.closed (log_of_journal (setting picks later) v.journal)
+  fits-before picks later = subst (RowsFit (length v.picked) v.stands.asks s v.closed) (log-is s policy pid (picks-then picks) (replies-then later) v.journal v.policy_is v.pid_is)
+      (stood-at v.stands g.picks g.replies (v.picked ++ g.picks) (v.replies ++ g.replies) refl refl picks later).rows
+
+  fits-after : (picks : List ℕ) (later : List HouseReply) → RowsFit (length (v.picked ++ g.picks)) g.stands.asks s' v.closed (log_of_journal (setting picks later) (mark ∷ v.journal))
+  fits-after picks later = subst (RowsFit (length (v.picked ++ g.picks)) g.stands.asks s' v.closed) (log-is s' policy pid (picks-then picks) (replies-then later) (mark ∷ v.journal) (same_policy ∙ v.policy_is) (same_pid ∙ v.pid_is)) (g.stands.at picks later).rows
+
+  -- a client whose stream isn't open is settled as before, or has nothing
+  rest-settled : ((k : ℕ) → among k v.closed ≡ true → Spares k mark) → (picks : List ℕ) (later : List HouseReply) (t : ℕ) → among t (0 ∷ here s') ≡ false → IsSettled (setting picks later) (mark ∷ v.journal) t
+  rest-settled spares picks later t a = by_closed (among t v.closed) refl
+    where
+      shut : ((t == 0) || is_here s' t) ≡ false
+      shut = sym (among-open s' t) ∙ a
+
+      real : (t == 0) ≡ false
+      real = or-left (t == 0) (is_here s' t) shut
+
+      nonzero : t ≢ 0
+      nonzero z = true-false (sym (eq-eqb t 0 z) ∙ real)
+
+      old : List Row
+      old = log_of_journal (setting picks later) v.journal
+
+      new : List Row
+      new = log_of_journal (setting picks later) (mark ∷ v.journal)
+
+      by_closed : (b : Bool) → among t v.closed ≡ b → IsSettled (setting picks later) (mark ∷ v.journal) t
+      by_closed false e = inl (client-pending t new real ∙ ap pending_down ((fits-after picks later).absent t nonzero (or-right (t == 0) (is_here s' t) shut) e))
+      by_closed true e = settled-as (setting picks later) mark v.journal t
+          (client-pending t new real ∙ (waits-closed policy pid (picks-then picks) (replies-then later) mark v.journal (fits-before picks later) lawful (fits-after picks later).fresh t nonzero e (spares t e) ∙ sym (client-pending t old real)))
+          (told-blocked mark v.journal t told) (told-failed mark v.journal t told)
+          ((sound-at v g.picks g.replies (v.picked ++ g.picks) (v.replies ++ g.replies) refl refl picks later).settled t refl)
+
+  -- all of it, where the run went on before
+  pub next-told : (seen' : Seen) → s.ended ≡ None → ((k : ℕ) → among k v.closed ≡ true → Spares k mark)
+      → seen'.told ≡ option_map (λ m. m ++ mark ∷ []) seen.told → OfWire seen'.streams seen'.blocked seen'.last (mark ∷ v.journal) → seen'.streams ≡ 0 ∷ here s' → seen'.blocked ≡ seen.blocked → seen'.listens ≡ seen.listens
+      → ((t : ℕ) → is_open s' t ≡ true → among t seen.blocked ≡ is_blocked t v.journal) → ((k : ℕ) → seen'.last < k → IsUnseen (mark ∷ v.journal) seen.blocked k)
+      → Next policy pid (v.picked ++ g.picks) (v.replies ++ g.replies) s s' v.journal seen seen' held given (0 ∷ here s') mark
+  next-told seen' live spares told_is of streams blocked listens blocked_is unseen = record {
+    told = told_is;
+    policy_is = same_policy;
+    pid_is = same_pid;
+    of_wire = of;
+    waits = told-waits mark v.journal told ∙ v.waits;
+    open_are = streams;
+    held_is = v.held_is ∙ sym blocked;
+    blocked_is = λ t p. ap (among t) blocked ∙ (blocked_is t p ∙ sym (told-blocked mark v.journal t told));
+    unseen = λ k lt. subst (λ (b : List ℕ). IsUnseen (mark ∷ v.journal) b k) (sym blocked) (unseen k lt);
+    listens = λ l. listens ∙ l;
+    sound = λ picks later.
+        let old : IsSound (setting picks later) v.journal [] s = sound-at v g.picks g.replies (v.picked ++ g.picks) (v.replies ++ g.replies) refl refl picks later in
+        record {
+          promise = told-promise (setting picks later) mark v.journal told;
+          failed_out = λ t w on. log-out (setting picks later) mark v.journal t (old.failed_out t (sym (told-failed mark v.journal t told) ∙ w) live);
+          settled = λ t a. rest-settled spares picks later t a;
+        };
+  }
+
+-- ---- each mark
+
+told-spares : (mark : Mark) → IsTold mark → NotArrival mark → (k : ℕ) → Spares k mark
+told-spares (Gets j bytes) t n k = tt
+told-spares (Ends j) t n k = tt
+told-spares (Fails j) t n k = tt
+told-spares (Accepts j) t n k = absurd n
+told-spares mark t n k = absurd t
+
+-- a stream that the wire has open is open
+pub open-stream : {May : HouseReply → Type 0} {before now : Option (List Asked)} {policy : Policy} {pid : ℕ} {start : Option (List Mark)} {seen : Seen} {held : List ℕ} {given : ℕ} {todo : List ℕ} {s : State} (v : Serving May before now policy pid start seen held given todo s) (k : ℕ) → among k seen.streams ≡ true → is_open s k ≡ true
+open-stream {s = s} v k found = sym (among-open s k) ∙ (sym (ap (among k) v.open_are) ∙ found)
+
+-- a stream that is open says something
+pub next-says : {May : HouseReply → Type 0} {before now : Option (List Asked)} {policy : Policy} {pid : ℕ} {start : Option (List Mark)} {seen : Seen} {held : List ℕ} {given : ℕ} {s : State} (v : Serving May before now policy pid start seen held given [] s) {now' : Option (List Asked)} {s' : State} (mark : Mark) (g : GoesBy May now now' v.picked v.replies s s' mark v.journal v.closed)
+    → s'.core.policy ≡ s.core.policy → s'.pid ≡ s.pid → IsTold mark → NotArrival mark → among (mark_stream mark) seen.streams ≡ true → here s' ≡ here s → s.ended ≡ None
+    → (seen' : Seen) → seen'.told ≡ option_map (λ m. m ++ mark ∷ []) seen.told → OfWire seen'.streams seen'.blocked seen'.last (mark ∷ v.journal) → seen'.streams ≡ seen.streams → seen'.blocked ≡ seen.blocked → seen'.last ≡ seen.last → seen'.listens ≡ seen.listens
+    → Next policy pid (v.picked ++ g.picks) (v.replies ++ g.replies) s s' v.journal seen seen' held given (0 ∷ here s') mark
+next-says {seen = seen} {s = s} v {s' = s'} mark g same_policy same_pid told stays found same live seen' told_is of streams blocked last listens =
+    next-told v mark g same_policy same_pid told of.lawful seen' live (λ k c. told-spares mark told stays k) told_is of (streams ∙ (v.open_are ∙ ap (λ l. 0 ∷ l) (sym same))) blocked listens
+    (λ t p. v.blocked_is t (sym (same-open s s' t same) ∙ p))
+    (λ k lt. unseen-more v mark seen.blocked stays (at-stream v.stands (mark_stream mark) (open-stream v (mark_stream mark) found)).accepted (λ j ne. refl) k (subst (λ n. n < k) last lt))
+
+-- a client comes, and is let in or refused
+pub next-accepts : {May : HouseReply → Type 0} {before now : Option (List Asked)} {policy : Policy} {pid : ℕ} {start : Option (List Mark)} {seen : Seen} {held : List ℕ} {given : ℕ} {s : State} (v : Serving May before now policy pid start seen held given [] s) {now' : Option (List Asked)} {s' : State} (k : ℕ) (g : GoesBy May now now' v.picked v.replies s s' (Accepts k) v.journal v.closed)
+    → s'.core.policy ≡ s.core.policy → s'.pid ≡ s.pid → k ≡ seen.last + 1 → here s' ≡ here s ++ k ∷ [] → s.ended ≡ None
+    → (seen' : Seen) → seen'.told ≡ option_map (λ m. m ++ Accepts k ∷ []) seen.told → OfWire seen'.streams seen'.blocked seen'.last (Accepts k ∷ v.journal) → seen'.streams ≡ seen.streams ++ k ∷ [] → seen'.blocked ≡ seen.blocked → seen'.last ≡ k → seen'.listens ≡ seen.listens
+    → Next policy pid (v.picked ++ g.picks) (v.replies ++ g.replies) s s' v.journal seen seen' held given (0 ∷ here s') (Accepts k)
+next-accepts {seen = seen} {s = s} v {s' = s'} k g same_policy same_pid next more live seen' told_is of streams blocked last listens =
+    next-told v (Accepts k) g same_policy same_pid tt of.lawful seen' live spares told_is of (streams ∙ (ap (λ l. l ++ k ∷ []) v.open_are ∙ ap (λ l. 0 ∷ l) (sym more))) blocked listens blocked-is (λ j lt. unseen-is j (subst (λ n. n < j) last lt))
   where
-    by_own : (t : Bool) → (l.0 == k) ≡ t → (in_losses k (l ∷ a) ≡ true) ⊎ (in_losses k b ≡ true) → ((in_losses k a ≡ true) ⊎ (in_losses k b ≡ true) → in_losses k (a ++ b) ≡ true) → ((l.0 == k) || in_losses k (a ++ b)) ≡ true
-    by_own true e h ih = ap (λ x. x || in_losses k (a ++ b)) e
-    by_own false e (inl h) ih = ap (λ x. (l.0 == k) || x) (ih (inl (sym (ap (λ x. x || in_losses k a) e) ∙ h))) ∙ or_true (l.0 == k)
-    by_own false e (inr h) ih = ap (λ x. (l.0 == k) || x) (ih (inr h)) ∙ or_true (l.0 == k)
+    new : IsUnseen v.journal seen.blocked k
+    new = v.unseen k (omega arith)
 
-out_loss : (k : ℕ) (rows : List Row) → is_out (rows_of k rows) ≡ true → in_losses k (losses rows) ≡ true
-out_loss k [] h = true_false (sym h)
-out_loss k (row ∷ rows) h = more_losses k (losses rows) (loss_by row) (elim (eqb_tells row.client k) [
-  | inl q ↦ by_row (puts_out row.fate row.item) refl q.1 (sym (ap is_out (own_row k row rows q.1) ∙ out_row row.item row.fate row (rows_of k rows) refl refl) ∙ h) (out_loss k rows)
-  | inr q ↦ inl (out_loss k rows (sym (ap is_out (other_row row.client k row rows refl q.1)) ∙ h))
-])
-  where
-    by_row : (b : Bool) → puts_out row.fate row.item ≡ b → row.client ≡ k → (puts_out row.fate row.item || is_out (rows_of k rows)) ≡ true → (is_out (rows_of k rows) ≡ true → in_losses k (losses rows) ≡ true) → (in_losses k (losses rows) ≡ true) ⊎ (in_losses k (loss_by row) ≡ true)
-    by_row true e c h ih = inr (loss_in k row row.fate row.item refl refl c e)
-    by_row false e c h ih = inl (ih (sym (ap (λ x. x || is_out (rows_of k rows)) e) ∙ h))
+    spares : (j : ℕ) → among j v.closed ≡ true → k ≢ j
+    spares j c e = true-false (sym c ∙ (ap (λ i. among i v.closed) (sym e) ∙ ((v.stands.at [] []).bytes.strange k new.not_accepted).not_closed_yet))
 
-kept_loss : (k : ℕ) (closed : List ℕ) (ls : List (ℕ × Option Why)) → among k closed ≡ false → in_losses k ls ≡ true → in_losses k (filter (not_closed closed) ls) ≡ true
-kept_loss k closed [] c h = h
-kept_loss k closed (l ∷ ls) c h = elim (eqb_tells l.0 k) [
-  | inl q ↦ ap (λ b. in_losses k (cond (not b) (l ∷ filter (not_closed closed) ls) (filter (not_closed closed) ls))) (ap (λ i. among i closed) q.1 ∙ c) ∙ ap (λ b. b || in_losses k (filter (not_closed closed) ls)) q.0
-  | inr q ↦ by_kept (not_closed closed l) (kept_loss k closed ls c (sym (ap (λ b. b || in_losses k ls) q.0) ∙ h))
-]
-  where
-    by_kept : (b : Bool) → in_losses k (filter (not_closed closed) ls) ≡ true → in_losses k (cond b (l ∷ filter (not_closed closed) ls) (filter (not_closed closed) ls)) ≡ true
-    by_kept true ih = ap (λ b. (l.0 == k) || b) ih ∙ or_true (l.0 == k)
-    by_kept false ih = ih
+    open-before : (t : ℕ) → k ≢ t → is_open s' t ≡ true → is_open s t ≡ true
+    open-before t ne p =
+        sym (among-open s t) ∙ (sym (among-old t ne) ∙ (sym (ap (λ l. among t (0 ∷ l)) more) ∙ (among-open s' t ∙ p)))
+      where
+        among-old : (t : ℕ) → k ≢ t → among t (0 ∷ (here s ++ k ∷ [])) ≡ among t (0 ∷ here s)
+        among-old t ne = among-last k t (0 ∷ here s) ∙ (ap (λ b. among t (0 ∷ here s) || (b || false)) (test-other k t ne) ∙ or-none (among t (0 ∷ here s)))
 
-pub none_lost : (rs : List HouseReply) (dn : List Asked) (s : State) (marks : List Mark) (closed : List ℕ) (k : ℕ) → StandsFor rs dn s marks closed → s.leaving ≡ [] → is_present s.clients k ≡ true → is_out (rows_of k (log s.pid rs marks)) ≡ false
-none_lost rs dn s marks closed k st none here = by_out (is_out (rows_of k (log s.pid rs marks))) refl
-  where
-    by_out : (b : Bool) → is_out (rows_of k (log s.pid rs marks)) ≡ b → b ≡ false
-    by_out false e = refl
-    by_out true e = true_false (sym (kept_loss k closed (losses (log s.pid rs marks)) (open_here rs dn s marks closed k st here) (out_loss k (log s.pid rs marks) e)) ∙ ap (in_losses k) (sym st.leaving_are ∙ none))
-
-all_served : (rows : List Row) (marks : List Mark) (cs : List ClientState) → EachStands rows marks cs → ((k : ℕ) → is_present cs k ≡ true → is_out (rows_of k rows) ≡ false) → numbers cs ≡ served_in cs
-all_served rows marks [] each h = refl
-all_served rows marks (c ∷ cs) each h =
-    let here : is_lost c.standing ≡ false = lost_is (rows_of c.number rows) c each.0.fits ∙ h c.number (ap (λ b. cond b true (is_present cs c.number)) (eq-eqb c.number c.number refl)) in
-    ap (λ l. c.number ∷ l) (all_served rows marks cs each.1 (λ k p. h k (by_head k (c.number == k) p))) ∙ sym (ap (λ b. cond b (served_in cs) (c.number ∷ served_in cs)) here)
-  where
-    by_head : (k : ℕ) (b : Bool) → is_present cs k ≡ true → cond b true (is_present cs k) ≡ true
-    by_head k true p = refl
-    by_head k false p = p
-
--- ---- what is promised at a wait
-
-waiting_filter : (rows : List Row) (marks : List Mark) (cs : List ClientState) → ArePlain rows → EachStands rows marks cs → waiting_in cs ≡ filter (has_output rows) (numbers cs)
-waiting_filter rows marks [] p each = refl
-waiting_filter rows marks (c ∷ cs) p each =
-    let same : c.queue ≡ pending c.number rows = each.0.fits.queue_is ∙ sym (ap (λ b. elim b as (λ _. List ℕ) [ true ↦ Rattle.mux_history.specs.Pending.pending_up rows | false ↦ Rattle.mux_history.specs.Pending.pending_down (rows_of c.number rows) ]) (test_other c.number 0 each.0.nonzero)) in
-    ap (λ l. cond (is_empty c.queue) l (c.number ∷ l)) (waiting_filter rows marks cs p each.1)
-    ∙ (ap (λ q. cond (is_empty q) (filter (has_output rows) (numbers cs)) (c.number ∷ filter (has_output rows) (numbers cs))) same ∙ flip (is_empty (pending c.number rows)) (filter (has_output rows) (numbers cs)))
-  where
-    flip : (b : Bool) (l : List ℕ) → cond b l (c.number ∷ l) ≡ cond (not b) (c.number ∷ l) l
-    flip true l = refl
-    flip false l = refl
-
-all_of : (P : ℕ → Type 0) (xs : List ℕ) → ((t : ℕ) → among t xs ≡ true → P t) → All P xs
-all_of P [] h = All-nil P
-all_of P (x ∷ xs) h = All-cons P x xs (h x (ap (λ b. b || among x xs) (eq-eqb x x refl))) (all_of P xs (λ t a. h t (ap (λ b. (x == t) || b) a ∙ or_true (x == t))))
-
-not_nothing : (q : List ℕ) → not (is_empty q) ≡ true → q ≢ []
-not_nothing q e z = true_false (sym e ∙ ap (λ x. not (is_empty x)) z)
-
--- each stream that waits is blocked
-waits_blocked : (rs : List HouseReply) (dn : List Asked) (pid : ℕ) (start told : Option (List Mark)) (streams blocked held : List ℕ) (listens : Bool) (last given : ℕ) (s : State) (v : ServingBy rs dn pid start told streams blocked held listens last given [] s) → s.leaving ≡ [] → s.ended ≡ None → (t : ℕ) → among t s.waiting ≡ true → is_blocked t v.journal ≡ true
-waits_blocked rs dn pid start told streams blocked held listens last given s v none live t a =
-    let here : is_present s.clients t ≡ true = waits_here rs dn s v.journal v.closed t v.stands a in
-    let at : AtStream rs dn pid s v.journal v.closed t = at_stream rs dn pid s v.journal v.closed t v.pid_is v.stands here in
-    let some : queue_in s.clients t ≢ [] = not_nothing (queue_in s.clients t) (sym (ap (among t) v.stands.waiting_is ∙ waits_among t s.clients v.stands.apart) ∙ a) in
-    elim (v.settled t refl) [
-      | inl e ↦ absurd (some (at.queue ∙ e))
-      | inr r ↦ elim r [ inl b ↦ b | inr f ↦ true_false (sym (v.failed_out t f live) ∙ (ap (λ p. is_out (rows_of t (log p rs v.journal))) (sym v.pid_is) ∙ none_lost rs dn s v.journal v.closed t v.stands none here)) ]
+    blocked-is : (t : ℕ) → is_open s' t ≡ true → among t seen.blocked ≡ is_blocked t v.journal
+    blocked-is t p = elim (eqb_tells k t) [
+      | inl q ↦ ap (λ i. among i seen.blocked) (sym q.1) ∙ (new.not_blocked ∙ (sym new.never_blocked ∙ ap (λ i. is_blocked i v.journal) q.1))
+      | inr q ↦ v.blocked_is t (open-before t q.1 p)
     ]
 
-pub waiting_blocked : (rs : List HouseReply) (dn : List Asked) (pid : ℕ) (start told : Option (List Mark)) (streams blocked held : List ℕ) (listens : Bool) (last given : ℕ) (s : State) → ServingBy rs dn pid start told streams blocked held listens last given [] s → s.leaving ≡ [] → s.ended ≡ None → All (λ t. IsTrue (among t blocked)) s.waiting
-waiting_blocked rs dn pid start told streams blocked held listens last given s v none live = all_of (λ t. IsTrue (among t blocked)) s.waiting
-    (λ t a. v.blocked_is t (waits_here rs dn s v.journal v.closed t v.stands a) ∙ waits_blocked rs dn pid start told streams blocked held listens last given s v none live t a)
+    unseen-is : (j : ℕ) → k < j → IsUnseen (Accepts k ∷ v.journal) seen.blocked j
+    unseen-is j lt = let w : IsUnseen v.journal seen.blocked j = v.unseen j (omega arith) in
+        record { not_accepted = ap (λ b. cond b true (is_accepted j v.journal)) (test-other k j (λ q. absurd (omega arith))) ∙ w.not_accepted; never_blocked = w.never_blocked; not_blocked = w.not_blocked }
 
-pub waiting_open : (rs : List HouseReply) (dn : List Asked) (pid : ℕ) (start told : Option (List Mark)) (streams blocked held : List ℕ) (listens : Bool) (last given : ℕ) (todo : List ℕ) (s : State) → ServingBy rs dn pid start told streams blocked held listens last given todo s → All (λ t. IsTrue (among t streams)) s.waiting
-waiting_open rs dn pid start told streams blocked held listens last given todo s v = all_of (λ t. IsTrue (among t streams)) s.waiting
-    (λ t a. ap (among t) v.open_are ∙ (ap (λ b. (0 == t) || b) (among_numbers t s.clients ∙ waits_here rs dn s v.journal v.closed t v.stands a) ∙ or_true (0 == t)))
-
-pub server_open : (rs : List HouseReply) (dn : List Asked) (pid : ℕ) (start told : Option (List Mark)) (streams blocked held : List ℕ) (listens : Bool) (last given : ℕ) (todo : List ℕ) (s : State) → ServingBy rs dn pid start told streams blocked held listens last given todo s → IsTrue (among 0 streams)
-server_open rs dn pid start told streams blocked held listens last given todo s v = ap (among 0) v.open_are
-
-plain_here : (rs : List HouseReply) (dn : List Asked) (pid : ℕ) (start told : Option (List Mark)) (streams blocked held : List ℕ) (listens : Bool) (last given : ℕ) (todo : List ℕ) (s : State) (v : ServingBy rs dn pid start told streams blocked held listens last given todo s) → ArePlain (log pid rs v.journal)
-plain_here rs dn pid start told streams blocked held listens last given todo s v = subst (λ p. ArePlain (log p rs v.journal)) v.pid_is v.stands.plain
-
-pub next_waits : (rs : List HouseReply) (dn : List Asked) (pid : ℕ) (start told : Option (List Mark)) (streams blocked held : List ℕ) (hears : Bool) (last given : ℕ) (s : State) (v : ServingBy rs dn pid start told streams blocked held hears last given [] s) → s.leaving ≡ [] → s.ended ≡ None → hears ≡ s.listening
-    → Next rs dn pid s v.journal streams blocked held last (given + 1) [] (Waits s.waiting Read streams hears)
-next_waits rs dn pid start told streams blocked held hears last given s v none live hear =
-    let rows : List Row = log pid rs v.journal in
-    let plain : ArePlain rows = plain_here rs dn pid start told streams blocked held hears last given [] s v in
-    let log_is : log s.pid rs v.journal ≡ rows = ap (λ p. log p rs v.journal) v.pid_is in
-    let nothing : pending 0 rows ≡ [] = server_pending rows plain in
-    let held_back : All (λ t. IsTrue (is_blocked t v.journal)) s.waiting = all_of (λ t. IsTrue (is_blocked t v.journal)) s.waiting (waits_blocked rs dn pid start told streams blocked held hears last given s v none live) in
-    record {
-      allowed = tt;
-      of_wire = record {
-        lawful = (held_back, v.of_wire.lawful);
-        asked = (λ reads. true_false (sym reads), v.of_wire.asked);
-        known = v.of_wire.known;
-        holds = v.of_wire.holds;
-        below = v.of_wire.below;
+-- a stream takes bytes again
+pub next-frees : {May : HouseReply → Type 0} {before now : Option (List Asked)} {policy : Policy} {pid : ℕ} {start : Option (List Mark)} {seen : Seen} {held : List ℕ} {given : ℕ} {s : State} (v : Serving May before now policy pid start seen held given [] s) (k : ℕ)
+    → among k seen.streams ≡ true → (seen' : Seen) → seen'.told ≡ option_map (λ m. m ++ Frees k ∷ []) seen.told → OfWire seen'.streams seen'.blocked seen'.last (Frees k ∷ v.journal) → seen'.streams ≡ seen.streams → seen'.blocked ≡ without k seen.blocked → seen'.last ≡ seen.last → seen'.listens ≡ seen.listens
+    → Next policy pid v.picked v.replies s s v.journal seen seen' (without k held) given (0 ∷ here s) (Frees k)
+next-frees {policy = policy} {pid = pid} {seen = seen} {given = given} {s = s} v k found seen' told_is of streams blocked last listens = record {
+  told = told_is;
+  policy_is = refl;
+  pid_is = refl;
+  of_wire = of;
+  waits = v.waits;
+  open_are = streams ∙ v.open_are;
+  held_is = ap (without k) v.held_is ∙ sym blocked;
+  blocked_is = λ t p. ap (among t) blocked ∙ blocked-is t p;
+  unseen = λ j lt. subst (λ (b : List ℕ). IsUnseen (Frees k ∷ v.journal) b j) (sym blocked) (unseen-more v (Frees k) (without k seen.blocked) tt (at-stream v.stands k (open-stream v k found)).accepted (λ i ne. without-other k i seen.blocked ne) j (subst (λ n. n < j) last lt));
+  listens = λ l. listens ∙ l;
+  sound = λ picks later.
+      let set : Setting = by_lists policy pid (v.picked ++ picks) (v.replies ++ later) in
+      let old : IsSound set v.journal [] s = v.sound picks later in
+      record {
+        promise = record { takes = tt; waits = tt; open_streams = tt };
+        failed_out = old.failed_out;
+        settled = λ t a. settled-as set (Frees k) v.journal t refl (freed t false (test-other k t (λ e. shut t a e))) refl (old.settled t refl);
       };
-      promise = record {
-        takes = tt;
-        waits = record {
-          waits_for = v.stands.waiting_is ∙ (waiting_filter (log s.pid rs v.journal) v.journal s.clients v.stands.plain v.stands.clients ∙ (ap (λ r. filter (has_output r) (numbers s.clients)) log_is
-              ∙ (sym (ap (λ b. cond b (0 ∷ filter (has_output rows) (numbers s.clients)) (filter (has_output rows) (numbers s.clients))) (ap (λ q. not (is_empty q)) nothing)) ∙ sym (ap (filter (has_output rows)) v.open_are))));
-          blocked = held_back;
-          write_only = (λ e. absurd (cc), λ h. absurd (let n : length (pending 0 rows) ≡ 0 = ap length nothing in omega arith));
-          settled = λ t. v.settled t refl;
-        };
-        open_streams = record {
-          open_streams = v.open_are ∙ ap (λ l. 0 ∷ l) (all_served (log s.pid rs v.journal) v.journal s.clients v.stands.clients (λ k p. none_lost rs dn s v.journal v.closed k v.stands none p) ∙ (v.stands.served_are ∙ ap served log_is));
-          listening = hear ∙ (v.stands.listening_is ∙ ap listens log_is);
-        };
-      };
-      waits = ap (λ n. n + 1) v.waits;
-      open_are = v.open_are;
-      held_is = v.held_is;
-      blocked_is = v.blocked_is;
-      failed_out = v.failed_out;
-      unseen = λ j lt. let u : IsUnseen v.journal blocked j = v.unseen j lt in record { not_accepted = u.not_accepted; never_blocked = u.never_blocked; not_blocked = u.not_blocked };
-      settled = v.settled;
-    }
+}
+  where
+    freed : (t : ℕ) (b : Bool) → (k == t) ≡ b → is_blocked t (Frees k ∷ v.journal) ≡ (elim b as (λ _. Bool) [ true ↦ false | false ↦ is_blocked t v.journal ])
+    freed t b e = ap (λ c. elim c as (λ _. Bool) [ true ↦ false | false ↦ is_blocked t v.journal ]) e
+
+    shut : (t : ℕ) → among t (0 ∷ here s) ≡ false → k ≢ t
+    shut t a e = true-false (sym found ∙ (ap (λ i. among i seen.streams) e ∙ (ap (among t) v.open_are ∙ a)))
+
+    blocked-is : (t : ℕ) → is_open s t ≡ true → among t (without k seen.blocked) ≡ is_blocked t (Frees k ∷ v.journal)
+    blocked-is t p = elim (eqb_tells k t) [
+      | inl q ↦ ap (λ i. among i (without k seen.blocked)) (sym q.1) ∙ (none-without k seen.blocked ∙ sym (freed t true q.0))
+      | inr q ↦ without-other k t seen.blocked q.1 ∙ (v.blocked_is t p ∙ sym (freed t false q.0))
+    ]

@@ -1,9 +1,4 @@
-pub mod State
-pub mod Asked
-pub mod Answer
-pub mod Heeded
-pub mod Decisions
-pub mod Step
-pub mod Events
-pub mod Stands
+pub mod Counted
+pub mod Run
 pub mod Serving
+pub mod Turns

@@ -1,13 +1,8 @@
-//! The machine of a run: what the streams of the clients and of the server say goes in as events, what is to be
-//! written waits in a queue for each stream, and `serve` drives both over a wire.
+//! A run of the master: `serve` drives an engine over a wire.
 #![tactic(auto)]
 
-mod client;
-mod decision;
-mod engine;
+mod events;
 mod serving;
-#[cfg(test)]
-mod tests;
+mod settling;
 
-pub use engine::{Engine, Event, Went};
 pub use serving::serve;

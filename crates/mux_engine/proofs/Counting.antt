@@ -1,0 +1,147 @@
+-- What a turn counts, and how it may end a run.
+use Rattle.std.proofs.Common.{◌≡◌, ◌≤◌, ◌+◌, ℕ, Bool, true, false, List, Option, Some, None, sym, ap, ◌∙◌, inl, inr, cond, arith}
+use Rattle.std.specs.Prelude.{◌==◌, IsErr, Result, Ok, Err}
+use Rattle.std.specs.Bool.{MatchBool}
+use Rattle.std.proofs.lemmas.Bool.{eq-eqb}
+use Rattle.mux_outside.specs.Counts.{Rose, counted}
+use Rattle.mux_outside.specs.Seen.{Calls, calls_after_wait, is_starved}
+use Rattle.mux_outside.specs.Wire.{TurnFaults}
+use Rattle.mux_outside.specs.declared.mark.Mark.{Mark}
+use Rattle.mux_outside.specs.declared.mark.Mark.TheVariants.{Accepts, Gets, Ends, Fails, WriteFails}
+use Rattle.mux_outside.specs.declared.turn.Turn.{Turn}
+use Rattle.mux_outside.specs.declared.turn.Turn.TheVariants as turn
+use Rattle.mux_history.specs.declared.ended.Ended.{Ended}
+use Rattle.mux_history.specs.declared.ended.Ended.TheVariants as ended
+use Rattle.mux_machine.specs.declared.event.Event.{Event}
+use Rattle.mux_machine.specs.declared.event.Event.TheVariants.{Accepted, FromClient, ClientEnd, ClientFailed, FromServer, ServerEnd, ServerFailed}
+use Rattle.mux_machine.specs.Events.{MayEnd, Tells}
+use Rattle.mux_engine.specs.Counted.{Counts, Cut, Well}
+use Rattle.mux_engine.specs.Serving.{StaysOrFails}
+use Rattle.mux_engine.specs.Turns.{IsNext}
+
+-- ---- calls
+
+counted-most : (n : ℕ) → counted n ≤ n + 1
+counted-most n = omega arith
+
+late-wait : (t : Turn) (c : Calls) → c.wants ≡ 0 → (calls_after_wait t c).late ≡ c.late
+late-wait t c e = ap (λ b. cond b c.late (counted c.late)) (eq-eqb c.wants 0 e)
+
+wants-wait : (b : Bool) (c : Calls) → cond b (counted c.wants) c.wants ≤ c.wants + 1
+wants-wait true c = counted-most c.wants
+wants-wait false c = omega arith
+
+-- a call of wait, whether or not it found memory
+pub cut-wait : (t : Turn) (c : Calls) → Cut 1 c (calls_after_wait t c)
+cut-wait t c = record { few = counted-most c.waits; wants = wants-wait (is_starved t) c; late = late-wait t c }
+
+-- first so many waits, then so many
+pub well-on : (m n k : ℕ) (a b c : Calls) → m + n ≤ k → Well m a b → Well n b c → Well k a c
+well-on m n k a b c le v w = let f : b.waits ≤ a.waits + m = v.few in let g : c.waits ≤ b.waits + n = w.few in
+    record { few = omega arith; wants = w.wants ∙ v.wants; late = λ z. w.late (v.wants ∙ z) ∙ v.late z }
+
+pub cut-on : (m n k : ℕ) (a b c : Calls) → m + n ≤ k → Well m a b → Cut n b c → Cut k a c
+cut-on m n k a b c le v w = let f : b.waits ≤ a.waits + m = v.few in let g : c.waits ≤ b.waits + n = w.few in let e : b.wants ≡ a.wants = v.wants in let h : c.wants ≤ b.wants + 1 = w.wants in
+    record { few = omega arith; wants = omega arith; late = λ z. w.late (v.wants ∙ z) ∙ v.late z }
+
+-- an error handed on
+pub counts-err : {A E : Type 0} (r : Result A E) (n : ℕ) (a b : Calls) → IsErr r → Cut n a b → Counts n r a b
+counts-err (Ok x) n a b e c = absurd (let z : false ≡ true = e in cc)
+counts-err (Err x) n a b e c = c
+
+-- ---- the server's stream
+
+abbrev IsServerFailed : Event → Type 0
+IsServerFailed ServerFailed = Unit {0}
+IsServerFailed e = ⊥
+
+failed-by : (e : Event) (o : Option Ended) → MayEnd e o → o ≡ Some ended.ServerFailed → IsServerFailed e
+failed-by ServerFailed o may is = tt
+failed-by (Accepted k) o may is = absurd (let z : None ≡ Some ended.ServerFailed = sym may ∙ is in cc)
+failed-by (ClientEnd k) o may is = absurd (let z : None ≡ Some ended.ServerFailed = sym may ∙ is in cc)
+failed-by (ClientFailed k) o may is = absurd (let z : None ≡ Some ended.ServerFailed = sym may ∙ is in cc)
+failed-by (FromClient k bytes) o may is = absurd (may is)
+failed-by (FromServer bytes) o may is = absurd (may is)
+failed-by ServerEnd o may is = absurd (may is)
+
+abbrev stream-of : Mark → ℕ
+stream-of (Fails k) = k
+stream-of mark = 0
+
+failed-stream : (e : Event) (k : ℕ) → IsServerFailed e → Tells e (Fails k) → k ≡ 0
+failed-stream ServerFailed k is t = elim t [ inl m ↦ ap stream-of m | inr m ↦ absurd (cc) ]
+failed-stream (Accepted j) k is t = absurd is
+failed-stream (ClientEnd j) k is t = absurd is
+failed-stream (ClientFailed j) k is t = absurd is
+failed-stream (FromClient j bytes) k is t = absurd is
+failed-stream (FromServer bytes) k is t = absurd is
+failed-stream ServerEnd k is t = absurd is
+
+not-told : (e : Event) (mark : Mark) → IsServerFailed e → Tells e mark → (mark ≡ Fails 0 → ⊥) → (mark ≡ WriteFails 0 → ⊥) → ⊥
+not-told ServerFailed mark is t f g = elim t [ inl m ↦ f m | inr m ↦ g m ]
+not-told (Accepted j) mark is t f g = is
+not-told (ClientEnd j) mark is t f g = is
+not-told (ClientFailed j) mark is t f g = is
+not-told (FromClient j bytes) mark is t f g = is
+not-told (FromServer bytes) mark is t f g = is
+not-told ServerEnd mark is t f g = is
+
+-- its count rose where a turn ended the run so
+rose-by : (e : Event) (t : Turn) (bytes : List ℕ) (a b c d : ℕ) → IsServerFailed e → IsNext (Some e) t bytes → TurnFaults t a b c d → Rose a b
+rose-by e (turn.Failed k) bytes a b c d is next f = by_server (k == 0) (eq-eqb k 0 (failed-stream e k is next)) f
+  where
+    by_server : (t : Bool) → t ≡ true → MatchBool t (Rose a b × (d ≡ c)) ((b ≡ a) × Rose c d) → Rose a b
+    by_server true e f = f.0
+    by_server false e f = absurd (cc)
+rose-by e (turn.Accepted k) bytes a b c d is next f = absurd (not-told e (Accepts k) is next (λ z. cc) (λ z. cc))
+rose-by e (turn.Got k) bytes a b c d is next f = absurd (not-told e (Gets k bytes) is next (λ z. cc) (λ z. cc))
+rose-by e (turn.End k) bytes a b c d is next f = absurd (not-told e (Ends k) is next (λ z. cc) (λ z. cc))
+rose-by e (turn.Writable k) bytes a b c d is next f = absurd next
+rose-by e turn.NoMemory bytes a b c d is next f = absurd next
+
+pub turn-rose : (e : Event) (o : Option Ended) (t : Turn) (bytes : List ℕ) (a b c d : ℕ) → MayEnd e o → IsNext (Some e) t bytes → TurnFaults t a b c d → o ≡ Some ended.ServerFailed → Rose a b
+turn-rose e o t bytes a b c d may next f over = rose-by e t bytes a b c d (failed-by e o may over) next f
+
+same-later : (a b : ℕ) → b ≡ a → a ≤ b
+same-later a b e = omega arith
+
+-- no count falls
+pub turn-later : (t : Turn) (a b c d : ℕ) → TurnFaults t a b c d → a ≤ b
+turn-later (turn.Accepted k) a b c d f = same-later a b f.same_server
+turn-later (turn.Got k) a b c d f = same-later a b f.same_server
+turn-later (turn.End k) a b c d f = same-later a b f.same_server
+turn-later (turn.Writable k) a b c d f = same-later a b f.same_server
+turn-later turn.NoMemory a b c d f = same-later a b f.same_server
+turn-later (turn.Failed k) a b c d f = by_server (k == 0) f
+  where
+    by_server : (t : Bool) → MatchBool t (Rose a b × (d ≡ c)) ((b ≡ a) × Rose c d) → a ≤ b
+    by_server true f = let r : Rose a b = f.0 in r.later
+    by_server false f = same-later a b f.0
+
+-- ---- how a run ends
+
+counted-least : (m n : ℕ) → m ≤ n → counted m ≤ counted n
+counted-least m n h = omega arith
+
+pub rose-behind : (m n o : ℕ) → m ≤ n → Rose n o → Rose m o
+rose-behind m n o h r = let l : n ≤ o = r.later in let c : counted n ≤ o = r.rose in let d : counted m ≤ counted n = counted-least m n h in
+    record { later = omega arith; rose = omega arith }
+
+rose-before : (m n o : ℕ) → Rose m n → n ≤ o → Rose m o
+rose-before m n o r h = let l : m ≤ n = r.later in let c : counted m ≤ n = r.rose in record { later = omega arith; rose = omega arith }
+
+-- a run that went on ended for the server's stream, or goes on
+pub fails-live : (old new : Option Ended) (a b : ℕ) (cause : Ended) → StaysOrFails old new a b → old ≡ None → new ≡ Some cause → Rose a b
+fails-live old new a b cause (inl s) on is = let z : None ≡ Some cause = sym on ∙ (sym s.0 ∙ is) in absurd (let h = z in cc)
+fails-live old new a b cause (inr f) on is = f.1
+
+-- where the server's stream failed, its count rose by then
+pub fails-then : (old new : Option Ended) (a b c : ℕ) → a ≤ b → (old ≡ Some ended.ServerFailed → Rose a b) → StaysOrFails old new b c → new ≡ Some ended.ServerFailed → Rose a c
+fails-then old new a b c le was (inl s) is = rose-before a b c (was (sym s.0 ∙ is)) s.1
+fails-then old new a b c le was (inr f) is = rose-behind a b c le f.1
+
+pub later-on : (a b c : ℕ) → a ≤ b → b ≤ c → a ≤ c
+later-on a b c f g = omega arith
+
+pub later-then : (a b c d : ℕ) → a ≤ b → b ≤ c → c ≤ d → a ≤ d
+later-then a b c d f g h = omega arith

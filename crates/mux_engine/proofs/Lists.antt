@@ -1,0 +1,115 @@
+-- Lists of streams, and the streams that are open.
+use Rattle.std.proofs.Common.{◌≡◌, ◌≢◌, ◌<◌, ◌+◌, ◌-◌, ℕ, zero, suc, Bool, true, false, not, ◌||◌, List, [], ◌∷◌, ◌++◌, length, get_or, drop, refl, sym, ap, ◌∙◌, inl, inr, cond, arith, drop-cons}
+use Rattle.std.specs.Prelude.{◌==◌}
+use Rattle.std.proofs.lemmas.Bool.{eq-eqb}
+use Rattle.std.proofs.lemmas.Bool.Decides.{eqb_tells}
+use Rattle.std.proofs.lemmas.List.Folds.{list_any-append}
+use Rattle.mux_outside.specs.Streams.{among, without}
+use Rattle.mux_clients.specs.State.{ClientState}
+use Rattle.mux_clients.specs.Among.{is_present}
+use Rattle.mux_machine.specs.State.{State, in_client, is_here, numbers}
+use Rattle.mux_machine.specs.Events.{here}
+use Rattle.mux_engine.specs.Serving.{is_open}
+
+pub true-false : {A : Type 0} → true ≡ false → A
+true-false e = absurd (cc)
+
+pub test-other : (a b : ℕ) → a ≢ b → (a == b) ≡ false
+test-other a b ne = elim (eqb_tells a b) [ inl p ↦ absurd (ne p.1) | inr p ↦ p.0 ]
+
+test-swap : (a b : ℕ) → (a == b) ≡ (b == a)
+test-swap a b = elim (eqb_tells a b) [ inl t ↦ t.0 ∙ sym (eq-eqb b a (sym t.1)) | inr t ↦ t.0 ∙ sym (test-other b a (λ e. t.1 (sym e))) ]
+
+pub or-true : (b : Bool) → (b || true) ≡ true
+or-true true = refl
+or-true false = refl
+
+pub or-none : (a : Bool) → (a || (false || false)) ≡ a
+or-none true = refl
+or-none false = refl
+
+pub or-last : (a : Bool) → (a || (true || false)) ≡ true
+or-last true = refl
+or-last false = refl
+
+-- ---- a list without a stream, and with one more
+
+pub among-last : (k t : ℕ) (xs : List ℕ) → among t (xs ++ k ∷ []) ≡ (among t xs || ((k == t) || false))
+among-last k t xs = list_any-append (λ (i : ℕ). i == t) xs (k ∷ [])
+
+pub among-other-last : (k t : ℕ) (xs : List ℕ) → k ≢ t → among t (xs ++ k ∷ []) ≡ among t xs
+among-other-last k t xs ne = among-last k t xs ∙ (ap (λ b. among t xs || (b || false)) (test-other k t ne) ∙ or-none (among t xs))
+
+pub without-other : (k t : ℕ) (xs : List ℕ) → k ≢ t → among t (without k xs) ≡ among t xs
+without-other k t [] ne = refl
+without-other k t (j ∷ xs) ne = elim (eqb_tells j k) [
+  | inl q ↦ ap (λ b. among t (cond (not b) (j ∷ without k xs) (without k xs))) q.0 ∙ (without-other k t xs ne ∙ sym (ap (λ b. b || among t xs) (test-other j t (λ e. ne (sym q.1 ∙ e)))))
+  | inr q ↦ ap (λ b. among t (cond (not b) (j ∷ without k xs) (without k xs))) q.0 ∙ ap (λ b. (j == t) || b) (without-other k t xs ne)
+]
+
+pub none-without : (k : ℕ) (xs : List ℕ) → among k (without k xs) ≡ false
+none-without k [] = refl
+none-without k (j ∷ xs) = elim (eqb_tells j k) [
+  | inl q ↦ ap (λ b. among k (cond (not b) (j ∷ without k xs) (without k xs))) q.0 ∙ none-without k xs
+  | inr q ↦ ap (λ b. among k (cond (not b) (j ∷ without k xs) (without k xs))) q.0 ∙ (ap (λ b. b || among k (without k xs)) q.0 ∙ none-without k xs)
+]
+
+pub among-less : (k t : ℕ) (xs : List ℕ) → among t xs ≡ false → among t (without k xs) ≡ false
+among-less k t xs a = elim (eqb_tells k t) [
+  | inl q ↦ ap (λ i. among i (without k xs)) (sym q.1) ∙ none-without k xs
+  | inr q ↦ without-other k t xs q.1 ∙ a
+]
+
+-- whoever isn't in a list is not its head, nor in the rest
+pub apart-or-left : (k t : ℕ) (xs : List ℕ) → among t (k ∷ xs) ≡ false → (k ≢ t) × (among t xs ≡ false)
+apart-or-left k t xs a = elim (eqb_tells k t) [
+  | inl q ↦ true-false (sym (ap (λ b. b || among t xs) q.0) ∙ a)
+  | inr q ↦ (q.1, sym (ap (λ b. b || among t xs) q.0) ∙ a)
+]
+
+pub element-among : (i : ℕ) (xs : List ℕ) → i < length xs → among (get_or xs i 0) xs ≡ true
+element-among i [] lt = absurd (omega arith)
+element-among zero (x ∷ xs) lt = ap (λ b. b || among x xs) (eq-eqb x x refl)
+element-among (suc i) (x ∷ xs) lt = ap (λ b. (x == get_or xs i 0) || b) (element-among i xs (omega arith)) ∙ or-true (x == get_or xs i 0)
+
+pub drop-next : (i : ℕ) (xs : List ℕ) → i < length xs → drop i xs ≡ get_or xs i 0 ∷ drop (i + 1) xs
+drop-next i xs lt = let e : suc i ≡ i + 1 = omega arith in drop-cons xs i 0 lt ∙ ap (λ m. get_or xs i 0 ∷ drop m xs) e
+
+-- ---- the streams that are open
+
+-- the head of a list is there, or else one behind it
+abbrev pub either : Bool → Bool → Bool
+either b rest = elim b as (λ _. Bool) [ true ↦ true | false ↦ rest ]
+
+pub among-numbers : (k : ℕ) (cs : List ClientState) → among k (numbers cs) ≡ is_present cs k
+among-numbers k [] = refl
+among-numbers k (c ∷ cs) = ap (λ b. (c.seat.number == k) || b) (among-numbers k cs) ∙ or-cond (c.seat.number == k) (is_present cs k)
+  where
+    or-cond : (a b : Bool) → (a || b) ≡ either a b
+    or-cond true b = refl
+    or-cond false b = refl
+
+pub among-here : (s : State) (t : ℕ) → among t (here s) ≡ is_here s t
+among-here s t = list_any-append (λ (i : ℕ). i == t) (numbers s.clients) s.refused ∙ ap (λ b. b || among t s.refused) (among-numbers t s.clients)
+
+pub among-open : (s : State) (t : ℕ) → among t (0 ∷ here s) ≡ is_open s t
+among-open s t = ap (λ b. b || among t (here s)) (test-swap 0 t) ∙ ap (λ b. (t == 0) || b) (among-here s t)
+
+-- the same streams are open where the same clients are here
+pub same-open : (s s' : State) (t : ℕ) → here s' ≡ here s → is_open s' t ≡ is_open s t
+same-open s s' t e = sym (among-open s' t) ∙ (ap (λ l. among t (0 ∷ l)) e ∙ among-open s t)
+
+-- an open stream but the server's is of a client that is here
+pub open-here : (s : State) (k : ℕ) → is_open s k ≡ true → k ≢ 0 → is_here s k ≡ true
+open-here s k opened nz = sym (ap (λ b. b || is_here s k) (test-other k 0 nz)) ∙ opened
+
+pub here-open : (s : State) (k : ℕ) → is_here s k ≡ true → is_open s k ≡ true
+here-open s k h = ap (λ b. (k == 0) || b) h ∙ or-true (k == 0)
+
+pub look-none : {A : Type 0} (none : A) (look : ClientState → A) (k : ℕ) (cs : List ClientState) → is_present cs k ≡ false → in_client none look cs k ≡ none
+look-none none look k [] p = refl
+look-none none look k (c ∷ cs) p = by_head (look-none none look k cs) (c.seat.number == k) p
+  where
+    by_head : (is_present cs k ≡ false → in_client none look cs k ≡ none) → (b : Bool) → either b (is_present cs k) ≡ false → cond b (look c) (in_client none look cs k) ≡ none
+    by_head ih true q = true-false q
+    by_head ih false q = ih q

@@ -1,0 +1,102 @@
+-- An engine from which bytes were taken, and one with a client closed.
+use Rattle.std.proofs.Common.{◌≡◌, ◌≢◌, ◌≤◌, ◌<◌, ◌-◌, ℕ, zero, suc, Bool, true, false, not, List, [], ◌∷◌, ◌++◌, length, drop, refl, sym, ap, ◌∙◌, subst, cond, arith, length-drop, append-nil}
+use Rattle.std.specs.Prelude.{◌==◌}
+use Rattle.std.proofs.lemmas.List.Elements.{filter-append}
+use Rattle.mux_outside.specs.Streams.{without}
+use Rattle.mux_outside.specs.declared.house.HouseReply.{HouseReply}
+use Rattle.mux_outside.specs.declared.mark.Mark.{Mark}
+use Rattle.mux_outside.specs.declared.mark.Mark.TheVariants.{Takes}
+use Rattle.proxy_frames.specs.Queued.{without_first}
+use Rattle.mux_history.specs.Settings.{by_lists}
+use Rattle.mux_history.specs.Journal.{log_of_journal}
+use Rattle.mux_clients.specs.State.{ClientState}
+use Rattle.mux_clients.specs.Among.{is_present}
+use Rattle.mux_clients.specs.Asked.{asked_of}
+use Rattle.mux_machine.specs.State.{State, at_client, client_took, closed_by, in_client, numbers, queue_in, taken, without_client}
+use Rattle.mux_machine.specs.Events.{here}
+use Rattle.mux_machine.specs.Stands.{log}
+use Rattle.mux_engine.proofs.Lists.{look-none, test-other}
+use Rattle.mux_engine.proofs.Logs.{took-log}
+use Rattle.mux_engine.proofs.Offers.{SameRun}
+
+-- ---- what stays
+
+numbers-took : (t n : ℕ) (cs : List ClientState) → numbers (at_client t (client_took n) cs) ≡ numbers cs
+numbers-took t n [] = refl
+numbers-took t n (c ∷ cs) = by_head (c.seat.number == t) (numbers-took t n cs)
+  where
+    by_head : (b : Bool) → numbers (at_client t (client_took n) cs) ≡ numbers cs → numbers (cond b (client_took n c ∷ cs) (c ∷ at_client t (client_took n) cs)) ≡ c.seat.number ∷ numbers cs
+    by_head true ih = refl
+    by_head false ih = ap (λ l. c.seat.number ∷ l) ih
+
+abbrev after : State → ℕ → ℕ → Bool → State
+after s t n b = cond b (record s { up = without_first n s.up }) (record s { clients = at_client t (client_took n) s.clients })
+
+taken-run : (s : State) (t n : ℕ) → SameRun s (taken s t n)
+taken-run s t n = by_server (t == 0)
+  where
+    by_server : (b : Bool) → SameRun s (record (after s t n b) { waiting = (taken s t n).waiting })
+    by_server true = record { policy = refl; pid = refl; streams = refl; ended = refl }
+    by_server false = record { policy = refl; pid = refl; streams = ap (λ l. l ++ s.refused) (numbers-took t n s.clients); ended = refl }
+
+pub took-run : (s s' : State) (t n : ℕ) → s' ≡ taken s t n → SameRun s s'
+took-run s s' t n e = subst (SameRun s) (sym e) (taken-run s t n)
+
+-- nothing is asked by it
+pub took-asks : (s s' : State) (t : ℕ) (bytes : List ℕ) (marks : List Mark) → SameRun s s' → (picks : List ℕ) (replies : List HouseReply) → asked_of (log s' picks replies (Takes t bytes ∷ marks)) ≡ asked_of (log s picks replies marks)
+took-asks s s' t bytes marks same picks replies =
+    ap (λ x. asked_of (log_of_journal (by_lists x s'.pid picks replies) (Takes t bytes ∷ marks))) same.policy
+    ∙ (ap (λ x. asked_of (log_of_journal (by_lists s.core.policy x picks replies) (Takes t bytes ∷ marks))) same.pid
+    ∙ (ap asked_of (took-log s.core.policy s.pid picks replies (log s picks replies marks) t (length bytes)) ∙ append-nil (asked_of (log s picks replies marks))))
+
+-- ---- what waits is less
+
+drop-none : (n : ℕ) → drop {A = ℕ} n [] ≡ []
+drop-none zero = refl
+drop-none (suc n) = refl
+
+look-took : (k n : ℕ) (cs : List ClientState) → in_client [] (λ c. c.seat.queue) (at_client k (client_took n) cs) k ≡ drop n (in_client [] (λ c. c.seat.queue) cs k)
+look-took k n [] = sym (drop-none n)
+look-took k n (c ∷ cs) = by_head (c.seat.number == k) refl (look-took k n cs)
+  where
+    by_head : (b : Bool) → (c.seat.number == k) ≡ b → in_client [] (λ c. c.seat.queue) (at_client k (client_took n) cs) k ≡ drop n (in_client [] (λ c. c.seat.queue) cs k)
+        → in_client [] (λ c. c.seat.queue) (cond b (client_took n c ∷ cs) (c ∷ at_client k (client_took n) cs)) k ≡ drop n (cond b c.seat.queue (in_client [] (λ c. c.seat.queue) cs k))
+    by_head true e ih = ap (λ b. cond b (drop n c.seat.queue) (in_client [] (λ c. c.seat.queue) cs k)) e
+    by_head false e ih = ap (λ b. cond b c.seat.queue (in_client [] (λ c. c.seat.queue) (at_client k (client_took n) cs) k)) e ∙ ih
+
+taken-queue : (s : State) (k n : ℕ) → queue_in (taken s k n) k ≡ drop n (queue_in s k)
+taken-queue s k n = by_server (k == 0) refl
+  where
+    by_server : (b : Bool) → (k == 0) ≡ b → cond b (after s k n b).up.waiting (in_client [] (λ c. c.seat.queue) (after s k n b).clients k) ≡ drop n (cond b s.up.waiting (in_client [] (λ c. c.seat.queue) s.clients k))
+    by_server true e = refl
+    by_server false e = look-took k n s.clients
+
+pub took-less : (s s' : State) (k n : ℕ) → s' ≡ taken s k n → 1 ≤ n → n ≤ length (queue_in s k) → length (queue_in s' k) < length (queue_in s k)
+took-less s s' k n e one fits =
+    let q : queue_in s' k ≡ drop n (queue_in s k) = ap (λ (t : State). queue_in t k) e ∙ taken-queue s k n in
+    let l : length (queue_in s' k) ≡ length (queue_in s k) - n = ap length q ∙ length-drop n (queue_in s k) in
+    omega arith
+
+-- a client for which something waits was let in
+pub queue-present : (s : State) (k : ℕ) (bytes : List ℕ) → bytes ≡ queue_in s k → 0 < length bytes → k ≢ 0 → is_present s.clients k ≡ true
+queue-present s k bytes e some nz = by_present (is_present s.clients k) refl
+  where
+    by_present : (b : Bool) → is_present s.clients k ≡ b → b ≡ true
+    by_present true h = refl
+    by_present false h =
+        let q : queue_in s k ≡ [] = ap (λ b. cond b s.up.waiting (in_client [] (λ c. c.seat.queue) s.clients k)) (test-other k 0 nz) ∙ look-none [] (λ c. c.seat.queue) k s.clients h in
+        let l : length bytes ≡ 0 = ap length (e ∙ q) in
+        absurd (omega arith)
+
+-- ---- a client less
+
+without-numbers : (k : ℕ) (cs : List ClientState) → without k (numbers cs) ≡ numbers (without_client k cs)
+without-numbers k [] = refl
+without-numbers k (c ∷ cs) = by_test (c.seat.number == k) (without-numbers k cs)
+  where
+    by_test : (b : Bool) → without k (numbers cs) ≡ numbers (without_client k cs) → cond (not b) (c.seat.number ∷ without k (numbers cs)) (without k (numbers cs)) ≡ numbers (cond (not b) (c ∷ without_client k cs) (without_client k cs))
+    by_test true ih = ih
+    by_test false ih = ap (λ l. c.seat.number ∷ l) ih
+
+pub here-less : (s : State) (k : ℕ) → without k (here s) ≡ here (closed_by s k)
+here-less s k = filter-append (λ (j : ℕ). not (j == k)) (numbers s.clients) s.refused ∙ ap (λ l. l ++ without k s.refused) (without-numbers k s.clients)

@@ -1,0 +1,47 @@
+-- What the wire and the house told, and what the house may give.
+use Rattle.std.proofs.Common.{◌≡◌, List, [], ◌∷◌, ◌++◌, Option, Some, None, refl, sym, ap, ◌∙◌, append_assoc, append-nil}
+use Rattle.std.specs.Prelude.{reverse}
+use Rattle.std.specs.Option.{option_map}
+use Rattle.std.proofs.lemmas.List.{reverse-append}
+use Rattle.mux_outside.specs.House.{Asked}
+use Rattle.mux_outside.specs.declared.house.HouseReply.{HouseReply}
+use Rattle.mux_outside.specs.declared.mark.Mark.{Mark}
+use Rattle.mux_history.specs.Journal.{Tells}
+use Rattle.mux_history.specs.Promises.{MayGive}
+use Rattle.mux_clients.specs.Asked.{TellsAsks}
+
+-- ---- what the wire told
+
+reverse-twice : (ms : List Mark) → reverse (reverse ms) ≡ ms
+reverse-twice [] = refl
+reverse-twice (m ∷ ms) = ap reverse (reverse-append (m ∷ []) ms) ∙ (reverse-append (reverse ms) (m ∷ []) ∙ ap (λ l. m ∷ l) (reverse-twice ms))
+
+pub tells-more : (start told now : Option (List Mark)) (journal ms : List Mark) → Tells start told journal → now ≡ option_map (λ m. m ++ ms) told → Tells start now (reverse ms ++ journal)
+tells-more start told now journal ms h e = e ∙ (ap (option_map (λ m. m ++ ms)) h ∙ by_start start)
+  where
+    by_start : (o : Option (List Mark)) → option_map (λ m. m ++ ms) (option_map (λ m. m ++ reverse journal) o) ≡ option_map (λ m. m ++ reverse (reverse ms ++ journal)) o
+    by_start None = refl
+    by_start (Some m) = ap (λ (l : List Mark). Some l) (append_assoc m (reverse journal) ms ∙ ap (λ l. m ++ l) (sym (reverse-append (reverse ms) journal ∙ ap (λ l. reverse journal ++ l) (reverse-twice ms))))
+
+pub told-none : (told : Option (List Mark)) → option_map (λ m. m ++ []) told ≡ told
+told-none None = refl
+told-none (Some m) = ap (λ (l : List Mark). Some l) (append-nil m)
+
+-- ---- what the house told
+
+-- where it was asked nothing it tells the same
+pub tells-none : (told : Option (List Asked)) → TellsAsks told told []
+tells-none None = refl
+tells-none (Some asks) = ap (λ (l : List Asked). Some l) (sym (append-nil asks))
+
+tells-twice : (before : Option (List Asked)) (a b : List Asked) → option_map (λ told. told ++ b) (option_map (λ told. told ++ a) before) ≡ option_map (λ told. told ++ (a ++ b)) before
+tells-twice None a b = refl
+tells-twice (Some asks) a b = ap (λ (l : List Asked). Some l) (append_assoc asks a b)
+
+-- first these, then those
+pub tells-then : (before mid now : Option (List Asked)) (a b : List Asked) → TellsAsks before mid a → TellsAsks mid now b → TellsAsks before now (a ++ b)
+tells-then before mid now a b first then = then ∙ (ap (λ (told : Option (List Asked)). option_map (λ l. l ++ b) told) first ∙ tells-twice before a b)
+
+pub may-more : (May : HouseReply → Type 0) (xs ys : List HouseReply) → MayGive May xs → MayGive May ys → MayGive May (xs ++ ys)
+may-more May [] ys a b = b
+may-more May (reply ∷ xs) ys a b = (a.0, may-more May xs ys a.1 b)

@@ -1,0 +1,102 @@
+-- What streams took begins what their unshared connections give, also where want of memory cut the rows.
+use Rattle.std.proofs.Common.{◌≡◌, ℕ, Bool, true, false, List, [], ◌∷◌, ◌++◌, refl, sym, ap, ◌∙◌, subst, take, append_assoc, append-nil, inl, inr, arith}
+use Rattle.std.specs.Prelude.{◌==◌}
+use Rattle.std.proofs.lemmas.Bool.Decides.{nat_tests}
+use Rattle.mux_outside.specs.declared.house.HouseReply.{HouseReply}
+use Rattle.mux_outside.specs.declared.mark.Mark.{Mark}
+use Rattle.mux_outside.specs.declared.mark.Mark.TheVariants.{Waits, Accepts, Gets, Ends, Frees, Fails, Takes, Holds, WriteFails}
+use Rattle.mux_history.specs.Policy.{Policy}
+use Rattle.mux_history.specs.Rows.{Item, Row}
+use Rattle.mux_history.specs.Pending.{given_by, given_to, pending}
+use Rattle.mux_history.specs.Log.{Setting, more_all, more_of, makes_next, next_row}
+use Rattle.mux_history.specs.Settings.{by_lists}
+use Rattle.mux_history.specs.Right.{AreFresh, IsRight}
+use Rattle.mux_history.specs.Journal.{IsLawful, items_in, log_of_journal, taken_by, taken_in}
+use Rattle.mux_history.specs.Promises.{IsFront, TakesFront, Throughout}
+use Rattle.mux_history.proofs.Journals.{logs-right}
+use Rattle.mux_history.proofs.Written.{adds-up}
+use Rattle.mux_bounds.specs.Bounds.{IsLog}
+use Rattle.mux_isolation.proofs.AllRuns.{gives-alone}
+use Rattle.mux_engine.specs.Run.{TakesUnshared}
+
+-- ---- fronts
+
+front-more : (a b c : List ℕ) → IsFront a b → IsFront b c → IsFront a c
+front-more a b c (x, e) (y, f) = (x ++ y, f ∙ (ap (λ l. l ++ y) e ∙ append_assoc a x y))
+
+-- what is given only grows
+gives-more-of : (setting : Setting) (t : ℕ) (rows : List Row) (item : Item) → IsFront (given_to t rows) (given_to t (more_of setting rows item))
+gives-more-of setting t rows item = by_makes (makes_next rows item)
+  where
+    by_makes : (b : Bool) → IsFront (given_to t rows) (given_to t (elim b as (λ _. List Row) [ false ↦ rows | true ↦ next_row setting rows item ∷ rows ]))
+    by_makes false = ([], sym (append-nil (given_to t rows)))
+    by_makes true = (given_by t (next_row setting rows item), refl)
+
+gives-more : (setting : Setting) (t : ℕ) (rows : List Row) (items : List Item) → IsFront (given_to t rows) (given_to t (more_all setting rows items))
+gives-more setting t rows [] = ([], sym (append-nil (given_to t rows)))
+gives-more setting t rows (item ∷ items) =
+    front-more (given_to t rows) (given_to t (more_of setting rows item)) (given_to t (more_all setting (more_of setting rows item) items))
+    (gives-more-of setting t rows item) (gives-more setting t (more_of setting rows item) items)
+
+-- ---- one mark
+
+same-number : (a b : ℕ) → (a == b) ≡ true → a ≡ b
+same-number a b e = grind (arith, nat_tests, e)
+
+-- what was taken, and what is taken of what waits, is a front of all that was given
+takes-front : (taken bytes waits all : List ℕ) → all ≡ taken ++ waits → IsFront bytes waits → IsFront (taken ++ bytes) all
+takes-front taken bytes waits all e (rest, f) = (rest, e ∙ (ap (λ l. taken ++ l) f ∙ sym (append_assoc taken bytes rest)))
+
+none-front : (taken waits all : List ℕ) → all ≡ taken ++ waits → IsFront (taken ++ []) all
+none-front taken waits all e = (waits, e ∙ ap (λ l. l ++ waits) (sym (append-nil taken)))
+
+module _ (setting : Setting) (k : ℕ) (before : List Mark) (all : given_to k (log_of_journal setting before) ≡ taken_by k before ++ pending k (log_of_journal setting before)) where
+  abbrev goal : Mark → Type 0
+  goal mark = IsFront (taken_by k before ++ taken_in k mark) (given_to k (log_of_journal setting before))
+
+  nothing : IsFront (taken_by k before ++ []) (given_to k (log_of_journal setting before))
+  nothing = none-front (taken_by k before) (pending k (log_of_journal setting before)) (given_to k (log_of_journal setting before)) all
+
+  some : (stream : ℕ) (bytes : List ℕ) → IsFront bytes (pending stream (log_of_journal setting before)) → (b : Bool) → (stream == k) ≡ b → IsFront (taken_by k before ++ elim b as (λ _. List ℕ) [ true ↦ bytes | false ↦ [] ]) (given_to k (log_of_journal setting before))
+  some stream bytes front true e =
+      takes-front (taken_by k before) bytes (pending k (log_of_journal setting before)) (given_to k (log_of_journal setting before)) all
+      (subst (λ j. IsFront bytes (pending j (log_of_journal setting before))) (same-number stream k e) front)
+  some stream bytes front false e = nothing
+
+  pub of-mark : (mark : Mark) → TakesFront setting before mark → goal mark
+  of-mark (Takes stream bytes) front = some stream bytes front (stream == k) refl
+  of-mark (Waits waiting want streams listens) front = nothing
+  of-mark (Accepts j) front = nothing
+  of-mark (Gets j bytes) front = nothing
+  of-mark (Ends j) front = nothing
+  of-mark (Frees j) front = nothing
+  of-mark (Fails j) front = nothing
+  of-mark (Holds j) front = nothing
+  of-mark (WriteFails j) front = nothing
+
+-- ---- all marks
+
+module _ (policy : Policy) (pid : ℕ) (picks : List ℕ) (given : List HouseReply) where
+  abbrev setting : Setting
+  setting = by_lists policy pid picks given
+
+  begins : (journal : List Mark) (rows : List Row) → Throughout (TakesFront setting) journal → IsLog setting journal rows → (k : ℕ) → IsFront (taken_by k journal) (given_to k rows)
+  begins journal rows takes (inl e) k =
+      subst (λ r. IsFront (taken_by k journal) (given_to k r)) (sym e)
+      (pending k (log_of_journal setting journal), sym (adds-up setting journal takes k))
+  begins [] rows takes (inr e) k = (given_to k rows, refl)
+  begins (mark ∷ before) rows takes (inr (n, e)) k =
+      front-more (taken_by k before ++ taken_in k mark) (given_to k (log_of_journal setting before)) (given_to k rows)
+      (of-mark setting k before (sym (adds-up setting before takes.1 k)) mark takes.0)
+      (subst (λ r. IsFront (given_to k (log_of_journal setting before)) (given_to k r)) (sym e) (gives-more setting k (log_of_journal setting before) (take n (items_in before mark))))
+
+  -- with the law that each is given what it would be given alone
+  pub takes-unshared : (journal : List Mark) (rows : List Row) → IsLawful journal → Throughout (TakesFront setting) journal → IsLog setting journal rows → AreFresh rows → TakesUnshared setting journal rows
+  takes-unshared journal rows lawful takes (inl e) fresh k lt admitted =
+      let right = (logs-right policy pid picks given journal).whole (subst AreFresh e fresh) in
+      subst (IsFront (taken_by k journal)) (gives-alone policy pid picks given journal 0 rows lawful (subst (IsRight setting journal 0) (sym e) right) k lt admitted)
+      (begins journal rows takes (inl e) k)
+  takes-unshared journal rows lawful takes (inr cut) fresh k lt admitted =
+      let right = (logs-right policy pid picks given journal).cut rows cut fresh in
+      subst (IsFront (taken_by k journal)) (gives-alone policy pid picks given journal right.0 rows lawful right.1 k lt admitted)
+      (begins journal rows takes (inr cut) k)

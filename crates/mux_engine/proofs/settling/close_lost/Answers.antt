@@ -1,0 +1,31 @@
+use Rattle.std.proofs.Common.{◌∙◌, ◌<◌, [], sym, ap, subst, ℕ, length}
+use Rattle.mux_outside.specs.Seen.{Seen, seen_after_close}
+use Rattle.mux_outside.specs.Streams.{without}
+use Rattle.mux_machine.specs.State.{State, closed_by}
+use Rattle.mux_machine.specs.Stands.{Closes, IsFirst}
+use Rattle.mux_engine.specs.Serving.{Serving}
+use Rattle.mux_engine.proofs.Loops.{fewer, first-is, serve-closed}
+use Rattle.mux_engine.proofs.settling.close_lost.Goals as goal
+
+pub loop-client-smaller : goal.loop-client-smaller
+loop-client-smaller g c =
+    let first : IsFirst c.in-Some.client c.loop-client.engine.leaving = first-is c.in-Some.client c.in-Some.field-0-1 c.loop-client.engine.leaving (sym c.in-Some.ensures.exact) in
+    subst (λ (n : ℕ). n < length c.loop-client.engine.leaving) (ap (λ (s : State). length s.leaving) (sym c.closed.ensures.exact)) (fewer c.in-Some.client c.loop-client.engine.leaving first)
+
+pub loop-client-preserved : goal.loop-client-preserved
+loop-client-preserved g c =
+    let k : ℕ = c.in-Some.client in
+    let s : State = c.loop-client.engine in
+    let first : IsFirst k s.leaving = first-is k c.in-Some.field-0-1 s.leaving (sym c.in-Some.ensures.exact) in
+    let closes : Closes s (closed_by s k) k = subst (λ (t : State). Closes s t k) c.closed.ensures.exact c.closed.ensures.stands in
+    record {
+      serving = λ before now policy pid start given v.
+          subst (λ (x : Seen). Serving g.H.House.may before now policy pid start x c.remove.new.self given [] c.closed.new.self) (sym c.close.ensures.seen)
+          (subst (λ h. Serving g.H.House.may before now policy pid start (seen_after_close k (g.W.Wire.seen c.loop-client.wire)) h given [] c.closed.new.self) (sym c.remove.ensures)
+          (subst (λ (t : State). Serving g.H.House.may before now policy pid start (seen_after_close k (g.W.Wire.seen c.loop-client.wire)) (without k c.loop-client.held) given [] t) (sym c.closed.ensures.exact)
+          (serve-closed (c.loop-client.invariant.serving before now policy pid start given v) k first closes)));
+      ended = ap (λ (t : State). t.ended) c.closed.ensures.exact ∙ c.loop-client.invariant.ended;
+      faults = c.close.ensures.server ∙ c.loop-client.invariant.faults;
+      calls = c.close.ensures.calls ∙ c.loop-client.invariant.calls;
+      openings = c.close.ensures.openings ∙ c.loop-client.invariant.openings;
+    }

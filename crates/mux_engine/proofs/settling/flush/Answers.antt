@@ -1,0 +1,36 @@
+use Rattle.std.proofs.Common.{[], ◌∷◌, ◌∙◌, refl, inl, le_trans}
+use Rattle.mux_engine.proofs.Arms.{counts-then, on-err, on-ok, then-stays-or-fails}
+use Rattle.mux_engine.proofs.Loops.{counts-err}
+use Rattle.mux_engine.proofs.settling.flush.Goals as goal
+
+pub offer-requires-clause-served : goal.offer-requires-clause-served
+offer-requires-clause-served g c = let w = c.requires.served in record {
+  before = w.before;
+  policy = w.policy;
+  pid = w.pid;
+  start = w.start;
+  given = w.given;
+  todo = 0 ∷ [];
+  serving = c.in_ok-offer_clients.ensures.serving w.before w.policy w.pid w.start w.given w.serving;
+}
+
+pub returns-in_err-offer_clients-clause-serving : goal.returns-in_err-offer_clients-clause-serving
+returns-in_err-offer_clients-clause-serving g c before policy pid start given v = on-err c.from_residual.result _ _ c.from_residual.ensures.0 (c.in_err-offer_clients.ensures.serving before policy pid start given v)
+
+pub returns-in_err-offer_clients-clause-calls : goal.returns-in_err-offer_clients-clause-calls
+returns-in_err-offer_clients-clause-calls g c = counts-err c.from_residual.result 0 _ _ c.from_residual.ensures.0 c.in_err-offer_clients.ensures.calls
+
+pub returns-clause-serving : goal.returns-clause-serving
+returns-clause-serving g c before policy pid start given v = c.offer.ensures.serving before policy pid start given [] refl (c.in_ok-offer_clients.ensures.serving before policy pid start given v)
+
+pub returns-clause-streams : goal.returns-clause-streams
+returns-clause-streams g c = on-ok c.offer.result (λ e. e ∙ c.in_ok-offer_clients.ensures.streams) c.offer.ensures.streams
+
+pub returns-clause-ended : goal.returns-clause-ended
+returns-clause-ended g c = on-ok c.offer.result (λ e. then-stays-or-fails _ _ _ _ _ _ (inl (c.in_ok-offer_clients.ensures.ended, c.offer_clients.ensures.later)) e) c.offer.ensures.ended
+
+pub returns-clause-later : goal.returns-clause-later
+returns-clause-later g c = le_trans c.offer_clients.ensures.later c.offer.ensures.later
+
+pub returns-clause-calls : goal.returns-clause-calls
+returns-clause-calls g c = counts-then c.offer.result _ _ _ c.in_ok-offer_clients.ensures.calls c.offer.ensures.calls

@@ -1,0 +1,87 @@
+use Rattle.std.proofs.Common.{◌∷◌, ◌∙◌, sym, ap, refl, le_trans, le_refl}
+use Rattle.mux_outside.specs.Streams.{among}
+use Rattle.mux_engine.proofs.Arms.{cut-then, on-err, stays, then-stays-or-fails, well-none, well-then}
+use Rattle.mux_engine.proofs.Lists.{same-open}
+use Rattle.mux_engine.proofs.Loops.{counts-err, on-done, on-more, twice-among, zero-among}
+use Rattle.mux_engine.proofs.Offers.{held-back, wider}
+use Rattle.mux_engine.proofs.settling.offer.Goals as goal
+
+pub loop-init : goal.loop-init
+loop-init g c = let w = c.requires.served in record {
+  serving = λ before policy pid start given todo zero v. v;
+  streams = refl;
+  free = ap (among c.args.stream) (sym w.serving.held_is) ∙ sym c.if-contains.ensures;
+  ended = stays _ _ _ _ refl refl;
+  client = λ nz. refl;
+  later = le_refl _;
+  calls = well-none _;
+  openings = refl;
+}
+
+pub offer_once-requires-clause-served : goal.offer_once-requires-clause-served
+offer_once-requires-clause-served g c = let w = c.requires.served in record {
+  before = w.before;
+  policy = w.policy;
+  pid = w.pid;
+  start = w.start;
+  given = w.given;
+  todo = c.args.stream ∷ (0 ∷ w.todo);
+  serving = c.loop.invariant.serving w.before w.policy w.pid w.start w.given (0 ∷ w.todo) (zero-among c.args.stream w.todo) (wider c.args.stream (wider 0 w.serving));
+}
+
+pub offer_once-requires-clause-stream_open : goal.offer_once-requires-clause-stream_open
+offer_once-requires-clause-stream_open g c = same-open c.args.engine.now c.loop.engine c.args.stream c.loop.invariant.streams ∙ c.requires.stream_open
+
+-- ---- want of memory
+
+pub returns-in_err-offer_once-clause-serving : goal.returns-in_err-offer_once-clause-serving
+returns-in_err-offer_once-clause-serving g c before policy pid start given todo zero v = on-err c.from_residual.result _ _ c.from_residual.ensures.0
+    (c.in_err-offer_once.ensures.serving before policy pid start given (c.args.stream ∷ todo) (twice-among c.args.stream todo zero) (c.loop.invariant.serving before policy pid start given todo zero v))
+
+pub returns-in_err-offer_once-clause-later : goal.returns-in_err-offer_once-clause-later
+returns-in_err-offer_once-clause-later g c = le_trans c.loop.invariant.later c.offer_once.ensures.later
+
+pub returns-in_err-offer_once-clause-calls : goal.returns-in_err-offer_once-clause-calls
+returns-in_err-offer_once-clause-calls g c = counts-err c.from_residual.result 0 _ _ c.from_residual.ensures.0 (cut-then _ _ _ c.loop.invariant.calls c.in_err-offer_once.ensures.calls)
+
+-- ---- once more
+
+pub loop-preserved : goal.loop-preserved
+loop-preserved g c = record {
+  serving = λ before policy pid start given todo zero v. on-more c.args.stream todo _ c.if-branch.true (c.in_ok-offer_once.ensures.serving before policy pid start given (c.args.stream ∷ todo) (twice-among c.args.stream todo zero) (c.loop.invariant.serving before policy pid start given todo zero v));
+  streams = c.in_ok-offer_once.ensures.streams ∙ c.loop.invariant.streams;
+  free = c.in_ok-offer_once.ensures.free c.if-branch.true;
+  ended = then-stays-or-fails _ _ _ _ _ _ c.loop.invariant.ended c.in_ok-offer_once.ensures.ended;
+  client = λ nz. c.in_ok-offer_once.ensures.client nz ∙ c.loop.invariant.client nz;
+  later = le_trans c.loop.invariant.later c.offer_once.ensures.later;
+  calls = well-then _ _ _ c.loop.invariant.calls c.in_ok-offer_once.ensures.calls;
+  openings = c.offer_once.ensures.openings ∙ c.loop.invariant.openings;
+}
+
+-- ---- the end
+
+pub returns-clause-serving : goal.returns-clause-serving
+returns-clause-serving g c before policy pid start given todo zero v = on-done c.args.stream todo _ c.if-branch.false (c.in_ok-offer_once.ensures.serving before policy pid start given (c.args.stream ∷ todo) (twice-among c.args.stream todo zero) (c.loop.invariant.serving before policy pid start given todo zero v))
+
+pub returns-clause-ended : goal.returns-clause-ended
+returns-clause-ended g c = then-stays-or-fails _ _ _ _ _ _ c.loop.invariant.ended c.in_ok-offer_once.ensures.ended
+
+pub returns-clause-client : goal.returns-clause-client
+returns-clause-client g c = λ nz. c.in_ok-offer_once.ensures.client nz ∙ c.loop.invariant.client nz
+
+pub returns-clause-later : goal.returns-clause-later
+returns-clause-later g c = le_trans c.loop.invariant.later c.offer_once.ensures.later
+
+pub returns-clause-calls : goal.returns-clause-calls
+returns-clause-calls g c = well-then _ _ _ c.loop.invariant.calls c.in_ok-offer_once.ensures.calls
+
+-- ---- the stream is blocked
+
+pub returns-then-contains-clause-serving : goal.returns-then-contains-clause-serving
+returns-then-contains-clause-serving g c before policy pid start given todo zero v = held-back c.args.stream v c.requires.stream_open (sym c.if-contains.ensures)
+
+pub returns-then-contains-clause-ended : goal.returns-then-contains-clause-ended
+returns-then-contains-clause-ended g c = stays _ _ _ _ refl refl
+
+pub returns-then-contains-clause-calls : goal.returns-then-contains-clause-calls
+returns-then-contains-clause-calls g c = well-none _

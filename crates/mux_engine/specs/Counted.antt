@@ -1,0 +1,29 @@
+-- The calls of a wire that are made.
+use Rattle.std.specs.Prelude.{◌≡◌, ◌≢◌, ◌≤◌, ◌+◌, ℕ, Result, Ok, Err}
+use Rattle.mux_outside.specs.Seen.{Calls}
+use Rattle.mux_history.specs.declared.ended.Ended.{Ended}
+use Rattle.mux_history.specs.declared.ended.Ended.TheVariants.{OutOfMemory}
+
+-- at most so many calls of `wait`, none that wanted memory, and none behind one that did
+pub record Well (waits : ℕ) (old new : Calls) : Type 0 where
+  pub few : new.waits ≤ old.waits + waits
+  pub wants : new.wants ≡ old.wants
+  pub late : old.wants ≡ 0 → new.late ≡ old.late
+
+-- at most so many calls of `wait`, and at most one call that wanted memory, which was the last
+pub record Cut (waits : ℕ) (old new : Calls) : Type 0 where
+  pub few : new.waits ≤ old.waits + waits
+  pub wants : new.wants ≤ old.wants + 1
+  pub late : old.wants ≡ 0 → new.late ≡ old.late
+
+-- want of memory cuts a call short
+abbrev pub Counts : {A E : Type 0} → ℕ → Result A E → Calls → Calls → Type 0
+Counts waits (Ok x) old new = Well waits old new
+Counts waits (Err e) old new = Cut waits old new
+
+-- of a run: where a call wanted memory it was the last, and the run ended for want of memory
+pub record Stops (turns : ℕ) (answer : Ended) (old new : Calls) : Type 0 where
+  pub few : new.waits ≤ old.waits + turns
+  pub wants : new.wants ≤ old.wants + 1
+  pub starved : new.wants ≢ old.wants → answer ≡ OutOfMemory
+  pub late : old.wants ≡ 0 → new.late ≡ old.late

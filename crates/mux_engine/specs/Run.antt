@@ -1,0 +1,88 @@
+-- What is promised of a whole run.
+use Rattle.std.specs.Prelude.{◌≡◌, ◌≢◌, ◌≤◌, ◌<◌, ℕ, false, List, ◌++◌, length, Option}
+use Rattle.mux_outside.specs.House.{Asked}
+use Rattle.mux_outside.specs.declared.house.HouseReply.{HouseReply}
+use Rattle.mux_outside.specs.declared.mark.Mark.{Mark}
+use Rattle.mux_history.specs.declared.ended.Ended.{Ended}
+use Rattle.mux_history.specs.declared.ended.Ended.TheVariants.{OutOfMemory}
+use Rattle.mux_history.specs.Policy.{Policy}
+use Rattle.mux_history.specs.Rows.{Row, rows_of}
+use Rattle.mux_history.specs.Choices.{numbers_taken, replies_given}
+use Rattle.mux_history.specs.Farewell.{has_open_matters}
+use Rattle.mux_history.specs.Pending.{given_to}
+use Rattle.mux_history.specs.Log.{Setting}
+use Rattle.mux_history.specs.Settings.{by_lists}
+use Rattle.mux_history.specs.Solo.{solo}
+use Rattle.mux_history.specs.Right.{AreFresh, IsAdmitted}
+use Rattle.mux_history.specs.Journal.{IsLawful, Tells, bytes_of, log_of_journal, taken_by}
+use Rattle.mux_history.specs.Kept.{AtEach, ForEach, Kept, OwnWords}
+use Rattle.mux_history.specs.Promises.{ConnectionEnds, IsFront, MayGive, OpenStreams, Settled, Throughout, Written, waits_in}
+use Rattle.mux_history.specs.Wires.{ReadsWhenAsked}
+use Rattle.mux_isolation.specs.Bytes.{GivesAlike}
+use Rattle.mux_isolation.specs.Laws.{WaitsBounded}
+use Rattle.mux_bounds.specs.Bounds.{IsLog, RestsShort, StaysBelow}
+use Rattle.mux_bounds.specs.Few.{ChannelsBounded, ForwardingsBounded, HasNothing, MattersBounded, RequestsBounded}
+use Rattle.mux_clients.specs.Asked.{asked_of, TellsAsks}
+
+-- a journal that a wire can give: it is lawful, and the wire read and accepted only right behind a wait for that
+pub record IsOfWire (journal : List Mark) : Type 0 where
+  pub lawful : IsLawful journal
+  pub asked : Throughout ReadsWhenAsked journal
+
+-- how a run ends: as the journal says, and each stream was offered what waits for it
+pub record EndsRight (setting : Setting) (turns : ℕ) (journal : List Mark) (answer : Ended) : Type 0 where
+  pub end : ConnectionEnds setting turns journal answer
+  pub settled : Settled setting journal
+
+-- what the stream of each admitted client took begins, byte for byte, what its unshared connection gives it
+abbrev pub TakesUnshared : Setting → List Mark → List Row → Type 0
+TakesUnshared setting journal rows =
+    (k : ℕ) → 0 < k → IsAdmitted k rows → IsFront (taken_by k journal) (given_to k (solo setting k rows))
+
+-- nothing is left of an admitted client whose matters are closed
+abbrev pub LeavesNothing : List Row → Type 0
+LeavesNothing rows = (k : ℕ) → IsAdmitted k rows → has_open_matters (rows_of k rows) ≡ false → HasNothing (rows_of k rows)
+
+-- what is promised of rows: windows, permissions, askers, numbers and the unshared connection of each admitted client; byte
+-- for byte it is given what that connection gives; the master's own words; the limits; and what waits for a client and for the server
+pub record KeepsRows (setting : Setting) (rows : List Row) : Type 0 where
+  pub kept : Kept setting rows
+  pub gives : GivesAlike setting rows
+  pub own_words : ForEach OwnWords rows
+  pub channels : AtEach ChannelsBounded rows
+  pub forwardings : AtEach ForwardingsBounded rows
+  pub requests : AtEach RequestsBounded rows
+  pub clients : AtEach MattersBounded rows
+  pub nothing_left : LeavesNothing rows
+  pub client_queues : AtEach WaitsBounded rows
+  pub server_queue : StaysBelow rows
+
+-- The journal is what the wire told in this run, where it tells: one that a wire can give. There are numbers that were picked,
+-- and replies that the house may give, for which all is written and kept open as it must be. The rows are those of the whole
+-- journal; want of memory may have cut those of its last mark. Each number is fresh at its row, and there is one for each row
+-- that takes one, and one reply for each row that asks; the house, which told `before` and tells `now`, was told exactly the
+-- asks of these rows with these replies, and of a cut mark perhaps some more. These rows, and all others that want of memory
+-- may have left, keep what is promised of rows; and but for want of memory the run ends right.
+pub record IsRun (May : HouseReply → Type 0) (policy : Policy) (pid turns : ℕ) (before now : Option (List Asked)) (start told : Option (List Mark)) (answer : Ended) : Type 0 where
+  pub journal : List Mark
+  pub picks : List ℕ
+  pub replies : List HouseReply
+  pub rows : List Row
+  pub tells : Tells start told journal
+  pub of_wire : IsOfWire journal
+  pub may : MayGive May replies
+  pub written : Written (by_lists policy pid picks replies) journal
+  pub open_streams : OpenStreams (by_lists policy pid picks replies) journal
+  pub is_log : IsLog (by_lists policy pid picks replies) journal rows
+  pub whole : answer ≢ OutOfMemory → rows ≡ log_of_journal (by_lists policy pid picks replies) journal
+  pub fresh : AreFresh rows
+  pub keeps : (others : List Row) → IsLog (by_lists policy pid picks replies) journal others → AreFresh others → KeepsRows (by_lists policy pid picks replies) others
+  pub alone : TakesUnshared (by_lists policy pid picks replies) journal rows
+  pub rests : (t : ℕ) → RestsShort (bytes_of t journal)
+  pub waits : waits_in journal ≤ turns
+  pub numbers : numbers_taken rows ≡ length picks
+  pub answers : replies_given rows ≡ length replies
+  pub more_asks : List Asked
+  pub house : TellsAsks before now (asked_of rows ++ more_asks)
+  pub house_whole : answer ≢ OutOfMemory → TellsAsks before now (asked_of rows)
+  pub ends : answer ≢ OutOfMemory → EndsRight (by_lists policy pid picks replies) turns journal answer

@@ -1,0 +1,242 @@
+ghost use Rattle.std.specs.Prelude.{[], ◌∷◌, ◌≡◌, ◌≢◌, ◌≤◌, ◌<◌, length, List, ℕ, true, false, OnOk, IfOk, MatchResult, if◌then◌else◌};
+ghost use Rattle.std.specs.declared.option.Option.{Option};
+ghost use Rattle.mux_outside.specs.House.{Asked as TheAsked};
+ghost use Rattle.mux_outside.specs.Streams.{among, without};
+ghost use Rattle.mux_outside.specs.declared.mark.Mark.{Mark as TheMark};
+ghost use Rattle.mux_history.specs.Policy.{Policy as ThePolicy};
+ghost use Rattle.mux_machine.specs.Events.{here};
+ghost use Rattle.mux_machine.specs.State.{queue_in};
+ghost use Rattle.mux_engine.specs.Counted.{Counts};
+ghost use Rattle.mux_engine.specs.Serving.{IsServed, IsServedBut, Promised, Serving, StaysOrFails, is_open};
+
+use crate::events::event_of_fault;
+use mux_machine::Engine;
+use mux_outside::{House, Streams, Wire, Wrote};
+use ssh_fields::OutOfMemory;
+
+// Offers a stream what waits for it, once: whether it took some and can be offered the rest. A client
+// whose stream fails leaves its farewell to the server, whose stream is offered that later.
+fn offer_once<W: Wire, H: House>(
+    engine: &mut Engine,
+    wire: &mut W,
+    house: &mut H,
+    held: &mut Streams,
+    stream: u64,
+) -> Result<bool, OutOfMemory>
+    requires served { IsServed H.may (H.told house.old) (W.seen wire.old) held.old engine.old }
+    requires stream_open { is_open engine.old stream ≡ true }
+    requires free { among stream (W.seen wire.old).blocked ≡ false }
+    ensures serving { (before : Option (List TheAsked)) (policy : ThePolicy) (pid : ℕ)
+        (start : Option (List TheMark)) (given : ℕ) (todo : List ℕ) →
+        among 0 (stream ∷ todo) ≡ true →
+        Serving H.may before (H.told house.old) policy pid start (W.seen wire.old) held.old given
+        todo engine.old →
+        MatchResult result
+        (λ more. Serving H.may before (H.told house.new) policy pid start (W.seen wire.new) held.new
+        given (if more then stream ∷ todo else without stream todo) engine.new)
+        (λ e. Promised H.may before (H.told house.new) policy pid start
+        (W.seen wire.new).told given) }
+    ensures streams { OnOk result (here engine.new ≡ here engine.old) }
+    ensures less { IfOk result (λ more. more ≡ true →
+        length (queue_in engine.new stream) < length (queue_in engine.old stream)) }
+    ensures free { IfOk result (λ more. more ≡ true →
+        among stream (W.seen wire.new).blocked ≡ false) }
+    ensures ended { OnOk result (StaysOrFails engine.old.ended engine.new.ended
+        (W.server_faults wire.old) (W.server_faults wire.new)) }
+    ensures client { OnOk result (stream ≢ 0 → engine.new.ended ≡ engine.old.ended) }
+    ensures later { W.server_faults wire.old ≤ W.server_faults wire.new }
+    ensures calls { Counts 0 result (W.calls wire.old) (W.calls wire.new) }
+    ensures openings { W.openings wire.new ≡ W.openings wire.old }
+{
+    let bytes = engine.queue_of(stream);
+    if bytes.is_empty() {
+        return Ok(false);
+    }
+    match wire.write(stream, bytes) {
+        Wrote::Took(n) => {
+            engine.took(stream, n);
+            Ok(true)
+        }
+        Wrote::Later => {
+            held.push(stream)?;
+            Ok(false)
+        }
+        Wrote::Failed => {
+            engine.event(event_of_fault(stream), house)?;
+            Ok(false)
+        }
+        Wrote::NoMemory => Err(OutOfMemory),
+    }
+}
+
+// Offers a stream what waits for it, until all is taken, or it takes no more for now, or it fails.
+fn offer<W: Wire, H: House>(
+    engine: &mut Engine,
+    wire: &mut W,
+    house: &mut H,
+    held: &mut Streams,
+    stream: u64,
+) -> Result<(), OutOfMemory>
+    requires served { IsServed H.may (H.told house.old) (W.seen wire.old) held.old engine.old }
+    requires stream_open { is_open engine.old stream ≡ true }
+    ensures serving { (before : Option (List TheAsked)) (policy : ThePolicy) (pid : ℕ)
+        (start : Option (List TheMark)) (given : ℕ) (todo : List ℕ) →
+        among 0 (stream ∷ todo) ≡ true →
+        Serving H.may before (H.told house.old) policy pid start (W.seen wire.old) held.old given
+        (stream ∷ todo) engine.old →
+        MatchResult result
+        (λ done. Serving H.may before (H.told house.new) policy pid start (W.seen wire.new) held.new
+        given todo engine.new)
+        (λ e. Promised H.may before (H.told house.new) policy pid start
+        (W.seen wire.new).told given) }
+    ensures streams { OnOk result (here engine.new ≡ here engine.old) }
+    ensures ended { OnOk result (StaysOrFails engine.old.ended engine.new.ended
+        (W.server_faults wire.old) (W.server_faults wire.new)) }
+    ensures client { OnOk result (stream ≢ 0 → engine.new.ended ≡ engine.old.ended) }
+    ensures later { W.server_faults wire.old ≤ W.server_faults wire.new }
+    ensures calls { Counts 0 result (W.calls wire.old) (W.calls wire.new) }
+    ensures openings { W.openings wire.new ≡ W.openings wire.old }
+{
+    if held.contains(stream) {
+        return Ok(());
+    }
+    while offer_once(engine, wire, house, held, stream)? {}
+    Ok(())
+}
+
+// Offers the clients' streams what waits for them; `todo` is room for their numbers.
+fn offer_clients<W: Wire, H: House>(
+    engine: &mut Engine,
+    wire: &mut W,
+    house: &mut H,
+    held: &mut Streams,
+    todo: &mut Streams,
+) -> Result<(), OutOfMemory>
+    requires served { IsServedBut H.may (H.told house.old) (W.seen wire.old) held.old
+        (0 ∷ here engine.old) engine.old }
+    ensures serving { (before : Option (List TheAsked)) (policy : ThePolicy) (pid : ℕ)
+        (start : Option (List TheMark)) (given : ℕ) →
+        Serving H.may before (H.told house.old) policy pid start (W.seen wire.old) held.old given
+        (0 ∷ here engine.old) engine.old →
+        MatchResult result
+        (λ done. Serving H.may before (H.told house.new) policy pid start (W.seen wire.new) held.new
+        given (0 ∷ []) engine.new)
+        (λ e. Promised H.may before (H.told house.new) policy pid start
+        (W.seen wire.new).told given) }
+    ensures streams { OnOk result (here engine.new ≡ here engine.old) }
+    ensures ended { OnOk result (engine.new.ended ≡ engine.old.ended) }
+    ensures later { W.server_faults wire.old ≤ W.server_faults wire.new }
+    ensures calls { Counts 0 result (W.calls wire.old) (W.calls wire.new) }
+    ensures openings { W.openings wire.new ≡ W.openings wire.old }
+{
+    todo.refill(engine.waiting().as_slice())?;
+    todo.remove(0);
+    for stream in todo.as_slice() {
+        offer(engine, wire, house, held, *stream)?;
+    }
+    Ok(())
+}
+
+// Offers each stream what waits for it: the server's last, since a client that is lost leaves its
+// farewell to it.
+pub fn flush<W: Wire, H: House>(
+    engine: &mut Engine,
+    wire: &mut W,
+    house: &mut H,
+    held: &mut Streams,
+    todo: &mut Streams,
+) -> Result<(), OutOfMemory>
+    requires served { IsServedBut H.may (H.told house.old) (W.seen wire.old) held.old
+        (0 ∷ here engine.old) engine.old }
+    ensures serving { (before : Option (List TheAsked)) (policy : ThePolicy) (pid : ℕ)
+        (start : Option (List TheMark)) (given : ℕ) →
+        Serving H.may before (H.told house.old) policy pid start (W.seen wire.old) held.old given
+        (0 ∷ here engine.old) engine.old →
+        MatchResult result
+        (λ done. Serving H.may before (H.told house.new) policy pid start (W.seen wire.new) held.new
+        given [] engine.new)
+        (λ e. Promised H.may before (H.told house.new) policy pid start
+        (W.seen wire.new).told given) }
+    ensures streams { OnOk result (here engine.new ≡ here engine.old) }
+    ensures ended { OnOk result (StaysOrFails engine.old.ended engine.new.ended
+        (W.server_faults wire.old) (W.server_faults wire.new)) }
+    ensures later { W.server_faults wire.old ≤ W.server_faults wire.new }
+    ensures calls { Counts 0 result (W.calls wire.old) (W.calls wire.new) }
+    ensures openings { W.openings wire.new ≡ W.openings wire.old }
+{
+    offer_clients(engine, wire, house, held, todo)?;
+    offer(engine, wire, house, held, 0)
+}
+
+// Closes the streams of the clients that are lost or refused.
+fn close_lost<W: Wire, H: House>(engine: &mut Engine, wire: &mut W, held: &mut Streams)
+    ensures serving { (before now : Option (List TheAsked)) (policy : ThePolicy) (pid : ℕ)
+        (start : Option (List TheMark)) (given : ℕ) →
+        Serving H.may before now policy pid start (W.seen wire.old) held.old given [] engine.old →
+        Serving H.may before now policy pid start (W.seen wire.new) held.new given [] engine.new }
+    ensures closed { engine.new.leaving ≡ [] }
+    ensures refused { engine.new.refused ≡ [] }
+    ensures ended { engine.new.ended ≡ engine.old.ended }
+    ensures faults { W.server_faults wire.new ≡ W.server_faults wire.old }
+    ensures calls { W.calls wire.new ≡ W.calls wire.old }
+    ensures openings { W.openings wire.new ≡ W.openings wire.old }
+{
+    while let Some((client, _)) = engine.closing() {
+        wire.close(client);
+        held.remove(client);
+        engine.closed(client);
+    }
+}
+
+// Accepts no more clients where the engine wants none.
+fn hush<W: Wire, H: House>(engine: &Engine, wire: &mut W)
+    requires hears { engine.now.listening ≡ true → (W.seen wire.old).listens ≡ true }
+    ensures serving { (before now : Option (List TheAsked)) (policy : ThePolicy) (pid : ℕ)
+        (start : Option (List TheMark)) (held : List ℕ) (given : ℕ) →
+        Serving H.may before now policy pid start (W.seen wire.old) held given [] engine.now →
+        Serving H.may before now policy pid start (W.seen wire.new) held given [] engine.now }
+    ensures hears { (W.seen wire.new).listens ≡ engine.now.listening }
+    ensures faults { W.server_faults wire.new ≡ W.server_faults wire.old }
+    ensures calls { W.calls wire.new ≡ W.calls wire.old }
+    ensures openings { W.openings wire.new ≡ W.openings wire.old }
+{
+    if engine.listening() {
+        return;
+    }
+    wire.stop_listening();
+}
+
+// Makes the wire ready for a turn: each stream is offered what waits for it, and the streams of lost
+// clients are closed.
+pub fn settle<W: Wire, H: House>(
+    engine: &mut Engine,
+    wire: &mut W,
+    house: &mut H,
+    held: &mut Streams,
+    todo: &mut Streams,
+) -> Result<(), OutOfMemory>
+    requires served { IsServedBut H.may (H.told house.old) (W.seen wire.old) held.old
+        (0 ∷ here engine.old) engine.old }
+    ensures serving { (before : Option (List TheAsked)) (policy : ThePolicy) (pid : ℕ)
+        (start : Option (List TheMark)) (given : ℕ) →
+        Serving H.may before (H.told house.old) policy pid start (W.seen wire.old) held.old given
+        (0 ∷ here engine.old) engine.old →
+        MatchResult result
+        (λ done. Serving H.may before (H.told house.new) policy pid start (W.seen wire.new) held.new
+        given [] engine.new)
+        (λ e. Promised H.may before (H.told house.new) policy pid start
+        (W.seen wire.new).told given) }
+    ensures closed { OnOk result (engine.new.leaving ≡ []) }
+    ensures refused { OnOk result (engine.new.refused ≡ []) }
+    ensures hears { OnOk result ((W.seen wire.new).listens ≡ engine.new.listening) }
+    ensures ended { OnOk result (StaysOrFails engine.old.ended engine.new.ended
+        (W.server_faults wire.old) (W.server_faults wire.new)) }
+    ensures later { W.server_faults wire.old ≤ W.server_faults wire.new }
+    ensures calls { Counts 0 result (W.calls wire.old) (W.calls wire.new) }
+    ensures openings { W.openings wire.new ≡ W.openings wire.old }
+{
+    flush(engine, wire, house, held, todo)?;
+    close_lost::<W, H>(engine, wire, held);
+    hush::<W, H>(engine, wire);
+    Ok(())
+}
