@@ -1,5 +1,11 @@
+pub mod CauseLemmas
 pub mod EndLemmas
 pub mod LineLemmas
-pub mod MasterLemmas
+pub mod ListLemmas
+pub mod PermitParts
+pub mod PermitWords
+pub mod Permits
+pub mod PolicyLemmas
 pub mod RefusalLemmas
 pub mod SharingLemmas
+pub mod StillLemmas

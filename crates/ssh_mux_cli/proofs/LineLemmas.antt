@@ -2,7 +2,7 @@
 use Rattle.std.proofs.Common.{◌≡◌, inl, inr, ℕ, List, [], ◌++◌, Option, Some, None, Result, Ok, Err, refl, sym, ap, subst, ◌∙◌, append_assoc}
 use Rattle.std.proofs.lemmas.List.{append-nil}
 use Rattle.std.specs.Prelude.{OnOk}
-use Rattle.conf_rules.specs.declared.causes.Cause.TheVariants.{ReadFault, RunFault, NotBuilt}
+use Rattle.conf_rules.specs.declared.causes.Cause.TheVariants.{ReadFault, RunFault}
 use Rattle.conf_rules.specs.declared.causes.ListError.TheVariants as list_errors
 use Rattle.conf_rules.specs.declared.causes.ResolveError.TheVariants.{At, OutOfMemory}
 use Rattle.conf_rules.specs.Diagnostics as ends
@@ -24,7 +24,6 @@ memory_line ends.NoMemory e = refl
 memory_line (ends.BadLine OutOfMemory) e = refl
 memory_line (ends.BadLine (At file line ReadFault)) e = absurd cc
 memory_line (ends.BadLine (At file line RunFault)) e = absurd cc
-memory_line (ends.BadLine (At file line NotBuilt)) e = absurd cc
 memory_line (ends.BadLine (At file line cause)) e = absurd cc
 memory_line (ends.BadListing list_errors.OutOfMemory) e = refl
 memory_line (ends.BadListing (list_errors.Token key error)) e = absurd cc

@@ -1,172 +1,137 @@
--- What a master leaves behind, and what comes of its words.
-use Rattle.std.proofs.Common.{◌≡◌, ◌++◌, inr, ℕ, Bool, true, false, List, [], ◌∷◌, Option, Some, None, Result, Ok, Err, refl, sym, ap, subst, ◌∙◌, arith}
-use Rattle.std.specs.Bool.{OnFalse, OnTrue}
-use Rattle.std.specs.Option.{option_map}
-use Rattle.std.specs.Prelude.{is_some}
-use Rattle.std.proofs.lemmas.List.{append-nil}
-use Rattle.conf_rules.specs.declared.asked.Asked.{Asked}
-use Rattle.conf_rules.specs.declared.asked.AskedLine.{AskedLine}
-use Rattle.conf_rules.specs.declared.asked.ConfigFrom.{ConfigFrom}
-use Rattle.conf_rules.specs.declared.asked.ConfigFrom.TheVariants.{Standard, Nothing, File}
-use Rattle.conf_rules.specs.declared.command.Command.TheVariants as commands
-use Rattle.conf_rules.specs.Outcome.{Outcome, Machine, Ends, Writes, Drills, Opens, command_outcome as defined_outcome}
-use Rattle.conf_rules.specs.Texts.{Bytes, or_text}
-use Rattle.conf_listing.specs.Answers.{file_answer, told_by}
-use Rattle.conf_words.specs.Forms.{is_plain_path}
-use Rattle.conf_words.specs.Reading.{served_reading, control_lines_of}
-use Rattle.mux_engine.specs.Serving.{IsRun}
+-- What a master leaves behind that was opened, and what others leave.
+use Rattle.std.proofs.Common.{◌≡◌, ◌⊎◌, inl, inr, ℕ, true, false, List, Option, Some, None, unwrap_or, Result, Ok, Err, refl, sym, subst, ◌∙◌}
+use Rattle.conf_rules.specs.Outcome.{Ends, Writes, Drills, Opens}
+use Rattle.conf_rules.specs.Texts.{Bytes}
+use Rattle.mux_engine.specs.Run.{IsRun}
 use Rattle.mux_history.specs.declared.ended.Ended.{Ended}
 use Rattle.mux_history.specs.declared.ended.Ended.TheVariants as ends
-use Rattle.mux_outside.specs.Counts.{Rose}
-use Rattle.mux_outside.specs.declared.facts.Facts.{Facts}
+use Rattle.mux_history.specs.Policy.{Policy}
 use Rattle.mux_outside.specs.House.{Asked as HouseAsk}
 use Rattle.mux_outside.specs.declared.house.HouseReply.{HouseReply}
 use Rattle.mux_outside.specs.declared.mark.Mark.{Mark}
 use Rattle.mux_outside.specs.declared.mark.Opening.{Opening}
-use Rattle.mux_outside.specs.declared.pairs.Pair.{Pair}
 use Rattle.ssh_mux_cli.specs.declared.ending.Ending.{Ending}
 use Rattle.ssh_mux_cli.specs.declared.ending.Ending.TheVariants as endings
 use Rattle.ssh_mux_cli.specs.declared.status.Status.{Status}
 use Rattle.ssh_mux_cli.specs.declared.status.Status.TheVariants as statuses
-use Rattle.ssh_mux_cli.specs.Answers.{Comes, so_far}
-use Rattle.ssh_mux_cli.specs.Causes.{FilesCause, OutCause}
-use Rattle.ssh_mux_cli.specs.Master.{only_word, EndsMaster}
+use Rattle.ssh_mux_cli.specs.Answers.{Comes, so_far, may_open, may_share}
+use Rattle.ssh_mux_cli.specs.Causes.{OutCause}
+use Rattle.ssh_mux_cli.specs.Ending.{shown}
+use Rattle.ssh_mux_cli.specs.Master.{EndsMaster}
 use Rattle.ssh_mux_cli.specs.Out.{OutTakes}
-use Rattle.ssh_mux_cli.specs.Outcomes.{list_outcome, answer_outcome, outcome, machine, opens}
-use Rattle.ssh_mux_cli.specs.Sharing.{opened, OpensAt, OpensOnce, Shares, end_status, WireCause}
-use Rattle.ssh_mux_cli.proofs.MasterLemmas.{served, opens as opens_plain}
-
--- ---- what is opened
-
-pub opens_at : (control transport : Bytes) (status : Status) (before now : Option (List Opening)) → now ≡ opened control transport before → OpensAt control transport status before now
-opens_at control transport statuses.Memory before now e = inr e
-opens_at control transport status before now e = e
-
-pub not_opened : (before now : Option (List Opening)) → now ≡ option_map (λ os. os ++ []) before → now ≡ before
-not_opened None now e = e
-not_opened (Some os) now e = e ∙ ap (λ x. Some x) (append-nil os)
+use Rattle.ssh_mux_cli.specs.Outcomes.{Known, Certain, Listing, Master, opens_at, opens, lists}
+use Rattle.ssh_mux_cli.specs.Sharing.{OpensAt, OpensOnce, Shares, pid_of, told_as}
+use Rattle.ssh_mux_cli.specs.Status.{status_of}
+use Rattle.ssh_mux_cli.proofs.StillLemmas.{loud, quiet-count}
 
 -- ---- how a run that was served ends
 
-pub shares_end : (May : HouseReply → Type 0) (pid turns : ℕ) (before now : Option (List HouseAsk)) (start told : Option (List Mark)) (status : Status) (ended : Ended) → status ≡ end_status ended → IsRun May pid turns before now start told ended → Shares May pid turns before now start told status
-shares_end May pid turns before now start told status ended e run = subst (λ s. Shares May pid turns before now start told s) (sym e) (by_end ended run) where
-  by_end : (x : Ended) → IsRun May pid turns before now start told x → Shares May pid turns before now start told (end_status x)
-  by_end ends.OutOfMemory run = inr (record { answer = ends.OutOfMemory; has_status = inr refl; run = run })
-  by_end ends.ServerEnd run = record { answer = ends.ServerEnd; has_status = inr refl; run = run }
-  by_end ends.Disconnected run = record { answer = ends.Disconnected; has_status = inr refl; run = run }
-  by_end (ends.Terminated client id) run = record { answer = ends.Terminated client id; has_status = inr refl; run = run }
-  by_end ends.ServerFailed run = record { answer = ends.ServerFailed; has_status = inr refl; run = run }
-  by_end (ends.Broke index why) run = record { answer = ends.Broke index why; has_status = inr refl; run = run }
-  by_end ends.Spent run = record { answer = ends.Spent; has_status = inr refl; run = run }
-  by_end ends.NotBuilt run = record { answer = ends.NotBuilt; has_status = inr refl; run = run }
+pub shares_end : (May : HouseReply → Type 0) (policy : Policy) (pid turns : ℕ) (before now : Option (List HouseAsk)) (start told : Option (List Mark)) (result : Result Status Ending) (ended : Ended) → result ≡ told_as ended → IsRun May policy pid turns before now start told ended → Shares May policy pid turns before now start told result
+shares_end May policy pid turns before now start told result ended e run = subst (λ r. Shares May policy pid turns before now start told r) (sym e) (by_end ended run) where
+  by_end : (x : Ended) → IsRun May policy pid turns before now start told x → Shares May policy pid turns before now start told (told_as x)
+  by_end ends.OutOfMemory run = inr (record { answer = ends.OutOfMemory; is_told = refl; run = run })
+  by_end ends.ServerEnd run = record { answer = ends.ServerEnd; is_told = refl; run = run }
+  by_end ends.Disconnected run = record { answer = ends.Disconnected; is_told = refl; run = run }
+  by_end (ends.Terminated client id) run = record { answer = ends.Terminated client id; is_told = refl; run = run }
+  by_end ends.ServerFailed run = record { answer = ends.ServerFailed; is_told = refl; run = run }
+  by_end (ends.Broke index why) run = record { answer = ends.Broke index why; is_told = refl; run = run }
+  by_end ends.Spent run = record { answer = ends.Spent; is_told = refl; run = run }
 
-pub cause_end : (status : Status) (ended : Ended) (s s' c c' : ℕ) → status ≡ end_status ended → (ended ≡ ends.ServerFailed → Rose s s') → WireCause status s s' c c'
-cause_end status ended s s' c c' e failed = subst (λ x. WireCause x s s' c c') (sym e) (by_end ended failed) where
-  by_end : (x : Ended) → (x ≡ ends.ServerFailed → Rose s s') → WireCause (end_status x) s s' c c'
-  by_end ends.ServerFailed failed = failed refl
-  by_end ends.OutOfMemory failed = tt
-  by_end ends.ServerEnd failed = tt
-  by_end ends.Disconnected failed = tt
-  by_end (ends.Terminated client id) failed = tt
-  by_end (ends.Broke index why) failed = tt
-  by_end ends.Spent failed = tt
-  by_end ends.NotBuilt failed = tt
+-- the process id of the facts, or 0
+pub pid_is : (pid : Option ℕ) → unwrap_or pid 0 ≡ pid_of pid
+pid_is None = refl
+pid_is (Some pid) = refl
 
--- ---- what comes of the words of a master
+-- ---- a master whose control path was found
 
-by_parts : (m : Machine) (original : Bytes) (lines : List AskedLine) (from : ConfigFrom) (transport : Bytes) (os ls : List Bytes) (control : Bytes) → is_plain_path control ≡ true → lines ≡ control_lines_of control → from ≡ Nothing → os ≡ [] → ls ≡ [] → defined_outcome m (commands.Master (record { original = original; lines = lines; from = from }) transport os ls) ≡ Opens (or_text [] (only_word lines)) transport [] []
-by_parts m original lines from transport os ls control plain el ef eo ell = rw (el, ef, eo, ell) (opens_plain m original control transport plain)
+-- what was found of it
+abbrev pub IsMaster : Known → Bytes → List Bytes → List Bytes → Bytes → Type 0
+IsMaster k transport os ls control = (k ≡ Certain (opens_at transport os ls control)) ⊎ (k ≡ Master transport os ls)
 
-pub master_outcome : (files : Option (List Pair)) (facts : Facts) (words : List Bytes) (asked : Asked) (transport : Bytes) (os ls : List Bytes) → served_reading words ≡ Ok (commands.Master asked transport os ls) → outcome files facts words ≡ Some (Opens (or_text [] (only_word asked.lines)) transport [] [])
-master_outcome files facts words asked transport os ls e =
-    let s = served words asked transport os ls e in
-    rw e (ap (λ x. Some x) (by_parts (machine files facts) asked.original asked.lines asked.from transport os ls s.control s.is_plain s.lines_are s.from_is s.opens_are s.listens_are))
+certain-comes : (transport : Bytes) (os ls : List Bytes) (control : Bytes) (result : Result Status Ending) → EndsMaster result → Comes (Certain (opens_at transport os ls control)) result
+certain-comes transport os ls control (Ok statuses.Done) h = refl
+certain-comes transport os ls control (Ok status) h = absurd cc
+certain-comes transport os ls control (Err endings.NotOpened) h = refl
+certain-comes transport os ls control (Err endings.TransportFailed) h = refl
+certain-comes transport os ls control (Err (endings.ServerBroke index why)) h = refl
+certain-comes transport os ls control (Err endings.TurnsSpent) h = refl
+certain-comes transport os ls control (Err endings.NoMemory) h = tt
+certain-comes transport os ls control (Err ending) h = absurd cc
 
-pub has_word : (words : List Bytes) (asked : Asked) (transport : Bytes) (os ls : List Bytes) → served_reading words ≡ Ok (commands.Master asked transport os ls) → is_some (only_word asked.lines) ≡ true
-has_word words asked transport os ls e = let s = served words asked transport os ls e in rw s.lines_are refl
+some-comes : (transport : Bytes) (os ls : List Bytes) (result : Result Status Ending) → EndsMaster result → Comes (Master transport os ls) result
+some-comes transport os ls (Ok statuses.Done) h = refl
+some-comes transport os ls (Ok status) h = absurd cc
+some-comes transport os ls (Err endings.NotOpened) h = refl
+some-comes transport os ls (Err endings.TransportFailed) h = refl
+some-comes transport os ls (Err (endings.ServerBroke index why)) h = refl
+some-comes transport os ls (Err endings.TurnsSpent) h = refl
+some-comes transport os ls (Err endings.NoMemory) h = tt
+some-comes transport os ls (Err ending) h = absurd cc
 
--- ---- what a master leaves
+pub master-comes : (k : Known) (transport : Bytes) (os ls : List Bytes) (control : Bytes) (result : Result Status Ending) → IsMaster k transport os ls control → EndsMaster result → Comes k result
+master-comes k transport os ls control result (inl e) h = subst (λ x. Comes x result) (sym e) (certain-comes transport os ls control result h)
+master-comes k transport os ls control result (inr e) h = subst (λ x. Comes x result) (sym e) (some-comes transport os ls result h)
 
-pub comes : (o : Option Outcome) (control transport : Bytes) (result : Result Status Ending) → o ≡ Some (Opens control transport [] []) → EndsMaster result → Comes o result
-comes o control transport result e h = subst (λ x. Comes x result) (sym e) (by_result result h) where
-  by_result : (r : Result Status Ending) → EndsMaster r → Comes (Some (Opens control transport [] [])) r
-  by_result (Ok statuses.Done) h = refl
-  by_result (Ok status) h = absurd cc
-  by_result (Err endings.NotServed) h = refl
-  by_result (Err endings.NotOpened) h = refl
-  by_result (Err endings.TransportFailed) h = refl
-  by_result (Err (endings.ServerBroke index why)) h = refl
-  by_result (Err endings.TurnsSpent) h = refl
-  by_result (Err endings.NoMemory) h = tt
-  by_result (Err (endings.BadWords error)) h = absurd cc
-  by_result (Err (endings.BadLine file line cause)) h = absurd cc
+-- it may have opened its wire
+pub master-opens : (result : Result Status Ending) → EndsMaster result → may_open (so_far result) ≡ true
+master-opens (Ok statuses.Done) h = refl
+master-opens (Ok status) h = absurd cc
+master-opens (Err endings.NotOpened) h = refl
+master-opens (Err endings.TransportFailed) h = refl
+master-opens (Err (endings.ServerBroke index why)) h = refl
+master-opens (Err endings.TurnsSpent) h = refl
+master-opens (Err endings.NoMemory) h = refl
+master-opens (Err ending) h = absurd cc
 
-pub out_same : (o : Option Outcome) (control transport : Bytes) (status : Status) (before : Option (List ℕ)) → o ≡ Some (Opens control transport [] []) → OutTakes status o before before
-out_same o control transport status before e = subst (λ x. OutTakes status x before before) (sym e) (by_status status) where
-  by_status : (s : Status) → OutTakes s (Some (Opens control transport [] [])) before before
-  by_status statuses.Done = refl
-  by_status statuses.Write = refl
-  by_status status = refl
+pub master-shares : (k : Known) (transport : Bytes) (os ls : List Bytes) (control : Bytes) (result : Result Status Ending) → IsMaster k transport os ls control → EndsMaster result → may_share k (so_far result) ≡ true
+master-shares k transport os ls control result (inl e) h = rw (master-opens result h) (subst (λ x. opens x ≡ true) (sym e) refl)
+master-shares k transport os ls control result (inr e) h = rw (master-opens result h) (subst (λ x. opens x ≡ true) (sym e) refl)
 
-pub out_count : (result : Result Status Ending) (count : ℕ) → EndsMaster result → OutCause (so_far result) count count
-out_count (Ok statuses.Done) count h = refl
-out_count (Ok status) count h = absurd cc
-out_count (Err endings.NotServed) count h = refl
-out_count (Err endings.NotOpened) count h = refl
-out_count (Err endings.TransportFailed) count h = refl
-out_count (Err (endings.ServerBroke index why)) count h = refl
-out_count (Err endings.TurnsSpent) count h = refl
-out_count (Err endings.NoMemory) count h = refl
-out_count (Err (endings.BadWords error)) count h = absurd cc
-out_count (Err (endings.BadLine file line cause)) count h = absurd cc
+certain-opened : (transport : Bytes) (os ls : List Bytes) (control : Bytes) (status : Status) (before now : Option (List Opening)) → may_open status ≡ true → OpensAt control transport status before now → OpensOnce (Certain (opens_at transport os ls control)) status before now
+certain-opened transport os ls control statuses.Outside before now m h = absurd cc
+certain-opened transport os ls control status before now m h = h
 
-pub files_count : (result : Result Status Ending) (count : ℕ) → EndsMaster result → FilesCause (so_far result) count count
-files_count (Ok statuses.Done) count h = refl
-files_count (Ok status) count h = absurd cc
-files_count (Err endings.NotServed) count h = refl
-files_count (Err endings.NotOpened) count h = refl
-files_count (Err endings.TransportFailed) count h = refl
-files_count (Err (endings.ServerBroke index why)) count h = refl
-files_count (Err endings.TurnsSpent) count h = refl
-files_count (Err endings.NoMemory) count h = omega arith
-files_count (Err (endings.BadWords error)) count h = absurd cc
-files_count (Err (endings.BadLine file line cause)) count h = absurd cc
+some-opened : (transport control : Bytes) (os ls : List Bytes) (status : Status) (before now : Option (List Opening)) → may_open status ≡ true → OpensAt control transport status before now → OpensOnce (Master transport os ls) status before now
+some-opened transport control os ls statuses.Usage before now m h = absurd cc
+some-opened transport control os ls statuses.Config before now m h = absurd cc
+some-opened transport control os ls statuses.Outside before now m h = absurd cc
+some-opened transport control os ls statuses.Memory before now m (inl h) = inl h
+some-opened transport control os ls statuses.Memory before now m (inr h) = inr (record { control = control; once = h })
+some-opened transport control os ls status before now m h = record { control = control; once = h }
 
-pub on_false : (b : Bool) {X : Type 0} (x : X) → OnFalse b (x ≡ x)
-on_false true x = tt
-on_false false x = refl
+pub master-opened : (k : Known) (transport : Bytes) (os ls : List Bytes) (control : Bytes) (status : Status) (before now : Option (List Opening)) → IsMaster k transport os ls control → may_open status ≡ true → OpensAt control transport status before now → OpensOnce k status before now
+master-opened k transport os ls control status before now (inl e) m h = subst (λ x. OpensOnce x status before now) (sym e) (certain-opened transport os ls control status before now m h)
+master-opened k transport os ls control status before now (inr e) m h = subst (λ x. OpensOnce x status before now) (sym e) (some-opened transport control os ls status before now m h)
 
-pub opens_once : (o : Option Outcome) (control transport : Bytes) (status : Status) (before now : Option (List Opening)) → o ≡ Some (Opens control transport [] []) → OpensAt control transport status before now → OpensOnce o status before now
-opens_once o control transport status before now e h = subst (λ x. OpensOnce x status before now) (sym e) h
+-- ---- what others leave
 
-pub on_true : (b : Bool) (P : Type 0) → P → OnTrue b P
-on_true true P h = h
-on_true false P h = tt
+-- a command that opens nothing
+pub none-opened : (k : Known) (status : Status) (before : Option (List Opening)) → opens k ≡ false → OpensOnce k status before before
+none-opened (Certain (Opens control transport os ls)) status before e = absurd cc
+none-opened (Certain (Ends ending)) status before e = refl
+none-opened (Certain (Writes text)) status before e = refl
+none-opened (Certain (Drills seed clients messages)) status before e = refl
+none-opened Listing status before e = refl
+none-opened (Master transport os ls) status before e = absurd cc
 
-pub shut : (o : Option Outcome) (control transport : Bytes) (P : Type 0) → o ≡ Some (Opens control transport [] []) → OnFalse (opens o) P
-shut o control transport P e = subst (λ x. OnFalse (opens x) P) (sym e) tt
+-- one that lists nothing
+pub none-taken : (k : Known) (status : Status) (before : Option (List ℕ)) → lists k ≡ false → OutTakes status k before before
+none-taken (Certain (Writes text)) status before e = absurd cc
+none-taken Listing status before e = absurd cc
+none-taken (Certain (Ends ending)) statuses.Done before e = refl
+none-taken (Certain (Ends ending)) statuses.Write before e = refl
+none-taken (Certain (Ends ending)) status before e = refl
+none-taken (Certain (Opens control transport os ls)) statuses.Done before e = refl
+none-taken (Certain (Opens control transport os ls)) statuses.Write before e = refl
+none-taken (Certain (Opens control transport os ls)) status before e = refl
+none-taken (Certain (Drills seed clients messages)) statuses.Done before e = refl
+none-taken (Certain (Drills seed clients messages)) statuses.Write before e = refl
+none-taken (Certain (Drills seed clients messages)) status before e = refl
+none-taken (Master transport os ls) statuses.Done before e = refl
+none-taken (Master transport os ls) statuses.Write before e = refl
+none-taken (Master transport os ls) status before e = refl
 
--- ---- a listing opens nothing
-
-opens_nothing : (files : Option (List Pair)) (facts : Facts) (host : Bytes) (from : ConfigFrom) (lines : List AskedLine) → opens (list_outcome files facts host from lines) ≡ false
-opens_nothing files facts host from (line ∷ lines) = refl
-opens_nothing files facts host Standard [] = refl
-opens_nothing files facts host Nothing [] = refl
-opens_nothing None facts host (File file) [] = refl
-opens_nothing (Some files) facts host (File file) [] = by_answer (file_answer (told_by files facts file host) file) where
-  by_answer : (a : _) → opens (Some (answer_outcome a)) ≡ false
-  by_answer (Ok text) = refl
-  by_answer (Err e) = refl
-
-pub list_opens : (files : Option (List Pair)) (facts : Facts) (words : List Bytes) (asked : Asked) → served_reading words ≡ Ok (commands.List asked) → opens (outcome files facts words) ≡ false
-list_opens files facts words asked e = rw e (opens_nothing files facts asked.original asked.from asked.lines)
-
-pub closed : (b : Bool) (P : Type 0) → b ≡ false → OnTrue b P
-closed b P e = subst (λ x. OnTrue x P) (sym e) tt
-
-pub none_opened : (o : Option Outcome) (status : Status) (before : Option (List Opening)) → opens o ≡ false → OpensOnce o status before before
-none_opened None status before e = refl
-none_opened (Some (Opens control transport os ls)) status before e = absurd cc
-none_opened (Some (Ends ending)) status before e = refl
-none_opened (Some (Writes text)) status before e = refl
-none_opened (Some (Drills seed clients messages)) status before e = refl
+pub none-counted : (k : Known) (result : Result Status Ending) (count : ℕ) → lists k ≡ false → Comes k result → OutCause (so_far result) count count
+none-counted k (Ok statuses.Write) count e h = let x : false ≡ true = sym e ∙ h in absurd cc
+none-counted k (Ok status) count e h = refl
+none-counted k (Err ending) count e h = quiet-count (status_of (shown ending)) count (loud (shown ending))

@@ -1,12 +1,13 @@
 -- What the standard error has taken.
 use Rattle.std.specs.Prelude.{◌≡◌, ℕ, List, ◌++◌, ◌⊎◌, Option, Some, None}
 use Rattle.conf_rules.specs.Diagnostics.{Ending, line_of, NoMemory}
-use Rattle.conf_rules.specs.Outcome.{Outcome}
 use Rattle.mux_outside.specs.Counts.{Rose}
 use Rattle.mux_outside.specs.Sink.{TookPrefix}
 use Rattle.ssh_mux_cli.specs.declared.status.Status.{Status}
 use Rattle.ssh_mux_cli.specs.declared.status.Status.TheVariants.{Done, Write, Memory}
 use Rattle.ssh_mux_cli.specs.Answers.{IsDue, IsWell}
+use Rattle.ssh_mux_cli.specs.Causes.{EndCause}
+use Rattle.ssh_mux_cli.specs.Outcomes.{Known}
 use Rattle.ssh_mux_cli.specs.Status.{status_of}
 
 -- the whole line, or where the sink failed a prefix of it
@@ -37,18 +38,26 @@ Reports Memory ending before now faults faults' = TookSome (line_of NoMemory) be
 Reports result ending before now faults faults' =
     (result ≡ status_of ending) × TookLine (line_of ending) before now faults faults'
 
--- the run ended by an ending that is due, whose line was handed over
-pub record EndsBy (outcome : Option Outcome) (status : Status) (before now : Option (List ℕ))
-    (faults faults' : ℕ) : Type 0 where
+-- the run ended by an ending that is due, whose line was handed over, and whose fault, if it is one,
+-- raised its count
+pub record EndsBy (known : Known) (status : Status) (before now : Option (List ℕ))
+    (faults faults' files files' runner runner' : ℕ) : Type 0 where
   pub ending : Ending
-  pub is_due : IsDue outcome ending
+  pub is_due : IsDue known ending
   pub has_status : status ≡ status_of ending
   pub told : TookLine (line_of ending) before now faults faults'
+  pub cause : EndCause ending files files' runner runner'
 
 -- How a run ended: without a word where it went well or `out` failed, with the line of its ending
--- otherwise; of the line of want of memory some part may be written.
-abbrev pub Ended : Option Outcome → Status → Option (List ℕ) → Option (List ℕ) → ℕ → ℕ → Type 0
-Ended outcome Done before now faults faults' = IsWell outcome Done × (now ≡ before)
-Ended outcome Write before now faults faults' = IsWell outcome Write × (now ≡ before)
-Ended outcome Memory before now faults faults' = TookSome (line_of NoMemory) before now
-Ended outcome status before now faults faults' = EndsBy outcome status before now faults faults'
+-- otherwise; of the line of want of memory some part may be written. `files` and `runner` count
+-- their faults.
+abbrev pub Ended :
+    Known → Status → Option (List ℕ) → Option (List ℕ) → ℕ → ℕ → ℕ → ℕ → ℕ → ℕ → Type 0
+Ended known Done before now faults faults' files files' runner runner' =
+    IsWell known Done × (now ≡ before)
+Ended known Write before now faults faults' files files' runner runner' =
+    IsWell known Write × (now ≡ before)
+Ended known Memory before now faults faults' files files' runner runner' =
+    TookSome (line_of NoMemory) before now
+Ended known status before now faults faults' files files' runner runner' =
+    EndsBy known status before now faults faults' files files' runner runner'

@@ -4,6 +4,7 @@ pub mod Ending
 pub mod Outcomes
 pub mod Answers
 pub mod Causes
+pub mod Commands
 pub mod Out
 pub mod Err
 pub mod Master

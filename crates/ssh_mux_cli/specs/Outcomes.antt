@@ -1,98 +1,93 @@
--- What comes of words, as far as their forms are served.
-use Rattle.std.specs.Prelude.{Bool, true, false, List, [], ◌∷◌, Option, Some, None, Result, Ok, Err}
-use Rattle.conf_rules.specs.declared.asked.AskedLine.{AskedLine}
-use Rattle.conf_rules.specs.declared.asked.ConfigFrom.{ConfigFrom}
-use Rattle.conf_rules.specs.declared.asked.ConfigFrom.TheVariants.{File}
+-- What comes of words, as far as it is known.
+use Rattle.std.specs.Prelude.{Bool, true, false, List, Option, Some, None, Ok, Err}
 use Rattle.conf_rules.specs.declared.command.Command.{Command}
 use Rattle.conf_rules.specs.declared.command.Command.TheVariants as commands
-use Rattle.conf_rules.specs.declared.causes.ResolveError.{ResolveError}
+use Rattle.conf_rules.specs.CommandLine.{ReadCommand}
+use Rattle.conf_rules.specs.Diagnostics.{BadWords}
+use Rattle.conf_rules.specs.Outcome.{Outcome, Ends, Writes, Opens, Drills, Machine}
+use Rattle.conf_rules.specs.Outcome.{command_outcome, outcome}
+use Rattle.conf_rules.specs.Reading.{reading}
 use Rattle.conf_rules.specs.Texts.{Bytes}
-use Rattle.conf_rules.specs.Diagnostics.{Ending, BadWords, BadLine, NotServed, NoMemory}
-use Rattle.conf_rules.specs.Outcome.{Outcome, Ends, Writes, Opens, Machine}
-use Rattle.conf_rules.specs.Outcome.{command_outcome as defined_outcome}
-use Rattle.conf_words.specs.declared.reader.WordsError.{WordsError}
-use Rattle.conf_words.specs.declared.reader.WordsError.TheVariants as words_errors
-use Rattle.conf_words.specs.Reading.{served_reading}
-use Rattle.conf_listing.specs.Answers.{known, file_answer, told_by}
+use Rattle.conf_tokens.specs.Known.{known}
 use Rattle.mux_outside.specs.declared.facts.Facts.{Facts}
 use Rattle.mux_outside.specs.declared.pairs.Pair.{Pair}
+use Rattle.mux_outside.specs.declared.statuses.CommandStatus.{CommandStatus}
 use Rattle.mux_outside.specs.Files.{content_at, names_in}
+use Rattle.mux_outside.specs.Runner.{status_of}
 
--- words that say no command
-abbrev pub words_ending : WordsError → Ending
-words_ending (words_errors.Refused e) = BadWords e
-words_ending words_errors.NotBuilt = NotServed
-words_ending words_errors.OutOfMemory = NoMemory
+-- what is known: all that comes of words, or only that they ask for a listing, or for a master over
+-- a transport with these permissions
+pub data Known : Type 0 where
+  Certain : Outcome → Known
+  Listing : Known
+  Master : (transport : Bytes) (opens listens : List Bytes) → Known
 
--- a listing, or its refusal
-abbrev pub answer_outcome : Result Bytes ResolveError → Outcome
-answer_outcome (Ok text) = Writes text
-answer_outcome (Err e) = Ends (BadLine e)
+-- ---- the machine
 
--- the listing of one file for a host, which is known where files tell what they have
-abbrev pub file_outcome : Option (List Pair) → Facts → Bytes → Bytes → Option Outcome
-file_outcome None facts host file = None
-file_outcome (Some files) facts host file =
-    Some (answer_outcome (file_answer (told_by files facts file host) file))
+-- the machine of these files and facts, in which commands end with these statuses
+abbrev pub machine_of : List Pair → List CommandStatus → Facts → Machine
+machine_of files statuses facts =
+    record {
+      content = content_at files;
+      names = names_in files;
+      facts = known facts;
+      status = status_of statuses;
+    }
 
--- a listing is served of one file
-abbrev pub from_outcome : Option (List Pair) → Facts → Bytes → ConfigFrom → Option Outcome
-from_outcome files facts host (File file) = file_outcome files facts host file
-from_outcome files facts host from = Some (Ends NotServed)
+-- the machine, where both files and commands are told
+unfoldable pub machine : Option (List Pair) → Option (List CommandStatus) → Facts → Option Machine
+machine (Some files) (Some statuses) facts = Some (machine_of files statuses facts)
+machine files statuses facts = None
 
--- without lines of the words
-abbrev pub list_outcome :
-    Option (List Pair) → Facts → Bytes → ConfigFrom → List AskedLine → Option Outcome
-list_outcome files facts host from [] = from_outcome files facts host from
-list_outcome files facts host from (line ∷ lines) = Some (Ends NotServed)
+-- ---- what comes of words
 
--- the machine, as far as it is told: a master that is served looks at no file
-abbrev pub machine : Option (List Pair) → Facts → Machine
-machine None facts =
-    record
-    { content = λ path. None; names = λ path. []; facts = known facts; status = λ command. 127 }
-machine (Some files) facts =
-    record
-    { content = content_at files; names = names_in files; facts = known facts; status = λ command. 127 }
+-- what is known of a command for itself
+abbrev pub untold : Command → Known
+untold (commands.List asked) = Listing
+untold (commands.Master asked transport opens listens) = Master transport opens listens
+untold (commands.Drill seed clients messages) = Certain (Drills seed clients messages)
 
--- what comes of a command; a drill isn't served
-abbrev pub command_outcome : Option (List Pair) → Facts → Command → Option Outcome
-command_outcome files facts (commands.List asked) =
-    list_outcome files facts asked.original asked.from asked.lines
-command_outcome files facts (commands.Master asked transport opens listens) =
-    Some (defined_outcome (machine files facts) (commands.Master asked transport opens listens))
-command_outcome files facts (commands.Drill seed clients messages) = Some (Ends NotServed)
+-- what is known of a command over a machine
+unfoldable pub of_command : Option Machine → Command → Known
+of_command (Some m) command = Certain (command_outcome m command)
+of_command None command = untold command
 
--- what comes of words that were read
-abbrev pub read_outcome : Option (List Pair) → Facts → Result Command WordsError → Option Outcome
-read_outcome files facts (Ok command) = command_outcome files facts command
-read_outcome files facts (Err e) = Some (Ends (words_ending e))
+-- what is known of words for themselves: all of bad words and of a drill
+abbrev pub untold_words : ReadCommand → Known
+untold_words (Ok command) = untold command
+untold_words (Err e) = Certain (Ends (BadWords e))
 
--- what comes of words
-abbrev pub outcome : Option (List Pair) → Facts → List Bytes → Option Outcome
-outcome files facts words = read_outcome files facts (served_reading words)
+-- what is known of words over a machine: where it is told, all
+unfoldable pub of_words : Option Machine → List Bytes → Known
+of_words (Some m) words = Certain (outcome m words)
+of_words None words = untold_words (reading words)
 
--- ---- what an outcome uses
+-- a master with these permissions that opens its control path
+abbrev pub opens_at : Bytes → List Bytes → List Bytes → Bytes → Outcome
+opens_at transport opens listens control = Opens control transport opens listens
 
--- whether files are read
-abbrev pub reads_files : Option Outcome → Bool
-reads_files None = true
-reads_files (Some (Writes text)) = true
-reads_files (Some (Ends (BadLine e))) = true
-reads_files (Some other) = false
+-- ---- what it uses
 
--- whether a listing is written
-abbrev pub writes : Option Outcome → Bool
-writes None = true
-writes (Some (Writes text)) = true
-writes (Some other) = false
+-- whether files are read and commands are run
+abbrev pub looks : Known → Bool
+looks (Certain (Ends (BadWords e))) = false
+looks (Certain (Drills seed clients messages)) = false
+looks other = true
 
--- whether a wire is opened
-abbrev pub opens : Option Outcome → Bool
-opens (Some (Opens control transport permitted_opens permitted_listens)) = true
+-- whether a listing may be written
+abbrev pub lists : Known → Bool
+lists (Certain (Writes text)) = true
+lists Listing = true
+lists other = false
+
+-- whether a wire may be opened
+abbrev pub opens : Known → Bool
+opens (Certain (Opens control transport permitted_opens permitted_listens)) = true
+opens (Master transport permitted_opens permitted_listens) = true
 opens other = false
 
 -- whether it may succeed
-abbrev pub succeeds : Option Outcome → Bool
-succeeds (Some (Opens control transport permitted_opens permitted_listens)) = true
-succeeds other = writes other
+abbrev pub succeeds : Known → Bool
+succeeds (Certain (Ends ending)) = false
+succeeds (Certain (Drills seed clients messages)) = false
+succeeds other = true

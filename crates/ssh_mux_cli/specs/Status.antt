@@ -27,11 +27,10 @@ code_of Spent = 8
 code_of Memory = 9
 code_of NotBuilt = 255
 
--- the status of a configuration that is refused; a form that isn't served yet has its own
+-- the status of a configuration that is refused
 abbrev pub refusal_status : ResolveError → Status
 refusal_status (resolve_errors.At file line causes.ReadFault) = Outside
 refusal_status (resolve_errors.At file line causes.RunFault) = Outside
-refusal_status (resolve_errors.At file line causes.NotBuilt) = NotBuilt
 refusal_status (resolve_errors.At file line cause) = Config
 refusal_status resolve_errors.OutOfMemory = Memory
 

@@ -80,8 +80,8 @@ fn match_text(error: MatchError) -> &'static [u8]
     }
 }
 
-/// Why tokens have no expansion.
-fn put_token_text(out: &mut Text, error: &TokenError) -> Result<(), OutOfMemory>
+//// Why tokens have no expansion.
+pub fn put_token_text(out: &mut Text, error: &TokenError) -> Result<(), OutOfMemory>
     ensures { OnOk result (out.new ≡ out.old ++ token_text error.now) }
 {
     match error {
@@ -121,7 +121,6 @@ pub fn put_cause_text(out: &mut Text, cause: &Cause) -> Result<(), OutOfMemory>
         Cause::NoFile => out.add(b"no such file"),
         Cause::ReadFault => out.add(b"cannot read"),
         Cause::RunFault => out.add(b"cannot run"),
-        Cause::NotBuilt => out.add(b"not built yet"),
     }
 }
 

@@ -1,11 +1,12 @@
 ghost use Rattle.std.specs.Prelude.{◌≡◌, ◌++◌, OnOk, IfOk};
 ghost use Rattle.conf_rules.specs.Diagnostics.{line_of, text_of, located, cause_text};
-ghost use Rattle.ssh_mux_cli.specs.Ending.{shown, refused_as};
+ghost use Rattle.ssh_mux_cli.specs.Ending.{shown, misread_as, refused_as, unlisted_as};
 ghost use Rattle.ssh_mux_cli.specs.Status.{status_of};
 
-use crate::diagnostics::{put_break_text, put_cause_text, put_number, usage_text};
+use crate::diagnostics::{put_break_text, put_cause_text, put_number, put_token_text, usage_text};
 use crate::status::Status;
-use conf_rules::{Cause, ResolveError, UsageError};
+use conf_command::WordsError;
+use conf_rules::{Cause, Key, ListError, ResolveError, TokenError, UsageError};
 use mux_history::Break;
 use ssh_fields::{OutOfMemory, Text};
 use std::alloc::Global;
@@ -17,6 +18,10 @@ pub enum Ending {
     BadWords(UsageError),
     /// A line of the configuration is refused, or its file as line 0.
     BadLine { file: Text, line: u64, cause: Cause },
+    /// The tokens of a key can't be expanded.
+    BadListing { key: Key, error: TokenError },
+    /// No control path is set.
+    NoControlPath,
     /// What is asked for is not built yet.
     NotServed,
     /// The sockets could not be opened.
@@ -31,13 +36,36 @@ pub enum Ending {
     NoMemory,
 }
 
-/// The ending of a configuration that is refused.
-pub fn refused_as(error: ResolveError) -> Ending
-    ensures { result ≡ refused_as error }
-{
-    match error {
-        ResolveError::At { file, line, cause } => Ending::BadLine { file, line, cause },
-        ResolveError::OutOfMemory => Ending::NoMemory,
+impl From<WordsError> for Ending {
+    ghost from_gives = { λ e ending. ending ≡ misread_as e };
+
+    fn from(error: WordsError) -> Ending {
+        match error {
+            WordsError::Refused(e) => Ending::BadWords(e),
+            WordsError::OutOfMemory => Ending::NoMemory,
+        }
+    }
+}
+
+impl From<ResolveError> for Ending {
+    ghost from_gives = { λ e ending. ending ≡ refused_as e };
+
+    fn from(error: ResolveError) -> Ending {
+        match error {
+            ResolveError::At { file, line, cause } => Ending::BadLine { file, line, cause },
+            ResolveError::OutOfMemory => Ending::NoMemory,
+        }
+    }
+}
+
+impl From<ListError> for Ending {
+    ghost from_gives = { λ e ending. ending ≡ unlisted_as e };
+
+    fn from(error: ListError) -> Ending {
+        match error {
+            ListError::Token { key, error } => Ending::BadListing { key, error },
+            ListError::OutOfMemory => Ending::NoMemory,
+        }
     }
 }
 
@@ -52,12 +80,10 @@ impl Ending {
                 cause: Cause::ReadFault | Cause::RunFault,
                 ..
             } => Status::Outside,
-            Ending::BadLine {
-                cause: Cause::NotBuilt,
-                ..
+            Ending::NotServed => Status::NotBuilt,
+            Ending::BadLine { .. } | Ending::BadListing { .. } | Ending::NoControlPath => {
+                Status::Config
             }
-            | Ending::NotServed => Status::NotBuilt,
-            Ending::BadLine { .. } => Status::Config,
             Ending::NotOpened => Status::Open,
             Ending::TransportFailed => Status::Transport,
             Ending::ServerBroke { .. } => Status::Broke,
@@ -89,14 +115,16 @@ impl Ending {
                 out.add(b": ")?;
                 out.add(usage_text(e.cause))
             }
-            Ending::BadLine {
-                cause: Cause::NotBuilt,
-                ..
-            }
-            | Ending::NotServed => out.add(b"not built yet"),
+            Ending::NotServed => out.add(b"not built yet"),
             Ending::BadLine { file, line, cause } => {
                 put_located(alloc, out, file.as_bytes(), *line, cause)
             }
+            Ending::BadListing { key, error } => {
+                out.add(key.keyword())?;
+                out.add(b": ")?;
+                put_token_text(out, error)
+            }
+            Ending::NoControlPath => out.add(b"controlpath: not set"),
             Ending::NotOpened => out.add(b"cannot open the sockets"),
             Ending::TransportFailed => out.add(b"the transport failed"),
             Ending::ServerBroke { index, why } => {

@@ -1,76 +1,75 @@
-ghost use Rattle.std.specs.Prelude.{◌≡◌, true, Some};
+ghost use Rattle.std.specs.Prelude.{◌≡◌, true};
 ghost use Rattle.std.specs.Bool.{OnFalse};
+ghost use Rattle.conf_rules.specs.declared.command.Command.TheVariants as commands;
 ghost use Rattle.conf_rules.specs.Outcome.{Writes};
-ghost use Rattle.ssh_mux_cli.specs.Answers.{Comes, so_far, may_write};
-ghost use Rattle.ssh_mux_cli.specs.Causes.{FilesCause, OutCause};
+ghost use Rattle.ssh_mux_cli.specs.Answers.{Comes, Finds, so_far, may_write};
+ghost use Rattle.ssh_mux_cli.specs.Causes.{Caused, OutCause};
+ghost use Rattle.ssh_mux_cli.specs.Commands.{RunsFor, RunsUnless, commands_of};
 ghost use Rattle.ssh_mux_cli.specs.Out.{OutTakes};
-ghost use Rattle.ssh_mux_cli.specs.Outcomes.{file_outcome, list_outcome, reads_files};
+ghost use Rattle.ssh_mux_cli.specs.Outcomes.{Certain, Listing, machine, of_command, lists};
 
-use crate::ending::{Ending, refused_as};
+use crate::ending::Ending;
 use crate::status::Status;
-use conf_listing::list_file;
-use conf_rules::{Asked, ConfigFrom};
-use mux_outside::{Facts, FileError, Files, Sink};
+use conf_output::listing;
+use conf_resolve::resolve;
+use conf_rules::Asked;
+use mux_outside::{Facts, FileError, Files, Runner, Sink};
 use ssh_fields::Text;
 use std::alloc::Global;
 
-/// Lists what the words ask for: `-G`. It is served of one file, without lines of the words.
-pub fn list<F: Files, S: Sink>(
+/// Lists the settings of what the words ask for: `-G`.
+pub fn list<F: Files, R: Runner, S: Sink>(
     alloc: Global,
     asked: &Asked,
     facts: &Facts,
     files: &mut F,
+    runner: &mut R,
     out: &mut S,
 ) -> Result<Status, Ending>
-    ensures exact { Comes (list_outcome (F.told files.old) facts.now
-        asked.now.original asked.now.from asked.now.lines) result }
-    ensures out { OutTakes (so_far result) (list_outcome (F.told files.old) facts.now
-        asked.now.original asked.now.from asked.now.lines)
-        (S.told out.old) (S.told out.new) }
+    ensures exact { Comes (of_command (machine (F.told files.old) (R.told runner.old) facts.now)
+        (commands.List asked.now)) result }
+    ensures out { OutTakes (so_far result)
+        (of_command (machine (F.told files.old) (R.told runner.old) facts.now)
+        (commands.List asked.now)) (S.told out.old) (S.told out.new) }
     ensures unwritten { OnFalse (may_write (so_far result)) (out.new ≡ out.old) }
-    ensures unread { OnFalse (reads_files (list_outcome (F.told files.old) facts.now
-        asked.now.original asked.now.from asked.now.lines)) (files.new ≡ files.old) }
-    ensures files_cause { FilesCause (so_far result) (F.faults files.old) (F.faults files.new) }
+    ensures unlisted { OnFalse
+        (lists (of_command (machine (F.told files.old) (R.told runner.old) facts.now)
+        (commands.List asked.now))) (out.new ≡ out.old) }
     ensures out_cause { OutCause (so_far result) (S.faults out.old) (S.faults out.new) }
+    ensures ran { RunsFor (commands_of (machine (F.told files.old) (R.told runner.old) facts.now)
+        (commands.List asked.now)) (so_far result) (R.ran runner.old) (R.ran runner.new) }
+    ensures cause { Caused result (F.faults files.old) (F.faults files.new)
+        (R.faults runner.old) (R.faults runner.new) }
 {
-    if asked.lines.len() > 0 {
-        return Err(Ending::NotServed);
-    }
-    match &asked.from {
-        ConfigFrom::File(file) => list_one(alloc, file, &asked.original, facts, files, out),
-        _ => Err(Ending::NotServed),
-    }
+    let text = listing_of(alloc, asked, facts, files, runner)?;
+    hand_over(out, text.as_bytes())
 }
 
-// The listing of one file for a host.
-fn list_one<F: Files, S: Sink>(
+// The listing of what the words ask for.
+fn listing_of<F: Files, R: Runner>(
     alloc: Global,
-    file: &Text,
-    host: &Text,
+    asked: &Asked,
     facts: &Facts,
     files: &mut F,
-    out: &mut S,
-) -> Result<Status, Ending>
-    ensures exact { Comes (file_outcome (F.told files.old) facts.now host.now file.now) result }
-    ensures out { OutTakes (so_far result)
-        (file_outcome (F.told files.old) facts.now host.now file.now)
-        (S.told out.old) (S.told out.new) }
-    ensures unwritten { OnFalse (may_write (so_far result)) (out.new ≡ out.old) }
-    ensures reads { reads_files (file_outcome (F.told files.old) facts.now host.now file.now)
-        ≡ true }
-    ensures files_cause { FilesCause (so_far result) (F.faults files.old) (F.faults files.new) }
-    ensures out_cause { OutCause (so_far result) (S.faults out.old) (S.faults out.new) }
+    runner: &mut R,
+) -> Result<Text, Ending>
+    ensures exact { Finds Writes Listing
+        (of_command (machine (F.told files.old) (R.told runner.old) facts.now)
+        (commands.List asked.now)) result }
+    ensures ran { RunsUnless (commands_of (machine (F.told files.old) (R.told runner.old) facts.now)
+        (commands.List asked.now)) result (R.ran runner.old) (R.ran runner.new) }
+    ensures cause { Caused result (F.faults files.old) (F.faults files.new)
+        (R.faults runner.old) (R.faults runner.new) }
 {
-    match list_file(alloc, file.as_bytes(), host.as_bytes(), facts, files) {
-        Ok(text) => hand_over(out, text.as_bytes()),
-        Err(e) => Err(refused_as(e)),
-    }
+    let settings = resolve(alloc, asked, facts, files, runner)?;
+    let text = listing(alloc, &settings, asked.original.as_bytes(), facts)?;
+    Ok(text)
 }
 
 // Hands a listing over, whole.
 fn hand_over<S: Sink>(out: &mut S, text: &[u8]) -> Result<Status, Ending>
-    ensures exact { Comes (Some (Writes text.now)) result }
-    ensures out { OutTakes (so_far result) (Some (Writes text.now))
+    ensures exact { Comes (Certain (Writes text.now)) result }
+    ensures out { OutTakes (so_far result) (Certain (Writes text.now))
         (S.told out.old) (S.told out.new) }
     ensures tried { may_write (so_far result) ≡ true }
     ensures cause { OutCause (so_far result) (S.faults out.old) (S.faults out.new) }

@@ -100,6 +100,14 @@ fn number_of(digits: &[u8]) -> Option<u32> {
     str::from_utf8(digits).ok()?.parse().ok()
 }
 
+// The value of a variable, where it spells a number by decimal digits alone.
+fn digits_of(alloc: Global, vars: &Pairs, name: &[u8]) -> Result<Option<Text>, OutOfMemory> {
+    match value_of(alloc, vars, name)? {
+        Some(digits) if number_of(digits.as_bytes()).is_some() => Ok(Some(digits)),
+        _ => Ok(None),
+    }
+}
+
 // The name of the machine without its line's end; `None` where it can't be read.
 fn host_name_of<F: Files>(alloc: Global, files: &mut F) -> Result<Option<Text>, OutOfMemory> {
     match files.read(HOST_NAME, LONGEST_HOST_NAME) {
@@ -124,7 +132,7 @@ pub fn facts_of<E: Env, F: Files>(
     Ok(Facts {
         home: value_of(alloc, &vars, b"HOME")?,
         local_user: value_of(alloc, &vars, b"USER")?,
-        uid: value_of(alloc, &vars, b"SSHMUX_UID")?,
+        uid: digits_of(alloc, &vars, b"SSHMUX_UID")?,
         host_name: host_name_of(alloc, files)?,
         pid: pid.and_then(|digits| number_of(digits.as_bytes())),
         vars,

@@ -1,7 +1,7 @@
 // The control phase: what one client is told for each of its messages, and what becomes of it and of the run.
 use super::sharing::{HELLO, share_over};
 use crate::status::Status;
-use mux_outside::{Step, Steps, WriteEntry, Writes};
+use mux_outside::{Step, Steps, Writes};
 use ssh_fields::{OutOfMemory, Text};
 use std::alloc::Global;
 use std::test::Fail;
@@ -67,10 +67,10 @@ fn rows() -> [Row; 14] {
             stays: false,
         },
         Row {
-            name: "proxy mode, which is not served yet, then a check",
-            says: b"\x00\x00\x00\x08\x10\x00\x00\x0f\x00\x00\x00\x00\x00\x00\x00\x08\x10\x00\x00\x04\x00\x00\x00\x07",
-            told: b"\x00\x00\x00\x24\x80\x00\x00\x03\x00\x00\x00\x00\x00\x00\x00\x18proxy mode is not served\x00\x00\x00\x0c\x80\x00\x00\x05\x00\x00\x00\x07\x00\x00\x00\x2a",
-            stays: true,
+            name: "proxy mode, and a frame with padding",
+            says: b"\x00\x00\x00\x08\x10\x00\x00\x0f\x00\x00\x00\x00\x00\x00\x00\x02\x01\x60",
+            told: b"\x00\x00\x00\x08\x80\x00\x00\x0f\x00\x00\x00\x00",
+            stays: false,
         },
         Row {
             name: "a check without an id",
@@ -173,52 +173,5 @@ fn nobody_comes_after_a_stop_and_who_is_here_goes_on(rt: HostRuntime) -> Result<
     assert_eq!(rt; shared.wire.taken(2)?.as_bytes(), told.as_bytes());
     assert!(rt; shared.wire.taken(3)?.as_bytes().is_empty());
     assert!(rt; !shared.wire.streams().contains(3));
-    Ok(())
-}
-
-/// A refused PROXY, to which 40 bytes are told.
-const PROXY: &[u8] = b"\x00\x00\x00\x08\x10\x00\x00\x0f\x00\x00\x00\x00";
-
-/// A stop, to which 12 bytes are told.
-const STOP: &[u8] = b"\x00\x00\x00\x08\x10\x00\x00\x09\x00\x00\x00\x04";
-
-/// What a client says before so many times PROXY and a stop, and whether it stays. It is told 12 bytes of hello, and
-/// for the first of them 48 bytes (three checks), for the second 89 (a type that is not known, a forwarding, a stop):
-/// so before the last stop 33,554,420 bytes wait for the first, and 33,554,421 for the second.
-fn full_queues() -> [(&'static [u8], usize, bool); 2] {
-    [
-        (
-            b"\x00\x00\x00\x08\x10\x00\x00\x04\x00\x00\x00\x01\x00\x00\x00\x08\x10\x00\x00\x04\x00\x00\x00\x02\x00\x00\x00\x08\x10\x00\x00\x04\x00\x00\x00\x03",
-            838_859,
-            true,
-        ),
-        (
-            b"\x00\x00\x00\x08\x10\x00\x00\x03\x00\x00\x00\x01\x00\x00\x00\x1c\x10\x00\x00\x06\x00\x00\x00\x02\x00\x00\x00\x02\x00\x00\x00\x00\x00\x00\x00\x00\x00\x00\x00\x00\x00\x00\x00\x50\x00\x00\x00\x08\x10\x00\x00\x09\x00\x00\x00\x03",
-            838_858,
-            false,
-        ),
-    ]
-}
-
-/// A client that takes nothing says a hello, this, so many times PROXY, and a stop.
-fn fill(alloc: Global, first: &[u8], count: usize) -> Result<Steps, OutOfMemory> {
-    let mut says = after_hello(alloc, first)?;
-    for _ in 0..count {
-        says.add(PROXY)?;
-    }
-    says.add(STOP)?;
-    cut_in(alloc, says.as_bytes(), 65_536)
-}
-
-#[test]
-fn a_queue_takes_33554432_bytes_and_no_more(rt: HostRuntime) -> Result<(), Fail> {
-    let alloc = rt.alloc();
-    for (first, count, stays) in full_queues() {
-        let mut writes = Writes::new(alloc);
-        writes.push(WriteEntry::Later)?;
-        let shared = share_over(alloc, fill(alloc, first, count)?, writes)?;
-        assert!(rt; shared.status == Status::Done, "{count}");
-        assert!(rt; shared.wire.streams().contains(1) == stays, "{count}");
-    }
     Ok(())
 }

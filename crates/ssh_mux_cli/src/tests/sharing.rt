@@ -1,10 +1,10 @@
 // Masters over scripted streams: which bytes each client reads, written out, and how each run ends.
-use super::words;
+use super::{nobody, words};
 use crate::run::run;
 use crate::status::Status;
 use mux_outside::{
-    Calls, Facts, ListSink, MapFiles, MapRunner, Mark, NoHouse, Pairs, ScriptWire, Statuses, Step,
-    Steps, Streams, WriteEntry, Writes,
+    Calls, ListSink, MapFiles, MapRunner, Mark, NoHouse, Pairs, ScriptWire, Statuses, Step, Steps,
+    Streams, WriteEntry, Writes,
 };
 use ssh_fields::{OutOfMemory, Text};
 use std::alloc::Global;
@@ -36,26 +36,24 @@ pub struct Shared {
     pub err: ListSink,
 }
 
-/// What is known of the machine: the process id 42.
-fn facts(alloc: Global) -> Facts {
-    Facts {
-        home: None,
-        local_user: None,
-        uid: None,
-        host_name: None,
-        vars: Pairs::new(alloc),
-        pid: Some(42),
-    }
+/// A run of a master over this wire, for so many turns.
+fn share(alloc: Global, wire: ScriptWire, turns: u64) -> Result<Shared, OutOfMemory> {
+    share_by(alloc, SHARE, wire, turns)
 }
 
-/// A run of a master over this wire, for so many turns.
-fn share(alloc: Global, mut wire: ScriptWire, turns: u64) -> Result<Shared, OutOfMemory> {
+/// The same by these words.
+fn share_by(
+    alloc: Global,
+    line: &str,
+    mut wire: ScriptWire,
+    turns: u64,
+) -> Result<Shared, OutOfMemory> {
     let mut out = ListSink::new(alloc, Calls::new(alloc));
     let mut err = ListSink::new(alloc, Calls::new(alloc));
     let status = run(
         alloc,
-        &words(alloc, SHARE)?,
-        &facts(alloc),
+        &words(alloc, line)?,
+        &nobody(alloc),
         &mut wire,
         &mut MapFiles::new(alloc, Pairs::new(alloc), Calls::new(alloc)),
         &mut MapRunner::new(alloc, Statuses::new(alloc), Calls::new(alloc)),
@@ -79,6 +77,12 @@ pub fn share_over(alloc: Global, steps: Steps, writes: Writes) -> Result<Shared,
         ScriptWire::new(alloc, steps, writes, Calls::new(alloc)),
         u64::MAX,
     )
+}
+
+/// A run by these words over these steps, in which no call fails.
+pub fn share_with(alloc: Global, line: &str, steps: Steps) -> Result<Shared, OutOfMemory> {
+    let wire = ScriptWire::new(alloc, steps, Writes::new(alloc), Calls::new(alloc));
+    share_by(alloc, line, wire, u64::MAX)
 }
 
 /// The byte at a place, where there is one, comes from a client.
@@ -323,7 +327,7 @@ enum Fault {
     Reading,
     /// There are more events than turns.
     Turns,
-    /// The server says something, which is not built yet.
+    /// The server says a frame of no length.
     Server,
 }
 
@@ -343,7 +347,7 @@ fn faulty(alloc: Global, fault: Fault) -> Result<Steps, OutOfMemory> {
         Fault::Opening => {}
         Fault::Reading => steps.push(Step::Fail(0))?,
         Fault::Turns => add_clients(&mut steps, 3)?,
-        Fault::Server => steps.push(Step::Bytes(0, Text::copy(alloc, b"\0")?))?,
+        Fault::Server => steps.push(Step::Bytes(0, Text::copy(alloc, b"\0\0\0\0")?))?,
     }
     Ok(steps)
 }
@@ -363,7 +367,11 @@ fn a_master_that_ends_badly_says_why_in_one_line(rt: HostRuntime) -> Result<(), 
             "ssh-mux: the transport failed\n",
         ),
         (Fault::Turns, Status::Spent, "ssh-mux: turns are spent\n"),
-        (Fault::Server, Status::NotBuilt, "ssh-mux: not built yet\n"),
+        (
+            Fault::Server,
+            Status::Broke,
+            "ssh-mux: server message 1: bad frame\n",
+        ),
     ] {
         let fails = failing_calls(alloc, fault)?;
         let wire = ScriptWire::new(alloc, faulty(alloc, fault)?, Writes::new(alloc), fails);

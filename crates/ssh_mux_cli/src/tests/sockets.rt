@@ -1,8 +1,10 @@
 // One run of the engine over a real control path.
-use mux_engine::{Engine, serve};
+use forward_rules::Policy;
+use mux_engine::serve;
 use mux_history::Ended;
 use mux_outside::{FileError, NoHouse, Wire};
 use mux_sockets::RealWire;
+use ssh_fields::Texts;
 use std::alloc::Global;
 use std::fs;
 use std::io::{Read, Write};
@@ -25,8 +27,10 @@ fn two_turns(
     wire.open(b"mux-run-control", b"./mux-run-server")?;
     let mut client = UnixStream::connect(rt, "mux-run-control").map_err(|_| FileError::Failed)?;
     client.write_all(ASKS).map_err(|_| FileError::Failed)?;
-    let mut engine = Engine::new(alloc, 42)?;
-    let ended = serve(alloc, &mut engine, wire, &mut NoHouse, 2);
+    let policy = Policy::read(alloc, &Texts::new(alloc), &Texts::new(alloc)).map_err(
+        |_| FileError::OutOfMemory,
+    )?;
+    let ended = serve(alloc, policy, 42, wire, &mut NoHouse, 2);
     Ok((ended, client))
 }
 

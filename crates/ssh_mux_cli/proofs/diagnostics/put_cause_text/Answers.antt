@@ -16,6 +16,3 @@ returns-in-TooManyLines c = rw c.in-TooManyLines.is c.add-in-TooManyLines.ensure
 
 pub returns-in-ReadFault : goal.returns-in-ReadFault
 returns-in-ReadFault c = rw c.in-ReadFault.is c.add-in-ReadFault.ensures.ok
-
-pub returns-in-NotBuilt : goal.returns-in-NotBuilt
-returns-in-NotBuilt c = rw c.in-NotBuilt.is c.add-in-NotBuilt.ensures.ok
