@@ -135,7 +135,8 @@ fn obey<W: Wire, F: Files, R: Runner, S: Sink, H: House>(
         (W.seen wire.old).told (W.seen wire.new).told result) }
     ensures wire_cause { OnTrue (may_share
         (of_words (machine (F.told files.old) (R.told runner.old) facts.now) words.now)
-        (so_far result)) (WireCause (so_far result) (W.server_faults wire.old) (W.server_faults wire.new)
+        (so_far result)) (WireCause (so_far result)
+        (W.server_faults wire.old) (W.server_faults wire.new)
         (W.client_faults wire.old) (W.client_faults wire.new)) }
     ensures calls { CallsEnd turns (so_far result) (W.calls wire.old) (W.calls wire.new) }
     ensures wire { OnFalse (may_share
