@@ -7,8 +7,6 @@ mod clients;
 mod engine;
 mod event;
 pub mod laws;
-#[cfg(test)]
-mod tests;
 
 pub use engine::Engine;
 pub use event::{Event, Went};

@@ -37,22 +37,12 @@ pub struct Shared {
 }
 
 /// A run of a master over this wire, for so many turns.
-fn share(alloc: Global, wire: ScriptWire, turns: u64) -> Result<Shared, OutOfMemory> {
-    share_by(alloc, SHARE, wire, turns)
-}
-
-/// The same by these words.
-fn share_by(
-    alloc: Global,
-    line: &str,
-    mut wire: ScriptWire,
-    turns: u64,
-) -> Result<Shared, OutOfMemory> {
+fn share(alloc: Global, mut wire: ScriptWire, turns: u64) -> Result<Shared, OutOfMemory> {
     let mut out = ListSink::new(alloc, Calls::new(alloc));
     let mut err = ListSink::new(alloc, Calls::new(alloc));
     let status = run(
         alloc,
-        &words(alloc, line)?,
+        &words(alloc, SHARE)?,
         &nobody(alloc),
         &mut wire,
         &mut MapFiles::new(alloc, Pairs::new(alloc), Calls::new(alloc)),
@@ -77,12 +67,6 @@ pub fn share_over(alloc: Global, steps: Steps, writes: Writes) -> Result<Shared,
         ScriptWire::new(alloc, steps, writes, Calls::new(alloc)),
         u64::MAX,
     )
-}
-
-/// A run by these words over these steps, in which no call fails.
-pub fn share_with(alloc: Global, line: &str, steps: Steps) -> Result<Shared, OutOfMemory> {
-    let wire = ScriptWire::new(alloc, steps, Writes::new(alloc), Calls::new(alloc));
-    share_by(alloc, line, wire, u64::MAX)
 }
 
 /// The byte at a place, where there is one, comes from a client.
