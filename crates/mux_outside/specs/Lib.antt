@@ -12,3 +12,4 @@ pub mod Sink
 pub mod Streams
 pub mod Tally
 pub mod Wire
+pub mod WireLog

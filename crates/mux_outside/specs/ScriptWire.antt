@@ -1,10 +1,10 @@
 -- How a wire in memory follows its script.
-use Rattle.std.specs.Prelude.{◌≡◌, ℕ, Bool, true, false, List, [], slice_index, Some, Result, Ok, Err}
+use Rattle.std.specs.Prelude.{◌≡◌, ℕ, Bool, true, false, List, slice_index, Result, Ok, Err}
 use Rattle.mux_outside.specs.Streams.{among}
 use Rattle.mux_outside.specs.declared.file_error.FileError.{FileError}
 use Rattle.mux_outside.specs.declared.file_error.FileError.TheVariants.{Failed, OutOfMemory}
 use Rattle.mux_outside.specs.Counts.{counted}
-use Rattle.mux_outside.specs.Seen.{Seen, no_calls}
+use Rattle.mux_outside.specs.WireLog.{nothing_logged}
 use Rattle.mux_outside.specs.Script.{is_given, from_first, turn_of, piece_of, steps_after, steps_from, entry_at, answer_of}
 use Rattle.mux_outside.specs.declared.script.Step.{Step}
 use Rattle.mux_outside.specs.declared.script.WriteEntry.{WriteEntry}
@@ -16,28 +16,18 @@ use Rattle.mux_outside.specs.declared.turn.Wrote.{Wrote}
 use Rattle.mux_outside.specs.declared.plan.Place.{Place}
 use Rattle.mux_outside.specs.declared.script_wire.ScriptWire.{ScriptWire}
 
--- what is seen of a wire in memory, which tells its marks
-abbrev pub seen_of : ScriptWire → Seen
-seen_of w = record {
-  told = Some w.marks.items;
-  streams = w.streams;
-  blocked = w.blocked;
-  listens = w.listening;
-  last = w.last;
-}
-
 -- the steps that are left
 abbrev pub steps_left : ScriptWire → List Step
 steps_left w = steps_from w.steps w.place
 
 -- the steps that are left without those that are skipped now
 abbrev pub steps_ahead : ScriptWire → List Step
-steps_ahead w = from_first (is_given w.listening w.last w.streams w.blocked) (steps_left w)
+steps_ahead w = from_first (is_given w.log.listens w.log.last w.log.streams w.log.blocked) (steps_left w)
 
 -- a turn is that of the next step that isn't skipped, and the place after it leaves those behind it
 pub record GivesStep (old : ScriptWire) (place : Place) (turn : Turn) (before after : List ℕ)
     : Type 0 where
-  pub turn_is : turn ≡ turn_of old.last (steps_ahead old)
+  pub turn_is : turn ≡ turn_of old.log.last (steps_ahead old)
   pub piece_is : after ≡ piece_of (steps_ahead old) before
   pub left_are : steps_from old.steps place ≡ steps_after (steps_ahead old)
 
@@ -101,11 +91,4 @@ pub record Starts (w : ScriptWire) (steps : List Step) (writes : List WriteEntry
   pub written_is : w.written ≡ 0
   pub fails_are : w.fails ≡ fails
   pub opens_are : w.opens ≡ 0
-  pub streams_are : w.streams ≡ []
-  pub blocked_are : w.blocked ≡ []
-  pub last_is : w.last ≡ 0
-  pub calls_are : w.calls ≡ no_calls
-  pub server_faults_are : w.server_faults ≡ 0
-  pub client_faults_are : w.client_faults ≡ 0
-  pub openings_are : w.openings.items ≡ []
-  pub marks_are : w.marks.items ≡ []
+  pub log_is : w.log ≡ nothing_logged

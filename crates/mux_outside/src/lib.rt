@@ -28,6 +28,7 @@ mod streams;
 mod tests;
 mod turn;
 mod wire;
+mod wire_log;
 
 pub use call_counts::CallCounts;
 pub use calls::Calls;
@@ -50,3 +51,4 @@ pub use statuses::{CommandStatus, Statuses};
 pub use streams::Streams;
 pub use turn::{Tally, Turn, Want, Wrote};
 pub use wire::Wire;
+pub use wire_log::WireLog;

@@ -10,9 +10,9 @@ use std::alloc::Global;
 // A call of `wait`, where it is allowed.
 fn turn(wire: &mut ScriptWire, waiting: &Streams, want: Want, into: &mut Piece) -> Option<Turn> {
     let streams = waiting.as_slice();
-    if !wire.streams().contains(0)
-        || !streams.iter().all(|t| wire.streams().contains(*t))
-        || !streams.iter().all(|t| wire.blocked().contains(*t))
+    if !wire.log().streams().contains(0)
+        || !streams.iter().all(|t| wire.log().streams().contains(*t))
+        || !streams.iter().all(|t| wire.log().blocked().contains(*t))
         || (want == Want::WriteOnly && streams.is_empty())
     {
         return None;
@@ -22,7 +22,10 @@ fn turn(wire: &mut ScriptWire, waiting: &Streams, want: Want, into: &mut Piece) 
 
 // A call of `write`, where it is allowed.
 fn write(wire: &mut ScriptWire, stream: u64, bytes: &[u8]) -> Option<Wrote> {
-    if !wire.streams().contains(stream) || wire.blocked().contains(stream) || bytes.is_empty() {
+    if !wire.log().streams().contains(stream)
+        || wire.log().blocked().contains(stream)
+        || bytes.is_empty()
+    {
         return None;
     }
     Some(wire.write(stream, bytes))
@@ -67,7 +70,7 @@ fn a_script_skips_what_cannot_happen_gives_pieces_and_ends(rt: HostRuntime) {
         Err(FileError::Failed)
     );
     assert_eq!(rt; wire.open(b"/run/mux", b"/run/server"), Ok(()));
-    assert_eq!(rt; wire.openings().len(), 2);
+    assert_eq!(rt; wire.log().openings().len(), 2);
 
     assert_eq!(rt; write(&mut wire, 0, b"hello"), Some(Wrote::Took(1)));
     assert_eq!(rt; write(&mut wire, 0, b"hello"), Some(Wrote::Took(2)));
@@ -81,7 +84,7 @@ fn a_script_skips_what_cannot_happen_gives_pieces_and_ends(rt: HostRuntime) {
     assert_eq!(rt; write(&mut wire, 0, b"hello"), Some(Wrote::Failed));
     assert_eq!(rt; write(&mut wire, 0, b"lo"), Some(Wrote::Took(2)));
     assert_eq!(rt;
-        wire.taken(0).expect(&rt, "memory").as_bytes(),
+        wire.log().taken(0).expect(&rt, "memory").as_bytes(),
         b"hhelo".as_slice()
     );
 
@@ -108,7 +111,7 @@ fn a_script_skips_what_cannot_happen_gives_pieces_and_ends(rt: HostRuntime) {
         turn(&mut wire, &waiting, Want::Read, &mut piece),
         Some(Turn::End(0))
     );
-    assert_eq!(rt; wire.marks().len(), 19);
+    assert_eq!(rt; wire.log().marks().len(), 19);
 }
 
 fn files(alloc: Global) -> Result<MapFiles, OutOfMemory> {

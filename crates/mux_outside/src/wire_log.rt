@@ -1,0 +1,245 @@
+// What a wire in memory keeps of its calls.
+ghost use Rattle.std.specs.Prelude.{◌≡◌, ◌++◌, IfOk, false, length};
+ghost use Rattle.mux_outside.specs.Marks.{bytes_taken as all_taken};
+ghost use Rattle.mux_outside.specs.Seen.{calls_after_wait, calls_after_write};
+ghost use Rattle.mux_outside.specs.Seen.{seen_after_close, seen_after_open, seen_after_turn, seen_after_write};
+ghost use Rattle.mux_outside.specs.Wire.{openings_of, OpenFaults, TurnFaults, WroteFaults, WroteFits};
+ghost use Rattle.mux_outside.specs.WireLog.{nothing_logged, seen_in, turn_kept, answer_kept, OpensAs};
+
+use crate::call_counts::CallCounts;
+use crate::counts::{count_fault, raised};
+use crate::file_error::FileError;
+use crate::mark::{Mark, Opening, bytes_taken};
+use crate::record::{record_wait, record_write};
+use crate::streams::Streams;
+use crate::turn::{Turn, Want, Wrote};
+use ssh_fields::{OutOfMemory, Text};
+use std::alloc::{AllocError, Global};
+use std::marker::Model;
+
+/// What a wire in memory keeps of its calls: all that a wire may tell, and what it counts.
+#[derive(Debug, Drop)]
+pub struct WireLog {
+    alloc: Global,
+    openings: Vec<Opening>,
+    marks: Vec<Mark>,
+    streams: Streams,
+    blocked: Streams,
+    listening: bool,
+    last: u64,
+    calls: CallCounts,
+    server_faults: u64,
+    client_faults: u64,
+}
+
+impl Model for WireLog {
+    ghost use Rattle.mux_outside.specs.WireLog.{Logged};
+
+    ghost Value = { Logged };
+
+    ghost view = { λ l. record {
+      openings = l.openings.items;
+      marks = l.marks.items;
+      streams = l.streams;
+      blocked = l.blocked;
+      listens = l.listening;
+      last = l.last;
+      calls = l.calls;
+      server_faults = l.server_faults;
+      client_faults = l.client_faults;
+    } };
+}
+
+impl WireLog {
+    /// The log of a wire that was never called.
+    pub fn new(alloc: Global) -> WireLog
+        ensures { result ≡ nothing_logged }
+    {
+        WireLog {
+            alloc,
+            openings: Vec::new(alloc),
+            marks: Vec::new(alloc),
+            streams: Streams::new(alloc),
+            blocked: Streams::new(alloc),
+            listening: false,
+            last: 0,
+            calls: CallCounts::new(),
+            server_faults: 0,
+            client_faults: 0,
+        }
+    }
+
+    /// The open streams, in the order in which they were opened.
+    pub fn streams(&self) -> &Streams
+        ensures { result.now ≡ self.now.streams }
+    {
+        &self.streams
+    }
+
+    /// The streams that take no bytes for now.
+    pub fn blocked(&self) -> &Streams
+        ensures { result.now ≡ self.now.blocked }
+    {
+        &self.blocked
+    }
+
+    /// Whether clients are accepted.
+    pub fn is_listening(&self) -> bool
+        ensures { result ≡ self.now.listens }
+    {
+        self.listening
+    }
+
+    /// The last client accepted, 0 before the first.
+    pub fn last(&self) -> u64
+        ensures { result ≡ self.now.last }
+    {
+        self.last
+    }
+
+    /// The marks so far.
+    pub fn marks(&self) -> &[Mark]
+        ensures { result.now ≡ self.now.marks }
+    {
+        self.marks.as_slice()
+    }
+
+    /// The arguments of the calls of `open` so far.
+    pub fn openings(&self) -> &[Opening]
+        ensures { result.now ≡ self.now.openings }
+    {
+        self.openings.as_slice()
+    }
+
+    /// All bytes that a stream took.
+    pub fn taken(&self, stream: u64) -> Result<Text, OutOfMemory>
+        ensures { IfOk result (λ bytes. bytes ≡ all_taken stream self.now.marks) }
+    {
+        bytes_taken(self.alloc, &self.marks, stream)
+    }
+
+    /// Keeps a call of `open` with these arguments, which succeeds or fails. After success the
+    /// server's stream alone is open, and clients are accepted; a failure counts as the server's.
+    pub fn opened(&mut self, control: &[u8], transport: &[u8], opens: bool) -> Result<(), FileError>
+        ensures opens { OpensAs opens result }
+        ensures openings { self.new.openings
+            ≡ self.old.openings ++ openings_of result control.now transport.now }
+        ensures seen { seen_in self.new ≡ seen_after_open result (seen_in self.old) }
+        ensures calls { self.new.calls ≡ self.old.calls }
+        ensures cause { OpenFaults result self.old.server_faults self.new.server_faults
+            self.old.client_faults self.new.client_faults }
+    {
+        let opening = Opening {
+            control: Text::copy(self.alloc, control)?,
+            transport: Text::copy(self.alloc, transport)?,
+        };
+        let mut streams = Streams::new(self.alloc);
+        streams.push(0)?;
+        if self.openings.push(opening).is_err() {
+            return Err(FileError::OutOfMemory);
+        }
+        if !opens {
+            self.server_faults = raised(self.server_faults);
+            return Err(FileError::Failed);
+        }
+        self.streams = streams;
+        self.blocked = Streams::new(self.alloc);
+        self.listening = true;
+        Ok(())
+    }
+
+    /// Keeps a call of `wait` that gives this turn, with the bytes that it gives. Where there is no
+    /// memory for it, the call is counted as one that found none.
+    pub fn waited(
+        &mut self,
+        turn: Turn,
+        waiting: &Streams,
+        want: Want,
+        bytes: &[u8],
+    ) -> Result<(), OutOfMemory>
+        ensures openings { self.new.openings ≡ self.old.openings }
+        ensures seen { seen_in self.new
+            ≡ seen_after_turn (turn_kept result turn) waiting.now want bytes.now (seen_in self.old) }
+        ensures calls { self.new.calls ≡ calls_after_wait (turn_kept result turn) self.old.calls }
+        ensures cause { TurnFaults (turn_kept result turn) self.old.server_faults
+            self.new.server_faults self.old.client_faults self.new.client_faults }
+    {
+        if record_wait(
+            self.alloc,
+            &mut self.marks,
+            &mut self.streams,
+            turn,
+            waiting,
+            want,
+            self.listening,
+            bytes,
+        )
+        .is_err()
+        {
+            self.calls.waited(Turn::NoMemory);
+            return Err(OutOfMemory);
+        }
+        self.calls.waited(turn);
+        match turn {
+            Turn::Accepted(client) => self.last = client,
+            Turn::Writable(stream) => self.blocked.remove(stream),
+            Turn::Failed(stream) => count_fault(
+                stream,
+                &mut self.server_faults,
+                &mut self.client_faults,
+            ),
+            _ => {}
+        }
+        Ok(())
+    }
+
+    /// Keeps a call of `write` that has this answer. Where there is no memory for it, the call is
+    /// counted as one that found none.
+    pub fn wrote(&mut self, wrote: Wrote, stream: u64, bytes: &[u8]) -> Result<(), OutOfMemory>
+        requires { WroteFits wrote (length bytes.now) }
+        ensures openings { self.new.openings ≡ self.old.openings }
+        ensures seen { seen_in self.new
+            ≡ seen_after_write (answer_kept result wrote) stream bytes.now (seen_in self.old) }
+        ensures calls { self.new.calls ≡ calls_after_write (answer_kept result wrote) self.old.calls }
+        ensures cause { WroteFaults (answer_kept result wrote) stream self.old.server_faults
+            self.new.server_faults self.old.client_faults self.new.client_faults }
+    {
+        if record_write(
+            self.alloc,
+            &mut self.marks,
+            &mut self.blocked,
+            wrote,
+            stream,
+            bytes,
+        )
+        .is_err()
+        {
+            self.calls.wrote(Wrote::NoMemory);
+            return Err(OutOfMemory);
+        }
+        self.calls.wrote(wrote);
+        if wrote == Wrote::Failed {
+            count_fault(stream, &mut self.server_faults, &mut self.client_faults);
+        }
+        Ok(())
+    }
+
+    /// Keeps that no more clients are accepted.
+    pub fn stop_listening(&mut self)
+        ensures { self.new ≡ record self.old { listens = false } }
+    {
+        self.listening = false;
+    }
+
+    /// Keeps that a stream was closed.
+    pub fn close(&mut self, stream: u64)
+        ensures seen { seen_in self.new ≡ seen_after_close stream (seen_in self.old) }
+        ensures openings { self.new.openings ≡ self.old.openings }
+        ensures calls { self.new.calls ≡ self.old.calls }
+        ensures server { self.new.server_faults ≡ self.old.server_faults }
+        ensures client { self.new.client_faults ≡ self.old.client_faults }
+    {
+        self.streams.remove(stream);
+        self.blocked.remove(stream);
+    }
+}
