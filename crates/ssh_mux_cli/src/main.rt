@@ -1,28 +1,16 @@
 //! ssh-mux: the settings of `ssh_config(5)` for a host, and the master of connection sharing
-//! (PROTOCOL.mux version 4). The program is `run`; `main` hands it its outside.
+//! (PROTOCOL.mux version 4). The program is `run` of ssh_mux; `main` hands it its outside.
 #![tactic(auto)]
 
-mod diagnostics;
-mod ending;
-mod listing;
 mod machine;
-mod master;
-mod report;
-mod run;
 mod standard;
-mod status;
-#[cfg(test)]
-mod tests;
 
-use ending::Ending;
 use machine::{facts_of, words_of};
 use mux_outside::NoHouse;
 use mux_sockets::{RealFiles, RealRunner, RealSink, RealWire};
-use report::report;
-use run::run;
 use ssh_fields::OutOfMemory;
+use ssh_mux::{Ending, Status, report, run};
 use standard::Standard;
-use status::Status;
 use std::process::ExitCode;
 
 fn main(rt: HostRuntime) -> ExitCode {

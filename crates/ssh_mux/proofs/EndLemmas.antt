@@ -1,0 +1,218 @@
+-- From what a run came to, and the line that was written of it, to how it ended.
+use Rattle.std.proofs.Common.{◌≡◌, ◌⊎◌, ◌&&◌, inl, inr, ℕ, Bool, true, false, List, Option, Result, Ok, Err, refl, sym, ap, subst, ◌∙◌}
+use Rattle.std.specs.Bool.{OnFalse, OnTrue}
+use Rattle.conf_rules.specs.Diagnostics.{Ending}
+use Rattle.conf_rules.specs.Outcome.{Ends, Writes, Opens, Drills}
+use Rattle.conf_rules.specs.Texts.{Bytes}
+use Rattle.mux_outside.specs.House.{Asked}
+use Rattle.mux_outside.specs.declared.house.HouseReply.{HouseReply}
+use Rattle.mux_outside.specs.declared.mark.Mark.{Mark}
+use Rattle.mux_outside.specs.declared.mark.Opening.{Opening}
+use Rattle.mux_history.specs.declared.ended.Ended.TheVariants as answers
+use Rattle.mux_history.specs.Policy.{Policy}
+use Rattle.mux_outside.specs.Seen.{Calls}
+use Rattle.ssh_mux.specs.declared.ending.Ending.{Ending as MeantEnding}
+use Rattle.ssh_mux.specs.declared.ending.Ending.TheVariants as endings
+use Rattle.ssh_mux.specs.declared.status.Status.{Status}
+use Rattle.ssh_mux.specs.declared.status.Status.TheVariants as statuses
+use Rattle.ssh_mux.specs.Answers.{IsDue, IsWell, is_silent, may_write, may_open, may_share}
+use Rattle.ssh_mux.specs.Causes.{EndCause, FaultCause, OutCause}
+use Rattle.ssh_mux.specs.Commands.{RunsFor}
+use Rattle.ssh_mux.specs.Ending.{shown}
+use Rattle.ssh_mux.specs.Err.{Reports, Ended}
+use Rattle.ssh_mux.specs.Out.{OutTakes}
+use Rattle.ssh_mux.specs.Outcomes.{Known, Certain, Listing, Master, opens}
+use Rattle.ssh_mux.specs.Master.{ends_sharing}
+use Rattle.ssh_mux.specs.Sharing.{CallsEnd, IsServed, IsShared, OpensOnce, Serves, Shares, TellsEnd, WireCause}
+use Rattle.ssh_mux.specs.Sharing.{told_as}
+use Rattle.ssh_mux.specs.Status.{status_of}
+use Rattle.ssh_mux.proofs.StillLemmas.{loud}
+use Rattle.ssh_mux.proofs.CauseLemmas.{fault-cause, fault-later, runs-starved}
+
+-- ---- the status of a run whose line was handed over
+
+-- it is that of want of memory, or that of its ending
+pub reported : (status : Status) (ending : Ending) (before now : Option (List ℕ)) (f f' : ℕ) → Reports status ending before now f f' → (status ≡ statuses.Memory) ⊎ (status ≡ status_of ending)
+reported statuses.Memory ending before now f f' r = inl refl
+reported status ending before now f f' r = inr r.0
+
+-- what holds of both holds of it
+pub carried : (P : Status → Type 0) (status : Status) (ending : Ending) → (status ≡ statuses.Memory) ⊎ (status ≡ status_of ending) → P statuses.Memory → P (status_of ending) → P status
+carried P status ending (inl e) memory held = subst P (sym e) memory
+carried P status ending (inr e) memory held = subst P (sym e) held
+
+-- ---- how it ended
+
+quiet : (status : Status) (ending : Ending) → is_silent status ≡ true → status ≡ status_of ending → ⊥
+quiet status ending silent e = let k : is_silent (status_of ending) ≡ true = subst (λ (s : Status). is_silent s ≡ true) e silent in let l = loud ending in absurd cc
+
+pub ended : (k : Known) (status : Status) (ending : Ending) (before now : Option (List ℕ)) (f f' files files' runner runner' : ℕ) → IsDue k ending → EndCause ending files files' runner runner' → Reports status ending before now f f' → Ended k status before now f f' files files' runner runner'
+ended k statuses.Done ending before now f f' files files' runner runner' due cause r = absurd (quiet statuses.Done ending refl r.0)
+ended k statuses.Write ending before now f f' files files' runner runner' due cause r = absurd (quiet statuses.Write ending refl r.0)
+ended k statuses.Memory ending before now f f' files files' runner runner' due cause r = r
+ended k status ending before now f f' files files' runner runner' due cause r = record { ending = ending; is_due = due; has_status = r.0; told = r.1; cause = cause }
+
+-- without a line
+pub ended-well : (k : Known) (status : Status) (before : Option (List ℕ)) (f files files' runner runner' : ℕ) → IsWell k status → Ended k status before before f f files files' runner runner'
+ended-well k statuses.Done before f files files' runner runner' h = (h, refl)
+ended-well k statuses.Write before f files files' runner runner' h = (h, refl)
+ended-well k status before f files files' runner runner' h = absurd h
+
+pub well-cause : (k : Known) (status : Status) (f f' r r' : ℕ) → IsWell k status → (f' ≡ f) × (r' ≡ r) → FaultCause status f f' r r'
+well-cause k statuses.Done f f' r r' w h = h
+well-cause k statuses.Write f f' r r' w h = h
+well-cause k status f f' r r' w h = absurd w
+
+-- ---- what else holds of it
+
+unwritten : (status : Status) (k : Known) (before now : Option (List ℕ)) → is_silent status ≡ false → OutTakes status k before now → now ≡ before
+unwritten statuses.Done k before now e t = absurd cc
+unwritten statuses.Write k before now e t = absurd cc
+unwritten status k before now e t = t
+
+pub out_after : (k : Known) (status : Status) (ending : Ending) (b n : Option (List ℕ)) (f f' : ℕ) (before now : Option (List ℕ)) → Reports status ending b n f f' → OutTakes (status_of ending) k before now → OutTakes status k before now
+out_after k status ending b n f f' before now r t = carried (λ s. OutTakes s k before now) status ending (reported status ending b n f f' r) (unwritten (status_of ending) k before now (loud ending) t) t
+
+pub untouched_after : (P : Type 0) (status : Status) (ending : Ending) (b n : Option (List ℕ)) (f f' : ℕ) → Reports status ending b n f f' → OnFalse (may_write (status_of ending)) P → OnFalse (may_write status) P
+untouched_after P status ending b n f f' r h = carried (λ s. OnFalse (may_write s) P) status ending (reported status ending b n f f' r) tt h
+
+pub fault_after : (status : Status) (ending : Ending) (b n : Option (List ℕ)) (f f' files files' runner runner' : ℕ) → Reports status ending b n f f' → EndCause ending files files' runner runner' → FaultCause status files files' runner runner'
+fault_after status ending b n f f' files files' runner runner' r c =
+    let held = fault-cause ending files files' runner runner' c in
+    carried (λ s. FaultCause s files files' runner runner') status ending (reported status ending b n f f' r) (fault-later (status_of ending) files files' runner runner' held) held
+
+pub runs_after : (commands : Option (List Bytes)) (status : Status) (ending : Ending) (b n : Option (List ℕ)) (f f' : ℕ) (before now : Option (List Bytes)) → Reports status ending b n f f' → RunsFor commands (status_of ending) before now → RunsFor commands status before now
+runs_after commands status ending b n f f' before now r h = carried (λ s. RunsFor commands s before now) status ending (reported status ending b n f f' r) (runs-starved commands (status_of ending) before now h) h
+
+unraised : (status : Status) (before now : ℕ) → is_silent status ≡ false → OutCause status before now → now ≡ before
+unraised statuses.Write before now e c = absurd cc
+unraised status before now e c = c
+
+pub sink_after : (status : Status) (ending : Ending) (b n : Option (List ℕ)) (f f' before now : ℕ) → Reports status ending b n f f' → OutCause (status_of ending) before now → OutCause status before now
+sink_after status ending b n f f' before now r c = carried (λ s. OutCause s before now) status ending (reported status ending b n f f' r) (unraised (status_of ending) before now (loud ending) c) c
+
+-- ---- the wire
+
+unopened : (k : Known) (status : Status) (before now : Option (List Opening)) → OpensOnce k status before now → OpensOnce k statuses.Memory before now
+unopened (Certain (Opens control transport os ls)) statuses.Memory before now h = h
+unopened (Certain (Opens control transport os ls)) statuses.Outside before now h = inl h
+unopened (Certain (Opens control transport os ls)) status before now h = inr h
+unopened (Certain (Ends ending)) status before now h = h
+unopened (Certain (Writes text)) status before now h = h
+unopened (Certain (Drills seed clients messages)) status before now h = h
+unopened Listing status before now h = h
+unopened (Master transport os ls) statuses.Memory before now h = h
+unopened (Master transport os ls) statuses.Config before now h = inl h
+unopened (Master transport os ls) statuses.Outside before now h = inl h
+unopened (Master transport os ls) status before now h = inr h
+
+pub opened_after : (k : Known) (status : Status) (ending : Ending) (b n : Option (List ℕ)) (f f' : ℕ) (before now : Option (List Opening)) → Reports status ending b n f f' → OpensOnce k (status_of ending) before now → OpensOnce k status before now
+opened_after k status ending b n f f' before now r h = carried (λ s. OpensOnce k s before now) status ending (reported status ending b n f f' r) (unopened k (status_of ending) before now h) h
+
+module _ (May : HouseReply → Type 0) (policy : Policy) (pid turns : ℕ) (before now : Option (List Asked)) (start told : Option (List Mark)) (b n : Option (List ℕ)) (f f' : ℕ) where
+  abbrev Served : Status → Type 0
+  Served status = Serves May policy pid turns before now start told status b n f f'
+
+  abbrev Shared : Result Status MeantEnding → Type 0
+  Shared result = Shares May policy pid turns before now start told result
+
+  -- an end with the line that was handed over
+  with-line : (meant : MeantEnding) (status : Status) → IsShared May policy pid turns before now start told (Err meant) → Reports status (shown meant) b n f f' → IsServed May policy pid turns before now start told status b n f f'
+  with-line meant status h r = record { answer = h.answer; run = h.run; line = subst (λ x. TellsEnd x status b n f f') h.is_told r }
+
+  memory-serves : (meant : MeantEnding) → Shared (Err meant) → Reports statuses.Memory (shown meant) b n f f' → Served statuses.Memory
+  memory-serves endings.NotOpened h r = inl h
+  memory-serves endings.NoMemory (inl h) r = inl h
+  memory-serves endings.NoMemory (inr h) r = inr (with-line endings.NoMemory statuses.Memory h r)
+  memory-serves meant h r = inr (with-line meant statuses.Memory h r)
+
+  -- no run ends as words and configurations do
+  none-ends : (meant : MeantEnding) → ends_sharing meant ≡ false → IsShared May policy pid turns before now start told (Err meant) → ⊥
+  none-ends meant e h = by_end h.answer h.is_told
+    where
+      by_end : (x : Rattle.mux_history.specs.declared.ended.Ended.Ended) → Err meant ≡ told_as x → ⊥
+      by_end answers.ServerEnd t = absurd cc
+      by_end answers.Disconnected t = absurd cc
+      by_end (answers.Terminated client id) t = absurd cc
+      by_end answers.ServerFailed t = let m : meant ≡ endings.TransportFailed = cc in let z : ends_sharing meant ≡ true = ap ends_sharing m in absurd cc
+      by_end (answers.Broke index why) t = let m : meant ≡ endings.ServerBroke index why = cc in let z : ends_sharing meant ≡ true = ap ends_sharing m in absurd cc
+      by_end answers.Spent t = let m : meant ≡ endings.TurnsSpent = cc in let z : ends_sharing meant ≡ true = ap ends_sharing m in absurd cc
+      by_end answers.OutOfMemory t = let m : meant ≡ endings.NoMemory = cc in let z : ends_sharing meant ≡ true = ap ends_sharing m in absurd cc
+
+  own-serves : (meant : MeantEnding) → Shared (Err meant) → Reports (status_of (shown meant)) (shown meant) b n f f' → Served (status_of (shown meant))
+  own-serves endings.NotOpened h r = h
+  own-serves endings.NoMemory h r = memory-serves endings.NoMemory h r
+  own-serves endings.TransportFailed h r = with-line endings.TransportFailed statuses.Transport h r
+  own-serves (endings.ServerBroke index why) h r = with-line (endings.ServerBroke index why) statuses.Broke h r
+  own-serves endings.TurnsSpent h r = with-line endings.TurnsSpent statuses.Spent h r
+  own-serves (endings.BadWords e) h r = absurd (none-ends (endings.BadWords e) refl h)
+  own-serves (endings.BadLine file line cause) h r = absurd (none-ends (endings.BadLine file line cause) refl h)
+  own-serves (endings.BadListing key error) h r = absurd (none-ends (endings.BadListing key error) refl h)
+  own-serves endings.NoControlPath h r = absurd (none-ends endings.NoControlPath refl h)
+  own-serves endings.NotServed h r = absurd (none-ends endings.NotServed refl h)
+
+  -- with the status that came of it
+  serves-by : (meant : MeantEnding) (status : Status) → (status ≡ statuses.Memory) ⊎ (status ≡ status_of (shown meant)) → Shared (Err meant) → Reports status (shown meant) b n f f' → Served status
+  serves-by meant status (inl e) h r = subst Served (sym e) (memory-serves meant h (subst (λ s. Reports s (shown meant) b n f f') e r))
+  serves-by meant status (inr e) h r = subst Served (sym e) (own-serves meant h (subst (λ s. Reports s (shown meant) b n f f') e r))
+
+  -- a wire that wasn't touched is served by nobody
+  memory-by : (opened shares : Bool) (meant : MeantEnding) → OnTrue (opened && shares) (Shared (Err meant)) → OnFalse (opened && shares) (told ≡ start) → OnFalse (opened && shares) (now ≡ before) → Reports statuses.Memory (shown meant) b n f f' → OnTrue shares (Served statuses.Memory)
+  memory-by opened false meant h w g r = tt
+  memory-by true true meant h w g r = memory-serves meant h r
+  memory-by false true meant h w g r = inl (record { same_wire = w; same_house = g })
+
+  own-by : (b' : Bool) (meant : MeantEnding) → OnTrue b' (Shared (Err meant)) → Reports (status_of (shown meant)) (shown meant) b n f f' → OnTrue b' (Served (status_of (shown meant)))
+  own-by false meant h r = tt
+  own-by true meant h r = own-serves meant h r
+
+  shared-by : (k : Known) (status : Status) (meant : MeantEnding) → (status ≡ statuses.Memory) ⊎ (status ≡ status_of (shown meant)) → Reports status (shown meant) b n f f' → OnTrue (may_share k (status_of (shown meant))) (Shared (Err meant)) → OnFalse (may_share k (status_of (shown meant))) (told ≡ start) → OnFalse (may_share k (status_of (shown meant))) (now ≡ before) → OnTrue (may_share k status) (Served status)
+  shared-by k status meant (inl e) r h w g = subst (λ s. OnTrue (may_share k s) (Served s)) (sym e) (memory-by (may_open (status_of (shown meant))) (opens k) meant h w g (subst (λ s. Reports s (shown meant) b n f f') e r))
+  shared-by k status meant (inr e) r h w g = subst (λ s. OnTrue (may_share k s) (Served s)) (sym e) (own-by (may_share k (status_of (shown meant))) meant h (subst (λ s. Reports s (shown meant) b n f f') e r))
+
+  pub shared_after : (k : Known) (status : Status) (meant : MeantEnding) → Reports status (shown meant) b n f f' → OnTrue (may_share k (status_of (shown meant))) (Shared (Err meant)) → OnFalse (may_share k (status_of (shown meant))) (told ≡ start) → OnFalse (may_share k (status_of (shown meant))) (now ≡ before) → OnTrue (may_share k status) (Served status)
+  shared_after k status meant r h w g = shared-by k status meant (reported status (shown meant) b n f f' r) r h w g
+
+-- an end without a line
+done-is : (status : Status) (x : Rattle.mux_history.specs.declared.ended.Ended.Ended) → Ok status ≡ told_as x → status ≡ statuses.Done
+done-is status answers.ServerEnd t = cc
+done-is status answers.Disconnected t = cc
+done-is status (answers.Terminated client id) t = cc
+done-is status answers.ServerFailed t = absurd cc
+done-is status (answers.Broke index why) t = absurd cc
+done-is status answers.Spent t = absurd cc
+done-is status answers.OutOfMemory t = absurd cc
+
+shared-well-now : (May : HouseReply → Type 0) (policy : Policy) (pid turns : ℕ) (before now : Option (List Asked)) (start told : Option (List Mark)) (b : Option (List ℕ)) (f : ℕ) (status : Status) → IsShared May policy pid turns before now start told (Ok status) → Serves May policy pid turns before now start told status b b f f
+shared-well-now May policy pid turns before now start told b f status h =
+    let e : status ≡ statuses.Done = done-is status h.answer h.is_told in
+    subst (λ s. Serves May policy pid turns before now start told s b b f f) (sym e)
+    (record { answer = h.answer; run = h.run; line = subst (λ x. TellsEnd x statuses.Done b b f f) (ap (λ (s : Status). Ok s) (sym e) ∙ h.is_told) (refl, refl) })
+
+pub shared_well : (May : HouseReply → Type 0) (policy : Policy) (pid turns : ℕ) (before now : Option (List Asked)) (start told : Option (List Mark)) (b : Option (List ℕ)) (f : ℕ) (shares : Bool) (status : Status) → OnTrue shares (IsShared May policy pid turns before now start told (Ok status)) → OnTrue shares (Serves May policy pid turns before now start told status b b f f)
+shared_well May policy pid turns before now start told b f false status h = tt
+shared_well May policy pid turns before now start told b f true status h = shared-well-now May policy pid turns before now start told b f status h
+
+pub calls_after : (turns : ℕ) (status : Status) (ending : Ending) (b n : Option (List ℕ)) (f f' : ℕ) (old calls : Calls) → Reports status ending b n f f' → CallsEnd turns (status_of ending) old calls → CallsEnd turns status old calls
+calls_after turns status ending b n f f' old calls r h = carried (λ s. CallsEnd turns s old calls) status ending (reported status ending b n f f' r) (record { few = h.few; wants = h.wants; starved = λ ne. refl; late = h.late }) h
+
+on-memory : (b : Bool) → OnTrue b Unit
+on-memory true = tt
+on-memory false = tt
+
+pub wire_after : (k : Known) (status : Status) (ending : Ending) (b n : Option (List ℕ)) (f f' s s' c c' : ℕ) → Reports status ending b n f f' → OnTrue (may_share k (status_of ending)) (WireCause (status_of ending) s s' c c') → OnTrue (may_share k status) (WireCause status s s' c c')
+wire_after k status ending b n f f' s s' c c' r h = carried (λ x. OnTrue (may_share k x) (WireCause x s s' c c')) status ending (reported status ending b n f f' r) (on-memory (opens k)) h
+
+unshared : (opened shares : Bool) (P : Type 0) → OnFalse (opened && shares) P → OnFalse shares P
+unshared true shares P h = h
+unshared false true P h = tt
+unshared false false P h = h
+
+-- what stays where nothing may have been shared
+pub stays_after : (k : Known) (P : Type 0) (status : Status) (ending : Ending) (b n : Option (List ℕ)) (f f' : ℕ) → Reports status ending b n f f' → OnFalse (may_share k (status_of ending)) P → OnFalse (may_share k status) P
+stays_after k P status ending b n f f' r h = carried (λ s. OnFalse (may_share k s) P) status ending (reported status ending b n f f' r) (unshared (may_open (status_of ending)) (opens k) P h) h
+
+-- what is told of what stays
+pub same_told : {X Y : Type 0} (b : Bool) (told : X → Y) (before now : X) → OnFalse b (now ≡ before) → OnFalse b (told now ≡ told before)
+same_told true told before now h = tt
+same_told false told before now h = ap told h

@@ -1,0 +1,51 @@
+-- A listing that was found and handed over.
+use Rattle.std.proofs.Common.{◌≡◌, ◌⊎◌, inl, inr, ℕ, true, List, Option, Result, Ok, Err, refl, sym, subst}
+use Rattle.conf_rules.specs.declared.causes.Cause.TheVariants.{ReadFault, RunFault}
+use Rattle.conf_rules.specs.declared.causes.ResolveError.TheVariants.{At}
+use Rattle.conf_rules.specs.Diagnostics as ends
+use Rattle.conf_rules.specs.Diagnostics.{Ending}
+use Rattle.conf_rules.specs.Outcome.{Writes}
+use Rattle.conf_rules.specs.Texts.{Bytes}
+use Rattle.ssh_mux.specs.declared.ending.Ending.{Ending as MeantEnding}
+use Rattle.ssh_mux.specs.declared.status.Status.{Status}
+use Rattle.ssh_mux.specs.declared.status.Status.TheVariants as statuses
+use Rattle.ssh_mux.specs.Answers.{IsDue, IsWell, Comes}
+use Rattle.ssh_mux.specs.Ending.{shown}
+use Rattle.ssh_mux.specs.Out.{OutTakes}
+use Rattle.ssh_mux.specs.Outcomes.{Known, Certain, Listing, lists}
+
+-- what was found of a listing
+abbrev pub IsListing : Known → Bytes → Type 0
+IsListing k text = (k ≡ Certain (Writes text)) ⊎ (k ≡ Listing)
+
+well : (text : Bytes) (status : Status) → IsWell (Certain (Writes text)) status → IsWell Listing status
+well text statuses.Done h = refl
+well text statuses.Write h = refl
+well text status h = h
+
+due : (text : Bytes) (ending : Ending) → IsDue (Certain (Writes text)) ending → IsDue Listing ending
+due text ends.NoMemory h = tt
+due text (ends.BadLine (At file line ReadFault)) h = refl
+due text (ends.BadLine (At file line RunFault)) h = refl
+due text ending h = absurd h
+
+some-comes : (text : Bytes) (result : Result Status MeantEnding) → Comes (Certain (Writes text)) result → Comes Listing result
+some-comes text (Ok status) h = well text status h
+some-comes text (Err ending) h = due text (shown ending) h
+
+some-taken : (text : Bytes) (status : Status) (before now : Option (List ℕ)) → OutTakes status (Certain (Writes text)) before now → OutTakes status Listing before now
+some-taken text statuses.Done before now h = tt
+some-taken text statuses.Write before now h = tt
+some-taken text status before now h = h
+
+pub list-comes : (k : Known) (text : Bytes) (result : Result Status MeantEnding) → IsListing k text → Comes (Certain (Writes text)) result → Comes k result
+list-comes k text result (inl e) h = subst (λ x. Comes x result) (sym e) h
+list-comes k text result (inr e) h = subst (λ x. Comes x result) (sym e) (some-comes text result h)
+
+pub list-taken : (k : Known) (text : Bytes) (status : Status) (before now : Option (List ℕ)) → IsListing k text → OutTakes status (Certain (Writes text)) before now → OutTakes status k before now
+list-taken k text status before now (inl e) h = subst (λ x. OutTakes status x before now) (sym e) h
+list-taken k text status before now (inr e) h = subst (λ x. OutTakes status x before now) (sym e) (some-taken text status before now h)
+
+pub list-lists : (k : Known) (text : Bytes) → IsListing k text → lists k ≡ true
+list-lists k text (inl e) = subst (λ x. lists x ≡ true) (sym e) refl
+list-lists k text (inr e) = subst (λ x. lists x ≡ true) (sym e) refl

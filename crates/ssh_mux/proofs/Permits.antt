@@ -1,0 +1,188 @@
+-- Words that are read give lists that a policy reads.
+use Rattle.std.proofs.Common.{◌≡◌, ℕ, ◌+◌, Bool, true, false, List, [], ◌∷◌, length, Option, Some, None, Result, Ok, Err, refl, sym, subst, ◌∙◌}
+use Rattle.std.specs.Prelude.{◌||◌, nat_lt, if◌then◌else◌, bytes_eq, codes, is_some}
+use Rattle.conf_rules.specs.declared.asked.Asked.{Asked}
+use Rattle.conf_rules.specs.declared.command.Command.TheVariants as commands
+use Rattle.conf_rules.specs.declared.usage.UsageError.{UsageError}
+use Rattle.conf_rules.specs.declared.usage.Usage.TheVariants.{BadEntry, OnlyForMaster}
+use Rattle.conf_rules.specs.Results.{◌>>=◌}
+use Rattle.conf_rules.specs.Texts.{Bytes}
+use Rattle.conf_rules.specs.Options.{Mode, Listing, Master, Step, Free}
+use Rattle.conf_rules.specs.Permissions.{PermitWord, is_alone, is_entry, first_not_entry, bad_entry, earlier}
+use Rattle.conf_rules.specs.CommandLine.{ReadCommand, refused, Walk, walk_from, steps_from, walked, not_for_listing, first_mode, host_in, transport_in, command_of, command_with, host_command, master_of, permitted, permits, texts_of, asked_of}
+use Rattle.conf_rules.specs.Reading.{reading, drill_of, drill_number, seed_limit, no_more}
+use Rattle.mux_history.specs.Policy.{Allow, Anything, Entries, Entry, Policy, read_entry, read_entries, read_word, read_list}
+use Rattle.forward_rules.specs.Allows.{read_policy, read_listens}
+use Rattle.ssh_mux.proofs.PermitWords.{entry-same}
+
+-- ---- lists
+
+-- the entries of texts are read
+abbrev AreRead : ℕ → List Bytes → Type 0
+AreRead at texts = (entries : List Entry) × (read_entries at texts ≡ Ok entries)
+
+-- one more entry in front
+more-read : (at : ℕ) (text : Bytes) (texts : List Bytes) → is_some (read_entry text) ≡ true → AreRead (at + 1) texts → AreRead at (text ∷ texts)
+more-read at text texts good rest = by_case (read_entry text) refl good
+  where
+    by_case : (o : Option Entry) → read_entry text ≡ o → is_some o ≡ true → AreRead at (text ∷ texts)
+    by_case None e h = absurd cc
+    by_case (Some entry) e h = (entry ∷ rest.0, rw (e, rest.1, read_entries) refl)
+
+-- texts of which none is no entry
+entries-read : (at : ℕ) (es : List PermitWord) → first_not_entry es ≡ None → AreRead at (texts_of es)
+entries-read at [] good = ([], refl)
+entries-read at (e ∷ es) good = by_case (entries-read (at + 1) es) (is_entry e.text) refl good
+  where
+    by_case : (first_not_entry es ≡ None → AreRead (at + 1) (texts_of es)) → (t : Bool) → is_entry e.text ≡ t → (if t then first_not_entry es else Some e.word) ≡ None → AreRead at (texts_of (e ∷ es))
+    by_case later true word h = more-read at e.text (texts_of es) (sym (entry-same e.text) ∙ word) (later h)
+    by_case later false word h = absurd cc
+
+-- a list is read
+abbrev IsRead : List Bytes → Type 0
+IsRead texts = (allow : Allow) × (read_list texts ≡ Ok allow)
+
+-- a text that stands alone is a word
+alone-word : (text : Bytes) → is_alone text ≡ is_some (read_word text)
+alone-word text = by_case (bytes_eq text (codes "any")) (bytes_eq text (codes "none"))
+  where
+    by_case : (any none : Bool) → (any || none) ≡ is_some (elim any as (λ _. Option Allow) [ true ↦ Some Anything | false ↦ elim none [ true ↦ Some (Entries []) | false ↦ None ] ])
+    by_case true none = refl
+    by_case false true = refl
+    by_case false false = refl
+
+-- a list of one text that stands alone
+word-read : (text : Bytes) → is_alone text ≡ true → IsRead (text ∷ [])
+word-read text alone = by_case (read_word text) refl (sym (alone-word text) ∙ alone)
+  where
+    by_case : (o : Option Allow) → read_word text ≡ o → is_some o ≡ true → IsRead (text ∷ [])
+    by_case None e h = absurd cc
+    by_case (Some allow) e h = (allow, rw (e, read_list) refl)
+
+-- a list of entries, of which the first is no such text
+texts-read : (text : Bytes) (texts : List Bytes) → is_alone text ≡ false → AreRead 0 (text ∷ texts) → IsRead (text ∷ texts)
+texts-read text texts other entries = by_case (read_word text) refl (sym (alone-word text) ∙ other)
+  where
+    by_case : (o : Option Allow) → read_word text ≡ o → is_some o ≡ false → IsRead (text ∷ texts)
+    by_case None e h = (Entries entries.0, rw (e, entries.1, read_list) refl)
+    by_case (Some allow) e h = absurd cc
+
+-- a list without a bad text is read
+list-read : (es : List PermitWord) → bad_entry es ≡ None → IsRead (texts_of es)
+list-read [] good = (Anything, refl)
+list-read (e ∷ []) good = by_case (is_alone e.text) refl good
+  where
+    by_case : (t : Bool) → is_alone e.text ≡ t → (if t then None else first_not_entry (e ∷ [])) ≡ None → IsRead (e.text ∷ [])
+    by_case true alone h = word-read e.text alone
+    by_case false alone h = texts-read e.text [] alone (entries-read 0 (e ∷ []) h)
+list-read (e ∷ f ∷ es) good = by_case (is_alone e.text) refl good
+  where
+    by_case : (t : Bool) → is_alone e.text ≡ t → (if t then Some f.word else first_not_entry (e ∷ f ∷ es)) ≡ None → IsRead (texts_of (e ∷ f ∷ es))
+    by_case true alone h = absurd cc
+    by_case false alone h = texts-read e.text (texts_of (f ∷ es)) alone (entries-read 0 (e ∷ f ∷ es) h)
+
+-- both lists make a policy
+policy-read : (opens listens : List Bytes) → IsRead opens → IsRead listens → (policy : Policy) × (read_policy opens listens ≡ Ok policy)
+policy-read opens listens opened listened = (record { opens = opened.0; listens = listened.0 }, rw (opened.1, listened.1, read_policy, read_listens) refl)
+
+-- ---- the permissions of words that are read
+
+-- the lists are those of steps, and have no bad text
+record ArePermitted (opens listens : List Bytes) : Type 0 where
+  steps : List Step
+  good_opens : bad_entry (permits false steps) ≡ None
+  good_listens : bad_entry (permits true steps) ≡ None
+  are_opens : texts_of (permits false steps) ≡ opens
+  are_listens : texts_of (permits true steps) ≡ listens
+
+-- the lists of a master that was read
+abbrev OfMaster : ReadCommand → Type 0
+OfMaster (Ok (commands.Master asked transport opens listens)) = ArePermitted opens listens
+OfMaster read = Unit {0}
+
+none-earlier : (a b : Option ℕ) → earlier a b ≡ None → (a ≡ None) × (b ≡ None)
+none-earlier None None e = (refl, refl)
+none-earlier None (Some b) e = absurd cc
+none-earlier (Some a) None e = absurd cc
+none-earlier (Some a) (Some b) e = absurd (by_case (nat_lt a b) e)
+  where
+    by_case : (t : Bool) → (if t then Some a else Some b) ≡ None → ⊥
+    by_case true e = cc
+    by_case false e = cc
+
+-- the lists of sound steps
+permitted-master : (steps : List Step) (asked : Asked) (transport : Bytes) → OfMaster (permitted steps (commands.Master asked transport (texts_of (permits false steps)) (texts_of (permits true steps))))
+permitted-master steps asked transport = by_case (earlier (bad_entry (permits false steps)) (bad_entry (permits true steps))) refl
+  where
+    by_case : (o : Option ℕ) → earlier (bad_entry (permits false steps)) (bad_entry (permits true steps)) ≡ o
+        → OfMaster (elim o as (λ _. ReadCommand) [ Some word ↦ refused word BadEntry | None ↦ Ok (commands.Master asked transport (texts_of (permits false steps)) (texts_of (permits true steps))) ])
+    by_case (Some word) e = tt
+    by_case None e =
+        let good = none-earlier (bad_entry (permits false steps)) (bad_entry (permits true steps)) e in
+        record { steps = steps; good_opens = good.0; good_listens = good.1; are_opens = refl; are_listens = refl }
+
+command-master : (n : ℕ) (steps : List Step) → OfMaster (command_of n steps)
+unfolding command_of
+command-master n steps = by_mode (first_mode steps)
+  where
+    by_transport : (host : Bytes) (transport : Option Bytes) → OfMaster (master_of n host steps transport)
+    by_transport host None = tt
+    by_transport host (Some t) = permitted-master steps (asked_of host steps) t
+
+    by_host : (mode : Mode) (host : Option Bytes) → OfMaster (host_command n steps mode host)
+    by_host mode None = tt
+    by_host Listing (Some host) = tt
+    by_host Master (Some host) = by_transport host (transport_in None steps)
+
+    by_mode : (mode : Option Mode) → OfMaster (command_with n steps mode)
+    by_mode None = tt
+    by_mode (Some mode) = by_host mode (host_in steps)
+
+walked-master : (n : ℕ) (walk : Walk) → OfMaster (walked n walk)
+walked-master n walk = by_word (not_for_listing (first_mode walk.sound) walk.sound)
+  where
+    by_fault : (fault : Option UsageError) → OfMaster (elim fault as (λ _. ReadCommand) [ Some e ↦ Err e | None ↦ command_of n walk.sound ])
+    by_fault (Some e) = tt
+    by_fault None = command-master n walk.sound
+
+    by_word : (word : Option ℕ) → OfMaster (elim word as (λ _. ReadCommand) [ Some word ↦ refused word OnlyForMaster | None ↦ elim walk.fault [ Some e ↦ Err e | None ↦ command_of n walk.sound ] ])
+    by_word (Some word) = tt
+    by_word None = by_fault walk.fault
+
+-- behind a reading
+then-master : {X : Type 0} (read : Result X UsageError) (next : X → ReadCommand) → ((x : X) → OfMaster (next x)) → OfMaster (read >>= next)
+then-master (Ok x) next each = each x
+then-master (Err e) next each = tt
+
+-- a drill is no master
+drill-master : (words : List Bytes) → OfMaster (drill_of words)
+unfolding drill_of
+drill-master [] = tt
+drill-master (seed ∷ []) = tt
+drill-master (seed ∷ clients ∷ []) = tt
+drill-master (seed ∷ clients ∷ messages ∷ more) =
+    then-master (drill_number 2 0 seed_limit seed) (λ s. drill_number 3 1 64 clients >>= λ c. drill_number 4 0 100000 messages >>= λ m. no_more more (commands.Drill s c m)) λ s.
+    then-master (drill_number 3 1 64 clients) (λ c. drill_number 4 0 100000 messages >>= λ m. no_more more (commands.Drill s c m)) λ c.
+    then-master (drill_number 4 0 100000 messages) (λ m. no_more more (commands.Drill s c m)) λ m. by_more s c m more
+  where
+    by_more : (seed clients messages : ℕ) (words : List Bytes) → OfMaster (no_more words (commands.Drill seed clients messages))
+    by_more seed clients messages [] = tt
+    by_more seed clients messages (w ∷ ws) = tt
+
+reading-master : (words : List Bytes) → OfMaster (reading words)
+unfolding reading
+reading-master [] = walked-master 0 (walk_from None false [])
+reading-master (w ∷ ws) = by_case (bytes_eq w (codes "--drill"))
+  where
+    by_case : (t : Bool) → OfMaster (if t then drill_of ws else walked (length (w ∷ ws)) (walk_from None false (steps_from 1 Free (w ∷ ws))))
+    by_case true = drill-master ws
+    by_case false = walked-master (length (w ∷ ws)) (walk_from None false (steps_from 1 Free (w ∷ ws)))
+
+-- words that are read give lists that a policy reads
+pub permits-read : (words : List Bytes) (asked : Asked) (transport : Bytes) (opens listens : List Bytes) → reading words ≡ Ok (commands.Master asked transport opens listens)
+    → (policy : Policy) × (read_policy opens listens ≡ Ok policy)
+permits-read words asked transport opens listens e =
+    let known : ArePermitted opens listens = subst OfMaster e (reading-master words) in
+    let opened : IsRead opens = subst IsRead known.are_opens (list-read (permits false known.steps) known.good_opens) in
+    let listened : IsRead listens = subst IsRead known.are_listens (list-read (permits true known.steps) known.good_listens) in
+    policy-read opens listens opened listened

@@ -1,0 +1,220 @@
+-- From a resolution and what is listed of it to what comes of a command.
+use Rattle.std.proofs.Common.{◌≡◌, ◌⊎◌, inl, inr, ℕ, true, false, List, Option, Some, None, Result, Ok, Err, refl, sym, ap, subst, ◌∙◌}
+use Rattle.std.specs.Prelude.{IsTrue}
+use Rattle.conf_rules.specs.declared.asked.Asked.{Asked}
+use Rattle.conf_rules.specs.declared.command.Command.TheVariants as commands
+use Rattle.conf_rules.specs.declared.key.TheConstants.{LISTING_ORDER}
+use Rattle.conf_rules.specs.declared.causes.Cause.{Cause}
+use Rattle.conf_rules.specs.declared.causes.Cause.TheVariants.{ReadFault, RunFault}
+use Rattle.conf_rules.specs.declared.causes.ListError.{ListError}
+use Rattle.conf_rules.specs.declared.causes.ListError.TheVariants as list_errors
+use Rattle.conf_rules.specs.declared.causes.ResolveError.{ResolveError}
+use Rattle.conf_rules.specs.declared.causes.ResolveError.TheVariants as errors
+use Rattle.conf_rules.specs.Diagnostics.{Ending, BadLine, BadListing, NoControlPath, is_fault}
+use Rattle.conf_rules.specs.Listing.{listing_over, control_path_at}
+use Rattle.conf_rules.specs.Outcome.{Outcome, Ends, Writes, Opens, Drills, told_of, listed_end, opened_end, unrefused, Machine}
+use Rattle.conf_rules.specs.Resolution.{all_rows, refusal_in, refusal}
+use Rattle.conf_rules.specs.Rows.{Row}
+use Rattle.conf_rules.specs.Texts.{Bytes}
+use Rattle.conf_rules.specs.Told.{Told}
+use Rattle.conf_match.specs.Evaluated.{TellsStatus}
+use Rattle.conf_options.specs.Kept.{Given}
+use Rattle.conf_output.specs.Settled.{Settled, Lists, HasControlPath}
+use Rattle.conf_reader.specs.Known.{TellsFiles}
+use Rattle.conf_resolve.specs.Passes.{Resolved}
+use Rattle.conf_tokens.specs.Known.{known}
+use Rattle.mux_outside.specs.declared.facts.Facts.{Facts}
+use Rattle.mux_outside.specs.declared.pairs.Pair.{Pair}
+use Rattle.mux_outside.specs.declared.statuses.CommandStatus.{CommandStatus}
+use Rattle.ssh_mux.specs.Answers.{IsRefused, is_refusal, refuses_master}
+use Rattle.ssh_mux.specs.Ending.{shown, refused_as, unlisted_as}
+use Rattle.ssh_mux.specs.Outcomes.{Known, Certain, Listing, Master, machine, machine_of, of_command, opens_at, looks, lists, opens}
+
+-- ---- outcomes of rows
+
+-- an outcome of rows for whose command files are read
+looks-rows : (rows : List Row) (x : Outcome) → looks (Certain x) ≡ true → looks (Certain (unrefused rows x)) ≡ true
+looks-rows rows x h = on (refusal_in rows) where
+  on : (r : Option ResolveError) → looks (Certain (elim r [ Some e ↦ Ends (BadLine e) | None ↦ x ])) ≡ true
+  on (Some e) = refl
+  on None = h
+
+-- one that opens no wire
+shut-rows : (rows : List Row) (x : Outcome) → opens (Certain x) ≡ false → opens (Certain (unrefused rows x)) ≡ false
+shut-rows rows x h = on (refusal_in rows) where
+  on : (r : Option ResolveError) → opens (Certain (elim r [ Some e ↦ Ends (BadLine e) | None ↦ x ])) ≡ false
+  on (Some e) = refl
+  on None = h
+
+-- one that writes nothing
+quiet-rows : (rows : List Row) (x : Outcome) → lists (Certain x) ≡ false → lists (Certain (unrefused rows x)) ≡ false
+quiet-rows rows x h = on (refusal_in rows) where
+  on : (r : Option ResolveError) → lists (Certain (elim r [ Some e ↦ Ends (BadLine e) | None ↦ x ])) ≡ false
+  on (Some e) = refl
+  on None = h
+
+looks-listed : (r : Result Bytes ListError) → looks (Certain (listed_end r)) ≡ true
+looks-listed (Ok text) = refl
+looks-listed (Err e) = refl
+
+shut-listed : (r : Result Bytes ListError) → opens (Certain (listed_end r)) ≡ false
+shut-listed (Ok text) = refl
+shut-listed (Err e) = refl
+
+looks-opened : (transport : Bytes) (os ls : List Bytes) (r : Result (Option Bytes) ListError) → looks (Certain (opened_end transport os ls r)) ≡ true
+looks-opened transport os ls (Ok (Some path)) = refl
+looks-opened transport os ls (Ok None) = refl
+looks-opened transport os ls (Err e) = refl
+
+quiet-opened : (transport : Bytes) (os ls : List Bytes) (r : Result (Option Bytes) ListError) → lists (Certain (opened_end transport os ls r)) ≡ false
+quiet-opened transport os ls (Ok (Some path)) = refl
+quiet-opened transport os ls (Ok None) = refl
+quiet-opened transport os ls (Err e) = refl
+
+-- ---- what commands use
+
+pub list-looks : (m : Option Machine) (asked : Asked) → looks (of_command m (commands.List asked)) ≡ true
+unfolding of_command
+list-looks None asked = refl
+list-looks (Some m) asked = looks-rows (all_rows (told_of m asked)) (listed_end (listing_over LISTING_ORDER (told_of m asked) (all_rows (told_of m asked)))) (looks-listed (listing_over LISTING_ORDER (told_of m asked) (all_rows (told_of m asked))))
+
+pub list-shut : (m : Option Machine) (asked : Asked) → opens (of_command m (commands.List asked)) ≡ false
+unfolding of_command
+list-shut None asked = refl
+list-shut (Some m) asked = shut-rows (all_rows (told_of m asked)) (listed_end (listing_over LISTING_ORDER (told_of m asked) (all_rows (told_of m asked)))) (shut-listed (listing_over LISTING_ORDER (told_of m asked) (all_rows (told_of m asked))))
+
+pub master-looks : (m : Option Machine) (asked : Asked) (transport : Bytes) (os ls : List Bytes) → looks (of_command m (commands.Master asked transport os ls)) ≡ true
+unfolding of_command
+master-looks None asked transport os ls = refl
+master-looks (Some m) asked transport os ls = looks-rows (all_rows (told_of m asked)) (opened_end transport os ls (control_path_at (told_of m asked) (all_rows (told_of m asked)))) (looks-opened transport os ls (control_path_at (told_of m asked) (all_rows (told_of m asked))))
+
+pub master-quiet : (m : Option Machine) (asked : Asked) (transport : Bytes) (os ls : List Bytes) → lists (of_command m (commands.Master asked transport os ls)) ≡ false
+unfolding of_command
+master-quiet None asked transport os ls = refl
+master-quiet (Some m) asked transport os ls = quiet-rows (all_rows (told_of m asked)) (opened_end transport os ls (control_path_at (told_of m asked) (all_rows (told_of m asked)))) (quiet-opened transport os ls (control_path_at (told_of m asked) (all_rows (told_of m asked))))
+
+-- ---- a configuration that is refused
+
+-- an ending that is due, faults and want of memory aside
+abbrev Plain : Known → Ending → Type 0
+Plain (Certain (Ends due)) ending = ending ≡ due
+Plain (Certain other) ending = ⊥
+Plain Listing ending = IsTrue (is_refusal ending)
+Plain (Master transport os ls) ending = IsTrue (refuses_master ending)
+
+by-cause : (k : Known) (file : Bytes) (line : ℕ) (cause : Cause) → looks k ≡ true → (is_fault cause ≡ false → Plain k (BadLine (errors.At file line cause))) → IsRefused k (BadLine (errors.At file line cause))
+by-cause k file line ReadFault l h = l
+by-cause k file line RunFault l h = l
+by-cause (Certain (Ends due)) file line cause l h = h refl
+by-cause (Certain (Writes text)) file line cause l h = h refl
+by-cause (Certain (Opens control transport os ls)) file line cause l h = h refl
+by-cause (Certain (Drills seed clients messages)) file line cause l h = absurd (h refl)
+by-cause Listing file line cause l h = h refl
+by-cause (Master transport os ls) file line cause l h = h refl
+
+plain-rows : (rows : List Row) (x : Outcome) (e : ResolveError) → refusal_in rows ≡ Some e → Plain (Certain (unrefused rows x)) (BadLine e)
+plain-rows rows x e h = subst (λ o. Plain (Certain o) (BadLine e)) (sym (ap (λ (r : Option ResolveError). elim r [ Some e ↦ Ends (BadLine e) | None ↦ x ]) h)) refl
+
+-- what files, commands and facts that tell promise of a resolution
+abbrev pub Promise : Option (List Pair) → Option (List CommandStatus) → Facts → Asked → (Told → Type 0) → Type 0
+Promise files statuses facts asked P = (told : Told) → told.asked ≡ asked → told.facts ≡ known facts → TellsFiles files told → TellsStatus statuses told.status → P told
+
+-- it is a promise of the machine
+kept : (files : List Pair) (statuses : List CommandStatus) (facts : Facts) (asked : Asked) (P : Told → Type 0) → Promise (Some files) (Some statuses) facts asked P → P (told_of (machine_of files statuses facts) asked)
+kept files statuses facts asked P h = h (told_of (machine_of files statuses facts) asked) refl refl (refl, refl) refl
+
+refused-rows : (told : Told) (x : Outcome) (e : ResolveError) → looks (Certain x) ≡ true → Resolved told (Err e) → IsRefused (Certain (unrefused (all_rows told) x)) (shown (refused_as e))
+refused-rows told x errors.OutOfMemory l h = tt
+refused-rows told x (errors.At file line cause) l h = by-cause (Certain (unrefused (all_rows told) x)) file line cause (looks-rows (all_rows told) x l) (λ plain. plain-rows (all_rows told) x (errors.At file line cause) (h plain))
+
+refused-listing : (e : ResolveError) → IsRefused Listing (shown (refused_as e))
+refused-listing errors.OutOfMemory = tt
+refused-listing (errors.At file line cause) = by-cause Listing file line cause refl (λ plain. refl)
+
+refused-master : (transport : Bytes) (os ls : List Bytes) (e : ResolveError) → IsRefused (Master transport os ls) (shown (refused_as e))
+refused-master transport os ls errors.OutOfMemory = tt
+refused-master transport os ls (errors.At file line cause) = by-cause (Master transport os ls) file line cause refl (λ plain. refl)
+
+pub list-refused : (files : Option (List Pair)) (statuses : Option (List CommandStatus)) (facts : Facts) (asked : Asked) (e : ResolveError) → Promise files statuses facts asked (λ told. Resolved told (Err e)) → IsRefused (of_command (machine files statuses facts) (commands.List asked)) (shown (refused_as e))
+unfolding of_command machine
+list-refused None statuses facts asked e h = refused-listing e
+list-refused (Some files) None facts asked e h = refused-listing e
+list-refused (Some files) (Some statuses) facts asked e h =
+    let told = told_of (machine_of files statuses facts) asked in
+    let listed = listing_over LISTING_ORDER told (all_rows told) in
+    refused-rows told (listed_end listed) e (looks-listed listed) (kept files statuses facts asked (λ t. Resolved t (Err e)) h)
+
+pub master-refused : (files : Option (List Pair)) (statuses : Option (List CommandStatus)) (facts : Facts) (asked : Asked) (transport : Bytes) (os ls : List Bytes) (e : ResolveError) → Promise files statuses facts asked (λ told. Resolved told (Err e)) → IsRefused (of_command (machine files statuses facts) (commands.Master asked transport os ls)) (shown (refused_as e))
+unfolding of_command machine
+master-refused None statuses facts asked transport os ls e h = refused-master transport os ls e
+master-refused (Some files) None facts asked transport os ls e h = refused-master transport os ls e
+master-refused (Some files) (Some statuses) facts asked transport os ls e h =
+    let told = told_of (machine_of files statuses facts) asked in
+    let path = control_path_at told (all_rows told) in
+    refused-rows told (opened_end transport os ls path) e (looks-opened transport os ls path) (kept files statuses facts asked (λ t. Resolved t (Err e)) h)
+
+-- ---- settings
+
+settled : (files : List Pair) (statuses : List CommandStatus) (facts : Facts) (asked : Asked) (settings : List Given) → Promise (Some files) (Some statuses) facts asked (λ told. Resolved told (Ok settings)) → Settled (told_of (machine_of files statuses facts) asked) (all_rows (told_of (machine_of files statuses facts) asked)) settings asked.original facts
+settled files statuses facts asked settings h =
+    record { name = refl; facts = refl; keeps = (kept files statuses facts asked (λ t. Resolved t (Ok settings)) h).1 }
+
+unrefused-rows : (rows : List Row) (x : Outcome) → refusal_in rows ≡ None → unrefused rows x ≡ x
+unrefused-rows rows x h = ap (λ (r : Option ResolveError). elim r [ Some e ↦ Ends (BadLine e) | None ↦ x ]) h
+
+pub list-found : (files : Option (List Pair)) (statuses : Option (List CommandStatus)) (facts : Facts) (asked : Asked) (settings : List Given) (text : Bytes) → Promise files statuses facts asked (λ told. Resolved told (Ok settings)) → Lists (Ok text) settings asked.original facts → (of_command (machine files statuses facts) (commands.List asked) ≡ Certain (Writes text)) ⊎ (of_command (machine files statuses facts) (commands.List asked) ≡ Listing)
+unfolding of_command machine
+list-found None statuses facts asked settings text h l = inr refl
+list-found (Some files) None facts asked settings text h l = inr refl
+list-found (Some files) (Some statuses) facts asked settings text h l =
+    let told = told_of (machine_of files statuses facts) asked in
+    let none : refusal told ≡ None = (kept files statuses facts asked (λ t. Resolved t (Ok settings)) h).0 in
+    let lists : listing_over LISTING_ORDER told (all_rows told) ≡ Ok text = l told (all_rows told) (settled files statuses facts asked settings h) in
+    inl (ap (λ o. Certain o) (unrefused-rows (all_rows told) (listed_end (listing_over LISTING_ORDER told (all_rows told))) none ∙ ap listed_end lists))
+
+pub list-unlisted : (files : Option (List Pair)) (statuses : Option (List CommandStatus)) (facts : Facts) (asked : Asked) (settings : List Given) (e : ListError) → Promise files statuses facts asked (λ told. Resolved told (Ok settings)) → Lists (Err e) settings asked.original facts → IsRefused (of_command (machine files statuses facts) (commands.List asked)) (shown (unlisted_as e))
+unfolding of_command machine
+list-unlisted files statuses facts asked settings list_errors.OutOfMemory h l = tt
+list-unlisted None statuses facts asked settings (list_errors.Token key error) h l = refl
+list-unlisted (Some files) None facts asked settings (list_errors.Token key error) h l = refl
+list-unlisted (Some files) (Some statuses) facts asked settings (list_errors.Token key error) h l =
+    let told = told_of (machine_of files statuses facts) asked in
+    let none : refusal told ≡ None = (kept files statuses facts asked (λ t. Resolved t (Ok settings)) h).0 in
+    let lists : listing_over LISTING_ORDER told (all_rows told) ≡ Err (list_errors.Token key error) = l told (all_rows told) (settled files statuses facts asked settings h) in
+    let is = unrefused-rows (all_rows told) (listed_end (listing_over LISTING_ORDER told (all_rows told))) none ∙ ap listed_end lists in
+    subst (λ o. IsRefused (Certain o) (BadListing (list_errors.Token key error))) (sym is) refl
+
+-- the outcome of a control path
+abbrev Path : Told → Bytes → List Bytes → List Bytes → Outcome
+Path told transport os ls = unrefused (all_rows told) (opened_end transport os ls (control_path_at told (all_rows told)))
+
+path-is : (files : List Pair) (statuses : List CommandStatus) (facts : Facts) (asked : Asked) (transport : Bytes) (os ls : List Bytes) (settings : List Given) (r : Result (Option Bytes) ListError) → Promise (Some files) (Some statuses) facts asked (λ told. Resolved told (Ok settings)) → control_path_at (told_of (machine_of files statuses facts) asked) (all_rows (told_of (machine_of files statuses facts) asked)) ≡ r → Path (told_of (machine_of files statuses facts) asked) transport os ls ≡ opened_end transport os ls r
+path-is files statuses facts asked transport os ls settings r h is =
+    let told = told_of (machine_of files statuses facts) asked in
+    let none : refusal told ≡ None = (kept files statuses facts asked (λ t. Resolved t (Ok settings)) h).0 in
+    unrefused-rows (all_rows told) (opened_end transport os ls (control_path_at told (all_rows told))) none ∙ ap (opened_end transport os ls) is
+
+pub path-found : (files : Option (List Pair)) (statuses : Option (List CommandStatus)) (facts : Facts) (asked : Asked) (transport : Bytes) (os ls : List Bytes) (settings : List Given) (path : Bytes) → Promise files statuses facts asked (λ told. Resolved told (Ok settings)) → HasControlPath (Ok (Some path)) settings asked.original facts → (of_command (machine files statuses facts) (commands.Master asked transport os ls) ≡ Certain (opens_at transport os ls path)) ⊎ (of_command (machine files statuses facts) (commands.Master asked transport os ls) ≡ Master transport os ls)
+unfolding of_command machine
+path-found None statuses facts asked transport os ls settings path h p = inr refl
+path-found (Some files) None facts asked transport os ls settings path h p = inr refl
+path-found (Some files) (Some statuses) facts asked transport os ls settings path h p =
+    let told = told_of (machine_of files statuses facts) asked in
+    inl (ap (λ o. Certain o) (path-is files statuses facts asked transport os ls settings (Ok (Some path)) h (p told (all_rows told) (settled files statuses facts asked settings h))))
+
+pub path-unset : (files : Option (List Pair)) (statuses : Option (List CommandStatus)) (facts : Facts) (asked : Asked) (transport : Bytes) (os ls : List Bytes) (settings : List Given) → Promise files statuses facts asked (λ told. Resolved told (Ok settings)) → HasControlPath (Ok None) settings asked.original facts → IsRefused (of_command (machine files statuses facts) (commands.Master asked transport os ls)) NoControlPath
+unfolding of_command machine
+path-unset None statuses facts asked transport os ls settings h p = refl
+path-unset (Some files) None facts asked transport os ls settings h p = refl
+path-unset (Some files) (Some statuses) facts asked transport os ls settings h p =
+    let told = told_of (machine_of files statuses facts) asked in
+    subst (λ o. IsRefused (Certain o) NoControlPath) (sym (path-is files statuses facts asked transport os ls settings (Ok None) h (p told (all_rows told) (settled files statuses facts asked settings h)))) refl
+
+pub path-unlisted : (files : Option (List Pair)) (statuses : Option (List CommandStatus)) (facts : Facts) (asked : Asked) (transport : Bytes) (os ls : List Bytes) (settings : List Given) (e : ListError) → Promise files statuses facts asked (λ told. Resolved told (Ok settings)) → HasControlPath (Err e) settings asked.original facts → IsRefused (of_command (machine files statuses facts) (commands.Master asked transport os ls)) (shown (unlisted_as e))
+unfolding of_command machine
+path-unlisted files statuses facts asked transport os ls settings list_errors.OutOfMemory h p = tt
+path-unlisted None statuses facts asked transport os ls settings (list_errors.Token key error) h p = refl
+path-unlisted (Some files) None facts asked transport os ls settings (list_errors.Token key error) h p = refl
+path-unlisted (Some files) (Some statuses) facts asked transport os ls settings (list_errors.Token key error) h p =
+    let told = told_of (machine_of files statuses facts) asked in
+    subst (λ o. IsRefused (Certain o) (BadListing (list_errors.Token key error))) (sym (path-is files statuses facts asked transport os ls settings (Err (list_errors.Token key error)) h (p told (all_rows told) (settled files statuses facts asked settings h)))) refl

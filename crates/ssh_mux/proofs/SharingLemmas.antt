@@ -1,0 +1,137 @@
+-- What a master leaves behind that was opened, and what others leave.
+use Rattle.std.proofs.Common.{◌≡◌, ◌⊎◌, inl, inr, ℕ, true, false, List, Option, Some, None, unwrap_or, Result, Ok, Err, refl, sym, subst, ◌∙◌}
+use Rattle.conf_rules.specs.Outcome.{Ends, Writes, Drills, Opens}
+use Rattle.conf_rules.specs.Texts.{Bytes}
+use Rattle.mux_engine.specs.Run.{IsRun}
+use Rattle.mux_history.specs.declared.ended.Ended.{Ended}
+use Rattle.mux_history.specs.declared.ended.Ended.TheVariants as ends
+use Rattle.mux_history.specs.Policy.{Policy}
+use Rattle.mux_outside.specs.House.{Asked as HouseAsk}
+use Rattle.mux_outside.specs.declared.house.HouseReply.{HouseReply}
+use Rattle.mux_outside.specs.declared.mark.Mark.{Mark}
+use Rattle.mux_outside.specs.declared.mark.Opening.{Opening}
+use Rattle.ssh_mux.specs.declared.ending.Ending.{Ending}
+use Rattle.ssh_mux.specs.declared.ending.Ending.TheVariants as endings
+use Rattle.ssh_mux.specs.declared.status.Status.{Status}
+use Rattle.ssh_mux.specs.declared.status.Status.TheVariants as statuses
+use Rattle.ssh_mux.specs.Answers.{Comes, so_far, may_open, may_share}
+use Rattle.ssh_mux.specs.Causes.{OutCause}
+use Rattle.ssh_mux.specs.Ending.{shown}
+use Rattle.ssh_mux.specs.Master.{EndsMaster}
+use Rattle.ssh_mux.specs.Out.{OutTakes}
+use Rattle.ssh_mux.specs.Outcomes.{Known, Certain, Listing, Master, opens_at, opens, lists}
+use Rattle.ssh_mux.specs.Sharing.{OpensAt, OpensOnce, Shares, pid_of, told_as}
+use Rattle.ssh_mux.specs.Status.{status_of}
+use Rattle.ssh_mux.proofs.StillLemmas.{loud, quiet-count}
+
+-- ---- how a run that was served ends
+
+pub shares_end : (May : HouseReply → Type 0) (policy : Policy) (pid turns : ℕ) (before now : Option (List HouseAsk)) (start told : Option (List Mark)) (result : Result Status Ending) (ended : Ended) → result ≡ told_as ended → IsRun May policy pid turns before now start told ended → Shares May policy pid turns before now start told result
+shares_end May policy pid turns before now start told result ended e run = subst (λ r. Shares May policy pid turns before now start told r) (sym e) (by_end ended run) where
+  by_end : (x : Ended) → IsRun May policy pid turns before now start told x → Shares May policy pid turns before now start told (told_as x)
+  by_end ends.OutOfMemory run = inr (record { answer = ends.OutOfMemory; is_told = refl; run = run })
+  by_end ends.ServerEnd run = record { answer = ends.ServerEnd; is_told = refl; run = run }
+  by_end ends.Disconnected run = record { answer = ends.Disconnected; is_told = refl; run = run }
+  by_end (ends.Terminated client id) run = record { answer = ends.Terminated client id; is_told = refl; run = run }
+  by_end ends.ServerFailed run = record { answer = ends.ServerFailed; is_told = refl; run = run }
+  by_end (ends.Broke index why) run = record { answer = ends.Broke index why; is_told = refl; run = run }
+  by_end ends.Spent run = record { answer = ends.Spent; is_told = refl; run = run }
+
+-- the process id of the facts, or 0
+pub pid_is : (pid : Option ℕ) → unwrap_or pid 0 ≡ pid_of pid
+pid_is None = refl
+pid_is (Some pid) = refl
+
+-- ---- a master whose control path was found
+
+-- what was found of it
+abbrev pub IsMaster : Known → Bytes → List Bytes → List Bytes → Bytes → Type 0
+IsMaster k transport os ls control = (k ≡ Certain (opens_at transport os ls control)) ⊎ (k ≡ Master transport os ls)
+
+certain-comes : (transport : Bytes) (os ls : List Bytes) (control : Bytes) (result : Result Status Ending) → EndsMaster result → Comes (Certain (opens_at transport os ls control)) result
+certain-comes transport os ls control (Ok statuses.Done) h = refl
+certain-comes transport os ls control (Ok status) h = absurd cc
+certain-comes transport os ls control (Err endings.NotOpened) h = refl
+certain-comes transport os ls control (Err endings.TransportFailed) h = refl
+certain-comes transport os ls control (Err (endings.ServerBroke index why)) h = refl
+certain-comes transport os ls control (Err endings.TurnsSpent) h = refl
+certain-comes transport os ls control (Err endings.NoMemory) h = tt
+certain-comes transport os ls control (Err ending) h = absurd cc
+
+some-comes : (transport : Bytes) (os ls : List Bytes) (result : Result Status Ending) → EndsMaster result → Comes (Master transport os ls) result
+some-comes transport os ls (Ok statuses.Done) h = refl
+some-comes transport os ls (Ok status) h = absurd cc
+some-comes transport os ls (Err endings.NotOpened) h = refl
+some-comes transport os ls (Err endings.TransportFailed) h = refl
+some-comes transport os ls (Err (endings.ServerBroke index why)) h = refl
+some-comes transport os ls (Err endings.TurnsSpent) h = refl
+some-comes transport os ls (Err endings.NoMemory) h = tt
+some-comes transport os ls (Err ending) h = absurd cc
+
+pub master-comes : (k : Known) (transport : Bytes) (os ls : List Bytes) (control : Bytes) (result : Result Status Ending) → IsMaster k transport os ls control → EndsMaster result → Comes k result
+master-comes k transport os ls control result (inl e) h = subst (λ x. Comes x result) (sym e) (certain-comes transport os ls control result h)
+master-comes k transport os ls control result (inr e) h = subst (λ x. Comes x result) (sym e) (some-comes transport os ls result h)
+
+-- it may have opened its wire
+pub master-opens : (result : Result Status Ending) → EndsMaster result → may_open (so_far result) ≡ true
+master-opens (Ok statuses.Done) h = refl
+master-opens (Ok status) h = absurd cc
+master-opens (Err endings.NotOpened) h = refl
+master-opens (Err endings.TransportFailed) h = refl
+master-opens (Err (endings.ServerBroke index why)) h = refl
+master-opens (Err endings.TurnsSpent) h = refl
+master-opens (Err endings.NoMemory) h = refl
+master-opens (Err ending) h = absurd cc
+
+pub master-shares : (k : Known) (transport : Bytes) (os ls : List Bytes) (control : Bytes) (result : Result Status Ending) → IsMaster k transport os ls control → EndsMaster result → may_share k (so_far result) ≡ true
+master-shares k transport os ls control result (inl e) h = rw (master-opens result h) (subst (λ x. opens x ≡ true) (sym e) refl)
+master-shares k transport os ls control result (inr e) h = rw (master-opens result h) (subst (λ x. opens x ≡ true) (sym e) refl)
+
+certain-opened : (transport : Bytes) (os ls : List Bytes) (control : Bytes) (status : Status) (before now : Option (List Opening)) → may_open status ≡ true → OpensAt control transport status before now → OpensOnce (Certain (opens_at transport os ls control)) status before now
+certain-opened transport os ls control statuses.Outside before now m h = absurd cc
+certain-opened transport os ls control status before now m h = h
+
+some-opened : (transport control : Bytes) (os ls : List Bytes) (status : Status) (before now : Option (List Opening)) → may_open status ≡ true → OpensAt control transport status before now → OpensOnce (Master transport os ls) status before now
+some-opened transport control os ls statuses.Usage before now m h = absurd cc
+some-opened transport control os ls statuses.Config before now m h = absurd cc
+some-opened transport control os ls statuses.Outside before now m h = absurd cc
+some-opened transport control os ls statuses.Memory before now m (inl h) = inl h
+some-opened transport control os ls statuses.Memory before now m (inr h) = inr (record { control = control; once = h })
+some-opened transport control os ls status before now m h = record { control = control; once = h }
+
+pub master-opened : (k : Known) (transport : Bytes) (os ls : List Bytes) (control : Bytes) (status : Status) (before now : Option (List Opening)) → IsMaster k transport os ls control → may_open status ≡ true → OpensAt control transport status before now → OpensOnce k status before now
+master-opened k transport os ls control status before now (inl e) m h = subst (λ x. OpensOnce x status before now) (sym e) (certain-opened transport os ls control status before now m h)
+master-opened k transport os ls control status before now (inr e) m h = subst (λ x. OpensOnce x status before now) (sym e) (some-opened transport control os ls status before now m h)
+
+-- ---- what others leave
+
+-- a command that opens nothing
+pub none-opened : (k : Known) (status : Status) (before : Option (List Opening)) → opens k ≡ false → OpensOnce k status before before
+none-opened (Certain (Opens control transport os ls)) status before e = absurd cc
+none-opened (Certain (Ends ending)) status before e = refl
+none-opened (Certain (Writes text)) status before e = refl
+none-opened (Certain (Drills seed clients messages)) status before e = refl
+none-opened Listing status before e = refl
+none-opened (Master transport os ls) status before e = absurd cc
+
+-- one that lists nothing
+pub none-taken : (k : Known) (status : Status) (before : Option (List ℕ)) → lists k ≡ false → OutTakes status k before before
+none-taken (Certain (Writes text)) status before e = absurd cc
+none-taken Listing status before e = absurd cc
+none-taken (Certain (Ends ending)) statuses.Done before e = refl
+none-taken (Certain (Ends ending)) statuses.Write before e = refl
+none-taken (Certain (Ends ending)) status before e = refl
+none-taken (Certain (Opens control transport os ls)) statuses.Done before e = refl
+none-taken (Certain (Opens control transport os ls)) statuses.Write before e = refl
+none-taken (Certain (Opens control transport os ls)) status before e = refl
+none-taken (Certain (Drills seed clients messages)) statuses.Done before e = refl
+none-taken (Certain (Drills seed clients messages)) statuses.Write before e = refl
+none-taken (Certain (Drills seed clients messages)) status before e = refl
+none-taken (Master transport os ls) statuses.Done before e = refl
+none-taken (Master transport os ls) statuses.Write before e = refl
+none-taken (Master transport os ls) status before e = refl
+
+pub none-counted : (k : Known) (result : Result Status Ending) (count : ℕ) → lists k ≡ false → Comes k result → OutCause (so_far result) count count
+none-counted k (Ok statuses.Write) count e h = let x : false ≡ true = sym e ∙ h in absurd cc
+none-counted k (Ok status) count e h = refl
+none-counted k (Err ending) count e h = quiet-count (status_of (shown ending)) count (loud (shown ending))

@@ -1,0 +1,277 @@
+-- An ending that came before anything was written or opened.
+use Rattle.std.proofs.Common.{◌≡◌, ◌⊎◌, inl, inr, ◌&&◌, ◌||◌, ℕ, Bool, true, false, List, [], Option, Some, None, Ok, Err, refl, sym, ap, subst, arith}
+use Rattle.std.specs.Bool.{OnFalse, OnTrue}
+use Rattle.std.proofs.lemmas.List.{append-nil}
+use Rattle.conf_rules.specs.declared.command.Command.{Command}
+use Rattle.conf_rules.specs.declared.command.Command.TheVariants as commands
+use Rattle.conf_rules.specs.declared.causes.Cause.TheVariants.{ReadFault, RunFault}
+use Rattle.conf_rules.specs.declared.causes.ListError.TheVariants as list_errors
+use Rattle.conf_rules.specs.declared.causes.ResolveError.TheVariants.{At, OutOfMemory}
+use Rattle.conf_rules.specs.declared.usage.UsageError.{UsageError}
+use Rattle.conf_rules.specs.CommandLine.{ReadCommand}
+use Rattle.conf_rules.specs.Diagnostics as ends
+use Rattle.conf_rules.specs.Diagnostics.{Ending}
+use Rattle.conf_rules.specs.Outcome.{Outcome, Ends, Writes, Opens, Drills, Machine, command_execs, command_outcome}
+use Rattle.conf_rules.specs.Reading.{reading}
+use Rattle.conf_rules.specs.Texts.{Bytes}
+use Rattle.conf_command.specs.declared.reader.WordsError.{WordsError}
+use Rattle.conf_command.specs.declared.reader.WordsError.TheVariants as words_errors
+use Rattle.conf_command.specs.Results.{Fails}
+use Rattle.conf_match.specs.Evaluated.{RanAll, RanSome}
+use Rattle.mux_history.specs.Policy.{Policy}
+use Rattle.mux_outside.specs.Seen.{Calls}
+use Rattle.mux_outside.specs.House.{Asked}
+use Rattle.mux_outside.specs.declared.house.HouseReply.{HouseReply}
+use Rattle.mux_outside.specs.declared.mark.Mark.{Mark}
+use Rattle.mux_outside.specs.declared.mark.Opening.{Opening}
+use Rattle.ssh_mux.specs.declared.ending.Ending.{Ending as MeantEnding}
+use Rattle.ssh_mux.specs.declared.ending.Ending.TheVariants as endings
+use Rattle.ssh_mux.specs.declared.status.Status.{Status}
+use Rattle.ssh_mux.specs.declared.status.Status.TheVariants as statuses
+use Rattle.ssh_mux.specs.Answers.{IsDue, IsRefused, is_silent, may_open, may_share, refuses_master, ends_master}
+use Rattle.ssh_mux.specs.Causes.{EndCause, OutCause}
+use Rattle.ssh_mux.specs.Commands.{RunsFor, commands_of, commands_for}
+use Rattle.ssh_mux.specs.Ending.{shown, misread_as}
+use Rattle.ssh_mux.specs.Out.{OutTakes}
+use Rattle.ssh_mux.specs.Outcomes.{Known, Certain, Listing, Master, of_command, of_words, opens, untold_words}
+use Rattle.ssh_mux.specs.Sharing.{CallsEnd, OpensOnce, Shares, WireCause}
+use Rattle.ssh_mux.specs.Status.{status_of, refusal_status, listing_status}
+
+-- ---- small facts
+
+pub on_false : (b : Bool) {X : Type 0} (x : X) → OnFalse b (x ≡ x)
+on_false true x = tt
+on_false false x = refl
+
+pub on_true : (b : Bool) (P : Type 0) → P → OnTrue b P
+on_true true P h = h
+on_true false P h = tt
+
+pub not_false : (b : Bool) (P : Type 0) → b ≡ true → OnFalse b P
+not_false b P e = subst (λ x. OnFalse x P) (sym e) tt
+
+pub not_true : (b : Bool) (P : Type 0) → b ≡ false → OnTrue b P
+not_true b P e = subst (λ x. OnTrue x P) (sym e) tt
+
+or-left : (a b : Bool) → a ≡ true → (a || b) ≡ true
+or-left true b e = refl
+or-left false b e = absurd cc
+
+-- nothing is shared where nothing opens
+pub shut : (k : Known) (status : Status) → opens k ≡ false → may_share k status ≡ false
+shut k status e = rw e (and-false (may_open status)) where
+  and-false : (b : Bool) → (b && false) ≡ false
+  and-false true = refl
+  and-false false = refl
+
+-- ---- an ending has a line
+
+refusal-loud : (e : _) → is_silent (refusal_status e) ≡ false
+refusal-loud (At file line ReadFault) = refl
+refusal-loud (At file line RunFault) = refl
+refusal-loud (At file line cause) = refl
+refusal-loud OutOfMemory = refl
+
+listing-loud : (e : _) → is_silent (listing_status e) ≡ false
+listing-loud (list_errors.Token key error) = refl
+listing-loud list_errors.OutOfMemory = refl
+
+pub loud : (ending : Ending) → is_silent (status_of ending) ≡ false
+loud (ends.BadWords e) = refl
+loud (ends.BadLine e) = refusal-loud e
+loud (ends.BadListing e) = listing-loud e
+loud ends.NoControlPath = refl
+loud ends.NotServed = refl
+loud ends.NotOpened = refl
+loud ends.TransportFailed = refl
+loud (ends.ServerBroke index why) = refl
+loud ends.TurnsSpent = refl
+loud ends.NoMemory = refl
+
+-- ---- what it leaves
+
+pub still-due : (k : Known) (ending : Ending) → IsRefused k ending → IsDue k ending
+still-due k ends.NoMemory h = tt
+still-due k (ends.BadLine (At file line ReadFault)) h = h
+still-due k (ends.BadLine (At file line RunFault)) h = h
+still-due (Certain (Ends due)) ending h = h
+still-due (Certain (Writes text)) ending h = h
+still-due (Certain (Opens control transport os ls)) ending h = absurd h
+still-due (Certain (Drills seed clients messages)) ending h = h
+still-due Listing ending h = h
+still-due (Master transport os ls) ending h = or-left (refuses_master ending) (ends_master ending) h
+
+pub quiet-out : (status : Status) (k : Known) (before : Option (List ℕ)) → is_silent status ≡ false → OutTakes status k before before
+quiet-out statuses.Done k before e = absurd cc
+quiet-out statuses.Write k before e = absurd cc
+quiet-out status k before e = refl
+
+pub quiet-count : (status : Status) (count : ℕ) → is_silent status ≡ false → OutCause status count count
+quiet-count statuses.Write count e = absurd cc
+quiet-count status count e = refl
+
+pub still-opened : (k : Known) (ending : Ending) (before : Option (List Opening)) → IsRefused k ending → OpensOnce k (status_of ending) before before
+still-opened (Certain (Ends due)) ending before h = refl
+still-opened (Certain (Writes text)) ending before h = refl
+still-opened (Certain (Drills seed clients messages)) ending before h = refl
+still-opened Listing ending before h = refl
+still-opened (Certain (Opens control transport os ls)) ends.NoMemory before h = inl refl
+still-opened (Certain (Opens control transport os ls)) (ends.BadLine (At file line ReadFault)) before h = refl
+still-opened (Certain (Opens control transport os ls)) (ends.BadLine (At file line RunFault)) before h = refl
+still-opened (Certain (Opens control transport os ls)) ending before h = absurd h
+still-opened (Master transport os ls) ends.NoMemory before h = inl refl
+still-opened (Master transport os ls) (ends.BadLine OutOfMemory) before h = inl refl
+still-opened (Master transport os ls) (ends.BadLine (At file line ReadFault)) before h = refl
+still-opened (Master transport os ls) (ends.BadLine (At file line RunFault)) before h = refl
+still-opened (Master transport os ls) (ends.BadLine (At file line cause)) before h = refl
+still-opened (Master transport os ls) (ends.BadListing (list_errors.Token key error)) before h = refl
+still-opened (Master transport os ls) (ends.BadListing list_errors.OutOfMemory) before h = inl refl
+still-opened (Master transport os ls) ends.NoControlPath before h = refl
+still-opened (Master transport os ls) ending before h = absurd cc
+
+-- no wire is opened by it, but maybe for want of memory
+abbrev Unshared : Known → Ending → Type 0
+Unshared k ending = (may_share k (status_of ending) ≡ false) ⊎ (status_of ending ≡ statuses.Memory)
+
+unshared : (k : Known) (ending : Ending) → IsRefused k ending → Unshared k ending
+unshared (Certain (Ends due)) ending h = inl (shut (Certain (Ends due)) (status_of ending) refl)
+unshared (Certain (Writes text)) ending h = inl (shut (Certain (Writes text)) (status_of ending) refl)
+unshared (Certain (Drills seed clients messages)) ending h = inl (shut (Certain (Drills seed clients messages)) (status_of ending) refl)
+unshared Listing ending h = inl (shut Listing (status_of ending) refl)
+unshared (Certain (Opens control transport os ls)) ends.NoMemory h = inr refl
+unshared (Certain (Opens control transport os ls)) (ends.BadLine (At file line ReadFault)) h = inl refl
+unshared (Certain (Opens control transport os ls)) (ends.BadLine (At file line RunFault)) h = inl refl
+unshared (Certain (Opens control transport os ls)) ending h = absurd h
+unshared (Master transport os ls) ends.NoMemory h = inr refl
+unshared (Master transport os ls) (ends.BadLine OutOfMemory) h = inr refl
+unshared (Master transport os ls) (ends.BadLine (At file line ReadFault)) h = inl refl
+unshared (Master transport os ls) (ends.BadLine (At file line RunFault)) h = inl refl
+unshared (Master transport os ls) (ends.BadLine (At file line cause)) h = inl refl
+unshared (Master transport os ls) (ends.BadListing (list_errors.Token key error)) h = inl refl
+unshared (Master transport os ls) (ends.BadListing list_errors.OutOfMemory) h = inr refl
+unshared (Master transport os ls) ends.NoControlPath h = inl refl
+unshared (Master transport os ls) ending h = absurd cc
+
+-- only want of memory has its status
+only-memory : (meant : MeantEnding) → status_of (shown meant) ≡ statuses.Memory → meant ≡ endings.NoMemory
+only-memory endings.NoMemory e = refl
+only-memory (endings.BadWords e) h = absurd cc
+only-memory (endings.BadLine file line ReadFault) h = absurd cc
+only-memory (endings.BadLine file line RunFault) h = absurd cc
+only-memory (endings.BadLine file line cause) h = absurd cc
+only-memory (endings.BadListing key error) h = absurd cc
+only-memory endings.NoControlPath h = absurd cc
+only-memory endings.NotServed h = absurd cc
+only-memory endings.NotOpened h = absurd cc
+only-memory endings.TransportFailed h = absurd cc
+only-memory (endings.ServerBroke index why) h = absurd cc
+only-memory endings.TurnsSpent h = absurd cc
+
+pub still-shared : (k : Known) (meant : MeantEnding) (May : HouseReply → Type 0) (policy : Policy) (pid turns : ℕ) (told : Option (List Asked)) (start : Option (List Mark)) → IsRefused k (shown meant) → OnTrue (may_share k (status_of (shown meant))) (Shares May policy pid turns told told start start (Err meant))
+still-shared k meant May policy pid turns told start h = on (unshared k (shown meant) h) where
+  on : Unshared k (shown meant) → OnTrue (may_share k (status_of (shown meant))) (Shares May policy pid turns told told start start (Err meant))
+  on (inl e) = not_true (may_share k (status_of (shown meant))) (Shares May policy pid turns told told start start (Err meant)) e
+  on (inr e) = on_true (may_share k (status_of (shown meant))) (Shares May policy pid turns told told start start (Err meant))
+      (subst (λ m. Shares May policy pid turns told told start start (Err m)) (sym (only-memory meant e)) (inl (record { same_wire = refl; same_house = refl })))
+
+-- there may be no memory for anything
+pub starved-due : (k : Known) → IsRefused k ends.NoMemory
+starved-due (Certain (Ends due)) = tt
+starved-due (Certain (Writes text)) = tt
+starved-due (Certain (Opens control transport os ls)) = tt
+starved-due (Certain (Drills seed clients messages)) = tt
+starved-due Listing = tt
+starved-due (Master transport os ls) = tt
+
+-- the wire wasn't called
+pub still-calls : (turns : ℕ) (status : Status) (calls : Calls) → CallsEnd turns status calls calls
+still-calls turns status calls = record { few = omega arith; wants = omega arith; starved = λ ne. absurd (ne refl); late = λ e. refl }
+
+pub still-wire : (k : Known) (ending : Ending) (s s' c c' : ℕ) → IsRefused k ending → OnTrue (may_share k (status_of ending)) (WireCause (status_of ending) s s' c c')
+still-wire k ending s s' c c' h = on (unshared k ending h) where
+  on : Unshared k ending → OnTrue (may_share k (status_of ending)) (WireCause (status_of ending) s s' c c')
+  on (inl e) = not_true (may_share k (status_of ending)) (WireCause (status_of ending) s s' c c') e
+  on (inr e) = subst (λ x. OnTrue (may_share k x) (WireCause x s s' c c')) (sym e) (on_true (may_share k statuses.Memory) (WireCause statuses.Memory s s' c c') tt)
+
+-- ---- words without a command to obey
+
+-- what comes of a reading
+abbrev outcome_by : Machine → ReadCommand → Outcome
+outcome_by m r = elim r [ Ok command ↦ command_outcome m command | Err e ↦ Ends (ends.BadWords e) ]
+
+-- the commands that are run for it
+abbrev execs_by : Machine → ReadCommand → List Bytes
+execs_by m r = elim r [ Ok command ↦ command_execs m command | Err e ↦ [] ]
+
+pub of-read : (m : Option Machine) (words : List Bytes) (command : Command) → reading words ≡ Ok command → of_words m words ≡ of_command m command
+unfolding of_words of_command
+of-read None words command e = ap untold_words e
+of-read (Some m) words command e = ap (λ r. Certain (outcome_by m r)) e
+
+pub for-read : (m : Option Machine) (words : List Bytes) (command : Command) → reading words ≡ Ok command → commands_for m words ≡ commands_of m command
+unfolding commands_for commands_of
+for-read None words command e = refl
+for-read (Some m) words command e = ap (λ r. Some (execs_by m r)) e
+
+of-refused : (m : Option Machine) (words : List Bytes) (e : UsageError) → reading words ≡ Err e → of_words m words ≡ Certain (Ends (ends.BadWords e))
+unfolding of_words
+of-refused None words e is = ap untold_words is
+of-refused (Some m) words e is = ap (λ r. Certain (outcome_by m r)) is
+
+pub of-drill : (m : Option Machine) (words : List Bytes) (seed clients messages : ℕ) → reading words ≡ Ok (commands.Drill seed clients messages) → of_words m words ≡ Certain (Drills seed clients messages)
+unfolding of_words
+of-drill None words seed clients messages is = ap untold_words is
+of-drill (Some m) words seed clients messages is = ap (λ r. Certain (outcome_by m r)) is
+
+pub misread : (m : Option Machine) (words : List Bytes) (e : WordsError) → Fails e (reading words) → IsRefused (of_words m words) (shown (misread_as e))
+misread m words words_errors.OutOfMemory h = tt
+misread m words (words_errors.Refused e) h = subst (λ k. IsRefused k (ends.BadWords e)) (sym (of-refused m words e h)) refl
+
+pub drilled : (m : Option Machine) (words : List Bytes) (seed clients messages : ℕ) → reading words ≡ Ok (commands.Drill seed clients messages) → IsRefused (of_words m words) ends.NotServed
+drilled m words seed clients messages is = subst (λ k. IsRefused k ends.NotServed) (sym (of-drill m words seed clients messages is)) refl
+
+-- ---- commands that were run
+
+none-more : (before : Option (List Bytes)) → RanAll before before []
+none-more None = refl
+none-more (Some cs) = ap (λ x. Some x) (sym (append-nil cs))
+
+pub some-ran : (before now : Option (List Bytes)) (cs : List Bytes) → RanAll before now cs → RanSome before now cs
+some-ran before now cs h = record { done = cs; others = []; parts = sym (append-nil cs); ran = h }
+
+none-ran : (before : Option (List Bytes)) (cs : List Bytes) → RanSome before before cs
+none-ran before cs = record { done = []; others = cs; parts = refl; ran = none-more before }
+
+starved-runs : (cs : Option (List Bytes)) (before : Option (List Bytes)) → RunsFor cs statuses.Memory before before
+starved-runs None before = tt
+starved-runs (Some cs) before = none-ran before cs
+
+-- where a reading reaches no command
+idle-runs : (m : Option Machine) (words : List Bytes) (status : Status) (before : Option (List Bytes)) → (commands_for m words ≡ None) ⊎ (commands_for m words ≡ Some []) → RunsFor (commands_for m words) status before before
+idle-runs m words status before (inl e) = subst (λ cs. RunsFor cs status before before) (sym e) tt
+idle-runs m words status before (inr e) = subst (λ cs. RunsFor cs status before before) (sym e) (by_status status) where
+  by_status : (s : Status) → RunsFor (Some []) s before before
+  by_status statuses.Outside = none-ran before []
+  by_status statuses.Memory = none-ran before []
+  by_status s = none-more before
+
+no-commands : (m : Option Machine) (words : List Bytes) (e : UsageError) → reading words ≡ Err e → (commands_for m words ≡ None) ⊎ (commands_for m words ≡ Some [])
+unfolding commands_for
+no-commands None words e is = inl refl
+no-commands (Some m) words e is = inr (ap (λ r. Some (execs_by m r)) is)
+
+no-drill-commands : (m : Option Machine) (words : List Bytes) (seed clients messages : ℕ) → reading words ≡ Ok (commands.Drill seed clients messages) → (commands_for m words ≡ None) ⊎ (commands_for m words ≡ Some [])
+unfolding commands_for
+no-drill-commands None words seed clients messages is = inl refl
+no-drill-commands (Some m) words seed clients messages is = inr (ap (λ r. Some (execs_by m r)) is)
+
+pub misread-runs : (m : Option Machine) (words : List Bytes) (e : WordsError) (before : Option (List Bytes)) → Fails e (reading words) → RunsFor (commands_for m words) (status_of (shown (misread_as e))) before before
+misread-runs m words words_errors.OutOfMemory before h = starved-runs (commands_for m words) before
+misread-runs m words (words_errors.Refused e) before h = idle-runs m words statuses.Usage before (no-commands m words e h)
+
+pub drilled-runs : (m : Option Machine) (words : List Bytes) (seed clients messages : ℕ) (before : Option (List Bytes)) → reading words ≡ Ok (commands.Drill seed clients messages) → RunsFor (commands_for m words) statuses.NotBuilt before before
+drilled-runs m words seed clients messages before is = idle-runs m words statuses.NotBuilt before (no-drill-commands m words seed clients messages is)
+
+pub misread-cause : (e : WordsError) (f r : ℕ) → EndCause (shown (misread_as e)) f f r r
+misread-cause words_errors.OutOfMemory f r = (omega arith, omega arith)
+misread-cause (words_errors.Refused e) f r = (refl, refl)

@@ -1,0 +1,44 @@
+use Rattle.std.proofs.lemmas.Result.{err_from_is_err_and}
+use Rattle.ssh_mux.proofs.CauseLemmas.{written-cause, all-ran}
+use Rattle.ssh_mux.proofs.ListLemmas.{list-comes, list-taken, list-lists}
+use Rattle.ssh_mux.proofs.StillLemmas.{on_false, not_false, still-due, quiet-out, quiet-count, loud}
+use Rattle.ssh_mux.proofs.listing.list.Goals as goal
+
+pub returns-in_err-text-clause-exact : goal.returns-in_err-text-clause-exact
+returns-in_err-text-clause-exact g c = let p = err_from_is_err_and c.from_residual.result c.from_residual.ensures.1 in rw (p.1, p.2) (still-due _ _ c.in_err-text.ensures.exact)
+
+pub returns-in_err-text-clause-out : goal.returns-in_err-text-clause-out
+returns-in_err-text-clause-out g c = let p = err_from_is_err_and c.from_residual.result c.from_residual.ensures.1 in rw (p.1, p.2) (quiet-out _ _ _ (loud _))
+
+pub returns-in_err-text-clause-unwritten : goal.returns-in_err-text-clause-unwritten
+returns-in_err-text-clause-unwritten g c = on_false _ _
+
+pub returns-in_err-text-clause-unlisted : goal.returns-in_err-text-clause-unlisted
+returns-in_err-text-clause-unlisted g c = on_false _ _
+
+pub returns-in_err-text-clause-out_cause : goal.returns-in_err-text-clause-out_cause
+returns-in_err-text-clause-out_cause g c = let p = err_from_is_err_and c.from_residual.result c.from_residual.ensures.1 in rw (p.1, p.2) (quiet-count _ _ (loud _))
+
+pub returns-in_err-text-clause-ran : goal.returns-in_err-text-clause-ran
+returns-in_err-text-clause-ran g c = let p = err_from_is_err_and c.from_residual.result c.from_residual.ensures.1 in rw (p.1, p.2) c.in_err-text.ensures.ran
+
+pub returns-in_err-text-clause-cause : goal.returns-in_err-text-clause-cause
+returns-in_err-text-clause-cause g c = let p = err_from_is_err_and c.from_residual.result c.from_residual.ensures.1 in rw (p.1, p.2) c.in_err-text.ensures.cause
+
+pub returns-clause-exact : goal.returns-clause-exact
+returns-clause-exact g c = list-comes _ _ _ c.in_ok-text.ensures.exact (rw c.as_bytes.ensures at c.hand_over.ensures.exact)
+
+pub returns-clause-out : goal.returns-clause-out
+returns-clause-out g c = list-taken _ _ _ _ _ c.in_ok-text.ensures.exact (rw c.as_bytes.ensures at c.hand_over.ensures.out)
+
+pub returns-clause-unwritten : goal.returns-clause-unwritten
+returns-clause-unwritten g c = not_false _ _ c.hand_over.ensures.tried
+
+pub returns-clause-unlisted : goal.returns-clause-unlisted
+returns-clause-unlisted g c = not_false _ _ (list-lists _ _ c.in_ok-text.ensures.exact)
+
+pub returns-clause-ran : goal.returns-clause-ran
+returns-clause-ran g c = all-ran _ _ _ _ _ c.in_ok-text.ensures.ran
+
+pub returns-clause-cause : goal.returns-clause-cause
+returns-clause-cause g c = written-cause _ _ _ _ _ c.hand_over.ensures.tried c.in_ok-text.ensures.cause

@@ -1,0 +1,89 @@
+use Rattle.std.proofs.Common.{Err, refl, ◌∙◌}
+use Rattle.std.proofs.lemmas.Result.{err_from_is_err_and}
+use Rattle.conf_rules.specs.declared.command.Command.TheVariants as commands
+use Rattle.conf_rules.specs.Diagnostics as ends
+use Rattle.ssh_mux.specs.declared.ending.Ending.TheVariants as endings
+use Rattle.ssh_mux.specs.Outcomes.{machine, of_command}
+use Rattle.ssh_mux.specs.Sharing.{pid_of, policy_of}
+use Rattle.ssh_mux.proofs.CauseLemmas.{shared-cause, all-ran}
+use Rattle.ssh_mux.proofs.SharingLemmas.{pid_is, master-comes, master-opens, master-opened, master-shares}
+use Rattle.ssh_mux.proofs.StillLemmas.{on_false, on_true, not_false, still-due, still-opened, still-shared, still-wire, still-calls, starved-due}
+use Rattle.ssh_mux.proofs.master.share.Goals as goal
+
+pub returns-in_err-control-clause-exact : goal.returns-in_err-control-clause-exact
+returns-in_err-control-clause-exact g c = let p = err_from_is_err_and c.from_residual.result c.from_residual.ensures.1 in rw (p.1, p.2) (still-due _ _ (c.in_err-control.ensures.exact _ _ _))
+
+pub returns-in_err-control-clause-opened : goal.returns-in_err-control-clause-opened
+returns-in_err-control-clause-opened g c = let p = err_from_is_err_and c.from_residual.result c.from_residual.ensures.1 in rw (p.1, p.2) (still-opened _ _ _ (c.in_err-control.ensures.exact _ _ _))
+
+pub returns-in_err-control-clause-served : goal.returns-in_err-control-clause-served
+returns-in_err-control-clause-served g c = let p = err_from_is_err_and c.from_residual.result c.from_residual.ensures.1 in rw (p.1, p.2) (still-shared _ _ _ _ _ _ _ _ (c.in_err-control.ensures.exact _ _ _))
+
+pub returns-in_err-control-clause-wire_cause : goal.returns-in_err-control-clause-wire_cause
+returns-in_err-control-clause-wire_cause g c = let p = err_from_is_err_and c.from_residual.result c.from_residual.ensures.1 in rw (p.1, p.2) (still-wire _ _ _ _ _ _ (c.in_err-control.ensures.exact _ _ _))
+
+pub returns-in_err-control-clause-wire : goal.returns-in_err-control-clause-wire
+returns-in_err-control-clause-wire g c = on_false _ _
+
+pub returns-in_err-control-clause-house : goal.returns-in_err-control-clause-house
+returns-in_err-control-clause-house g c = on_false _ _
+
+pub returns-in_err-control-clause-ran : goal.returns-in_err-control-clause-ran
+returns-in_err-control-clause-ran g c = let p = err_from_is_err_and c.from_residual.result c.from_residual.ensures.1 in rw (p.1, p.2) (c.in_err-control.ensures.ran _ _ _)
+
+pub returns-in_err-control-clause-cause : goal.returns-in_err-control-clause-cause
+returns-in_err-control-clause-cause g c = let p = err_from_is_err_and c.from_residual.result c.from_residual.ensures.1 in rw (p.1, p.2) c.in_err-control.ensures.cause
+
+pub returns-clause-exact : goal.returns-clause-exact
+returns-clause-exact g c = master-comes _ _ _ _ _ _ (c.in_ok-control.ensures.exact _ _ _) c.open_and_serve.ensures.ends
+
+pub returns-clause-opened : goal.returns-clause-opened
+returns-clause-opened g c = master-opened _ _ _ _ _ _ _ _ (c.in_ok-control.ensures.exact _ _ _) (master-opens _ c.open_and_serve.ensures.ends) c.open_and_serve.ensures.opened
+
+pub returns-clause-served : goal.returns-clause-served
+returns-clause-served g c = on_true _ _ (rw (c.in_ok-policy.ensures.exact, c.unwrap_or-pid.ensures ∙ pid_is c.args.facts.now.pid) at c.open_and_serve.ensures.served)
+
+pub returns-clause-wire_cause : goal.returns-clause-wire_cause
+returns-clause-wire_cause g c = on_true _ _ c.open_and_serve.ensures.cause
+
+pub returns-clause-wire : goal.returns-clause-wire
+returns-clause-wire g c = not_false _ _ (master-shares _ _ _ _ _ _ (c.in_ok-control.ensures.exact _ _ _) c.open_and_serve.ensures.ends)
+
+pub returns-clause-house : goal.returns-clause-house
+returns-clause-house g c = not_false _ _ (master-shares _ _ _ _ _ _ (c.in_ok-control.ensures.exact _ _ _) c.open_and_serve.ensures.ends)
+
+pub returns-clause-ran : goal.returns-clause-ran
+returns-clause-ran g c = all-ran _ _ _ _ _ (c.in_ok-control.ensures.ran _ _ _)
+
+pub returns-clause-cause : goal.returns-clause-cause
+returns-clause-cause g c = shared-cause _ _ _ _ _ c.open_and_serve.ensures.ends c.in_ok-control.ensures.cause
+
+pub returns-in_err-control-clause-calls : goal.returns-in_err-control-clause-calls
+returns-in_err-control-clause-calls g c = still-calls _ _ _
+
+pub returns-in_err-policy-clause-exact : goal.returns-in_err-policy-clause-exact
+returns-in_err-policy-clause-exact g c = let p = err_from_is_err_and c.from_residual-in_err-policy.result c.from_residual-in_err-policy.ensures.1 in let e = c.in_err-policy.ensures.err in rw (p.1, p.2, e) tt
+
+pub returns-in_err-policy-clause-opened : goal.returns-in_err-policy-clause-opened
+returns-in_err-policy-clause-opened g c = let p = err_from_is_err_and c.from_residual-in_err-policy.result c.from_residual-in_err-policy.ensures.1 in let e = c.in_err-policy.ensures.err in rw (p.1, p.2, e) (still-opened (of_command (machine (g.F.Files.told c.args.files.now) (g.R.Runner.told c.args.runner.now) c.args.facts.now) (commands.Master c.args.asked.now c.args.transport.now c.args.opens.now c.args.listens.now)) ends.NoMemory (g.W.Wire.openings c.args.wire.now) (starved-due (of_command (machine (g.F.Files.told c.args.files.now) (g.R.Runner.told c.args.runner.now) c.args.facts.now) (commands.Master c.args.asked.now c.args.transport.now c.args.opens.now c.args.listens.now))))
+
+pub returns-in_err-policy-clause-served : goal.returns-in_err-policy-clause-served
+returns-in_err-policy-clause-served g c = let p = err_from_is_err_and c.from_residual-in_err-policy.result c.from_residual-in_err-policy.ensures.1 in let e = c.in_err-policy.ensures.err in rw (p.1, p.2, e) (still-shared (of_command (machine (g.F.Files.told c.args.files.now) (g.R.Runner.told c.args.runner.now) c.args.facts.now) (commands.Master c.args.asked.now c.args.transport.now c.args.opens.now c.args.listens.now)) endings.NoMemory g.H.House.may (policy_of c.args.opens.now c.args.listens.now) (pid_of c.args.facts.now.pid) c.args.turns (g.H.House.told c.args.house.now) (g.W.Wire.seen c.args.wire.now).told (starved-due (of_command (machine (g.F.Files.told c.args.files.now) (g.R.Runner.told c.args.runner.now) c.args.facts.now) (commands.Master c.args.asked.now c.args.transport.now c.args.opens.now c.args.listens.now))))
+
+pub returns-in_err-policy-clause-wire_cause : goal.returns-in_err-policy-clause-wire_cause
+returns-in_err-policy-clause-wire_cause g c = let p = err_from_is_err_and c.from_residual-in_err-policy.result c.from_residual-in_err-policy.ensures.1 in let e = c.in_err-policy.ensures.err in rw (p.1, p.2, e) (still-wire (of_command (machine (g.F.Files.told c.args.files.now) (g.R.Runner.told c.args.runner.now) c.args.facts.now) (commands.Master c.args.asked.now c.args.transport.now c.args.opens.now c.args.listens.now)) ends.NoMemory (g.W.Wire.server_faults c.args.wire.now) (g.W.Wire.server_faults c.args.wire.now) (g.W.Wire.client_faults c.args.wire.now) (g.W.Wire.client_faults c.args.wire.now) (starved-due (of_command (machine (g.F.Files.told c.args.files.now) (g.R.Runner.told c.args.runner.now) c.args.facts.now) (commands.Master c.args.asked.now c.args.transport.now c.args.opens.now c.args.listens.now))))
+
+pub returns-in_err-policy-clause-wire : goal.returns-in_err-policy-clause-wire
+returns-in_err-policy-clause-wire g c = on_false _ _
+
+pub returns-in_err-policy-clause-house : goal.returns-in_err-policy-clause-house
+returns-in_err-policy-clause-house g c = on_false _ _
+
+pub returns-in_err-policy-clause-ran : goal.returns-in_err-policy-clause-ran
+returns-in_err-policy-clause-ran g c = all-ran _ _ _ _ _ (c.in_ok-control.ensures.ran _ _ _)
+
+pub returns-in_err-policy-clause-cause : goal.returns-in_err-policy-clause-cause
+returns-in_err-policy-clause-cause g c = let p = err_from_is_err_and c.from_residual-in_err-policy.result c.from_residual-in_err-policy.ensures.1 in let e = c.in_err-policy.ensures.err in rw (p.1, p.2, e) (shared-cause (Err endings.NoMemory) _ _ _ _ refl c.in_ok-control.ensures.cause)
+
+pub returns-in_err-policy-clause-calls : goal.returns-in_err-policy-clause-calls
+returns-in_err-policy-clause-calls g c = still-calls _ _ _

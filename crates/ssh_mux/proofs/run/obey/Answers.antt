@@ -1,0 +1,172 @@
+use Rattle.std.proofs.Common.{refl}
+use Rattle.std.proofs.lemmas.Result.{err_from_is_err_and}
+use Rattle.conf_rules.specs.Diagnostics as ends
+use Rattle.ssh_mux.specs.declared.ending.Ending.TheVariants as endings
+use Rattle.ssh_mux.specs.declared.status.Status.TheVariants as statuses
+use Rattle.ssh_mux.specs.Answers.{so_far}
+use Rattle.ssh_mux.specs.Outcomes.{machine, of_words}
+use Rattle.ssh_mux.specs.Sharing.{Shares, pid_of, policy_in}
+use Rattle.ssh_mux.proofs.PolicyLemmas.{are-permitted, with-policy}
+use Rattle.ssh_mux.proofs.RefusalLemmas.{list-looks, list-shut, master-looks, master-quiet}
+use Rattle.ssh_mux.proofs.SharingLemmas.{none-opened, none-taken, none-counted}
+use Rattle.ssh_mux.proofs.StillLemmas.{on_false, not_false, not_true, shut, loud, quiet-out, quiet-count, still-due, still-opened, still-shared, still-wire, still-calls, of-read, for-read, misread, misread-runs, misread-cause, drilled, drilled-runs}
+use Rattle.ssh_mux.proofs.run.obey.Goals as goal
+
+pub returns-in_err-command-clause-exact : goal.returns-in_err-command-clause-exact
+returns-in_err-command-clause-exact g c = let p = err_from_is_err_and c.from_residual.result c.from_residual.ensures.1 in rw (p.1, p.2) (still-due _ _ (misread _ _ _ c.in_err-command.ensures.exact))
+
+pub returns-in_err-command-clause-cause : goal.returns-in_err-command-clause-cause
+returns-in_err-command-clause-cause g c = let p = err_from_is_err_and c.from_residual.result c.from_residual.ensures.1 in rw (p.1, p.2) (misread-cause _ _ _)
+
+pub returns-in_err-command-clause-out : goal.returns-in_err-command-clause-out
+returns-in_err-command-clause-out g c = let p = err_from_is_err_and c.from_residual.result c.from_residual.ensures.1 in rw (p.1, p.2) (quiet-out _ _ _ (loud _))
+
+pub returns-in_err-command-clause-unwritten : goal.returns-in_err-command-clause-unwritten
+returns-in_err-command-clause-unwritten g c = on_false _ _
+
+pub returns-in_err-command-clause-unlisted : goal.returns-in_err-command-clause-unlisted
+returns-in_err-command-clause-unlisted g c = on_false _ _
+
+pub returns-in_err-command-clause-out_cause : goal.returns-in_err-command-clause-out_cause
+returns-in_err-command-clause-out_cause g c = let p = err_from_is_err_and c.from_residual.result c.from_residual.ensures.1 in rw (p.1, p.2) (quiet-count _ _ (loud _))
+
+pub returns-in_err-command-clause-ran : goal.returns-in_err-command-clause-ran
+returns-in_err-command-clause-ran g c = let p = err_from_is_err_and c.from_residual.result c.from_residual.ensures.1 in rw (p.1, p.2) (misread-runs _ _ _ _ c.in_err-command.ensures.exact)
+
+pub returns-in_err-command-clause-files : goal.returns-in_err-command-clause-files
+returns-in_err-command-clause-files g c = on_false _ _
+
+pub returns-in_err-command-clause-runner : goal.returns-in_err-command-clause-runner
+returns-in_err-command-clause-runner g c = on_false _ _
+
+pub returns-in_err-command-clause-opened : goal.returns-in_err-command-clause-opened
+returns-in_err-command-clause-opened g c = let p = err_from_is_err_and c.from_residual.result c.from_residual.ensures.1 in rw (p.1, p.2) (still-opened _ _ _ (misread _ _ _ c.in_err-command.ensures.exact))
+
+pub returns-in_err-command-clause-shared : goal.returns-in_err-command-clause-shared
+returns-in_err-command-clause-shared g c = let p = err_from_is_err_and c.from_residual.result c.from_residual.ensures.1 in rw (p.1, p.2) (still-shared _ _ _ _ _ _ _ _ (misread _ _ _ c.in_err-command.ensures.exact))
+
+pub returns-in_err-command-clause-wire_cause : goal.returns-in_err-command-clause-wire_cause
+returns-in_err-command-clause-wire_cause g c = let p = err_from_is_err_and c.from_residual.result c.from_residual.ensures.1 in rw (p.1, p.2) (still-wire _ _ _ _ _ _ (misread _ _ _ c.in_err-command.ensures.exact))
+
+pub returns-in_err-command-clause-wire : goal.returns-in_err-command-clause-wire
+returns-in_err-command-clause-wire g c = on_false _ _
+
+pub returns-in_err-command-clause-house : goal.returns-in_err-command-clause-house
+returns-in_err-command-clause-house g c = on_false _ _
+
+pub returns-in-Drill-clause-exact : goal.returns-in-Drill-clause-exact
+returns-in-Drill-clause-exact g c = still-due (of_words (machine (g.F.Files.told c.args.files.now) (g.R.Runner.told c.args.runner.now) c.args.facts.now) c.args.words.now) ends.NotServed (drilled (machine (g.F.Files.told c.args.files.now) (g.R.Runner.told c.args.runner.now) c.args.facts.now) c.args.words.now _ _ _ (rw c.in-Drill.is at c.in_ok-command.ensures.exact))
+
+pub returns-in-Drill-clause-out : goal.returns-in-Drill-clause-out
+returns-in-Drill-clause-out g c = quiet-out statuses.NotBuilt (of_words (machine (g.F.Files.told c.args.files.now) (g.R.Runner.told c.args.runner.now) c.args.facts.now) c.args.words.now) (g.S.Sink.told c.args.out.now) refl
+
+pub returns-in-Drill-clause-unlisted : goal.returns-in-Drill-clause-unlisted
+returns-in-Drill-clause-unlisted g c = on_false _ _
+
+pub returns-in-Drill-clause-ran : goal.returns-in-Drill-clause-ran
+returns-in-Drill-clause-ran g c = drilled-runs _ _ _ _ _ _ (rw c.in-Drill.is at c.in_ok-command.ensures.exact)
+
+pub returns-in-Drill-clause-files : goal.returns-in-Drill-clause-files
+returns-in-Drill-clause-files g c = on_false _ _
+
+pub returns-in-Drill-clause-runner : goal.returns-in-Drill-clause-runner
+returns-in-Drill-clause-runner g c = on_false _ _
+
+pub returns-in-Drill-clause-opened : goal.returns-in-Drill-clause-opened
+returns-in-Drill-clause-opened g c = still-opened (of_words (machine (g.F.Files.told c.args.files.now) (g.R.Runner.told c.args.runner.now) c.args.facts.now) c.args.words.now) ends.NotServed (g.W.Wire.openings c.args.wire.now) (drilled (machine (g.F.Files.told c.args.files.now) (g.R.Runner.told c.args.runner.now) c.args.facts.now) c.args.words.now _ _ _ (rw c.in-Drill.is at c.in_ok-command.ensures.exact))
+
+pub returns-in-Drill-clause-shared : goal.returns-in-Drill-clause-shared
+returns-in-Drill-clause-shared g c = still-shared (of_words (machine (g.F.Files.told c.args.files.now) (g.R.Runner.told c.args.runner.now) c.args.facts.now) c.args.words.now) endings.NotServed g.H.House.may (policy_in (of_words (machine (g.F.Files.told c.args.files.now) (g.R.Runner.told c.args.runner.now) c.args.facts.now) c.args.words.now)) (pid_of c.args.facts.now.pid) c.args.turns (g.H.House.told c.args.house.now) (g.W.Wire.seen c.args.wire.now).told (drilled (machine (g.F.Files.told c.args.files.now) (g.R.Runner.told c.args.runner.now) c.args.facts.now) c.args.words.now _ _ _ (rw c.in-Drill.is at c.in_ok-command.ensures.exact))
+
+pub returns-in-Drill-clause-wire_cause : goal.returns-in-Drill-clause-wire_cause
+returns-in-Drill-clause-wire_cause g c = still-wire (of_words (machine (g.F.Files.told c.args.files.now) (g.R.Runner.told c.args.runner.now) c.args.facts.now) c.args.words.now) ends.NotServed (g.W.Wire.server_faults c.args.wire.now) (g.W.Wire.server_faults c.args.wire.now) (g.W.Wire.client_faults c.args.wire.now) (g.W.Wire.client_faults c.args.wire.now) (drilled (machine (g.F.Files.told c.args.files.now) (g.R.Runner.told c.args.runner.now) c.args.facts.now) c.args.words.now _ _ _ (rw c.in-Drill.is at c.in_ok-command.ensures.exact))
+
+pub returns-in-Drill-clause-wire : goal.returns-in-Drill-clause-wire
+returns-in-Drill-clause-wire g c = on_false _ _
+
+pub returns-in-Drill-clause-house : goal.returns-in-Drill-clause-house
+returns-in-Drill-clause-house g c = on_false _ _
+
+pub returns-in-List-clause-exact : goal.returns-in-List-clause-exact
+returns-in-List-clause-exact g c = rw (of-read _ _ _ (rw c.in-List.is at c.in_ok-command.ensures.exact)) c.list.ensures.exact
+
+pub returns-in-List-clause-out : goal.returns-in-List-clause-out
+returns-in-List-clause-out g c = rw (of-read _ _ _ (rw c.in-List.is at c.in_ok-command.ensures.exact)) c.list.ensures.out
+
+pub returns-in-List-clause-unlisted : goal.returns-in-List-clause-unlisted
+returns-in-List-clause-unlisted g c = rw (of-read _ _ _ (rw c.in-List.is at c.in_ok-command.ensures.exact)) c.list.ensures.unlisted
+
+pub returns-in-List-clause-ran : goal.returns-in-List-clause-ran
+returns-in-List-clause-ran g c = rw (for-read _ _ _ (rw c.in-List.is at c.in_ok-command.ensures.exact)) c.list.ensures.ran
+
+pub returns-in-List-clause-files : goal.returns-in-List-clause-files
+returns-in-List-clause-files g c = rw (of-read _ _ _ (rw c.in-List.is at c.in_ok-command.ensures.exact)) (not_false _ _ (list-looks _ _))
+
+pub returns-in-List-clause-runner : goal.returns-in-List-clause-runner
+returns-in-List-clause-runner g c = rw (of-read _ _ _ (rw c.in-List.is at c.in_ok-command.ensures.exact)) (not_false _ _ (list-looks _ _))
+
+pub returns-in-List-clause-opened : goal.returns-in-List-clause-opened
+returns-in-List-clause-opened g c = rw (of-read _ _ _ (rw c.in-List.is at c.in_ok-command.ensures.exact)) (none-opened _ _ _ (list-shut _ _))
+
+pub returns-in-List-clause-shared : goal.returns-in-List-clause-shared
+returns-in-List-clause-shared g c = rw (of-read _ _ _ (rw c.in-List.is at c.in_ok-command.ensures.exact)) (not_true _ _ (shut _ _ (list-shut _ _)))
+
+pub returns-in-List-clause-wire_cause : goal.returns-in-List-clause-wire_cause
+returns-in-List-clause-wire_cause g c = rw (of-read _ _ _ (rw c.in-List.is at c.in_ok-command.ensures.exact)) (not_true _ _ (shut _ _ (list-shut _ _)))
+
+pub returns-in-List-clause-wire : goal.returns-in-List-clause-wire
+returns-in-List-clause-wire g c = on_false _ _
+
+pub returns-in-List-clause-house : goal.returns-in-List-clause-house
+returns-in-List-clause-house g c = on_false _ _
+
+pub share-requires : goal.share-requires
+share-requires g c = record { permitted = are-permitted _ _ _ _ _ (rw c.in-Master.is at c.in_ok-command.ensures.exact) }
+
+pub returns-in-Master-clause-exact : goal.returns-in-Master-clause-exact
+returns-in-Master-clause-exact g c = rw (of-read _ _ _ (rw c.in-Master.is at c.in_ok-command.ensures.exact)) c.share.ensures.exact
+
+pub returns-in-Master-clause-out : goal.returns-in-Master-clause-out
+returns-in-Master-clause-out g c = rw (of-read _ _ _ (rw c.in-Master.is at c.in_ok-command.ensures.exact)) (none-taken _ _ _ (master-quiet _ _ _ _ _))
+
+pub returns-in-Master-clause-unwritten : goal.returns-in-Master-clause-unwritten
+returns-in-Master-clause-unwritten g c = on_false _ _
+
+pub returns-in-Master-clause-unlisted : goal.returns-in-Master-clause-unlisted
+returns-in-Master-clause-unlisted g c = on_false _ _
+
+pub returns-in-Master-clause-out_cause : goal.returns-in-Master-clause-out_cause
+returns-in-Master-clause-out_cause g c = none-counted _ _ _ (master-quiet _ _ _ _ _) c.share.ensures.exact
+
+pub returns-in-Master-clause-ran : goal.returns-in-Master-clause-ran
+returns-in-Master-clause-ran g c = rw (for-read _ _ _ (rw c.in-Master.is at c.in_ok-command.ensures.exact)) c.share.ensures.ran
+
+pub returns-in-Master-clause-files : goal.returns-in-Master-clause-files
+returns-in-Master-clause-files g c = rw (of-read _ _ _ (rw c.in-Master.is at c.in_ok-command.ensures.exact)) (not_false _ _ (master-looks _ _ _ _ _))
+
+pub returns-in-Master-clause-runner : goal.returns-in-Master-clause-runner
+returns-in-Master-clause-runner g c = rw (of-read _ _ _ (rw c.in-Master.is at c.in_ok-command.ensures.exact)) (not_false _ _ (master-looks _ _ _ _ _))
+
+pub returns-in-Master-clause-opened : goal.returns-in-Master-clause-opened
+returns-in-Master-clause-opened g c = rw (of-read _ _ _ (rw c.in-Master.is at c.in_ok-command.ensures.exact)) c.share.ensures.opened
+
+pub returns-in-Master-clause-shared : goal.returns-in-Master-clause-shared
+returns-in-Master-clause-shared g c = rw (of-read _ _ _ (rw c.in-Master.is at c.in_ok-command.ensures.exact)) (with-policy (machine (g.F.Files.told c.args.files.now) (g.R.Runner.told c.args.runner.now) c.args.facts.now) c.in-Master.asked c.in-Master.transport c.in-Master.opens c.in-Master.listens (so_far c.share.result) (λ p. Shares g.H.House.may p (pid_of c.args.facts.now.pid) c.args.turns (g.H.House.told c.args.house.now) (g.H.House.told c.share.new.house) (g.W.Wire.seen c.args.wire.now).told (g.W.Wire.seen c.share.new.wire).told c.share.result) c.share.ensures.served)
+
+pub returns-in-Master-clause-wire_cause : goal.returns-in-Master-clause-wire_cause
+returns-in-Master-clause-wire_cause g c = rw (of-read _ _ _ (rw c.in-Master.is at c.in_ok-command.ensures.exact)) c.share.ensures.wire_cause
+
+pub returns-in-Master-clause-wire : goal.returns-in-Master-clause-wire
+returns-in-Master-clause-wire g c = rw (of-read _ _ _ (rw c.in-Master.is at c.in_ok-command.ensures.exact)) c.share.ensures.wire
+
+pub returns-in-Master-clause-house : goal.returns-in-Master-clause-house
+returns-in-Master-clause-house g c = rw (of-read _ _ _ (rw c.in-Master.is at c.in_ok-command.ensures.exact)) c.share.ensures.house
+
+pub returns-in_err-command-clause-calls : goal.returns-in_err-command-clause-calls
+returns-in_err-command-clause-calls g c = still-calls _ _ _
+
+pub returns-in-Drill-clause-calls : goal.returns-in-Drill-clause-calls
+returns-in-Drill-clause-calls g c = still-calls _ _ _
+
+pub returns-in-List-clause-calls : goal.returns-in-List-clause-calls
+returns-in-List-clause-calls g c = still-calls _ _ _

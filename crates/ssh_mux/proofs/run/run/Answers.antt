@@ -1,0 +1,47 @@
+use Rattle.ssh_mux.proofs.EndLemmas.{ended, ended-well, well-cause, out_after, untouched_after, fault_after, runs_after, sink_after, opened_after, shared_after, shared_well, calls_after, wire_after, stays_after, same_told}
+use Rattle.ssh_mux.proofs.run.run.Goals as goal
+
+pub returns-in-Ok-clause-ended : goal.returns-in-Ok-clause-ended
+returns-in-Ok-clause-ended g c = ended-well _ _ _ _ _ _ _ _ c.in-Ok.ensures.exact
+
+pub returns-in-Ok-clause-fault_cause : goal.returns-in-Ok-clause-fault_cause
+returns-in-Ok-clause-fault_cause g c = well-cause _ _ _ _ _ _ c.in-Ok.ensures.exact c.in-Ok.ensures.cause
+
+pub returns-in-Err-clause-ended : goal.returns-in-Err-clause-ended
+returns-in-Err-clause-ended g c = ended _ _ _ _ _ _ _ _ _ _ _ c.in-Err.ensures.exact c.in-Err.ensures.cause c.report.ensures
+
+pub returns-in-Err-clause-fault_cause : goal.returns-in-Err-clause-fault_cause
+returns-in-Err-clause-fault_cause g c = fault_after _ _ _ _ _ _ _ _ _ _ c.report.ensures c.in-Err.ensures.cause
+
+pub returns-in-Err-clause-out : goal.returns-in-Err-clause-out
+returns-in-Err-clause-out g c = out_after _ _ _ _ _ _ _ _ _ c.report.ensures c.in-Err.ensures.out
+
+pub returns-in-Err-clause-unwritten : goal.returns-in-Err-clause-unwritten
+returns-in-Err-clause-unwritten g c = untouched_after _ _ _ _ _ _ _ c.report.ensures c.in-Err.ensures.unwritten
+
+pub returns-in-Err-clause-out_cause : goal.returns-in-Err-clause-out_cause
+returns-in-Err-clause-out_cause g c = sink_after _ _ _ _ _ _ _ _ c.report.ensures c.in-Err.ensures.out_cause
+
+pub returns-in-Err-clause-ran : goal.returns-in-Err-clause-ran
+returns-in-Err-clause-ran g c = runs_after _ _ _ _ _ _ _ _ _ c.report.ensures c.in-Err.ensures.ran
+
+pub returns-in-Err-clause-opened : goal.returns-in-Err-clause-opened
+returns-in-Err-clause-opened g c = opened_after _ _ _ _ _ _ _ _ _ c.report.ensures c.in-Err.ensures.opened
+
+pub returns-in-Ok-clause-shared : goal.returns-in-Ok-clause-shared
+returns-in-Ok-clause-shared g c = shared_well _ _ _ _ _ _ _ _ _ _ _ _ c.in-Ok.ensures.shared
+
+pub returns-in-Err-clause-shared : goal.returns-in-Err-clause-shared
+returns-in-Err-clause-shared g c = shared_after _ _ _ _ _ _ _ _ _ _ _ _ _ _ _ c.report.ensures c.in-Err.ensures.shared (same_told _ (λ w. (g.W.Wire.seen w).told) _ _ c.in-Err.ensures.wire) (same_told _ g.H.House.told _ _ c.in-Err.ensures.house)
+
+pub returns-in-Err-clause-calls : goal.returns-in-Err-clause-calls
+returns-in-Err-clause-calls g c = calls_after _ _ _ _ _ _ _ _ _ c.report.ensures c.in-Err.ensures.calls
+
+pub returns-in-Err-clause-wire_cause : goal.returns-in-Err-clause-wire_cause
+returns-in-Err-clause-wire_cause g c = wire_after _ _ _ _ _ _ _ _ _ _ _ c.report.ensures c.in-Err.ensures.wire_cause
+
+pub returns-in-Err-clause-wire : goal.returns-in-Err-clause-wire
+returns-in-Err-clause-wire g c = stays_after _ _ _ _ _ _ _ _ c.report.ensures c.in-Err.ensures.wire
+
+pub returns-in-Err-clause-house : goal.returns-in-Err-clause-house
+returns-in-Err-clause-house g c = stays_after _ _ _ _ _ _ _ _ c.report.ensures c.in-Err.ensures.house

@@ -1,0 +1,107 @@
+-- Which endings and statuses may come of words.
+use Rattle.std.specs.Prelude.{◌≡◌, ◌⊎◌, ◌&&◌, ◌||◌, Bool, true, false, IsTrue, Result, Ok, Err}
+use Rattle.conf_rules.specs.declared.causes.Cause.TheVariants.{ReadFault, RunFault}
+use Rattle.conf_rules.specs.declared.causes.ResolveError.TheVariants.{At}
+use Rattle.conf_rules.specs.Diagnostics.{Ending, BadLine, BadListing, NoControlPath, NotServed}
+use Rattle.conf_rules.specs.Diagnostics.{NotOpened, TransportFailed, ServerBroke, TurnsSpent, NoMemory}
+use Rattle.conf_rules.specs.Outcome.{Outcome, Ends, Writes, Opens, Drills}
+use Rattle.ssh_mux.specs.declared.ending.Ending.{Ending as MeantEnding}
+use Rattle.ssh_mux.specs.declared.status.Status.{Status}
+use Rattle.ssh_mux.specs.declared.status.Status.TheVariants.{Done, Usage, Config, Outside}
+use Rattle.ssh_mux.specs.declared.status.Status.TheVariants.{Write, Memory}
+use Rattle.ssh_mux.specs.Ending.{shown}
+use Rattle.ssh_mux.specs.Outcomes.{Known, Certain, Listing, Master, looks, lists, opens, succeeds}
+use Rattle.ssh_mux.specs.Status.{status_of}
+
+-- ---- endings
+
+-- whether a configuration is refused, or what is listed of it
+abbrev pub is_refusal : Ending → Bool
+is_refusal (BadLine e) = true
+is_refusal (BadListing e) = true
+is_refusal other = false
+
+-- whether a master may end so before it opens its sockets
+abbrev pub refuses_master : Ending → Bool
+refuses_master NoControlPath = true
+refuses_master ending = is_refusal ending
+
+-- whether a master may end so: its sockets weren't opened, or it was served
+abbrev pub ends_master : Ending → Bool
+ends_master NotOpened = true
+ends_master TransportFailed = true
+ends_master (ServerBroke index why) = true
+ends_master TurnsSpent = true
+ends_master other = false
+
+-- The ending is that of the outcome. Want of memory is free, and a fault has its count; where the
+-- outcome isn't known, it is some ending of such a command.
+abbrev pub IsDue : Known → Ending → Type 0
+IsDue known NoMemory = Unit
+IsDue known (BadLine (At file line ReadFault)) = IsTrue (looks known)
+IsDue known (BadLine (At file line RunFault)) = IsTrue (looks known)
+IsDue (Certain (Ends due)) ending = ending ≡ due
+IsDue (Certain (Writes text)) ending = ⊥
+IsDue (Certain (Opens control transport opens listens)) ending = IsTrue (ends_master ending)
+IsDue (Certain (Drills seed clients messages)) ending = ending ≡ NotServed
+IsDue Listing ending = IsTrue (is_refusal ending)
+IsDue (Master transport opens listens) ending = IsTrue (refuses_master ending || ends_master ending)
+
+-- the same before a listing is written or a wire is opened
+abbrev pub IsRefused : Known → Ending → Type 0
+IsRefused known NoMemory = Unit
+IsRefused known (BadLine (At file line ReadFault)) = IsTrue (looks known)
+IsRefused known (BadLine (At file line RunFault)) = IsTrue (looks known)
+IsRefused (Certain (Ends due)) ending = ending ≡ due
+IsRefused (Certain (Writes text)) ending = ⊥
+IsRefused (Certain (Opens control transport opens listens)) ending = ⊥
+IsRefused (Certain (Drills seed clients messages)) ending = ending ≡ NotServed
+IsRefused Listing ending = IsTrue (is_refusal ending)
+IsRefused (Master transport opens listens) ending = IsTrue (refuses_master ending)
+
+-- what was found is what the outcome shows, or the outcome isn't known; or the ending is due
+abbrev pub Finds : {A : Type 0} → (A → Outcome) → Known → Known → Result A MeantEnding → Type 0
+Finds shows unknown known (Ok x) = (known ≡ Certain (shows x)) ⊎ (known ≡ unknown)
+Finds shows unknown known (Err ending) = IsRefused known (shown ending)
+
+-- ---- statuses
+
+-- whether a status has no line
+abbrev pub is_silent : Status → Bool
+is_silent Done = true
+is_silent Write = true
+is_silent other = false
+
+-- a status without a line
+abbrev pub IsWell : Known → Status → Type 0
+IsWell known Done = IsTrue (succeeds known)
+IsWell known Write = IsTrue (lists known)
+IsWell known other = ⊥
+
+-- how a run went before its line is written
+abbrev pub Comes : Known → Result Status MeantEnding → Type 0
+Comes known (Ok status) = IsWell known status
+Comes known (Err ending) = IsDue known (shown ending)
+
+-- its status then
+abbrev pub so_far : Result Status MeantEnding → Status
+so_far (Ok status) = status
+so_far (Err ending) = status_of (shown ending)
+
+-- whether something may have been written
+abbrev pub may_write : Status → Bool
+may_write Done = true
+may_write Write = true
+may_write Memory = true
+may_write other = false
+
+-- whether a wire may have been opened
+abbrev pub may_open : Status → Bool
+may_open Usage = false
+may_open Config = false
+may_open Outside = false
+may_open other = true
+
+-- whether one may have been opened for what is known to come
+abbrev pub may_share : Known → Status → Bool
+may_share known status = may_open status && opens known

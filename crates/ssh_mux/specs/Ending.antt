@@ -1,0 +1,39 @@
+-- Endings, as the rules of the configuration define them.
+use Rattle.conf_command.specs.declared.reader.WordsError.{WordsError}
+use Rattle.conf_command.specs.declared.reader.WordsError.TheVariants as words_errors
+use Rattle.conf_rules.specs.declared.causes.ListError.{ListError}
+use Rattle.conf_rules.specs.declared.causes.ListError.TheVariants as list_errors
+use Rattle.conf_rules.specs.declared.causes.ResolveError.{ResolveError}
+use Rattle.conf_rules.specs.declared.causes.ResolveError.TheVariants as resolve_errors
+use Rattle.conf_rules.specs.Diagnostics as defined
+use Rattle.ssh_mux.specs.Breaks.{break_text}
+use Rattle.ssh_mux.specs.declared.ending.Ending.{Ending}
+use Rattle.ssh_mux.specs.declared.ending.Ending.TheVariants as endings
+
+-- the ending that is meant
+abbrev pub shown : Ending → defined.Ending
+shown (endings.BadWords e) = defined.BadWords e
+shown (endings.BadLine file line cause) = defined.BadLine (resolve_errors.At file line cause)
+shown (endings.BadListing key error) = defined.BadListing (list_errors.Token key error)
+shown endings.NoControlPath = defined.NoControlPath
+shown endings.NotServed = defined.NotServed
+shown endings.NotOpened = defined.NotOpened
+shown endings.TransportFailed = defined.TransportFailed
+shown (endings.ServerBroke index why) = defined.ServerBroke index (break_text why)
+shown endings.TurnsSpent = defined.TurnsSpent
+shown endings.NoMemory = defined.NoMemory
+
+-- the ending of words that have no reading
+abbrev pub misread_as : WordsError → Ending
+misread_as (words_errors.Refused e) = endings.BadWords e
+misread_as words_errors.OutOfMemory = endings.NoMemory
+
+-- the ending of a configuration that is refused
+abbrev pub refused_as : ResolveError → Ending
+refused_as (resolve_errors.At file line cause) = endings.BadLine file line cause
+refused_as resolve_errors.OutOfMemory = endings.NoMemory
+
+-- the ending of settings that can't be listed
+abbrev pub unlisted_as : ListError → Ending
+unlisted_as (list_errors.Token key error) = endings.BadListing key error
+unlisted_as list_errors.OutOfMemory = endings.NoMemory

@@ -1,0 +1,63 @@
+-- What the standard error has taken.
+use Rattle.std.specs.Prelude.{◌≡◌, ℕ, List, ◌++◌, ◌⊎◌, Option, Some, None}
+use Rattle.conf_rules.specs.Diagnostics.{Ending, line_of, NoMemory}
+use Rattle.mux_outside.specs.Counts.{Rose}
+use Rattle.mux_outside.specs.Sink.{TookPrefix}
+use Rattle.ssh_mux.specs.declared.status.Status.{Status}
+use Rattle.ssh_mux.specs.declared.status.Status.TheVariants.{Done, Write, Memory}
+use Rattle.ssh_mux.specs.Answers.{IsDue, IsWell}
+use Rattle.ssh_mux.specs.Causes.{EndCause}
+use Rattle.ssh_mux.specs.Outcomes.{Known}
+use Rattle.ssh_mux.specs.Status.{status_of}
+
+-- the whole line, or where the sink failed a prefix of it
+abbrev pub TookLine : List ℕ → Option (List ℕ) → Option (List ℕ) → ℕ → ℕ → Type 0
+TookLine line None None faults faults' = Unit
+TookLine line None (Some now) faults faults' = ⊥
+TookLine line (Some before) None faults faults' = ⊥
+TookLine line (Some before) (Some now) faults faults' =
+    (now ≡ before ++ line) ⊎ (TookPrefix before now line × Rose faults faults')
+
+-- some of the line, or nothing
+abbrev pub TookSome : List ℕ → Option (List ℕ) → Option (List ℕ) → Type 0
+TookSome line None None = Unit
+TookSome line None (Some now) = ⊥
+TookSome line (Some before) None = ⊥
+TookSome line (Some before) (Some now) = TookPrefix before now line
+
+-- a line was handed over; where there was no memory for it, that is the status, and nothing was
+-- taken
+abbrev pub PutsLine : Status → Status → List ℕ → Option (List ℕ) → Option (List ℕ) → ℕ → ℕ → Type 0
+PutsLine result status line before now faults faults' =
+    ((result ≡ status) × TookLine line before now faults faults')
+    ⊎ ((result ≡ Memory) × (now ≡ before))
+
+-- the line of an ending was handed over, or that of want of memory
+abbrev pub Reports : Status → Ending → Option (List ℕ) → Option (List ℕ) → ℕ → ℕ → Type 0
+Reports Memory ending before now faults faults' = TookSome (line_of NoMemory) before now
+Reports result ending before now faults faults' =
+    (result ≡ status_of ending) × TookLine (line_of ending) before now faults faults'
+
+-- the run ended by an ending that is due, whose line was handed over, and whose fault, if it is one,
+-- raised its count
+pub record EndsBy (known : Known) (status : Status) (before now : Option (List ℕ))
+    (faults faults' files files' runner runner' : ℕ) : Type 0 where
+  pub ending : Ending
+  pub is_due : IsDue known ending
+  pub has_status : status ≡ status_of ending
+  pub told : TookLine (line_of ending) before now faults faults'
+  pub cause : EndCause ending files files' runner runner'
+
+-- How a run ended: without a word where it went well or `out` failed, with the line of its ending
+-- otherwise; of the line of want of memory some part may be written. `files` and `runner` count
+-- their faults.
+abbrev pub Ended :
+    Known → Status → Option (List ℕ) → Option (List ℕ) → ℕ → ℕ → ℕ → ℕ → ℕ → ℕ → Type 0
+Ended known Done before now faults faults' files files' runner runner' =
+    IsWell known Done × (now ≡ before)
+Ended known Write before now faults faults' files files' runner runner' =
+    IsWell known Write × (now ≡ before)
+Ended known Memory before now faults faults' files files' runner runner' =
+    TookSome (line_of NoMemory) before now
+Ended known status before now faults faults' files files' runner runner' =
+    EndsBy known status before now faults faults' files files' runner runner'

@@ -1,0 +1,156 @@
+-- What a master opens, and how its run goes.
+use Rattle.std.specs.Prelude.{◌≡◌, ◌≢◌, ◌≤◌, ◌+◌, ℕ, ◌⊎◌, List, [], ◌∷◌, ◌++◌, Option, Some, None, option_map, Result, Ok, Err}
+use Rattle.conf_rules.specs.Outcome.{Opens}
+use Rattle.conf_rules.specs.Texts.{Bytes}
+use Rattle.forward_rules.specs.Allows.{read_policy}
+use Rattle.mux_engine.specs.Run.{IsRun}
+use Rattle.mux_history.specs.declared.ended.Ended.{Ended}
+use Rattle.mux_history.specs.declared.ended.Ended.TheVariants as ends
+use Rattle.mux_history.specs.Policy.{Policy, any_policy}
+use Rattle.mux_outside.specs.Counts.{Rose}
+use Rattle.mux_outside.specs.House.{Asked}
+use Rattle.mux_outside.specs.declared.house.HouseReply.{HouseReply}
+use Rattle.mux_outside.specs.declared.mark.Mark.{Mark}
+use Rattle.mux_outside.specs.declared.mark.Opening.{Opening}
+use Rattle.mux_outside.specs.Seen.{Calls}
+use Rattle.mux_outside.specs.Wire.{SomeFault}
+use Rattle.ssh_mux.specs.declared.ending.Ending.{Ending as MeantEnding}
+use Rattle.ssh_mux.specs.declared.ending.Ending.TheVariants as endings
+use Rattle.ssh_mux.specs.declared.status.Status.{Status}
+use Rattle.ssh_mux.specs.declared.status.Status.TheVariants.{Done, Config, Outside, Open}
+use Rattle.ssh_mux.specs.declared.status.Status.TheVariants.{Transport, Memory}
+use Rattle.ssh_mux.specs.Ending.{shown}
+use Rattle.ssh_mux.specs.Err.{Reports}
+use Rattle.ssh_mux.specs.Outcomes.{Known, Certain, Master}
+
+-- ---- the opening
+
+-- one opening more
+abbrev pub opened : Bytes → Bytes → Option (List Opening) → Option (List Opening)
+opened control transport before =
+    option_map (λ os. os ++ record { control = control; transport = transport } ∷ []) before
+
+-- the wire was opened once, with this control path and transport, but for want of memory
+abbrev pub OpensAt : Bytes → Bytes → Status → Option (List Opening) → Option (List Opening) → Type 0
+OpensAt control transport Memory before now =
+    (now ≡ before) ⊎ (now ≡ opened control transport before)
+OpensAt control transport status before now = now ≡ opened control transport before
+
+-- the wire was opened with some control path and this transport
+pub record OpensBy (transport : Bytes) (before now : Option (List Opening)) : Type 0 where
+  pub control : Bytes
+  pub once : now ≡ opened control transport before
+
+-- it was opened so once, unless the configuration is refused, a fault came before or memory was
+-- wanting
+abbrev pub OpensSome : Bytes → Status → Option (List Opening) → Option (List Opening) → Type 0
+OpensSome transport Config before now = now ≡ before
+OpensSome transport Outside before now = now ≡ before
+OpensSome transport Memory before now = (now ≡ before) ⊎ OpensBy transport before now
+OpensSome transport status before now = OpensBy transport before now
+
+-- the same of what comes of words: only a master opens the wire, and none behind a fault
+abbrev pub OpensOnce : Known → Status → Option (List Opening) → Option (List Opening) → Type 0
+OpensOnce (Certain (Opens control transport opens listens)) Outside before now = now ≡ before
+OpensOnce (Certain (Opens control transport opens listens)) status before now =
+    OpensAt control transport status before now
+OpensOnce (Master transport opens listens) status before now = OpensSome transport status before now
+OpensOnce known status before now = now ≡ before
+
+-- ---- the run
+
+-- the policy of permissions; those of words that were read always have one
+abbrev pub policy_of : List Bytes → List Bytes → Policy
+policy_of opens listens =
+    elim (read_policy opens listens) [ Ok policy ↦ policy | Err bad ↦ any_policy ]
+
+-- the policy of a master
+abbrev pub policy_in : Known → Policy
+policy_in (Certain (Opens control transport opens listens)) = policy_of opens listens
+policy_in (Master transport opens listens) = policy_of opens listens
+policy_in known = any_policy
+
+-- how the end of a run is told
+abbrev pub told_as : Ended → Result Status MeantEnding
+told_as ends.ServerEnd = Ok Done
+told_as ends.Disconnected = Ok Done
+told_as (ends.Terminated client id) = Ok Done
+told_as ends.ServerFailed = Err endings.TransportFailed
+told_as (ends.Broke index why) = Err (endings.ServerBroke index why)
+told_as ends.Spent = Err endings.TurnsSpent
+told_as ends.OutOfMemory = Err endings.NoMemory
+
+-- nothing is served: the wire and the house tell what they told before
+pub record IsUnserved (before now : Option (List Asked)) (start told : Option (List Mark)) : Type 0 where
+  pub same_wire : told ≡ start
+  pub same_house : now ≡ before
+
+-- a run that keeps its promises, and its very end; `before` and `now` are what the house tells,
+-- `start` and `told` what the wire does
+pub record IsShared (May : HouseReply → Type 0) (policy : Policy) (pid turns : ℕ)
+    (before now : Option (List Asked)) (start told : Option (List Mark))
+    (result : Result Status MeantEnding) : Type 0 where
+  pub answer : Ended
+  pub is_told : result ≡ told_as answer
+  pub run : IsRun May policy pid turns before now start told answer
+
+-- where the sockets weren't opened nothing is served
+abbrev pub Shares :
+    (HouseReply → Type 0) → Policy → ℕ → ℕ → Option (List Asked) → Option (List Asked)
+    → Option (List Mark) → Option (List Mark) → Result Status MeantEnding → Type 0
+Shares May policy pid turns before now start told (Err endings.NotOpened) =
+    IsUnserved before now start told
+Shares May policy pid turns before now start told (Err endings.NoMemory) =
+    IsUnserved before now start told
+    ⊎ IsShared May policy pid turns before now start told (Err endings.NoMemory)
+Shares May policy pid turns before now start told result =
+    IsShared May policy pid turns before now start told result
+
+-- the line of an end was handed over, if it has one; there may be no memory for it
+abbrev pub TellsEnd :
+    Result Status MeantEnding → Status → Option (List ℕ) → Option (List ℕ) → ℕ → ℕ → Type 0
+TellsEnd (Ok due) status err err' faults faults' = (status ≡ due) × (err' ≡ err)
+TellsEnd (Err ending) status err err' faults faults' =
+    Reports status (shown ending) err err' faults faults'
+
+-- a run that keeps its promises, and the line of its very end
+pub record IsServed (May : HouseReply → Type 0) (policy : Policy) (pid turns : ℕ)
+    (before now : Option (List Asked)) (start told : Option (List Mark))
+    (status : Status) (err err' : Option (List ℕ)) (faults faults' : ℕ) : Type 0 where
+  pub answer : Ended
+  pub run : IsRun May policy pid turns before now start told answer
+  pub line : TellsEnd (told_as answer) status err err' faults faults'
+
+-- the same of the program: where its sockets weren't opened nothing is served
+abbrev pub Serves :
+    (HouseReply → Type 0) → Policy → ℕ → ℕ → Option (List Asked) → Option (List Asked)
+    → Option (List Mark) → Option (List Mark) → Status → Option (List ℕ) → Option (List ℕ)
+    → ℕ → ℕ → Type 0
+Serves May policy pid turns before now start told Open err err' faults faults' =
+    IsUnserved before now start told
+Serves May policy pid turns before now start told Memory err err' faults faults' =
+    IsUnserved before now start told
+    ⊎ IsServed May policy pid turns before now start told Memory err err' faults faults'
+Serves May policy pid turns before now start told status err err' faults faults' =
+    IsServed May policy pid turns before now start told status err err' faults faults'
+
+-- the process id that clients are told: 0 where none is known
+abbrev pub pid_of : Option ℕ → ℕ
+pid_of None = 0
+pid_of (Some pid) = pid
+
+-- ---- causes
+
+-- the sockets weren't opened only where a count rose, and the transport failed only where the
+-- server's did
+abbrev pub WireCause : Status → ℕ → ℕ → ℕ → ℕ → Type 0
+WireCause Open server server' client client' = SomeFault server server' client client'
+WireCause Transport server server' client client' = Rose server server'
+WireCause status server server' client client' = Unit
+
+-- `wait` is called at most so many times, and a call that finds no memory is the last
+pub record CallsEnd (turns : ℕ) (status : Status) (old new : Calls) : Type 0 where
+  pub few : new.waits ≤ old.waits + turns
+  pub wants : new.wants ≤ old.wants + 1
+  pub starved : new.wants ≢ old.wants → status ≡ Memory
+  pub late : old.wants ≡ 0 → new.late ≡ old.late

@@ -1,0 +1,157 @@
+ghost use Rattle.std.specs.Prelude.{◌≡◌, ◌++◌, OnOk, IfOk};
+ghost use Rattle.conf_rules.specs.Diagnostics.{line_of, text_of, located, cause_text};
+ghost use Rattle.ssh_mux.specs.Ending.{shown, misread_as, refused_as, unlisted_as};
+ghost use Rattle.ssh_mux.specs.Status.{status_of};
+
+use crate::diagnostics::{put_break_text, put_cause_text, put_number, put_token_text, usage_text};
+use crate::status::Status;
+use conf_command::WordsError;
+use conf_rules::{Cause, Key, ListError, ResolveError, TokenError, UsageError};
+use mux_history::Break;
+use ssh_fields::{OutOfMemory, Text};
+use std::alloc::Global;
+
+/// How a run ends of which a line is written.
+#[derive(Debug, Drop)]
+pub enum Ending {
+    /// The words have no reading.
+    BadWords(UsageError),
+    /// A line of the configuration is refused, or its file as line 0.
+    BadLine { file: Text, line: u64, cause: Cause },
+    /// The tokens of a key can't be expanded.
+    BadListing { key: Key, error: TokenError },
+    /// No control path is set.
+    NoControlPath,
+    /// What is asked for is not built yet.
+    NotServed,
+    /// The sockets could not be opened.
+    NotOpened,
+    /// The connection to the server failed.
+    TransportFailed,
+    /// The server broke the protocol, by its message with this number, counted from 1.
+    ServerBroke { index: u64, why: Break },
+    /// All turns were taken.
+    TurnsSpent,
+    /// There was no memory.
+    NoMemory,
+}
+
+impl From<WordsError> for Ending {
+    ghost from_gives = { λ e ending. ending ≡ misread_as e };
+
+    fn from(error: WordsError) -> Ending {
+        match error {
+            WordsError::Refused(e) => Ending::BadWords(e),
+            WordsError::OutOfMemory => Ending::NoMemory,
+        }
+    }
+}
+
+impl From<ResolveError> for Ending {
+    ghost from_gives = { λ e ending. ending ≡ refused_as e };
+
+    fn from(error: ResolveError) -> Ending {
+        match error {
+            ResolveError::At { file, line, cause } => Ending::BadLine { file, line, cause },
+            ResolveError::OutOfMemory => Ending::NoMemory,
+        }
+    }
+}
+
+impl From<ListError> for Ending {
+    ghost from_gives = { λ e ending. ending ≡ unlisted_as e };
+
+    fn from(error: ListError) -> Ending {
+        match error {
+            ListError::Token { key, error } => Ending::BadListing { key, error },
+            ListError::OutOfMemory => Ending::NoMemory,
+        }
+    }
+}
+
+impl Ending {
+    /// The status of the run.
+    pub fn status(&self) -> Status
+        ensures { result ≡ status_of (shown self.now) }
+    {
+        match self {
+            Ending::BadWords(_) => Status::Usage,
+            Ending::BadLine {
+                cause: Cause::ReadFault | Cause::RunFault,
+                ..
+            } => Status::Outside,
+            Ending::NotServed => Status::NotBuilt,
+            Ending::BadLine { .. } | Ending::BadListing { .. } | Ending::NoControlPath => {
+                Status::Config
+            }
+            Ending::NotOpened => Status::Open,
+            Ending::TransportFailed => Status::Transport,
+            Ending::ServerBroke { .. } => Status::Broke,
+            Ending::TurnsSpent => Status::Spent,
+            Ending::NoMemory => Status::Memory,
+        }
+    }
+
+    /// The line that is written of it.
+    #[tactic(auto, unfolding(conf_rules::specs::Diagnostics::line_of))]
+    pub fn line(&self, alloc: Global) -> Result<Text, OutOfMemory>
+        ensures { IfOk result (λ line. line ≡ line_of (shown self.now)) }
+    {
+        let mut line = Text::copy(alloc, b"ssh-mux: ")?;
+        self.put_text(alloc, &mut line)?;
+        line.push(b'\n')?;
+        Ok(line)
+    }
+
+    // The text of the line.
+    #[tactic(auto, unfolding(conf_rules::specs::Diagnostics::text_of))]
+    fn put_text(&self, alloc: Global, out: &mut Text) -> Result<(), OutOfMemory>
+        ensures { OnOk result (out.new ≡ out.old ++ text_of (shown self.now)) }
+    {
+        match self {
+            Ending::BadWords(e) => {
+                out.add(b"word ")?;
+                put_number(alloc, out, e.word)?;
+                out.add(b": ")?;
+                out.add(usage_text(e.cause))
+            }
+            Ending::NotServed => out.add(b"not built yet"),
+            Ending::BadLine { file, line, cause } => {
+                put_located(alloc, out, file.as_bytes(), *line, cause)
+            }
+            Ending::BadListing { key, error } => {
+                out.add(key.keyword())?;
+                out.add(b": ")?;
+                put_token_text(out, error)
+            }
+            Ending::NoControlPath => out.add(b"controlpath: not set"),
+            Ending::NotOpened => out.add(b"cannot open the sockets"),
+            Ending::TransportFailed => out.add(b"the transport failed"),
+            Ending::ServerBroke { index, why } => {
+                out.add(b"server message ")?;
+                put_number(alloc, out, *index)?;
+                out.add(b": ")?;
+                put_break_text(alloc, out, why)
+            }
+            Ending::TurnsSpent => out.add(b"turns are spent"),
+            Ending::NoMemory => out.add(b"out of memory"),
+        }
+    }
+}
+
+// A file's line with the text of its cause.
+fn put_located(
+    alloc: Global,
+    out: &mut Text,
+    file: &[u8],
+    line: u64,
+    cause: &Cause,
+) -> Result<(), OutOfMemory>
+    ensures { OnOk result (out.new ≡ out.old ++ located file.now line (cause_text cause.now)) }
+{
+    out.add(file)?;
+    out.add(b" line ")?;
+    put_number(alloc, out, line)?;
+    out.add(b": ")?;
+    put_cause_text(out, cause)
+}

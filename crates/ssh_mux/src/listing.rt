@@ -1,0 +1,82 @@
+ghost use Rattle.std.specs.Prelude.{◌≡◌, true};
+ghost use Rattle.std.specs.Bool.{OnFalse};
+ghost use Rattle.conf_rules.specs.declared.command.Command.TheVariants as commands;
+ghost use Rattle.conf_rules.specs.Outcome.{Writes};
+ghost use Rattle.ssh_mux.specs.Answers.{Comes, Finds, so_far, may_write};
+ghost use Rattle.ssh_mux.specs.Causes.{Caused, OutCause};
+ghost use Rattle.ssh_mux.specs.Commands.{RunsFor, RunsUnless, commands_of};
+ghost use Rattle.ssh_mux.specs.Out.{OutTakes};
+ghost use Rattle.ssh_mux.specs.Outcomes.{Certain, Listing, machine, of_command, lists};
+
+use crate::ending::Ending;
+use crate::status::Status;
+use conf_output::listing;
+use conf_resolve::resolve;
+use conf_rules::Asked;
+use mux_outside::{Facts, FileError, Files, Runner, Sink};
+use ssh_fields::Text;
+use std::alloc::Global;
+
+/// Lists the settings of what the words ask for: `-G`.
+pub fn list<F: Files, R: Runner, S: Sink>(
+    alloc: Global,
+    asked: &Asked,
+    facts: &Facts,
+    files: &mut F,
+    runner: &mut R,
+    out: &mut S,
+) -> Result<Status, Ending>
+    ensures exact { Comes (of_command (machine (F.told files.old) (R.told runner.old) facts.now)
+        (commands.List asked.now)) result }
+    ensures out { OutTakes (so_far result)
+        (of_command (machine (F.told files.old) (R.told runner.old) facts.now)
+        (commands.List asked.now)) (S.told out.old) (S.told out.new) }
+    ensures unwritten { OnFalse (may_write (so_far result)) (out.new ≡ out.old) }
+    ensures unlisted { OnFalse
+        (lists (of_command (machine (F.told files.old) (R.told runner.old) facts.now)
+        (commands.List asked.now))) (out.new ≡ out.old) }
+    ensures out_cause { OutCause (so_far result) (S.faults out.old) (S.faults out.new) }
+    ensures ran { RunsFor (commands_of (machine (F.told files.old) (R.told runner.old) facts.now)
+        (commands.List asked.now)) (so_far result) (R.ran runner.old) (R.ran runner.new) }
+    ensures cause { Caused result (F.faults files.old) (F.faults files.new)
+        (R.faults runner.old) (R.faults runner.new) }
+{
+    let text = listing_of(alloc, asked, facts, files, runner)?;
+    hand_over(out, text.as_bytes())
+}
+
+// The listing of what the words ask for.
+fn listing_of<F: Files, R: Runner>(
+    alloc: Global,
+    asked: &Asked,
+    facts: &Facts,
+    files: &mut F,
+    runner: &mut R,
+) -> Result<Text, Ending>
+    ensures exact { Finds Writes Listing
+        (of_command (machine (F.told files.old) (R.told runner.old) facts.now)
+        (commands.List asked.now)) result }
+    ensures ran { RunsUnless (commands_of (machine (F.told files.old) (R.told runner.old) facts.now)
+        (commands.List asked.now)) result (R.ran runner.old) (R.ran runner.new) }
+    ensures cause { Caused result (F.faults files.old) (F.faults files.new)
+        (R.faults runner.old) (R.faults runner.new) }
+{
+    let settings = resolve(alloc, asked, facts, files, runner)?;
+    let text = listing(alloc, &settings, asked.original.as_bytes(), facts)?;
+    Ok(text)
+}
+
+// Hands a listing over, whole.
+fn hand_over<S: Sink>(out: &mut S, text: &[u8]) -> Result<Status, Ending>
+    ensures exact { Comes (Certain (Writes text.now)) result }
+    ensures out { OutTakes (so_far result) (Certain (Writes text.now))
+        (S.told out.old) (S.told out.new) }
+    ensures tried { may_write (so_far result) ≡ true }
+    ensures cause { OutCause (so_far result) (S.faults out.old) (S.faults out.new) }
+{
+    match out.put(text) {
+        Ok(()) => Ok(Status::Done),
+        Err(FileError::Failed) => Ok(Status::Write),
+        Err(FileError::OutOfMemory) => Err(Ending::NoMemory),
+    }
+}

@@ -1,0 +1,161 @@
+ghost use Rattle.std.specs.Prelude.{◌≡◌, List, IfOk, IsOk};
+ghost use Rattle.std.specs.Bool.{OnTrue, OnFalse};
+ghost use Rattle.conf_rules.specs.declared.command.Command.TheVariants as commands;
+ghost use Rattle.conf_rules.specs.Texts.{Bytes};
+ghost use Rattle.forward_rules.specs.Allows.{read_policy};
+ghost use Rattle.ssh_mux.specs.Answers.{Comes, Finds, so_far, may_share};
+ghost use Rattle.ssh_mux.specs.Causes.{Caused};
+ghost use Rattle.ssh_mux.specs.Commands.{RunsFor, RunsUnless, commands_of};
+ghost use Rattle.ssh_mux.specs.Master.{EndsMaster, OnlyStarves};
+ghost use Rattle.ssh_mux.specs.Outcomes.{Master, machine, of_command, opens_at};
+ghost use Rattle.ssh_mux.specs.Sharing.{CallsEnd, OpensAt, OpensOnce, Shares, WireCause};
+ghost use Rattle.ssh_mux.specs.Sharing.{pid_of, policy_of as the_policy_of, told_as};
+
+use crate::ending::Ending;
+use crate::status::Status;
+use conf_output::control_path;
+use conf_resolve::resolve;
+use conf_rules::Asked;
+use forward_rules::{Policy, PolicyError};
+use mux_engine::serve;
+use mux_history::Ended;
+use mux_outside::{Facts, FileError, Files, House, Runner, Wire};
+use ssh_fields::{Text, Texts};
+use std::alloc::Global;
+
+/// Shares a connection as the words ask: `-M`. The wire is opened at the control path of their
+/// settings, and is served for so many turns at most, with the permissions of the words, which have
+/// no bad entry.
+pub fn share<W: Wire, F: Files, R: Runner, H: House>(
+    alloc: Global,
+    asked: &Asked,
+    transport: &Text,
+    opens: &Texts,
+    listens: &Texts,
+    facts: &Facts,
+    wire: &mut W,
+    files: &mut F,
+    runner: &mut R,
+    house: &mut H,
+    turns: u64,
+) -> Result<Status, Ending>
+    requires permitted { IsOk (read_policy opens.now listens.now) }
+    ensures exact { Comes (of_command (machine (F.told files.old) (R.told runner.old) facts.now)
+        (commands.Master asked.now transport.now opens.now listens.now)) result }
+    ensures opened { OpensOnce
+        (of_command (machine (F.told files.old) (R.told runner.old) facts.now)
+        (commands.Master asked.now transport.now opens.now listens.now)) (so_far result)
+        (W.openings wire.old) (W.openings wire.new) }
+    ensures served { OnTrue (may_share
+        (of_command (machine (F.told files.old) (R.told runner.old) facts.now)
+        (commands.Master asked.now transport.now opens.now listens.now)) (so_far result))
+        (Shares H.may (the_policy_of opens.now listens.now) (pid_of facts.now.pid) turns
+        (H.told house.old) (H.told house.new)
+        (W.seen wire.old).told (W.seen wire.new).told result) }
+    ensures wire_cause { OnTrue (may_share
+        (of_command (machine (F.told files.old) (R.told runner.old) facts.now)
+        (commands.Master asked.now transport.now opens.now listens.now)) (so_far result))
+        (WireCause (so_far result) (W.server_faults wire.old) (W.server_faults wire.new)
+        (W.client_faults wire.old) (W.client_faults wire.new)) }
+    ensures calls { CallsEnd turns (so_far result) (W.calls wire.old) (W.calls wire.new) }
+    ensures wire { OnFalse (may_share
+        (of_command (machine (F.told files.old) (R.told runner.old) facts.now)
+        (commands.Master asked.now transport.now opens.now listens.now)) (so_far result))
+        (wire.new ≡ wire.old) }
+    ensures house { OnFalse (may_share
+        (of_command (machine (F.told files.old) (R.told runner.old) facts.now)
+        (commands.Master asked.now transport.now opens.now listens.now)) (so_far result))
+        (house.new ≡ house.old) }
+    ensures ran { RunsFor
+        (commands_of (machine (F.told files.old) (R.told runner.old) facts.now)
+        (commands.Master asked.now transport.now opens.now listens.now)) (so_far result)
+        (R.ran runner.old) (R.ran runner.new) }
+    ensures cause { Caused result (F.faults files.old) (F.faults files.new)
+        (R.faults runner.old) (R.faults runner.new) }
+{
+    let control = control_of(alloc, asked, facts, files, runner)?;
+    let policy = policy_of(alloc, opens, listens)?;
+    let pid = facts.pid.unwrap_or(0);
+    open_and_serve(alloc, &control, transport, policy, pid, wire, house, turns)
+}
+
+// The control path of what the words ask for.
+fn control_of<F: Files, R: Runner>(
+    alloc: Global,
+    asked: &Asked,
+    facts: &Facts,
+    files: &mut F,
+    runner: &mut R,
+) -> Result<Text, Ending>
+    ensures exact { (transport : Bytes) (opens listens : List Bytes) →
+        Finds (opens_at transport opens listens) (Master transport opens listens)
+        (of_command (machine (F.told files.old) (R.told runner.old) facts.now)
+        (commands.Master asked.now transport opens listens)) result }
+    ensures ran { (transport : Bytes) (opens listens : List Bytes) →
+        RunsUnless (commands_of (machine (F.told files.old) (R.told runner.old) facts.now)
+        (commands.Master asked.now transport opens listens)) result
+        (R.ran runner.old) (R.ran runner.new) }
+    ensures cause { Caused result (F.faults files.old) (F.faults files.new)
+        (R.faults runner.old) (R.faults runner.new) }
+{
+    let settings = resolve(alloc, asked, facts, files, runner)?;
+    let found = control_path(alloc, &settings, asked.original.as_bytes(), facts)?;
+    match found {
+        Some(path) => Ok(path),
+        None => Err(Ending::NoControlPath),
+    }
+}
+
+// The policy of permissions without a bad entry.
+fn policy_of(alloc: Global, opens: &Texts, listens: &Texts) -> Result<Policy, Ending>
+    requires permitted { IsOk (read_policy opens.now listens.now) }
+    ensures exact { IfOk result (λ policy. policy ≡ the_policy_of opens.now listens.now) }
+    ensures err { OnlyStarves result }
+{
+    match Policy::read(alloc, opens, listens) {
+        Ok(policy) => Ok(policy),
+        Err(PolicyError::OutOfMemory) => Err(Ending::NoMemory),
+        Err(PolicyError::BadEntry { .. }) => unreachable!(),
+    }
+}
+
+// Opens the wire, and serves it.
+fn open_and_serve<W: Wire, H: House>(
+    alloc: Global,
+    control: &Text,
+    transport: &Text,
+    policy: Policy,
+    pid: u32,
+    wire: &mut W,
+    house: &mut H,
+    turns: u64,
+) -> Result<Status, Ending>
+    ensures ends { EndsMaster result }
+    ensures opened { OpensAt control.now transport.now (so_far result)
+        (W.openings wire.old) (W.openings wire.new) }
+    ensures served { Shares H.may policy pid turns (H.told house.old) (H.told house.new)
+        (W.seen wire.old).told (W.seen wire.new).told result }
+    ensures cause { WireCause (so_far result) (W.server_faults wire.old) (W.server_faults wire.new)
+        (W.client_faults wire.old) (W.client_faults wire.new) }
+    ensures calls { CallsEnd turns (so_far result) (W.calls wire.old) (W.calls wire.new) }
+{
+    match wire.open(control.as_bytes(), transport.as_bytes()) {
+        Ok(()) => ending_of(serve(alloc, policy, pid, wire, house, turns)),
+        Err(FileError::Failed) => Err(Ending::NotOpened),
+        Err(FileError::OutOfMemory) => Err(Ending::NoMemory),
+    }
+}
+
+// What the end of a run is for the program.
+fn ending_of(ended: Ended) -> Result<Status, Ending>
+    ensures ends { EndsMaster result }
+    ensures told { result ≡ told_as ended }
+{
+    match ended {
+        Ended::ServerEnd | Ended::Disconnected | Ended::Terminated { .. } => Ok(Status::Done),
+        Ended::ServerFailed => Err(Ending::TransportFailed),
+        Ended::Broke { index, why } => Err(Ending::ServerBroke { index, why }),
+        Ended::Spent => Err(Ending::TurnsSpent),
+        Ended::OutOfMemory => Err(Ending::NoMemory),
+    }
+}

@@ -1,0 +1,162 @@
+ghost use Rattle.std.specs.Prelude.{◌≡◌};
+ghost use Rattle.std.specs.Bool.{OnFalse, OnTrue};
+ghost use Rattle.ssh_mux.specs.Answers.{Comes, so_far, may_write, may_share};
+ghost use Rattle.ssh_mux.specs.Causes.{Caused, FaultCause, OutCause};
+ghost use Rattle.ssh_mux.specs.Commands.{RunsFor, commands_for};
+ghost use Rattle.ssh_mux.specs.Err.{Ended};
+ghost use Rattle.ssh_mux.specs.Out.{OutTakes};
+ghost use Rattle.ssh_mux.specs.Outcomes.{machine, of_words, lists, looks};
+ghost use Rattle.ssh_mux.specs.Sharing.{CallsEnd, OpensOnce, Serves, Shares, WireCause};
+ghost use Rattle.ssh_mux.specs.Sharing.{pid_of, policy_in};
+
+use crate::ending::Ending;
+use crate::listing::list;
+use crate::master::share;
+use crate::report::report;
+use crate::status::Status;
+use conf_command::read_words;
+use conf_rules::Command;
+use mux_outside::{Facts, Files, House, Runner, Sink, Wire};
+use ssh_fields::Texts;
+use std::alloc::Global;
+
+/// Does what the words ask for, over the outside that is handed in, and tells how it ended.
+///
+/// `words` are the program's words without its name. What they ask for is resolved over `files`,
+/// whose commands `runner` runs. The listing of `-G` goes to `out` in one `put`, once it is
+/// complete. `-M` opens the wire and serves it for at most `turns` turns. A status other than that
+/// of success or of a failed `out` has its one line, which goes to `err` in one `put`; where there
+/// is no memory for it the status is that of want of memory.
+pub fn run<W: Wire, F: Files, R: Runner, S: Sink, H: House>(
+    alloc: Global,
+    words: &Texts,
+    facts: &Facts,
+    wire: &mut W,
+    files: &mut F,
+    runner: &mut R,
+    out: &mut S,
+    err: &mut S,
+    house: &mut H,
+    turns: u64,
+) -> Status
+    ensures ended { Ended
+        (of_words (machine (F.told files.old) (R.told runner.old) facts.now) words.now)
+        result (S.told err.old) (S.told err.new) (S.faults err.old) (S.faults err.new)
+        (F.faults files.old) (F.faults files.new) (R.faults runner.old) (R.faults runner.new) }
+    ensures fault_cause { FaultCause result (F.faults files.old) (F.faults files.new)
+        (R.faults runner.old) (R.faults runner.new) }
+    ensures out { OutTakes result
+        (of_words (machine (F.told files.old) (R.told runner.old) facts.now) words.now)
+        (S.told out.old) (S.told out.new) }
+    ensures unwritten { OnFalse (may_write result) (out.new ≡ out.old) }
+    ensures unlisted { OnFalse
+        (lists (of_words (machine (F.told files.old) (R.told runner.old) facts.now) words.now))
+        (out.new ≡ out.old) }
+    ensures out_cause { OutCause result (S.faults out.old) (S.faults out.new) }
+    ensures ran { RunsFor
+        (commands_for (machine (F.told files.old) (R.told runner.old) facts.now) words.now)
+        result (R.ran runner.old) (R.ran runner.new) }
+    ensures files { OnFalse
+        (looks (of_words (machine (F.told files.old) (R.told runner.old) facts.now) words.now))
+        (files.new ≡ files.old) }
+    ensures runner { OnFalse
+        (looks (of_words (machine (F.told files.old) (R.told runner.old) facts.now) words.now))
+        (runner.new ≡ runner.old) }
+    ensures opened { OpensOnce
+        (of_words (machine (F.told files.old) (R.told runner.old) facts.now) words.now)
+        result (W.openings wire.old) (W.openings wire.new) }
+    ensures shared { OnTrue (may_share
+        (of_words (machine (F.told files.old) (R.told runner.old) facts.now) words.now)
+        result) (Serves H.may
+        (policy_in (of_words (machine (F.told files.old) (R.told runner.old) facts.now) words.now))
+        (pid_of facts.now.pid) turns (H.told house.old) (H.told house.new)
+        (W.seen wire.old).told (W.seen wire.new).told result
+        (S.told err.old) (S.told err.new) (S.faults err.old) (S.faults err.new)) }
+    ensures wire_cause { OnTrue (may_share
+        (of_words (machine (F.told files.old) (R.told runner.old) facts.now) words.now)
+        result) (WireCause result (W.server_faults wire.old) (W.server_faults wire.new)
+        (W.client_faults wire.old) (W.client_faults wire.new)) }
+    ensures calls { CallsEnd turns result (W.calls wire.old) (W.calls wire.new) }
+    ensures wire { OnFalse (may_share
+        (of_words (machine (F.told files.old) (R.told runner.old) facts.now) words.now)
+        result) (wire.new ≡ wire.old) }
+    ensures house { OnFalse (may_share
+        (of_words (machine (F.told files.old) (R.told runner.old) facts.now) words.now)
+        result) (house.new ≡ house.old) }
+{
+    match obey(alloc, words, facts, wire, files, runner, out, house, turns) {
+        Ok(status) => status,
+        Err(ending) => report(alloc, err, &ending),
+    }
+}
+
+// Does what the words ask for.
+fn obey<W: Wire, F: Files, R: Runner, S: Sink, H: House>(
+    alloc: Global,
+    words: &Texts,
+    facts: &Facts,
+    wire: &mut W,
+    files: &mut F,
+    runner: &mut R,
+    out: &mut S,
+    house: &mut H,
+    turns: u64,
+) -> Result<Status, Ending>
+    ensures exact { Comes
+        (of_words (machine (F.told files.old) (R.told runner.old) facts.now) words.now)
+        result }
+    ensures cause { Caused result (F.faults files.old) (F.faults files.new)
+        (R.faults runner.old) (R.faults runner.new) }
+    ensures out { OutTakes (so_far result)
+        (of_words (machine (F.told files.old) (R.told runner.old) facts.now) words.now)
+        (S.told out.old) (S.told out.new) }
+    ensures unwritten { OnFalse (may_write (so_far result)) (out.new ≡ out.old) }
+    ensures unlisted { OnFalse
+        (lists (of_words (machine (F.told files.old) (R.told runner.old) facts.now) words.now))
+        (out.new ≡ out.old) }
+    ensures out_cause { OutCause (so_far result) (S.faults out.old) (S.faults out.new) }
+    ensures ran { RunsFor
+        (commands_for (machine (F.told files.old) (R.told runner.old) facts.now) words.now)
+        (so_far result) (R.ran runner.old) (R.ran runner.new) }
+    ensures files { OnFalse
+        (looks (of_words (machine (F.told files.old) (R.told runner.old) facts.now) words.now))
+        (files.new ≡ files.old) }
+    ensures runner { OnFalse
+        (looks (of_words (machine (F.told files.old) (R.told runner.old) facts.now) words.now))
+        (runner.new ≡ runner.old) }
+    ensures opened { OpensOnce
+        (of_words (machine (F.told files.old) (R.told runner.old) facts.now) words.now)
+        (so_far result) (W.openings wire.old) (W.openings wire.new) }
+    ensures shared { OnTrue (may_share
+        (of_words (machine (F.told files.old) (R.told runner.old) facts.now) words.now)
+        (so_far result)) (Shares H.may
+        (policy_in (of_words (machine (F.told files.old) (R.told runner.old) facts.now) words.now))
+        (pid_of facts.now.pid) turns (H.told house.old) (H.told house.new)
+        (W.seen wire.old).told (W.seen wire.new).told result) }
+    ensures wire_cause { OnTrue (may_share
+        (of_words (machine (F.told files.old) (R.told runner.old) facts.now) words.now)
+        (so_far result)) (WireCause (so_far result)
+        (W.server_faults wire.old) (W.server_faults wire.new)
+        (W.client_faults wire.old) (W.client_faults wire.new)) }
+    ensures calls { CallsEnd turns (so_far result) (W.calls wire.old) (W.calls wire.new) }
+    ensures wire { OnFalse (may_share
+        (of_words (machine (F.told files.old) (R.told runner.old) facts.now) words.now)
+        (so_far result)) (wire.new ≡ wire.old) }
+    ensures house { OnFalse (may_share
+        (of_words (machine (F.told files.old) (R.told runner.old) facts.now) words.now)
+        (so_far result)) (house.new ≡ house.old) }
+{
+    let command = read_words(alloc, words)?;
+    match command {
+        Command::List(asked) => list(alloc, &asked, facts, files, runner, out),
+        Command::Master {
+            asked,
+            transport,
+            opens,
+            listens,
+        } => share(
+            alloc, &asked, &transport, &opens, &listens, facts, wire, files, runner, house, turns,
+        ),
+        Command::Drill { .. } => Err(Ending::NotServed),
+    }
+}

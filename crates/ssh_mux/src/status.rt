@@ -1,0 +1,48 @@
+ghost use Rattle.std.specs.Prelude.{◌≡◌};
+ghost use Rattle.ssh_mux.specs.Status.{code_of};
+
+/// How a run ended. The program's exit status is its `code`.
+#[derive(Clone, Copy, Debug, PartialEq, Eq)]
+pub enum Status {
+    /// The listing was written, or the server or a client ended the connection.
+    Done,
+    /// The words have no reading.
+    Usage,
+    /// The configuration is refused.
+    Config,
+    /// A file could not be read, or a command could not be run.
+    Outside,
+    /// The listing could not be written.
+    Write,
+    /// The sockets could not be opened.
+    Open,
+    /// The connection to the server failed.
+    Transport,
+    /// The server broke the protocol.
+    Broke,
+    /// All turns were taken.
+    Spent,
+    /// There was no memory.
+    Memory,
+    /// What was asked for is not built yet.
+    NotBuilt,
+}
+
+impl Status {
+    /// The exit status of the program.
+    pub fn code(&self) -> u8
+        ensures { result ≡ code_of self.now }
+    {
+        match self {
+            Status::Done => 0,
+            Status::Usage | Status::Config | Status::NotBuilt => 255,
+            Status::Outside => 3,
+            Status::Write => 4,
+            Status::Open => 5,
+            Status::Transport => 6,
+            Status::Broke => 7,
+            Status::Spent => 8,
+            Status::Memory => 9,
+        }
+    }
+}
