@@ -1,0 +1,40 @@
+//! Plays rows of tables over memory. Each row has the words of a run, its files, commands and facts,
+//! what the streams of its wire do, and which calls fail; and behind `>` the lines that must come of
+//! it. Rows without such lines are played for what comes, which is printed.
+#![tactic(auto)]
+
+mod answer;
+mod facts;
+mod play;
+mod row;
+mod spelling;
+mod table;
+mod trouble;
+
+use std::io;
+use table::Table;
+
+fn main(rt: HostRuntime) -> io::Result<()> {
+    let mut table = Table::new(rt.alloc());
+    for line in rt.lines(rt.alloc()) {
+        let line = line?;
+        let told = table.take(line.as_str());
+        tell(&rt, told)?;
+    }
+    let told = table.finish();
+    tell(&rt, told)?;
+    println!(rt;
+        "{} rows, {} as written",
+        table.rows(),
+        table.rows_as_written()
+    )
+}
+
+// Prints what a row came to, where it isn't what was written.
+fn tell(rt: &HostRuntime, told: Result<Option<String>, trouble::Trouble>) -> io::Result<()> {
+    match told {
+        Ok(None) => Ok(()),
+        Ok(Some(text)) => print!(rt; "{text}"),
+        Err(trouble) => println!(rt; "{trouble}"),
+    }
+}

@@ -1,0 +1,275 @@
+// One row: what a run is to be played over, and what must come of it.
+use crate::facts::{ann, forget_fact, set_fact, set_variable};
+use crate::spelling::{add_hex, spell_frames, unescape};
+use mux_outside::{
+    Calls, CommandStatus, Facts, Pair, Pairs, Statuses, Step, Steps, WriteEntry, Writes,
+};
+use ssh_fields::{OutOfMemory, Text, Texts};
+use std::alloc::Global;
+
+/// The calls that fail, of each object, by their numbers.
+#[derive(Drop)]
+pub struct Fails {
+    pub open: Calls,
+    pub file: Calls,
+    pub command: Calls,
+    pub out: Calls,
+    pub err: Calls,
+}
+
+/// A row.
+#[derive(Drop)]
+pub struct Row {
+    alloc: Global,
+    pub name: Text,
+    pub words: Texts,
+    pub files: Pairs,
+    pub commands: Statuses,
+    pub facts: Facts,
+    pub steps: Steps,
+    pub writes: Writes,
+    pub fails: Fails,
+    pub turns: u64,
+    pub expected: Texts,
+}
+
+impl Row {
+    /// A row of this name, which says nothing yet.
+    pub fn new(alloc: Global, name: Text) -> Result<Row, OutOfMemory> {
+        Ok(Row {
+            alloc,
+            name,
+            words: Texts::new(alloc),
+            files: Pairs::new(alloc),
+            commands: Statuses::new(alloc),
+            facts: ann(alloc)?,
+            steps: Steps::new(alloc),
+            writes: Writes::new(alloc),
+            fails: Fails {
+                open: Calls::new(alloc),
+                file: Calls::new(alloc),
+                command: Calls::new(alloc),
+                out: Calls::new(alloc),
+                err: Calls::new(alloc),
+            },
+            turns: u64::MAX,
+            expected: Texts::new(alloc),
+        })
+    }
+
+    /// Takes a line of the row: whether it is read. `names` are names of bytes.
+    pub fn take(&mut self, line: &str, names: &Pairs) -> Result<bool, OutOfMemory> {
+        let (head, rest) = line.split_once(' ').unwrap_or((line, ""));
+        match head {
+            "words" => self.take_words(rest),
+            "file" => self.take_file(rest),
+            "command" => self.take_command(rest),
+            "fact" => self.take_fact(rest),
+            "no" => Ok(forget_fact(&mut self.facts, rest)),
+            "var" => self.take_variable(rest),
+            "writes" => self.take_writes(rest),
+            "fails" => self.take_fails(rest),
+            "turns" => Ok(self.take_turns(rest)),
+            ">" => self.take_expected(rest, names),
+            _ => self.take_step(head, rest, names),
+        }
+    }
+
+    // The words of the run.
+    fn take_words(&mut self, rest: &str) -> Result<bool, OutOfMemory> {
+        for word in rest.split_whitespace() {
+            let Some(word) = unescape(self.alloc, word)? else {
+                return Ok(false);
+            };
+            self.words.push(word)?;
+        }
+        Ok(true)
+    }
+
+    // Two texts with a space between them.
+    fn two_texts(&self, rest: &str) -> Result<Option<(Text, Text)>, OutOfMemory> {
+        let (first, second) = rest.split_once(' ').unwrap_or((rest, ""));
+        let Some(first) = unescape(self.alloc, first)? else {
+            return Ok(None);
+        };
+        let Some(second) = unescape(self.alloc, second)? else {
+            return Ok(None);
+        };
+        Ok(Some((first, second)))
+    }
+
+    // A file by its path and its text.
+    fn take_file(&mut self, rest: &str) -> Result<bool, OutOfMemory> {
+        let Some((name, value)) = self.two_texts(rest)? else {
+            return Ok(false);
+        };
+        self.files.push(Pair { name, value })?;
+        Ok(true)
+    }
+
+    // A command by its status and its text.
+    fn take_command(&mut self, rest: &str) -> Result<bool, OutOfMemory> {
+        let (status, command) = rest.split_once(' ').unwrap_or((rest, ""));
+        let Ok(status) = status.parse::<u8>() else {
+            return Ok(false);
+        };
+        let Some(command) = unescape(self.alloc, command)? else {
+            return Ok(false);
+        };
+        self.commands.push(CommandStatus { command, status })?;
+        Ok(true)
+    }
+
+    // A fact by its name and its value.
+    fn take_fact(&mut self, rest: &str) -> Result<bool, OutOfMemory> {
+        let (name, value) = rest.split_once(' ').unwrap_or((rest, ""));
+        let Some(value) = unescape(self.alloc, value)? else {
+            return Ok(false);
+        };
+        Ok(set_fact(&mut self.facts, name, value))
+    }
+
+    // A variable of the environment.
+    fn take_variable(&mut self, rest: &str) -> Result<bool, OutOfMemory> {
+        let Some((name, value)) = self.two_texts(rest)? else {
+            return Ok(false);
+        };
+        set_variable(&mut self.facts, name, value)?;
+        Ok(true)
+    }
+
+    // How writes are answered, one by one.
+    fn take_writes(&mut self, rest: &str) -> Result<bool, OutOfMemory> {
+        for word in rest.split_whitespace() {
+            let entry = match word {
+                "all" => WriteEntry::All,
+                "later" => WriteEntry::Later,
+                "fail" => WriteEntry::Fail,
+                number => match number.parse::<usize>() {
+                    Ok(n) => WriteEntry::Some(n),
+                    Err(_) => return Ok(false),
+                },
+            };
+            self.writes.push(entry)?;
+        }
+        Ok(true)
+    }
+
+    // The calls of an object that fail.
+    fn take_fails(&mut self, rest: &str) -> Result<bool, OutOfMemory> {
+        let (object, numbers) = rest.split_once(' ').unwrap_or((rest, ""));
+        let calls = match object {
+            "open" => &mut self.fails.open,
+            "file" => &mut self.fails.file,
+            "command" => &mut self.fails.command,
+            "out" => &mut self.fails.out,
+            "err" => &mut self.fails.err,
+            _ => return Ok(false),
+        };
+        for number in numbers.split_whitespace() {
+            let Ok(number) = number.parse::<u64>() else {
+                return Ok(false);
+            };
+            calls.push(number)?;
+        }
+        Ok(true)
+    }
+
+    // How many turns there are.
+    fn take_turns(&mut self, rest: &str) -> bool {
+        match rest.parse::<u64>() {
+            Ok(turns) => {
+                self.turns = turns;
+                true
+            }
+            Err(_) => false,
+        }
+    }
+
+    // A step of the wire.
+    fn take_step(&mut self, head: &str, rest: &str, names: &Pairs) -> Result<bool, OutOfMemory> {
+        if head == "accept" {
+            self.steps.push(Step::Accept)?;
+            return Ok(true);
+        }
+        let (stream, bytes) = rest.split_once(' ').unwrap_or((rest, ""));
+        let Ok(stream) = stream.parse::<u64>() else {
+            return Ok(false);
+        };
+        let step = match head {
+            "bytes" => match bytes_of(self.alloc, bytes, names)? {
+                Some(bytes) => Step::Bytes(stream, bytes),
+                None => return Ok(false),
+            },
+            "end" => Step::End(stream),
+            "fail" => Step::Fail(stream),
+            "free" => Step::Writable(stream),
+            _ => return Ok(false),
+        };
+        self.steps.push(step)?;
+        Ok(true)
+    }
+
+    // A line that must come; that of bytes is spelled as they are shown.
+    fn take_expected(&mut self, rest: &str, names: &Pairs) -> Result<bool, OutOfMemory> {
+        let line = match rest.strip_prefix("took ") {
+            None => Text::copy(self.alloc, rest.as_bytes())?,
+            Some(took) => {
+                let (stream, bytes) = took.split_once(' ').unwrap_or((took, ""));
+                let Some(bytes) = bytes_of(self.alloc, bytes, names)? else {
+                    return Ok(false);
+                };
+                took_line(self.alloc, stream, bytes.as_bytes())?
+            }
+        };
+        self.expected.push(line)?;
+        Ok(true)
+    }
+}
+
+/// The line of what a stream took.
+pub fn took_line(alloc: Global, stream: &str, bytes: &[u8]) -> Result<Text, OutOfMemory> {
+    let mut line = Text::copy(alloc, b"took ")?;
+    line.add(stream.as_bytes())?;
+    line.add(spell_frames(alloc, bytes)?.as_bytes())?;
+    Ok(line)
+}
+
+/// The bytes that words spell: each a name, a text behind `'`, or digits of base 16.
+pub fn bytes_of(alloc: Global, words: &str, names: &Pairs) -> Result<Option<Text>, OutOfMemory> {
+    let mut out = Text::new(alloc);
+    for word in words.split_whitespace() {
+        if !add_word(&mut out, alloc, word, names)? {
+            return Ok(None);
+        }
+    }
+    Ok(Some(out))
+}
+
+// Adds the bytes of a word: whether it spells any.
+fn add_word(out: &mut Text, alloc: Global, word: &str, names: &Pairs) -> Result<bool, OutOfMemory> {
+    if let Some(text) = word.strip_prefix("'") {
+        let Some(text) = unescape(alloc, text)? else {
+            return Ok(false);
+        };
+        out.add(text.as_bytes())?;
+        return Ok(true);
+    }
+    match value_of(names, word.as_bytes()) {
+        Some(bytes) => {
+            out.add(bytes)?;
+            Ok(true)
+        }
+        None => add_hex(out, word.as_bytes()),
+    }
+}
+
+// The bytes of a name.
+fn value_of<'a>(names: &'a Pairs, name: &[u8]) -> Option<&'a [u8]> {
+    for pair in names.as_slice() {
+        if pair.name.as_bytes() == name {
+            return Some(pair.value.as_bytes());
+        }
+    }
+    None
+}
