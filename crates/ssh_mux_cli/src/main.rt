@@ -11,6 +11,7 @@ use mux_sockets::{RealFiles, RealRunner, RealSink, RealWire};
 use ssh_fields::OutOfMemory;
 use ssh_mux::{Ending, Status, report, run};
 use standard::Standard;
+use std::fs;
 use std::process::ExitCode;
 
 fn main(rt: HostRuntime) -> ExitCode {
@@ -23,9 +24,18 @@ fn main(rt: HostRuntime) -> ExitCode {
     ExitCode::from(status.code())
 }
 
+// What stands in for a standard stream that isn't open.
+const NOTHING: &str = "/dev/null";
+
 // Runs over the system, with as many turns as there are.
 fn start(rt: &HostRuntime, err: &mut RealSink<Standard>) -> Result<Status, OutOfMemory> {
     let alloc = rt.alloc();
+    // A socket would else get the number of a standard stream that isn't open, and its output.
+    let _held = [
+        fs::open(rt, NOTHING),
+        fs::open(rt, NOTHING),
+        fs::open(rt, NOTHING),
+    ];
     let words = words_of(rt, alloc)?;
     let mut files = RealFiles::new(rt.clone()?, alloc);
     let facts = facts_of(rt, alloc, &mut files)?;
