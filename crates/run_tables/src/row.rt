@@ -63,6 +63,7 @@ impl Row {
         match head {
             "words" => self.take_words(rest),
             "file" => self.take_file(rest),
+            "fill" => self.take_fill(rest),
             "command" => self.take_command(rest),
             "fact" => self.take_fact(rest),
             "no" => Ok(forget_fact(&mut self.facts, rest)),
@@ -103,6 +104,27 @@ impl Row {
         let Some((name, value)) = self.two_texts(rest)? else {
             return Ok(false);
         };
+        self.files.push(Pair { name, value })?;
+        Ok(true)
+    }
+
+    // A file by its path, how often its text stands there, and that text.
+    fn take_fill(&mut self, rest: &str) -> Result<bool, OutOfMemory> {
+        let (name, rest) = rest.split_once(' ').unwrap_or((rest, ""));
+        let (count, text) = rest.split_once(' ').unwrap_or((rest, ""));
+        let Some(name) = unescape(self.alloc, name)? else {
+            return Ok(false);
+        };
+        let Ok(count) = count.parse::<u64>() else {
+            return Ok(false);
+        };
+        let Some(text) = unescape(self.alloc, text)? else {
+            return Ok(false);
+        };
+        let mut value = Text::new(self.alloc);
+        for _ in 0..count {
+            value.add(text.as_bytes())?;
+        }
         self.files.push(Pair { name, value })?;
         Ok(true)
     }

@@ -71,7 +71,8 @@ pub fn spell_frames(alloc: Global, bytes: &[u8]) -> Result<Text, OutOfMemory> {
     Ok(out)
 }
 
-/// A text with escapes: `\n`, `\t`, `\s` for a space, `\\` and `\xNN`. None where one isn't whole.
+/// A text with escapes: `\n`, `\t`, `\s` for a space, `\e` for nothing, `\\` and `\xNN`. None where one
+/// isn't whole.
 pub fn unescape(alloc: Global, text: &str) -> Result<Option<Text>, OutOfMemory> {
     let mut out = Text::new(alloc);
     let mut left = text.as_bytes();
@@ -81,6 +82,10 @@ pub fn unescape(alloc: Global, text: &str) -> Result<Option<Text>, OutOfMemory> 
             [b'\\', b'n', rest @ ..] => (b'\n', rest),
             [b'\\', b't', rest @ ..] => (b'\t', rest),
             [b'\\', b's', rest @ ..] => (b' ', rest),
+            [b'\\', b'e', rest @ ..] => {
+                left = rest;
+                continue;
+            }
             [b'\\', b'\\', rest @ ..] => (b'\\', rest),
             [b'\\', b'x', high, low, rest @ ..] => match byte_of(*high, *low) {
                 Some(byte) => (byte, rest),
