@@ -1,4 +1,5 @@
 // What came of a row, as lines.
+use crate::marks::add_marks;
 use crate::play::Played;
 use crate::row::took_line;
 use crate::spelling::escape;
@@ -7,8 +8,8 @@ use ssh_fields::{OutOfMemory, Text, Texts};
 use std::alloc::Global;
 
 /// The lines of what came of a row: its status; what both outputs took; how the wire was opened;
-/// which commands were run; what each stream took, frame by frame; and the streams that are open at
-/// the end.
+/// which commands were run; what each stream took, frame by frame; the streams that are open at the
+/// end; and the marks of the wire, where the row asks for them.
 pub fn lines_of(alloc: Global, played: &Played) -> Result<Texts, OutOfMemory> {
     let mut lines = Texts::new(alloc);
     let status = format!(in alloc; "status {}", played.status.code())?;
@@ -22,6 +23,9 @@ pub fn lines_of(alloc: Global, played: &Played) -> Result<Texts, OutOfMemory> {
         lines.push(opening_line(alloc, opening)?)?;
     }
     add_taken(&mut lines, alloc, played.wire.log())?;
+    if played.marks {
+        add_marks(&mut lines, alloc, played.wire.log().marks())?;
+    }
     Ok(lines)
 }
 

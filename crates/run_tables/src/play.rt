@@ -12,6 +12,7 @@ pub struct Played {
     pub runner: MapRunner,
     pub out: ListSink,
     pub err: ListSink,
+    pub marks: bool,
 }
 
 /// Plays a row.
@@ -39,5 +40,6 @@ pub fn play(alloc: Global, row: Row) -> Played {
         runner,
         out,
         err,
+        marks: row.marks,
     }
 }

@@ -30,6 +30,7 @@ pub struct Row {
     pub writes: Writes,
     pub fails: Fails,
     pub turns: u64,
+    pub marks: bool,
     pub expected: Texts,
 }
 
@@ -53,6 +54,7 @@ impl Row {
                 err: Calls::new(alloc),
             },
             turns: u64::MAX,
+            marks: false,
             expected: Texts::new(alloc),
         })
     }
@@ -71,6 +73,7 @@ impl Row {
             "writes" => self.take_writes(rest),
             "fails" => self.take_fails(rest),
             "turns" => Ok(self.take_turns(rest)),
+            "marks" => Ok(self.take_marks(rest)),
             ">" => self.take_expected(rest, names),
             _ => self.take_step(head, rest, names),
         }
@@ -208,6 +211,12 @@ impl Row {
         }
     }
 
+    // That the marks are told.
+    fn take_marks(&mut self, rest: &str) -> bool {
+        self.marks = true;
+        rest.is_empty()
+    }
+
     // A step of the wire.
     fn take_step(&mut self, head: &str, rest: &str, names: &Pairs) -> Result<bool, OutOfMemory> {
         if head == "accept" {
@@ -257,7 +266,8 @@ pub fn took_line(alloc: Global, stream: &str, bytes: &[u8]) -> Result<Text, OutO
     Ok(line)
 }
 
-/// The bytes that words spell: each a name, a text behind `'`, or digits of base 16.
+/// The bytes that words spell: each a name, a text behind `'`, or digits of base 16; a number and
+/// `*` before it say how often.
 pub fn bytes_of(alloc: Global, words: &str, names: &Pairs) -> Result<Option<Text>, OutOfMemory> {
     let mut out = Text::new(alloc);
     for word in words.split_whitespace() {
@@ -268,8 +278,24 @@ pub fn bytes_of(alloc: Global, words: &str, names: &Pairs) -> Result<Option<Text
     Ok(Some(out))
 }
 
-// Adds the bytes of a word: whether it spells any.
+// Adds the bytes of a word, as often as it says: whether it spells any.
 fn add_word(out: &mut Text, alloc: Global, word: &str, names: &Pairs) -> Result<bool, OutOfMemory> {
+    let (count, one) = word.split_once('*').unwrap_or(("", ""));
+    let Ok(count) = count.parse::<u64>() else {
+        return add_once(out, alloc, word, names);
+    };
+    let mut bytes = Text::new(alloc);
+    if !add_once(&mut bytes, alloc, one, names)? {
+        return Ok(false);
+    }
+    for _ in 0..count {
+        out.add(bytes.as_bytes())?;
+    }
+    Ok(true)
+}
+
+// Adds the bytes of a word once: whether it spells any.
+fn add_once(out: &mut Text, alloc: Global, word: &str, names: &Pairs) -> Result<bool, OutOfMemory> {
     if let Some(text) = word.strip_prefix("'") {
         let Some(text) = unescape(alloc, text)? else {
             return Ok(false);
@@ -286,8 +312,11 @@ fn add_word(out: &mut Text, alloc: Global, word: &str, names: &Pairs) -> Result<
     }
 }
 
-// The bytes of a name.
+// The bytes of a name; a word that begins with a digit is none.
 fn value_of<'a>(names: &'a Pairs, name: &[u8]) -> Option<&'a [u8]> {
+    if let [b'0'..=b'9', ..] = name {
+        return None;
+    }
     for pair in names.as_slice() {
         if pair.name.as_bytes() == name {
             return Some(pair.value.as_bytes());
