@@ -70,12 +70,7 @@ fn stream_line(alloc: Global, head: &[u8], stream: u64) -> Result<Text, OutOfMem
 }
 
 // The same with a count of bytes.
-fn bytes_line(
-    alloc: Global,
-    head: &[u8],
-    stream: u64,
-    bytes: &Text,
-) -> Result<Text, OutOfMemory> {
+fn bytes_line(alloc: Global, head: &[u8], stream: u64, bytes: &Text) -> Result<Text, OutOfMemory> {
     let mut line = stream_line(alloc, head, stream)?;
     let count = bytes.as_bytes().len();
     let number = format!(in alloc; " {count}")?;
