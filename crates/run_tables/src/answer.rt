@@ -7,10 +7,19 @@ use mux_outside::{Opening, WireLog};
 use ssh_fields::{OutOfMemory, Text, Texts};
 use std::alloc::Global;
 
-/// The lines of what came of a row: its status; what both outputs took; how the wire was opened;
-/// which commands were run; what each stream took, frame by frame; the streams that are open at the
-/// end; and the marks of the wire, where the row asks for them.
-pub fn lines_of(alloc: Global, played: &Played) -> Result<Texts, OutOfMemory> {
+/// The lines of what came of a row: those of its summary; what each stream took, frame by frame; the
+/// streams that are open at the end; and the marks of the wire, where the row asks for them.
+pub fn lines_of(alloc: Global, played: &Played, log: &WireLog) -> Result<Texts, OutOfMemory> {
+    let mut lines = summary_of(alloc, played, log)?;
+    add_taken(&mut lines, alloc, log)?;
+    if played.marks {
+        add_marks(&mut lines, alloc, log.marks())?;
+    }
+    Ok(lines)
+}
+
+/// The status, what both outputs took, which commands were run, and how the wire was opened.
+pub fn summary_of(alloc: Global, played: &Played, log: &WireLog) -> Result<Texts, OutOfMemory> {
     let mut lines = Texts::new(alloc);
     let status = format!(in alloc; "status {}", played.status.code())?;
     lines.push(Text::copy(alloc, status.as_bytes())?)?;
@@ -19,12 +28,8 @@ pub fn lines_of(alloc: Global, played: &Played) -> Result<Texts, OutOfMemory> {
     for command in played.runner.ran().as_slice() {
         add_text(&mut lines, alloc, b"ran ", command.as_bytes())?;
     }
-    for opening in played.wire.log().openings() {
+    for opening in log.openings() {
         lines.push(opening_line(alloc, opening)?)?;
-    }
-    add_taken(&mut lines, alloc, played.wire.log())?;
-    if played.marks {
-        add_marks(&mut lines, alloc, played.wire.log().marks())?;
     }
     Ok(lines)
 }

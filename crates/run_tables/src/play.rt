@@ -1,23 +1,41 @@
 // Plays a row.
+use crate::answer::{lines_of, summary_of};
 use crate::row::Row;
-use mux_outside::{ListSink, MapFiles, MapRunner, NoHouse, ScriptWire};
+use mux_drill::DrillWire;
+use mux_outside::{ListSink, MapFiles, MapRunner, NoHouse, ScriptWire, Wire};
+use ssh_fields::{OutOfMemory, Texts};
 use ssh_mux::{Status, run};
 use std::alloc::Global;
 
-/// What a run answered, and what it left.
+/// What a run answered, and what it left beside its wire.
 #[derive(Drop)]
 pub struct Played {
     pub status: Status,
-    pub wire: ScriptWire,
     pub runner: MapRunner,
     pub out: ListSink,
     pub err: ListSink,
+    /// Whether the marks of the wire are asked for.
     pub marks: bool,
 }
 
-/// Plays a row.
-pub fn play(alloc: Global, row: Row) -> Played {
-    let mut wire = ScriptWire::new(alloc, row.steps, row.writes, row.fails.open);
+/// Plays a row: the lines of what came of it. Of a drill what its streams took isn't shown.
+pub fn play(alloc: Global, mut row: Row) -> Result<Texts, OutOfMemory> {
+    match row.script.take() {
+        Some(script) => {
+            let mut wire = ScriptWire::new(alloc, script.steps, script.writes, script.fails);
+            let played = play_over(alloc, row, &mut wire);
+            lines_of(alloc, &played, wire.log())
+        }
+        None => {
+            let mut wire = DrillWire::new(alloc);
+            let played = play_over(alloc, row, &mut wire);
+            summary_of(alloc, &played, wire.log())
+        }
+    }
+}
+
+// Plays a row over this wire.
+fn play_over<W: Wire>(alloc: Global, row: Row, wire: &mut W) -> Played {
     let mut files = MapFiles::new(alloc, row.files, row.fails.file);
     let mut runner = MapRunner::new(alloc, row.commands, row.fails.command);
     let mut out = ListSink::new(alloc, row.fails.out);
@@ -26,7 +44,7 @@ pub fn play(alloc: Global, row: Row) -> Played {
         alloc,
         &row.words,
         &row.facts,
-        &mut wire,
+        wire,
         &mut files,
         &mut runner,
         &mut out,
@@ -36,7 +54,6 @@ pub fn play(alloc: Global, row: Row) -> Played {
     );
     Played {
         status,
-        wire,
         runner,
         out,
         err,

@@ -7,10 +7,17 @@ use mux_outside::{
 use ssh_fields::{OutOfMemory, Text, Texts};
 use std::alloc::Global;
 
-/// The calls that fail, of each object, by their numbers.
+/// What a scripted wire does: its steps, how its writes are answered, and which calls of `open` fail.
+#[derive(Drop)]
+pub struct Script {
+    pub steps: Steps,
+    pub writes: Writes,
+    pub fails: Calls,
+}
+
+/// The calls that fail, of each other object, by their numbers.
 #[derive(Drop)]
 pub struct Fails {
-    pub open: Calls,
     pub file: Calls,
     pub command: Calls,
     pub out: Calls,
@@ -26,8 +33,8 @@ pub struct Row {
     pub files: Pairs,
     pub commands: Statuses,
     pub facts: Facts,
-    pub steps: Steps,
-    pub writes: Writes,
+    /// None where the wire is that of a drill.
+    pub script: Option<Script>,
     pub fails: Fails,
     pub turns: u64,
     pub marks: bool,
@@ -44,10 +51,12 @@ impl Row {
             files: Pairs::new(alloc),
             commands: Statuses::new(alloc),
             facts: ann(alloc)?,
-            steps: Steps::new(alloc),
-            writes: Writes::new(alloc),
+            script: Some(Script {
+                steps: Steps::new(alloc),
+                writes: Writes::new(alloc),
+                fails: Calls::new(alloc),
+            }),
             fails: Fails {
-                open: Calls::new(alloc),
                 file: Calls::new(alloc),
                 command: Calls::new(alloc),
                 out: Calls::new(alloc),
@@ -72,6 +81,10 @@ impl Row {
             "var" => self.take_variable(rest),
             "writes" => self.take_writes(rest),
             "fails" => self.take_fails(rest),
+            "drill" => {
+                self.script = None;
+                Ok(true)
+            }
             "turns" => Ok(self.take_turns(rest)),
             "marks" => Ok(self.take_marks(rest)),
             ">" => self.take_expected(rest, names),
@@ -165,6 +178,9 @@ impl Row {
 
     // How writes are answered, one by one.
     fn take_writes(&mut self, rest: &str) -> Result<bool, OutOfMemory> {
+        let Some(script) = &mut self.script else {
+            return Ok(false);
+        };
         for word in rest.split_whitespace() {
             let entry = match word {
                 "all" => WriteEntry::All,
@@ -175,7 +191,7 @@ impl Row {
                     Err(_) => return Ok(false),
                 },
             };
-            self.writes.push(entry)?;
+            script.writes.push(entry)?;
         }
         Ok(true)
     }
@@ -184,7 +200,10 @@ impl Row {
     fn take_fails(&mut self, rest: &str) -> Result<bool, OutOfMemory> {
         let (object, numbers) = rest.split_once(' ').unwrap_or((rest, ""));
         let calls = match object {
-            "open" => &mut self.fails.open,
+            "open" => match &mut self.script {
+                Some(script) => &mut script.fails,
+                None => return Ok(false),
+            },
             "file" => &mut self.fails.file,
             "command" => &mut self.fails.command,
             "out" => &mut self.fails.out,
@@ -219,25 +238,13 @@ impl Row {
 
     // A step of the wire.
     fn take_step(&mut self, head: &str, rest: &str, names: &Pairs) -> Result<bool, OutOfMemory> {
-        if head == "accept" {
-            self.steps.push(Step::Accept)?;
-            return Ok(true);
-        }
-        let (stream, bytes) = rest.split_once(' ').unwrap_or((rest, ""));
-        let Ok(stream) = stream.parse::<u64>() else {
+        let Some(step) = step_of(self.alloc, head, rest, names)? else {
             return Ok(false);
         };
-        let step = match head {
-            "bytes" => match bytes_of(self.alloc, bytes, names)? {
-                Some(bytes) => Step::Bytes(stream, bytes),
-                None => return Ok(false),
-            },
-            "end" => Step::End(stream),
-            "fail" => Step::Fail(stream),
-            "free" => Step::Writable(stream),
-            _ => return Ok(false),
+        let Some(script) = &mut self.script else {
+            return Ok(false);
         };
-        self.steps.push(step)?;
+        script.steps.push(step)?;
         Ok(true)
     }
 
@@ -256,6 +263,29 @@ impl Row {
         self.expected.push(line)?;
         Ok(true)
     }
+}
+
+// The step that a line says.
+fn step_of(
+    alloc: Global,
+    head: &str,
+    rest: &str,
+    names: &Pairs,
+) -> Result<Option<Step>, OutOfMemory> {
+    if head == "accept" {
+        return Ok(Some(Step::Accept));
+    }
+    let (stream, bytes) = rest.split_once(' ').unwrap_or((rest, ""));
+    let Ok(stream) = stream.parse::<u64>() else {
+        return Ok(None);
+    };
+    Ok(match head {
+        "bytes" => bytes_of(alloc, bytes, names)?.map(|bytes| Step::Bytes(stream, bytes)),
+        "end" => Some(Step::End(stream)),
+        "fail" => Some(Step::Fail(stream)),
+        "free" => Some(Step::Writable(stream)),
+        _ => None,
+    })
 }
 
 /// The line of what a stream took.

@@ -1,5 +1,4 @@
 // A table of rows, line by line.
-use crate::answer::lines_of;
 use crate::play::play;
 use crate::row::{Row, bytes_of};
 use crate::trouble::Trouble;
@@ -86,7 +85,7 @@ impl Table {
         };
         let name = Text::copy(self.alloc, row.name.as_bytes())?;
         let expected = copy_of(self.alloc, &row.expected)?;
-        let lines = lines_of(self.alloc, &play(self.alloc, row))?;
+        let lines = play(self.alloc, row)?;
         self.rows = self.rows.saturating_add(1);
         if are_same(&lines, &expected) {
             self.as_written = self.as_written.saturating_add(1);

@@ -6,9 +6,10 @@ mod machine;
 mod standard;
 
 use machine::{facts_of, words_of};
-use mux_outside::NoHouse;
+use mux_drill::DrillWire;
+use mux_outside::{NoHouse, Wire};
 use mux_sockets::{RealFiles, RealRunner, RealSink, RealWire};
-use ssh_fields::OutOfMemory;
+use ssh_fields::{OutOfMemory, Texts};
 use ssh_mux::{Ending, Status, report, run};
 use standard::Standard;
 use std::fs;
@@ -27,7 +28,7 @@ fn main(rt: HostRuntime) -> ExitCode {
 // What stands in for a standard stream that isn't open.
 const NOTHING: &str = "/dev/null";
 
-// Runs over the system, with as many turns as there are.
+// Runs over the system.
 fn start(rt: &HostRuntime, err: &mut RealSink<Standard>) -> Result<Status, OutOfMemory> {
     let alloc = rt.alloc();
     // A socket would else get the number of a standard stream that isn't open, and its output.
@@ -37,13 +38,35 @@ fn start(rt: &HostRuntime, err: &mut RealSink<Standard>) -> Result<Status, OutOf
         fs::open(rt, NOTHING),
     ];
     let words = words_of(rt, alloc)?;
+    if is_drill(&words) {
+        return run_over(rt, &words, &mut DrillWire::new(alloc), err);
+    }
+    run_over(rt, &words, &mut RealWire::new(rt.clone()?, alloc), err)
+}
+
+// Whether the words ask for a drill, whose wire is in memory.
+fn is_drill(words: &Texts) -> bool {
+    words
+        .get(0)
+        .is_some_and(|word| word.as_bytes() == b"--drill")
+}
+
+// Runs over this wire, and over the files, commands and outputs of the system, with as many turns as
+// there are.
+fn run_over<W: Wire>(
+    rt: &HostRuntime,
+    words: &Texts,
+    wire: &mut W,
+    err: &mut RealSink<Standard>,
+) -> Result<Status, OutOfMemory> {
+    let alloc = rt.alloc();
     let mut files = RealFiles::new(rt.clone()?, alloc);
     let facts = facts_of(rt, alloc, &mut files)?;
     Ok(run(
         alloc,
-        &words,
+        words,
         &facts,
-        &mut RealWire::new(rt.clone()?, alloc),
+        wire,
         &mut files,
         &mut RealRunner::new(rt.clone()?, alloc),
         &mut RealSink::new(Standard::Output(rt.stdout())),
