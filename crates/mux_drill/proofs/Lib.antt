@@ -1,0 +1,4 @@
+pub mod WordLemmas
+pub mod GeneratorLemmas
+pub mod InboxLemmas
+pub mod StepLemmas

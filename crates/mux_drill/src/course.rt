@@ -1,0 +1,141 @@
+ghost use Rattle.std.specs.Prelude.{◌≡◌, IfOk};
+
+use crate::after::{stage_after, tally_after, x_after};
+use crate::draw::draw;
+use crate::frames::opener_in;
+use crate::generator::Message;
+use crate::picks::Picks;
+use crate::plan::Plan;
+use crate::stage::Stage;
+use crate::step::Step;
+use mux_outside::{Tally, Turn};
+use ssh_fields::OutOfMemory;
+use std::alloc::Global;
+use std::marker::Model;
+
+/// How far a drill has come, with the number drawn last and what was counted.
+#[derive(Debug, Drop)]
+pub struct Course {
+    plan: Plan,
+    stage: Stage,
+    x: u64,
+    tally: Tally,
+}
+
+impl Model for Course {
+    ghost use Rattle.mux_drill.specs.Course.{Spot, IsCourse};
+
+    ghost Value = { Spot };
+
+    ghost view = { λ c. record { plan = c.plan; stage = c.stage } };
+
+    ghost invariant = { λ c. IsCourse c.plan c.stage c.x c.tally };
+}
+
+impl Course {
+    ghost use Rattle.mux_drill.specs.Course.{spot_after, tally_at};
+    ghost use Rattle.mux_drill.specs.Plan.{IsPlan};
+    ghost use Rattle.mux_drill.specs.Steps.{step_at};
+    ghost use Rattle.mux_drill.specs.declared.stage.Stage.TheVariants.{Unopened, Accepting};
+
+    /// No drill.
+    pub fn unopened() -> Course
+        ensures { result.stage ≡ Unopened }
+    {
+        Course {
+            plan: Plan {
+                seed: 0,
+                clients: 1,
+                messages: 0,
+            },
+            stage: Stage::Unopened,
+            x: 0,
+            tally: Tally::zero(),
+        }
+    }
+
+    /// The start of a drill.
+    pub fn start(plan: Plan) -> Course
+        requires { IsPlan plan }
+        ensures { result ≡ record { plan = plan; stage = Accepting 1 } }
+    {
+        Course {
+            plan,
+            stage: Stage::Accepting(1),
+            x: plan.seed,
+            tally: Tally::zero(),
+        }
+    }
+
+    /// What was counted.
+    pub fn tally(&self) -> Tally
+        ensures { result ≡ tally_at self.now }
+    {
+        self.tally
+    }
+
+    pub fn plan(&self) -> Plan
+        ensures { result ≡ self.now.plan }
+    {
+        self.plan
+    }
+
+    pub fn stage(&self) -> Stage
+        ensures { result ≡ self.now.stage }
+    {
+        self.stage
+    }
+
+    /// The step that comes next, by the numbers that the master picked and the bytes that wait for
+    /// the server.
+    pub fn step(
+        &self,
+        alloc: Global,
+        picks: &Picks,
+        waiting: &[u8],
+    ) -> Result<Step, OutOfMemory>
+        ensures { IfOk result (λ step. step
+            ≡ step_at picks.now waiting.now self.now.plan self.now.stage) }
+    {
+        let Plan {
+            seed: _,
+            clients,
+            messages,
+        } = self.plan;
+        let x = self.x;
+        match self.stage {
+            Stage::Unopened => Ok(Step::bare(alloc, Turn::Failed(0))),
+            Stage::Accepting(client) => Ok(Step::bare(alloc, Turn::Accepted(client))),
+            Stage::Entering(client) => Step::entering(alloc, client),
+            Stage::Confirming(client) => Step::confirming(alloc, client, opener_in(waiting)),
+            Stage::Sending(i) => {
+                let before = Message::before(clients, x, i);
+                Step::sending(alloc, clients, i, before, Message::of(clients, draw(x), i))
+            }
+            Stage::Echoing(i) => {
+                let message = Message::of(clients, x, i);
+                Step::echoing(alloc, picks.at(message.client), message)
+            }
+            Stage::Adjusting(i) => Step::adjusting(alloc, Message::of(clients, x, i)),
+            Stage::Closing(client) => {
+                let before = Message::before(clients, x, messages);
+                Step::closing(alloc, clients, messages, before, client)
+            }
+            Stage::ClosingBack(client) => Step::closing_back(alloc, picks.at(client), client),
+            Stage::Leaving(client) => Step::leaving(alloc, client),
+            Stage::Ending => Ok(Step::bare(alloc, Turn::End(0))),
+        }
+    }
+
+    /// The step was given.
+    pub fn advance(&mut self)
+        ensures { self.new ≡ spot_after self.old }
+    {
+        let tally = tally_after(self.plan, self.stage, self.x, self.tally);
+        let x = x_after(self.plan, self.stage, self.x);
+        let stage = stage_after(self.plan, self.stage);
+        self.tally = tally;
+        self.x = x;
+        self.stage = stage;
+    }
+}
