@@ -2,3 +2,6 @@ pub mod WordLemmas
 pub mod GeneratorLemmas
 pub mod InboxLemmas
 pub mod StepLemmas
+pub mod CourseLemmas
+pub mod PlayLemmas
+pub mod WireLemmas

@@ -1,7 +1,8 @@
 -- How far a drill has come, and what is counted by then.
-use Rattle.std.specs.Prelude.{◌≡◌, ℕ, zero, suc, ◌+◌, ◌-◌, ◌<◌, ◌≤◌, ◌==◌, nat_lt, if◌then◌else◌}
+use Rattle.std.specs.Prelude.{◌≡◌, ℕ, zero, suc, ◌+◌, ◌-◌, ◌<◌, ◌≤◌, ◌==◌, ◌&&◌, nat_lt, min, ◌^◌, if◌then◌else◌}
 use Rattle.mux_outside.specs.declared.turn.Tally.{Tally}
-use Rattle.mux_drill.specs.Generator.{drawn, total_length}
+use Rattle.mux_outside.specs.Counts.{counted}
+use Rattle.mux_drill.specs.Generator.{draw, drawn, total_length}
 use Rattle.mux_drill.specs.Plan.{IsPlan}
 use Rattle.mux_drill.specs.declared.plan.Plan.{Plan}
 use Rattle.mux_drill.specs.declared.stage.Stage.{Stage}
@@ -138,6 +139,22 @@ draws_at plan (Sending i) = i
 draws_at plan (Echoing i) = suc i
 draws_at plan (Adjusting i) = suc i
 draws_at plan _ = plan.messages
+
+-- the number drawn last after a step: a message that is sent draws one
+abbrev pub drawn_after : Stage → ℕ → ℕ
+drawn_after (Sending i) x = draw x
+drawn_after _ x = x
+
+-- what was counted after a step, by the length of the message drawn last
+abbrev pub counting : Plan → Stage → ℕ → Tally → Tally
+counting plan (Accepting c) len tally = record tally { clients = counted tally.clients }
+counting plan (Sending i) len tally = if nat_lt 0 i then record tally { messages = counted tally.messages } else tally
+counting plan (Echoing i) len tally = record tally { data_up = min (tally.data_up + len) (2 ^ 64 - 1) }
+counting plan (Adjusting i) len tally = record tally { data_down = min (tally.data_down + len) (2 ^ 64 - 1) }
+counting plan (Closing c) len tally =
+    if (c == 1) && nat_lt 0 plan.messages then record tally { messages = counted tally.messages } else tally
+counting plan (Leaving c) len tally = record tally { closed = counted tally.closed }
+counting plan _ len tally = tally
 
 -- a step of the plan, the number drawn last and what was counted
 pub record IsCourse (plan : Plan) (stage : Stage) (x : ℕ) (tally : Tally) : Type 0 where

@@ -1,7 +1,7 @@
 // What a step leaves.
-ghost use Rattle.std.specs.Prelude.{◌≡◌, ◌≤◌, suc};
-ghost use Rattle.mux_drill.specs.Course.{IsCourse, stage_after as after, draws_at, place_of, last_of, from_message as message_or_close, tally_at};
-ghost use Rattle.mux_drill.specs.Generator.{drawn};
+ghost use Rattle.std.specs.Prelude.{◌≡◌, ◌≤◌};
+ghost use Rattle.mux_drill.specs.Course.{stage_after as after, place_of, last_of, from_message as message_or_close, drawn_after, counting};
+ghost use Rattle.mux_drill.specs.Generator.{length_of};
 
 use crate::draw::{draw, len_of};
 use crate::plan::Plan;
@@ -45,10 +45,8 @@ pub fn stage_after(plan: Plan, stage: Stage) -> Stage
 }
 
 /// The number drawn last after a step: a message that is sent draws one.
-pub fn x_after(plan: Plan, stage: Stage, x: u64) -> u64
-    requires last { place_of stage ≤ last_of plan stage }
-    requires drawn_is { x ≡ drawn plan.seed (draws_at plan stage) }
-    ensures { result ≡ drawn plan.seed (draws_at plan (after plan stage)) }
+pub fn x_after(stage: Stage, x: u64) -> u64
+    ensures { result ≡ drawn_after stage x }
 {
     match stage {
         Stage::Sending(_) => draw(x),
@@ -58,15 +56,14 @@ pub fn x_after(plan: Plan, stage: Stage, x: u64) -> u64
 
 /// What was counted after a step.
 pub fn tally_after(plan: Plan, stage: Stage, x: u64, tally: Tally) -> Tally
-    requires { IsCourse plan stage x tally }
-    ensures { result ≡ tally_at (record { plan = plan; stage = after plan stage }) }
+    ensures { result ≡ counting plan stage (length_of x) tally }
 {
     match stage {
         Stage::Accepting(_) => Tally {
             clients: counted(tally.clients),
             ..tally
         },
-        Stage::Sending(i) if i > 0 => Tally {
+        Stage::Sending(i) if 0 < i => Tally {
             messages: counted(tally.messages),
             ..tally
         },
@@ -78,7 +75,7 @@ pub fn tally_after(plan: Plan, stage: Stage, x: u64, tally: Tally) -> Tally
             data_down: tally.data_down.saturating_add(len_of(x)),
             ..tally
         },
-        Stage::Closing(1) if plan.messages > 0 => Tally {
+        Stage::Closing(client) if client == 1 && 0 < plan.messages => Tally {
             messages: counted(tally.messages),
             ..tally
         },

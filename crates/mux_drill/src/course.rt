@@ -1,20 +1,18 @@
 ghost use Rattle.std.specs.Prelude.{◌≡◌, IfOk};
 
 use crate::after::{stage_after, tally_after, x_after};
-use crate::draw::draw;
-use crate::frames::opener_in;
-use crate::generator::Message;
+use crate::next_step::step_of;
 use crate::picks::Picks;
 use crate::plan::Plan;
 use crate::stage::Stage;
 use crate::step::Step;
-use mux_outside::{Tally, Turn};
+use mux_outside::Tally;
 use ssh_fields::OutOfMemory;
 use std::alloc::Global;
 use std::marker::Model;
 
 /// How far a drill has come, with the number drawn last and what was counted.
-#[derive(Debug, Drop)]
+#[derive(Drop)]
 pub struct Course {
     plan: Plan,
     stage: Stage,
@@ -36,7 +34,8 @@ impl Course {
     ghost use Rattle.mux_drill.specs.Course.{spot_after, tally_at};
     ghost use Rattle.mux_drill.specs.Plan.{IsPlan};
     ghost use Rattle.mux_drill.specs.Steps.{step_at};
-    ghost use Rattle.mux_drill.specs.declared.stage.Stage.TheVariants.{Unopened, Accepting};
+    ghost use Rattle.mux_drill.specs.declared.stage.Stage.TheVariants.{Unopened, Accepting, Ending};
+    ghost use Rattle.mux_outside.specs.declared.turn.Turn.TheVariants.{End};
 
     /// No drill.
     pub fn unopened() -> Course
@@ -94,37 +93,11 @@ impl Course {
         picks: &Picks,
         waiting: &[u8],
     ) -> Result<Step, OutOfMemory>
-        ensures { IfOk result (λ step. step
+        ensures exact { IfOk result (λ step. step
             ≡ step_at picks.now waiting.now self.now.plan self.now.stage) }
+        ensures ends { IfOk result (λ step. step.turn ≡ End 0 → self.now.stage ≡ Ending) }
     {
-        let Plan {
-            seed: _,
-            clients,
-            messages,
-        } = self.plan;
-        let x = self.x;
-        match self.stage {
-            Stage::Unopened => Ok(Step::bare(alloc, Turn::Failed(0))),
-            Stage::Accepting(client) => Ok(Step::bare(alloc, Turn::Accepted(client))),
-            Stage::Entering(client) => Step::entering(alloc, client),
-            Stage::Confirming(client) => Step::confirming(alloc, client, opener_in(waiting)),
-            Stage::Sending(i) => {
-                let before = Message::before(clients, x, i);
-                Step::sending(alloc, clients, i, before, Message::of(clients, draw(x), i))
-            }
-            Stage::Echoing(i) => {
-                let message = Message::of(clients, x, i);
-                Step::echoing(alloc, picks.at(message.client), message)
-            }
-            Stage::Adjusting(i) => Step::adjusting(alloc, Message::of(clients, x, i)),
-            Stage::Closing(client) => {
-                let before = Message::before(clients, x, messages);
-                Step::closing(alloc, clients, messages, before, client)
-            }
-            Stage::ClosingBack(client) => Step::closing_back(alloc, picks.at(client), client),
-            Stage::Leaving(client) => Step::leaving(alloc, client),
-            Stage::Ending => Ok(Step::bare(alloc, Turn::End(0))),
-        }
+        step_of(alloc, self.plan, self.stage, self.x, picks, waiting)
     }
 
     /// The step was given.
@@ -132,7 +105,7 @@ impl Course {
         ensures { self.new ≡ spot_after self.old }
     {
         let tally = tally_after(self.plan, self.stage, self.x, self.tally);
-        let x = x_after(self.plan, self.stage, self.x);
+        let x = x_after(self.stage, self.x);
         let stage = stage_after(self.plan, self.stage);
         self.tally = tally;
         self.x = x;

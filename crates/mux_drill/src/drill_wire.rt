@@ -10,6 +10,7 @@ ghost use Rattle.mux_outside.specs.WireLog.{seen_in};
 ghost use Rattle.mux_drill.specs.Course.{full_tally};
 ghost use Rattle.mux_drill.specs.DrillWire.{tally_of, IsOver, IsNew, SamePlay, Opens, PlaysNext, TakesAll};
 ghost use Rattle.mux_drill.specs.Plan.{plan_of};
+ghost use Rattle.mux_drill.specs.declared.stage.Stage.TheVariants.{Ending};
 ghost use Rattle.mux_drill.specs.Play.{GivesNext};
 ghost use Rattle.mux_drill.specs.declared.play.Change.TheVariants.{Nothing};
 
@@ -19,7 +20,7 @@ use mux_outside::{FileError, Piece, Streams, Tally, Turn, Want, Wire, WireLog, W
 use std::alloc::Global;
 
 /// A wire in memory, which plays the clients and the server of a drill, and tells everything.
-#[derive(Debug, Drop)]
+#[derive(Drop)]
 pub struct DrillWire {
     alloc: Global,
     play: Play,
@@ -175,6 +176,7 @@ impl DrillWire {
         ensures gives { want ≡ Read → result.turn ≢ NoMemory
             → GivesNext self.now.play self.now.log result into.new }
         ensures starved { result.turn ≡ NoMemory → result.change ≡ Nothing }
+        ensures ends { result.turn ≡ End 0 → self.now.play.course.stage ≡ Ending }
         ensures frees { want ≡ WriteOnly → result.change ≡ Nothing }
     {
         match want {

@@ -2,7 +2,7 @@ ghost use Rattle.std.specs.Prelude.{◌≡◌, ◌≤◌, ◌-◌};
 ghost use Rattle.mux_drill.specs.Generator.{message_of, IsMessage};
 
 /// A message of a drill: who sends it, and so many bytes, each the same.
-#[derive(Clone, Copy, Debug, PartialEq, Eq)]
+#[derive(Clone, Copy)]
 pub struct Message {
     pub client: u64,
     pub len: u32,

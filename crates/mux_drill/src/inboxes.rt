@@ -7,7 +7,7 @@ use std::alloc::Global;
 use std::marker::Model;
 
 // Bytes of which the first were read.
-#[derive(Debug, Drop)]
+#[derive(Drop)]
 struct Inbox {
     bytes: Vec<u8>,
     read: usize,
@@ -70,7 +70,7 @@ impl Inbox {
 }
 
 /// The bytes that were written to each stream and aren't read yet.
-#[derive(Debug, Drop)]
+#[derive(Drop)]
 pub struct Inboxes {
     boxes: Vec<Inbox>,
 }

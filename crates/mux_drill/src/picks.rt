@@ -3,7 +3,7 @@ ghost use Rattle.std.specs.Prelude.{◌≡◌, ◌≤◌, ◌<◌, replicate, sl
 use std::marker::Model;
 
 /// The numbers that the master picked, by client.
-#[derive(Debug, Drop)]
+#[derive(Drop)]
 pub struct Picks {
     numbers: [u32; 65],
 }

@@ -9,7 +9,7 @@ use std::alloc::Global;
 use std::mem;
 
 /// What a drill plays: the seed of its generator, its clients and its messages.
-#[derive(Clone, Copy, Debug, PartialEq, Eq)]
+#[derive(Clone, Copy)]
 pub struct Plan {
     pub seed: u64,
     pub clients: u64,

@@ -3,7 +3,8 @@ ghost use Rattle.std.specs.Prelude.{◌≡◌, ◌≢◌, ◌+◌, replicate, []
 ghost use Rattle.mux_outside.specs.Streams.{among};
 ghost use Rattle.mux_outside.specs.Wire.{TurnFits};
 ghost use Rattle.mux_outside.specs.declared.turn.Want.TheVariants.{Read};
-ghost use Rattle.mux_outside.specs.declared.turn.Turn.TheVariants.{NoMemory};
+ghost use Rattle.mux_outside.specs.declared.turn.Turn.TheVariants.{End, NoMemory};
+ghost use Rattle.mux_drill.specs.declared.stage.Stage.TheVariants.{Ending};
 ghost use Rattle.mux_drill.specs.Plan.{IsPlan};
 ghost use Rattle.mux_drill.specs.Play.{speaks, may_happen, is_met, next_step, next_turn, next_piece, next_change, changed, begun, speaker_of, picks_after, Starts, GivesNext};
 ghost use Rattle.mux_drill.specs.declared.play.Change.TheVariants.{Nothing};
@@ -22,7 +23,7 @@ use std::alloc::Global;
 
 /// What is played: how far it has come, what is being said, the bytes that aren't read yet, and the
 /// numbers that the master picked.
-#[derive(Debug, Drop)]
+#[derive(Drop)]
 pub struct Play {
     pub alloc: Global,
     pub course: Course,
@@ -32,7 +33,7 @@ pub struct Play {
 }
 
 /// What a turn leaves.
-#[derive(Debug, Drop)]
+#[derive(Drop)]
 pub enum Change {
     /// All stays.
     Nothing,
@@ -43,7 +44,7 @@ pub enum Change {
 }
 
 /// A turn, and what it leaves.
-#[derive(Debug, Drop)]
+#[derive(Drop)]
 pub struct Given {
     pub turn: Turn,
     pub change: Change,
@@ -120,6 +121,7 @@ impl Play {
             log.now.blocked into.new }
         ensures gives { result.turn ≢ NoMemory → GivesNext self.now log.now result into.new }
         ensures starved { result.turn ≡ NoMemory → result.change ≡ Nothing }
+        ensures ends { result.turn ≡ End 0 → self.now.course.stage ≡ Ending }
     {
         if self.said.rest().is_empty() {
             self.begin(log, into)
@@ -135,7 +137,8 @@ impl Play {
         ensures fits { TurnFits result.turn Read log.now.listens log.now.last log.now.streams
             log.now.blocked into.new }
         ensures gives { result.turn ≢ NoMemory → GivesNext self.now log.now result into.new }
-        ensures starved { result.turn ≡ NoMemory → result.change ≡ Nothing }
+        ensures starved { result.turn ≢ NoMemory }
+        ensures ends { result.turn ≢ End 0 }
     {
         if !log.streams().contains(self.said.stream()) {
             return Given {
@@ -158,6 +161,7 @@ impl Play {
             log.now.blocked into.new }
         ensures gives { result.turn ≢ NoMemory → GivesNext self.now log.now result into.new }
         ensures starved { result.turn ≡ NoMemory → result.change ≡ Nothing }
+        ensures ends { result.turn ≡ End 0 → self.now.course.stage ≡ Ending }
     {
         let Ok(step) = self.course.step(self.alloc, &self.picks, self.unread.at(0)) else {
             return Given {

@@ -9,7 +9,7 @@ use std::marker::Model;
 const PIECE: usize = 37;
 
 /// What a stream is saying, and how much of it was given.
-#[derive(Debug, Drop)]
+#[derive(Drop)]
 pub struct Saying {
     stream: u64,
     text: Text,

@@ -1,5 +1,5 @@
 /// Which step of a drill comes next, with the number of its client, or of its message from 0 on.
-#[derive(Clone, Copy, Debug, PartialEq, Eq)]
+#[derive(Clone, Copy)]
 pub enum Stage {
     /// No drill was opened.
     Unopened,

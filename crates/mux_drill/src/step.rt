@@ -15,7 +15,7 @@ use std::alloc::Global;
 
 /// A step: what has to be written before it to the server and to a client, and the turn that it
 /// gives, with all bytes that it says.
-#[derive(Debug, Drop)]
+#[derive(Drop)]
 pub struct Step {
     pub up: Text,
     pub client: u64,
