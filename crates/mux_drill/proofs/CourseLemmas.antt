@@ -18,11 +18,11 @@ tally a b c d e = record { clients = a; messages = b; data_up = c; data_down = d
 -- what holds of both stages holds of the one that is chosen
 chosen : (P : Stage → Type 0) (m n : ℕ) (more done : Stage)
     → (m < n → P more) → (n ≤ m → P done) → P (if nat_lt m n then more else done)
-chosen P m n more done yes no = by_case (nat_lt m n) refl
+chosen P m n more done first last = by_case (nat_lt m n) refl
   where
     by_case : (b : Bool) → nat_lt m n ≡ b → P (if b then more else done)
-    by_case true e = yes (grind (arith, nat_tests))
-    by_case false e = no (grind (arith, nat_tests))
+    by_case true e = let less : m < n = grind (arith, nat_tests) in first less
+    by_case false e = let most : n ≤ m = grind (arith, nat_tests) in last most
 
 -- a count that is short rises by one
 counts : (n : ℕ) → 1 ≤ n → n ≤ 100000 → counted (n - 1) ≡ n
@@ -117,14 +117,25 @@ later_close : (plan : Plan) (c : ℕ) → 1 ≤ c
     → plan.messages ≡ (if c + 1 == 1 then plan.messages - 1 else plan.messages)
 later_close plan c low = grind (arith, nat_tests)
 
+-- so many messages are finished, and so many heard
+abbrev sums : Plan → ℕ → ℕ → Tally
+sums plan i n = tally plan.clients n (total_length plan.seed i) (total_length plan.seed i) 0
+
 -- the message that is sent counts the one before
 sending_tally : (plan : Plan) (i len : ℕ) → i < 100000
     → counting plan (Sending i) len (tally_at (record { plan = plan; stage = Sending i }))
     ≡ tally plan.clients i (total_length plan.seed i) (total_length plan.seed i) 0
-sending_tally plan zero len low = refl
-sending_tally plan (suc i) len low =
-    ap (λ n. tally plan.clients n (total_length plan.seed (suc i)) (total_length plan.seed (suc i)) 0)
-    (counts (suc i) (omega arith) (omega arith))
+sending_tally plan i len low = by_case (nat_lt 0 i) refl
+  where
+    by_case : (b : Bool) → nat_lt 0 i ≡ b
+        → (if b then sums plan i (counted (i - 1)) else sums plan i (i - 1)) ≡ sums plan i i
+    by_case true e =
+        let some : 1 ≤ i = grind (arith, nat_tests) in
+        let few : i ≤ 100000 = omega arith in
+        ap (sums plan i) (counts i some few)
+    by_case false e =
+        let none : i - 1 ≡ i = grind (arith, nat_tests) in
+        ap (sums plan i) none
 
 -- the step after one is one of the plan, and what was drawn and counted goes with it
 pub step_course : (plan : Plan) (stage : Stage) → IsPlan plan → 1 ≤ place_of stage → place_of stage ≤ last_of plan stage
@@ -149,7 +160,7 @@ step_course plan (Confirming c) sound first last =
     (λ done. at_first plan sound)
 step_course plan (Sending i) sound first last =
     let low : i < 100000 = omega (arith, sound.short) in
-    record { sound = sound; first = first; last = last; drawn_is = refl; tally_is = sending_tally plan i _ low }
+    record { sound = sound; first = first; last = last; drawn_is = refl; tally_is = sending_tally plan i (length_of (drawn plan.seed i)) low }
 step_course plan (Echoing i) sound first last =
     let low : i < 100000 = omega (arith, sound.short) in
     record {
@@ -198,3 +209,10 @@ step_course plan (Leaving c) sound first last =
     record { sound = sound; first = omega arith; last = sound.some; drawn_is = refl; tally_is = ap whole end }))
 step_course plan Ending sound first last =
     record { sound = sound; first = first; last = last; drawn_is = refl; tally_is = refl }
+
+-- the same for values that are equal to those
+pub next_course : (plan : Plan) (stage stage' : Stage) (x x' : ℕ) (t t' : Tally) → IsCourse plan stage x t
+    → stage' ≡ stage_after plan stage → x' ≡ drawn_after stage x → t' ≡ counting plan stage (length_of x) t
+    → IsCourse plan stage' x' t'
+next_course plan stage stage' x x' t t' now stage_is x_is t_is =
+    rw (stage_is, x_is, t_is, now.drawn_is, now.tally_is) (step_course plan stage now.sound now.first now.last)

@@ -3,5 +3,5 @@ pub mod GeneratorLemmas
 pub mod InboxLemmas
 pub mod StepLemmas
 pub mod CourseLemmas
-pub mod PlayLemmas
-pub mod WireLemmas
+pub mod PlanLemmas
+pub mod FrameLemmas

@@ -1,5 +1,6 @@
 -- A text that is split at its spaces, byte by byte.
-use Rattle.std.proofs.Common.{◌≡◌, ◌∙◌, refl, sym, ap, ℕ, Bool, true, false, if◌then◌else◌, ◌==◌, List, [], ◌∷◌, ◌++◌, append_assoc}
+use Rattle.std.proofs.Common.{◌≡◌, ◌∙◌, refl, sym, ap, ℕ, Bool, true, false, if◌then◌else◌, ◌==◌, List, [], ◌∷◌, ◌++◌, append_assoc, arith}
+use Rattle.std.proofs.lemmas.Bool.Decides.{nat_tests}
 use Rattle.std.proofs.lemmas.List.{append-nil}
 use Rattle.conf_rules.specs.Texts.{split_at_each, onto_first}
 
@@ -30,17 +31,19 @@ onto-onto_first word b [] = refl
 onto-onto_first word b (t ∷ ts) = ap (λ w. w ∷ ts) (append_assoc word (b ∷ []) t)
 
 -- behind a space a word begins
-pub at_space : (words : List (List ℕ)) (word : List ℕ) (b : ℕ) (bs : List ℕ) → (b == 32) ≡ true
+pub at_space : (words : List (List ℕ)) (word : List ℕ) (b : ℕ) (bs : List ℕ) → b ≡ 32
     → (words ++ word ∷ []) ++ onto [] (split_at_each 32 bs) ≡ words ++ onto word (split_at_each 32 (b ∷ bs))
-at_space words word b bs is =
+at_space words word b bs here =
+    let is : (b == 32) ≡ true = grind (arith, nat_tests) in
     append_assoc words (word ∷ []) (onto [] (split_at_each 32 bs))
     ∙ ap (λ p. words ++ (word ∷ p)) (onto_nothing bs)
     ∙ ap (λ w. words ++ (w ∷ split_at_each 32 bs)) (sym (append-nil word))
     ∙ sym (ap (λ i. words ++ onto word (if i then [] ∷ split_at_each 32 bs else onto_first b (split_at_each 32 bs))) is)
 
 -- another byte belongs to the word
-pub at_byte : (words : List (List ℕ)) (word : List ℕ) (b : ℕ) (bs : List ℕ) → (b == 32) ≡ false
+pub at_byte : (words : List (List ℕ)) (word : List ℕ) (b : ℕ) (bs : List ℕ) → (b ≡ 32 → ⊥)
     → words ++ onto (word ++ b ∷ []) (split_at_each 32 bs) ≡ words ++ onto word (split_at_each 32 (b ∷ bs))
-at_byte words word b bs is =
+at_byte words word b bs elsewhere =
+    let is : (b == 32) ≡ false = grind (arith, nat_tests) in
     ap (λ p. words ++ p) (onto-onto_first word b (split_at_each 32 bs))
     ∙ sym (ap (λ i. words ++ onto word (if i then [] ∷ split_at_each 32 bs else onto_first b (split_at_each 32 bs))) is)

@@ -1,9 +1,9 @@
 ghost use Rattle.std.specs.Prelude.{◌≡◌, IfOk, IfSome};
 ghost use Rattle.conf_rules.specs.Texts.{split_at_each};
-ghost use Rattle.mux_drill.specs.Plan.{plan_of, IsPlan};
+ghost use Rattle.mux_drill.specs.Plan.{plan_in, plan_of, IsPlan};
 
 use conf_command::drill_of;
-use conf_rules::Command;
+use conf_rules::{Command, UsageError};
 use ssh_fields::{OutOfMemory, Text};
 use std::alloc::Global;
 use std::mem;
@@ -23,18 +23,28 @@ impl Plan {
         ensures sound { IfOk result (λ plan. IfSome plan IsPlan) }
     {
         let words = words_of(alloc, text)?;
-        match drill_of(words.as_slice()) {
-            Ok(Command::Drill {
-                seed,
-                clients,
-                messages,
-            }) => Ok(Some(Plan {
-                seed,
-                clients,
-                messages,
-            })),
-            _ => Ok(None),
-        }
+        let plan = plan_in(drill_of(words.as_slice()));
+        Ok(plan)
+    }
+}
+
+// The plan of a command that is a drill.
+fn plan_in(command: Result<Command, UsageError>) -> Option<Plan>
+    ensures { result ≡ plan_in command }
+{
+    match command {
+        Ok(Command::Drill {
+            seed,
+            clients,
+            messages,
+        }) => Some(Plan {
+            seed,
+            clients,
+            messages,
+        }),
+        Ok(Command::List(_)) => None,
+        Ok(Command::Master { .. }) => None,
+        Err(_) => None,
     }
 }
 
