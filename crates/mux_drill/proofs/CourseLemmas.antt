@@ -1,10 +1,10 @@
 -- A step after another is one of the plan, and what was counted goes with it.
-use Rattle.std.proofs.Common.{◌≡◌, ◌∙◌, refl, sym, ap, subst, ℕ, zero, suc, ◌+◌, ◌-◌, ◌*◌, ◌<◌, ◌≤◌, ◌^◌, Bool, true, false, ◌&&◌, ◌==◌, nat_lt, min, if◌then◌else◌, arith}
+use Rattle.std.proofs.Common.{◌≡◌, ◌∙◌, refl, sym, ap, subst, ℕ, suc, ◌+◌, ◌-◌, ◌<◌, ◌≤◌, ◌^◌, Bool, true, false, ◌&&◌, ◌==◌, nat_lt, min, if◌then◌else◌, arith}
 use Rattle.std.proofs.lemmas.Bool.Decides.{nat_tests}
 use Rattle.mux_outside.specs.Counts.{counted}
 use Rattle.mux_outside.specs.declared.turn.Tally.{Tally}
 use Rattle.mux_drill.specs.Course.{IsCourse, stage_after, from_message, drawn_after, counting, tally_at, draws_at, place_of, last_of}
-use Rattle.mux_drill.specs.Generator.{draw, drawn, length_of, total_length}
+use Rattle.mux_drill.specs.Generator.{drawn, length_of, total_length}
 use Rattle.mux_drill.specs.Plan.{IsPlan}
 use Rattle.mux_drill.specs.declared.plan.Plan.{Plan}
 use Rattle.mux_drill.specs.declared.stage.Stage.{Stage}

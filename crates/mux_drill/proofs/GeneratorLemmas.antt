@@ -1,6 +1,6 @@
 -- The lengths of messages.
-use Rattle.std.proofs.Common.{◌≡◌, ℕ, zero, suc, ◌+◌, ◌*◌, ◌<◌, ◌≤◌, arith}
-use Rattle.mux_drill.specs.Generator.{draw, drawn, length_of, length_at, total_length}
+use Rattle.std.proofs.Common.{ℕ, zero, suc, ◌*◌, ◌≤◌, arith}
+use Rattle.mux_drill.specs.Generator.{drawn, length_of, total_length}
 
 -- a length is at most 1,024
 pub length_short : (x : ℕ) → length_of x ≤ 1024

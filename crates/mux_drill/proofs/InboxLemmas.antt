@@ -1,9 +1,9 @@
 -- Bytes that are written to a stream and taken back.
-use Rattle.std.proofs.Common.{◌≡◌, ◌∙◌, refl, sym, ap, inl, inr, ℕ, ◌+◌, ◌-◌, ◌<◌, ◌≤◌, List, [], ◌∷◌, ◌++◌, length, take, drop, get_or, set, arith}
+use Rattle.std.proofs.Common.{◌≡◌, ◌∙◌, ap, inl, inr, ℕ, ◌-◌, List, [], ◌++◌, length, take, get_or, set, arith}
 use Rattle.std.proofs.Math.Seq.{take-append_seam}
 use Rattle.std.proofs.lemmas.Bool.{cases_lt}
 use Rattle.std.proofs.lemmas.List.{get_or-set_same, set-get_or, set_past, length-append, set-set}
-use Rattle.mux_drill.specs.Inboxes.{unread_at, with_more, without_last}
+use Rattle.mux_drill.specs.Inboxes.{with_more, without_last}
 
 -- what was before the last bytes
 before_last : (xs ys : List ℕ) → take (length (xs ++ ys) - length ys) (xs ++ ys) ≡ xs

@@ -1,5 +1,5 @@
 -- What a text says is a plan.
-use Rattle.std.proofs.Common.{◌≡◌, refl, sym, ℕ, ◌≤◌, ◌&&◌, Bool, true, false, if◌then◌else◌, nat_le, List, [], ◌∷◌, Option, Some, None, Result, Ok, Err, IfSome, arith}
+use Rattle.std.proofs.Common.{◌≡◌, refl, ℕ, ◌≤◌, ◌&&◌, Bool, true, false, if◌then◌else◌, nat_le, List, [], ◌∷◌, Option, Some, None, Result, Ok, Err, IfSome, arith}
 use Rattle.std.proofs.lemmas.Bool.Decides.{nat_tests}
 use Rattle.std.specs.Char.{is_ascii_digit}
 use Rattle.std.specs.List.{list_all}
@@ -13,7 +13,6 @@ use Rattle.conf_rules.specs.CommandLine.{refused}
 use Rattle.conf_rules.specs.declared.usage.Usage.TheVariants.{BadDrill}
 use Rattle.conf_rules.specs.declared.usage.UsageError.{UsageError}
 use Rattle.mux_drill.specs.Plan.{IsPlan, plan_in, plan_of}
-use Rattle.mux_drill.specs.declared.plan.Plan.{Plan}
 
 -- both numbers that a reading behind another needs
 bound : {A B E : Type 0} (r : Result A E) (f : A → Result B E) (y : B) → (r >>= f) ≡ Ok y

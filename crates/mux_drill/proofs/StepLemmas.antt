@@ -1,5 +1,5 @@
 -- The turns of steps are turns that a wire may give.
-use Rattle.std.proofs.Common.{◌≡◌, refl, sym, subst, ℕ, ◌+◌, ◌-◌, ◌<◌, ◌≤◌, Bool, true, false, ◌&&◌, ◌==◌, nat_lt, if◌then◌else◌, List, [], ◌∷◌, ◌++◌, length, take, slice_index, IsTrue, not, arith, lit<, length-take}
+use Rattle.std.proofs.Common.{◌≡◌, refl, sym, subst, ℕ, ◌+◌, ◌-◌, ◌<◌, ◌≤◌, Bool, true, false, ◌&&◌, ◌==◌, nat_lt, List, [], ◌∷◌, ◌++◌, length, take, slice_index, IsTrue, not, arith, lit<, length-take}
 use Rattle.std.proofs.lemmas.Grind.{common_steps}
 use Rattle.conf_rules.specs.Texts.{is_empty}
 use Rattle.mux_outside.specs.Streams.{among}
@@ -8,7 +8,7 @@ use Rattle.mux_outside.specs.WireLog.{Logged}
 use Rattle.mux_outside.specs.declared.turn.Turn.{Turn}
 use Rattle.mux_outside.specs.declared.turn.Turn.TheVariants.{Accepted, Got, End, Writable, Failed, NoMemory}
 use Rattle.mux_outside.specs.declared.turn.Want.TheVariants.{Read}
-use Rattle.mux_drill.specs.Frames.{open_frame, confirmation_frame, adjust_frame, data_frame, close_frame, greeting, opener_in}
+use Rattle.mux_drill.specs.Frames.{confirmation_frame, adjust_frame, data_frame, close_frame, greeting, opener_in}
 use Rattle.mux_drill.specs.Inboxes.{stands_first}
 use Rattle.mux_drill.specs.Play.{may_happen, is_met}
 use Rattle.mux_drill.specs.declared.step.Step.{Step}

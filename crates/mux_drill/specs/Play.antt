@@ -1,5 +1,5 @@
 -- How a drill is played, turn by turn.
-use Rattle.std.specs.Prelude.{◌≡◌, ◌≢◌, ℕ, ◌-◌, ◌==◌, ◌&&◌, not, nat_lt, Bool, true, false, if◌then◌else◌, List, [], length, take, drop, replicate, slice_set, Option, Some, None, Result, Ok, Err}
+use Rattle.std.specs.Prelude.{◌≡◌, ℕ, ◌+◌, ◌-◌, ◌==◌, ◌&&◌, not, nat_lt, Bool, true, false, if◌then◌else◌, List, [], length, take, replicate, slice_set}
 use Rattle.conf_rules.specs.Texts.{is_empty}
 use Rattle.mux_outside.specs.Streams.{among}
 use Rattle.mux_outside.specs.WireLog.{Logged}
@@ -105,8 +105,9 @@ pub record GivesNext (play : Play) (log : Logged) (given : Given) (bytes : List 
 abbrev pub next_play : Play → Logged → Play
 next_play play log = changed (next_change play log) play
 
--- a play at the start of a plan
+-- a play at the start of a plan: nothing is said, written or picked
 pub record Starts (plan : Plan) (play : Play) : Type 0 where
   pub course_is : play.course ≡ record { plan = plan; stage = Accepting 1 }
   pub said_is : play.said ≡ record { stream = 0; rest = [] }
+  pub unread_is : play.unread ≡ replicate (plan.clients + 1) []
   pub picks_are : play.picks ≡ replicate 65 0

@@ -1,8 +1,7 @@
 -- The steps of a drill: what has to be written before each, and what it gives.
-use Rattle.std.specs.Prelude.{ℕ, suc, ◌+◌, ◌-◌, ◌%◌, ◌==◌, if◌then◌else◌, List, [], ◌++◌, slice_index}
+use Rattle.std.specs.Prelude.{ℕ, suc, ◌-◌, ◌==◌, if◌then◌else◌, List, [], ◌++◌, slice_index}
 use Rattle.mux_outside.specs.declared.turn.Turn.{Turn}
 use Rattle.mux_outside.specs.declared.turn.Turn.TheVariants.{Accepted, Got, End, Failed}
-use Rattle.mux_drill.specs.Course.{Spot}
 use Rattle.mux_drill.specs.Frames.{open_frame, confirmation_frame, adjust_frame, data_frame, close_frame, greeting, welcome, opener_in}
 use Rattle.mux_drill.specs.Generator.{drawn, message_of}
 use Rattle.mux_drill.specs.declared.generator.Message.{Message}

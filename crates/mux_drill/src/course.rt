@@ -73,12 +73,6 @@ impl Course {
         self.tally
     }
 
-    pub fn plan(&self) -> Plan
-        ensures { result ≡ self.now.plan }
-    {
-        self.plan
-    }
-
     pub fn stage(&self) -> Stage
         ensures { result ≡ self.now.stage }
     {

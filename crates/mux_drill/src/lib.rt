@@ -21,13 +21,4 @@ mod step;
 #[cfg(test)]
 mod tests;
 
-pub use course::Course;
 pub use drill_wire::DrillWire;
-pub use generator::Message;
-pub use inboxes::Inboxes;
-pub use picks::Picks;
-pub use plan::Plan;
-pub use play::{Change, Given, Play};
-pub use saying::Saying;
-pub use stage::Stage;
-pub use step::Step;

@@ -1,5 +1,5 @@
 // How a drill is played, turn by turn.
-ghost use Rattle.std.specs.Prelude.{◌≡◌, ◌≢◌, ◌+◌, replicate, [], IsTrue, IfOk, true, false};
+ghost use Rattle.std.specs.Prelude.{◌≡◌, ◌≢◌, IsTrue, IfOk, true, false};
 ghost use Rattle.mux_outside.specs.Streams.{among};
 ghost use Rattle.mux_outside.specs.Wire.{TurnFits};
 ghost use Rattle.mux_outside.specs.declared.turn.Want.TheVariants.{Read};
@@ -103,8 +103,7 @@ impl Play {
     /// The start of a plan.
     pub fn start(alloc: Global, plan: Plan) -> Result<Play, OutOfMemory>
         requires { IsPlan plan }
-        ensures starts { IfOk result (Starts plan) }
-        ensures unread { IfOk result (λ play. play.unread ≡ replicate (plan.clients + 1) []) }
+        ensures { IfOk result (Starts plan) }
     {
         let unread = Inboxes::empty(alloc, plan.clients + 1)?;
         Ok(Play {

@@ -1,4 +1,4 @@
-use Rattle.std.proofs.Common.{◌+◌, ◌∷◌, get_or, drop}
+use Rattle.std.proofs.Common.{◌+◌, get_or, drop}
 use Rattle.std.proofs.lemmas.List.{drop_more}
 use Rattle.mux_drill.proofs.WordLemmas.{onto_nothing, at_space, at_byte}
 use Rattle.mux_drill.proofs.plan.words_of.Goals as goal

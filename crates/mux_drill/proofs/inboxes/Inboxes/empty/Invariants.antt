@@ -1,4 +1,4 @@
-use Rattle.std.proofs.Common.{◌≡◌, ℕ, List, [], replicate}
+use Rattle.std.proofs.Common.{◌≡◌, [], replicate}
 use Rattle.mux_drill.proofs.inboxes.Inboxes.empty.Given as goal
 
 abbrev pub invariant-loop-i : goal.invariant-loop-i
