@@ -105,8 +105,8 @@ closing_tally plan c len sound =
   where
     moved : (is more : Bool)
         → (if is && more
-          then tally plan.clients (counted (if is then plan.messages - 1 else plan.messages)) (total_length plan.seed plan.messages) (total_length plan.seed plan.messages) 0
-          else tally plan.clients (if is then plan.messages - 1 else plan.messages) (total_length plan.seed plan.messages) (total_length plan.seed plan.messages) 0)
+        then tally plan.clients (counted (if is then plan.messages - 1 else plan.messages)) (total_length plan.seed plan.messages) (total_length plan.seed plan.messages) 0
+        else tally plan.clients (if is then plan.messages - 1 else plan.messages) (total_length plan.seed plan.messages) (total_length plan.seed plan.messages) 0)
         ≡ tally plan.clients (if is && more then counted (if is then plan.messages - 1 else plan.messages) else (if is then plan.messages - 1 else plan.messages)) (total_length plan.seed plan.messages) (total_length plan.seed plan.messages) 0
     moved true true = refl
     moved true false = refl

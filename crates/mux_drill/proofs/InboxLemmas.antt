@@ -17,12 +17,12 @@ pub back_again : (stream : ℕ) (bytes : List ℕ) (unread : List (List ℕ))
 back_again stream bytes unread =
     elim (cases_lt stream (length unread)) [
       | inl within ↦
-      let at = get_or-set_same unread stream (get_or unread stream [] ++ bytes) [] within in
-      ap (λ (b : List ℕ). set (set unread stream (get_or unread stream [] ++ bytes)) stream (take (length b - length bytes) b)) at
-      ∙ ap (λ (b : List ℕ). set (set unread stream (get_or unread stream [] ++ bytes)) stream b) (before_last (get_or unread stream []) bytes)
-      ∙ set-set unread stream (get_or unread stream [] ++ bytes) (get_or unread stream [])
-      ∙ set-get_or unread stream []
+          let at = get_or-set_same unread stream (get_or unread stream [] ++ bytes) [] within in
+          ap (λ (b : List ℕ). set (set unread stream (get_or unread stream [] ++ bytes)) stream (take (length b - length bytes) b)) at
+          ∙ ap (λ (b : List ℕ). set (set unread stream (get_or unread stream [] ++ bytes)) stream b) (before_last (get_or unread stream []) bytes)
+          ∙ set-set unread stream (get_or unread stream [] ++ bytes) (get_or unread stream [])
+          ∙ set-get_or unread stream []
       | inr past ↦
-      ap (λ (u : List (List ℕ)). without_last stream (length bytes) u) (set_past unread stream (get_or unread stream [] ++ bytes) past)
-      ∙ set_past unread stream (take (length (get_or unread stream []) - length bytes) (get_or unread stream [])) past
+          ap (λ (u : List (List ℕ)). without_last stream (length bytes) u) (set_past unread stream (get_or unread stream [] ++ bytes) past)
+          ∙ set_past unread stream (take (length (get_or unread stream []) - length bytes) (get_or unread stream [])) past
     ]

@@ -81,12 +81,7 @@ impl Course {
 
     /// The step that comes next, by the numbers that the master picked and the bytes that wait for
     /// the server.
-    pub fn step(
-        &self,
-        alloc: Global,
-        picks: &Picks,
-        waiting: &[u8],
-    ) -> Result<Step, OutOfMemory>
+    pub fn step(&self, alloc: Global, picks: &Picks, waiting: &[u8]) -> Result<Step, OutOfMemory>
         ensures exact { IfOk result (λ step. step
             ≡ step_at picks.now waiting.now self.now.plan self.now.stage) }
         ensures ends { IfOk result (λ step. step.turn ≡ End 0 → self.now.stage ≡ Ending) }

@@ -160,9 +160,30 @@ pub fn opener_in(bytes: &[u8]) -> u32
     ensures { result ≡ opener_in bytes.now }
 {
     match bytes {
-        [_, _, _, _, _, _, _, _, _, _, _, _, _, _, _, _, _, a, b, c, d, ..] => {
-            u32::from_be_bytes([*a, *b, *c, *d])
-        }
+        [
+            _,
+            _,
+            _,
+            _,
+            _,
+            _,
+            _,
+            _,
+            _,
+            _,
+            _,
+            _,
+            _,
+            _,
+            _,
+            _,
+            _,
+            a,
+            b,
+            c,
+            d,
+            ..
+        ] => { u32::from_be_bytes([*a, *b, *c, *d]) }
         _ => 0,
     }
 }

@@ -65,7 +65,8 @@ impl Inbox {
         ensures { self.new ≡ take (length self.old - count) self.old }
     {
         let unread = self.bytes.len() - self.read;
-        self.bytes.truncate(self.read + unread.saturating_sub(count));
+        self.bytes
+            .truncate(self.read + unread.saturating_sub(count));
     }
 }
 

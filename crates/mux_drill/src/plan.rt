@@ -33,11 +33,13 @@ fn plan_in(command: Result<Command, UsageError>) -> Option<Plan>
     ensures { result ≡ plan_in command }
 {
     match command {
-        Ok(Command::Drill {
-            seed,
-            clients,
-            messages,
-        }) => Some(Plan {
+        Ok(
+            Command::Drill {
+                seed,
+                clients,
+                messages,
+            },
+        ) => Some(Plan {
             seed,
             clients,
             messages,

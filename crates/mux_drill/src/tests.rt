@@ -47,7 +47,12 @@ fn turn(alloc: Global, wire: &mut DrillWire, into: &mut Piece) -> Option<Turn> {
 }
 
 // Whether the next turns of a stream give these bytes, in pieces of 37.
-fn says(alloc: Global, wire: &mut DrillWire, stream: u64, parts: &[&[u8]]) -> Result<bool, OutOfMemory> {
+fn says(
+    alloc: Global,
+    wire: &mut DrillWire,
+    stream: u64,
+    parts: &[&[u8]],
+) -> Result<bool, OutOfMemory> {
     let text = joined(alloc, parts)?;
     let mut piece = Piece::new(alloc)?;
     for chunk in text.as_bytes().chunks(37) {
@@ -59,7 +64,12 @@ fn says(alloc: Global, wire: &mut DrillWire, stream: u64, parts: &[&[u8]]) -> Re
 }
 
 // Whether a stream takes all these bytes.
-fn takes(alloc: Global, wire: &mut DrillWire, stream: u64, parts: &[&[u8]]) -> Result<bool, OutOfMemory> {
+fn takes(
+    alloc: Global,
+    wire: &mut DrillWire,
+    stream: u64,
+    parts: &[&[u8]],
+) -> Result<bool, OutOfMemory> {
     let text = joined(alloc, parts)?;
     let bytes = text.as_bytes();
     if !wire.log().streams().contains(stream)
@@ -74,31 +84,47 @@ fn takes(alloc: Global, wire: &mut DrillWire, stream: u64, parts: &[&[u8]]) -> R
 // Whether the drill can be played up to its message.
 fn opens(alloc: Global, wire: &mut DrillWire) -> Result<bool, OutOfMemory> {
     let mut piece = Piece::new(alloc)?;
-    Ok(turn(alloc, wire, &mut piece) == Some(Turn::Accepted(1))
-        && takes(alloc, wire, 1, &[HELLO])?
-        && says(alloc, wire, 1, &[HELLO, PROXY, OPEN, ZERO, SIZES])?
-        && takes(alloc, wire, 1, &[PROXIES])?
-        && takes(alloc, wire, 0, &[OPEN, PICK, SIZES])?
-        && says(alloc, wire, 0, &[CONFIRMATION, PICK, ZERO, SIZES])?
-        && takes(alloc, wire, 1, &[CONFIRMATION, ZERO, ZERO, SIZES])?)
+    Ok(
+        turn(alloc, wire, &mut piece) == Some(Turn::Accepted(1))
+            && takes(alloc, wire, 1, &[HELLO])?
+            && says(alloc, wire, 1, &[HELLO, PROXY, OPEN, ZERO, SIZES])?
+            && takes(alloc, wire, 1, &[PROXIES])?
+            && takes(alloc, wire, 0, &[OPEN, PICK, SIZES])?
+            && says(alloc, wire, 0, &[CONFIRMATION, PICK, ZERO, SIZES])?
+            && takes(alloc, wire, 1, &[CONFIRMATION, ZERO, ZERO, SIZES])?,
+    )
 }
 
 // Whether its message can be played.
 fn sends(alloc: Global, wire: &mut DrillWire) -> Result<bool, OutOfMemory> {
-    Ok(says(alloc, wire, 1, &[DATA, ZERO, LENGTH, BYTES])?
-        && takes(alloc, wire, 0, &[DATA, ZERO, LENGTH, BYTES])?
-        && says(alloc, wire, 0, &[ADJUST, PICK, LENGTH, DATA, PICK, LENGTH, BYTES])?
-        && takes(alloc, wire, 1, &[ADJUST, ZERO, LENGTH, DATA, ZERO, LENGTH, BYTES])?
-        && says(alloc, wire, 1, &[ADJUST, ZERO, LENGTH])?
-        && takes(alloc, wire, 0, &[ADJUST, ZERO, LENGTH])?)
+    Ok(
+        says(alloc, wire, 1, &[DATA, ZERO, LENGTH, BYTES])?
+            && takes(alloc, wire, 0, &[DATA, ZERO, LENGTH, BYTES])?
+            && says(
+                alloc,
+                wire,
+                0,
+                &[ADJUST, PICK, LENGTH, DATA, PICK, LENGTH, BYTES],
+            )?
+            && takes(
+                alloc,
+                wire,
+                1,
+                &[ADJUST, ZERO, LENGTH, DATA, ZERO, LENGTH, BYTES],
+            )?
+            && says(alloc, wire, 1, &[ADJUST, ZERO, LENGTH])?
+            && takes(alloc, wire, 0, &[ADJUST, ZERO, LENGTH])?,
+    )
 }
 
 // Whether it can be closed.
 fn closes(alloc: Global, wire: &mut DrillWire) -> Result<bool, OutOfMemory> {
-    Ok(says(alloc, wire, 1, &[CLOSE, ZERO])?
-        && takes(alloc, wire, 0, &[CLOSE, ZERO])?
-        && says(alloc, wire, 0, &[CLOSE, PICK])?
-        && takes(alloc, wire, 1, &[CLOSE, ZERO])?)
+    Ok(
+        says(alloc, wire, 1, &[CLOSE, ZERO])?
+            && takes(alloc, wire, 0, &[CLOSE, ZERO])?
+            && says(alloc, wire, 0, &[CLOSE, PICK])?
+            && takes(alloc, wire, 1, &[CLOSE, ZERO])?,
+    )
 }
 
 #[test]
@@ -113,7 +139,10 @@ fn one_message_is_played_by_hand(rt: HostRuntime) {
     assert_eq!(rt; sends(alloc, &mut wire).expect(&rt, "memory"), true);
     assert_eq!(rt; closes(alloc, &mut wire).expect(&rt, "memory"), true);
     assert_eq!(rt; turn(alloc, &mut wire, &mut piece), Some(Turn::End(1)));
-    assert_eq!(rt; takes(alloc, &mut wire, 0, &[ZERO]).expect(&rt, "memory"), true);
+    assert_eq!(rt;
+        takes(alloc, &mut wire, 0, &[ZERO]).expect(&rt, "memory"),
+        true
+    );
     assert_eq!(rt; turn(alloc, &mut wire, &mut piece), Some(Turn::Failed(0)));
 }
 

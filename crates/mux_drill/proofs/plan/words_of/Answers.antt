@@ -14,7 +14,7 @@ loop-byte-preserved c =
     let rest = drop (c.loop-byte.byte-index + 1) c.args.text.now in
     elim c.if-byte-eq32.branch [
       | then-byte-eq32+in_ok-push w ↦
-      cc (at_space c.loop-byte.words.items c.loop-byte.word byte rest w.if-byte-eq32.true, here, c.loop-byte.invariant, w.in_ok-push.ensures.items)
+          cc (at_space c.loop-byte.words.items c.loop-byte.word byte rest w.if-byte-eq32.true, here, c.loop-byte.invariant, w.in_ok-push.ensures.items)
       | else-byte-eq32+in_ok-push-2 w ↦
-      cc (at_byte c.loop-byte.words.items c.loop-byte.word byte rest w.if-byte-eq32.false, here, c.loop-byte.invariant, w.in_ok-push-2.ensures.ok)
+          cc (at_byte c.loop-byte.words.items c.loop-byte.word byte rest w.if-byte-eq32.false, here, c.loop-byte.invariant, w.in_ok-push-2.ensures.ok)
     ]
