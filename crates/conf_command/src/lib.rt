@@ -20,4 +20,5 @@ mod tests;
 mod walk;
 
 pub use conf_rules::{Asked, AskedLine, AskedLines, Command, ConfigFrom, Usage, UsageError};
+pub use drill::drill_of;
 pub use reader::{WordsError, read_words};

@@ -1,0 +1,111 @@
+-- The turns of steps are turns that a wire may give.
+use Rattle.std.proofs.Common.{◌≡◌, refl, sym, subst, ℕ, ◌+◌, ◌-◌, ◌<◌, ◌≤◌, Bool, true, false, ◌&&◌, ◌==◌, nat_lt, List, [], ◌∷◌, ◌++◌, length, take, slice_index, IsTrue, not, arith, lit<, length-take}
+use Rattle.std.proofs.lemmas.Grind.{common_steps}
+use Rattle.conf_rules.specs.Texts.{is_empty}
+use Rattle.mux_outside.specs.Streams.{among}
+use Rattle.mux_outside.specs.Wire.{TurnFits}
+use Rattle.mux_outside.specs.WireLog.{Logged}
+use Rattle.mux_outside.specs.declared.turn.Turn.{Turn}
+use Rattle.mux_outside.specs.declared.turn.Turn.TheVariants.{Accepted, Got, End, Writable, Failed, NoMemory}
+use Rattle.mux_outside.specs.declared.turn.Want.TheVariants.{Read}
+use Rattle.mux_drill.specs.Frames.{confirmation_frame, adjust_frame, data_frame, close_frame, greeting, opener_in}
+use Rattle.mux_drill.specs.Inboxes.{stands_first}
+use Rattle.mux_drill.specs.Play.{may_happen, is_met}
+use Rattle.mux_drill.specs.declared.step.Step.{Step}
+use Rattle.mux_drill.specs.Steps.{step_at, message_at}
+use Rattle.mux_drill.specs.declared.plan.Plan.{Plan}
+use Rattle.mux_drill.specs.declared.stage.Stage.{Stage}
+use Rattle.mux_drill.specs.declared.stage.Stage.TheVariants.{Unopened, Accepting, Entering, Confirming, Sending, Echoing, Adjusting, Closing, ClosingBack, Leaving, Ending}
+
+-- a turn that gives bytes has some
+abbrev pub SaysSome : Turn → List ℕ → Type 0
+SaysSome (Got t) bytes = 0 < length bytes
+SaysSome (Accepted c) bytes = Unit {0}
+SaysSome (End t) bytes = Unit {0}
+SaysSome (Writable t) bytes = Unit {0}
+SaysSome (Failed t) bytes = Unit {0}
+SaysSome NoMemory bytes = Unit {0}
+
+-- a list that isn't empty
+abbrev IsNonEmpty : List ℕ → Type 0
+IsNonEmpty [] = ⊥
+IsNonEmpty (x ∷ xs) = Unit {0}
+
+-- it has an element
+some_of : (xs : List ℕ) → IsNonEmpty xs → 0 < length xs
+some_of [] h = absurd h
+some_of (x ∷ xs) h = omega arith
+
+-- each step that speaks says something
+pub says_some : (picks waiting : List ℕ) (plan : Plan) (stage : Stage)
+    → SaysSome (step_at picks waiting plan stage).turn (step_at picks waiting plan stage).says
+unfolding greeting confirmation_frame adjust_frame data_frame close_frame
+says_some picks waiting plan Unopened = tt
+says_some picks waiting plan (Accepting c) = tt
+says_some picks waiting plan (Entering c) = some_of greeting tt
+says_some picks waiting plan (Confirming c) = some_of (confirmation_frame (opener_in waiting) (c - 1)) tt
+says_some picks waiting plan (Sending i) =
+    let m = message_at plan i in
+    some_of (data_frame (m.client - 1) m.len m.byte) tt
+says_some picks waiting plan (Echoing i) =
+    let m = message_at plan i in
+    let number = slice_index picks m.client in
+    some_of (adjust_frame number m.len ++ data_frame number m.len m.byte) tt
+says_some picks waiting plan (Adjusting i) =
+    let m = message_at plan i in
+    some_of (adjust_frame (m.client - 1) m.len) tt
+says_some picks waiting plan (Closing c) = some_of (close_frame (c - 1)) tt
+says_some picks waiting plan (ClosingBack c) = some_of (close_frame (slice_index picks c)) tt
+says_some picks waiting plan (Leaving c) = tt
+says_some picks waiting plan Ending = tt
+
+-- both parts of what passes
+pub both : (a b : Bool) → (a && b) ≡ true → IsTrue a × IsTrue b
+both true b e = (refl, e)
+both false b e = (e, cc)
+
+-- the number above the last
+above : (c last : ℕ) → (nat_lt 0 c && (c - 1 == last)) ≡ true → c ≡ last + 1
+above c last e = grind (arith, common_steps)
+
+-- the piece of some bytes
+pub piece_fits : (n : ℕ) (bytes : List ℕ) → 0 < n → 0 < length bytes
+    → (0 < length (take n bytes)) × (length (take n bytes) ≤ n)
+piece_fits n bytes low some = (omega (arith, length-take n bytes), omega (arith, length-take n bytes))
+
+-- at most 65,536 of them
+pub piece_short : (bytes : List ℕ) → 0 < length bytes
+    → (0 < length (take 37 bytes)) × (length (take 37 bytes) ≤ 65536)
+piece_short bytes some =
+    let bounds = piece_fits 37 bytes (lit< tt) some in
+    (bounds.0, omega (arith, bounds.1))
+
+-- a stream that speaks has bytes
+pub speaks_some : (bytes : List ℕ) → not (is_empty bytes) ≡ true → 0 < length bytes
+speaks_some [] e = cc
+speaks_some (x ∷ xs) e = omega arith
+
+-- a turn that may happen fits
+pub turn_fits : (turn : Turn) (log : Logged) (unread : List (List ℕ)) (says : List ℕ)
+    → may_happen turn log unread ≡ true → SaysSome turn says
+    → TurnFits turn Read log.listens log.last log.streams log.blocked (take 37 says)
+turn_fits (Accepted c) log unread says may some =
+    let parts = both log.listens (nat_lt 0 c && (c - 1 == log.last)) may in
+    (refl, parts.0, above c log.last parts.1)
+turn_fits (Got t) log unread says may some =
+    let bounds = piece_short says some in
+    (refl, may, bounds.0, bounds.1)
+turn_fits (End t) log unread says may some = (refl, (both (among t log.streams) _ may).0)
+turn_fits (Writable t) log unread says may some = cc
+turn_fits (Failed t) log unread says may some = cc
+turn_fits NoMemory log unread says may some = tt
+
+-- a step that is met fits
+pub begin_fits : (step : Step) (log : Logged) (unread : List (List ℕ)) (picks waiting : List ℕ) (plan : Plan) (stage : Stage)
+    (piece : List ℕ) → step ≡ step_at picks waiting plan stage → is_met step log unread ≡ true → piece ≡ take 37 step.says
+    → TurnFits step.turn Read log.listens log.last log.streams log.blocked piece
+begin_fits step log unread picks waiting plan stage piece is met gives =
+    let up = both (stands_first 0 step.up unread) (stands_first step.client step.down unread && may_happen step.turn log unread) met in
+    let down = both (stands_first step.client step.down unread) (may_happen step.turn log unread) up.1 in
+    let P : Step → Type 0 = λ s. SaysSome s.turn s.says in
+    rw gives (turn_fits step.turn log unread step.says down.1 (subst P (sym is) (says_some picks waiting plan stage)))

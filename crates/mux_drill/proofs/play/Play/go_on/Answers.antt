@@ -1,0 +1,13 @@
+use Rattle.std.proofs.Common.{◌≡◌, ◌∙◌, refl, ap, ℕ, List, true, take, arith}
+use Rattle.std.proofs.lemmas.Grind.{common_steps}
+use Rattle.mux_outside.specs.Streams.{among}
+use Rattle.mux_drill.proofs.StepLemmas.{piece_short, speaks_some}
+use Rattle.mux_drill.proofs.play.Play.go_on.Goals as goal
+
+pub returns-clause-fits : goal.returns-clause-fits
+returns-clause-fits c =
+    let rest = c.args.self.now.said.rest in
+    let bounds = piece_short rest (speaks_some rest c.requires.speaks) in
+    let piece : c.give.new.into ≡ take 37 rest = c.give.ensures ∙ ap (λ (b : List ℕ). take 37 b) c.rest.ensures in
+    let opened : among c.stream-2.result c.args.log.now.streams ≡ true = grind (arith, common_steps) in
+    (refl, opened, rw piece bounds.0, rw piece bounds.1)

@@ -1,0 +1,62 @@
+-- What the calls of a drill's wire leave.
+use Rattle.std.specs.Prelude.{◌≡◌, ℕ, List, length, Option, Some, None, Result, Ok, Err}
+use Rattle.mux_outside.specs.Tally.{no_tally}
+use Rattle.mux_outside.specs.WireLog.{nothing_logged}
+use Rattle.mux_outside.specs.declared.file_error.FileError.{FileError}
+use Rattle.mux_outside.specs.declared.file_error.FileError.TheVariants.{Failed as FailedFile, OutOfMemory}
+use Rattle.mux_outside.specs.declared.turn.Tally.{Tally}
+use Rattle.mux_outside.specs.declared.turn.Turn.{Turn}
+use Rattle.mux_outside.specs.declared.turn.Turn.TheVariants.{Got}
+use Rattle.mux_outside.specs.declared.turn.Wrote.{Wrote}
+use Rattle.mux_outside.specs.declared.turn.Wrote.TheVariants.{Took}
+use Rattle.mux_drill.specs.Course.{tally_at}
+use Rattle.mux_drill.specs.Inboxes.{with_more}
+use Rattle.mux_drill.specs.Play.{next_turn, next_piece, next_play, Starts}
+use Rattle.mux_drill.specs.declared.plan.Plan.{Plan}
+use Rattle.mux_drill.specs.declared.stage.Stage.TheVariants.{Unopened, Ending}
+use Rattle.mux_drill.specs.declared.drill_wire.DrillWire.{DrillWire}
+
+-- what was counted
+abbrev pub tally_of : DrillWire → Tally
+tally_of w = tally_at w.play.course
+
+-- all clients have ended
+abbrev pub IsOver : DrillWire → Type 0
+IsOver w = w.play.course.stage ≡ Ending
+
+-- a wire that isn't open
+pub record IsNew (w : DrillWire) : Type 0 where
+  pub stage_is : w.play.course.stage ≡ Unopened
+  pub log_is : w.log ≡ nothing_logged
+
+-- what is played stays
+abbrev pub SamePlay : DrillWire → DrillWire → Type 0
+SamePlay old new = new.play ≡ old.play
+
+-- a plan was read, and its play begins with nothing counted
+pub record Begins (plan : Option Plan) (new : DrillWire) (read : Plan) : Type 0 where
+  pub plan_is : plan ≡ Some read
+  pub starts : Starts read new.play
+  pub tally_is : tally_of new ≡ no_tally
+
+-- no plan was read
+pub record ReadsNone (plan : Option Plan) (old new : DrillWire) : Type 0 where
+  pub plan_is : plan ≡ None
+  pub same : SamePlay old new
+
+-- a call of open succeeds exactly where its transport reads as a plan, but for want of memory
+abbrev pub Opens : Result (Unit {0}) FileError → Option Plan → DrillWire → DrillWire → Type 0
+Opens (Ok x) plan old new = Begins plan new new.play.course.plan
+Opens (Err FailedFile) plan old new = ReadsNone plan old new
+Opens (Err OutOfMemory) plan old new = SamePlay old new
+
+-- a wait gave the next turn
+pub record PlaysNext (old new : DrillWire) (turn : Turn) (bytes : List ℕ) : Type 0 where
+  pub turn_is : turn ≡ next_turn old.play old.log
+  pub piece_is : (t : ℕ) → turn ≡ Got t → bytes ≡ next_piece old.play
+  pub play_is : new.play ≡ next_play old.play old.log
+
+-- a write took all bytes, and they wait to be read
+pub record TakesAll (stream : ℕ) (bytes : List ℕ) (old new : DrillWire) (wrote : Wrote) : Type 0 where
+  pub wrote_is : wrote ≡ Took (length bytes)
+  pub play_is : new.play ≡ record old.play { unread = with_more stream bytes old.play.unread }

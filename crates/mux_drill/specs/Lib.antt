@@ -1,0 +1,9 @@
+pub mod Plan
+pub mod Generator
+pub mod Frames
+pub mod Inboxes
+pub mod Saying
+pub mod Course
+pub mod Steps
+pub mod Play
+pub mod DrillWire

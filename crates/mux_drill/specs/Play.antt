@@ -1,0 +1,113 @@
+-- How a drill is played, turn by turn.
+use Rattle.std.specs.Prelude.{◌≡◌, ℕ, ◌+◌, ◌-◌, ◌==◌, ◌&&◌, not, nat_lt, Bool, true, false, if◌then◌else◌, List, [], length, take, replicate, slice_set}
+use Rattle.conf_rules.specs.Texts.{is_empty}
+use Rattle.mux_outside.specs.Streams.{among}
+use Rattle.mux_outside.specs.WireLog.{Logged}
+use Rattle.mux_outside.specs.declared.turn.Turn.{Turn}
+use Rattle.mux_outside.specs.declared.turn.Turn.TheVariants.{Accepted, Got, End, Writable, Failed, NoMemory}
+use Rattle.mux_drill.specs.Course.{spot_after}
+use Rattle.mux_drill.specs.Frames.{opener_in}
+use Rattle.mux_drill.specs.Inboxes.{unread_at, without_first, stands_first, all_read}
+use Rattle.mux_drill.specs.Saying.{Said, gone_on}
+use Rattle.mux_drill.specs.Steps.{step_at}
+use Rattle.mux_drill.specs.declared.stage.Stage.{Stage}
+use Rattle.mux_drill.specs.declared.stage.Stage.TheVariants.{Accepting, Confirming}
+use Rattle.mux_drill.specs.declared.step.Step.{Step}
+use Rattle.mux_drill.specs.declared.plan.Plan.{Plan}
+use Rattle.mux_drill.specs.declared.play.Play.{Play}
+use Rattle.mux_drill.specs.declared.play.Change.{Change}
+use Rattle.mux_drill.specs.declared.play.Given.{Given}
+use Rattle.mux_drill.specs.declared.play.Change.TheVariants.{Nothing, GoesOn, Takes}
+
+-- ---- the next turn
+
+-- whether a stream has bytes to give
+abbrev pub speaks : Said → Bool
+speaks said = not (is_empty said.rest)
+
+-- whether what is outside lets a turn happen: a client comes where it listens, an open stream speaks or
+-- ends, and the server ends where all was read
+abbrev pub may_happen : Turn → Logged → List (List ℕ) → Bool
+may_happen (Accepted c) log unread = log.listens && (nat_lt 0 c && (c - 1 == log.last))
+may_happen (Got t) log unread = among t log.streams
+may_happen (End t) log unread = among t log.streams && (if t == 0 then all_read unread else true)
+may_happen (Writable t) log unread = false
+may_happen (Failed t) log unread = false
+may_happen NoMemory log unread = false
+
+-- whether all that a step needs was written, and its turn may happen
+abbrev pub is_met : Step → Logged → List (List ℕ) → Bool
+is_met step log unread =
+    stands_first 0 step.up unread && (stands_first step.client step.down unread && may_happen step.turn log unread)
+
+-- the step that comes next
+abbrev pub next_step : Play → Step
+next_step play = step_at play.picks (unread_at 0 play.unread) play.course.plan play.course.stage
+
+-- the next turn
+abbrev pub next_turn : Play → Logged → Turn
+next_turn play log =
+    let step = next_step play in
+    let goes_on = if among play.said.stream log.streams then Got play.said.stream else Failed 0 in
+    let begins = if is_met step log play.unread then step.turn else Failed 0 in
+    if speaks play.said then goes_on else begins
+
+-- the bytes that it gives, if it gives any
+abbrev pub next_piece : Play → List ℕ
+next_piece play = if speaks play.said then take 37 play.said.rest else take 37 (next_step play).says
+
+-- ---- what it leaves
+
+-- the stream of a turn
+abbrev pub speaker_of : Turn → ℕ
+speaker_of (Got t) = t
+speaker_of (Accepted c) = c
+speaker_of (End t) = t
+speaker_of (Writable t) = t
+speaker_of (Failed t) = t
+speaker_of NoMemory = 0
+
+-- the numbers that the master picked: the server reads one with each open
+abbrev pub picks_after : Stage → ℕ → List ℕ → List ℕ
+picks_after (Confirming c) number picks = slice_set picks c number
+picks_after _ number picks = picks
+
+-- after a step was begun: its bytes were read, and a piece of what it says was given
+abbrev pub begun : Step → Play → Play
+begun step play = record play {
+  course = spot_after play.course;
+  said = gone_on (record { stream = speaker_of step.turn; rest = step.says });
+  unread = without_first step.client (length step.down) (without_first 0 (length step.up) play.unread);
+  picks = picks_after play.course.stage (opener_in (unread_at 0 play.unread)) play.picks;
+}
+
+-- after a change
+abbrev pub changed : Change → Play → Play
+changed Nothing play = play
+changed GoesOn play = record play { said = gone_on play.said }
+changed (Takes step) play = begun step play
+
+-- the change of the next turn
+abbrev pub next_change : Play → Logged → Change
+next_change play log =
+    let step = next_step play in
+    let goes_on = if among play.said.stream log.streams then GoesOn else Nothing in
+    let begins = if is_met step log play.unread then Takes step else Nothing in
+    if speaks play.said then goes_on else begins
+
+-- a turn, its bytes and what it leaves are the next ones
+pub record GivesNext (play : Play) (log : Logged) (given : Given) (bytes : List ℕ) : Type 0 where
+  pub turn_is : given.turn ≡ next_turn play log
+  pub change_is : given.change ≡ next_change play log
+  pub piece_is : (t : ℕ) → given.turn ≡ Got t → bytes ≡ next_piece play
+
+-- the play after the next turn
+abbrev pub next_play : Play → Logged → Play
+next_play play log = changed (next_change play log) play
+
+-- a play at the start of a plan: nothing is said, written or picked
+pub record Starts (plan : Plan) (play : Play) : Type 0 where
+  pub course_is : play.course ≡ record { plan = plan; stage = Accepting 1 }
+  pub said_is : play.said ≡ record { stream = 0; rest = [] }
+  pub unread_is : play.unread ≡ replicate (plan.clients + 1) []
+  pub picks_are : play.picks ≡ replicate 65 0

@@ -1,0 +1,190 @@
+ghost use Rattle.std.specs.Prelude.{◌≡◌, ◌≢◌, ◌<◌, ◌++◌, false, Some, IsTrue, All, length};
+ghost use Rattle.std.specs.Option.{option_map};
+ghost use Rattle.mux_outside.specs.Streams.{among};
+ghost use Rattle.mux_outside.specs.declared.turn.Want.TheVariants.{Read, WriteOnly};
+ghost use Rattle.mux_outside.specs.declared.turn.Turn.TheVariants.{End, NoMemory};
+ghost use Rattle.mux_outside.specs.declared.turn.Wrote.TheVariants.{Took, NoMemory as NoMemoryToWrite};
+ghost use Rattle.mux_outside.specs.Wire.{openings_of, OpenFaults, TurnFits, TurnFaults, WroteFits, WroteFaults};
+ghost use Rattle.mux_outside.specs.Seen.{seen_after_open, seen_after_turn, seen_after_write, seen_after_close, calls_after_wait, calls_after_write};
+ghost use Rattle.mux_outside.specs.WireLog.{seen_in};
+ghost use Rattle.mux_drill.specs.Course.{full_tally};
+ghost use Rattle.mux_drill.specs.DrillWire.{tally_of, IsOver, IsNew, SamePlay, Opens, PlaysNext, TakesAll};
+ghost use Rattle.mux_drill.specs.Plan.{plan_of};
+ghost use Rattle.mux_drill.specs.declared.stage.Stage.TheVariants.{Ending};
+ghost use Rattle.mux_drill.specs.Play.{GivesNext};
+ghost use Rattle.mux_drill.specs.declared.play.Change.TheVariants.{Nothing};
+
+use crate::plan::Plan;
+use crate::play::{Change, Given, Play};
+use mux_outside::{FileError, Piece, Streams, Tally, Turn, Want, Wire, WireLog, Wrote};
+use std::alloc::Global;
+
+/// A wire in memory, which plays the clients and the server of a drill, and tells everything.
+#[derive(Drop)]
+pub struct DrillWire {
+    alloc: Global,
+    play: Play,
+    log: WireLog,
+}
+
+impl DrillWire {
+    /// A wire that isn't open.
+    pub fn new(alloc: Global) -> DrillWire
+        ensures { IsNew result }
+    {
+        DrillWire {
+            alloc,
+            play: Play::nothing(alloc),
+            log: WireLog::new(alloc),
+        }
+    }
+
+    /// What it keeps of its calls.
+    pub fn log(&self) -> &WireLog
+        ensures { result.now ≡ self.now.log }
+    {
+        &self.log
+    }
+}
+
+impl Wire for DrillWire {
+    ghost openings = { λ w. Some w.log.openings };
+
+    ghost seen = { λ w. seen_in w.log };
+
+    ghost calls = { λ w. w.log.calls };
+
+    ghost server_faults = { λ w. w.log.server_faults };
+
+    ghost client_faults = { λ w. w.log.client_faults };
+
+    ghost tally = { λ w. tally_of w };
+
+    fn open(&mut self, control: &[u8], transport: &[u8]) -> Result<(), FileError>
+        ensures openings { Some self.new.log.openings
+            ≡ option_map (λ os. os ++ openings_of result control.now transport.now)
+            (Some self.old.log.openings) }
+        ensures seen { seen_in self.new.log ≡ seen_after_open result (seen_in self.old.log) }
+        ensures calls { self.new.log.calls ≡ self.old.log.calls }
+        ensures cause { OpenFaults result self.old.log.server_faults self.new.log.server_faults
+            self.old.log.client_faults self.new.log.client_faults }
+        ensures exact { Opens result (plan_of transport.now) self.old self.new }
+    {
+        let Some(plan) = Plan::read(self.alloc, transport)? else {
+            return self.log.opened(control, transport, false);
+        };
+        let play = Play::start(self.alloc, plan)?;
+        self.log.opened(control, transport, true)?;
+        self.play = play;
+        Ok(())
+    }
+
+    fn wait(&mut self, waiting: &Streams, want: Want, into: &mut Piece) -> Turn
+        requires waiting_blocked { All (λ t. IsTrue (among t self.old.log.blocked)) waiting.now }
+        requires waiting_open { All (λ t. IsTrue (among t self.old.log.streams)) waiting.now }
+        requires server { IsTrue (among 0 self.old.log.streams) }
+        requires some { want ≡ WriteOnly → 0 < length waiting.now }
+        ensures turn { TurnFits result want self.old.log.listens self.old.log.last self.old.log.streams
+            self.old.log.blocked into.new }
+        ensures openings { Some self.new.log.openings ≡ Some self.old.log.openings }
+        ensures seen { seen_in self.new.log ≡ seen_after_turn result waiting.now want into.new (seen_in self.old.log) }
+        ensures calls { self.new.log.calls ≡ calls_after_wait result self.old.log.calls }
+        ensures cause { TurnFaults result self.old.log.server_faults self.new.log.server_faults
+            self.old.log.client_faults self.new.log.client_faults }
+        ensures drilled { result ≡ End 0 → tally_of self.new ≡ full_tally self.old.play.course.plan }
+        ensures ends { result ≡ End 0 → IsOver self.new }
+        ensures over { IsOver self.old → tally_of self.new ≡ tally_of self.old }
+        ensures given { want ≡ Read → result ≢ NoMemory → PlaysNext self.old self.new result into.new }
+        ensures err { result ≡ NoMemory → SamePlay self.old self.new }
+    {
+        let given = self.given(waiting, want, into);
+        if self
+            .log
+            .waited(given.turn, waiting, want, into.as_bytes())
+            .is_err()
+        {
+            return Turn::NoMemory;
+        }
+        self.play.keep(given.change);
+        given.turn
+    }
+
+    fn write(&mut self, stream: u64, bytes: &[u8]) -> Wrote
+        requires stream_open { IsTrue (among stream self.old.log.streams) }
+        requires not_blocked { among stream self.old.log.blocked ≡ false }
+        requires some { 0 < length bytes.now }
+        ensures wrote { WroteFits result (length bytes.now) }
+        ensures openings { Some self.new.log.openings ≡ Some self.old.log.openings }
+        ensures seen { seen_in self.new.log ≡ seen_after_write result stream bytes.now (seen_in self.old.log) }
+        ensures calls { self.new.log.calls ≡ calls_after_write result self.old.log.calls }
+        ensures cause { WroteFaults result stream self.old.log.server_faults self.new.log.server_faults
+            self.old.log.client_faults self.new.log.client_faults }
+        ensures all { result ≢ NoMemoryToWrite → TakesAll stream bytes.now self.old self.new result }
+        ensures over { tally_of self.new ≡ tally_of self.old }
+        ensures err { result ≡ NoMemoryToWrite → SamePlay self.old self.new }
+    {
+        if self.play.unread.add(stream, bytes).is_err() {
+            let _ = self.log.wrote(Wrote::NoMemory, stream, bytes);
+            return Wrote::NoMemory;
+        }
+        let wrote = Wrote::Took(bytes.len());
+        if self.log.wrote(wrote, stream, bytes).is_err() {
+            self.play.unread.take_back(stream, bytes.len());
+            return Wrote::NoMemory;
+        }
+        wrote
+    }
+
+    fn stop_listening(&mut self)
+        ensures openings { Some self.new.log.openings ≡ Some self.old.log.openings }
+        ensures seen { seen_in self.new.log ≡ record (seen_in self.old.log) { listens = false } }
+        ensures calls { self.new.log.calls ≡ self.old.log.calls }
+        ensures server { self.new.log.server_faults ≡ self.old.log.server_faults }
+        ensures client { self.new.log.client_faults ≡ self.old.log.client_faults }
+        ensures same { SamePlay self.old self.new }
+    {
+        self.log.stop_listening();
+    }
+
+    fn close(&mut self, stream: u64)
+        ensures openings { Some self.new.log.openings ≡ Some self.old.log.openings }
+        ensures seen { seen_in self.new.log ≡ seen_after_close stream (seen_in self.old.log) }
+        ensures calls { self.new.log.calls ≡ self.old.log.calls }
+        ensures server { self.new.log.server_faults ≡ self.old.log.server_faults }
+        ensures client { self.new.log.client_faults ≡ self.old.log.client_faults }
+        ensures same { SamePlay self.old self.new }
+    {
+        self.log.close(stream);
+    }
+
+    fn tally(&self) -> Tally
+        ensures { result ≡ tally_of self.now }
+    {
+        self.play.course.tally()
+    }
+}
+
+impl DrillWire {
+    // The turn of a wait, and what it leaves.
+    fn given(&self, waiting: &Streams, want: Want, into: &mut Piece) -> Given
+        requires waiting_blocked { All (λ t. IsTrue (among t self.now.log.blocked)) waiting.now }
+        requires waiting_open { All (λ t. IsTrue (among t self.now.log.streams)) waiting.now }
+        requires server { IsTrue (among 0 self.now.log.streams) }
+        requires some { want ≡ WriteOnly → 0 < length waiting.now }
+        ensures turn { TurnFits result.turn want self.now.log.listens self.now.log.last self.now.log.streams
+            self.now.log.blocked into.new }
+        ensures gives { want ≡ Read → result.turn ≢ NoMemory
+            → GivesNext self.now.play self.now.log result into.new }
+        ensures starved { result.turn ≡ NoMemory → result.change ≡ Nothing }
+        ensures ends { result.turn ≡ End 0 → self.now.play.course.stage ≡ Ending }
+        ensures frees { want ≡ WriteOnly → result.change ≡ Nothing }
+    {
+        match want {
+            Want::Read => self.play.next(&self.log, into),
+            Want::WriteOnly => Given {
+                turn: Turn::Writable(waiting.as_slice()[0]),
+                change: Change::Nothing,
+            },
+        }
+    }
+}

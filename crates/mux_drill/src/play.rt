@@ -1,0 +1,218 @@
+// How a drill is played, turn by turn.
+ghost use Rattle.std.specs.Prelude.{◌≡◌, ◌≢◌, IsTrue, IfOk, true, false};
+ghost use Rattle.mux_outside.specs.Streams.{among};
+ghost use Rattle.mux_outside.specs.Wire.{TurnFits};
+ghost use Rattle.mux_outside.specs.declared.turn.Want.TheVariants.{Read};
+ghost use Rattle.mux_outside.specs.declared.turn.Turn.TheVariants.{End, NoMemory};
+ghost use Rattle.mux_drill.specs.declared.stage.Stage.TheVariants.{Unopened, Ending};
+ghost use Rattle.mux_drill.specs.Plan.{IsPlan};
+ghost use Rattle.mux_drill.specs.Play.{speaks, may_happen, is_met, next_step, next_turn, next_piece, next_change, changed, begun, speaker_of, picks_after, Starts, GivesNext};
+ghost use Rattle.mux_drill.specs.declared.play.Change.TheVariants.{Nothing};
+
+use crate::course::Course;
+use crate::frames::opener_in;
+use crate::inboxes::Inboxes;
+use crate::picks::Picks;
+use crate::plan::Plan;
+use crate::saying::{Saying, give};
+use crate::stage::Stage;
+use crate::step::Step;
+use mux_outside::{Piece, Turn, WireLog};
+use ssh_fields::OutOfMemory;
+use std::alloc::Global;
+
+/// What is played: how far it has come, what is being said, the bytes that aren't read yet, and the
+/// numbers that the master picked.
+#[derive(Drop)]
+pub struct Play {
+    pub alloc: Global,
+    pub course: Course,
+    pub said: Saying,
+    pub unread: Inboxes,
+    pub picks: Picks,
+}
+
+/// What a turn leaves.
+#[derive(Drop)]
+pub enum Change {
+    /// All stays.
+    Nothing,
+    /// A stream gave a piece more.
+    GoesOn,
+    /// A step was begun.
+    Takes(Step),
+}
+
+/// A turn, and what it leaves.
+#[derive(Drop)]
+pub struct Given {
+    pub turn: Turn,
+    pub change: Change,
+}
+
+// Whether what is outside lets a turn happen.
+fn may_happen(turn: Turn, log: &WireLog, unread: &Inboxes) -> bool
+    ensures { result ≡ may_happen turn log.now unread.now }
+{
+    match turn {
+        Turn::Accepted(client) => log.is_listening() && (0 < client && client - 1 == log.last()),
+        Turn::Got(stream) => log.streams().contains(stream),
+        Turn::End(0) => log.streams().contains(0) && unread.all_read(),
+        Turn::End(stream) => log.streams().contains(stream),
+        _ => false,
+    }
+}
+
+// The stream of a turn.
+fn speaker_of(turn: Turn) -> u64
+    ensures { result ≡ speaker_of turn }
+{
+    match turn {
+        Turn::Got(stream) => stream,
+        Turn::Accepted(client) => client,
+        Turn::End(stream) => stream,
+        Turn::Writable(stream) => stream,
+        Turn::Failed(stream) => stream,
+        Turn::NoMemory => 0,
+    }
+}
+
+// Whether all that a step needs was written, and its turn may happen.
+fn is_met(step: &Step, log: &WireLog, unread: &Inboxes) -> bool
+    ensures { result ≡ is_met step.now log.now unread.now }
+{
+    unread.stands_first(0, step.up.as_bytes())
+        && (unread.stands_first(step.client, step.down.as_bytes())
+            && may_happen(step.turn, log, unread))
+}
+
+impl Play {
+    /// Nothing is played.
+    pub fn nothing(alloc: Global) -> Play
+        ensures { result.course.stage ≡ Unopened }
+    {
+        Play {
+            alloc,
+            course: Course::unopened(),
+            said: Saying::nothing(alloc),
+            unread: Inboxes::new(alloc),
+            picks: Picks::new(),
+        }
+    }
+
+    /// The start of a plan.
+    pub fn start(alloc: Global, plan: Plan) -> Result<Play, OutOfMemory>
+        requires { IsPlan plan }
+        ensures { IfOk result (Starts plan) }
+    {
+        let unread = Inboxes::empty(alloc, plan.clients + 1)?;
+        Ok(Play {
+            alloc,
+            course: Course::start(plan),
+            said: Saying::nothing(alloc),
+            unread,
+            picks: Picks::new(),
+        })
+    }
+
+    /// The next turn.
+    pub fn next(&self, log: &WireLog, into: &mut Piece) -> Given
+        requires { IsTrue (among 0 log.now.streams) }
+        ensures fits { TurnFits result.turn Read log.now.listens log.now.last log.now.streams
+            log.now.blocked into.new }
+        ensures gives { result.turn ≢ NoMemory → GivesNext self.now log.now result into.new }
+        ensures starved { result.turn ≡ NoMemory → result.change ≡ Nothing }
+        ensures ends { result.turn ≡ End 0 → self.now.course.stage ≡ Ending }
+    {
+        if self.said.rest().is_empty() {
+            self.begin(log, into)
+        } else {
+            self.go_on(log, into)
+        }
+    }
+
+    // The next piece of what is being said.
+    fn go_on(&self, log: &WireLog, into: &mut Piece) -> Given
+        requires server { IsTrue (among 0 log.now.streams) }
+        requires speaks { speaks self.now.said ≡ true }
+        ensures fits { TurnFits result.turn Read log.now.listens log.now.last log.now.streams
+            log.now.blocked into.new }
+        ensures gives { result.turn ≢ NoMemory → GivesNext self.now log.now result into.new }
+        ensures starved { result.turn ≢ NoMemory }
+        ensures ends { result.turn ≢ End 0 }
+    {
+        if !log.streams().contains(self.said.stream()) {
+            return Given {
+                turn: Turn::Failed(0),
+                change: Change::Nothing,
+            };
+        }
+        give(self.said.rest(), into);
+        Given {
+            turn: Turn::Got(self.said.stream()),
+            change: Change::GoesOn,
+        }
+    }
+
+    // The next step, where what it needs was written.
+    fn begin(&self, log: &WireLog, into: &mut Piece) -> Given
+        requires server { IsTrue (among 0 log.now.streams) }
+        requires silent { speaks self.now.said ≡ false }
+        ensures fits { TurnFits result.turn Read log.now.listens log.now.last log.now.streams
+            log.now.blocked into.new }
+        ensures gives { result.turn ≢ NoMemory → GivesNext self.now log.now result into.new }
+        ensures starved { result.turn ≡ NoMemory → result.change ≡ Nothing }
+        ensures ends { result.turn ≡ End 0 → self.now.course.stage ≡ Ending }
+    {
+        let Ok(step) = self.course.step(self.alloc, &self.picks, self.unread.at(0)) else {
+            return Given {
+                turn: Turn::NoMemory,
+                change: Change::Nothing,
+            };
+        };
+        if !is_met(&step, log, &self.unread) {
+            return Given {
+                turn: Turn::Failed(0),
+                change: Change::Nothing,
+            };
+        }
+        give(step.says.as_bytes(), into);
+        Given {
+            turn: step.turn,
+            change: Change::Takes(step),
+        }
+    }
+
+    /// Keeps what a turn leaves.
+    pub fn keep(&mut self, change: Change)
+        ensures { self.new ≡ changed change self.old }
+    {
+        match change {
+            Change::Nothing => {}
+            Change::GoesOn => self.said.go_on(),
+            Change::Takes(step) => self.take(step),
+        }
+    }
+
+    // A step was begun.
+    fn take(&mut self, step: Step)
+        ensures { self.new ≡ begun step self.old }
+    {
+        let number = opener_in(self.unread.at(0));
+        keep_pick(&mut self.picks, self.course.stage(), number);
+        self.unread.read(0, step.up.as_bytes().len());
+        self.unread.read(step.client, step.down.as_bytes().len());
+        self.course.advance();
+        self.said = Saying::new(speaker_of(step.turn), step.says);
+        self.said.go_on();
+    }
+}
+
+// The numbers that the master picked, after one more where an open was read.
+fn keep_pick(picks: &mut Picks, stage: Stage, number: u32)
+    ensures { picks.new ≡ picks_after stage number picks.old }
+{
+    if let Stage::Confirming(client) = stage {
+        picks.set(client, number);
+    }
+}

@@ -1,0 +1,78 @@
+ghost use Rattle.std.specs.Prelude.{◌≡◌, ◌≤◌, [], take, drop};
+
+use mux_outside::Piece;
+use ssh_fields::Text;
+use std::alloc::Global;
+use std::marker::Model;
+
+// The most bytes that a turn gives.
+const PIECE: usize = 37;
+
+/// What a stream is saying, and how much of it was given.
+#[derive(Drop)]
+pub struct Saying {
+    stream: u64,
+    text: Text,
+    given: usize,
+}
+
+impl Model for Saying {
+    ghost use Rattle.std.specs.Prelude.{drop, length, ◌≤◌};
+    ghost use Rattle.mux_drill.specs.Saying.{Said};
+
+    ghost Value = { Said };
+
+    ghost view = { λ s. record { stream = s.stream; rest = drop s.given s.text } };
+
+    ghost invariant = { λ s. s.given ≤ length s.text };
+}
+
+impl Saying {
+    ghost use Rattle.mux_drill.specs.Saying.{gone_on};
+
+    /// A stream says a text.
+    pub fn new(stream: u64, text: Text) -> Saying
+        ensures { result ≡ record { stream = stream; rest = text } }
+    {
+        Saying {
+            stream,
+            text,
+            given: 0,
+        }
+    }
+
+    /// Nothing is said.
+    pub fn nothing(alloc: Global) -> Saying
+        ensures { result ≡ record { stream = 0; rest = [] } }
+    {
+        Saying::new(0, Text::new(alloc))
+    }
+
+    pub fn stream(&self) -> u64
+        ensures { result ≡ self.now.stream }
+    {
+        self.stream
+    }
+
+    /// What wasn't given yet.
+    pub fn rest(&self) -> &[u8]
+        ensures { result.now ≡ self.now.rest }
+    {
+        &self.text.as_bytes()[self.given..]
+    }
+
+    /// A piece of it was given.
+    pub fn go_on(&mut self)
+        ensures { self.new ≡ gone_on self.old }
+    {
+        let len = self.text.as_bytes().len();
+        self.given += PIECE.min(len - self.given);
+    }
+}
+
+/// Gives the first piece of some bytes.
+pub fn give(bytes: &[u8], into: &mut Piece)
+    ensures { into.new ≡ take 37 bytes.now }
+{
+    into.set(&bytes[..PIECE.min(bytes.len())]);
+}
