@@ -16,5 +16,3 @@ pub use ssh_grammar::Side;
 pub use table::Table;
 pub use window_ledger::Ledger;
 
-#[cfg(test)]
-mod tests;

@@ -15,8 +15,6 @@ mod permits;
 mod reader;
 mod sound;
 mod step;
-#[cfg(test)]
-mod tests;
 mod walk;
 
 pub use conf_rules::{Asked, AskedLine, AskedLines, Command, ConfigFrom, Usage, UsageError};

@@ -18,7 +18,5 @@ mod play;
 mod saying;
 mod stage;
 mod step;
-#[cfg(test)]
-mod tests;
 
 pub use drill_wire::DrillWire;

@@ -9,8 +9,6 @@ mod runner;
 mod sink;
 mod sockets;
 mod stream;
-#[cfg(test)]
-mod tests;
 mod transport;
 mod wire;
 
