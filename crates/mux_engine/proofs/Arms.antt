@@ -1,21 +1,22 @@
 -- The arms of an offer: which calls are counted, how the run may end, and an error handed on.
-use Rattle.std.proofs.Common.{◌≡◌, ◌≢◌, ◌≤◌, ◌<◌, ◌+◌, ◌-◌, ℕ, Bool, true, false, List, [], ◌∷◌, ◌++◌, length, Option, Some, None, refl, sym, ap, ◌∙◌, inl, inr, ◌⊎◌, cond, arith}
-use Rattle.std.specs.Prelude.{◌==◌, Result, Ok, Err, MatchResult, IsErr, OnOk}
+use Rattle.std.proofs.Common.{◌≡◌, ◌≢◌, ◌≤◌, ◌<◌, ◌+◌, ◌-◌, ◌^◌, ℕ, Bool, true, false, List, [], ◌∷◌, ◌++◌, length, Option, Some, None, refl, sym, ap, ◌∙◌, inl, inr, ◌⊎◌, cond, arith}
+use Rattle.std.specs.Prelude.{◌==◌, min, Result, Ok, Err, MatchResult, IsErr, OnOk}
 use Rattle.std.specs.Bool.{MatchBool}
 use Rattle.std.proofs.lemmas.Bool.{eqb-true, eq-eqb}
 use Rattle.std.proofs.lemmas.Bool.Decides.{eqb_tells}
 use Rattle.mux_outside.specs.Counts.{Rose, counted}
-use Rattle.mux_outside.specs.Seen.{Calls, calls_after_one}
+use Rattle.mux_outside.specs.Seen.{Calls, calls_after_one, calls_after_wait, is_starved}
 use Rattle.mux_outside.specs.Wire.{StreamFault}
 use Rattle.mux_outside.specs.declared.mark.Mark.{Mark}
 use Rattle.mux_outside.specs.declared.mark.Mark.TheVariants.{WriteFails}
+use Rattle.mux_outside.specs.declared.turn.Turn.{Turn}
 use Rattle.mux_history.specs.declared.ended.Ended.{Ended}
 use Rattle.mux_history.specs.declared.ended.Ended.TheVariants as ended
 use Rattle.mux_machine.specs.declared.event.Event.{Event}
 use Rattle.mux_machine.specs.declared.event.Event.TheVariants.{Accepted, FromClient, ClientEnd, ClientFailed, FromServer, ServerEnd, ServerFailed}
-use Rattle.mux_machine.specs.State.{State, numbers}
+use Rattle.mux_machine.specs.State.{State, numbers, queue_in}
 use Rattle.mux_machine.specs.Events.{Keeps, MayEnd, SameStreams, Tells, here}
-use Rattle.mux_engine.specs.Counted.{Counts, Cut, Well}
+use Rattle.mux_engine.specs.Counted.{Counts, Cut, Waited, Well}
 use Rattle.mux_engine.specs.Serving.{StaysOrFails}
 
 -- ---- calls
@@ -26,27 +27,47 @@ counted-most n = omega arith
 counted-least : (m n : ℕ) → m ≤ n → counted m ≤ counted n
 counted-least m n h = omega arith
 
+waited-none : (n : ℕ) → Waited 0 n n
+waited-none n = record { most = omega arith; least = omega arith; fits = λ h. h }
+
+waited-one : (n : ℕ) → Waited 1 n (counted n)
+waited-one n = record { most = omega arith; least = omega arith; fits = λ h. omega arith }
+
+-- first so many, then so many
+waited-on : (m n k a b c : ℕ) → m + n ≡ k → Waited m a b → Waited n b c → Waited k a c
+waited-on m n k a b c e v w =
+    let f : b ≤ a + m = v.most in let g : c ≤ b + n = w.most in
+    let p : min (a + m) (2 ^ 64 - 1) ≤ b = v.least in let q : min (b + n) (2 ^ 64 - 1) ≤ c = w.least in
+    record { most = omega arith; least = omega arith; fits = λ h. w.fits (v.fits h) }
+
 pub well-none : (c : Calls) → Well 0 c c
-well-none c = record { few = omega arith; wants = refl; late = λ z. refl }
+well-none c = record { waited = waited-none c.waits; wants = refl; late = λ z. refl }
 
 late-one : (c : Calls) (b : Bool) → c.wants ≡ 0 → (calls_after_one b c).late ≡ c.late
 late-one c b e = ap (λ t. cond t c.late (counted c.late)) (eq-eqb c.wants 0 e)
 
 pub well-one : (c : Calls) → Well 0 c (calls_after_one false c)
-well-one c = record { few = omega arith; wants = refl; late = late-one c false }
+well-one c = record { waited = waited-none c.waits; wants = refl; late = late-one c false }
+
+-- a call of wait that found memory
+pub well-wait : (t : Turn) (c : Calls) → is_starved t ≡ false → Well 1 c (calls_after_wait t c)
+well-wait t c e = record { waited = waited-one c.waits; wants = ap (λ b. cond b (counted c.wants) c.wants) e; late = late-one c (is_starved t) }
 
 pub cut-one : (c : Calls) → Cut 0 c (calls_after_one true c)
 cut-one c = record { few = omega arith; wants = counted-most c.wants; late = late-one c true }
 
 pub well-cut : (n : ℕ) (a b : Calls) → Well n a b → Cut n a b
-well-cut n a b w = let e : b.wants ≡ a.wants = w.wants in record { few = w.few; wants = omega arith; late = w.late }
+well-cut n a b w = let e : b.wants ≡ a.wants = w.wants in record { few = w.waited.most; wants = omega arith; late = w.late }
+
+-- first so many waits, then so many
+pub well-on : (m n k : ℕ) (a b c : Calls) → m + n ≡ k → Well m a b → Well n b c → Well k a c
+well-on m n k a b c e v w = record { waited = waited-on m n k a.waits b.waits c.waits e v.waited w.waited; wants = w.wants ∙ v.wants; late = λ z. w.late (v.wants ∙ z) ∙ v.late z }
 
 pub well-then : (a b c : Calls) → Well 0 a b → Well 0 b c → Well 0 a c
-well-then a b c v w = let f : b.waits ≤ a.waits + 0 = v.few in let g : c.waits ≤ b.waits + 0 = w.few in
-    record { few = omega arith; wants = w.wants ∙ v.wants; late = λ z. w.late (v.wants ∙ z) ∙ v.late z }
+well-then a b c v w = well-on 0 0 0 a b c (omega arith) v w
 
 pub cut-then : (a b c : Calls) → Well 0 a b → Cut 0 b c → Cut 0 a c
-cut-then a b c v w = let f : b.waits ≤ a.waits + 0 = v.few in let g : c.waits ≤ b.waits + 0 = w.few in let e : b.wants ≡ a.wants = v.wants in let h : c.wants ≤ b.wants + 1 = w.wants in
+cut-then a b c v w = let f : b.waits ≤ a.waits + 0 = v.waited.most in let g : c.waits ≤ b.waits + 0 = w.few in let e : b.wants ≡ a.wants = v.wants in let h : c.wants ≤ b.wants + 1 = w.wants in
     record { few = omega arith; wants = omega arith; late = λ z. w.late (v.wants ∙ z) ∙ v.late z }
 
 -- ---- the end
@@ -170,7 +191,7 @@ fault-later k a b c d f = by_test (k == 0) f
     by_test true x = let r : Rose a b = x.0 in r.later
     by_test false x = le-of a b (sym x.0)
 
--- ---- errors
+-- ---- where nothing waits
 
 pub empty-is : (bytes : List ℕ) → (length bytes == 0) ≡ true → bytes ≡ []
 empty-is [] e = refl
@@ -179,6 +200,20 @@ empty-is (b ∷ bytes) e = absurd (let z : length (b ∷ bytes) ≡ 0 = eqb-true
 pub some-bytes : (bytes : List ℕ) → (length bytes == 0) ≡ false → 0 < length bytes
 some-bytes [] e = absurd (let z : true ≡ false = e in cc)
 some-bytes (b ∷ bytes) e = omega arith
+
+-- something waits
+pub unless-empty : {P : Type 0} (bytes queue : List ℕ) → bytes ≡ queue → (length bytes == 0) ≡ false → queue ≡ [] → P
+unless-empty bytes queue same some none = absurd (let z : length bytes ≡ 0 = ap length (same ∙ none) in let s : 0 < length bytes = some-bytes bytes some in omega arith)
+
+-- no place is below the end of nothing
+pub none-there : {P : Type 0} (i : ℕ) (xs : List ℕ) → i < length xs → xs ≡ [] → P
+none-there i xs less none = absurd (let z : length xs ≡ 0 = ap length none in omega arith)
+
+-- nothing was done, and then nothing
+pub idle-then : {V : Type 0} (k : ℕ) (s t u : State) (v w x : V) → (queue_in s k ≡ [] → (t ≡ s) × (w ≡ v)) → (queue_in t k ≡ [] → (u ≡ t) × (x ≡ w)) → queue_in s k ≡ [] → (u ≡ s) × (x ≡ v)
+idle-then k s t u v w x first then none = let a : (t ≡ s) × (w ≡ v) = first none in let b : (u ≡ t) × (x ≡ w) = then (ap (λ (y : State). queue_in y k) a.0 ∙ none) in (b.0 ∙ a.0, b.1 ∙ a.1)
+
+-- ---- errors
 
 pub on-err : {T E : Type 0} (r : Result T E) (P : T → Type 0) (Q : Type 0) → IsErr r → Q → MatchResult r P (λ e. Q)
 on-err (Ok x) P Q h q = absurd (let z : false ≡ true = h in cc)

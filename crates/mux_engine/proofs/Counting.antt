@@ -1,11 +1,11 @@
 -- What a turn counts, and how it may end a run.
-use Rattle.std.proofs.Common.{◌≡◌, ◌≤◌, ◌+◌, ℕ, Bool, true, false, List, Option, Some, None, sym, ap, ◌∙◌, inl, inr, cond, arith}
-use Rattle.std.specs.Prelude.{◌==◌, IsErr, Result, Ok, Err}
+use Rattle.std.proofs.Common.{◌≡◌, ◌≢◌, ◌≤◌, ◌<◌, ◌+◌, ◌-◌, ◌^◌, ℕ, Bool, true, false, List, Option, Some, None, refl, sym, ap, ◌∙◌, subst, inl, inr, cond, arith}
+use Rattle.std.specs.Prelude.{◌==◌, min, Result, Ok, Err}
 use Rattle.std.specs.Bool.{MatchBool}
 use Rattle.std.proofs.lemmas.Bool.{eq-eqb}
 use Rattle.mux_outside.specs.Counts.{Rose, counted}
 use Rattle.mux_outside.specs.Seen.{Calls, calls_after_wait, is_starved}
-use Rattle.mux_outside.specs.Wire.{TurnFaults}
+use Rattle.mux_outside.specs.Wire.{SameFaults, TurnFaults}
 use Rattle.mux_outside.specs.declared.mark.Mark.{Mark}
 use Rattle.mux_outside.specs.declared.mark.Mark.TheVariants.{Accepts, Gets, Ends, Fails, WriteFails}
 use Rattle.mux_outside.specs.declared.turn.Turn.{Turn}
@@ -15,9 +15,10 @@ use Rattle.mux_history.specs.declared.ended.Ended.TheVariants as ended
 use Rattle.mux_machine.specs.declared.event.Event.{Event}
 use Rattle.mux_machine.specs.declared.event.Event.TheVariants.{Accepted, FromClient, ClientEnd, ClientFailed, FromServer, ServerEnd, ServerFailed}
 use Rattle.mux_machine.specs.Events.{MayEnd, Tells}
-use Rattle.mux_engine.specs.Counted.{Counts, Cut, Well}
+use Rattle.mux_engine.specs.Counted.{Counts, Cut, Stops, Waited, Well}
 use Rattle.mux_engine.specs.Serving.{StaysOrFails}
 use Rattle.mux_engine.specs.Turns.{IsNext}
+use Rattle.mux_engine.proofs.Arms.{well-wait}
 
 -- ---- calls
 
@@ -35,19 +36,71 @@ wants-wait false c = omega arith
 pub cut-wait : (t : Turn) (c : Calls) → Cut 1 c (calls_after_wait t c)
 cut-wait t c = record { few = counted-most c.waits; wants = wants-wait (is_starved t) c; late = late-wait t c }
 
--- first so many waits, then so many
-pub well-on : (m n k : ℕ) (a b c : Calls) → m + n ≤ k → Well m a b → Well n b c → Well k a c
-well-on m n k a b c le v w = let f : b.waits ≤ a.waits + m = v.few in let g : c.waits ≤ b.waits + n = w.few in
-    record { few = omega arith; wants = w.wants ∙ v.wants; late = λ z. w.late (v.wants ∙ z) ∙ v.late z }
+-- one that found memory, where its turn told an event
+tells-event : (e : Event) (t : Turn) (bytes : List ℕ) → IsNext (Some e) t bytes → is_starved t ≡ false
+tells-event e (turn.Accepted k) bytes next = refl
+tells-event e (turn.Got k) bytes next = refl
+tells-event e (turn.End k) bytes next = refl
+tells-event e (turn.Failed k) bytes next = refl
+tells-event e (turn.Writable k) bytes next = absurd next
+tells-event e turn.NoMemory bytes next = absurd next
 
+pub counts-event : {A E : Type 0} (r : Result A E) (e : Event) (t : Turn) (bytes : List ℕ) (c : Calls) → IsNext (Some e) t bytes → Counts 1 r c (calls_after_wait t c)
+counts-event (Ok x) e t bytes c next = well-wait t c (tells-event e t bytes next)
+counts-event (Err x) e t bytes c next = cut-wait t c
+
+pub cut-none : (n : ℕ) (c : Calls) → Cut n c c
+cut-none n c = record { few = omega arith; wants = omega arith; late = λ z. refl }
+
+-- first so many waits, then so many at most
 pub cut-on : (m n k : ℕ) (a b c : Calls) → m + n ≤ k → Well m a b → Cut n b c → Cut k a c
-cut-on m n k a b c le v w = let f : b.waits ≤ a.waits + m = v.few in let g : c.waits ≤ b.waits + n = w.few in let e : b.wants ≡ a.wants = v.wants in let h : c.wants ≤ b.wants + 1 = w.wants in
+cut-on m n k a b c le v w = let f : b.waits ≤ a.waits + m = v.waited.most in let g : c.waits ≤ b.waits + n = w.few in let e : b.wants ≡ a.wants = v.wants in let h : c.wants ≤ b.wants + 1 = w.wants in
     record { few = omega arith; wants = omega arith; late = λ z. w.late (v.wants ∙ z) ∙ v.late z }
 
--- an error handed on
-pub counts-err : {A E : Type 0} (r : Result A E) (n : ℕ) (a b : Calls) → IsErr r → Cut n a b → Counts n r a b
-counts-err (Ok x) n a b e c = absurd (let z : false ≡ true = e in cc)
-counts-err (Err x) n a b e c = c
+-- ---- what a whole run counts
+
+pub none-more : (given turns : ℕ) → given ≤ turns → given + 0 ≤ turns
+none-more given turns le = omega arith
+
+pub more-none : (given : ℕ) → given + 0 ≡ given
+more-none given = omega arith
+
+pub none-of : (given turns : ℕ) → given ≤ turns → turns ≡ 0 → given ≡ 0
+none-of given turns le z = omega arith
+
+all-waited : (n a b : ℕ) → Waited n a b → a < 2 ^ 64 → b ≡ min (a + n) (2 ^ 64 - 1)
+all-waited n a b w h = let m : b ≤ a + n = w.most in let l : min (a + n) (2 ^ 64 - 1) ≤ b = w.least in let f : b < 2 ^ 64 = w.fits h in omega arith
+
+some-waited : (n a b : ℕ) → n ≢ 0 → Waited n a b → counted a ≤ b
+some-waited n a b nz w = let l : min (a + n) (2 ^ 64 - 1) ≤ b = w.least in omega arith
+
+-- one that want of memory cut short
+pub stops-cut : (turns : ℕ) (a b : Calls) → Cut turns a b → Stops turns ended.OutOfMemory a b
+stops-cut turns a b c = record {
+  few = c.few;
+  spent = λ e h. absurd (let z : ended.OutOfMemory ≡ ended.Spent = e in cc);
+  ends = λ s o. absurd (o refl);
+  wants = c.wants;
+  starved = λ n. refl;
+  late = c.late;
+}
+
+-- one that waited so often
+pub stops-well : (given turns : ℕ) (answer : Ended) (a b : Calls) → given ≤ turns → (answer ≡ ended.Spent → given ≡ turns) → (given ≡ 0 → answer ≡ ended.Spent) → Well given a b → Stops turns answer a b
+stops-well given turns answer a b le spent none w =
+    let m : b.waits ≤ a.waits + given = w.waited.most in let e : b.wants ≡ a.wants = w.wants in
+    record {
+      few = omega arith;
+      spent = λ s h. all-waited turns a.waits b.waits (subst (λ n. Waited n a.waits b.waits) (spent s) w.waited) h;
+      ends = λ ns no. some-waited given a.waits b.waits (λ z. ns (none z)) w.waited;
+      wants = omega arith;
+      starved = λ n. absurd (n e);
+      late = w.late;
+    }
+
+-- one that gave no turn: no count of faults rose
+pub same-faults : {V : Type 0} (server client : V → ℕ) (old new : V) → new ≡ old → SameFaults (server old) (server new) (client old) (client new)
+same-faults server client old new e = record { same_server = ap server e; same_client = ap client e }
 
 -- ---- the server's stream
 
@@ -60,9 +113,9 @@ failed-by ServerFailed o may is = tt
 failed-by (Accepted k) o may is = absurd (let z : None ≡ Some ended.ServerFailed = sym may ∙ is in cc)
 failed-by (ClientEnd k) o may is = absurd (let z : None ≡ Some ended.ServerFailed = sym may ∙ is in cc)
 failed-by (ClientFailed k) o may is = absurd (let z : None ≡ Some ended.ServerFailed = sym may ∙ is in cc)
-failed-by (FromClient k bytes) o may is = absurd (may is)
-failed-by (FromServer bytes) o may is = absurd (may is)
-failed-by ServerEnd o may is = absurd (may is)
+failed-by (FromClient k bytes) o may is = absurd (may.0 is)
+failed-by (FromServer bytes) o may is = absurd (may.0 is)
+failed-by ServerEnd o may is = absurd (may.0 is)
 
 abbrev stream-of : Mark → ℕ
 stream-of (Fails k) = k
@@ -119,6 +172,16 @@ turn-later (turn.Failed k) a b c d f = by_server (k == 0) f
     by_server false f = same-later a b f.0
 
 -- ---- how a run ends
+
+-- no event spends the turns
+pub turn-unspent : (e : Event) (o : Option Ended) → MayEnd e o → o ≢ Some ended.Spent
+turn-unspent (Accepted k) o may is = let z : None ≡ Some ended.Spent = sym may ∙ is in cc
+turn-unspent (ClientEnd k) o may is = let z : None ≡ Some ended.Spent = sym may ∙ is in cc
+turn-unspent (ClientFailed k) o may is = let z : None ≡ Some ended.Spent = sym may ∙ is in cc
+turn-unspent ServerFailed o may is = let z : Some ended.ServerFailed ≡ Some ended.Spent = sym may ∙ is in cc
+turn-unspent (FromClient k bytes) o may is = may.1 is
+turn-unspent (FromServer bytes) o may is = may.1 is
+turn-unspent ServerEnd o may is = may.1 is
 
 counted-least : (m n : ℕ) → m ≤ n → counted m ≤ counted n
 counted-least m n h = omega arith

@@ -49,40 +49,46 @@ went-over None w cause e over = absurd (let z : went.On ≡ went.Ended cause = s
 -- ---- behind the loop
 
 -- so many turns were given, and all where the run goes on
-pub record Looped {O : Type 0} (May : HouseReply → Type 0) (house house' : Option (List Asked)) (seen seen' : Seen) (held' : List ℕ) (s s' : State) (turns faults faults' : ℕ) (calls calls' : Calls) (openings openings' : O) : Type 0 where
+pub record Looped {O V : Type 0} (May : HouseReply → Type 0) (house house' : Option (List Asked)) (seen seen' : Seen) (held' : List ℕ) (s s' : State) (turns faults faults' : ℕ) (calls calls' : Calls) (openings openings' : O) (wire wire' : V) : Type 0 where
   pub given : ℕ
   pub fits : given ≤ turns
   pub serving : (before : Option (List Asked)) (policy : Policy) (pid : ℕ) (start : Option (List Mark)) (first : ℕ) → Serving May before house policy pid start seen [] first (0 ∷ here s) s → Serving May before house' policy pid start seen' held' (first + given) (0 ∷ here s') s'
   pub spent : s'.ended ≡ None → given ≡ turns
+  pub unspent : s'.ended ≢ Some ended.Spent
+  pub first : given ≡ 0 → (s' ≡ s) × (wire' ≡ wire)
   pub later : faults ≤ faults'
   pub failed : s'.ended ≡ Some ended.ServerFailed → Rose faults faults'
-  pub counts : Well turns calls calls'
+  pub counts : Well given calls calls'
   pub opened : openings' ≡ openings
 
 -- all turns were given
-pub looped-spent : {O : Type 0} {May : HouseReply → Type 0} {house house' : Option (List Asked)} {seen seen' : Seen} {held' : List ℕ} {s s' : State} {turns faults faults' : ℕ} {calls calls' : Calls} {openings openings' : O} (counter : ℕ) → counter ≡ turns
+pub looped-spent : {O V : Type 0} {May : HouseReply → Type 0} {house house' : Option (List Asked)} {seen seen' : Seen} {held' : List ℕ} {s s' : State} {turns faults faults' : ℕ} {calls calls' : Calls} {openings openings' : O} {wire wire' : V} (counter : ℕ) → counter ≡ turns
     → ((before : Option (List Asked)) (policy : Policy) (pid : ℕ) (start : Option (List Mark)) (first : ℕ) → Serving May before house policy pid start seen [] first (0 ∷ here s) s → Serving May before house' policy pid start seen' held' (first + counter) (0 ∷ here s') s')
-    → s'.ended ≡ None → faults ≤ faults' → Well counter calls calls' → openings' ≡ openings → Looped May house house' seen seen' held' s s' turns faults faults' calls calls' openings openings'
-looped-spent {turns = turns} {calls = calls} {calls' = calls'} counter all serving on later counts opened = record {
+    → s'.ended ≡ None → (counter ≡ 0 → (s' ≡ s) × (wire' ≡ wire)) → faults ≤ faults' → Well counter calls calls' → openings' ≡ openings → Looped May house house' seen seen' held' s s' turns faults faults' calls calls' openings openings' wire wire'
+looped-spent {turns = turns} counter all serving on first later counts opened = record {
   given = counter;
   fits = omega arith;
   serving = serving;
   spent = λ e. all;
+  unspent = λ e. let z : None ≡ Some ended.Spent = sym on ∙ e in cc;
+  first = first;
   later = later;
   failed = λ e. let z : None ≡ Some ended.ServerFailed = sym on ∙ e in absurd (let h = z in cc);
-  counts = subst (λ n. Well n calls calls') all counts;
+  counts = counts;
   opened = opened;
 }
 
 -- or the run ended at one
-pub looped-over : {O : Type 0} {May : HouseReply → Type 0} {house house' : Option (List Asked)} {seen seen' : Seen} {held' : List ℕ} {s s' : State} {turns faults faults' : ℕ} {calls calls' : Calls} {openings openings' : O} (counter : ℕ) → counter < turns
+pub looped-over : {O V : Type 0} {May : HouseReply → Type 0} {house house' : Option (List Asked)} {seen seen' : Seen} {held' : List ℕ} {s s' : State} {turns faults faults' : ℕ} {calls calls' : Calls} {openings openings' : O} {wire wire' : V} (counter : ℕ) → counter < turns
     → ((before : Option (List Asked)) (policy : Policy) (pid : ℕ) (start : Option (List Mark)) (first : ℕ) → Serving May before house policy pid start seen [] first (0 ∷ here s) s → Serving May before house' policy pid start seen' held' (first + counter + 1) (0 ∷ here s') s')
-    → s'.ended ≢ None → faults ≤ faults' → (s'.ended ≡ Some ended.ServerFailed → Rose faults faults') → Well turns calls calls' → openings' ≡ openings → Looped May house house' seen seen' held' s s' turns faults faults' calls calls' openings openings'
-looped-over counter less serving over later failed counts opened = record {
+    → s'.ended ≢ None → s'.ended ≢ Some ended.Spent → faults ≤ faults' → (s'.ended ≡ Some ended.ServerFailed → Rose faults faults') → Well (counter + 1) calls calls' → openings' ≡ openings → Looped May house house' seen seen' held' s s' turns faults faults' calls calls' openings openings' wire wire'
+looped-over counter less serving over unspent later failed counts opened = record {
   given = counter + 1;
   fits = omega arith;
   serving = λ before policy pid start first v. given-is (first + counter + 1) (first + (counter + 1)) (one-given first counter) (serving before policy pid start first v);
   spent = λ e. absurd (over e);
+  unspent = unspent;
+  first = λ z. absurd (omega arith);
   later = later;
   failed = failed;
   counts = counts;
@@ -90,7 +96,7 @@ looped-over counter less serving over later failed counts opened = record {
 }
 
 -- what a run asks of its last offers
-pub looped-served : {O : Type 0} {May : HouseReply → Type 0} {house house' : Option (List Asked)} {seen seen' : Seen} {held' : List ℕ} {s s' : State} {turns faults faults' : ℕ} {calls calls' : Calls} {openings openings' : O} → Looped May house house' seen seen' held' s s' turns faults faults' calls calls' openings openings'
+pub looped-served : {O V : Type 0} {May : HouseReply → Type 0} {house house' : Option (List Asked)} {seen seen' : Seen} {held' : List ℕ} {s s' : State} {turns faults faults' : ℕ} {calls calls' : Calls} {openings openings' : O} {wire wire' : V} → Looped May house house' seen seen' held' s s' turns faults faults' calls calls' openings openings' wire wire'
     → IsServedBut May house seen [] (0 ∷ here s) s → IsServedBut May house' seen' held' (0 ∷ here s') s'
 looped-served l w = record { before = w.before; policy = w.policy; pid = w.pid; start = w.start; given = w.given + l.given; serving = l.serving w.before w.policy w.pid w.start w.given w.serving }
 
@@ -99,7 +105,7 @@ fails-on old new a b (inl s) is = sym s.0 ∙ is
 fails-on old new a b (inr f) is = let z : Some ended.ServerFailed ≡ None = sym f.0 ∙ is in absurd (let h = z in cc)
 
 -- the answer behind them
-pub looped-ends : {O : Type 0} {May : HouseReply → Type 0} {house house' : Option (List Asked)} {seen seen' : Seen} {held' : List ℕ} {s s' : State} {turns faults faults' : ℕ} {calls calls' : Calls} {openings openings' : O} → Looped May house house' seen seen' held' s s' turns faults faults' calls calls' openings openings'
+pub looped-ends : {O V : Type 0} {May : HouseReply → Type 0} {house house' : Option (List Asked)} {seen seen' : Seen} {held' : List ℕ} {s s' : State} {turns faults faults' : ℕ} {calls calls' : Calls} {openings openings' : O} {wire wire' : V} → Looped May house house' seen seen' held' s s' turns faults faults' calls calls' openings openings' wire wire'
     → (before now : Option (List Asked)) (policy : Policy) (pid : ℕ) (start : Option (List Mark)) (seen'' : Seen) (held'' : List ℕ) (s'' : State) (faults'' : ℕ) (l : ℕ) → l ≤ turns → (s'.ended ≡ None → l ≡ turns)
     → Serving May before now policy pid start seen'' held'' l [] s'' → StaysOrFails s'.ended s''.ended faults' faults'' → (answer : Ended) → answer ≡ unwrap_or s''.ended ended.Spent → IsRun May policy pid turns before now start seen''.told answer
 looped-ends {May = May} {s' = s'} {turns = turns} {faults' = faults'} l before now policy pid start seen'' held'' s'' faults'' given le spent v stays answer is =
@@ -109,3 +115,24 @@ looped-ends {May = May} {s' = s'} {turns = turns} {faults' = faults'} l before n
 pub answer-failed : (o : Option Ended) (answer : Ended) → answer ≡ unwrap_or o ended.Spent → answer ≡ ended.ServerFailed → o ≡ Some ended.ServerFailed
 answer-failed (Some cause) answer is failed = ap (λ (e : Ended). Some e) (sym is ∙ failed)
 answer-failed None answer is failed = let z : ended.Spent ≡ ended.ServerFailed = sym is ∙ failed in absurd (let h = z in cc)
+
+-- ---- whether the turns were spent
+
+-- they were where the answer says so
+pub spent-all : (old new : Option Ended) (a b given turns : ℕ) (answer : Ended) → StaysOrFails old new a b → old ≢ Some ended.Spent → (old ≡ None → given ≡ turns) → answer ≡ unwrap_or new ended.Spent → answer ≡ ended.Spent → given ≡ turns
+spent-all old None a b given turns answer (inl s) un all is spent = all (sym s.0)
+spent-all old None a b given turns answer (inr f) un all is spent = absurd (let z : None ≡ Some ended.ServerFailed = f.0 in cc)
+spent-all old (Some cause) a b given turns answer (inl s) un all is spent = absurd (un (sym s.0 ∙ ap (λ (e : Ended). Some e) (sym is ∙ spent)))
+spent-all old (Some cause) a b given turns answer (inr f) un all is spent = absurd (let z : Some cause ≡ Some ended.ServerFailed = f.0 in let y : cause ≡ ended.Spent = sym is ∙ spent in cc)
+
+pub none-spent : (o : Option Ended) (answer : Ended) → answer ≡ unwrap_or o ended.Spent → o ≡ None → answer ≡ ended.Spent
+none-spent o answer is none = is ∙ ap (λ (x : Option Ended). unwrap_or x ended.Spent) none
+
+-- offers end no run so
+pub offers-unspent : (old new : Option Ended) (a b : ℕ) (cause : Ended) → StaysOrFails old new a b → old ≡ None → new ≡ Some cause → cause ≢ ended.Spent
+offers-unspent old new a b cause (inl s) on is spent = let z : None ≡ Some cause = sym on ∙ (sym s.0 ∙ is) in cc
+offers-unspent old new a b cause (inr f) on is spent = let z : Some ended.ServerFailed ≡ Some cause = sym f.0 ∙ is in cc
+
+-- nor any where nothing waits
+pub idle-goes : (old new : Option Ended) (cause : Ended) → new ≡ old → old ≡ None → new ≡ Some cause → ⊥
+idle-goes old new cause same on is = let z : None ≡ Some cause = sym on ∙ (sym same ∙ is) in cc

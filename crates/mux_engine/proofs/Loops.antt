@@ -20,7 +20,7 @@ use Rattle.mux_history.proofs.Wires.{wire-keeps}
 use Rattle.mux_clients.specs.State.{ClientState}
 use Rattle.mux_clients.specs.Among.{is_present}
 use Rattle.mux_clients.proofs.Stood.{own_row}
-use Rattle.mux_machine.specs.State.{State, closed_by, first_of, waiting_clients, waiting_in}
+use Rattle.mux_machine.specs.State.{State, closed_by, first_of, queue_in, waiting_clients, waiting_in}
 use Rattle.mux_machine.specs.Events.{here}
 use Rattle.mux_machine.specs.Stands.{Closes, IsFirst, Stands, StandsFor, log, not_closed}
 use Rattle.mux_engine.specs.Counted.{Counts, Cut}
@@ -267,3 +267,13 @@ serve-hushed v none = record {
   hears = λ l. true-false (sym l ∙ none);
   sound = v.sound;
 }
+
+-- ---- where nothing waits
+
+none-waits : (q rest : List ℕ) → cond (is_empty q) rest (0 ∷ rest) ≡ [] → q ≡ []
+none-waits [] rest e = refl
+none-waits (b ∷ q) rest e = absurd (let z : (0 ∷ rest) ≡ [] = e in cc)
+
+-- nothing waits for the server
+pub server-idle : {May : HouseReply → Type 0} {before now : Option (List Asked)} {policy : Policy} {pid : ℕ} {start : Option (List Mark)} {seen : Seen} {held : List ℕ} {given : ℕ} {todo : List ℕ} {s : State} → Serving May before now policy pid start seen held given todo s → s.waiting ≡ [] → queue_in s 0 ≡ []
+server-idle {s = s} v none = none-waits s.up.waiting (waiting_clients s.clients) (sym (v.stands.at [] []).rows.waiting_is ∙ none)

@@ -1,12 +1,19 @@
 -- The calls of a wire that are made.
-use Rattle.std.specs.Prelude.{◌≡◌, ◌≢◌, ◌≤◌, ◌+◌, ℕ, Result, Ok, Err}
+use Rattle.std.specs.Prelude.{◌≡◌, ◌≢◌, ◌≤◌, ◌<◌, ◌+◌, ◌-◌, ◌^◌, min, ℕ, Result, Ok, Err}
+use Rattle.mux_outside.specs.Counts.{counted}
 use Rattle.mux_outside.specs.Seen.{Calls}
 use Rattle.mux_history.specs.declared.ended.Ended.{Ended}
-use Rattle.mux_history.specs.declared.ended.Ended.TheVariants.{OutOfMemory}
+use Rattle.mux_history.specs.declared.ended.Ended.TheVariants.{OutOfMemory, Spent}
 
--- at most so many calls of `wait`, none that wanted memory, and none behind one that did
+-- so many calls of `wait` were counted, whose count stays at the end of its type
+pub record Waited (waits old new : ℕ) : Type 0 where
+  pub most : new ≤ old + waits
+  pub least : min (old + waits) (2 ^ 64 - 1) ≤ new
+  pub fits : old < 2 ^ 64 → new < 2 ^ 64
+
+-- so many calls of `wait`, none that wanted memory, and none behind one that did
 pub record Well (waits : ℕ) (old new : Calls) : Type 0 where
-  pub few : new.waits ≤ old.waits + waits
+  pub waited : Waited waits old.waits new.waits
   pub wants : new.wants ≡ old.wants
   pub late : old.wants ≡ 0 → new.late ≡ old.late
 
@@ -21,9 +28,12 @@ abbrev pub Counts : {A E : Type 0} → ℕ → Result A E → Calls → Calls �
 Counts waits (Ok x) old new = Well waits old new
 Counts waits (Err e) old new = Cut waits old new
 
--- of a run: where a call wanted memory it was the last, and the run ended for want of memory
+-- of a run: with its turns spent it made as many calls of `wait` as it has turns, and no other end but for want of memory
+-- comes without one; where a call wanted memory it was the last, and the run ended for want of memory
 pub record Stops (turns : ℕ) (answer : Ended) (old new : Calls) : Type 0 where
   pub few : new.waits ≤ old.waits + turns
+  pub spent : answer ≡ Spent → old.waits < 2 ^ 64 → new.waits ≡ min (old.waits + turns) (2 ^ 64 - 1)
+  pub ends : answer ≢ Spent → answer ≢ OutOfMemory → counted old.waits ≤ new.waits
   pub wants : new.wants ≤ old.wants + 1
   pub starved : new.wants ≢ old.wants → answer ≡ OutOfMemory
   pub late : old.wants ≡ 0 → new.late ≡ old.late

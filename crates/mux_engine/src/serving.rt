@@ -1,9 +1,10 @@
-ghost use Rattle.std.specs.Prelude.{[], ◌∷◌, ◌≡◌, ◌≤◌, ◌+◌, List, ℕ, true, OnOk, IfOk, MatchResult, Some, None};
+ghost use Rattle.std.specs.Prelude.{[], ◌∷◌, ◌≡◌, ◌≢◌, ◌≤◌, ◌+◌, List, ℕ, true, OnOk, IfOk, MatchResult, Some, None};
 ghost use Rattle.std.specs.declared.option.Option.{Option};
 ghost use Rattle.mux_outside.specs.Counts.{Rose};
 ghost use Rattle.mux_outside.specs.House.{Asked as TheAsked};
+ghost use Rattle.mux_outside.specs.Wire.{SameFaults};
 ghost use Rattle.mux_outside.specs.declared.mark.Mark.{Mark as TheMark};
-ghost use Rattle.mux_history.specs.declared.ended.Ended.TheVariants.{ServerFailed, OutOfMemory as WantOfMemory};
+ghost use Rattle.mux_history.specs.declared.ended.Ended.TheVariants.{ServerFailed, OutOfMemory as WantOfMemory, Spent as TurnsSpent};
 ghost use Rattle.mux_history.specs.Policy.{Policy as ThePolicy};
 ghost use Rattle.mux_machine.specs.Events.{went_of, here};
 ghost use Rattle.mux_engine.specs.Counted.{Counts, Stops};
@@ -52,6 +53,7 @@ fn turn<W: Wire, H: House>(
         (λ e. Promised H.may before (H.told house.new) policy pid start (W.seen wire.new).told (given + 1)) }
     ensures went { IfOk result (λ went. went ≡ went_of engine.new.ended) }
     ensures failed { OnOk result (engine.new.ended ≡ Some ServerFailed → Rose (W.server_faults wire.old) (W.server_faults wire.new)) }
+    ensures unspent { OnOk result (engine.new.ended ≢ Some TurnsSpent) }
     ensures later { W.server_faults wire.old ≤ W.server_faults wire.new }
     ensures calls { Counts 1 result (W.calls wire.old) (W.calls wire.new) }
     ensures openings { W.openings wire.new ≡ W.openings wire.old }
@@ -79,14 +81,18 @@ fn run<W: Wire, H: House>(
 ) -> Result<Ended, OutOfMemory>
     requires running { IsServedBut H.may (H.told house.old) (W.seen wire.old) [] (0 ∷ here engine.old) engine.old }
     requires on { engine.old.ended ≡ None }
+    requires quiet { engine.old.waiting ≡ [] }
     ensures ran { (before : Option (List TheAsked)) (policy : ThePolicy) (pid : ℕ) (start : Option (List TheMark)) →
         Serving H.may before (H.told house.old) policy pid start (W.seen wire.old) [] 0 (0 ∷ here engine.old) engine.old →
         MatchResult result
         (λ answer. IsRun H.may policy pid turns before (H.told house.new) start (W.seen wire.new).told answer)
         (λ e. IsRun H.may policy pid turns before (H.told house.new) start (W.seen wire.new).told WantOfMemory) }
     ensures failed { IfOk result (λ answer. answer ≡ ServerFailed → Rose (W.server_faults wire.old) (W.server_faults wire.new)) }
-    ensures calls { Counts turns result (W.calls wire.old) (W.calls wire.new) }
+    ensures calls { MatchResult result
+        (λ answer. Stops turns answer (W.calls wire.old) (W.calls wire.new))
+        (λ e. Stops turns WantOfMemory (W.calls wire.old) (W.calls wire.new)) }
     ensures openings { W.openings wire.new ≡ W.openings wire.old }
+    ensures idle { turns ≡ 0 → SameFaults (W.server_faults wire.old) (W.server_faults wire.new) (W.client_faults wire.old) (W.client_faults wire.new) }
 {
     let mut piece = Piece::new(alloc)?;
     let mut held = Streams::new(alloc);
@@ -120,8 +126,11 @@ fn serve_new<W: Wire, H: House>(
         (λ answer. IsRun H.may policy pid turns (H.told house.old) (H.told house.new) (W.seen wire.old).told (W.seen wire.new).told answer)
         (λ e. IsRun H.may policy pid turns (H.told house.old) (H.told house.new) (W.seen wire.old).told (W.seen wire.new).told WantOfMemory) }
     ensures failed { IfOk result (λ answer. answer ≡ ServerFailed → Rose (W.server_faults wire.old) (W.server_faults wire.new)) }
-    ensures calls { Counts turns result (W.calls wire.old) (W.calls wire.new) }
+    ensures calls { MatchResult result
+        (λ answer. Stops turns answer (W.calls wire.old) (W.calls wire.new))
+        (λ e. Stops turns WantOfMemory (W.calls wire.old) (W.calls wire.new)) }
     ensures openings { W.openings wire.new ≡ W.openings wire.old }
+    ensures idle { turns ≡ 0 → SameFaults (W.server_faults wire.old) (W.server_faults wire.new) (W.client_faults wire.old) (W.client_faults wire.new) }
 {
     let mut engine = Engine::new(alloc, policy, pid)?;
     run(alloc, &mut engine, wire, house, turns)
@@ -129,7 +138,8 @@ fn serve_new<W: Wire, H: House>(
 
 /// Serves an open wire until the run ends, for so many turns at most: why it ended. It permits what the policy does, and tells
 /// the process id to clients that check. What the wire tells of this run is written and kept open as it must be, and ends as it
-/// must; the house is told each ask of its clients. Behind a call that wanted memory none is made.
+/// must; the house is told each ask of its clients. It waits once for each turn, and writes nothing before. Behind a call that
+/// wanted memory none is made.
 pub fn serve<W: Wire, H: House>(
     alloc: Global,
     policy: Policy,
@@ -145,6 +155,7 @@ pub fn serve<W: Wire, H: House>(
     ensures failed { result ≡ ServerFailed → Rose (W.server_faults wire.old) (W.server_faults wire.new) }
     ensures calls { Stops turns result (W.calls wire.old) (W.calls wire.new) }
     ensures openings { W.openings wire.new ≡ W.openings wire.old }
+    ensures idle { turns ≡ 0 → SameFaults (W.server_faults wire.old) (W.server_faults wire.new) (W.client_faults wire.old) (W.client_faults wire.new) }
 {
     match serve_new(alloc, policy, pid, wire, house, turns) {
         Ok(ended) => ended,

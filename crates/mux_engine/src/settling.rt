@@ -47,6 +47,7 @@ fn offer_once<W: Wire, H: House>(
     ensures later { W.server_faults wire.old ≤ W.server_faults wire.new }
     ensures calls { Counts 0 result (W.calls wire.old) (W.calls wire.new) }
     ensures openings { W.openings wire.new ≡ W.openings wire.old }
+    ensures idle { queue_in engine.old stream ≡ [] → (engine.new ≡ engine.old) × (wire.new ≡ wire.old) }
 {
     let bytes = engine.queue_of(stream);
     if bytes.is_empty() {
@@ -96,6 +97,7 @@ fn offer<W: Wire, H: House>(
     ensures later { W.server_faults wire.old ≤ W.server_faults wire.new }
     ensures calls { Counts 0 result (W.calls wire.old) (W.calls wire.new) }
     ensures openings { W.openings wire.new ≡ W.openings wire.old }
+    ensures idle { queue_in engine.old stream ≡ [] → (engine.new ≡ engine.old) × (wire.new ≡ wire.old) }
 {
     if held.contains(stream) {
         return Ok(());
@@ -128,6 +130,7 @@ fn offer_clients<W: Wire, H: House>(
     ensures later { W.server_faults wire.old ≤ W.server_faults wire.new }
     ensures calls { Counts 0 result (W.calls wire.old) (W.calls wire.new) }
     ensures openings { W.openings wire.new ≡ W.openings wire.old }
+    ensures idle { engine.old.waiting ≡ [] → (engine.new ≡ engine.old) × (wire.new ≡ wire.old) }
 {
     todo.refill(engine.waiting().as_slice())?;
     todo.remove(0);
@@ -163,6 +166,7 @@ pub fn flush<W: Wire, H: House>(
     ensures later { W.server_faults wire.old ≤ W.server_faults wire.new }
     ensures calls { Counts 0 result (W.calls wire.old) (W.calls wire.new) }
     ensures openings { W.openings wire.new ≡ W.openings wire.old }
+    ensures idle { engine.old.waiting ≡ [] → (engine.new ≡ engine.old) × (wire.new ≡ wire.old) }
 {
     offer_clients(engine, wire, house, held, todo)?;
     offer(engine, wire, house, held, 0)
@@ -234,6 +238,7 @@ pub fn settle<W: Wire, H: House>(
     ensures later { W.server_faults wire.old ≤ W.server_faults wire.new }
     ensures calls { Counts 0 result (W.calls wire.old) (W.calls wire.new) }
     ensures openings { W.openings wire.new ≡ W.openings wire.old }
+    ensures idle { OnOk result (engine.old.waiting ≡ [] → engine.new.ended ≡ engine.old.ended) }
 {
     flush(engine, wire, house, held, todo)?;
     close_lost::<W, H>(engine, wire, held);

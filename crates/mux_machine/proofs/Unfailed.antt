@@ -1,4 +1,4 @@
--- What a client or the server says never ends the run as a failure of the server's stream.
+-- What a client or the server says never ends the run as a failure of the server's stream, nor as one whose turns are spent.
 use Rattle.std.proofs.Common.{◌≡◌, ◌≢◌, ℕ, Bool, true, false, ◌&&◌, List, [], ◌∷◌, ◌++◌, length, drop, map, Option, Some, None, Result, Ok, Err, refl, sym, ap, ◌∙◌, subst}
 use Rattle.std.specs.Prelude.{◌==◌, nat_lt}
 use Rattle.ssh_grammar.specs.declared.fault.Bad.{Bad}
@@ -37,7 +37,7 @@ use Rattle.mux_clients.proofs.Hearings.{heard-goes}
 -- ---- a row
 
 abbrev pub IsUnfailed : Fate → Type 0
-IsUnfailed (End cause) = cause ≢ ended.ServerFailed
+IsUnfailed (End cause) = (cause ≢ ended.ServerFailed) × (cause ≢ ended.Spent)
 IsUnfailed fate = Unit {0}
 
 with-full : (f : Fate) (full : Option Why) → IsUnfailed f → IsUnfailed (fate_with f full)
@@ -152,7 +152,7 @@ fine-ask opening id None = tt
 fine-ask opening id (Some reply) = tt
 
 fine-later : (pid k : ℕ) (given : Option HouseReply) (c : Control) → IsFine (later_control pid k given c)
-fine-later pid k given (Terminate id) = λ e. cc
+fine-later pid k given (Terminate id) = (λ e. cc, λ e. cc)
 fine-later pid k given (OpenForward id what) = fine-ask true id given
 fine-later pid k given (CloseForward id what) = fine-ask false id given
 fine-later pid k given c = tt
@@ -213,24 +213,24 @@ master-fine p = by_read (read_gist p)
 payload-unfailed : (rows : List Row) (p : List ℕ) (d : Dest) → IsUnfailed (heard_row rows p d).fate
 payload-unfailed rows p ToMaster = master-fine p
 payload-unfailed rows p (ToClient k) = row-unfailed (Heard p) k (heard_for (rows_of k rows) p) (rows_of k rows) (subst IsUnfailed (sym (heard-goes (rows_of k rows) p)) tt)
-payload-unfailed rows p Disconnects = λ e. cc
-payload-unfailed rows p (Breaks cause) = λ e. cc
+payload-unfailed rows p Disconnects = (λ e. cc, λ e. cc)
+payload-unfailed rows p (Breaks cause) = (λ e. cc, λ e. cc)
 
 heard-unfailed : (policy : Policy) (pid : ℕ) (picks : List ℕ) (given : List HouseReply) (x : Saying) (rows : List Row) → IsUnfailed (next_row (by_lists policy pid picks given) rows (heard_item x)).fate
 heard-unfailed policy pid picks given (Body p) rows = payload-unfailed rows p (dest rows p)
 heard-unfailed policy pid picks given (Payload p) rows = payload-unfailed rows p (dest rows p)
-heard-unfailed policy pid picks given (BadFraming fault) rows = λ e. cc
+heard-unfailed policy pid picks given (BadFraming fault) rows = (λ e. cc, λ e. cc)
 
 -- ---- the end of the run
 
 abbrev pub NotFailed : Option Ended → Type 0
-NotFailed o = o ≢ Some ended.ServerFailed
+NotFailed o = (o ≢ Some ended.ServerFailed) × (o ≢ Some ended.Spent)
 
 abbrev fate_end : Option Ended → Fate → Option Ended
 fate_end before fate = elim fate as (λ _. Option Ended) [ End cause ↦ Some cause | Goes ↦ before | Refused ↦ before | Drop why ↦ before ]
 
 fate-unfailed : (before : Option Ended) (f : Fate) → IsUnfailed f → NotFailed before → NotFailed (fate_end before f)
-fate-unfailed before (End cause) h n = λ t. h (let s : Some cause ≡ Some ended.ServerFailed = t in cc)
+fate-unfailed before (End cause) h n = (λ t. h.0 (let s : Some cause ≡ Some ended.ServerFailed = t in cc), λ t. h.1 (let s : Some cause ≡ Some ended.Spent = t in cc))
 fate-unfailed before Goes h n = n
 fate-unfailed before Refused h n = n
 fate-unfailed before (Drop cause) h n = n

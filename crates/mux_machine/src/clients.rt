@@ -3,6 +3,7 @@
 ghost use Rattle.std.specs.Prelude.{if◌then◌else◌, ◌≡◌, ◌≤◌, ◌+◌, ◌*◌, ◌++◌, [], ℕ, length, filter, not, ◌==◌, OnOk, OnErr, true, false};
 ghost use Rattle.client_teardown.specs.declared.farewell.TheConstants.{FAREWELL_ROOM as TheRoom};
 ghost use Rattle.proxy_frames.specs.Queued.{without_first};
+ghost use Rattle.mux_history.specs.declared.limits.TheConstants.{MAX_CLIENTS as TheMost};
 ghost use Rattle.mux_history.specs.Promises.{is_empty};
 ghost use Rattle.mux_clients.specs.Among.{client_index};
 ghost use Rattle.mux_clients.specs.Losing.{loss_in};
@@ -16,6 +17,7 @@ use client_teardown::FAREWELL_ROOM;
 use mux_clients::{Client, Standing, admit};
 use mux_core::Core;
 use mux_history::Why;
+use mux_history::limits::MAX_CLIENTS;
 use mux_outside::Streams;
 use proxy_frames::Queue;
 use ssh_fields::OutOfMemory;
@@ -72,15 +74,16 @@ fn count_served(clients: &[Client]) -> usize
     count
 }
 
-// Room for the farewells of the clients that are not lost, and of one more.
-pub fn reserve_for_one_more(up: &mut Queue, clients: &[Client]) -> Result<(), OutOfMemory>
+// Room for the farewells of as many clients as may have open matters, and of the clients that are not lost and one more
+// where those are more.
+pub fn reserve_farewells(up: &mut Queue, clients: &[Client]) -> Result<(), OutOfMemory>
     ensures waiting { up.new.waiting ≡ up.old.waiting }
-    ensures room { OnOk result (TheRoom * (length (served_in clients.now) + 1) ≤ up.new.spare) }
+    ensures room { OnOk result (TheMost * TheRoom ≤ up.new.spare) }
+    ensures one_more { OnOk result (TheRoom * (length (served_in clients.now) + 1) ≤ up.new.spare) }
 {
-    let served = FAREWELL_ROOM
-        .checked_mul(count_served(clients))
-        .ok_or(OutOfMemory)?;
-    let room = served.checked_add(FAREWELL_ROOM).ok_or(OutOfMemory)?;
+    let one_more = count_served(clients).checked_add(1).ok_or(OutOfMemory)?;
+    let farewells = one_more.max(MAX_CLIENTS);
+    let room = FAREWELL_ROOM.checked_mul(farewells).ok_or(OutOfMemory)?;
     up.reserve(room)
 }
 

@@ -1,9 +1,11 @@
-ghost use Rattle.std.specs.Prelude.{◌≡◌, ◌≤◌, ◌++◌, [], length, filter, List, ℕ, true, false, IfOk, OnOk, OnErr, IsErr, None};
+ghost use Rattle.std.specs.Prelude.{◌≡◌, ◌≤◌, ◌*◌, ◌++◌, [], length, filter, List, ℕ, true, false, IfOk, OnOk, OnErr, IsErr, None};
 ghost use Rattle.ssh_fields.specs.Fields.{AreBytes};
 ghost use Rattle.mux_outside.specs.Streams.{among};
 ghost use Rattle.mux_outside.specs.declared.mark.Mark.{Mark as TheMark};
 ghost use Rattle.mux_outside.specs.declared.mark.Mark.TheVariants.{Takes};
 ghost use Rattle.mux_outside.specs.declared.house.HouseReply.{HouseReply as TheReply};
+ghost use Rattle.client_teardown.specs.declared.farewell.TheConstants.{FAREWELL_ROOM as TheRoom};
+ghost use Rattle.mux_history.specs.declared.limits.TheConstants.{MAX_CLIENTS as TheMost};
 ghost use Rattle.mux_history.specs.Rows.{losses};
 ghost use Rattle.mux_history.specs.Log.{open_matters};
 ghost use Rattle.mux_history.specs.Pending.{pending};
@@ -72,7 +74,7 @@ fn went_by(ended: Option<Ended>) -> Went
 
 impl Engine {
     /// An engine that was told nothing yet. It permits what the policy does, and tells the process id to clients that
-    /// check.
+    /// check. It has room for the farewells of as many clients as may have open matters.
     pub fn new(alloc: Global, policy: Policy, pid: u32) -> Result<Engine, OutOfMemory>
         ensures policy { IfOk result (λ engine. engine.core.policy ≡ policy) }
         ensures pid { IfOk result (λ engine. engine.pid ≡ pid) }
@@ -83,14 +85,17 @@ impl Engine {
         ensures waiting { IfOk result (λ engine. engine.waiting ≡ []) }
         ensures silent { IfOk result (λ engine. engine.up.waiting ≡ []) }
         ensures listening { IfOk result (λ engine. engine.listening ≡ true) }
+        ensures room { IfOk result (λ engine. TheMost * TheRoom ≤ engine.up.spare) }
         ensures stands { IfOk result (λ engine. Stands [] [] engine [] []) }
     {
+        let mut up = Queue::new(alloc);
+        reserve_farewells(&mut up, &[])?;
         Ok(Engine {
             alloc,
             pid,
             core: Core::new(alloc, policy)?,
             server: Server::new(alloc),
-            up: Queue::new(alloc),
+            up,
             clients: Vec::new(alloc),
             refused: Streams::new(alloc),
             leaving: Vec::new(alloc),
@@ -162,7 +167,7 @@ impl Engine {
         ensures ready { OnOk result (IsReady self.new) }
         ensures starved { self.new.starved ≡ true }
     {
-        reserve_for_one_more(&mut self.up, &self.clients)?;
+        reserve_farewells(&mut self.up, &self.clients)?;
         receive(
             &mut self.clients,
             &mut self.refused,

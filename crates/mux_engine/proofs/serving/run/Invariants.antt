@@ -12,6 +12,7 @@ invariant-loop g l = let W = g.W.Wire in record {
   serving : (before : Option (List Asked)) (policy : Policy) (pid : ℕ) (start : Option (List Mark)) (given : ℕ) → Serving g.H.House.may before (g.H.House.told l.fn.house) policy pid start (W.seen l.fn.wire) [] given (0 ∷ here l.fn.engine) l.fn.engine
       → Serving g.H.House.may before (g.H.House.told l.house) policy pid start (W.seen l.wire) l.held (given + l.counter) (0 ∷ here l.engine) l.engine;
   on : l.engine.ended ≡ None;
+  first : l.counter ≡ 0 → (l.engine ≡ l.fn.engine) × (l.wire ≡ l.fn.wire);
   faults : W.server_faults l.fn.wire ≤ W.server_faults l.wire;
   calls : Well l.counter (W.calls l.fn.wire) (W.calls l.wire);
   openings : W.openings l.wire ≡ W.openings l.fn.wire;

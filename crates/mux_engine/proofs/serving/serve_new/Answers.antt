@@ -1,4 +1,6 @@
+use Rattle.std.proofs.Common.{refl}
 use Rattle.mux_engine.proofs.Arms.{on-err}
+use Rattle.mux_engine.proofs.Counting.{cut-none, same-faults, stops-cut}
 use Rattle.mux_engine.proofs.Runs.{ends-starved, starts, starts-starved}
 use Rattle.mux_engine.proofs.serving.serve_new.Goals as goal
 
@@ -8,6 +10,13 @@ returns-in_err-engine-clause-kept g c =
     on-err c.from_residual.result _ _ c.from_residual.ensures.0
     (ends-starved g.H.House.may (g.H.House.told c.args.house.now) (g.H.House.told c.args.house.now) c.args.policy c.args.pid c.args.turns told told
     (starts-starved g.H.House.may (g.H.House.told c.args.house.now) c.args.policy c.args.pid told c.args.turns))
+
+pub returns-in_err-engine-clause-calls : goal.returns-in_err-engine-clause-calls
+returns-in_err-engine-clause-calls g c = on-err c.from_residual.result _ _ c.from_residual.ensures.0
+    (stops-cut c.args.turns (g.W.Wire.calls c.args.wire.now) (g.W.Wire.calls c.args.wire.now) (cut-none c.args.turns (g.W.Wire.calls c.args.wire.now)))
+
+pub returns-in_err-engine-clause-idle : goal.returns-in_err-engine-clause-idle
+returns-in_err-engine-clause-idle g c = λ z. same-faults g.W.Wire.server_faults g.W.Wire.client_faults c.args.wire.now c.args.wire.now refl
 
 pub run-requires-clause-running : goal.run-requires-clause-running
 run-requires-clause-running g c = record {

@@ -1,6 +1,7 @@
-use Rattle.std.proofs.Common.{[], ◌∷◌, ◌∙◌, refl, inl, le_trans}
+use Rattle.std.proofs.Common.{[], ◌∷◌, ◌∙◌, refl, ap, inl, le_trans}
+use Rattle.mux_machine.specs.State.{State, queue_in}
 use Rattle.mux_engine.proofs.Arms.{counts-then, on-err, on-ok, then-stays-or-fails}
-use Rattle.mux_engine.proofs.Loops.{counts-err}
+use Rattle.mux_engine.proofs.Loops.{counts-err, server-idle}
 use Rattle.mux_engine.proofs.settling.flush.Goals as goal
 
 pub offer-requires-clause-served : goal.offer-requires-clause-served
@@ -34,3 +35,9 @@ returns-clause-later g c = le_trans c.offer_clients.ensures.later c.offer.ensure
 
 pub returns-clause-calls : goal.returns-clause-calls
 returns-clause-calls g c = counts-then c.offer.result _ _ _ c.in_ok-offer_clients.ensures.calls c.offer.ensures.calls
+
+pub returns-clause-idle : goal.returns-clause-idle
+returns-clause-idle g c = λ none.
+    let a = c.offer_clients.ensures.idle none in
+    let b = c.offer.ensures.idle (ap (λ (s : State). queue_in s 0) a.0 ∙ server-idle c.requires.served.serving none) in
+    (b.0 ∙ a.0, b.1 ∙ a.1)

@@ -1,6 +1,6 @@
 use Rattle.std.proofs.Common.{◌∷◌, ◌∙◌, sym, ap, refl, le_trans, le_refl}
 use Rattle.mux_outside.specs.Streams.{among}
-use Rattle.mux_engine.proofs.Arms.{cut-then, on-err, stays, then-stays-or-fails, well-none, well-then}
+use Rattle.mux_engine.proofs.Arms.{cut-then, idle-then, on-err, stays, then-stays-or-fails, well-none, well-then}
 use Rattle.mux_engine.proofs.Lists.{same-open}
 use Rattle.mux_engine.proofs.Loops.{counts-err, on-done, on-more, twice-among, zero-among}
 use Rattle.mux_engine.proofs.Offers.{held-back, wider}
@@ -16,6 +16,7 @@ loop-init g c = let w = c.requires.served in record {
   later = le_refl _;
   calls = well-none _;
   openings = refl;
+  idle = λ none. (refl, refl);
 }
 
 pub offer_once-requires-clause-served : goal.offer_once-requires-clause-served
@@ -56,6 +57,7 @@ loop-preserved g c = record {
   later = le_trans c.loop.invariant.later c.offer_once.ensures.later;
   calls = well-then _ _ _ c.loop.invariant.calls c.in_ok-offer_once.ensures.calls;
   openings = c.offer_once.ensures.openings ∙ c.loop.invariant.openings;
+  idle = idle-then c.args.stream c.args.engine.now c.loop.engine c.offer_once.new.engine c.args.wire.now c.loop.wire c.offer_once.new.wire c.loop.invariant.idle c.offer_once.ensures.idle;
 }
 
 -- ---- the end
@@ -85,3 +87,14 @@ returns-then-contains-clause-ended g c = stays _ _ _ _ refl refl
 
 pub returns-then-contains-clause-calls : goal.returns-then-contains-clause-calls
 returns-then-contains-clause-calls g c = well-none _
+
+-- ---- where nothing waits
+
+pub returns-clause-idle : goal.returns-clause-idle
+returns-clause-idle g c = idle-then c.args.stream c.args.engine.now c.loop.engine c.offer_once.new.engine c.args.wire.now c.loop.wire c.offer_once.new.wire c.loop.invariant.idle c.offer_once.ensures.idle
+
+pub returns-in_err-offer_once-clause-idle : goal.returns-in_err-offer_once-clause-idle
+returns-in_err-offer_once-clause-idle g c = idle-then c.args.stream c.args.engine.now c.loop.engine c.offer_once.new.engine c.args.wire.now c.loop.wire c.offer_once.new.wire c.loop.invariant.idle c.offer_once.ensures.idle
+
+pub returns-then-contains-clause-idle : goal.returns-then-contains-clause-idle
+returns-then-contains-clause-idle g c = λ none. (refl, refl)

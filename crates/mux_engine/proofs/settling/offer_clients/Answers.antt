@@ -1,7 +1,7 @@
 use Rattle.std.proofs.Common.{◌≡◌, ◌≢◌, ◌+◌, [], ◌∷◌, ◌∙◌, sym, ap, subst, refl, ℕ, List, get_or, drop, true, le_trans, le_refl, arith}
 use Rattle.mux_outside.specs.Streams.{among, without}
 use Rattle.mux_machine.specs.State.{State, waiting_in}
-use Rattle.mux_engine.proofs.Arms.{cut-then, on-err, well-none, well-then}
+use Rattle.mux_engine.proofs.Arms.{cut-then, none-there, on-err, well-none, well-then}
 use Rattle.mux_engine.proofs.Lists.{drop-next, element-among, none-without, same-open, true-false}
 use Rattle.mux_engine.proofs.Loops.{counts-err, next-first, only-waiting, todo-is, waits-open, zero-among}
 use Rattle.mux_engine.proofs.Marks.{cut-here}
@@ -23,6 +23,8 @@ loop-stream-init g c =
       later = le_refl _;
       calls = well-none _;
       openings = refl;
+      none = λ e. items ∙ ap (without 0) (c.waiting.ensures.exact ∙ e);
+      idle = λ e. (refl, refl);
     }
 
 pub offer-requires-clause-served : goal.offer-requires-clause-served
@@ -69,7 +71,15 @@ loop-stream-preserved g c =
       later = le_trans c.loop-stream.invariant.later c.offer.ensures.later;
       calls = well-then _ _ _ c.loop-stream.invariant.calls c.in_ok-offer.ensures.calls;
       openings = c.offer.ensures.openings ∙ c.loop-stream.invariant.openings;
+      none = c.loop-stream.invariant.none;
+      idle = λ e. none-there i items (omega arith) (c.loop-stream.invariant.none e);
     }
+
+pub returns-in_err-offer-clause-idle : goal.returns-in_err-offer-clause-idle
+returns-in_err-offer-clause-idle g c = λ e. none-there c.loop-stream.stream-index c.as_slice-stream-items.result.now (omega arith) (c.loop-stream.invariant.none e)
 
 pub returns-in_err-refill-clause-serving : goal.returns-in_err-refill-clause-serving
 returns-in_err-refill-clause-serving g c before policy pid start given v = on-err c.from_residual.result _ _ c.from_residual.ensures.0 (cut-here v _ _ given [] refl (tells-none _) (le_refl given))
+
+pub returns-in_err-refill-clause-idle : goal.returns-in_err-refill-clause-idle
+returns-in_err-refill-clause-idle g c = λ none. (refl, refl)

@@ -1,4 +1,4 @@
-use Rattle.std.proofs.Common.{◌≡◌, ◌≤◌, ◌∷◌, ℕ, List, Option, true, false, drop}
+use Rattle.std.proofs.Common.{◌≡◌, ◌≤◌, [], ◌∷◌, ℕ, List, Option, true, false, drop}
 use Rattle.mux_outside.specs.House.{Asked}
 use Rattle.mux_outside.specs.Streams.{among}
 use Rattle.mux_outside.specs.declared.mark.Mark.{Mark}
@@ -19,4 +19,6 @@ invariant-loop-stream g l = let W = g.W.Wire in let H = g.H.House in record {
   later : W.server_faults l.fn.wire ≤ W.server_faults l.wire;
   calls : Well 0 (W.calls l.fn.wire) (W.calls l.wire);
   openings : W.openings l.wire ≡ W.openings l.fn.wire;
+  none : l.fn.engine.waiting ≡ [] → l.stream-items ≡ [];
+  idle : l.fn.engine.waiting ≡ [] → (l.engine ≡ l.fn.engine) × (l.wire ≡ l.fn.wire);
 }

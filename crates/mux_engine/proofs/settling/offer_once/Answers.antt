@@ -7,7 +7,7 @@ use Rattle.mux_outside.specs.declared.turn.Wrote.TheVariants as wrote
 use Rattle.mux_machine.specs.State.{State}
 use Rattle.mux_engine.specs.Counted.{Well}
 use Rattle.mux_engine.specs.Serving.{Serving}
-use Rattle.mux_engine.proofs.Arms.{Failing, empty-is, failing, fault-ended, fault-later, le-of, on-err, some-bytes, stays, well-one}
+use Rattle.mux_engine.proofs.Arms.{Failing, empty-is, failing, fault-ended, fault-later, le-of, on-err, some-bytes, stays, unless-empty, well-one}
 use Rattle.mux_engine.proofs.Marks.{serve-alone, serve-next}
 use Rattle.mux_engine.proofs.Offers.{AtStream, SameRun, at-stream, cut-fails, cut-holds, cut-starved, next-fails, next-holds, next-takes, nothing-left, stream-open}
 use Rattle.mux_engine.proofs.Silent.{stands-silent}
@@ -128,3 +128,26 @@ returns-in_ok-event-in-Failed-clause-calls g c = subst (λ (x : Calls). Well 0 (
 
 pub returns-in-NoMemory-clause-serving : goal.returns-in-NoMemory-clause-serving
 returns-in-NoMemory-clause-serving g c before policy pid start given todo zero v = cut-starved v _ c.args.stream c.queue_of-bytes.result.now c.in-NoMemory.ensures.seen
+
+-- ---- where nothing waits
+
+pub returns-in-Took-clause-idle : goal.returns-in-Took-clause-idle
+returns-in-Took-clause-idle g c = unless-empty c.queue_of-bytes.result.now _ c.queue_of-bytes.ensures.exact (sym c.if-is_empty.ensures)
+
+pub returns-in_ok-push-in-Later-clause-idle : goal.returns-in_ok-push-in-Later-clause-idle
+returns-in_ok-push-in-Later-clause-idle g c = unless-empty c.queue_of-bytes.result.now _ c.queue_of-bytes.ensures.exact (sym c.if-is_empty.ensures)
+
+pub returns-in_err-push-in-Later-clause-idle : goal.returns-in_err-push-in-Later-clause-idle
+returns-in_err-push-in-Later-clause-idle g c = unless-empty c.queue_of-bytes.result.now _ c.queue_of-bytes.ensures.exact (sym c.if-is_empty.ensures)
+
+pub returns-in_ok-event-in-Failed-clause-idle : goal.returns-in_ok-event-in-Failed-clause-idle
+returns-in_ok-event-in-Failed-clause-idle g c = unless-empty c.queue_of-bytes.result.now _ c.queue_of-bytes.ensures.exact (sym c.if-is_empty.ensures)
+
+pub returns-in_err-event-in-Failed-clause-idle : goal.returns-in_err-event-in-Failed-clause-idle
+returns-in_err-event-in-Failed-clause-idle g c = unless-empty c.queue_of-bytes.result.now _ c.queue_of-bytes.ensures.exact (sym c.if-is_empty.ensures)
+
+pub returns-in-NoMemory-clause-idle : goal.returns-in-NoMemory-clause-idle
+returns-in-NoMemory-clause-idle g c = unless-empty c.queue_of-bytes.result.now _ c.queue_of-bytes.ensures.exact (sym c.if-is_empty.ensures)
+
+pub returns-then-is_empty-clause-idle : goal.returns-then-is_empty-clause-idle
+returns-then-is_empty-clause-idle g c = λ none. (refl, refl)

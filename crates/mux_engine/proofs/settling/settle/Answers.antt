@@ -1,5 +1,6 @@
-use Rattle.std.proofs.Common.{◌∙◌, sym, subst, le_trans}
+use Rattle.std.proofs.Common.{◌∙◌, sym, ap, subst, le_trans}
 use Rattle.mux_outside.specs.Seen.{Calls}
+use Rattle.mux_machine.specs.State.{State}
 use Rattle.mux_engine.specs.Counted.{Well}
 use Rattle.mux_engine.proofs.Arms.{le-of, on-err, stays, then-stays-or-fails}
 use Rattle.mux_engine.proofs.Loops.{counts-err}
@@ -28,3 +29,6 @@ returns-clause-later g c = le_trans c.flush.ensures.later (le-of _ _ (sym (c.hus
 
 pub returns-clause-calls : goal.returns-clause-calls
 returns-clause-calls g c = subst (λ (x : Calls). Well 0 (g.W.Wire.calls c.args.wire.now) x) (sym (c.hush.ensures.calls ∙ c.close_lost.ensures.calls)) c.in_ok-flush.ensures.calls
+
+pub returns-clause-idle : goal.returns-clause-idle
+returns-clause-idle g c = λ none. c.close_lost.ensures.ended ∙ ap (λ (s : State). s.ended) (c.flush.ensures.idle none).0

@@ -13,10 +13,10 @@ returns-clause-enters c =
     let s = c.self.inside in
     let parts : State = record { pid = s.pid; core = s.core; server = s.server; up = s.up; clients = s.clients.items; refused = s.refused; leaving = s.leaving.items; waiting = s.waiting; listening = s.listening; ended = s.ended; starved = s.starved } in
     on_ok_weaker c.list_waiting.result
-    (λ waits. enter-written c.args.self.now parts (enter_new parts c.receive.new.clients.items c.receive.new.core c.reserve_for_one_more.new.up c.receive.new.refused c.receive.new.leaving.items c.list_waiting.new.list)
-    c.args.client c.receive.new.clients.items c.receive.new.core c.reserve_for_one_more.new.up c.receive.new.refused c.receive.new.leaving.items c.deref-2.result.now c.list_waiting.new.list c.self.view_is refl record {
+    (λ waits. enter-written c.args.self.now parts (enter_new parts c.receive.new.clients.items c.receive.new.core c.reserve_farewells.new.up c.receive.new.refused c.receive.new.leaving.items c.list_waiting.new.list)
+    c.args.client c.receive.new.clients.items c.receive.new.core c.reserve_farewells.new.up c.receive.new.refused c.receive.new.leaving.items c.deref-2.result.now c.list_waiting.new.list c.self.view_is refl record {
       policy = c.in_ok-receive.ensures.policy;
-      waiting = c.in_ok-reserve_for_one_more.ensures.waiting;
+      waiting = c.in_ok-reserve_farewells.ensures.waiting;
       receives = c.in_ok-receive.ensures.receives;
       shows = c.deref-2.ensures.value;
       waits = waits;
@@ -29,8 +29,8 @@ returns-clause-ready c =
     let was : IsReady parts = subst IsReady (sym c.self.view_is) c.requires.ready in
     on_ok_weaker c.list_waiting.result
     (λ waits. record {
-      room = room-entered c.args.client c.in_ok-receive.ensures.receives.let_in c.self.inside.clients.items c.receive.new.clients.items c.reserve_for_one_more.new.up c.in_ok-receive.ensures.receives.clients_are
-          (subst (λ (l : List ClientState). FAREWELL_ROOM * (length (served_in l) + 1) ≤ c.reserve_for_one_more.new.up.spare) c.deref.ensures.value c.in_ok-reserve_for_one_more.ensures.room);
+      room = room-entered c.args.client c.in_ok-receive.ensures.receives.let_in c.self.inside.clients.items c.receive.new.clients.items c.reserve_farewells.new.up c.in_ok-receive.ensures.receives.clients_are
+          (subst (λ (l : List ClientState). FAREWELL_ROOM * (length (served_in l) + 1) ≤ c.reserve_farewells.new.up.spare) c.deref.ensures.value c.in_ok-reserve_farewells.ensures.one_more);
       cuts = was.cuts;
       well = was.well;
     }) c.list_waiting.ensures
