@@ -1,11 +1,9 @@
 -- How a drill goes, from what was served and what was handed over to what the program tells.
-use Rattle.std.proofs.Common.{◌≡◌, ◌⊎◌, inl, inr, ℕ, Bool, true, false, List, [], Option, None, Result, Ok, Err, refl, sym, ap, subst, ◌∙◌, arith}
-use Rattle.std.specs.Bool.{OnFalse, OnTrue}
+use Rattle.std.proofs.Common.{◌≡◌, ◌⊎◌, inl, inr, ℕ, Bool, true, false, List, [], Option, None, Result, Ok, Err, refl, sym, subst, ◌∙◌, arith}
+use Rattle.std.specs.Bool.{OnTrue}
 use Rattle.conf_rules.specs.declared.causes.Cause.TheVariants.{ReadFault, RunFault}
 use Rattle.conf_rules.specs.Outcome.{Ends, Writes, Opens, Drills}
 use Rattle.conf_rules.specs.Texts.{Bytes}
-use Rattle.mux_history.specs.declared.ended.Ended.{Ended}
-use Rattle.mux_history.specs.declared.ended.Ended.TheVariants as answers
 use Rattle.mux_history.specs.Policy.{any_policy}
 use Rattle.mux_outside.specs.declared.mark.Mark.{Mark}
 use Rattle.mux_outside.specs.declared.mark.Opening.{Opening}
@@ -20,7 +18,7 @@ use Rattle.ssh_mux.specs.Causes.{Caused}
 use Rattle.ssh_mux.specs.Drill.{DrillGoes, DrillServes, DrillShares, DrillTells, EndsDrill, IsDrill, IsDrilled, RefusesAll, RunsDrill, SumsUp, drill_text, drill_transport}
 use Rattle.ssh_mux.specs.Ending.{shown}
 use Rattle.ssh_mux.specs.Err.{Reports}
-use Rattle.ssh_mux.specs.Master.{EndsMaster, ends_sharing}
+use Rattle.ssh_mux.specs.Master.{EndsMaster}
 use Rattle.ssh_mux.specs.Out.{HandsOver, OutTakes}
 use Rattle.ssh_mux.specs.Outcomes.{Known, Certain, Listing, Master, drills}
 use Rattle.ssh_mux.specs.Sharing.{CallsEnd, IdleCause, IsShared, OpensAt, Shares, WaitsFor, WireCause, told_as}

@@ -3,8 +3,8 @@ use Rattle.std.proofs.lemmas.Result.{err_from_is_err_and}
 use Rattle.conf_rules.specs.declared.command.Command.TheVariants as commands
 use Rattle.ssh_mux.specs.Answers.{may_open, so_far}
 use Rattle.conf_rules.specs.Outcome.{Drills}
-use Rattle.ssh_mux.specs.Outcomes.{Certain, drills, machine, of_command, of_words, opens}
-use Rattle.ssh_mux.specs.Sharing.{Shares, WaitsFor, pid_of, policy_in}
+use Rattle.ssh_mux.specs.Outcomes.{Certain, drills, machine, of_command, opens}
+use Rattle.ssh_mux.specs.Sharing.{Shares, WaitsFor, pid_of}
 use Rattle.ssh_mux.proofs.DrillLemmas.{drill-cause, drill-comes, drill-takes, drill-touches, still-drill}
 use Rattle.ssh_mux.proofs.PolicyLemmas.{are-permitted, with-policy}
 use Rattle.ssh_mux.proofs.RefusalLemmas.{list-looks, list-shut, list-undrilled, master-looks, master-quiet, master-undrilled}
