@@ -1,5 +1,5 @@
 -- From what a run came to, and the line that was written of it, to how it ended.
-use Rattle.std.proofs.Common.{◌≡◌, ◌⊎◌, ◌&&◌, inl, inr, ℕ, Bool, true, false, List, Option, Result, Ok, Err, refl, sym, ap, subst, ◌∙◌}
+use Rattle.std.proofs.Common.{◌≡◌, ◌⊎◌, ◌&&◌, ◌||◌, inl, inr, ℕ, Bool, true, false, List, Option, Result, Ok, Err, refl, sym, ap, subst, ◌∙◌}
 use Rattle.std.specs.Bool.{OnFalse, OnTrue}
 use Rattle.conf_rules.specs.Diagnostics.{Ending}
 use Rattle.conf_rules.specs.Outcome.{Ends, Writes, Opens, Drills}
@@ -15,15 +15,15 @@ use Rattle.ssh_mux.specs.declared.ending.Ending.{Ending as MeantEnding}
 use Rattle.ssh_mux.specs.declared.ending.Ending.TheVariants as endings
 use Rattle.ssh_mux.specs.declared.status.Status.{Status}
 use Rattle.ssh_mux.specs.declared.status.Status.TheVariants as statuses
-use Rattle.ssh_mux.specs.Answers.{IsDue, IsWell, is_silent, may_write, may_open, may_share}
+use Rattle.ssh_mux.specs.Answers.{IsDue, IsWell, is_silent, may_write, may_open, may_share, touches}
 use Rattle.ssh_mux.specs.Causes.{EndCause, FaultCause, OutCause}
 use Rattle.ssh_mux.specs.Commands.{RunsFor}
 use Rattle.ssh_mux.specs.Ending.{shown}
 use Rattle.ssh_mux.specs.Err.{Reports, Ended}
 use Rattle.ssh_mux.specs.Out.{OutTakes}
-use Rattle.ssh_mux.specs.Outcomes.{Known, Certain, Listing, Master, opens}
+use Rattle.ssh_mux.specs.Outcomes.{Known, Certain, Listing, Master, drills, opens}
 use Rattle.ssh_mux.specs.Master.{ends_sharing}
-use Rattle.ssh_mux.specs.Sharing.{CallsEnd, IsServed, IsShared, OpensOnce, Serves, Shares, TellsEnd, WireCause}
+use Rattle.ssh_mux.specs.Sharing.{CallsEnd, IdleCause, IsServed, IsShared, OpensOnce, Serves, Shares, TellsEnd, WaitsFor, WireCause}
 use Rattle.ssh_mux.specs.Sharing.{told_as}
 use Rattle.ssh_mux.specs.Status.{status_of}
 use Rattle.ssh_mux.proofs.StillLemmas.{loud}
@@ -99,7 +99,7 @@ unopened (Certain (Opens control transport os ls)) statuses.Outside before now h
 unopened (Certain (Opens control transport os ls)) status before now h = inr h
 unopened (Certain (Ends ending)) status before now h = h
 unopened (Certain (Writes text)) status before now h = h
-unopened (Certain (Drills seed clients messages)) status before now h = h
+unopened (Certain (Drills seed clients messages)) status before now h = tt
 unopened Listing status before now h = h
 unopened (Master transport os ls) statuses.Memory before now h = h
 unopened (Master transport os ls) statuses.Config before now h = inl h
@@ -149,7 +149,6 @@ module _ (May : HouseReply → Type 0) (policy : Policy) (pid turns : ℕ) (befo
   own-serves (endings.BadLine file line cause) h r = absurd (none-ends (endings.BadLine file line cause) refl h)
   own-serves (endings.BadListing key error) h r = absurd (none-ends (endings.BadListing key error) refl h)
   own-serves endings.NoControlPath h r = absurd (none-ends endings.NoControlPath refl h)
-  own-serves endings.NotServed h r = absurd (none-ends endings.NotServed refl h)
 
   -- with the status that came of it
   serves-by : (meant : MeantEnding) (status : Status) → (status ≡ statuses.Memory) ⊎ (status ≡ status_of (shown meant)) → Shared (Err meant) → Reports status (shown meant) b n f f' → Served status
@@ -157,20 +156,20 @@ module _ (May : HouseReply → Type 0) (policy : Policy) (pid turns : ℕ) (befo
   serves-by meant status (inr e) h r = subst Served (sym e) (own-serves meant h (subst (λ s. Reports s (shown meant) b n f f') e r))
 
   -- a wire that wasn't touched is served by nobody
-  memory-by : (opened shares : Bool) (meant : MeantEnding) → OnTrue (opened && shares) (Shared (Err meant)) → OnFalse (opened && shares) (told ≡ start) → OnFalse (opened && shares) (now ≡ before) → Reports statuses.Memory (shown meant) b n f f' → OnTrue shares (Served statuses.Memory)
-  memory-by opened false meant h w g r = tt
-  memory-by true true meant h w g r = memory-serves meant h r
-  memory-by false true meant h w g r = inl (record { same_wire = w; same_house = g })
+  memory-by : (opened shares drilled : Bool) (meant : MeantEnding) → OnTrue (opened && shares) (Shared (Err meant)) → OnFalse (opened && (shares || drilled)) (told ≡ start) → OnFalse (opened && shares) (now ≡ before) → Reports statuses.Memory (shown meant) b n f f' → OnTrue shares (Served statuses.Memory)
+  memory-by opened false drilled meant h w g r = tt
+  memory-by true true drilled meant h w g r = memory-serves meant h r
+  memory-by false true drilled meant h w g r = inl (record { same_wire = w; same_house = g })
 
   own-by : (b' : Bool) (meant : MeantEnding) → OnTrue b' (Shared (Err meant)) → Reports (status_of (shown meant)) (shown meant) b n f f' → OnTrue b' (Served (status_of (shown meant)))
   own-by false meant h r = tt
   own-by true meant h r = own-serves meant h r
 
-  shared-by : (k : Known) (status : Status) (meant : MeantEnding) → (status ≡ statuses.Memory) ⊎ (status ≡ status_of (shown meant)) → Reports status (shown meant) b n f f' → OnTrue (may_share k (status_of (shown meant))) (Shared (Err meant)) → OnFalse (may_share k (status_of (shown meant))) (told ≡ start) → OnFalse (may_share k (status_of (shown meant))) (now ≡ before) → OnTrue (may_share k status) (Served status)
-  shared-by k status meant (inl e) r h w g = subst (λ s. OnTrue (may_share k s) (Served s)) (sym e) (memory-by (may_open (status_of (shown meant))) (opens k) meant h w g (subst (λ s. Reports s (shown meant) b n f f') e r))
+  shared-by : (k : Known) (status : Status) (meant : MeantEnding) → (status ≡ statuses.Memory) ⊎ (status ≡ status_of (shown meant)) → Reports status (shown meant) b n f f' → OnTrue (may_share k (status_of (shown meant))) (Shared (Err meant)) → OnFalse (touches k (status_of (shown meant))) (told ≡ start) → OnFalse (may_share k (status_of (shown meant))) (now ≡ before) → OnTrue (may_share k status) (Served status)
+  shared-by k status meant (inl e) r h w g = subst (λ s. OnTrue (may_share k s) (Served s)) (sym e) (memory-by (may_open (status_of (shown meant))) (opens k) (drills k) meant h w g (subst (λ s. Reports s (shown meant) b n f f') e r))
   shared-by k status meant (inr e) r h w g = subst (λ s. OnTrue (may_share k s) (Served s)) (sym e) (own-by (may_share k (status_of (shown meant))) meant h (subst (λ s. Reports s (shown meant) b n f f') e r))
 
-  pub shared_after : (k : Known) (status : Status) (meant : MeantEnding) → Reports status (shown meant) b n f f' → OnTrue (may_share k (status_of (shown meant))) (Shared (Err meant)) → OnFalse (may_share k (status_of (shown meant))) (told ≡ start) → OnFalse (may_share k (status_of (shown meant))) (now ≡ before) → OnTrue (may_share k status) (Served status)
+  pub shared_after : (k : Known) (status : Status) (meant : MeantEnding) → Reports status (shown meant) b n f f' → OnTrue (may_share k (status_of (shown meant))) (Shared (Err meant)) → OnFalse (touches k (status_of (shown meant))) (told ≡ start) → OnFalse (may_share k (status_of (shown meant))) (now ≡ before) → OnTrue (may_share k status) (Served status)
   shared_after k status meant r h w g = shared-by k status meant (reported status (shown meant) b n f f' r) r h w g
 
 -- an end without a line
@@ -203,14 +202,20 @@ on-memory false = tt
 pub wire_after : (k : Known) (status : Status) (ending : Ending) (b n : Option (List ℕ)) (f f' s s' c c' : ℕ) → Reports status ending b n f f' → OnTrue (may_share k (status_of ending)) (WireCause (status_of ending) s s' c c') → OnTrue (may_share k status) (WireCause status s s' c c')
 wire_after k status ending b n f f' s s' c c' r h = carried (λ x. OnTrue (may_share k x) (WireCause x s s' c c')) status ending (reported status ending b n f f' r) (on-memory (opens k)) h
 
+pub waits_after : (k : Known) (turns : ℕ) (status : Status) (ending : Ending) (b n : Option (List ℕ)) (f f' : ℕ) (old calls : Calls) → Reports status ending b n f f' → OnTrue (touches k (status_of ending)) (WaitsFor turns (status_of ending) old calls) → OnTrue (touches k status) (WaitsFor turns status old calls)
+waits_after k turns status ending b n f f' old calls r h = carried (λ x. OnTrue (touches k x) (WaitsFor turns x old calls)) status ending (reported status ending b n f f' r) (on-memory (opens k || drills k)) h
+
+pub idle_after : (status : Status) (ending : Ending) (b n : Option (List ℕ)) (f f' s s' c c' : ℕ) → Reports status ending b n f f' → IdleCause (status_of ending) s s' c c' → IdleCause status s s' c c'
+idle_after status ending b n f f' s s' c c' r h = carried (λ x. IdleCause x s s' c c') status ending (reported status ending b n f f' r) tt h
+
 unshared : (opened shares : Bool) (P : Type 0) → OnFalse (opened && shares) P → OnFalse shares P
 unshared true shares P h = h
 unshared false true P h = tt
 unshared false false P h = h
 
--- what stays where nothing may have been shared
-pub stays_after : (k : Known) (P : Type 0) (status : Status) (ending : Ending) (b n : Option (List ℕ)) (f f' : ℕ) → Reports status ending b n f f' → OnFalse (may_share k (status_of ending)) P → OnFalse (may_share k status) P
-stays_after k P status ending b n f f' r h = carried (λ s. OnFalse (may_share k s) P) status ending (reported status ending b n f f' r) (unshared (may_open (status_of ending)) (opens k) P h) h
+-- what stays where nothing may have been opened; `shares` says whether something may be
+pub stays_after : (shares : Bool) (P : Type 0) (status : Status) (ending : Ending) (b n : Option (List ℕ)) (f f' : ℕ) → Reports status ending b n f f' → OnFalse (may_open (status_of ending) && shares) P → OnFalse (may_open status && shares) P
+stays_after shares P status ending b n f f' r h = carried (λ s. OnFalse (may_open s && shares) P) status ending (reported status ending b n f f' r) (unshared (may_open (status_of ending)) shares P h) h
 
 -- what is told of what stays
 pub same_told : {X Y : Type 0} (b : Bool) (told : X → Y) (before now : X) → OnFalse b (now ≡ before) → OnFalse b (told now ≡ told before)

@@ -1,4 +1,5 @@
 pub mod CauseLemmas
+pub mod DrillLemmas
 pub mod EndLemmas
 pub mod LineLemmas
 pub mod ListLemmas

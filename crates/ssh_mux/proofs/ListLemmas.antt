@@ -7,12 +7,13 @@ use Rattle.conf_rules.specs.Diagnostics.{Ending}
 use Rattle.conf_rules.specs.Outcome.{Writes}
 use Rattle.conf_rules.specs.Texts.{Bytes}
 use Rattle.ssh_mux.specs.declared.ending.Ending.{Ending as MeantEnding}
+use Rattle.ssh_mux.specs.declared.ending.Ending.TheVariants as endings
 use Rattle.ssh_mux.specs.declared.status.Status.{Status}
 use Rattle.ssh_mux.specs.declared.status.Status.TheVariants as statuses
-use Rattle.ssh_mux.specs.Answers.{IsDue, IsWell, Comes}
+use Rattle.ssh_mux.specs.Answers.{IsDue, IsWell, Comes, may_write, so_far}
 use Rattle.ssh_mux.specs.Ending.{shown}
-use Rattle.ssh_mux.specs.Out.{OutTakes}
-use Rattle.ssh_mux.specs.Outcomes.{Known, Certain, Listing, lists}
+use Rattle.ssh_mux.specs.Out.{HandsOver, OutTakes}
+use Rattle.ssh_mux.specs.Outcomes.{Known, Certain, Listing, writes_out}
 
 -- what was found of a listing
 abbrev pub IsListing : Known → Bytes → Type 0
@@ -38,6 +39,28 @@ some-taken text statuses.Done before now h = tt
 some-taken text statuses.Write before now h = tt
 some-taken text status before now h = h
 
+-- a text that was handed over, as of a listing
+pub handed-comes : (text : Bytes) (result : Result Status MeantEnding) (before now : Option (List ℕ)) → HandsOver result text before now → Comes (Certain (Writes text)) result
+handed-comes text (Ok statuses.Done) before now h = refl
+handed-comes text (Ok statuses.Write) before now h = refl
+handed-comes text (Ok status) before now h = absurd h
+handed-comes text (Err endings.NoMemory) before now h = tt
+handed-comes text (Err ending) before now h = absurd h
+
+pub handed-taken : (text : Bytes) (result : Result Status MeantEnding) (before now : Option (List ℕ)) → HandsOver result text before now → OutTakes (so_far result) (Certain (Writes text)) before now
+handed-taken text (Ok statuses.Done) before now h = h
+handed-taken text (Ok statuses.Write) before now h = h
+handed-taken text (Ok status) before now h = absurd h
+handed-taken text (Err endings.NoMemory) before now h = h
+handed-taken text (Err ending) before now h = absurd h
+
+pub handed-tried : (text : Bytes) (result : Result Status MeantEnding) (before now : Option (List ℕ)) → HandsOver result text before now → may_write (so_far result) ≡ true
+handed-tried text (Ok statuses.Done) before now h = refl
+handed-tried text (Ok statuses.Write) before now h = refl
+handed-tried text (Ok status) before now h = absurd h
+handed-tried text (Err endings.NoMemory) before now h = refl
+handed-tried text (Err ending) before now h = absurd h
+
 pub list-comes : (k : Known) (text : Bytes) (result : Result Status MeantEnding) → IsListing k text → Comes (Certain (Writes text)) result → Comes k result
 list-comes k text result (inl e) h = subst (λ x. Comes x result) (sym e) h
 list-comes k text result (inr e) h = subst (λ x. Comes x result) (sym e) (some-comes text result h)
@@ -46,6 +69,6 @@ pub list-taken : (k : Known) (text : Bytes) (status : Status) (before now : Opti
 list-taken k text status before now (inl e) h = subst (λ x. OutTakes status x before now) (sym e) h
 list-taken k text status before now (inr e) h = subst (λ x. OutTakes status x before now) (sym e) (some-taken text status before now h)
 
-pub list-lists : (k : Known) (text : Bytes) → IsListing k text → lists k ≡ true
-list-lists k text (inl e) = subst (λ x. lists x ≡ true) (sym e) refl
-list-lists k text (inr e) = subst (λ x. lists x ≡ true) (sym e) refl
+pub list-writes : (k : Known) (text : Bytes) → IsListing k text → writes_out k ≡ true
+list-writes k text (inl e) = subst (λ x. writes_out x ≡ true) (sym e) refl
+list-writes k text (inr e) = subst (λ x. writes_out x ≡ true) (sym e) refl

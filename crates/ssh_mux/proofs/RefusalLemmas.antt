@@ -28,7 +28,7 @@ use Rattle.mux_outside.specs.declared.pairs.Pair.{Pair}
 use Rattle.mux_outside.specs.declared.statuses.CommandStatus.{CommandStatus}
 use Rattle.ssh_mux.specs.Answers.{IsRefused, is_refusal, refuses_master}
 use Rattle.ssh_mux.specs.Ending.{shown, refused_as, unlisted_as}
-use Rattle.ssh_mux.specs.Outcomes.{Known, Certain, Listing, Master, machine, machine_of, of_command, opens_at, looks, lists, opens}
+use Rattle.ssh_mux.specs.Outcomes.{Known, Certain, Listing, Master, machine, machine_of, of_command, opens_at, looks, writes_out, opens, drills}
 
 -- ---- outcomes of rows
 
@@ -47,9 +47,16 @@ shut-rows rows x h = on (refusal_in rows) where
   on None = h
 
 -- one that writes nothing
-quiet-rows : (rows : List Row) (x : Outcome) → lists (Certain x) ≡ false → lists (Certain (unrefused rows x)) ≡ false
+quiet-rows : (rows : List Row) (x : Outcome) → writes_out (Certain x) ≡ false → writes_out (Certain (unrefused rows x)) ≡ false
 quiet-rows rows x h = on (refusal_in rows) where
-  on : (r : Option ResolveError) → lists (Certain (elim r [ Some e ↦ Ends (BadLine e) | None ↦ x ])) ≡ false
+  on : (r : Option ResolveError) → writes_out (Certain (elim r [ Some e ↦ Ends (BadLine e) | None ↦ x ])) ≡ false
+  on (Some e) = refl
+  on None = h
+
+-- one that is no drill
+undrilled-rows : (rows : List Row) (x : Outcome) → drills (Certain x) ≡ false → drills (Certain (unrefused rows x)) ≡ false
+undrilled-rows rows x h = on (refusal_in rows) where
+  on : (r : Option ResolveError) → drills (Certain (elim r [ Some e ↦ Ends (BadLine e) | None ↦ x ])) ≡ false
   on (Some e) = refl
   on None = h
 
@@ -61,15 +68,24 @@ shut-listed : (r : Result Bytes ListError) → opens (Certain (listed_end r)) �
 shut-listed (Ok text) = refl
 shut-listed (Err e) = refl
 
+undrilled-listed : (r : Result Bytes ListError) → drills (Certain (listed_end r)) ≡ false
+undrilled-listed (Ok text) = refl
+undrilled-listed (Err e) = refl
+
 looks-opened : (transport : Bytes) (os ls : List Bytes) (r : Result (Option Bytes) ListError) → looks (Certain (opened_end transport os ls r)) ≡ true
 looks-opened transport os ls (Ok (Some path)) = refl
 looks-opened transport os ls (Ok None) = refl
 looks-opened transport os ls (Err e) = refl
 
-quiet-opened : (transport : Bytes) (os ls : List Bytes) (r : Result (Option Bytes) ListError) → lists (Certain (opened_end transport os ls r)) ≡ false
+quiet-opened : (transport : Bytes) (os ls : List Bytes) (r : Result (Option Bytes) ListError) → writes_out (Certain (opened_end transport os ls r)) ≡ false
 quiet-opened transport os ls (Ok (Some path)) = refl
 quiet-opened transport os ls (Ok None) = refl
 quiet-opened transport os ls (Err e) = refl
+
+undrilled-opened : (transport : Bytes) (os ls : List Bytes) (r : Result (Option Bytes) ListError) → drills (Certain (opened_end transport os ls r)) ≡ false
+undrilled-opened transport os ls (Ok (Some path)) = refl
+undrilled-opened transport os ls (Ok None) = refl
+undrilled-opened transport os ls (Err e) = refl
 
 -- ---- what commands use
 
@@ -88,10 +104,20 @@ unfolding of_command
 master-looks None asked transport os ls = refl
 master-looks (Some m) asked transport os ls = looks-rows (all_rows (told_of m asked)) (opened_end transport os ls (control_path_at (told_of m asked) (all_rows (told_of m asked)))) (looks-opened transport os ls (control_path_at (told_of m asked) (all_rows (told_of m asked))))
 
-pub master-quiet : (m : Option Machine) (asked : Asked) (transport : Bytes) (os ls : List Bytes) → lists (of_command m (commands.Master asked transport os ls)) ≡ false
+pub master-quiet : (m : Option Machine) (asked : Asked) (transport : Bytes) (os ls : List Bytes) → writes_out (of_command m (commands.Master asked transport os ls)) ≡ false
 unfolding of_command
 master-quiet None asked transport os ls = refl
 master-quiet (Some m) asked transport os ls = quiet-rows (all_rows (told_of m asked)) (opened_end transport os ls (control_path_at (told_of m asked) (all_rows (told_of m asked)))) (quiet-opened transport os ls (control_path_at (told_of m asked) (all_rows (told_of m asked))))
+
+pub list-undrilled : (m : Option Machine) (asked : Asked) → drills (of_command m (commands.List asked)) ≡ false
+unfolding of_command
+list-undrilled None asked = refl
+list-undrilled (Some m) asked = undrilled-rows (all_rows (told_of m asked)) (listed_end (listing_over LISTING_ORDER (told_of m asked) (all_rows (told_of m asked)))) (undrilled-listed (listing_over LISTING_ORDER (told_of m asked) (all_rows (told_of m asked))))
+
+pub master-undrilled : (m : Option Machine) (asked : Asked) (transport : Bytes) (os ls : List Bytes) → drills (of_command m (commands.Master asked transport os ls)) ≡ false
+unfolding of_command
+master-undrilled None asked transport os ls = refl
+master-undrilled (Some m) asked transport os ls = undrilled-rows (all_rows (told_of m asked)) (opened_end transport os ls (control_path_at (told_of m asked) (all_rows (told_of m asked)))) (undrilled-opened transport os ls (control_path_at (told_of m asked) (all_rows (told_of m asked))))
 
 -- ---- a configuration that is refused
 

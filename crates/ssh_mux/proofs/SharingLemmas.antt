@@ -2,11 +2,14 @@
 use Rattle.std.proofs.Common.{◌≡◌, ◌⊎◌, inl, inr, ℕ, true, false, List, Option, Some, None, unwrap_or, Result, Ok, Err, refl, sym, subst, ◌∙◌}
 use Rattle.conf_rules.specs.Outcome.{Ends, Writes, Drills, Opens}
 use Rattle.conf_rules.specs.Texts.{Bytes}
+use Rattle.mux_engine.specs.Counted.{Stops}
 use Rattle.mux_engine.specs.Run.{IsRun}
 use Rattle.mux_history.specs.declared.ended.Ended.{Ended}
 use Rattle.mux_history.specs.declared.ended.Ended.TheVariants as ends
 use Rattle.mux_history.specs.Policy.{Policy}
 use Rattle.mux_outside.specs.House.{Asked as HouseAsk}
+use Rattle.mux_outside.specs.Seen.{Calls}
+use Rattle.mux_outside.specs.Wire.{SameFaults}
 use Rattle.mux_outside.specs.declared.house.HouseReply.{HouseReply}
 use Rattle.mux_outside.specs.declared.mark.Mark.{Mark}
 use Rattle.mux_outside.specs.declared.mark.Opening.{Opening}
@@ -19,8 +22,8 @@ use Rattle.ssh_mux.specs.Causes.{OutCause}
 use Rattle.ssh_mux.specs.Ending.{shown}
 use Rattle.ssh_mux.specs.Master.{EndsMaster}
 use Rattle.ssh_mux.specs.Out.{OutTakes}
-use Rattle.ssh_mux.specs.Outcomes.{Known, Certain, Listing, Master, opens_at, opens, lists}
-use Rattle.ssh_mux.specs.Sharing.{OpensAt, OpensOnce, Shares, pid_of, told_as}
+use Rattle.ssh_mux.specs.Outcomes.{Known, Certain, Listing, Master, opens_at, opens, writes_out}
+use Rattle.ssh_mux.specs.Sharing.{IdleCause, OpensAt, OpensOnce, Shares, WaitsFor, pid_of, told_as}
 use Rattle.ssh_mux.specs.Status.{status_of}
 use Rattle.ssh_mux.proofs.StillLemmas.{loud, quiet-count}
 
@@ -36,6 +39,26 @@ shares_end May policy pid turns before now start told result ended e run = subst
   by_end ends.ServerFailed run = record { answer = ends.ServerFailed; is_told = refl; run = run }
   by_end (ends.Broke index why) run = record { answer = ends.Broke index why; is_told = refl; run = run }
   by_end ends.Spent run = record { answer = ends.Spent; is_told = refl; run = run }
+
+pub waits_end : (turns : ℕ) (ended : Ended) (old new : Calls) → Stops turns ended old new → WaitsFor turns (so_far (told_as ended)) old new
+waits_end turns ends.Spent old new h = h.spent refl
+waits_end turns ends.OutOfMemory old new h = tt
+waits_end turns ends.ServerEnd old new h = h.ends (λ e. absurd cc) (λ e. absurd cc)
+waits_end turns ends.Disconnected old new h = h.ends (λ e. absurd cc) (λ e. absurd cc)
+waits_end turns (ends.Terminated client id) old new h = h.ends (λ e. absurd cc) (λ e. absurd cc)
+waits_end turns ends.ServerFailed old new h = h.ends (λ e. absurd cc) (λ e. absurd cc)
+waits_end turns (ends.Broke index why) old new h = h.ends (λ e. absurd cc) (λ e. absurd cc)
+
+pub idle_end : (ended : Ended) (s s' s'' c c' c'' : ℕ) → SameFaults s s' c c' → SameFaults s' s'' c' c'' → IdleCause (so_far (told_as ended)) s s'' c c''
+idle_end ended s s' s'' c c' c'' a b = by_end ended (record { same_server = b.same_server ∙ a.same_server; same_client = b.same_client ∙ a.same_client }) where
+  by_end : (x : Ended) → SameFaults s s'' c c'' → IdleCause (so_far (told_as x)) s s'' c c''
+  by_end ends.OutOfMemory h = tt
+  by_end ends.Spent h = h
+  by_end ends.ServerEnd h = h
+  by_end ends.Disconnected h = h
+  by_end (ends.Terminated client id) h = h
+  by_end ends.ServerFailed h = h
+  by_end (ends.Broke index why) h = h
 
 -- the process id of the facts, or 0
 pub pid_is : (pid : Option ℕ) → unwrap_or pid 0 ≡ pid_of pid
@@ -110,12 +133,12 @@ pub none-opened : (k : Known) (status : Status) (before : Option (List Opening))
 none-opened (Certain (Opens control transport os ls)) status before e = absurd cc
 none-opened (Certain (Ends ending)) status before e = refl
 none-opened (Certain (Writes text)) status before e = refl
-none-opened (Certain (Drills seed clients messages)) status before e = refl
+none-opened (Certain (Drills seed clients messages)) status before e = tt
 none-opened Listing status before e = refl
 none-opened (Master transport os ls) status before e = absurd cc
 
--- one that lists nothing
-pub none-taken : (k : Known) (status : Status) (before : Option (List ℕ)) → lists k ≡ false → OutTakes status k before before
+-- one that writes nothing to the output
+pub none-taken : (k : Known) (status : Status) (before : Option (List ℕ)) → writes_out k ≡ false → OutTakes status k before before
 none-taken (Certain (Writes text)) status before e = absurd cc
 none-taken Listing status before e = absurd cc
 none-taken (Certain (Ends ending)) statuses.Done before e = refl
@@ -124,14 +147,12 @@ none-taken (Certain (Ends ending)) status before e = refl
 none-taken (Certain (Opens control transport os ls)) statuses.Done before e = refl
 none-taken (Certain (Opens control transport os ls)) statuses.Write before e = refl
 none-taken (Certain (Opens control transport os ls)) status before e = refl
-none-taken (Certain (Drills seed clients messages)) statuses.Done before e = refl
-none-taken (Certain (Drills seed clients messages)) statuses.Write before e = refl
-none-taken (Certain (Drills seed clients messages)) status before e = refl
+none-taken (Certain (Drills seed clients messages)) status before e = absurd cc
 none-taken (Master transport os ls) statuses.Done before e = refl
 none-taken (Master transport os ls) statuses.Write before e = refl
 none-taken (Master transport os ls) status before e = refl
 
-pub none-counted : (k : Known) (result : Result Status Ending) (count : ℕ) → lists k ≡ false → Comes k result → OutCause (so_far result) count count
+pub none-counted : (k : Known) (result : Result Status Ending) (count : ℕ) → writes_out k ≡ false → Comes k result → OutCause (so_far result) count count
 none-counted k (Ok statuses.Write) count e h = let x : false ≡ true = sym e ∙ h in absurd cc
 none-counted k (Ok status) count e h = refl
 none-counted k (Err ending) count e h = quiet-count (status_of (shown ending)) count (loud (shown ending))

@@ -28,13 +28,13 @@ use Rattle.ssh_mux.specs.declared.ending.Ending.{Ending as MeantEnding}
 use Rattle.ssh_mux.specs.declared.ending.Ending.TheVariants as endings
 use Rattle.ssh_mux.specs.declared.status.Status.{Status}
 use Rattle.ssh_mux.specs.declared.status.Status.TheVariants as statuses
-use Rattle.ssh_mux.specs.Answers.{IsDue, IsRefused, is_silent, may_open, may_share, refuses_master, ends_master}
+use Rattle.ssh_mux.specs.Answers.{IsDue, IsRefused, is_silent, may_open, may_share, touches, refuses_master, ends_master}
 use Rattle.ssh_mux.specs.Causes.{EndCause, OutCause}
 use Rattle.ssh_mux.specs.Commands.{RunsFor, commands_of, commands_for}
 use Rattle.ssh_mux.specs.Ending.{shown, misread_as}
 use Rattle.ssh_mux.specs.Out.{OutTakes}
-use Rattle.ssh_mux.specs.Outcomes.{Known, Certain, Listing, Master, of_command, of_words, opens, untold_words}
-use Rattle.ssh_mux.specs.Sharing.{CallsEnd, OpensOnce, Shares, WireCause}
+use Rattle.ssh_mux.specs.Outcomes.{Known, Certain, Listing, Master, drills, of_command, of_words, opens, untold_words}
+use Rattle.ssh_mux.specs.Sharing.{CallsEnd, IdleCause, OpensOnce, Shares, WaitsFor, WireCause}
 use Rattle.ssh_mux.specs.Status.{status_of, refusal_status, listing_status}
 
 -- ---- small facts
@@ -56,6 +56,13 @@ not_true b P e = subst (λ x. OnTrue x P) (sym e) tt
 or-left : (a b : Bool) → a ≡ true → (a || b) ≡ true
 or-left true b e = refl
 or-left false b e = absurd cc
+
+-- what stays where nothing may have been opened for a master stays where it was not for a drill either
+pub untouched : (opened shares drilled : Bool) (P : Type 0) → OnFalse (opened && shares) P → OnFalse (opened && (shares || drilled)) P
+untouched false shares drilled P h = h
+untouched true true drilled P h = tt
+untouched true false true P h = tt
+untouched true false false P h = h
 
 -- nothing is shared where nothing opens
 pub shut : (k : Known) (status : Status) → opens k ≡ false → may_share k status ≡ false
@@ -81,7 +88,6 @@ loud (ends.BadWords e) = refl
 loud (ends.BadLine e) = refusal-loud e
 loud (ends.BadListing e) = listing-loud e
 loud ends.NoControlPath = refl
-loud ends.NotServed = refl
 loud ends.NotOpened = refl
 loud ends.TransportFailed = refl
 loud (ends.ServerBroke index why) = refl
@@ -97,7 +103,7 @@ still-due k (ends.BadLine (At file line RunFault)) h = h
 still-due (Certain (Ends due)) ending h = h
 still-due (Certain (Writes text)) ending h = h
 still-due (Certain (Opens control transport os ls)) ending h = absurd h
-still-due (Certain (Drills seed clients messages)) ending h = h
+still-due (Certain (Drills seed clients messages)) ending h = absurd h
 still-due Listing ending h = h
 still-due (Master transport os ls) ending h = or-left (refuses_master ending) (ends_master ending) h
 
@@ -113,7 +119,7 @@ quiet-count status count e = refl
 pub still-opened : (k : Known) (ending : Ending) (before : Option (List Opening)) → IsRefused k ending → OpensOnce k (status_of ending) before before
 still-opened (Certain (Ends due)) ending before h = refl
 still-opened (Certain (Writes text)) ending before h = refl
-still-opened (Certain (Drills seed clients messages)) ending before h = refl
+still-opened (Certain (Drills seed clients messages)) ending before h = tt
 still-opened Listing ending before h = refl
 still-opened (Certain (Opens control transport os ls)) ends.NoMemory before h = inl refl
 still-opened (Certain (Opens control transport os ls)) (ends.BadLine (At file line ReadFault)) before h = refl
@@ -161,7 +167,6 @@ only-memory (endings.BadLine file line RunFault) h = absurd cc
 only-memory (endings.BadLine file line cause) h = absurd cc
 only-memory (endings.BadListing key error) h = absurd cc
 only-memory endings.NoControlPath h = absurd cc
-only-memory endings.NotServed h = absurd cc
 only-memory endings.NotOpened h = absurd cc
 only-memory endings.TransportFailed h = absurd cc
 only-memory (endings.ServerBroke index why) h = absurd cc
@@ -192,6 +197,49 @@ still-wire k ending s s' c c' h = on (unshared k ending h) where
   on : Unshared k ending → OnTrue (may_share k (status_of ending)) (WireCause (status_of ending) s s' c c')
   on (inl e) = not_true (may_share k (status_of ending)) (WireCause (status_of ending) s s' c c') e
   on (inr e) = subst (λ x. OnTrue (may_share k x) (WireCause x s s' c c')) (sym e) (on_true (may_share k statuses.Memory) (WireCause statuses.Memory s s' c c') tt)
+
+pub still-waits : (k : Known) (ending : Ending) (turns : ℕ) (old new : Calls) → IsRefused k ending → OnTrue (may_share k (status_of ending)) (WaitsFor turns (status_of ending) old new)
+still-waits k ending turns old new h = on (unshared k ending h) where
+  on : Unshared k ending → OnTrue (may_share k (status_of ending)) (WaitsFor turns (status_of ending) old new)
+  on (inl e) = not_true (may_share k (status_of ending)) (WaitsFor turns (status_of ending) old new) e
+  on (inr e) = subst (λ x. OnTrue (may_share k x) (WaitsFor turns x old new)) (sym e) (on_true (may_share k statuses.Memory) (WaitsFor turns statuses.Memory old new) tt)
+
+-- where a drill is refused memory is wanting
+drill-starved : (k : Known) (ending : Ending) → IsRefused k ending → drills k ≡ true → status_of ending ≡ statuses.Memory
+drill-starved (Certain (Drills seed clients messages)) ends.NoMemory h d = refl
+drill-starved (Certain (Drills seed clients messages)) (ends.BadLine (At file line ReadFault)) h d = absurd cc
+drill-starved (Certain (Drills seed clients messages)) (ends.BadLine (At file line RunFault)) h d = absurd cc
+drill-starved (Certain (Drills seed clients messages)) ending h d = absurd h
+drill-starved (Certain (Ends due)) ending h d = absurd cc
+drill-starved (Certain (Writes text)) ending h d = absurd cc
+drill-starved (Certain (Opens control transport os ls)) ending h d = absurd cc
+drill-starved Listing ending h d = absurd cc
+drill-starved (Master transport os ls) ending h d = absurd cc
+
+-- what holds where a wire may have been opened for a master
+pub for-master : (opened shares drilled : Bool) (P : Type 0) → drilled ≡ false → OnTrue (opened && shares) P → OnTrue (opened && (shares || drilled)) P
+for-master false shares drilled P e h = tt
+for-master true true drilled P e h = h
+for-master true false true P e h = absurd cc
+for-master true false false P e h = h
+
+pub still-waited : (k : Known) (ending : Ending) (turns : ℕ) (old new : Calls) → IsRefused k ending → OnTrue (touches k (status_of ending)) (WaitsFor turns (status_of ending) old new)
+still-waited k ending turns old new h = by_drill (drills k) refl where
+  by_drill : (d : Bool) → drills k ≡ d → OnTrue (touches k (status_of ending)) (WaitsFor turns (status_of ending) old new)
+  by_drill true e = subst (λ x. OnTrue (touches k x) (WaitsFor turns x old new)) (sym (drill-starved k ending h e)) (on_true (touches k statuses.Memory) (WaitsFor turns statuses.Memory old new) tt)
+  by_drill false e = for-master (may_open (status_of ending)) (opens k) (drills k) (WaitsFor turns (status_of ending) old new) e (still-waits k ending turns old new h)
+
+-- what opens nothing
+pub shut-all : (k : Known) (status : Status) → opens k ≡ false → drills k ≡ false → touches k status ≡ false
+shut-all k status e d = rw (e, d) (and-false (may_open status)) where
+  and-false : (b : Bool) → (b && false) ≡ false
+  and-false true = refl
+  and-false false = refl
+
+pub still-idle : (status : Status) (s c : ℕ) → IdleCause status s s c c
+still-idle statuses.Open s c = tt
+still-idle statuses.Memory s c = tt
+still-idle status s c = record { same_server = refl; same_client = refl }
 
 -- ---- words without a command to obey
 
@@ -226,9 +274,6 @@ of-drill (Some m) words seed clients messages is = ap (λ r. Certain (outcome_by
 pub misread : (m : Option Machine) (words : List Bytes) (e : WordsError) → Fails e (reading words) → IsRefused (of_words m words) (shown (misread_as e))
 misread m words words_errors.OutOfMemory h = tt
 misread m words (words_errors.Refused e) h = subst (λ k. IsRefused k (ends.BadWords e)) (sym (of-refused m words e h)) refl
-
-pub drilled : (m : Option Machine) (words : List Bytes) (seed clients messages : ℕ) → reading words ≡ Ok (commands.Drill seed clients messages) → IsRefused (of_words m words) ends.NotServed
-drilled m words seed clients messages is = subst (λ k. IsRefused k ends.NotServed) (sym (of-drill m words seed clients messages is)) refl
 
 -- ---- commands that were run
 
@@ -269,8 +314,8 @@ pub misread-runs : (m : Option Machine) (words : List Bytes) (e : WordsError) (b
 misread-runs m words words_errors.OutOfMemory before h = starved-runs (commands_for m words) before
 misread-runs m words (words_errors.Refused e) before h = idle-runs m words statuses.Usage before (no-commands m words e h)
 
-pub drilled-runs : (m : Option Machine) (words : List Bytes) (seed clients messages : ℕ) (before : Option (List Bytes)) → reading words ≡ Ok (commands.Drill seed clients messages) → RunsFor (commands_for m words) statuses.NotBuilt before before
-drilled-runs m words seed clients messages before is = idle-runs m words statuses.NotBuilt before (no-drill-commands m words seed clients messages is)
+pub drilled-runs : (m : Option Machine) (words : List Bytes) (seed clients messages : ℕ) (status : Status) (before : Option (List Bytes)) → reading words ≡ Ok (commands.Drill seed clients messages) → RunsFor (commands_for m words) status before before
+drilled-runs m words seed clients messages status before is = idle-runs m words status before (no-drill-commands m words seed clients messages is)
 
 pub misread-cause : (e : WordsError) (f r : ℕ) → EndCause (shown (misread_as e)) f f r r
 misread-cause words_errors.OutOfMemory f r = (omega arith, omega arith)

@@ -2,7 +2,7 @@
 use Rattle.std.specs.Prelude.{◌≡◌, ◌⊎◌, ◌&&◌, ◌||◌, Bool, true, false, IsTrue, Result, Ok, Err}
 use Rattle.conf_rules.specs.declared.causes.Cause.TheVariants.{ReadFault, RunFault}
 use Rattle.conf_rules.specs.declared.causes.ResolveError.TheVariants.{At}
-use Rattle.conf_rules.specs.Diagnostics.{Ending, BadLine, BadListing, NoControlPath, NotServed}
+use Rattle.conf_rules.specs.Diagnostics.{Ending, BadLine, BadListing, NoControlPath}
 use Rattle.conf_rules.specs.Diagnostics.{NotOpened, TransportFailed, ServerBroke, TurnsSpent, NoMemory}
 use Rattle.conf_rules.specs.Outcome.{Outcome, Ends, Writes, Opens, Drills}
 use Rattle.ssh_mux.specs.declared.ending.Ending.{Ending as MeantEnding}
@@ -10,7 +10,8 @@ use Rattle.ssh_mux.specs.declared.status.Status.{Status}
 use Rattle.ssh_mux.specs.declared.status.Status.TheVariants.{Done, Usage, Config, Outside}
 use Rattle.ssh_mux.specs.declared.status.Status.TheVariants.{Write, Memory}
 use Rattle.ssh_mux.specs.Ending.{shown}
-use Rattle.ssh_mux.specs.Outcomes.{Known, Certain, Listing, Master, looks, lists, opens, succeeds}
+use Rattle.ssh_mux.specs.Outcomes.{Known, Certain, Listing, Master, looks, writes_out, opens}
+use Rattle.ssh_mux.specs.Outcomes.{drills, succeeds}
 use Rattle.ssh_mux.specs.Status.{status_of}
 
 -- ---- endings
@@ -26,7 +27,7 @@ abbrev pub refuses_master : Ending → Bool
 refuses_master NoControlPath = true
 refuses_master ending = is_refusal ending
 
--- whether a master may end so: its sockets weren't opened, or it was served
+-- whether a master or a drill may end so: its sockets weren't opened, or it was served
 abbrev pub ends_master : Ending → Bool
 ends_master NotOpened = true
 ends_master TransportFailed = true
@@ -43,7 +44,7 @@ IsDue known (BadLine (At file line RunFault)) = IsTrue (looks known)
 IsDue (Certain (Ends due)) ending = ending ≡ due
 IsDue (Certain (Writes text)) ending = ⊥
 IsDue (Certain (Opens control transport opens listens)) ending = IsTrue (ends_master ending)
-IsDue (Certain (Drills seed clients messages)) ending = ending ≡ NotServed
+IsDue (Certain (Drills seed clients messages)) ending = IsTrue (ends_master ending)
 IsDue Listing ending = IsTrue (is_refusal ending)
 IsDue (Master transport opens listens) ending = IsTrue (refuses_master ending || ends_master ending)
 
@@ -55,7 +56,7 @@ IsRefused known (BadLine (At file line RunFault)) = IsTrue (looks known)
 IsRefused (Certain (Ends due)) ending = ending ≡ due
 IsRefused (Certain (Writes text)) ending = ⊥
 IsRefused (Certain (Opens control transport opens listens)) ending = ⊥
-IsRefused (Certain (Drills seed clients messages)) ending = ending ≡ NotServed
+IsRefused (Certain (Drills seed clients messages)) ending = ⊥
 IsRefused Listing ending = IsTrue (is_refusal ending)
 IsRefused (Master transport opens listens) ending = IsTrue (refuses_master ending)
 
@@ -75,7 +76,7 @@ is_silent other = false
 -- a status without a line
 abbrev pub IsWell : Known → Status → Type 0
 IsWell known Done = IsTrue (succeeds known)
-IsWell known Write = IsTrue (lists known)
+IsWell known Write = IsTrue (writes_out known)
 IsWell known other = ⊥
 
 -- how a run went before its line is written
@@ -102,6 +103,10 @@ may_open Config = false
 may_open Outside = false
 may_open other = true
 
--- whether one may have been opened for what is known to come
+-- whether one may have been opened for a master, from what is known to come
 abbrev pub may_share : Known → Status → Bool
 may_share known status = may_open status && opens known
+
+-- whether one may have been opened at all: for a master or a drill
+abbrev pub touches : Known → Status → Bool
+touches known status = may_open status && (opens known || drills known)

@@ -16,7 +16,6 @@ shown (endings.BadWords e) = defined.BadWords e
 shown (endings.BadLine file line cause) = defined.BadLine (resolve_errors.At file line cause)
 shown (endings.BadListing key error) = defined.BadListing (list_errors.Token key error)
 shown endings.NoControlPath = defined.NoControlPath
-shown endings.NotServed = defined.NotServed
 shown endings.NotOpened = defined.NotOpened
 shown endings.TransportFailed = defined.TransportFailed
 shown (endings.ServerBroke index why) = defined.ServerBroke index (break_text why)

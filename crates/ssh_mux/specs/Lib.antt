@@ -9,3 +9,4 @@ pub mod Out
 pub mod Err
 pub mod Master
 pub mod Sharing
+pub mod Drill

@@ -74,13 +74,19 @@ looks (Certain (Ends (BadWords e))) = false
 looks (Certain (Drills seed clients messages)) = false
 looks other = true
 
--- whether a listing may be written
-abbrev pub lists : Known → Bool
-lists (Certain (Writes text)) = true
-lists Listing = true
-lists other = false
+-- whether a listing or the summary of a drill may be written
+abbrev pub writes_out : Known → Bool
+writes_out (Certain (Writes text)) = true
+writes_out (Certain (Drills seed clients messages)) = true
+writes_out Listing = true
+writes_out other = false
 
--- whether a wire may be opened
+-- whether a drill was asked for
+abbrev pub drills : Known → Bool
+drills (Certain (Drills seed clients messages)) = true
+drills other = false
+
+-- whether a wire may be opened for a master
 abbrev pub opens : Known → Bool
 opens (Certain (Opens control transport permitted_opens permitted_listens)) = true
 opens (Master transport permitted_opens permitted_listens) = true
@@ -89,5 +95,4 @@ opens other = false
 -- whether it may succeed
 abbrev pub succeeds : Known → Bool
 succeeds (Certain (Ends ending)) = false
-succeeds (Certain (Drills seed clients messages)) = false
 succeeds other = true

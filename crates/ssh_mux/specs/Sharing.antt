@@ -1,24 +1,24 @@
 -- What a master opens, and how its run goes.
-use Rattle.std.specs.Prelude.{◌≡◌, ◌≢◌, ◌≤◌, ◌+◌, ℕ, ◌⊎◌, List, [], ◌∷◌, ◌++◌, Option, Some, None, option_map, Result, Ok, Err}
-use Rattle.conf_rules.specs.Outcome.{Opens}
+use Rattle.std.specs.Prelude.{◌≡◌, ◌≢◌, ◌≤◌, ◌<◌, ◌+◌, ◌-◌, ◌^◌, min, ℕ, ◌⊎◌, List, [], ◌∷◌, ◌++◌, Option, Some, None, option_map, Result, Ok, Err}
+use Rattle.conf_rules.specs.Outcome.{Drills, Opens}
 use Rattle.conf_rules.specs.Texts.{Bytes}
 use Rattle.forward_rules.specs.Allows.{read_policy}
 use Rattle.mux_engine.specs.Run.{IsRun}
 use Rattle.mux_history.specs.declared.ended.Ended.{Ended}
 use Rattle.mux_history.specs.declared.ended.Ended.TheVariants as ends
 use Rattle.mux_history.specs.Policy.{Policy, any_policy}
-use Rattle.mux_outside.specs.Counts.{Rose}
+use Rattle.mux_outside.specs.Counts.{Rose, counted}
 use Rattle.mux_outside.specs.House.{Asked}
 use Rattle.mux_outside.specs.declared.house.HouseReply.{HouseReply}
 use Rattle.mux_outside.specs.declared.mark.Mark.{Mark}
 use Rattle.mux_outside.specs.declared.mark.Opening.{Opening}
 use Rattle.mux_outside.specs.Seen.{Calls}
-use Rattle.mux_outside.specs.Wire.{SomeFault}
+use Rattle.mux_outside.specs.Wire.{SameFaults, SomeFault}
 use Rattle.ssh_mux.specs.declared.ending.Ending.{Ending as MeantEnding}
 use Rattle.ssh_mux.specs.declared.ending.Ending.TheVariants as endings
 use Rattle.ssh_mux.specs.declared.status.Status.{Status}
-use Rattle.ssh_mux.specs.declared.status.Status.TheVariants.{Done, Config, Outside, Open}
-use Rattle.ssh_mux.specs.declared.status.Status.TheVariants.{Transport, Memory}
+use Rattle.ssh_mux.specs.declared.status.Status.TheVariants.{Done, Config, Outside, Write}
+use Rattle.ssh_mux.specs.declared.status.Status.TheVariants.{Open, Transport, Broke, Spent, Memory}
 use Rattle.ssh_mux.specs.Ending.{shown}
 use Rattle.ssh_mux.specs.Err.{Reports}
 use Rattle.ssh_mux.specs.Outcomes.{Known, Certain, Master}
@@ -49,11 +49,13 @@ OpensSome transport Outside before now = now ≡ before
 OpensSome transport Memory before now = (now ≡ before) ⊎ OpensBy transport before now
 OpensSome transport status before now = OpensBy transport before now
 
--- the same of what comes of words: only a master opens the wire, and none behind a fault
+-- the same of what comes of words: but for a drill, of which `IsDrill` says it, only a master opens
+-- the wire, and none behind a fault
 abbrev pub OpensOnce : Known → Status → Option (List Opening) → Option (List Opening) → Type 0
 OpensOnce (Certain (Opens control transport opens listens)) Outside before now = now ≡ before
 OpensOnce (Certain (Opens control transport opens listens)) status before now =
     OpensAt control transport status before now
+OpensOnce (Certain (Drills seed clients messages)) status before now = Unit
 OpensOnce (Master transport opens listens) status before now = OpensSome transport status before now
 OpensOnce known status before now = now ≡ before
 
@@ -154,3 +156,21 @@ pub record CallsEnd (turns : ℕ) (status : Status) (old new : Calls) : Type 0 w
   pub wants : new.wants ≤ old.wants + 1
   pub starved : new.wants ≢ old.wants → status ≡ Memory
   pub late : old.wants ≡ 0 → new.late ≡ old.late
+
+-- Where all turns were taken `wait` was called once for each, and a run with another end but for
+-- want of memory called it at least once; its count stays at the end of its type.
+abbrev pub WaitsFor : ℕ → Status → Calls → Calls → Type 0
+WaitsFor turns Spent old new =
+    old.waits < 2 ^ 64 → new.waits ≡ min (old.waits + turns) (2 ^ 64 - 1)
+WaitsFor turns Done old new = counted old.waits ≤ new.waits
+WaitsFor turns Write old new = counted old.waits ≤ new.waits
+WaitsFor turns Transport old new = counted old.waits ≤ new.waits
+WaitsFor turns Broke old new = counted old.waits ≤ new.waits
+WaitsFor turns status old new = Unit
+
+-- what a run without turns leaves of the counts of faults: both, but where the sockets weren't opened
+-- or memory was wanting
+abbrev pub IdleCause : Status → ℕ → ℕ → ℕ → ℕ → Type 0
+IdleCause Open server server' client client' = Unit
+IdleCause Memory server server' client client' = Unit
+IdleCause status server server' client client' = SameFaults server server' client client'

@@ -6,12 +6,12 @@ use Rattle.conf_rules.specs.declared.causes.ListError.TheVariants as list_errors
 use Rattle.conf_rules.specs.declared.causes.ResolveError.{ResolveError}
 use Rattle.conf_rules.specs.declared.causes.ResolveError.TheVariants as resolve_errors
 use Rattle.conf_rules.specs.Diagnostics.{Ending, BadWords, BadLine, BadListing, NoControlPath}
-use Rattle.conf_rules.specs.Diagnostics.{NotServed, NotOpened, TransportFailed, ServerBroke}
+use Rattle.conf_rules.specs.Diagnostics.{NotOpened, TransportFailed, ServerBroke}
 use Rattle.conf_rules.specs.Diagnostics.{TurnsSpent, NoMemory}
 use Rattle.ssh_mux.specs.declared.status.Status.{Status}
 use Rattle.ssh_mux.specs.declared.status.Status.TheVariants.{Done, Usage, Config, Outside}
 use Rattle.ssh_mux.specs.declared.status.Status.TheVariants.{Write, Open, Transport, Broke}
-use Rattle.ssh_mux.specs.declared.status.Status.TheVariants.{Spent, Memory, NotBuilt}
+use Rattle.ssh_mux.specs.declared.status.Status.TheVariants.{Spent, Memory}
 
 -- what the program's caller sees: 255, as of ssh itself, where words or configuration are refused
 abbrev pub code_of : Status → ℕ
@@ -25,7 +25,6 @@ code_of Transport = 6
 code_of Broke = 7
 code_of Spent = 8
 code_of Memory = 9
-code_of NotBuilt = 255
 
 -- the status of a configuration that is refused
 abbrev pub refusal_status : ResolveError → Status
@@ -45,7 +44,6 @@ status_of (BadWords e) = Usage
 status_of (BadLine e) = refusal_status e
 status_of (BadListing e) = listing_status e
 status_of NoControlPath = Config
-status_of NotServed = NotBuilt
 status_of NotOpened = Open
 status_of TransportFailed = Transport
 status_of (ServerBroke index why) = Broke

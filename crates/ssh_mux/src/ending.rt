@@ -1,5 +1,6 @@
 ghost use Rattle.std.specs.Prelude.{◌≡◌, ◌++◌, OnOk, IfOk};
 ghost use Rattle.conf_rules.specs.Diagnostics.{line_of, text_of, located, cause_text};
+ghost use Rattle.ssh_mux.specs.declared.ending.Ending.TheVariants.{NoMemory};
 ghost use Rattle.ssh_mux.specs.Ending.{shown, misread_as, refused_as, unlisted_as};
 ghost use Rattle.ssh_mux.specs.Status.{status_of};
 
@@ -22,8 +23,6 @@ pub enum Ending {
     BadListing { key: Key, error: TokenError },
     /// No control path is set.
     NoControlPath,
-    /// What is asked for is not built yet.
-    NotServed,
     /// The sockets could not be opened.
     NotOpened,
     /// The connection to the server failed.
@@ -69,6 +68,14 @@ impl From<ListError> for Ending {
     }
 }
 
+impl From<OutOfMemory> for Ending {
+    ghost from_gives = { λ _ ending. ending ≡ NoMemory };
+
+    fn from(_error: OutOfMemory) -> Ending {
+        Ending::NoMemory
+    }
+}
+
 impl Ending {
     /// The status of the run.
     pub fn status(&self) -> Status
@@ -80,7 +87,6 @@ impl Ending {
                 cause: Cause::ReadFault | Cause::RunFault,
                 ..
             } => Status::Outside,
-            Ending::NotServed => Status::NotBuilt,
             Ending::BadLine { .. } | Ending::BadListing { .. } | Ending::NoControlPath => {
                 Status::Config
             }
@@ -115,7 +121,6 @@ impl Ending {
                 out.add(b": ")?;
                 out.add(usage_text(e.cause))
             }
-            Ending::NotServed => out.add(b"not built yet"),
             Ending::BadLine { file, line, cause } => {
                 put_located(alloc, out, file.as_bytes(), *line, cause)
             }

@@ -1,12 +1,12 @@
-ghost use Rattle.std.specs.Prelude.{◌≡◌, true};
+ghost use Rattle.std.specs.Prelude.{◌≡◌};
 ghost use Rattle.std.specs.Bool.{OnFalse};
 ghost use Rattle.conf_rules.specs.declared.command.Command.TheVariants as commands;
 ghost use Rattle.conf_rules.specs.Outcome.{Writes};
 ghost use Rattle.ssh_mux.specs.Answers.{Comes, Finds, so_far, may_write};
 ghost use Rattle.ssh_mux.specs.Causes.{Caused, OutCause};
 ghost use Rattle.ssh_mux.specs.Commands.{RunsFor, RunsUnless, commands_of};
-ghost use Rattle.ssh_mux.specs.Out.{OutTakes};
-ghost use Rattle.ssh_mux.specs.Outcomes.{Certain, Listing, machine, of_command, lists};
+ghost use Rattle.ssh_mux.specs.Out.{HandsOver, OutTakes};
+ghost use Rattle.ssh_mux.specs.Outcomes.{Listing, machine, of_command, writes_out};
 
 use crate::ending::Ending;
 use crate::status::Status;
@@ -33,7 +33,7 @@ pub fn list<F: Files, R: Runner, S: Sink>(
         (commands.List asked.now)) (S.told out.old) (S.told out.new) }
     ensures unwritten { OnFalse (may_write (so_far result)) (out.new ≡ out.old) }
     ensures unlisted { OnFalse
-        (lists (of_command (machine (F.told files.old) (R.told runner.old) facts.now)
+        (writes_out (of_command (machine (F.told files.old) (R.told runner.old) facts.now)
         (commands.List asked.now))) (out.new ≡ out.old) }
     ensures out_cause { OutCause (so_far result) (S.faults out.old) (S.faults out.new) }
     ensures ran { RunsFor (commands_of (machine (F.told files.old) (R.told runner.old) facts.now)
@@ -66,12 +66,9 @@ fn listing_of<F: Files, R: Runner>(
     Ok(text)
 }
 
-// Hands a listing over, whole.
-fn hand_over<S: Sink>(out: &mut S, text: &[u8]) -> Result<Status, Ending>
-    ensures exact { Comes (Certain (Writes text.now)) result }
-    ensures out { OutTakes (so_far result) (Certain (Writes text.now))
-        (S.told out.old) (S.told out.new) }
-    ensures tried { may_write (so_far result) ≡ true }
+/// Hands a text over, whole: a listing, or the summary of a drill.
+pub fn hand_over<S: Sink>(out: &mut S, text: &[u8]) -> Result<Status, Ending>
+    ensures handed { HandsOver result text.now (S.told out.old) (S.told out.new) }
     ensures cause { OutCause (so_far result) (S.faults out.old) (S.faults out.new) }
 {
     match out.put(text) {

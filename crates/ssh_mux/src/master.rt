@@ -8,8 +8,8 @@ ghost use Rattle.ssh_mux.specs.Causes.{Caused};
 ghost use Rattle.ssh_mux.specs.Commands.{RunsFor, RunsUnless, commands_of};
 ghost use Rattle.ssh_mux.specs.Master.{EndsMaster, OnlyStarves};
 ghost use Rattle.ssh_mux.specs.Outcomes.{Master, machine, of_command, opens_at};
-ghost use Rattle.ssh_mux.specs.Sharing.{CallsEnd, OpensAt, OpensOnce, Shares, WireCause};
-ghost use Rattle.ssh_mux.specs.Sharing.{pid_of, policy_of as the_policy_of, told_as};
+ghost use Rattle.ssh_mux.specs.Sharing.{CallsEnd, IdleCause, OpensAt, OpensOnce, Shares};
+ghost use Rattle.ssh_mux.specs.Sharing.{WaitsFor, WireCause, pid_of, policy_of as the_policy_of, told_as};
 
 use crate::ending::Ending;
 use crate::status::Status;
@@ -58,6 +58,13 @@ pub fn share<W: Wire, F: Files, R: Runner, H: House>(
         (WireCause (so_far result) (W.server_faults wire.old) (W.server_faults wire.new)
         (W.client_faults wire.old) (W.client_faults wire.new)) }
     ensures calls { CallsEnd turns (so_far result) (W.calls wire.old) (W.calls wire.new) }
+    ensures waited { OnTrue (may_share
+        (of_command (machine (F.told files.old) (R.told runner.old) facts.now)
+        (commands.Master asked.now transport.now opens.now listens.now)) (so_far result))
+        (WaitsFor turns (so_far result) (W.calls wire.old) (W.calls wire.new)) }
+    ensures idle { turns ≡ 0 → IdleCause (so_far result)
+        (W.server_faults wire.old) (W.server_faults wire.new)
+        (W.client_faults wire.old) (W.client_faults wire.new) }
     ensures wire { OnFalse (may_share
         (of_command (machine (F.told files.old) (R.told runner.old) facts.now)
         (commands.Master asked.now transport.now opens.now listens.now)) (so_far result))
@@ -106,8 +113,8 @@ fn control_of<F: Files, R: Runner>(
     }
 }
 
-// The policy of permissions without a bad entry.
-fn policy_of(alloc: Global, opens: &Texts, listens: &Texts) -> Result<Policy, Ending>
+/// The policy of permissions without a bad entry.
+pub fn policy_of(alloc: Global, opens: &Texts, listens: &Texts) -> Result<Policy, Ending>
     requires permitted { IsOk (read_policy opens.now listens.now) }
     ensures exact { IfOk result (λ policy. policy ≡ the_policy_of opens.now listens.now) }
     ensures err { OnlyStarves result }
@@ -119,8 +126,8 @@ fn policy_of(alloc: Global, opens: &Texts, listens: &Texts) -> Result<Policy, En
     }
 }
 
-// Opens the wire, and serves it.
-fn open_and_serve<W: Wire, H: House>(
+/// Opens the wire, and serves it.
+pub fn open_and_serve<W: Wire, H: House>(
     alloc: Global,
     control: &Text,
     transport: &Text,
@@ -138,6 +145,10 @@ fn open_and_serve<W: Wire, H: House>(
     ensures cause { WireCause (so_far result) (W.server_faults wire.old) (W.server_faults wire.new)
         (W.client_faults wire.old) (W.client_faults wire.new) }
     ensures calls { CallsEnd turns (so_far result) (W.calls wire.old) (W.calls wire.new) }
+    ensures waited { WaitsFor turns (so_far result) (W.calls wire.old) (W.calls wire.new) }
+    ensures idle { turns ≡ 0 → IdleCause (so_far result)
+        (W.server_faults wire.old) (W.server_faults wire.new)
+        (W.client_faults wire.old) (W.client_faults wire.new) }
 {
     match wire.open(control.as_bytes(), transport.as_bytes()) {
         Ok(()) => ending_of(serve(alloc, policy, pid, wire, house, turns)),

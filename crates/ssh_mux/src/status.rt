@@ -4,7 +4,8 @@ ghost use Rattle.ssh_mux.specs.Status.{code_of};
 /// How a run ended. The program's exit status is its `code`.
 #[derive(Clone, Copy, Debug, PartialEq, Eq)]
 pub enum Status {
-    /// The listing was written, or the server or a client ended the connection.
+    /// The listing was written, or the server or a client ended the connection, whose summary a drill
+    /// has written.
     Done,
     /// The words have no reading.
     Usage,
@@ -12,7 +13,7 @@ pub enum Status {
     Config,
     /// A file could not be read, or a command could not be run.
     Outside,
-    /// The listing could not be written.
+    /// The listing or the summary of a drill could not be written.
     Write,
     /// The sockets could not be opened.
     Open,
@@ -24,8 +25,6 @@ pub enum Status {
     Spent,
     /// There was no memory.
     Memory,
-    /// What was asked for is not built yet.
-    NotBuilt,
 }
 
 impl Status {
@@ -35,7 +34,7 @@ impl Status {
     {
         match self {
             Status::Done => 0,
-            Status::Usage | Status::Config | Status::NotBuilt => 255,
+            Status::Usage | Status::Config => 255,
             Status::Outside => 3,
             Status::Write => 4,
             Status::Open => 5,

@@ -1,6 +1,6 @@
 use Rattle.std.proofs.lemmas.Result.{err_from_is_err_and}
 use Rattle.ssh_mux.proofs.CauseLemmas.{written-cause, all-ran}
-use Rattle.ssh_mux.proofs.ListLemmas.{list-comes, list-taken, list-lists}
+use Rattle.ssh_mux.proofs.ListLemmas.{handed-comes, handed-taken, handed-tried, list-comes, list-taken, list-writes}
 use Rattle.ssh_mux.proofs.StillLemmas.{on_false, not_false, still-due, quiet-out, quiet-count, loud}
 use Rattle.ssh_mux.proofs.listing.list.Goals as goal
 
@@ -26,19 +26,19 @@ pub returns-in_err-text-clause-cause : goal.returns-in_err-text-clause-cause
 returns-in_err-text-clause-cause g c = let p = err_from_is_err_and c.from_residual.result c.from_residual.ensures.1 in rw (p.1, p.2) c.in_err-text.ensures.cause
 
 pub returns-clause-exact : goal.returns-clause-exact
-returns-clause-exact g c = list-comes _ _ _ c.in_ok-text.ensures.exact (rw c.as_bytes.ensures at c.hand_over.ensures.exact)
+returns-clause-exact g c = list-comes _ _ _ c.in_ok-text.ensures.exact (handed-comes _ _ _ _ (rw c.as_bytes.ensures at c.hand_over.ensures.handed))
 
 pub returns-clause-out : goal.returns-clause-out
-returns-clause-out g c = list-taken _ _ _ _ _ c.in_ok-text.ensures.exact (rw c.as_bytes.ensures at c.hand_over.ensures.out)
+returns-clause-out g c = list-taken _ _ _ _ _ c.in_ok-text.ensures.exact (handed-taken _ _ _ _ (rw c.as_bytes.ensures at c.hand_over.ensures.handed))
 
 pub returns-clause-unwritten : goal.returns-clause-unwritten
-returns-clause-unwritten g c = not_false _ _ c.hand_over.ensures.tried
+returns-clause-unwritten g c = not_false _ _ (handed-tried _ _ _ _ c.hand_over.ensures.handed)
 
 pub returns-clause-unlisted : goal.returns-clause-unlisted
-returns-clause-unlisted g c = not_false _ _ (list-lists _ _ c.in_ok-text.ensures.exact)
+returns-clause-unlisted g c = not_false _ _ (list-writes _ _ c.in_ok-text.ensures.exact)
 
 pub returns-clause-ran : goal.returns-clause-ran
 returns-clause-ran g c = all-ran _ _ _ _ _ c.in_ok-text.ensures.ran
 
 pub returns-clause-cause : goal.returns-clause-cause
-returns-clause-cause g c = written-cause _ _ _ _ _ c.hand_over.ensures.tried c.in_ok-text.ensures.cause
+returns-clause-cause g c = written-cause _ _ _ _ _ (handed-tried _ _ _ _ c.hand_over.ensures.handed) c.in_ok-text.ensures.cause

@@ -7,7 +7,7 @@ use Rattle.ssh_mux.specs.Outcomes.{machine, of_command}
 use Rattle.ssh_mux.specs.Sharing.{pid_of, policy_of}
 use Rattle.ssh_mux.proofs.CauseLemmas.{shared-cause, all-ran}
 use Rattle.ssh_mux.proofs.SharingLemmas.{pid_is, master-comes, master-opens, master-opened, master-shares}
-use Rattle.ssh_mux.proofs.StillLemmas.{on_false, on_true, not_false, still-due, still-opened, still-shared, still-wire, still-calls, starved-due}
+use Rattle.ssh_mux.proofs.StillLemmas.{on_false, on_true, not_false, still-due, still-opened, still-shared, still-wire, still-calls, still-idle, still-waits, starved-due}
 use Rattle.ssh_mux.proofs.master.share.Goals as goal
 
 pub returns-in_err-control-clause-exact : goal.returns-in_err-control-clause-exact
@@ -87,3 +87,18 @@ returns-in_err-policy-clause-cause g c = let p = err_from_is_err_and c.from_resi
 
 pub returns-in_err-policy-clause-calls : goal.returns-in_err-policy-clause-calls
 returns-in_err-policy-clause-calls g c = still-calls _ _ _
+
+pub returns-in_err-control-clause-waited : goal.returns-in_err-control-clause-waited
+returns-in_err-control-clause-waited g c = let p = err_from_is_err_and c.from_residual.result c.from_residual.ensures.1 in rw (p.1, p.2) (still-waits _ _ _ _ _ (c.in_err-control.ensures.exact _ _ _))
+
+pub returns-in_err-control-clause-idle : goal.returns-in_err-control-clause-idle
+returns-in_err-control-clause-idle g c = λ z. still-idle _ _ _
+
+pub returns-in_err-policy-clause-waited : goal.returns-in_err-policy-clause-waited
+returns-in_err-policy-clause-waited g c = let p = err_from_is_err_and c.from_residual-in_err-policy.result c.from_residual-in_err-policy.ensures.1 in let e = c.in_err-policy.ensures.err in rw (p.1, p.2, e) (still-waits (of_command (machine (g.F.Files.told c.args.files.now) (g.R.Runner.told c.args.runner.now) c.args.facts.now) (commands.Master c.args.asked.now c.args.transport.now c.args.opens.now c.args.listens.now)) ends.NoMemory c.args.turns (g.W.Wire.calls c.args.wire.now) (g.W.Wire.calls c.args.wire.now) (starved-due (of_command (machine (g.F.Files.told c.args.files.now) (g.R.Runner.told c.args.runner.now) c.args.facts.now) (commands.Master c.args.asked.now c.args.transport.now c.args.opens.now c.args.listens.now))))
+
+pub returns-in_err-policy-clause-idle : goal.returns-in_err-policy-clause-idle
+returns-in_err-policy-clause-idle g c = λ z. still-idle _ _ _
+
+pub returns-clause-waited : goal.returns-clause-waited
+returns-clause-waited g c = on_true _ _ c.open_and_serve.ensures.waited

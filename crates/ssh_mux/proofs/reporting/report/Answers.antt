@@ -1,7 +1,7 @@
 use Rattle.std.proofs.Common.{refl}
 use Rattle.conf_rules.specs.Diagnostics.{line_of, text_of}
 use Rattle.ssh_mux.proofs.LineLemmas.{reports, reports_memory}
-use Rattle.ssh_mux.proofs.report.report.Goals as goal
+use Rattle.ssh_mux.proofs.reporting.report.Goals as goal
 
 pub returns-in-Ok : goal.returns-in-Ok
 returns-in-Ok g c = let puts = rw c.as_bytes.ensures at c.put_line.ensures in reports _ _ _ _ _ _ _ _ c.status.ensures c.in-Ok.ensures puts

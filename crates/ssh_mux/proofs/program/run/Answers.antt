@@ -1,5 +1,6 @@
-use Rattle.ssh_mux.proofs.EndLemmas.{ended, ended-well, well-cause, out_after, untouched_after, fault_after, runs_after, sink_after, opened_after, shared_after, shared_well, calls_after, wire_after, stays_after, same_told}
-use Rattle.ssh_mux.proofs.run.run.Goals as goal
+use Rattle.ssh_mux.proofs.DrillLemmas.{drill_after, drill_well}
+use Rattle.ssh_mux.proofs.EndLemmas.{ended, ended-well, well-cause, out_after, untouched_after, fault_after, runs_after, sink_after, opened_after, shared_after, shared_well, calls_after, idle_after, waits_after, wire_after, stays_after, same_told}
+use Rattle.ssh_mux.proofs.program.run.Goals as goal
 
 pub returns-in-Ok-clause-ended : goal.returns-in-Ok-clause-ended
 returns-in-Ok-clause-ended g c = ended-well _ _ _ _ _ _ _ _ c.in-Ok.ensures.exact
@@ -45,3 +46,15 @@ returns-in-Err-clause-wire g c = stays_after _ _ _ _ _ _ _ _ c.report.ensures c.
 
 pub returns-in-Err-clause-house : goal.returns-in-Err-clause-house
 returns-in-Err-clause-house g c = stays_after _ _ _ _ _ _ _ _ c.report.ensures c.in-Err.ensures.house
+
+pub returns-in-Ok-clause-drill : goal.returns-in-Ok-clause-drill
+returns-in-Ok-clause-drill g c = drill_well _ _ _ _ _ _ _ _ _ _ _ _ _ _ _ _ _ c.in-Ok.ensures.drill
+
+pub returns-in-Err-clause-drill : goal.returns-in-Err-clause-drill
+returns-in-Err-clause-drill g c = drill_after _ _ _ _ _ _ _ _ _ _ _ _ _ _ _ _ _ _ _ _ c.report.ensures c.in-Err.ensures.drill
+
+pub returns-in-Err-clause-waited : goal.returns-in-Err-clause-waited
+returns-in-Err-clause-waited g c = waits_after _ _ _ _ _ _ _ _ _ _ c.report.ensures c.in-Err.ensures.waited
+
+pub returns-in-Err-clause-idle : goal.returns-in-Err-clause-idle
+returns-in-Err-clause-idle g c = λ z. idle_after _ _ _ _ _ _ _ _ _ _ c.report.ensures (c.in-Err.ensures.idle z)

@@ -1,18 +1,20 @@
 ghost use Rattle.std.specs.Prelude.{◌≡◌};
 ghost use Rattle.std.specs.Bool.{OnFalse, OnTrue};
-ghost use Rattle.ssh_mux.specs.Answers.{Comes, so_far, may_write, may_share};
+ghost use Rattle.ssh_mux.specs.Answers.{Comes, so_far, may_write, may_share, touches};
 ghost use Rattle.ssh_mux.specs.Causes.{Caused, FaultCause, OutCause};
 ghost use Rattle.ssh_mux.specs.Commands.{RunsFor, commands_for};
+ghost use Rattle.ssh_mux.specs.Drill.{DrillGoes, IsDrill};
 ghost use Rattle.ssh_mux.specs.Err.{Ended};
 ghost use Rattle.ssh_mux.specs.Out.{OutTakes};
-ghost use Rattle.ssh_mux.specs.Outcomes.{machine, of_words, lists, looks};
-ghost use Rattle.ssh_mux.specs.Sharing.{CallsEnd, OpensOnce, Serves, Shares, WireCause};
-ghost use Rattle.ssh_mux.specs.Sharing.{pid_of, policy_in};
+ghost use Rattle.ssh_mux.specs.Outcomes.{machine, of_words, drills, looks, writes_out};
+ghost use Rattle.ssh_mux.specs.Sharing.{CallsEnd, IdleCause, OpensOnce, Serves, Shares};
+ghost use Rattle.ssh_mux.specs.Sharing.{WaitsFor, WireCause, pid_of, policy_in};
 
+use crate::drill::drill;
 use crate::ending::Ending;
 use crate::listing::list;
 use crate::master::share;
-use crate::report::report;
+use crate::reporting::report;
 use crate::status::Status;
 use conf_command::read_words;
 use conf_rules::Command;
@@ -24,9 +26,11 @@ use std::alloc::Global;
 ///
 /// `words` are the program's words without its name. What they ask for is resolved over `files`,
 /// whose commands `runner` runs. The listing of `-G` goes to `out` in one `put`, once it is
-/// complete. `-M` opens the wire and serves it for at most `turns` turns. A status other than that
-/// of success or of a failed `out` has its one line, which goes to `err` in one `put`; where there
-/// is no memory for it the status is that of want of memory.
+/// complete. `-M` opens the wire and serves it for at most `turns` turns. `--drill` does so too, for
+/// clients that are permitted anything but forwardings of the master's own, and where its run ends
+/// well the summary of what the wire has counted goes to `out` in one `put`. A status other than
+/// that of success or of a failed `out` has its one line, which goes to `err` in one `put`; where
+/// there is no memory for it the status is that of want of memory.
 pub fn run<W: Wire, F: Files, R: Runner, S: Sink, H: House>(
     alloc: Global,
     words: &Texts,
@@ -50,7 +54,7 @@ pub fn run<W: Wire, F: Files, R: Runner, S: Sink, H: House>(
         (S.told out.old) (S.told out.new) }
     ensures unwritten { OnFalse (may_write result) (out.new ≡ out.old) }
     ensures unlisted { OnFalse
-        (lists (of_words (machine (F.told files.old) (R.told runner.old) facts.now) words.now))
+        (writes_out (of_words (machine (F.told files.old) (R.told runner.old) facts.now) words.now))
         (out.new ≡ out.old) }
     ensures out_cause { OutCause result (S.faults out.old) (S.faults out.new) }
     ensures ran { RunsFor
@@ -77,7 +81,21 @@ pub fn run<W: Wire, F: Files, R: Runner, S: Sink, H: House>(
         result) (WireCause result (W.server_faults wire.old) (W.server_faults wire.new)
         (W.client_faults wire.old) (W.client_faults wire.new)) }
     ensures calls { CallsEnd turns result (W.calls wire.old) (W.calls wire.new) }
-    ensures wire { OnFalse (may_share
+    ensures waited { OnTrue (touches
+        (of_words (machine (F.told files.old) (R.told runner.old) facts.now) words.now)
+        result) (WaitsFor turns result (W.calls wire.old) (W.calls wire.new)) }
+    ensures idle { turns ≡ 0 → IdleCause result
+        (W.server_faults wire.old) (W.server_faults wire.new)
+        (W.client_faults wire.old) (W.client_faults wire.new) }
+    ensures drill { OnTrue
+        (drills (of_words (machine (F.told files.old) (R.told runner.old) facts.now) words.now))
+        (IsDrill words.now turns result (W.openings wire.old) (W.openings wire.new)
+        (W.seen wire.old).told (W.seen wire.new).told (W.tally wire.new)
+        (S.told out.old) (S.told out.new) (S.told err.old) (S.told err.new)
+        (S.faults err.old) (S.faults err.new)
+        (W.server_faults wire.old) (W.server_faults wire.new)
+        (W.client_faults wire.old) (W.client_faults wire.new)) }
+    ensures wire { OnFalse (touches
         (of_words (machine (F.told files.old) (R.told runner.old) facts.now) words.now)
         result) (wire.new ≡ wire.old) }
     ensures house { OnFalse (may_share
@@ -112,7 +130,7 @@ fn obey<W: Wire, F: Files, R: Runner, S: Sink, H: House>(
         (S.told out.old) (S.told out.new) }
     ensures unwritten { OnFalse (may_write (so_far result)) (out.new ≡ out.old) }
     ensures unlisted { OnFalse
-        (lists (of_words (machine (F.told files.old) (R.told runner.old) facts.now) words.now))
+        (writes_out (of_words (machine (F.told files.old) (R.told runner.old) facts.now) words.now))
         (out.new ≡ out.old) }
     ensures out_cause { OutCause (so_far result) (S.faults out.old) (S.faults out.new) }
     ensures ran { RunsFor
@@ -139,7 +157,20 @@ fn obey<W: Wire, F: Files, R: Runner, S: Sink, H: House>(
         (W.server_faults wire.old) (W.server_faults wire.new)
         (W.client_faults wire.old) (W.client_faults wire.new)) }
     ensures calls { CallsEnd turns (so_far result) (W.calls wire.old) (W.calls wire.new) }
-    ensures wire { OnFalse (may_share
+    ensures waited { OnTrue (touches
+        (of_words (machine (F.told files.old) (R.told runner.old) facts.now) words.now)
+        (so_far result)) (WaitsFor turns (so_far result) (W.calls wire.old) (W.calls wire.new)) }
+    ensures idle { turns ≡ 0 → IdleCause (so_far result)
+        (W.server_faults wire.old) (W.server_faults wire.new)
+        (W.client_faults wire.old) (W.client_faults wire.new) }
+    ensures drill { OnTrue
+        (drills (of_words (machine (F.told files.old) (R.told runner.old) facts.now) words.now))
+        (DrillGoes words.now turns result (W.openings wire.old) (W.openings wire.new)
+        (W.seen wire.old).told (W.seen wire.new).told (W.tally wire.new)
+        (S.told out.old) (S.told out.new)
+        (W.server_faults wire.old) (W.server_faults wire.new)
+        (W.client_faults wire.old) (W.client_faults wire.new)) }
+    ensures wire { OnFalse (touches
         (of_words (machine (F.told files.old) (R.told runner.old) facts.now) words.now)
         (so_far result)) (wire.new ≡ wire.old) }
     ensures house { OnFalse (may_share
@@ -157,6 +188,6 @@ fn obey<W: Wire, F: Files, R: Runner, S: Sink, H: House>(
         } => share(
             alloc, &asked, &transport, &opens, &listens, facts, wire, files, runner, house, turns,
         ),
-        Command::Drill { .. } => Err(Ending::NotServed),
+        Command::Drill { .. } => drill(alloc, words, wire, out, turns),
     }
 }

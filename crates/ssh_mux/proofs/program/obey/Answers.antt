@@ -1,16 +1,16 @@
-use Rattle.std.proofs.Common.{refl}
+use Rattle.std.proofs.Common.{◌≡◌, refl}
 use Rattle.std.proofs.lemmas.Result.{err_from_is_err_and}
-use Rattle.conf_rules.specs.Diagnostics as ends
-use Rattle.ssh_mux.specs.declared.ending.Ending.TheVariants as endings
-use Rattle.ssh_mux.specs.declared.status.Status.TheVariants as statuses
-use Rattle.ssh_mux.specs.Answers.{so_far}
-use Rattle.ssh_mux.specs.Outcomes.{machine, of_words}
-use Rattle.ssh_mux.specs.Sharing.{Shares, pid_of, policy_in}
+use Rattle.conf_rules.specs.declared.command.Command.TheVariants as commands
+use Rattle.ssh_mux.specs.Answers.{may_open, so_far}
+use Rattle.conf_rules.specs.Outcome.{Drills}
+use Rattle.ssh_mux.specs.Outcomes.{Certain, drills, machine, of_command, opens}
+use Rattle.ssh_mux.specs.Sharing.{Shares, WaitsFor, pid_of}
+use Rattle.ssh_mux.proofs.DrillLemmas.{drill-cause, drill-comes, drill-takes, drill-touches, still-drill}
 use Rattle.ssh_mux.proofs.PolicyLemmas.{are-permitted, with-policy}
-use Rattle.ssh_mux.proofs.RefusalLemmas.{list-looks, list-shut, master-looks, master-quiet}
+use Rattle.ssh_mux.proofs.RefusalLemmas.{list-looks, list-shut, list-undrilled, master-looks, master-quiet, master-undrilled}
 use Rattle.ssh_mux.proofs.SharingLemmas.{none-opened, none-taken, none-counted}
-use Rattle.ssh_mux.proofs.StillLemmas.{on_false, not_false, not_true, shut, loud, quiet-out, quiet-count, still-due, still-opened, still-shared, still-wire, still-calls, of-read, for-read, misread, misread-runs, misread-cause, drilled, drilled-runs}
-use Rattle.ssh_mux.proofs.run.obey.Goals as goal
+use Rattle.ssh_mux.proofs.StillLemmas.{on_false, not_false, not_true, shut, loud, quiet-out, quiet-count, still-due, still-opened, still-shared, still-wire, still-calls, still-idle, still-waited, shut-all, for-master, on_true, untouched, of-drill, of-read, for-read, misread, misread-runs, misread-cause, drilled-runs}
+use Rattle.ssh_mux.proofs.program.obey.Goals as goal
 
 pub returns-in_err-command-clause-exact : goal.returns-in_err-command-clause-exact
 returns-in_err-command-clause-exact g c = let p = err_from_is_err_and c.from_residual.result c.from_residual.ensures.1 in rw (p.1, p.2) (still-due _ _ (misread _ _ _ c.in_err-command.ensures.exact))
@@ -53,39 +53,6 @@ returns-in_err-command-clause-wire g c = on_false _ _
 
 pub returns-in_err-command-clause-house : goal.returns-in_err-command-clause-house
 returns-in_err-command-clause-house g c = on_false _ _
-
-pub returns-in-Drill-clause-exact : goal.returns-in-Drill-clause-exact
-returns-in-Drill-clause-exact g c = still-due (of_words (machine (g.F.Files.told c.args.files.now) (g.R.Runner.told c.args.runner.now) c.args.facts.now) c.args.words.now) ends.NotServed (drilled (machine (g.F.Files.told c.args.files.now) (g.R.Runner.told c.args.runner.now) c.args.facts.now) c.args.words.now _ _ _ (rw c.in-Drill.is at c.in_ok-command.ensures.exact))
-
-pub returns-in-Drill-clause-out : goal.returns-in-Drill-clause-out
-returns-in-Drill-clause-out g c = quiet-out statuses.NotBuilt (of_words (machine (g.F.Files.told c.args.files.now) (g.R.Runner.told c.args.runner.now) c.args.facts.now) c.args.words.now) (g.S.Sink.told c.args.out.now) refl
-
-pub returns-in-Drill-clause-unlisted : goal.returns-in-Drill-clause-unlisted
-returns-in-Drill-clause-unlisted g c = on_false _ _
-
-pub returns-in-Drill-clause-ran : goal.returns-in-Drill-clause-ran
-returns-in-Drill-clause-ran g c = drilled-runs _ _ _ _ _ _ (rw c.in-Drill.is at c.in_ok-command.ensures.exact)
-
-pub returns-in-Drill-clause-files : goal.returns-in-Drill-clause-files
-returns-in-Drill-clause-files g c = on_false _ _
-
-pub returns-in-Drill-clause-runner : goal.returns-in-Drill-clause-runner
-returns-in-Drill-clause-runner g c = on_false _ _
-
-pub returns-in-Drill-clause-opened : goal.returns-in-Drill-clause-opened
-returns-in-Drill-clause-opened g c = still-opened (of_words (machine (g.F.Files.told c.args.files.now) (g.R.Runner.told c.args.runner.now) c.args.facts.now) c.args.words.now) ends.NotServed (g.W.Wire.openings c.args.wire.now) (drilled (machine (g.F.Files.told c.args.files.now) (g.R.Runner.told c.args.runner.now) c.args.facts.now) c.args.words.now _ _ _ (rw c.in-Drill.is at c.in_ok-command.ensures.exact))
-
-pub returns-in-Drill-clause-shared : goal.returns-in-Drill-clause-shared
-returns-in-Drill-clause-shared g c = still-shared (of_words (machine (g.F.Files.told c.args.files.now) (g.R.Runner.told c.args.runner.now) c.args.facts.now) c.args.words.now) endings.NotServed g.H.House.may (policy_in (of_words (machine (g.F.Files.told c.args.files.now) (g.R.Runner.told c.args.runner.now) c.args.facts.now) c.args.words.now)) (pid_of c.args.facts.now.pid) c.args.turns (g.H.House.told c.args.house.now) (g.W.Wire.seen c.args.wire.now).told (drilled (machine (g.F.Files.told c.args.files.now) (g.R.Runner.told c.args.runner.now) c.args.facts.now) c.args.words.now _ _ _ (rw c.in-Drill.is at c.in_ok-command.ensures.exact))
-
-pub returns-in-Drill-clause-wire_cause : goal.returns-in-Drill-clause-wire_cause
-returns-in-Drill-clause-wire_cause g c = still-wire (of_words (machine (g.F.Files.told c.args.files.now) (g.R.Runner.told c.args.runner.now) c.args.facts.now) c.args.words.now) ends.NotServed (g.W.Wire.server_faults c.args.wire.now) (g.W.Wire.server_faults c.args.wire.now) (g.W.Wire.client_faults c.args.wire.now) (g.W.Wire.client_faults c.args.wire.now) (drilled (machine (g.F.Files.told c.args.files.now) (g.R.Runner.told c.args.runner.now) c.args.facts.now) c.args.words.now _ _ _ (rw c.in-Drill.is at c.in_ok-command.ensures.exact))
-
-pub returns-in-Drill-clause-wire : goal.returns-in-Drill-clause-wire
-returns-in-Drill-clause-wire g c = on_false _ _
-
-pub returns-in-Drill-clause-house : goal.returns-in-Drill-clause-house
-returns-in-Drill-clause-house g c = on_false _ _
 
 pub returns-in-List-clause-exact : goal.returns-in-List-clause-exact
 returns-in-List-clause-exact g c = rw (of-read _ _ _ (rw c.in-List.is at c.in_ok-command.ensures.exact)) c.list.ensures.exact
@@ -157,7 +124,7 @@ pub returns-in-Master-clause-wire_cause : goal.returns-in-Master-clause-wire_cau
 returns-in-Master-clause-wire_cause g c = rw (of-read _ _ _ (rw c.in-Master.is at c.in_ok-command.ensures.exact)) c.share.ensures.wire_cause
 
 pub returns-in-Master-clause-wire : goal.returns-in-Master-clause-wire
-returns-in-Master-clause-wire g c = rw (of-read _ _ _ (rw c.in-Master.is at c.in_ok-command.ensures.exact)) c.share.ensures.wire
+returns-in-Master-clause-wire g c = rw (of-read _ _ _ (rw c.in-Master.is at c.in_ok-command.ensures.exact)) (untouched (may_open (so_far c.share.result)) (opens (of_command (machine (g.F.Files.told c.args.files.now) (g.R.Runner.told c.args.runner.now) c.args.facts.now) (commands.Master c.in-Master.asked c.in-Master.transport c.in-Master.opens c.in-Master.listens))) (drills (of_command (machine (g.F.Files.told c.args.files.now) (g.R.Runner.told c.args.runner.now) c.args.facts.now) (commands.Master c.in-Master.asked c.in-Master.transport c.in-Master.opens c.in-Master.listens))) (c.share.new.wire ≡ c.args.wire.now) c.share.ensures.wire)
 
 pub returns-in-Master-clause-house : goal.returns-in-Master-clause-house
 returns-in-Master-clause-house g c = rw (of-read _ _ _ (rw c.in-Master.is at c.in_ok-command.ensures.exact)) c.share.ensures.house
@@ -165,8 +132,71 @@ returns-in-Master-clause-house g c = rw (of-read _ _ _ (rw c.in-Master.is at c.i
 pub returns-in_err-command-clause-calls : goal.returns-in_err-command-clause-calls
 returns-in_err-command-clause-calls g c = still-calls _ _ _
 
-pub returns-in-Drill-clause-calls : goal.returns-in-Drill-clause-calls
-returns-in-Drill-clause-calls g c = still-calls _ _ _
-
 pub returns-in-List-clause-calls : goal.returns-in-List-clause-calls
 returns-in-List-clause-calls g c = still-calls _ _ _
+
+pub returns-in-Drill-clause-exact : goal.returns-in-Drill-clause-exact
+returns-in-Drill-clause-exact g c = rw (of-drill _ _ _ _ _ (rw c.in-Drill.is at c.in_ok-command.ensures.exact)) (drill-comes c.in-Drill.seed c.in-Drill.clients c.in-Drill.messages c.drill.result c.drill.ensures.goes.ends)
+
+pub returns-in-Drill-clause-cause : goal.returns-in-Drill-clause-cause
+returns-in-Drill-clause-cause g c = drill-cause c.drill.result _ _ c.drill.ensures.goes.ends
+
+pub returns-in-Drill-clause-out : goal.returns-in-Drill-clause-out
+returns-in-Drill-clause-out g c = rw (of-drill _ _ _ _ _ (rw c.in-Drill.is at c.in_ok-command.ensures.exact)) (drill-takes c.in-Drill.seed c.in-Drill.clients c.in-Drill.messages _ _ _ _ _ _ _ _ _ _ _ _ _ _ c.drill.ensures.goes)
+
+pub returns-in-Drill-clause-unlisted : goal.returns-in-Drill-clause-unlisted
+returns-in-Drill-clause-unlisted g c = rw (of-drill _ _ _ _ _ (rw c.in-Drill.is at c.in_ok-command.ensures.exact)) tt
+
+pub returns-in-Drill-clause-ran : goal.returns-in-Drill-clause-ran
+returns-in-Drill-clause-ran g c = drilled-runs _ _ _ _ _ _ _ (rw c.in-Drill.is at c.in_ok-command.ensures.exact)
+
+pub returns-in-Drill-clause-files : goal.returns-in-Drill-clause-files
+returns-in-Drill-clause-files g c = on_false _ _
+
+pub returns-in-Drill-clause-runner : goal.returns-in-Drill-clause-runner
+returns-in-Drill-clause-runner g c = on_false _ _
+
+pub returns-in-Drill-clause-opened : goal.returns-in-Drill-clause-opened
+returns-in-Drill-clause-opened g c = rw (of-drill _ _ _ _ _ (rw c.in-Drill.is at c.in_ok-command.ensures.exact)) tt
+
+pub returns-in-Drill-clause-shared : goal.returns-in-Drill-clause-shared
+returns-in-Drill-clause-shared g c = rw (of-drill _ _ _ _ _ (rw c.in-Drill.is at c.in_ok-command.ensures.exact)) (not_true _ _ (shut (Certain (Drills c.in-Drill.seed c.in-Drill.clients c.in-Drill.messages)) (so_far c.drill.result) refl))
+
+pub returns-in-Drill-clause-wire_cause : goal.returns-in-Drill-clause-wire_cause
+returns-in-Drill-clause-wire_cause g c = rw (of-drill _ _ _ _ _ (rw c.in-Drill.is at c.in_ok-command.ensures.exact)) (not_true _ _ (shut (Certain (Drills c.in-Drill.seed c.in-Drill.clients c.in-Drill.messages)) (so_far c.drill.result) refl))
+
+pub returns-in-Drill-clause-drill : goal.returns-in-Drill-clause-drill
+returns-in-Drill-clause-drill g c = rw (of-drill _ _ _ _ _ (rw c.in-Drill.is at c.in_ok-command.ensures.exact)) c.drill.ensures.goes
+
+pub returns-in-Drill-clause-wire : goal.returns-in-Drill-clause-wire
+returns-in-Drill-clause-wire g c = rw (of-drill _ _ _ _ _ (rw c.in-Drill.is at c.in_ok-command.ensures.exact)) (not_false _ _ (drill-touches c.in-Drill.seed c.in-Drill.clients c.in-Drill.messages c.drill.result c.drill.ensures.goes.ends))
+
+pub returns-in-Drill-clause-house : goal.returns-in-Drill-clause-house
+returns-in-Drill-clause-house g c = on_false _ _
+
+pub returns-in_err-command-clause-drill : goal.returns-in_err-command-clause-drill
+returns-in_err-command-clause-drill g c = let p = err_from_is_err_and c.from_residual.result c.from_residual.ensures.1 in rw (p.1, p.2) (still-drill _ _ _ _ _ _ _ _ _ _ (misread _ _ _ c.in_err-command.ensures.exact))
+
+pub returns-in-List-clause-drill : goal.returns-in-List-clause-drill
+returns-in-List-clause-drill g c = rw (of-read _ _ _ (rw c.in-List.is at c.in_ok-command.ensures.exact)) (not_true _ _ (list-undrilled _ _))
+
+pub returns-in-Master-clause-drill : goal.returns-in-Master-clause-drill
+returns-in-Master-clause-drill g c = rw (of-read _ _ _ (rw c.in-Master.is at c.in_ok-command.ensures.exact)) (not_true _ _ (master-undrilled _ _ _ _ _))
+
+pub returns-in_err-command-clause-waited : goal.returns-in_err-command-clause-waited
+returns-in_err-command-clause-waited g c = let p = err_from_is_err_and c.from_residual.result c.from_residual.ensures.1 in rw (p.1, p.2) (still-waited _ _ _ _ _ (misread _ _ _ c.in_err-command.ensures.exact))
+
+pub returns-in_err-command-clause-idle : goal.returns-in_err-command-clause-idle
+returns-in_err-command-clause-idle g c = λ z. still-idle _ _ _
+
+pub returns-in-List-clause-waited : goal.returns-in-List-clause-waited
+returns-in-List-clause-waited g c = rw (of-read _ _ _ (rw c.in-List.is at c.in_ok-command.ensures.exact)) (not_true _ _ (shut-all _ _ (list-shut _ _) (list-undrilled _ _)))
+
+pub returns-in-List-clause-idle : goal.returns-in-List-clause-idle
+returns-in-List-clause-idle g c = λ z. still-idle _ _ _
+
+pub returns-in-Master-clause-waited : goal.returns-in-Master-clause-waited
+returns-in-Master-clause-waited g c = rw (of-read _ _ _ (rw c.in-Master.is at c.in_ok-command.ensures.exact)) (for-master (may_open (so_far c.share.result)) (opens (of_command (machine (g.F.Files.told c.args.files.now) (g.R.Runner.told c.args.runner.now) c.args.facts.now) (commands.Master c.in-Master.asked c.in-Master.transport c.in-Master.opens c.in-Master.listens))) (drills (of_command (machine (g.F.Files.told c.args.files.now) (g.R.Runner.told c.args.runner.now) c.args.facts.now) (commands.Master c.in-Master.asked c.in-Master.transport c.in-Master.opens c.in-Master.listens))) (WaitsFor c.args.turns (so_far c.share.result) (g.W.Wire.calls c.args.wire.now) (g.W.Wire.calls c.share.new.wire)) (master-undrilled (machine (g.F.Files.told c.args.files.now) (g.R.Runner.told c.args.runner.now) c.args.facts.now) c.in-Master.asked c.in-Master.transport c.in-Master.opens c.in-Master.listens) c.share.ensures.waited)
+
+pub returns-in-Drill-clause-waited : goal.returns-in-Drill-clause-waited
+returns-in-Drill-clause-waited g c = on_true _ _ c.drill.ensures.waited

@@ -1,0 +1,275 @@
+-- How a drill goes, from what was served and what was handed over to what the program tells.
+use Rattle.std.proofs.Common.{◌≡◌, ◌⊎◌, inl, inr, ℕ, Bool, true, false, List, [], Option, None, Result, Ok, Err, refl, sym, subst, ◌∙◌, arith}
+use Rattle.std.specs.Bool.{OnTrue}
+use Rattle.conf_rules.specs.declared.causes.Cause.TheVariants.{ReadFault, RunFault}
+use Rattle.conf_rules.specs.Outcome.{Ends, Writes, Opens, Drills}
+use Rattle.conf_rules.specs.Texts.{Bytes}
+use Rattle.mux_history.specs.Policy.{any_policy}
+use Rattle.mux_outside.specs.declared.mark.Mark.{Mark}
+use Rattle.mux_outside.specs.declared.mark.Opening.{Opening}
+use Rattle.mux_outside.specs.declared.turn.Tally.{Tally}
+use Rattle.mux_outside.specs.Seen.{Calls}
+use Rattle.ssh_mux.specs.declared.ending.Ending.{Ending}
+use Rattle.ssh_mux.specs.declared.ending.Ending.TheVariants as endings
+use Rattle.ssh_mux.specs.declared.status.Status.{Status}
+use Rattle.ssh_mux.specs.declared.status.Status.TheVariants as statuses
+use Rattle.ssh_mux.specs.Answers.{Comes, IsRefused, may_open, so_far, touches}
+use Rattle.ssh_mux.specs.Causes.{Caused}
+use Rattle.ssh_mux.specs.Drill.{DrillGoes, DrillServes, DrillShares, DrillTells, EndsDrill, IsDrill, IsDrilled, RefusesAll, RunsDrill, SumsUp, drill_text, drill_transport}
+use Rattle.ssh_mux.specs.Ending.{shown}
+use Rattle.ssh_mux.specs.Err.{Reports}
+use Rattle.ssh_mux.specs.Master.{EndsMaster}
+use Rattle.ssh_mux.specs.Out.{HandsOver, OutTakes}
+use Rattle.ssh_mux.specs.Outcomes.{Known, Certain, Listing, Master, drills}
+use Rattle.ssh_mux.specs.Sharing.{CallsEnd, IdleCause, IsShared, OpensAt, Shares, WaitsFor, WireCause, told_as}
+use Rattle.ssh_mux.specs.Status.{status_of}
+use Rattle.ssh_mux.proofs.EndLemmas.{reported}
+use Rattle.ssh_mux.proofs.StillLemmas.{loud, quiet-out}
+
+-- ---- how it ends
+
+pub drill-comes : (seed clients messages : ℕ) (result : Result Status Ending) → EndsDrill result → Comes (Certain (Drills seed clients messages)) result
+drill-comes seed clients messages (Ok statuses.Done) h = refl
+drill-comes seed clients messages (Ok statuses.Write) h = refl
+drill-comes seed clients messages (Ok status) h = absurd cc
+drill-comes seed clients messages (Err endings.NotOpened) h = refl
+drill-comes seed clients messages (Err endings.TransportFailed) h = refl
+drill-comes seed clients messages (Err (endings.ServerBroke index why)) h = refl
+drill-comes seed clients messages (Err endings.TurnsSpent) h = refl
+drill-comes seed clients messages (Err endings.NoMemory) h = tt
+drill-comes seed clients messages (Err ending) h = absurd cc
+
+pub drill-opens : (result : Result Status Ending) → EndsDrill result → may_open (so_far result) ≡ true
+drill-opens (Ok statuses.Done) h = refl
+drill-opens (Ok statuses.Write) h = refl
+drill-opens (Ok status) h = absurd cc
+drill-opens (Err endings.NotOpened) h = refl
+drill-opens (Err endings.TransportFailed) h = refl
+drill-opens (Err (endings.ServerBroke index why)) h = refl
+drill-opens (Err endings.TurnsSpent) h = refl
+drill-opens (Err endings.NoMemory) h = refl
+drill-opens (Err ending) h = absurd cc
+
+pub drill-touches : (seed clients messages : ℕ) (result : Result Status Ending) → EndsDrill result → touches (Certain (Drills seed clients messages)) (so_far result) ≡ true
+drill-touches seed clients messages result h = rw (drill-opens result h) refl
+
+-- files and commands have no part in it
+pub drill-cause : (result : Result Status Ending) (f r : ℕ) → EndsDrill result → Caused result f f r r
+drill-cause (Ok status) f r h = (refl, refl)
+drill-cause (Err endings.NoMemory) f r h = (omega arith, omega arith)
+drill-cause (Err endings.NotOpened) f r h = (refl, refl)
+drill-cause (Err endings.TransportFailed) f r h = (refl, refl)
+drill-cause (Err (endings.ServerBroke index why)) f r h = (refl, refl)
+drill-cause (Err endings.TurnsSpent) f r h = (refl, refl)
+drill-cause (Err ending) f r h = absurd cc
+
+pub handed-ends : (text : Bytes) (result : Result Status Ending) (before now : Option (List ℕ)) → HandsOver result text before now → EndsDrill result
+handed-ends text (Ok statuses.Done) before now h = refl
+handed-ends text (Ok statuses.Write) before now h = refl
+handed-ends text (Ok status) before now h = absurd h
+handed-ends text (Err endings.NoMemory) before now h = refl
+handed-ends text (Err ending) before now h = absurd h
+
+-- ---- what was served, and the summary
+
+module _ (words : List Bytes) (turns : ℕ) (openings openings' : Option (List Opening)) (start told : Option (List Mark)) (tally : Tally) (out out' : Option (List ℕ)) (s s' c c' : ℕ) where
+  abbrev Shared : Result Status Ending → Type 0
+  Shared result = Shares RefusesAll any_policy 0 turns None None start told result
+
+  abbrev Ran : Result Status Ending → Type 0
+  Ran result = IsShared RefusesAll any_policy 0 turns None None start told result
+
+  -- of a run that ended well
+  summed-run : (due : Status) (result : Result Status Ending) → Ran (Ok due) → HandsOver result (drill_text tally) out out' → RunsDrill turns start told tally result out out'
+  summed-run due result h d = record { answer = h.answer; run = h.run; ends = subst (λ e. SumsUp e tally result out out') h.is_told d }
+
+  summed-shared : (due : Status) (result : Result Status Ending) → Ran (Ok due) → HandsOver result (drill_text tally) out out' → DrillShares turns start told tally result out out'
+  summed-shared due (Ok status) h d = summed-run due (Ok status) h d
+  summed-shared due (Err endings.NotOpened) h d = absurd d
+  summed-shared due (Err endings.NoMemory) h d = inr (summed-run due (Err endings.NoMemory) h d)
+  summed-shared due (Err ending) h d = summed-run due (Err ending) h d
+
+  summed-opened : (due : Status) (result : Result Status Ending) → due ≡ statuses.Done → HandsOver result (drill_text tally) out out' → OpensAt [] (drill_transport words) due openings openings' → OpensAt [] (drill_transport words) (so_far result) openings openings'
+  summed-opened due result is d o = on result d (subst (λ x. OpensAt [] (drill_transport words) x openings openings') is o) where
+    on : (r : Result Status Ending) → HandsOver r (drill_text tally) out out' → OpensAt [] (drill_transport words) statuses.Done openings openings' → OpensAt [] (drill_transport words) (so_far r) openings openings'
+    on (Ok statuses.Done) d o = o
+    on (Ok statuses.Write) d o = o
+    on (Ok status) d o = absurd d
+    on (Err endings.NoMemory) d o = inr o
+    on (Err ending) d o = absurd d
+
+  summed-cause : (result : Result Status Ending) → HandsOver result (drill_text tally) out out' → WireCause (so_far result) s s' c c'
+  summed-cause (Ok statuses.Done) d = tt
+  summed-cause (Ok statuses.Write) d = tt
+  summed-cause (Ok status) d = absurd d
+  summed-cause (Err endings.NoMemory) d = tt
+  summed-cause (Err ending) d = absurd d
+
+  pub summed-goes : (due : Status) (result : Result Status Ending) → EndsMaster (Ok due) → OpensAt [] (drill_transport words) due openings openings' → Shared (Ok due) → HandsOver result (drill_text tally) out out' → DrillGoes words turns result openings openings' start told tally out out' s s' c c'
+  summed-goes due result is o h d = record { ends = handed-ends (drill_text tally) result out out' d; opened = summed-opened due result is d o; shared = summed-shared due result h d; cause = summed-cause result d }
+
+-- of one that ended badly
+module _ (words : List Bytes) (turns : ℕ) (openings openings' : Option (List Opening)) (start told : Option (List Mark)) (tally : Tally) (out : Option (List ℕ)) (s s' c c' : ℕ) where
+  unsummed-run : (meant : Ending) → IsShared RefusesAll any_policy 0 turns None None start told (Err meant) → RunsDrill turns start told tally (Err meant) out out
+  unsummed-run meant h = record { answer = h.answer; run = h.run; ends = subst (λ e. SumsUp e tally (Err meant) out out) h.is_told (refl, refl) }
+
+  unsummed-shared : (meant : Ending) → Shares RefusesAll any_policy 0 turns None None start told (Err meant) → DrillShares turns start told tally (Err meant) out out
+  unsummed-shared endings.NotOpened h = (h, refl)
+  unsummed-shared endings.NoMemory (inl h) = inl (h, refl)
+  unsummed-shared endings.NoMemory (inr h) = inr (unsummed-run endings.NoMemory h)
+  unsummed-shared meant h = unsummed-run meant h
+
+  pub unsummed-goes : (meant : Ending) → EndsMaster (Err meant) → OpensAt [] (drill_transport words) (status_of (shown meant)) openings openings' → Shares RefusesAll any_policy 0 turns None None start told (Err meant) → WireCause (status_of (shown meant)) s s' c c' → DrillGoes words turns (Err meant) openings openings' start told tally out out s s' c c'
+  unsummed-goes meant e o h w = record { ends = e; opened = o; shared = unsummed-shared meant h; cause = w }
+
+pub summed-calls : (turns : ℕ) (due : Status) (text : Bytes) (result : Result Status Ending) (before now : Option (List ℕ)) (old new : Calls) → EndsMaster (Ok due) → HandsOver result text before now → CallsEnd turns due old new → CallsEnd turns (so_far result) old new
+summed-calls turns due text result before now old new is d h = record { few = h.few; wants = h.wants; starved = λ ne. absurd (unstarved (sym is ∙ h.starved ne)); late = h.late } where
+  unstarved : statuses.Done ≡ statuses.Memory → ⊥
+  unstarved e = absurd cc
+
+pub summed-waits : (turns : ℕ) (due : Status) (text : Bytes) (result : Result Status Ending) (before now : Option (List ℕ)) (old new : Calls) → EndsMaster (Ok due) → HandsOver result text before now → WaitsFor turns due old new → WaitsFor turns (so_far result) old new
+summed-waits turns due text result before now old new is d h = on result d (subst (λ x. WaitsFor turns x old new) is h) where
+  on : (r : Result Status Ending) → HandsOver r text before now → WaitsFor turns statuses.Done old new → WaitsFor turns (so_far r) old new
+  on (Ok statuses.Done) d h = h
+  on (Ok statuses.Write) d h = h
+  on (Ok status) d h = absurd d
+  on (Err endings.NoMemory) d h = tt
+  on (Err ending) d h = absurd d
+
+pub summed-idle : (due : Status) (text : Bytes) (result : Result Status Ending) (before now : Option (List ℕ)) (s s' c c' : ℕ) → EndsMaster (Ok due) → HandsOver result text before now → IdleCause due s s' c c' → IdleCause (so_far result) s s' c c'
+summed-idle due text result before now s s' c c' is d h = on result d (subst (λ x. IdleCause x s s' c c') is h) where
+  on : (r : Result Status Ending) → HandsOver r text before now → IdleCause statuses.Done s s' c c' → IdleCause (so_far r) s s' c c'
+  on (Ok statuses.Done) d h = h
+  on (Ok statuses.Write) d h = h
+  on (Ok status) d h = absurd d
+  on (Err endings.NoMemory) d h = tt
+  on (Err ending) d h = absurd d
+
+-- ---- what the output takes
+
+-- by its end: nothing, but for the summary
+unwritten-end : (tally : Tally) (meant : Ending) (end : Result Status Ending) (out out' : Option (List ℕ)) → SumsUp end tally (Err meant) out out' → out' ≡ out
+unwritten-end tally endings.NoMemory (Ok due) out out' h = h
+unwritten-end tally meant (Ok due) out out' h = absurd h
+unwritten-end tally meant (Err ending) out out' h = h.1
+
+unwritten : (turns : ℕ) (start told : Option (List Mark)) (tally : Tally) (meant : Ending) (out out' : Option (List ℕ)) → DrillShares turns start told tally (Err meant) out out' → out' ≡ out
+unwritten turns start told tally endings.NotOpened out out' h = h.1
+unwritten turns start told tally endings.NoMemory out out' (inl h) = h.1
+unwritten turns start told tally endings.NoMemory out out' (inr h) = unwritten-end tally endings.NoMemory (told_as h.answer) out out' h.ends
+unwritten turns start told tally meant out out' h = unwritten-end tally meant (told_as h.answer) out out' h.ends
+
+drill-takes-from : (seed clients messages turns : ℕ) (start told : Option (List Mark)) (tally : Tally) (result : Result Status Ending) (out out' : Option (List ℕ)) → EndsDrill result → DrillShares turns start told tally result out out' → OutTakes (so_far result) (Certain (Drills seed clients messages)) out out'
+drill-takes-from seed clients messages turns start told tally (Ok statuses.Done) out out' e h = tt
+drill-takes-from seed clients messages turns start told tally (Ok statuses.Write) out out' e h = tt
+drill-takes-from seed clients messages turns start told tally (Ok status) out out' e h = absurd cc
+drill-takes-from seed clients messages turns start told tally (Err meant) out out' e h =
+    subst (λ o. OutTakes (status_of (shown meant)) (Certain (Drills seed clients messages)) out o) (sym (unwritten turns start told tally meant out out' h)) (quiet-out (status_of (shown meant)) (Certain (Drills seed clients messages)) out (loud (shown meant)))
+
+pub drill-takes : (seed clients messages : ℕ) (words : List Bytes) (turns : ℕ) (result : Result Status Ending) (openings openings' : Option (List Opening)) (start told : Option (List Mark)) (tally : Tally) (out out' : Option (List ℕ)) (s s' c c' : ℕ) → DrillGoes words turns result openings openings' start told tally out out' s s' c c' → OutTakes (so_far result) (Certain (Drills seed clients messages)) out out'
+drill-takes seed clients messages words turns result openings openings' start told tally out out' s s' c c' h = drill-takes-from seed clients messages turns start told tally result out out' h.ends h.shared
+
+-- ---- an ending that came before
+
+pub still-drill : (k : Known) (meant : Ending) (words : List Bytes) (turns : ℕ) (openings : Option (List Opening)) (start : Option (List Mark)) (tally : Tally) (out : Option (List ℕ)) (s c : ℕ) → IsRefused k (shown meant) → OnTrue (drills k) (DrillGoes words turns (Err meant) openings openings start start tally out out s s c c)
+still-drill (Certain (Ends due)) meant words turns openings start tally out s c h = tt
+still-drill (Certain (Writes text)) meant words turns openings start tally out s c h = tt
+still-drill (Certain (Opens control transport os ls)) meant words turns openings start tally out s c h = tt
+still-drill Listing meant words turns openings start tally out s c h = tt
+still-drill (Master transport os ls) meant words turns openings start tally out s c h = tt
+still-drill (Certain (Drills seed clients messages)) endings.NoMemory words turns openings start tally out s c h =
+    record { ends = refl; opened = inl refl; shared = inl (record { same_wire = refl; same_house = refl }, refl); cause = tt }
+still-drill (Certain (Drills seed clients messages)) (endings.BadLine file line ReadFault) words turns openings start tally out s c h = absurd cc
+still-drill (Certain (Drills seed clients messages)) (endings.BadLine file line RunFault) words turns openings start tally out s c h = absurd cc
+still-drill (Certain (Drills seed clients messages)) meant words turns openings start tally out s c h = absurd h
+
+-- ---- with its line
+
+module _ (words : List Bytes) (turns : ℕ) (openings openings' : Option (List Opening)) (start told : Option (List Mark)) (tally : Tally) (out out' : Option (List ℕ)) (s s' c c' : ℕ) where
+  abbrev Went : Result Status Ending → Type 0
+  Went result = DrillGoes words turns result openings openings' start told tally out out' s s' c c'
+
+  -- without one
+  well-told : (status : Status) (end : Result Status Ending) (err : Option (List ℕ)) (f : ℕ) → SumsUp end tally (Ok status) out out' → DrillTells end tally status out out' err err f f
+  well-told statuses.Done (Ok due) err f h = (h, refl)
+  well-told statuses.Write (Ok due) err f h = (h, refl)
+  well-told status (Ok due) err f h = absurd h
+  well-told status (Err ending) err f h = let e = h.0 in absurd cc
+
+  well-run : (status : Status) (err : Option (List ℕ)) (f : ℕ) → RunsDrill turns start told tally (Ok status) out out' → IsDrilled turns start told tally status out out' err err f f
+  well-run status err f h = record { answer = h.answer; run = h.run; ends = well-told status (told_as h.answer) err f h.ends }
+
+  -- a status without a line is neither that of want of memory nor that of sockets that aren't open
+  silent-end : (status : Status) (end : Result Status Ending) → SumsUp end tally (Ok status) out out' → (status ≡ statuses.Done) ⊎ (status ≡ statuses.Write)
+  silent-end statuses.Done end h = inl refl
+  silent-end statuses.Write end h = inr refl
+  silent-end status (Ok due) h = absurd h
+  silent-end status (Err ending) h = let e = h.0 in absurd cc
+
+  abbrev Served : Status → Option (List ℕ) → ℕ → Type 0
+  Served status err f = DrillServes turns start told tally status out out' err err f f
+
+  well-served : (status : Status) (err : Option (List ℕ)) (f : ℕ) → (status ≡ statuses.Done) ⊎ (status ≡ statuses.Write) → IsDrilled turns start told tally status out out' err err f f → Served status err f
+  well-served status err f (inl e) h = subst (λ x. Served x err f) (sym e) (subst (λ x. IsDrilled turns start told tally x out out' err err f f) e h)
+  well-served status err f (inr e) h = subst (λ x. Served x err f) (sym e) (subst (λ x. IsDrilled turns start told tally x out out' err err f f) e h)
+
+  well-goes : (status : Status) (err : Option (List ℕ)) (f : ℕ) → Went (Ok status) → IsDrill words turns status openings openings' start told tally out out' err err f f s s' c c'
+  well-goes status err f h = record {
+    opened = h.opened;
+    served = well-served status err f (silent-end status (told_as h.shared.answer) h.shared.ends) (well-run status err f h.shared);
+    cause = h.cause;
+  }
+
+  pub drill_well : (drilled : Bool) (status : Status) (err : Option (List ℕ)) (f : ℕ) → OnTrue drilled (Went (Ok status)) → OnTrue drilled (IsDrill words turns status openings openings' start told tally out out' err err f f s s' c c')
+  drill_well true status err f h = well-goes status err f h
+  drill_well false status err f h = tt
+
+-- with one
+module _ (words : List Bytes) (turns : ℕ) (openings openings' : Option (List Opening)) (start told : Option (List Mark)) (tally : Tally) (out out' : Option (List ℕ)) (s s' c c' : ℕ) (err err' : Option (List ℕ)) (f f' : ℕ) where
+  abbrev Told : Status → Type 0
+  Told status = DrillServes turns start told tally status out out' err err' f f'
+
+  bad-told : (meant : Ending) (status : Status) (end : Result Status Ending) → (meant ≡ endings.NoMemory → status ≡ statuses.Memory) → SumsUp end tally (Err meant) out out' → Reports status (shown meant) err err' f f' → DrillTells end tally status out out' err err' f f'
+  bad-told endings.NoMemory status (Ok due) is h r = subst (λ x. DrillTells (Ok due) tally x out out' err err' f f') (sym (is refl)) (h, subst (λ x. Reports x (shown endings.NoMemory) err err' f f') (is refl) r)
+  bad-told meant status (Ok due) is h r = absurd h
+  bad-told meant status (Err ending) is h r = let same : meant ≡ ending = (let e = h.0 in cc) in (h.1, subst (λ m. Reports status (shown m) err err' f f') same r)
+
+  bad-run : (meant : Ending) (status : Status) → (meant ≡ endings.NoMemory → status ≡ statuses.Memory) → RunsDrill turns start told tally (Err meant) out out' → Reports status (shown meant) err err' f f' → IsDrilled turns start told tally status out out' err err' f f'
+  bad-run meant status is h r = record { answer = h.answer; run = h.run; ends = bad-told meant status (told_as h.answer) is h.ends r }
+
+  memory-told : (meant : Ending) → DrillShares turns start told tally (Err meant) out out' → Reports statuses.Memory (shown meant) err err' f f' → Told statuses.Memory
+  memory-told endings.NotOpened h r = inl h
+  memory-told endings.NoMemory (inl h) r = inl h
+  memory-told endings.NoMemory (inr h) r = inr (bad-run endings.NoMemory statuses.Memory (λ e. refl) h r)
+  memory-told meant h r = inr (bad-run meant statuses.Memory (λ e. refl) h r)
+
+  own-told : (meant : Ending) → EndsDrill (Err meant) → DrillShares turns start told tally (Err meant) out out' → Reports (status_of (shown meant)) (shown meant) err err' f f' → Told (status_of (shown meant))
+  own-told endings.NotOpened e h r = h
+  own-told endings.NoMemory e h r = memory-told endings.NoMemory h r
+  own-told endings.TransportFailed e h r = bad-run endings.TransportFailed statuses.Transport (λ x. absurd cc) h r
+  own-told (endings.ServerBroke index why) e h r = bad-run (endings.ServerBroke index why) statuses.Broke (λ x. absurd cc) h r
+  own-told endings.TurnsSpent e h r = bad-run endings.TurnsSpent statuses.Spent (λ x. absurd cc) h r
+  own-told meant e h r = absurd cc
+
+  memory-opened : (status : Status) → OpensAt [] (drill_transport words) status openings openings' → OpensAt [] (drill_transport words) statuses.Memory openings openings'
+  memory-opened statuses.Memory h = h
+  memory-opened status h = inr h
+
+  abbrev Drilled : Status → Type 0
+  Drilled status = IsDrill words turns status openings openings' start told tally out out' err err' f f' s s' c c'
+
+  bad-goes : (meant : Ending) (status : Status) → (status ≡ statuses.Memory) ⊎ (status ≡ status_of (shown meant)) → DrillGoes words turns (Err meant) openings openings' start told tally out out' s s' c c' → Reports status (shown meant) err err' f f' → Drilled status
+  bad-goes meant status (inl e) h r = subst Drilled (sym e) (record {
+    opened = memory-opened (status_of (shown meant)) h.opened;
+    served = memory-told meant h.shared (subst (λ x. Reports x (shown meant) err err' f f') e r);
+    cause = tt;
+  })
+  bad-goes meant status (inr e) h r = subst Drilled (sym e) (record {
+    opened = h.opened;
+    served = own-told meant h.ends h.shared (subst (λ x. Reports x (shown meant) err err' f f') e r);
+    cause = h.cause;
+  })
+
+  pub drill_after : (drilled : Bool) (meant : Ending) (status : Status) → Reports status (shown meant) err err' f f' → OnTrue drilled (DrillGoes words turns (Err meant) openings openings' start told tally out out' s s' c c') → OnTrue drilled (Drilled status)
+  drill_after true meant status r h = bad-goes meant status (reported status (shown meant) err err' f f' r) h r
+  drill_after false meant status r h = tt

@@ -1,0 +1,141 @@
+-- What a drill opens, how its run goes, and what it writes.
+use Rattle.std.specs.Prelude.{◌≡◌, ℕ, IsTrue, ◌⊎◌, List, [], ◌∷◌, ◌++◌, codes, Option, None, Result, Ok, Err}
+use Rattle.conf_rules.specs.Diagnostics.{line_of, NoMemory}
+use Rattle.conf_rules.specs.Numbers.{digits_of}
+use Rattle.conf_rules.specs.Texts.{Bytes}
+use Rattle.mux_engine.specs.Run.{IsRun}
+use Rattle.mux_history.specs.declared.ended.Ended.{Ended}
+use Rattle.mux_history.specs.Policy.{any_policy}
+use Rattle.mux_outside.specs.declared.file_error.FileError.TheVariants.{Failed}
+use Rattle.mux_outside.specs.declared.house.HouseReply.{HouseReply}
+use Rattle.mux_outside.specs.declared.house.HouseReply.TheVariants.{Refused}
+use Rattle.mux_outside.specs.declared.mark.Mark.{Mark}
+use Rattle.mux_outside.specs.declared.mark.Opening.{Opening}
+use Rattle.mux_outside.specs.declared.turn.Tally.{Tally}
+use Rattle.mux_outside.specs.Sink.{TakesTold}
+use Rattle.ssh_mux.specs.declared.ending.Ending.{Ending as MeantEnding}
+use Rattle.ssh_mux.specs.declared.ending.Ending.TheVariants as endings
+use Rattle.ssh_mux.specs.declared.status.Status.{Status}
+use Rattle.ssh_mux.specs.declared.status.Status.TheVariants.{Done, Write, Open, Memory}
+use Rattle.ssh_mux.specs.Answers.{is_silent, so_far}
+use Rattle.ssh_mux.specs.Ending.{shown}
+use Rattle.ssh_mux.specs.Err.{Reports, TookSome}
+use Rattle.ssh_mux.specs.Master.{ends_sharing}
+use Rattle.ssh_mux.specs.Out.{HandsOver}
+use Rattle.ssh_mux.specs.Sharing.{IsUnserved, OpensAt, WireCause, told_as}
+
+-- ---- texts
+
+-- the transport: the three words behind `--drill`, as they were given, with spaces between them
+unfoldable pub drill_transport : List Bytes → Bytes
+drill_transport (first ∷ seed ∷ clients ∷ messages ∷ more) =
+    seed ++ (32 ∷ clients ++ (32 ∷ messages))
+drill_transport words = []
+
+-- a line of the summary
+unfoldable pub count_line : Bytes → ℕ → Bytes
+count_line name count = name ++ (digits_of count ++ 10 ∷ [])
+
+-- the summary of what a wire has counted
+unfoldable pub drill_text : Tally → Bytes
+drill_text tally =
+    count_line (codes "clients ") tally.clients
+    ++ (count_line (codes "messages ") tally.messages
+    ++ (count_line (codes "data-up ") tally.data_up
+    ++ (count_line (codes "data-down ") tally.data_down
+    ++ count_line (codes "closed ") tally.closed)))
+
+-- ---- the run
+
+-- the only reply of a master with no forwardings of its own
+abbrev pub RefusesAll : HouseReply → Type 0
+RefusesAll reply = reply ≡ Refused
+
+-- What was written of the end of a run. Where it ended well: the summary, without a word; a prefix
+-- of it where it could not be written; or nothing but the line of want of memory. Else the line of
+-- its ending.
+abbrev pub DrillTells : Result Status MeantEnding → Tally → Status
+    → Option (List ℕ) → Option (List ℕ) → Option (List ℕ) → Option (List ℕ) → ℕ → ℕ → Type 0
+DrillTells (Ok due) tally Done out out' err err' faults faults' =
+    TakesTold (Ok tt) out out' (drill_text tally) × (err' ≡ err)
+DrillTells (Ok due) tally Write out out' err err' faults faults' =
+    TakesTold (Err Failed) out out' (drill_text tally) × (err' ≡ err)
+DrillTells (Ok due) tally Memory out out' err err' faults faults' =
+    (out' ≡ out) × TookSome (line_of NoMemory) err err'
+DrillTells (Ok due) tally status out out' err err' faults faults' = ⊥
+DrillTells (Err ending) tally status out out' err err' faults faults' =
+    (out' ≡ out) × Reports status (shown ending) err err' faults faults'
+
+-- A run that keeps its promises, for clients that are permitted anything and are told process id 0,
+-- and what was written of its end; `start` and `told` are what the wire tells.
+pub record IsDrilled (turns : ℕ) (start told : Option (List Mark)) (tally : Tally) (status : Status)
+    (out out' err err' : Option (List ℕ)) (faults faults' : ℕ) : Type 0 where
+  pub answer : Ended
+  pub run : IsRun RefusesAll any_policy 0 turns None None start told answer
+  pub ends : DrillTells (told_as answer) tally status out out' err err' faults faults'
+
+-- nothing is served, and no summary is written
+abbrev pub IsUndrilled :
+    Option (List Mark) → Option (List Mark) → Option (List ℕ) → Option (List ℕ) → Type 0
+IsUndrilled start told out out' = IsUnserved None None start told × (out' ≡ out)
+
+-- where the wire wasn't opened nothing is served
+abbrev pub DrillServes : ℕ → Option (List Mark) → Option (List Mark) → Tally → Status
+    → Option (List ℕ) → Option (List ℕ) → Option (List ℕ) → Option (List ℕ) → ℕ → ℕ → Type 0
+DrillServes turns start told tally Open out out' err err' faults faults' =
+    IsUndrilled start told out out'
+DrillServes turns start told tally Memory out out' err err' faults faults' =
+    IsUndrilled start told out out'
+    ⊎ IsDrilled turns start told tally Memory out out' err err' faults faults'
+DrillServes turns start told tally status out out' err err' faults faults' =
+    IsDrilled turns start told tally status out out' err err' faults faults'
+
+-- A drill: its wire was opened once, with an empty control path and its words for a transport, but
+-- for want of memory. It was served, and its end was told. A count of faults is behind what failed.
+pub record IsDrill (words : List Bytes) (turns : ℕ) (status : Status)
+    (openings openings' : Option (List Opening)) (start told : Option (List Mark)) (tally : Tally)
+    (out out' err err' : Option (List ℕ)) (faults faults' server server' client client' : ℕ) :
+    Type 0 where
+  pub opened : OpensAt [] (drill_transport words) status openings openings'
+  pub served : DrillServes turns start told tally status out out' err err' faults faults'
+  pub cause : WireCause status server server' client client'
+
+-- ---- before a line is written
+
+-- a drill ends without a line, or as a master whose control path was found
+abbrev pub EndsDrill : Result Status MeantEnding → Type 0
+EndsDrill (Ok status) = IsTrue (is_silent status)
+EndsDrill (Err ending) = IsTrue (ends_sharing ending)
+
+-- where its run ended well, the summary was handed over
+abbrev pub SumsUp : Result Status MeantEnding → Tally → Result Status MeantEnding
+    → Option (List ℕ) → Option (List ℕ) → Type 0
+SumsUp (Ok due) tally result out out' = HandsOver result (drill_text tally) out out'
+SumsUp (Err ending) tally result out out' = (result ≡ Err ending) × (out' ≡ out)
+
+-- a run that keeps its promises, and what was handed over of its end
+pub record RunsDrill (turns : ℕ) (start told : Option (List Mark)) (tally : Tally)
+    (result : Result Status MeantEnding) (out out' : Option (List ℕ)) : Type 0 where
+  pub answer : Ended
+  pub run : IsRun RefusesAll any_policy 0 turns None None start told answer
+  pub ends : SumsUp (told_as answer) tally result out out'
+
+-- where the wire wasn't opened nothing is served
+abbrev pub DrillShares : ℕ → Option (List Mark) → Option (List Mark) → Tally
+    → Result Status MeantEnding → Option (List ℕ) → Option (List ℕ) → Type 0
+DrillShares turns start told tally (Err endings.NotOpened) out out' =
+    IsUndrilled start told out out'
+DrillShares turns start told tally (Err endings.NoMemory) out out' =
+    IsUndrilled start told out out'
+    ⊎ RunsDrill turns start told tally (Err endings.NoMemory) out out'
+DrillShares turns start told tally result out out' =
+    RunsDrill turns start told tally result out out'
+
+-- how a drill went
+pub record DrillGoes (words : List Bytes) (turns : ℕ) (result : Result Status MeantEnding)
+    (openings openings' : Option (List Opening)) (start told : Option (List Mark)) (tally : Tally)
+    (out out' : Option (List ℕ)) (server server' client client' : ℕ) : Type 0 where
+  pub ends : EndsDrill result
+  pub opened : OpensAt [] (drill_transport words) (so_far result) openings openings'
+  pub shared : DrillShares turns start told tally result out out'
+  pub cause : WireCause (so_far result) server server' client client'
