@@ -165,7 +165,11 @@ impl LineReader {
         ensures few { result ≤ 17 }
         ensures count { result ≡ open_count self.now.lines }
     {
-        let top = if self.lines.open_files.top.is_some() { 1 } else { 0 };
+        let top = if self.lines.open_files.top.is_some() {
+            1
+        } else {
+            0
+        };
         self.lines.open_files.below.len() + top
     }
 }
