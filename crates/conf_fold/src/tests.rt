@@ -83,9 +83,18 @@ fn takes(alloc: Global, fold: &mut Fold, lines: &[Given<'_>], runner: &mut MapRu
         .all(|line| give(alloc, fold, line, runner).is_ok())
 }
 
+/// The value of a key at a place.
+fn nth(settings: &Settings, key: Key, i: usize) -> Option<&Value> {
+    let mut values = settings
+        .as_slice()
+        .iter()
+        .filter(|given| given.0.place() == key.place());
+    Some(&values.nth(i)?.1)
+}
+
 /// Whether the value of a key at a place is a word.
 fn is_word(settings: &Settings, key: Key, i: usize, word: &[u8]) -> bool {
-    match settings.nth(key, i) {
+    match nth(settings, key, i) {
         Some(Value::Word(text)) => text.as_bytes() == word,
         _ => false,
     }
@@ -145,7 +154,7 @@ fn a_second_pass_collects_no_line_twice(rt: HostRuntime) -> Result<(), Fail> {
     for (i, file) in [b"o".as_slice(), b"a", b"b"].iter().enumerate() {
         assert!(rt; is_word(&settings, Key::IdentityFile, i, file));
     }
-    assert!(rt; settings.nth(Key::IdentityFile, 3).is_none());
+    assert!(rt; nth(&settings, Key::IdentityFile, 3).is_none());
     assert!(rt; is_word(&settings, Key::User, 0, b"second"));
     Ok(())
 }

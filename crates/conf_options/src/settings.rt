@@ -56,22 +56,6 @@ fn port_of(all: &[(Key, Value)]) -> u16
     }
 }
 
-/// The value of a key at a place.
-fn nth_of(all: &[(Key, Value)], key: Key, i: usize) -> Option<&Value>
-    ensures { option_copied result ≡ slice_get (values_among key all.now) i }
-{
-    let mut left = i;
-    for (other, value) in all {
-        if key.place() == other.place() {
-            if left == 0 {
-                return Some(value);
-            }
-            left -= 1;
-        }
-    }
-    None
-}
-
 /// Whether a key has no value.
 fn is_unset(all: &[(Key, Value)], key: Key) -> bool
     ensures { result ≡ is_unset key all.now }
@@ -199,11 +183,11 @@ impl Settings {
         first_of(self.all.as_slice(), key)
     }
 
-    /// The value of a key at a place, counted from 0.
-    pub fn nth(&self, key: Key, i: usize) -> Option<&Value>
-        ensures { option_copied result ≡ slice_get (values_among key self.now) i }
+    /// All values that are kept, each behind its key, in the order in which they came.
+    pub fn as_slice(&self) -> &[(Key, Value)]
+        ensures { result.now ≡ self.now }
     {
-        nth_of(self.all.as_slice(), key, i)
+        self.all.as_slice()
     }
 
     /// The first Port, or 22.

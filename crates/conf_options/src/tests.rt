@@ -248,9 +248,18 @@ fn offer(
     Ok(settings.offer(key, value)?)
 }
 
+/// The value of a key at a place.
+fn nth(settings: &Settings, key: Key, i: usize) -> Option<&Value> {
+    let mut values = settings
+        .as_slice()
+        .iter()
+        .filter(|given| given.0.place() == key.place());
+    Some(&values.nth(i)?.1)
+}
+
 /// Whether the value of a key at a place is a word.
 fn is_word(settings: &Settings, key: Key, i: usize, word: &[u8]) -> bool {
-    match settings.nth(key, i) {
+    match nth(settings, key, i) {
         Some(Value::Word(text)) => text.as_bytes() == word,
         _ => false,
     }
@@ -293,9 +302,9 @@ fn settings_keep_what_counts(rt: HostRuntime) -> Result<(), Fail> {
         }
     }
     assert!(rt; is_word(&settings, Key::User, 0, b"ann"));
-    assert!(rt; settings.nth(Key::User, 1).is_none());
+    assert!(rt; nth(&settings, Key::User, 1).is_none());
     assert!(rt; is_word(&settings, Key::IdentityFile, 1, b"a"));
-    assert!(rt; settings.nth(Key::IdentityFile, 2).is_none());
+    assert!(rt; nth(&settings, Key::IdentityFile, 2).is_none());
     assert!(rt; is_word(&settings, Key::ProxyJump, 0, b"none"));
     assert!(rt; settings.first(Key::ProxyCommand).is_none());
     assert!(rt; settings.first(Key::Tag).is_none());

@@ -63,14 +63,13 @@ fn put_values(
 ) -> Result<(), OutOfMemory>
     ensures { OnOk result (out.new ≡ out.old ++ lines key (value_texts settings.now key)) }
 {
-    for i in 0..usize::MAX {
-        let Some(value) = settings.nth(key, i) else {
-            return Ok(());
-        };
-        put_value(alloc, out, key.keyword(), value)?;
+    let given = settings.as_slice();
+    for (other, value) in given {
+        if key.place() == other.place() {
+            put_value(alloc, out, key.keyword(), value)?;
+        }
     }
-    // No memory holds more values.
-    Err(OutOfMemory)
+    Ok(())
 }
 
 /// The line of a key's default, if it has one.

@@ -61,10 +61,10 @@ no-file told place blocks o below top = rw (below, top) refl
 rest-left : (told : Told) (place : ℕ) (opened : List Line) (firsts : List FirstFile) → opened ≡ [] → opened ++ firsts_left told (place + length opened) firsts ≡ firsts_left told place firsts
 rest-left told place opened firsts e = let n : place + 0 ≡ place = omega arith in rw (e, n) refl
 
-pub empty-left : (told : Told) (place : ℕ) (blocks : Blocks) (r : Lines) → r.open.below.items ≡ [] → r.open.top ≡ None → left told place blocks r ≡ firsts_left told place (drop r.next_first r.firsts.items)
-empty-left told place blocks r below top = rest-left told place (open_left told place blocks r.open) (drop r.next_first r.firsts.items) (no-file told place blocks r.open below top)
+pub empty-left : (told : Told) (place : ℕ) (blocks : Blocks) (r : Lines) → r.open_files.below.items ≡ [] → r.open_files.top ≡ None → left told place blocks r ≡ firsts_left told place (drop r.next_first r.firsts.items)
+empty-left told place blocks r below top = rest-left told place (open_left told place blocks r.open_files) (drop r.next_first r.firsts.items) (no-file told place blocks r.open_files below top)
 
-pub ended-left : (told : Told) (place : ℕ) (blocks : Blocks) (r : Lines) → r.open.below.items ≡ [] → r.open.top ≡ None → length r.firsts.items ≤ r.next_first → left told place blocks r ≡ []
+pub ended-left : (told : Told) (place : ℕ) (blocks : Blocks) (r : Lines) → r.open_files.below.items ≡ [] → r.open_files.top ≡ None → length r.firsts.items ≤ r.next_first → left told place blocks r ≡ []
 ended-left told place blocks r below top past = empty-left told place blocks r below top ∙ ap (firsts_left told place) (drop_of_length-le r.firsts.items past)
 
 -- ---- the files that no line includes

@@ -40,10 +40,10 @@ pub first-none : (told : Told) (place : ℕ) (f : FirstFile) → f.required ≡ 
 first-none told place f required content = rw (required, content) refl
 
 -- a first file begins
-pub begins-left : (told : Told) (place : ℕ) (blocks : Blocks) (r : Lines) (f : FirstFile) (path text : Bytes) (new : OpenFile) → r.open.top ≡ None → r.open.below.items ≡ [] → slice_get r.firsts.items r.next_first ≡ Some f → is_plain_first f ≡ true
+pub begins-left : (told : Told) (place : ℕ) (blocks : Blocks) (r : Lines) (f : FirstFile) (path text : Bytes) (new : OpenFile) → r.open_files.top ≡ None → r.open_files.below.items ≡ [] → slice_get r.firsts.items r.next_first ≡ Some f → is_plain_first f ≡ true
     → path ≡ f.path → told.content f.path ≡ Some text → nat_lt size_limit (length text) ≡ false
     → new ≡ record { path = path; text = text; at = 0; number = 1; include = None; named = []; next = 0 }
-    → left told place blocks r ≡ parts_left told place blocks f.system r.open.below.items (Some new) true ++ firsts_left told (place + length (parts_left told place blocks f.system r.open.below.items (Some new) true)) (drop (r.next_first + 1) r.firsts.items)
+    → left told place blocks r ≡ parts_left told place blocks f.system r.open_files.below.items (Some new) true ++ firsts_left told (place + length (parts_left told place blocks f.system r.open_files.below.items (Some new) true)) (drop (r.next_first + 1) r.firsts.items)
 unfolding file_lines
 begins-left told place blocks r f path text new top below named plain path-is content small new-is =
     let source = source_of f.system in
@@ -51,12 +51,12 @@ begins-left told place blocks r f path text new top below named plain path-is co
     let file-is : file ≡ new = ap (λ p. record { path = p; text = text; at = 0; number = 1; include = None; named = []; next = 0 }) (sym path-is) ∙ sym new-is in
     let here = first_left told (place + 0) f in
     let later = drop (r.next_first + 1) r.firsts.items in
-    let nothing : open_left told place blocks r.open ≡ [] = rw (top, below) refl in
+    let nothing : open_left told place blocks r.open_files ≡ [] = rw (top, below) refl in
     let next : suc r.next_first ≡ r.next_first + 1 = omega arith in
     let firsts : drop r.next_first r.firsts.items ≡ f ∷ later = drop-at r.firsts.items r.next_first f named ∙ ap (λ i. f ∷ drop i r.firsts.items) next in
     let old : left told place blocks r ≡ here ++ firsts_left told (place + 0 + length here) later =
     ap (λ o. o ++ firsts_left told (place + length o) (drop r.next_first r.firsts.items)) nothing ∙ ap (firsts_left told (place + 0)) firsts in
-    let opened : parts_left told place blocks f.system r.open.below.items (Some new) true ≡ here =
+    let opened : parts_left told place blocks f.system r.open_files.below.items (Some new) true ≡ here =
     ap (λ fs. parts_left told place blocks f.system fs (Some new) true) below
     ∙ ap (λ x. parts_left told place blocks f.system [] (Some x) true) (sym file-is)
     ∙ new-left told source 0 [] file (place + 0) refl refl refl
@@ -79,18 +79,18 @@ plain-at (g ∷ fs) (suc i) f e h = plain-at fs i f (two (is_plain_first g) (lis
     two false b e = absurd cc
 
 -- nothing is open
-nothing-open : (told : Told) (place : ℕ) (blocks : Blocks) (r : Lines) → r.open.top ≡ None → r.open.below.items ≡ [] → open_left told place blocks r.open ≡ []
+nothing-open : (told : Told) (place : ℕ) (blocks : Blocks) (r : Lines) → r.open_files.top ≡ None → r.open_files.below.items ≡ [] → open_left told place blocks r.open_files ≡ []
 nothing-open told place blocks r top below = rw (top, below) refl
 
 -- what is left begins with the next first file
-next-left : (told : Told) (place : ℕ) (blocks : Blocks) (r : Lines) (f : FirstFile) → r.open.top ≡ None → r.open.below.items ≡ [] → slice_get r.firsts.items r.next_first ≡ Some f
+next-left : (told : Told) (place : ℕ) (blocks : Blocks) (r : Lines) (f : FirstFile) → r.open_files.top ≡ None → r.open_files.below.items ≡ [] → slice_get r.firsts.items r.next_first ≡ Some f
     → left told place blocks r ≡ first_left told (place + 0) f ++ firsts_left told (place + 0 + length (first_left told (place + 0) f)) (drop (r.next_first + 1) r.firsts.items)
 next-left told place blocks r f top below named =
     let next : suc r.next_first ≡ r.next_first + 1 = omega arith in
     let firsts : drop r.next_first r.firsts.items ≡ f ∷ drop (r.next_first + 1) r.firsts.items = drop-at r.firsts.items r.next_first f named ∙ ap (λ i. f ∷ drop i r.firsts.items) next in
     ap (λ o. o ++ firsts_left told (place + length o) (drop r.next_first r.firsts.items)) (nothing-open told place blocks r top below) ∙ ap (firsts_left told (place + 0)) firsts
 
-pub passes-left : (told : Told) (place : ℕ) (blocks : Blocks) (r : Lines) (f : FirstFile) → r.open.top ≡ None → r.open.below.items ≡ [] → slice_get r.firsts.items r.next_first ≡ Some f → told.content f.path ≡ None → f.required ≡ false
+pub passes-left : (told : Told) (place : ℕ) (blocks : Blocks) (r : Lines) (f : FirstFile) → r.open_files.top ≡ None → r.open_files.below.items ≡ [] → slice_get r.firsts.items r.next_first ≡ Some f → told.content f.path ≡ None → f.required ≡ false
     → left told place blocks r ≡ left told place blocks (record r { next_first = r.next_first + 1 })
 passes-left told place blocks r f top below named none required =
     let later = drop (r.next_first + 1) r.firsts.items in
@@ -101,7 +101,7 @@ passes-left told place blocks r f top below named none required =
     ∙ sym (ap (λ o. o ++ firsts_left told (place + length o) later) (nothing-open told place blocks r top below))
 
 -- a file that is refused
-pub file-refused : (told : Told) (place : ℕ) (blocks : Blocks) (r : Lines) (f : FirstFile) (line : Line) (rest : List Line) (cause : Cause) → r.open.top ≡ None → r.open.below.items ≡ [] → slice_get r.firsts.items r.next_first ≡ Some f
+pub file-refused : (told : Told) (place : ℕ) (blocks : Blocks) (r : Lines) (f : FirstFile) (line : Line) (rest : List Line) (cause : Cause) → r.open_files.top ≡ None → r.open_files.below.items ≡ [] → slice_get r.firsts.items r.next_first ≡ Some f
     → first_left told (place + 0) f ≡ line ∷ rest → line.file ≡ f.path → line.number ≡ 0 → line.content ≡ Refused cause → RefusesFirst (left told place blocks r) f.path 0 cause
 file-refused told place blocks r f line rest cause top below named here file number content = record {
   line = line;
@@ -112,12 +112,12 @@ file-refused told place blocks r f line rest cause top below named here file num
   content = content;
 }
 
-pub lack-refused : (told : Told) (place : ℕ) (blocks : Blocks) (r : Lines) (f : FirstFile) → r.open.top ≡ None → r.open.below.items ≡ [] → slice_get r.firsts.items r.next_first ≡ Some f → told.content f.path ≡ None → f.required ≡ true
+pub lack-refused : (told : Told) (place : ℕ) (blocks : Blocks) (r : Lines) (f : FirstFile) → r.open_files.top ≡ None → r.open_files.below.items ≡ [] → slice_get r.firsts.items r.next_first ≡ Some f → told.content f.path ≡ None → f.required ≡ true
     → RefusesFirst (left told place blocks r) f.path 0 causes.NoFile
 lack-refused told place blocks r f top below named none required =
     file-refused told place blocks r f (record { source = UserFile; file = f.path; number = 0; depth = 0; blocks = []; content = Refused causes.NoFile }) [] causes.NoFile top below named (rw (required, none) refl) refl refl refl
 
-pub size-refused : (told : Told) (place : ℕ) (blocks : Blocks) (r : Lines) (f : FirstFile) (text : Bytes) → r.open.top ≡ None → r.open.below.items ≡ [] → slice_get r.firsts.items r.next_first ≡ Some f → is_plain_first f ≡ true → told.content f.path ≡ Some text → nat_lt size_limit (length text) ≡ true
+pub size-refused : (told : Told) (place : ℕ) (blocks : Blocks) (r : Lines) (f : FirstFile) (text : Bytes) → r.open_files.top ≡ None → r.open_files.below.items ≡ [] → slice_get r.firsts.items r.next_first ≡ Some f → is_plain_first f ≡ true → told.content f.path ≡ Some text → nat_lt size_limit (length text) ≡ true
     → RefusesFirst (left told place blocks r) f.path 0 causes.TooLarge
 unfolding file_lines
 size-refused told place blocks r f text top below named plain content large =
@@ -136,27 +136,27 @@ below-end [] i f e = absurd cc
 below-end (x ∷ xs) zero f e = omega arith
 below-end (x ∷ xs) (suc i) f e = let k = below-end xs i f e in omega (arith, k)
 
-pub passes-next : (told : Told) (place : ℕ) (blocks : Blocks) (r : Lines) → r.open.top ≡ None → r.open.below.items ≡ [] → r.next_first < length r.firsts.items → IsLacking told r → left told place blocks r ≡ left told place blocks (record r { next_first = r.next_first + 1 })
+pub passes-next : (told : Told) (place : ℕ) (blocks : Blocks) (r : Lines) → r.open_files.top ≡ None → r.open_files.below.items ≡ [] → r.next_first < length r.firsts.items → IsLacking told r → left told place blocks r ≡ left told place blocks (record r { next_first = r.next_first + 1 })
 passes-next told place blocks r top below low lacks = by (slice_get r.firsts.items r.next_first) refl lacks
   where
     by : (o : Option FirstFile) → slice_get r.firsts.items r.next_first ≡ o → IfSome o (λ f. (told.content f.path ≡ None) × (f.required ≡ false)) → left told place blocks r ≡ left told place blocks (record r { next_first = r.next_first + 1 })
     by None e h = absurd (within r.firsts.items r.next_first low e)
     by (Some f) e h = passes-left told place blocks r f top below e h.0 h.1
 
-pub size-moves : (told : Told) (place : ℕ) (blocks : Blocks) (r : Lines) (f : FirstFile) (e : ResolveError) (content : Option Bytes) → told.content f.path ≡ content → r.open.top ≡ None → r.open.below.items ≡ [] → slice_get r.firsts.items r.next_first ≡ Some f → is_plain_first f ≡ true → IsFound TooLarge content
+pub size-moves : (told : Told) (place : ℕ) (blocks : Blocks) (r : Lines) (f : FirstFile) (e : ResolveError) (content : Option Bytes) → told.content f.path ≡ content → r.open_files.top ≡ None → r.open_files.below.items ≡ [] → slice_get r.firsts.items r.next_first ≡ Some f → is_plain_first f ≡ true → IsFound TooLarge content
     → Refuses (line_errors.Refused causes.TooLarge) f.path 0 e → moved (left told place blocks r) [] e
 size-moves told place blocks r f e None content top below named plain found refused = absurd found
 size-moves told place blocks r f e (Some text) content top below named plain found refused = moves-refused (left told place blocks r) [] f.path 0 causes.TooLarge e refused (size-refused told place blocks r f text top below named plain content found)
 
 -- ---- steps of open files are steps of a reader
 
-lift-first : (told : Told) (place : ℕ) (blocks : Blocks) (r : Lines) (file : Bytes) (number : ℕ) (cause : Cause) → RefusesFirst (open_left told place blocks r.open) file number cause → RefusesFirst (left told place blocks r) file number cause
+lift-first : (told : Told) (place : ℕ) (blocks : Blocks) (r : Lines) (file : Bytes) (number : ℕ) (cause : Cause) → RefusesFirst (open_left told place blocks r.open_files) file number cause → RefusesFirst (left told place blocks r) file number cause
 lift-first told place blocks r file number cause f =
-    let later = firsts_left told (place + length (open_left told place blocks r.open)) (drop r.next_first r.firsts.items) in
+    let later = firsts_left told (place + length (open_left told place blocks r.open_files)) (drop r.next_first r.firsts.items) in
     record { line = f.line; rest = f.rest ++ later; is = ap (λ o. o ++ later) f.is; file_is = f.file_is; number_is = f.number_is; content = f.content }
 
-pub lift-moves : {A : Type 0} (told : Told) (place : ℕ) (blocks : Blocks) (r : Lines) (n : OpenFiles) (res : Result A ResolveError) → Moves {A = A} (open_left told place blocks r.open) (open_left told place blocks n) res
-    → Moves {A = A} (left told place blocks r) (left told place blocks (record r { «open» = n })) res
+pub lift-moves : {A : Type 0} (told : Told) (place : ℕ) (blocks : Blocks) (r : Lines) (n : OpenFiles) (res : Result A ResolveError) → Moves {A = A} (open_left told place blocks r.open_files) (open_left told place blocks n) res
+    → Moves {A = A} (left told place blocks r) (left told place blocks (record r { open_files = n })) res
 lift-moves told place blocks r n (Ok b) m = ap (λ o. o ++ firsts_left told (place + length o) (drop r.next_first r.firsts.items)) m
 lift-moves told place blocks r n (Err errors.OutOfMemory) m = tt
 lift-moves told place blocks r n (Err (errors.At file number cause)) m = λ fault. lift-first told place blocks r file number cause (m fault)

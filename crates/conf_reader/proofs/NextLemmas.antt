@@ -22,7 +22,7 @@ idle-append told [] ys place h k = subst (λ n. AreIdle told n ys) (let z : plac
 idle-append told (x ∷ xs) ys place h k = (h.0, idle-append told xs ys (place + 1) h.1 (subst (λ n. AreIdle told n ys) (let z : place + suc (length xs) ≡ place + 1 + length xs = omega arith in z) k))
 
 -- one more comment
-pub more : (told : Told) (place : ℕ) (blocks : Blocks) (old now new : Lines) (s : SoFar told place blocks old now) → OneLine told (place + length s.comments) blocks now new (Ok steps.Comment) → new.read ≡ now.read + 1 → Bounded new.open (length blocks) → SoFar told place blocks old new
+pub more : (told : Told) (place : ℕ) (blocks : Blocks) (old now new : Lines) (s : SoFar told place blocks old now) → OneLine told (place + length s.comments) blocks now new (Ok steps.Comment) → new.read ≡ now.read + 1 → Bounded new.open_files (length blocks) → SoFar told place blocks old new
 more told place blocks old now new s o count bounded =
     let n : place + length s.comments + 1 ≡ place + length (s.comments ++ o.0 ∷ []) = let k = length-append s.comments (o.0 ∷ []) in omega (arith, k) in
     let c = s.count in
@@ -87,7 +87,7 @@ pub one-reads : (told : Told) (place : ℕ) (blocks : Blocks) (old new : Lines) 
 one-reads told place blocks old new errors.OutOfMemory h = tt
 one-reads told place blocks old new (errors.At file number cause) h = h
 
-pub given-from : (old mid new : Lines) (r : Result (Option ConfLine) ResolveError) → ((n : ℕ) → Bounded old.open n → Bounded mid.open n) → mid.read ≡ old.read
+pub given-from : (old mid new : Lines) (r : Result (Option ConfLine) ResolveError) → ((n : ℕ) → Bounded old.open_files n → Bounded mid.open_files n) → mid.read ≡ old.read
     → IfOk r (λ given. IfSome given (IsGivenFrom mid new)) → IfOk r (λ given. IfSome given (IsGivenFrom old new))
 given-from old mid new (Err e) kept count h = tt
 given-from old mid new (Ok None) kept count h = tt

@@ -50,24 +50,24 @@ unfolding entry_of
 comment-idle told line place read c at low = λ rows. rw (within-limit told line place read at low, c.spelled, c.head) refl
 
 -- what is left of all files, one line on
-pub left-on : (told : Told) (place : ℕ) (blocks others : Blocks) (r n : Lines) (line : Line) → open_left told place blocks r.open ≡ line ∷ open_left told (place + 1) others n.open → n.firsts.items ≡ r.firsts.items → n.next_first ≡ r.next_first
+pub left-on : (told : Told) (place : ℕ) (blocks others : Blocks) (r n : Lines) (line : Line) → open_left told place blocks r.open_files ≡ line ∷ open_left told (place + 1) others n.open_files → n.firsts.items ≡ r.firsts.items → n.next_first ≡ r.next_first
     → left told place blocks r ≡ line ∷ left told (place + 1) others n
 left-on told place blocks others r n line e firsts next =
-    let k : place + length (line ∷ open_left told (place + 1) others n.open) ≡ place + 1 + length (open_left told (place + 1) others n.open) = omega arith in
+    let k : place + length (line ∷ open_left told (place + 1) others n.open_files) ≡ place + 1 + length (open_left told (place + 1) others n.open_files) = omega arith in
     ap (λ o. o ++ firsts_left told (place + length o) (drop r.next_first r.firsts.items)) e
-    ∙ ap (λ m. line ∷ (open_left told (place + 1) others n.open ++ firsts_left told m (drop r.next_first r.firsts.items))) k
-    ∙ ap (λ fs. line ∷ (open_left told (place + 1) others n.open ++ firsts_left told (place + 1 + length (open_left told (place + 1) others n.open)) (drop r.next_first fs))) (sym firsts)
-    ∙ ap (λ i. line ∷ (open_left told (place + 1) others n.open ++ firsts_left told (place + 1 + length (open_left told (place + 1) others n.open)) (drop i n.firsts.items))) (sym next)
+    ∙ ap (λ m. line ∷ (open_left told (place + 1) others n.open_files ++ firsts_left told m (drop r.next_first r.firsts.items))) k
+    ∙ ap (λ fs. line ∷ (open_left told (place + 1) others n.open_files ++ firsts_left told (place + 1 + length (open_left told (place + 1) others n.open_files)) (drop r.next_first fs))) (sym firsts)
+    ∙ ap (λ i. line ∷ (open_left told (place + 1) others n.open_files ++ firsts_left told (place + 1 + length (open_left told (place + 1) others n.open_files)) (drop i n.firsts.items))) (sym next)
 
 -- a line whose head is refused
-pub head-refused : (told : Told) (place read : ℕ) (blocks : Blocks) (r : Lines) (file : List ℕ) (number : ℕ) (cause : Cause) → RefusesHead (open_left told place blocks r.open) file number cause → place ≡ length told.asked.lines + read → read < 100000
+pub head-refused : (told : Told) (place read : ℕ) (blocks : Blocks) (r : Lines) (file : List ℕ) (number : ℕ) (cause : Cause) → RefusesHead (open_left told place blocks r.open_files) file number cause → place ≡ length told.asked.lines + read → read < 100000
     → RefusesNext told place (left told place blocks r) file number cause
 unfolding entry_of
 head-refused told place read blocks r file number cause h at low = record {
   comments = [];
   line = h.line;
-  rest = h.rest ++ firsts_left told (place + length (open_left told place blocks r.open)) (drop r.next_first r.firsts.items);
-  is = ap (λ o. o ++ firsts_left told (place + length (open_left told place blocks r.open)) (drop r.next_first r.firsts.items)) h.is;
+  rest = h.rest ++ firsts_left told (place + length (open_left told place blocks r.open_files)) (drop r.next_first r.firsts.items);
+  is = ap (λ o. o ++ firsts_left told (place + length (open_left told place blocks r.open_files)) (drop r.next_first r.firsts.items)) h.is;
   idle = tt;
   file_is = h.file_is;
   number_is = h.number_is;
@@ -117,10 +117,10 @@ past-limit : (told : Told) (line : Line) (place read : ℕ) → place ≡ length
 unfolding line_limit
 past-limit told line place read at many asked refusal = rw (asked, refusal) (le-leb 100000 (place - length told.asked.lines) (omega (arith, at, many)))
 
-too-many : (told : Told) (place read : ℕ) (blocks : Blocks) (r : Lines) (f : OpenFile) → r.open.top ≡ Some f → IsSettled f → f.at < length f.text → place ≡ length told.asked.lines + read → 100000 ≤ read
+too-many : (told : Told) (place read : ℕ) (blocks : Blocks) (r : Lines) (f : OpenFile) → r.open_files.top ≡ Some f → IsSettled f → f.at < length f.text → place ≡ length told.asked.lines + read → 100000 ≤ read
     → RefusesNext told place (left told place blocks r) f.path f.number causes.TooManyLines
 too-many told place read blocks r f top s low at many =
-    let o = r.open in
+    let o = r.open_files in
     let fs = o.below.items in
     let source = source_of o.system in
     let here = drop (length fs) (cur o blocks) in
@@ -147,12 +147,12 @@ one-refused told place blocks old new file number cause errors.OutOfMemory r n =
 one-refused told place blocks old new file number cause (errors.At f m c) r n = λ fault.
     record { comments = n.comments; line = n.line; rest = n.rest; is = n.is; idle = n.idle; file_is = n.file_is ∙ (let k : file ≡ f = cc in k); number_is = n.number_is ∙ (let k : number ≡ m = cc in k); refused = λ rows. n.refused rows ∙ ap (λ x. Err x) (let k : cause ≡ c = cc in k) }
 
-pub limit-reached : (told : Told) (place read : ℕ) (blocks : Blocks) (r new : Lines) (t : Option OpenFile) (e : ResolveError) → r.open.top ≡ t → IsSome t → IfSome t (λ f. IsSettled f × (f.at < length f.text)) → IfSome t (λ f. Refuses (line_errors.Refused causes.TooManyLines) f.path f.number e)
+pub limit-reached : (told : Told) (place read : ℕ) (blocks : Blocks) (r new : Lines) (t : Option OpenFile) (e : ResolveError) → r.open_files.top ≡ t → IsSome t → IfSome t (λ f. IsSettled f × (f.at < length f.text)) → IfSome t (λ f. Refuses (line_errors.Refused causes.TooManyLines) f.path f.number e)
     → place ≡ length told.asked.lines + read → 100000 ≤ read → OneLine told place blocks r new (Err e)
 limit-reached told place read blocks r new None e top some line refused at many = absurd (let k : false ≡ true = some in cc)
 limit-reached told place read blocks r new (Some f) e top some line refused at many = one-refused told place blocks r new f.path f.number causes.TooManyLines e refused (too-many told place read blocks r f top line.0 line.1 at many)
 
-pub head-failed : (told : Told) (place read : ℕ) (blocks : Blocks) (r new : Lines) (n : OpenFiles) (e : ResolveError) → Takes told place blocks r.open n (Err e) → place ≡ length told.asked.lines + read → read < 100000 → OneLine told place blocks r new (Err e)
+pub head-failed : (told : Told) (place read : ℕ) (blocks : Blocks) (r new : Lines) (n : OpenFiles) (e : ResolveError) → Takes told place blocks r.open_files n (Err e) → place ≡ length told.asked.lines + read → read < 100000 → OneLine told place blocks r new (Err e)
 head-failed told place read blocks r new n errors.OutOfMemory t at low = tt
 head-failed told place read blocks r new n (errors.At file number cause) t at low = λ fault. head-refused told place read blocks r file number cause t at low
 

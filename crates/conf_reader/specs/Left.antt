@@ -271,7 +271,7 @@ firsts_left told place (f ∷ fs) = let here = first_left told place f in here +
 
 -- what a reader has still to give
 abbrev pub left : Told → ℕ → Blocks → Lines → List Line
-left told place blocks r = let o = open_left told place blocks r.open in o ++ firsts_left told (place + length o) (drop r.next_first r.firsts.items)
+left told place blocks r = let o = open_left told place blocks r.open_files in o ++ firsts_left told (place + length o) (drop r.next_first r.firsts.items)
 
 -- a required file is a user's
 abbrev pub is_plain_first : FirstFile → Bool

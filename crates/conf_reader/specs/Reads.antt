@@ -19,7 +19,7 @@ use Rattle.conf_reader.specs.Left.{left, stack, Bounded, IsGiven}
 
 -- how many files a reader has open
 abbrev pub open_count : Lines → ℕ
-open_count r = length (stack r.open)
+open_count r = length (stack r.open_files)
 
 -- a line says nothing, whatever stands before it
 abbrev pub IsIdle : Told → ℕ → Line → Type 0
@@ -85,14 +85,14 @@ pub record SoFar (told : Told) (place : ℕ) (blocks : Blocks) (old now : Lines)
   pub is : left told place blocks old ≡ comments ++ left told (place + length comments) blocks now
   pub idle : AreIdle told place comments
   pub count : place + length comments ≡ length told.asked.lines + now.read
-  pub bounded : Bounded now.open (length blocks)
+  pub bounded : Bounded now.open_files (length blocks)
 
 -- ---- what holds behind a line that was given
 
 -- behind a given line a reader can go on; the line lies where files are open, and it was counted
 pub record IsGivenFrom (old new : Lines) (line : ConfLine) : Type 0 where
-  pub state : IsGiven new.open
-  pub lies : (n : ℕ) → Bounded old.open n → LiesAt n (open_count new) line
+  pub state : IsGiven new.open_files
+  pub lies : (n : ℕ) → Bounded old.open_files n → LiesAt n (open_count new) line
   pub further : 100000 - new.read < 100000 - old.read
 
 abbrev pub GivenStep : Step → Lines → Lines → Type 0

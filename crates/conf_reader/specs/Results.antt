@@ -1,9 +1,10 @@
 -- What the calls of this crate returned.
-use Rattle.std.specs.Prelude.{◌≡◌, ◌≤◌, ℕ, Bool, false, Result, Ok, Err}
+use Rattle.std.specs.Prelude.{◌≡◌, ◌≤◌, ℕ, Bool, true, false, Result, Ok, Err}
 use Rattle.std.specs.Bool.{MatchBool}
 use Rattle.mux_outside.specs.declared.file_error.FileError.{FileError}
 use Rattle.mux_outside.specs.declared.file_error.FileError.TheVariants as file_errors
 use Rattle.mux_outside.specs.Counts.{Rose}
+use Rattle.conf_rules.specs.declared.causes.Cause.{Cause}
 use Rattle.conf_rules.specs.declared.causes.Cause.TheVariants as causes
 use Rattle.conf_rules.specs.declared.causes.LexError.{LexError}
 use Rattle.conf_rules.specs.declared.causes.LexError.TheVariants as lex_errors
@@ -36,10 +37,15 @@ abbrev pub is_line_fault : LineError → Bool
 is_line_fault line_errors.OutOfMemory = false
 is_line_fault (line_errors.Refused cause) = is_fault cause
 
--- a fault of files comes only where their count rose, and every other answer leaves it
+-- a fault is one of reading, and comes only where the files' count rose; every other cause leaves it
+abbrev pub IsFilesCause : Cause → ℕ → ℕ → Type 0
+IsFilesCause cause before now = MatchBool (is_fault cause) ((cause ≡ causes.ReadFault) × Rose before now) (now ≡ before)
+
+-- the same of a line's reading
 abbrev pub HasLineCause : {A : Type 0} → Result A LineError → ℕ → ℕ → Type 0
 HasLineCause (Ok x) before now = now ≡ before
-HasLineCause (Err e) before now = MatchBool (is_line_fault e) (Rose before now) (now ≡ before)
+HasLineCause (Err line_errors.OutOfMemory) before now = now ≡ before
+HasLineCause (Err (line_errors.Refused cause)) before now = IsFilesCause cause before now
 
 -- the refusal of a line of a file, unless memory was wanting
 abbrev pub Refuses : LineError → Bytes → ℕ → ResolveError → Type 0
@@ -53,6 +59,17 @@ abbrev pub HasReadCause : {A : Type 0} → Result A ResolveError → ℕ → ℕ
 HasReadCause (Ok x) before now = now ≡ before
 HasReadCause (Err OutOfMemory) before now = before ≤ now
 HasReadCause (Err (At file line cause)) before now = MatchBool (is_fault cause) (Rose before now) (now ≡ before)
+
+-- the same of a refusal, whose fault is one of reading
+abbrev pub HasFilesCause : {A : Type 0} → Result A ResolveError → ℕ → ℕ → Type 0
+HasFilesCause (Ok x) before now = now ≡ before
+HasFilesCause (Err OutOfMemory) before now = before ≤ now
+HasFilesCause (Err (At file line cause)) before now = IsFilesCause cause before now
+
+-- whether a refusal tells that a command failed to run
+abbrev pub is_run_fault : ResolveError → Bool
+is_run_fault (At file line causes.RunFault) = true
+is_run_fault e = false
 
 -- whether a refusal is a fault of files
 abbrev pub is_read_fault : ResolveError → Bool

@@ -1,6 +1,6 @@
 ghost use Rattle.std.specs.Prelude.{◌≡◌, ◌≤◌, ◌+◌, ◌++◌, ◌∷◌, [], ℕ, IfOk, IfSome, OnOk, length, codes};
 ghost use Rattle.conf_tokens.specs.Known.{known};
-ghost use Rattle.std.specs.Prelude.{true};
+ghost use Rattle.std.specs.Prelude.{true, false, IfErr};
 ghost use Rattle.std.specs.List.{list_all};
 ghost use Rattle.conf_reader.specs.Firsts.{firsts_of};
 ghost use Rattle.conf_reader.specs.Left.{is_plain_first};
@@ -111,7 +111,7 @@ pub struct LineReader {
     lines: Lines,
     facts: Facts,
     original: Text,
-    ghost between: { is_between lines.open ≡ true },
+    ghost between: { is_between lines.open_files ≡ true },
     ghost plain: { list_all is_plain_first lines.firsts.items ≡ true },
 }
 
@@ -122,13 +122,13 @@ impl LineReader {
     ghost use Rattle.conf_reader.specs.Blocks.{Blocks};
     ghost use Rattle.conf_reader.specs.Left.{left, Bounded};
     ghost use Rattle.conf_reader.specs.Reads.{Reads, IsGivenFrom, IsOver, open_count};
-    ghost use Rattle.conf_reader.specs.Results.{HasReadCause};
+    ghost use Rattle.conf_reader.specs.Results.{HasReadCause, is_run_fault};
 
     /// A reader of the files that are asked for.
     pub fn new(alloc: Global, asked: &Asked, facts: &Facts) -> Result<LineReader, OutOfMemory>
         ensures left { IfOk result (λ reader. (told : Told) (place : ℕ) → told.facts ≡ known facts.now → left told place [] reader.lines ≡ lines_from told place asked.now.from) }
         ensures facts { IfOk result (λ reader. (known reader.facts ≡ known facts.now) × (reader.original ≡ asked.now.original)) }
-        ensures none { IfOk result (λ reader. (open_count reader.lines ≡ 0) × Bounded reader.lines.open 0) }
+        ensures none { IfOk result (λ reader. (open_count reader.lines ≡ 0) × Bounded reader.lines.open_files 0) }
         ensures read { IfOk result (λ reader. reader.lines.read ≡ 0) }
     {
         let firsts = first_files(alloc, &asked.from, &facts.home)?;
@@ -140,14 +140,16 @@ impl LineReader {
     }
 
     /// The next line of the files that says something; `None` at the end, and behind a refusal. Refused are files, line counts,
-    /// zero bytes, forms of lines, and what an Include line names, each at its line; a fault only where that of `files` rose.
+    /// zero bytes, forms of lines, and what an Include line names, each at its line; a fault is one of reading, and comes only where
+    /// that of `files` rose.
     pub fn next<F: Files>(&mut self, files: &mut F) -> Result<Option<ConfLine>, ResolveError>
-        ensures reads { (told : Told) (place : ℕ) (blocks : Blocks) → TellsFiles (F.told files.old) told → told.facts ≡ known self.old.facts → told.asked.original ≡ self.old.original → place ≡ length told.asked.lines + self.old.lines.read → Bounded self.old.lines.open (length blocks) → Reads told place blocks self.old.lines self.new.lines result }
+        ensures reads { (told : Told) (place : ℕ) (blocks : Blocks) → TellsFiles (F.told files.old) told → told.facts ≡ known self.old.facts → told.asked.original ≡ self.old.original → place ≡ length told.asked.lines + self.old.lines.read → Bounded self.old.lines.open_files (length blocks) → Reads told place blocks self.old.lines self.new.lines result }
         ensures given { IfOk result (λ given. IfSome given (IsGivenFrom self.old.lines self.new.lines)) }
         ensures ended { IsOver result → (told : Told) (place : ℕ) (blocks : Blocks) → left told place blocks self.new.lines ≡ [] }
         ensures facts { (self.new.facts ≡ self.old.facts) × (self.new.original ≡ self.old.original) }
         ensures told { F.told files.new ≡ F.told files.old }
         ensures cause { HasReadCause result (F.faults files.old) (F.faults files.new) }
+        ensures no_run_fault { IfErr result (λ e. is_run_fault e ≡ false) }
     {
         let given = self
             .lines
@@ -163,7 +165,11 @@ impl LineReader {
         ensures few { result ≤ 17 }
         ensures count { result ≡ open_count self.now.lines }
     {
-        let top = if self.lines.open.top.is_some() { 1 } else { 0 };
-        self.lines.open.below.len() + top
+        let top = if self.lines.open_files.top.is_some() {
+            1
+        } else {
+            0
+        };
+        self.lines.open_files.below.len() + top
     }
 }

@@ -41,7 +41,7 @@ pub struct Lines {
     pub firsts: Vec<FirstFile>,
     /// How many of them were opened or passed over.
     pub next_first: usize,
-    pub open: OpenFiles,
+    pub open_files: OpenFiles,
     /// How many lines were read.
     pub read: u64,
 }
@@ -50,21 +50,21 @@ impl Lines {
     ghost use Rattle.conf_reader.specs.Reads.{OneLine, CountsOne, GivenStep, IsGivenFrom, Reads};
     ghost use Rattle.conf_reader.specs.declared.reader.Step.TheVariants as steps;
     ghost use Rattle.conf_reader.specs.Left.{left, IsReady, IsGiven, Moves, is_plain_first, BeginsWith, Bounded, IsLacking, IsSettled};
-    ghost use Rattle.conf_reader.specs.Results.{Refuses, HasReadCause};
+    ghost use Rattle.conf_reader.specs.Results.{Refuses, HasFilesCause};
     ghost use Rattle.conf_reader.specs.declared.errors.LineError.TheVariants as line_errors;
     ghost use Rattle.std.specs.List.{list_all};
 
     /// The lines of first files, of which none is opened yet.
     pub fn new(alloc: Global, firsts: Vec<FirstFile>) -> Lines
         ensures firsts { result.firsts ≡ firsts }
-        ensures none { (result.open.below.items ≡ []) × (result.open.top ≡ None) × (result.open.fresh ≡ false) }
+        ensures none { (result.open_files.below.items ≡ []) × (result.open_files.top ≡ None) × (result.open_files.fresh ≡ false) }
         ensures counts { (result.next_first ≡ 0) × (result.read ≡ 0) }
     {
         Lines {
             alloc,
             firsts,
             next_first: 0,
-            open: OpenFiles::new(alloc),
+            open_files: OpenFiles::new(alloc),
             read: 0,
         }
     }
@@ -78,15 +78,15 @@ impl Lines {
 
     /// Begins the first file of this text.
     fn begin(&mut self, text: Text) -> Result<(), OutOfMemory>
-        requires none { self.old.open.top ≡ None }
+        requires none { self.old.open_files.top ≡ None }
         requires next { self.old.next_first < length self.old.firsts.items }
         requires plain { list_all is_plain_first self.old.firsts.items ≡ true }
-        requires ready { IsReady self.old.open }
+        requires ready { IsReady self.old.open_files }
         ensures left { OnOk result ((told : Told) (place : ℕ) (blocks : Blocks) → BeginsWith told self.old text → left told place blocks self.old ≡ left told place blocks self.new) }
-        ensures ready { OnOk result (IsReady self.new.open) }
+        ensures ready { OnOk result (IsReady self.new.open_files) }
         ensures firsts { self.new.firsts ≡ self.old.firsts }
         ensures next { OnOk result (self.new.next_first ≡ self.old.next_first + 1) }
-        ensures bounded { OnOk result ((n : ℕ) → Bounded self.old.open n → Bounded self.new.open n) }
+        ensures bounded { OnOk result ((n : ℕ) → Bounded self.old.open_files n → Bounded self.new.open_files n) }
         ensures count { self.new.read ≡ self.old.read }
     {
         let Some(first) = self.next_file() else {
@@ -94,17 +94,17 @@ impl Lines {
         };
         let path = Text::copy(self.alloc, first.path.as_bytes())?;
         let system = first.system;
-        self.open.system = system;
-        self.open.top = Some(OpenFile::begin(self.alloc, path, text));
-        self.open.fresh = true;
+        self.open_files.system = system;
+        self.open_files.top = Some(OpenFile::begin(self.alloc, path, text));
+        self.open_files.fresh = true;
         self.next_first += 1;
         Ok(())
     }
 
     /// Passes a first file over that isn't there.
     fn pass(&mut self)
-        requires none { self.old.open.top ≡ None }
-        requires ready { IsReady self.old.open }
+        requires none { self.old.open_files.top ≡ None }
+        requires ready { IsReady self.old.open_files }
         requires next { self.old.next_first < length self.old.firsts.items }
         ensures left { (told : Told) (place : ℕ) (blocks : Blocks) → IsLacking told self.old → left told place blocks self.old ≡ left told place blocks self.new }
         ensures others { self.new ≡ record self.old { next_first = self.old.next_first + 1 } }
@@ -131,16 +131,16 @@ impl Lines {
 
     /// Opens the next first file; `false` where there is none.
     fn first<F: Files>(&mut self, files: &mut F) -> Result<bool, ResolveError>
-        requires none { self.old.open.top ≡ None }
-        requires ready { IsReady self.old.open }
+        requires none { self.old.open_files.top ≡ None }
+        requires ready { IsReady self.old.open_files }
         requires plain { list_all is_plain_first self.old.firsts.items ≡ true }
         ensures moves { (told : Told) (place : ℕ) (blocks : Blocks) → TellsFiles (F.told files.old) told → Moves (left told place blocks self.old) (left told place blocks self.new) result }
-        ensures ready { OnOk result (IsReady self.new.open) }
+        ensures ready { OnOk result (IsReady self.new.open_files) }
         ensures firsts { self.new.firsts ≡ self.old.firsts }
         ensures next { IfOk result (λ more. MatchBool more ((self.new.next_first ≡ self.old.next_first + 1) × (self.old.next_first < length self.old.firsts.items)) ((self.new ≡ self.old) × (length self.old.firsts.items ≤ self.old.next_first))) }
         ensures told { F.told files.new ≡ F.told files.old }
-        ensures cause { HasReadCause result (F.faults files.old) (F.faults files.new) }
-        ensures bounded { OnOk result ((n : ℕ) → Bounded self.old.open n → Bounded self.new.open n) }
+        ensures cause { HasFilesCause result (F.faults files.old) (F.faults files.new) }
+        ensures bounded { OnOk result ((n : ℕ) → Bounded self.old.open_files n → Bounded self.new.open_files n) }
         ensures count { self.new.read ≡ self.old.read }
     {
         let Some(first) = self.next_file() else {
@@ -167,15 +167,15 @@ impl Lines {
 
     /// Goes to the next line of all files; `false` where there is none.
     fn reach<F: Files>(&mut self, files: &mut F) -> Result<bool, ResolveError>
-        requires ready { IsReady self.old.open }
+        requires ready { IsReady self.old.open_files }
         requires plain { list_all is_plain_first self.old.firsts.items ≡ true }
         ensures moves { (told : Told) (place : ℕ) (blocks : Blocks) → TellsFiles (F.told files.old) told → Moves (left told place blocks self.old) (left told place blocks self.new) result }
-        ensures ready { OnOk result (IsReady self.new.open) }
-        ensures line { IfOk result (λ found. MatchBool found (IfSome self.new.open.top (λ f. IsSettled f × (f.at < length f.text)) × IsSome self.new.open.top) ((self.new.open.top ≡ None) × (length self.new.firsts.items ≤ self.new.next_first))) }
+        ensures ready { OnOk result (IsReady self.new.open_files) }
+        ensures line { IfOk result (λ found. MatchBool found (IfSome self.new.open_files.top (λ f. IsSettled f × (f.at < length f.text)) × IsSome self.new.open_files.top) ((self.new.open_files.top ≡ None) × (length self.new.firsts.items ≤ self.new.next_first))) }
         ensures firsts { self.new.firsts ≡ self.old.firsts }
         ensures told { F.told files.new ≡ F.told files.old }
-        ensures cause { HasReadCause result (F.faults files.old) (F.faults files.new) }
-        ensures bounded { OnOk result ((n : ℕ) → Bounded self.old.open n → Bounded self.new.open n) }
+        ensures cause { HasFilesCause result (F.faults files.old) (F.faults files.new) }
+        ensures bounded { OnOk result ((n : ℕ) → Bounded self.old.open_files n → Bounded self.new.open_files n) }
         ensures count { self.new.read ≡ self.old.read }
     {
         loop {
@@ -194,30 +194,30 @@ impl Lines {
 
     /// Goes to the next line of the open files.
     fn settle<F: Files>(&mut self, files: &mut F) -> Result<bool, ResolveError>
-        requires ready { IsReady self.old.open }
+        requires ready { IsReady self.old.open_files }
         ensures moves { (told : Told) (place : ℕ) (blocks : Blocks) → TellsFiles (F.told files.old) told → Moves (left told place blocks self.old) (left told place blocks self.new) result }
-        ensures ready { OnOk result (IsReady self.new.open) }
-        ensures line { IfOk result (λ found. MatchBool found (IfSome self.new.open.top (λ f. IsSettled f × (f.at < length f.text)) × IsSome self.new.open.top) (self.new.open.top ≡ None)) }
-        ensures others { self.new ≡ record self.old { «open» = self.new.open } }
+        ensures ready { OnOk result (IsReady self.new.open_files) }
+        ensures line { IfOk result (λ found. MatchBool found (IfSome self.new.open_files.top (λ f. IsSettled f × (f.at < length f.text)) × IsSome self.new.open_files.top) (self.new.open_files.top ≡ None)) }
+        ensures others { self.new ≡ record self.old { open_files = self.new.open_files } }
         ensures told { F.told files.new ≡ F.told files.old }
-        ensures cause { HasReadCause result (F.faults files.old) (F.faults files.new) }
-        ensures bounded { OnOk result ((n : ℕ) → Bounded self.old.open n → Bounded self.new.open n) }
+        ensures cause { HasFilesCause result (F.faults files.old) (F.faults files.new) }
+        ensures bounded { OnOk result ((n : ℕ) → Bounded self.old.open_files n → Bounded self.new.open_files n) }
     {
-        self.open.settle(files)
+        self.open_files.settle(files)
     }
 
     /// Takes one line of all files.
     fn one<F: Files>(&mut self, files: &mut F) -> Result<Step, ResolveError>
-        requires ready { IsReady self.old.open }
+        requires ready { IsReady self.old.open_files }
         requires plain { list_all is_plain_first self.old.firsts.items ≡ true }
-        ensures one { (told : Told) (place : ℕ) (blocks : Blocks) → TellsFiles (F.told files.old) told → place ≡ length told.asked.lines + self.old.read → Bounded self.old.open (length blocks) → OneLine told place blocks self.old self.new result }
-        ensures comment { result ≡ Ok steps.Comment → IsReady self.new.open }
-        ensures bounded { result ≡ Ok steps.Comment → (n : ℕ) → Bounded self.old.open n → Bounded self.new.open n }
+        ensures one { (told : Told) (place : ℕ) (blocks : Blocks) → TellsFiles (F.told files.old) told → place ≡ length told.asked.lines + self.old.read → Bounded self.old.open_files (length blocks) → OneLine told place blocks self.old self.new result }
+        ensures comment { result ≡ Ok steps.Comment → IsReady self.new.open_files }
+        ensures bounded { result ≡ Ok steps.Comment → (n : ℕ) → Bounded self.old.open_files n → Bounded self.new.open_files n }
         ensures firsts { self.new.firsts ≡ self.old.firsts }
         ensures counts { IfOk result (λ step. CountsOne step self.old.read self.new.read) }
         ensures given { IfOk result (λ step. GivenStep step self.old self.new) }
         ensures told { F.told files.new ≡ F.told files.old }
-        ensures cause { HasReadCause result (F.faults files.old) (F.faults files.new) }
+        ensures cause { HasFilesCause result (F.faults files.old) (F.faults files.new) }
     {
         match self.reach(files) {
             Err(e) => return Err(e),
@@ -226,12 +226,12 @@ impl Lines {
         }
         if self.read >= 100_000 {
             return Err(
-                self.open
+                self.open_files
                     .line_refusal(LineError::Refused(Cause::TooManyLines)),
             );
         }
         self.read += 1;
-        match self.open.take_line() {
+        match self.open_files.take_line() {
             Err(e) => Err(e),
             Ok(None) => Ok(Step::Comment),
             Ok(Some(line)) => Ok(Step::Given(line)),
@@ -240,13 +240,13 @@ impl Lines {
 
     /// The next line that says something.
     pub fn next_line<F: Files>(&mut self, files: &mut F) -> Result<Option<ConfLine>, ResolveError>
-        requires ready { IsReady self.old.open }
+        requires ready { IsReady self.old.open_files }
         requires plain { list_all is_plain_first self.old.firsts.items ≡ true }
-        ensures reads { (told : Told) (place : ℕ) (blocks : Blocks) → TellsFiles (F.told files.old) told → place ≡ length told.asked.lines + self.old.read → Bounded self.old.open (length blocks) → Reads told place blocks self.old self.new result }
+        ensures reads { (told : Told) (place : ℕ) (blocks : Blocks) → TellsFiles (F.told files.old) told → place ≡ length told.asked.lines + self.old.read → Bounded self.old.open_files (length blocks) → Reads told place blocks self.old self.new result }
         ensures given { IfOk result (λ given. IfSome given (IsGivenFrom self.old self.new)) }
         ensures firsts { self.new.firsts ≡ self.old.firsts }
         ensures told { F.told files.new ≡ F.told files.old }
-        ensures cause { HasReadCause result (F.faults files.old) (F.faults files.new) }
+        ensures cause { HasFilesCause result (F.faults files.old) (F.faults files.new) }
     {
         loop {
             match self.one(files) {
@@ -265,15 +265,15 @@ impl Lines {
         original: &[u8],
         files: &mut F,
     ) -> Result<(), ResolveError>
-        requires given { IsGiven self.old.open }
+        requires given { IsGiven self.old.open_files }
         ensures moves { (told : Told) (place : ℕ) (blocks : Blocks) → TellsFiles (F.told files.old) told → told.facts ≡ known facts.now → told.asked.original ≡ original.now → Moves (left told place blocks self.old) (left told place blocks self.new) result }
-        ensures ready { OnOk result (IsReady self.new.open) }
-        ensures others { self.new ≡ record self.old { «open» = self.new.open } }
+        ensures ready { OnOk result (IsReady self.new.open_files) }
+        ensures others { self.new ≡ record self.old { open_files = self.new.open_files } }
         ensures told { F.told files.new ≡ F.told files.old }
-        ensures cause { HasReadCause result (F.faults files.old) (F.faults files.new) }
-        ensures bounded { OnOk result ((n : ℕ) → Bounded self.old.open n → Bounded self.new.open n) }
+        ensures cause { HasFilesCause result (F.faults files.old) (F.faults files.new) }
+        ensures bounded { OnOk result ((n : ℕ) → Bounded self.old.open_files n → Bounded self.new.open_files n) }
     {
-        self.open.expand(facts, original, files)
+        self.open_files.expand(facts, original, files)
     }
 
     /// The next line that says something, with the files that the last one includes before it.
@@ -283,13 +283,13 @@ impl Lines {
         original: &[u8],
         files: &mut F,
     ) -> Result<Option<ConfLine>, ResolveError>
-        requires given { IsGiven self.old.open }
+        requires given { IsGiven self.old.open_files }
         requires plain { list_all is_plain_first self.old.firsts.items ≡ true }
-        ensures reads { (told : Told) (place : ℕ) (blocks : Blocks) → TellsFiles (F.told files.old) told → told.facts ≡ known facts.now → told.asked.original ≡ original.now → place ≡ length told.asked.lines + self.old.read → Bounded self.old.open (length blocks) → Reads told place blocks self.old self.new result }
+        ensures reads { (told : Told) (place : ℕ) (blocks : Blocks) → TellsFiles (F.told files.old) told → told.facts ≡ known facts.now → told.asked.original ≡ original.now → place ≡ length told.asked.lines + self.old.read → Bounded self.old.open_files (length blocks) → Reads told place blocks self.old self.new result }
         ensures given { IfOk result (λ given. IfSome given (IsGivenFrom self.old self.new)) }
         ensures firsts { self.new.firsts ≡ self.old.firsts }
         ensures told { F.told files.new ≡ F.told files.old }
-        ensures cause { HasReadCause result (F.faults files.old) (F.faults files.new) }
+        ensures cause { HasFilesCause result (F.faults files.old) (F.faults files.new) }
     {
         match self.expand(facts, original, files) {
             Ok(()) => self.next_line(files),
@@ -300,11 +300,11 @@ impl Lines {
     /// Gives no more line.
     pub fn end(&mut self)
         ensures left { (told : Told) (place : ℕ) (blocks : Blocks) → left told place blocks self.new ≡ [] }
-        ensures given { IsGiven self.new.open }
+        ensures given { IsGiven self.new.open_files }
         ensures firsts { self.new.firsts ≡ self.old.firsts }
-        ensures bounded { Bounded self.new.open 0 }
+        ensures bounded { Bounded self.new.open_files 0 }
     {
-        self.open = OpenFiles::new(self.alloc);
+        self.open_files = OpenFiles::new(self.alloc);
         self.next_first = self.firsts.len();
     }
 }

@@ -44,7 +44,7 @@ pub enum Stand {
 
 impl OpenFiles {
     ghost use Rattle.conf_reader.specs.Left.{open_left, IsReady, IsSettled, work, Moves, stack, Names, RefusesTop, RefusesNext, StandOf, Bounded, Takes, IsGiven, IsGivenBy, gone, HeadIs, named_as};
-    ghost use Rattle.conf_reader.specs.Results.{Refuses, HasReadCause, is_read_fault};
+    ghost use Rattle.conf_reader.specs.Results.{Refuses, HasFilesCause, is_read_fault};
     ghost use Rattle.std.specs.Option.{option_map};
 
     /// No file.
@@ -190,7 +190,7 @@ impl OpenFiles {
         ensures ready { OnOk result (IsReady self.new) }
         ensures stand { IfOk result (StandOf self.old self.new) }
         ensures told { F.told files.new ≡ F.told files.old }
-        ensures cause { HasReadCause result (F.faults files.old) (F.faults files.new) }
+        ensures cause { HasFilesCause result (F.faults files.old) (F.faults files.new) }
         ensures bounded { OnOk result ((n : ℕ) → Bounded self.old n → Bounded self.new n) }
     {
         let Some(top) = &self.top else {
@@ -222,7 +222,7 @@ impl OpenFiles {
         ensures ready { OnOk result (IsReady self.new) }
         ensures line { IfOk result (λ found. MatchBool found (IfSome self.new.top (λ f. IsSettled f × (f.at < length f.text)) × IsSome self.new.top) (self.new.top ≡ None)) }
         ensures told { F.told files.new ≡ F.told files.old }
-        ensures cause { HasReadCause result (F.faults files.old) (F.faults files.new) }
+        ensures cause { HasFilesCause result (F.faults files.old) (F.faults files.new) }
         ensures bounded { OnOk result ((n : ℕ) → Bounded self.old n → Bounded self.new n) }
     {
         loop {
@@ -370,7 +370,7 @@ impl OpenFiles {
         ensures ready { OnOk result (IsReady self.new) }
         ensures below { OnOk result (self.new.below ≡ self.old.below) }
         ensures told { F.told files.new ≡ F.told files.old }
-        ensures cause { HasReadCause result (F.faults files.old) (F.faults files.new) }
+        ensures cause { HasFilesCause result (F.faults files.old) (F.faults files.new) }
         ensures bounded { OnOk result ((n : ℕ) → Bounded self.old n → Bounded self.new n) }
     {
         let found = match self.include() {

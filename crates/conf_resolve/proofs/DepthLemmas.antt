@@ -21,7 +21,7 @@ pub marks-length : (told : Told) (pass : Pass) (fold : Fold) (rows : List Row) (
 marks-length told pass fold rows blocks s = ap length s.applies ∙ length-map blocks (open_applies rows pass)
 
 -- a given line lies at most as deep as files are open
-pub depth-low : (told : Told) (pass : Pass) (fold : Fold) (rows : List Row) (blocks : Blocks) (old new : Lines) (given : ConfLine) → Stands told pass fold rows blocks → IsGivenFrom old new given → Bounded old.open (length fold.applies) → given.depth ≤ length blocks
+pub depth-low : (told : Told) (pass : Pass) (fold : Fold) (rows : List Row) (blocks : Blocks) (old new : Lines) (given : ConfLine) → Stands told pass fold rows blocks → IsGivenFrom old new given → Bounded old.open_files (length fold.applies) → given.depth ≤ length blocks
 depth-low told pass fold rows blocks old new given s g fits =
     let d = depth-by (length fold.applies) (open_count new) given given.opens refl (g.lies (length fold.applies) fits) in
     let k = marks-length told pass fold rows blocks s in
@@ -31,11 +31,11 @@ stale : (o : OpenFiles) (b : Bool) → o.fresh ≡ b → b ≡ false → length 
 stale o b e h = ap (λ t. length o.below.items + cond t 0 (length (option_to_list o.top))) (e ∙ h)
 
 -- behind a given line as many files are open as it lies deep, and one more
-pub given-bounded : (old new : Lines) (given : ConfLine) (n m : ℕ) → IsGivenFrom old new given → Bounded old.open n → m ≡ given.depth + 1 → Bounded new.open m
+pub given-bounded : (old new : Lines) (given : ConfLine) (n m : ℕ) → IsGivenFrom old new given → Bounded old.open_files n → m ≡ given.depth + 1 → Bounded new.open_files m
 given-bounded old new given n m g fits is =
-    let count : length (stack new.open) ≡ length new.open.below.items + length (option_to_list new.open.top) = length-append new.open.below.items (option_to_list new.open.top) in
+    let count : length (stack new.open_files) ≡ length new.open_files.below.items + length (option_to_list new.open_files.top) = length-append new.open_files.below.items (option_to_list new.open_files.top) in
     let deep = (g.lies n fits).deep in
-    let same = stale new.open new.open.fresh refl g.state.fresh in
+    let same = stale new.open_files new.open_files.fresh refl g.state.fresh in
     omega (arith, count, deep, same, is)
 
 -- a bound may be larger

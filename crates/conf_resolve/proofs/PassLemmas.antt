@@ -124,7 +124,7 @@ pub record Underway (told : Told) (pass : Pass) (fold : Fold) (reader : Lines) (
   pub at : length rows ≡ start_of pass + place
   pub none : refusal_in rows ≡ None
   pub count : place ≡ length told.asked.lines + reader.read
-  pub bounded : Bounded reader.open (length blocks)
+  pub bounded : Bounded reader.open_files (length blocks)
   pub final_is : rows_from told entry_of rows (record { pass = pass; line = place }) (left told place blocks reader) ≡ final
   pub again : AreAgain told pass place (left told place blocks reader)
   pub ran : (before : Commands) → RanAll before start (commands first) → RanAll before now (commands rows)
@@ -141,7 +141,7 @@ behind-length line place bs h = length-append (take line.depth bs) (_ ∷ []) �
 -- a line that was given and taken
 pub goes-on : (told : Told) (pass : Pass) (fold new : Fold) (old reader : Lines) (final : List Row) (first : List Row) (start now : Commands) (u : Underway told pass fold old final first start now) (line : ConfLine) → GivesNext told u.place u.blocks old reader line
     → ((rows : List Row) (place : ℕ) (l : Line) → Stands told pass fold rows u.blocks → IsNext told pass rows u.blocks line place l → Folds told pass rows u.blocks line place l (Ok tt) new)
-    → Bounded reader.open (line.depth + 1) → line.depth ≤ length u.blocks → (later : Commands)
+    → Bounded reader.open_files (line.depth + 1) → line.depth ≤ length u.blocks → (later : Commands)
     → ((rows : List Row) (place : ℕ) (l : Line) → Stands told pass fold rows u.blocks → IsNext told pass rows u.blocks line place l → RanAll now later (next_row told pass rows place l).ran)
     → Underway told pass new reader final first start later
 goes-on told pass fold new old reader final first start now u line gives folds bounded deep later runs =
@@ -161,7 +161,7 @@ goes-on told pass fold new old reader final first start now u line gives folds b
       at = omega (arith, k, h);
       none = refusal-behind a.rows row a.none ∙ ok-none row.line row.entry f.0;
       count = gives.count;
-      bounded = subst (Bounded reader.open) (sym (behind-length line place u.blocks deep)) bounded;
+      bounded = subst (Bounded reader.open_files) (sym (behind-length line place u.blocks deep)) bounded;
       final_is = sym (rows-on told pass a.rows place gives.line rest f.0) ∙ a.final_is;
       again = a.again.1;
       ran = λ before r. subst (RanAll before later) (sym (commands-more a.rows row)) (ran-on before now later (commands a.rows) row.ran (subst (RanAll before now) (sym a.ran) (u.ran before r)) (runs a.rows place gives.line a.stands next));

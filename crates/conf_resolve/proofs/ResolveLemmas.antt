@@ -46,7 +46,7 @@ first-begins told fold s none = record {
 }
 
 -- where a pass begins
-pub underway : (told : Told) (pass : Pass) (fold : Fold) (reader : Lines) (rows : List Row) (start : Commands) → Begins told pass fold rows → left told (length told.asked.lines) [] reader ≡ file_lines told → reader.read ≡ 0 → Bounded reader.open 0
+pub underway : (told : Told) (pass : Pass) (fold : Fold) (reader : Lines) (rows : List Row) (start : Commands) → Begins told pass fold rows → left told (length told.asked.lines) [] reader ≡ file_lines told → reader.read ≡ 0 → Bounded reader.open_files 0
     → Underway told pass fold reader (final_rows told pass rows) rows start start
 underway told pass fold reader rows start b is read bounded = record {
   rows = rows;

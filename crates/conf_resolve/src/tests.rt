@@ -101,14 +101,17 @@ fn are_words(settings: &Settings, key: Key, wanted: &[u8]) -> bool {
     if wanted.is_empty() {
         return settings.first(key).is_none();
     }
-    for (i, wanted) in wanted.split(|b| *b == b' ').enumerate() {
-        match settings.nth(key, i) {
-            Some(Value::Word(text)) if text.as_bytes() == wanted => {}
+    let mut wanted = wanted.split(|b| *b == b' ');
+    for (other, value) in settings.as_slice() {
+        if other.place() != key.place() {
+            continue;
+        }
+        match (value, wanted.next()) {
+            (Value::Word(text), Some(word)) if text.as_bytes() == word => {}
             _ => return false,
         }
     }
-    let count = wanted.split(|b| *b == b' ').count();
-    settings.nth(key, count).is_none()
+    wanted.next().is_none()
 }
 
 #[test]

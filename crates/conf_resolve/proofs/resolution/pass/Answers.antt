@@ -22,7 +22,7 @@ loop-line-init g c = record {
   run_faults = refl;
   facts = c.in-Ok.ensures.facts.0;
   original = c.in-Ok.ensures.facts.1;
-  fits = more-bounded c.in-Ok.reader.lines.open 0 (length c.args.fold.now.applies) c.in-Ok.ensures.none.1 (omega arith);
+  fits = more-bounded c.in-Ok.reader.lines.open_files 0 (length c.args.fold.now.applies) c.in-Ok.ensures.none.1 (omega arith);
   underway = λ told pass rows asked facts tells status begins.
       underway told pass c.args.fold.now c.in-Ok.reader.lines rows _ begins
       (c.in-Ok.ensures.left told (length told.asked.lines) facts ∙ ap (λ (a : Asked). Rattle.conf_rules.specs.Sources.lines_from told (length told.asked.lines) a.from) (sym asked)) c.in-Ok.ensures.read c.in-Ok.ensures.none.1;

@@ -17,7 +17,7 @@ invariant-loop-line g l = record {
   run_faults : g.R.Runner.faults l.runner ≡ g.R.Runner.faults l.fn.runner;
   facts : known l.reader.facts ≡ known l.facts;
   original : l.reader.original ≡ l.asked.original;
-  fits : Bounded l.reader.lines.open (length l.fold.applies);
+  fits : Bounded l.reader.lines.open_files (length l.fold.applies);
   underway : (told : Told) (pass : Pass) (rows : List Row) → told.asked ≡ l.asked → told.facts ≡ known l.facts → TellsFiles (g.F.Files.told l.fn.files) told → TellsStatus (g.R.Runner.told l.fn.runner) told.status
       → Begins told pass l.fn.fold rows → Underway told pass l.fold l.reader.lines (final_rows told pass rows) rows (g.R.Runner.ran l.fn.runner) (g.R.Runner.ran l.runner);
 }

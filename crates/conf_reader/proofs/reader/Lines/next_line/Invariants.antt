@@ -8,13 +8,13 @@ use Rattle.conf_reader.proofs.reader.Lines.next_line.Given as goal
 
 abbrev pub invariant-loop-line : goal.invariant-loop-line
 invariant-loop-line g l = record {
-  ready : IsReady l.self.open;
+  ready : IsReady l.self.open_files;
   told : g.F.Files.told l.files ≡ g.F.Files.told l.initial.files;
   faults : g.F.Files.faults l.files ≡ g.F.Files.faults l.initial.files;
-  kept : (n : ℕ) → Bounded l.initial.self.open n → Bounded l.self.open n;
+  kept : (n : ℕ) → Bounded l.initial.self.open_files n → Bounded l.self.open_files n;
   counted : l.initial.self.read ≤ l.self.read;
   firsts : l.self.firsts ≡ l.initial.self.firsts;
-  far : (told : Told) (place : ℕ) (blocks : Blocks) → TellsFiles (g.F.Files.told l.initial.files) told → place ≡ length told.asked.lines + l.initial.self.read → Bounded l.initial.self.open (length blocks) → SoFar told place blocks l.initial.self l.self;
+  far : (told : Told) (place : ℕ) (blocks : Blocks) → TellsFiles (g.F.Files.told l.initial.files) told → place ≡ length told.asked.lines + l.initial.self.read → Bounded l.initial.self.open_files (length blocks) → SoFar told place blocks l.initial.self l.self;
 }
 
 abbrev pub decreases-loop-line : goal.decreases-loop-line

@@ -7,12 +7,12 @@ use Rattle.conf_reader.proofs.reader.Lines.reach.Given as goal
 
 abbrev pub invariant-loop-e : goal.invariant-loop-e
 invariant-loop-e g l = record {
-  ready : IsReady l.self.open;
+  ready : IsReady l.self.open_files;
   told : g.F.Files.told l.files ≡ g.F.Files.told l.initial.files;
   faults : g.F.Files.faults l.files ≡ g.F.Files.faults l.initial.files;
   count : l.self.read ≡ l.initial.self.read;
   firsts : l.self.firsts ≡ l.initial.self.firsts;
-  bounded : (n : ℕ) → Bounded l.initial.self.open n → Bounded l.self.open n;
+  bounded : (n : ℕ) → Bounded l.initial.self.open_files n → Bounded l.self.open_files n;
   left : (told : Told) (place : ℕ) (blocks : Blocks) → TellsFiles (g.F.Files.told l.initial.files) told → left told place blocks l.initial.self ≡ left told place blocks l.self;
 }
 
