@@ -5,23 +5,16 @@ use Rattle.conf_rules.specs.declared.causes.Cause.{Cause}
 use Rattle.conf_rules.specs.declared.causes.Cause.TheVariants as causes
 use Rattle.conf_rules.specs.declared.causes.ResolveError.{ResolveError}
 use Rattle.conf_rules.specs.declared.causes.ResolveError.TheVariants as errors
-use Rattle.conf_reader.specs.Results.{HasReadCause}
-use Rattle.conf_fold.specs.Results.{HasRunCause, RanUnless, breaks_off, is_fault_at}
-use Rattle.conf_resolve.specs.Passes.{Commands, Passes}
-use Rattle.conf_resolve.specs.Causes.{HasCauses, of_files}
+use Rattle.conf_reader.specs.Results.{HasReadCause, is_run_fault}
+use Rattle.conf_fold.specs.Results.{HasRunCause, is_fault_at}
+use Rattle.conf_resolve.specs.Causes.{HasCauses}
 
--- a refusal of the reader breaks off as before
-pub files-break : (e : ResolveError) → breaks_off {A = Unit {0}} (Err (of_files e)) ≡ breaks_off {A = Unit {0}} (Err e)
-files-break errors.OutOfMemory = refl
-files-break (errors.At file line causes.RunFault) = refl
-files-break (errors.At file line cause) = refl
-
--- the reader's faults
-pub read-causes : (e : ResolveError) (files now runner : ℕ) → HasReadCause {A = Unit {0}} (Err e) files now → HasCauses {A = Unit {0}} (Err (of_files e)) files now runner runner
-read-causes errors.OutOfMemory files now runner h = (h, omega arith)
-read-causes (errors.At file line causes.RunFault) files now runner h = (h, refl)
-read-causes (errors.At file line causes.ReadFault) files now runner h = (h, refl)
-read-causes (errors.At file line cause) files now runner h = (h, refl)
+-- the reader's faults, of which none is a command's
+pub read-causes : (e : ResolveError) (files now runner : ℕ) → HasReadCause {A = Unit {0}} (Err e) files now → is_run_fault e ≡ false → HasCauses {A = Unit {0}} (Err e) files now runner runner
+read-causes errors.OutOfMemory files now runner h n = (h, omega arith)
+read-causes (errors.At file line causes.RunFault) files now runner h n = absurd cc
+read-causes (errors.At file line causes.ReadFault) files now runner h n = (h, refl)
+read-causes (errors.At file line cause) files now runner h n = (h, refl)
 
 -- the runner's
 pub run-causes : (e : ResolveError) (files before now : ℕ) → HasRunCause {A = Unit {0}} (Err e) before now → HasCauses {A = Unit {0}} (Err e) files files before now

@@ -5,7 +5,6 @@ use Rattle.std.specs.List.{list_any, slice_get}
 use Rattle.std.proofs.lemmas.List.{append-nil, length-append}
 use Rattle.std.proofs.lemmas.Grind.{flat_map-append}
 use Rattle.conf_rules.specs.declared.causes.Cause.{Cause}
-use Rattle.conf_rules.specs.declared.causes.Cause.TheVariants as causes
 use Rattle.conf_rules.specs.declared.causes.ResolveError.{ResolveError}
 use Rattle.conf_rules.specs.declared.causes.ResolveError.TheVariants as errors
 use Rattle.conf_rules.specs.declared.entry.Entry.{Entry}
@@ -29,7 +28,6 @@ use Rattle.conf_fold.proofs.BlockLemmas.{marks-kept, each-kept}
 use Rattle.conf_fold.proofs.RowLemmas.{or-false, given-more, wants-more, collected-more, take-next, none-collected}
 use Rattle.conf_fold.proofs.FoldLemmas.{gives-nothing}
 use Rattle.conf_fold.proofs.OrderLemmas.{from, refusal-behind, ok-none, some-refused, rows-on, rows-end, row-line, from-front}
-use Rattle.conf_resolve.specs.Causes.{of_files}
 use Rattle.conf_resolve.specs.Passes.{Commands, commands, AreAgain, StandsFor, Passes, final_rows, Begins, file_lines}
 use Rattle.conf_resolve.proofs.CommandLemmas.{commands-more, commands-quiet, idle-commands, refused-ran, ran-on, ran-some, ran-front}
 
@@ -221,11 +219,10 @@ pub reader-fails : (told : Told) (pass : Pass) (rows : List Row) (fold : Fold) (
 reader-fails told pass rows fold old new first start now u errors.OutOfMemory r = tt
 reader-fails told pass rows fold old new first start now u (errors.At file number cause) r = λ fault. reader-refused told pass fold old (final_rows told pass rows) first start now u file number cause (r fault)
 
--- a fault of files is a fault as before
-pub of-reader : (told : Told) (pass : Pass) (rows : List Row) (new : Fold) (e : ResolveError) → Passes told pass rows new (Err e) → Passes told pass rows new (Err (of_files e))
-of-reader told pass rows new errors.OutOfMemory p = p
-of-reader told pass rows new (errors.At file number causes.RunFault) p = λ fault. absurd cc
-of-reader told pass rows new (errors.At file number cause) p = p
+-- where no line is given, none is left
+pub none-given : (told : Told) (place : ℕ) (blocks : Blocks) (old new : Lines) (v : Option ConfLine) → ((line : ConfLine) → v ≡ Some line → ⊥) → Reads told place blocks old new (Ok v) → AreIdle told place (left told place blocks old)
+none-given told place blocks old new None n r = r
+none-given told place blocks old new (Some line) n r = absurd (n line refl)
 
 -- ---- commands
 

@@ -5,11 +5,6 @@ use Rattle.conf_rules.specs.declared.causes.Cause.TheVariants as causes
 use Rattle.conf_rules.specs.declared.causes.ResolveError.{ResolveError}
 use Rattle.conf_rules.specs.declared.causes.ResolveError.TheVariants.{At, OutOfMemory}
 
--- a refusal of the reader, whose faults are those of files
-abbrev pub of_files : ResolveError → ResolveError
-of_files (At file line causes.RunFault) = At file line causes.ReadFault
-of_files e = e
-
 -- A read fault comes only where the count of the files' faults rose, and a run fault only where the runner's did; every other
 -- answer leaves both counts, but want of memory, before which one may have risen.
 abbrev pub HasCauses : {A : Type 0} → Result A ResolveError → ℕ → ℕ → ℕ → ℕ → Type 0

@@ -9,32 +9,14 @@ ghost use Rattle.conf_fold.specs.Results.{RanUnless, breaks_off};
 ghost use Rattle.conf_fold.specs.Stands.{Stands};
 ghost use Rattle.conf_fold.specs.Begins.{asked_rows};
 ghost use Rattle.conf_resolve.specs.Passes.{Commands, commands, Begins, Passes, final_rows, BothPass, Resolved};
-ghost use Rattle.conf_resolve.specs.Causes.{HasCauses, of_files};
+ghost use Rattle.conf_resolve.specs.Causes.{HasCauses};
 
 use conf_fold::Fold;
 use conf_options::Settings;
-use conf_reader::{ConfLine, LineReader};
-use conf_rules::{Asked, Cause, ResolveError};
+use conf_reader::LineReader;
+use conf_rules::{Asked, ResolveError};
 use mux_outside::{Facts, Files, Runner};
 use std::alloc::Global;
-
-/// A refusal of the reader, whose faults are those of files.
-fn of_files(e: ResolveError) -> ResolveError
-    ensures { result ≡ of_files e }
-{
-    match e {
-        ResolveError::At {
-            file,
-            line,
-            cause: Cause::RunFault,
-        } => ResolveError::At {
-            file,
-            line,
-            cause: Cause::ReadFault,
-        },
-        e => e,
-    }
-}
 
 /// Gives all lines of files to a fold.
 fn pass<F: Files, R: Runner>(
@@ -56,20 +38,11 @@ fn pass<F: Files, R: Runner>(
     ensures files { F.told files.new ≡ F.told files.old }
     ensures runner { R.told runner.new ≡ R.told runner.old }
 {
-    let mut reader = match LineReader::new(alloc, asked, facts) {
-        Ok(reader) => reader,
-        Err(_) => return Err(ResolveError::OutOfMemory),
-    };
-    loop {
-        match reader.next(files) {
-            Ok(Some(line)) => match fold.line(&line, facts, runner) {
-                Ok(()) => {}
-                Err(e) => return Err(e),
-            },
-            Ok(None) => return Ok(()),
-            Err(e) => return Err(of_files(e)),
-        }
+    let mut reader = LineReader::new(alloc, asked, facts)?;
+    while let Some(line) = reader.next(files)? {
+        fold.line(&line, facts, runner)?;
     }
+    Ok(())
 }
 
 /// Gives all lines of files to a fold, and once more where a line asks for it.
@@ -92,14 +65,11 @@ fn passes<F: Files, R: Runner>(
     ensures files { F.told files.new ≡ F.told files.old }
     ensures runner { R.told runner.new ≡ R.told runner.old }
 {
-    match pass(alloc, asked, facts, fold, files, runner) {
-        Ok(()) => {}
-        Err(e) => return Err(e),
-    }
-    match fold.second() {
-        Err(_) => Err(ResolveError::OutOfMemory),
-        Ok(false) => Ok(()),
-        Ok(true) => pass(alloc, asked, facts, fold, files, runner),
+    pass(alloc, asked, facts, fold, files, runner)?;
+    if fold.second()? {
+        pass(alloc, asked, facts, fold, files, runner)
+    } else {
+        Ok(())
     }
 }
 
@@ -122,12 +92,7 @@ pub fn resolve<F: Files, R: Runner>(
     ensures files { F.told files.new ≡ F.told files.old }
     ensures runner { R.told runner.new ≡ R.told runner.old }
 {
-    let mut fold = match Fold::new(alloc, asked) {
-        Ok(fold) => fold,
-        Err(e) => return Err(e),
-    };
-    match passes(alloc, asked, facts, &mut fold, files, runner) {
-        Ok(()) => Ok(fold.settings()),
-        Err(e) => Err(e),
-    }
+    let mut fold = Fold::new(alloc, asked)?;
+    passes(alloc, asked, facts, &mut fold, files, runner)?;
+    Ok(fold.settings())
 }

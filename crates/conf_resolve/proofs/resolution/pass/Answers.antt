@@ -1,107 +1,113 @@
 use Rattle.std.proofs.Common.{◌≡◌, ◌≤◌, ◌∙◌, ◌+◌, Ok, Err, length, sym, ap, refl, subst, arith}
+use Rattle.std.proofs.lemmas.Result.{err_from_is_err_and}
 use Rattle.conf_rules.specs.declared.asked.Asked.{Asked}
 use Rattle.conf_fold.specs.Results.{RanUnless}
 use Rattle.conf_resolve.specs.Passes.{commands, final_rows}
-use Rattle.conf_resolve.proofs.CauseLemmas.{files-break, read-causes, run-causes, causes-from}
+use Rattle.conf_resolve.proofs.CauseLemmas.{read-causes, run-causes, causes-from}
 use Rattle.conf_resolve.proofs.DepthLemmas.{depth-low, given-bounded, more-bounded}
-use Rattle.conf_resolve.proofs.PassLemmas.{goes-on, line-fails, reader-fails, of-reader, all-given, line-ran, reader-ran, all-ran, start-ran}
+use Rattle.conf_resolve.proofs.PassLemmas.{goes-on, line-fails, reader-fails, all-given, line-ran, reader-ran, all-ran, start-ran, none-given}
 use Rattle.conf_resolve.proofs.ResolveLemmas.{underway}
 use Rattle.conf_resolve.proofs.resolution.pass.Goals as goal
 
-pub returns-in-Err-clause-passes : goal.returns-in-Err-clause-passes
-returns-in-Err-clause-passes g c = λ told pass rows asked facts tells status begins. tt
+pub returns-in_err-reader-clause-passes : goal.returns-in_err-reader-clause-passes
+returns-in_err-reader-clause-passes g c = λ told pass rows asked facts tells status begins.
+    let p = err_from_is_err_and c.from_residual.result c.from_residual.ensures.1 in
+    rw (p.1, p.2) tt
 
-pub returns-in-Err-clause-ran : goal.returns-in-Err-clause-ran
-returns-in-Err-clause-ran g c = λ told pass rows before asked facts tells status begins began. start-ran told pass rows before _ began
+pub returns-in_err-reader-clause-ran : goal.returns-in_err-reader-clause-ran
+returns-in_err-reader-clause-ran g c = λ told pass rows before asked facts tells status begins began.
+    let p = err_from_is_err_and c.from_residual.result c.from_residual.ensures.1 in
+    rw (p.1, p.2) (start-ran told pass rows before _ began)
 
-pub loop-line-init : goal.loop-line-init
-loop-line-init g c = record {
+pub loop-reader-init : goal.loop-reader-init
+loop-reader-init g c = record {
   files = refl;
   runner = refl;
   file_faults = refl;
   run_faults = refl;
-  facts = c.in-Ok.ensures.facts.0;
-  original = c.in-Ok.ensures.facts.1;
-  fits = more-bounded c.in-Ok.reader.lines.open_files 0 (length c.args.fold.now.applies) c.in-Ok.ensures.none.1 (omega arith);
+  facts = c.in_ok-reader.ensures.facts.0;
+  original = c.in_ok-reader.ensures.facts.1;
+  fits = more-bounded c.in_ok-reader.reader.lines.open_files 0 (length c.args.fold.now.applies) c.in_ok-reader.ensures.none.1 (omega arith);
   underway = λ told pass rows asked facts tells status begins.
-      underway told pass c.args.fold.now c.in-Ok.reader.lines rows _ begins
-      (c.in-Ok.ensures.left told (length told.asked.lines) facts ∙ ap (λ (a : Asked). Rattle.conf_rules.specs.Sources.lines_from told (length told.asked.lines) a.from) (sym asked)) c.in-Ok.ensures.read c.in-Ok.ensures.none.1;
+      underway told pass c.args.fold.now c.in_ok-reader.reader.lines rows _ begins
+      (c.in_ok-reader.ensures.left told (length told.asked.lines) facts ∙ ap (λ (a : Asked). Rattle.conf_rules.specs.Sources.lines_from told (length told.asked.lines) a.from) (sym asked)) c.in_ok-reader.ensures.read c.in_ok-reader.ensures.none.1;
 }
 
 pub line-requires-clause-known : goal.line-requires-clause-known
 line-requires-clause-known g c =
-    let from = rw c.in-Ok-Some.field-0-is at c.in-Ok-Some.ensures.given in
-    (from.lies (length c.loop-line.fold.applies) c.loop-line.invariant.fits).known
+    let from = rw c.in-Some.is at c.in_ok-line.ensures.given in
+    (from.lies (length c.loop-reader.fold.applies) c.loop-reader.invariant.fits).known
 
 pub line-requires-clause-opened : goal.line-requires-clause-opened
 line-requires-clause-opened g c =
-    let from = rw c.in-Ok-Some.field-0-is at c.in-Ok-Some.ensures.given in
-    (from.lies (length c.loop-line.fold.applies) c.loop-line.invariant.fits).opened
+    let from = rw c.in-Some.is at c.in_ok-line.ensures.given in
+    (from.lies (length c.loop-reader.fold.applies) c.loop-reader.invariant.fits).opened
 
-pub returns-in-Err-line-clause-passes : goal.returns-in-Err-line-clause-passes
-returns-in-Err-line-clause-passes g c = λ told pass rows asked facts tells status begins.
-    let u = c.loop-line.invariant.underway told pass rows asked facts tells status begins in
-    line-fails told pass rows c.loop-line.fold c.line.new.self c.loop-line.reader.lines c.next.new.self.lines rows _ _ u c.in-Ok-Some.line c.in-Err-line.e
-    (rw c.in-Ok-Some.field-0-is at (c.in-Ok-Some.ensures.reads told u.place u.blocks (rw c.loop-line.invariant.files tells) (facts ∙ sym c.loop-line.invariant.facts) (ap (λ (a : Asked). a.original) asked ∙ sym c.loop-line.invariant.original) u.count u.bounded))
-    (λ rows place l stands next. c.in-Err-line.ensures.folds told pass rows u.blocks place l facts (rw c.loop-line.invariant.runner status) stands next)
+pub returns-in_err-line-2-clause-passes : goal.returns-in_err-line-2-clause-passes
+returns-in_err-line-2-clause-passes g c = λ told pass rows asked facts tells status begins.
+    let u = c.loop-reader.invariant.underway told pass rows asked facts tells status begins in
+    let p = err_from_is_err_and c.from_residual-in_err-line-2.result c.from_residual-in_err-line-2.ensures.1 in
+    rw (p.1, p.2) (line-fails told pass rows c.loop-reader.fold c.line.new.self c.loop-reader.reader.lines c.next.new.self.lines rows _ _ u c.in-Some.line _
+    (rw c.in-Some.is at (c.in_ok-line.ensures.reads told u.place u.blocks (rw c.loop-reader.invariant.files tells) (facts ∙ sym c.loop-reader.invariant.facts) (ap (λ (a : Asked). a.original) asked ∙ sym c.loop-reader.invariant.original) u.count u.bounded))
+    (λ rows place l stands next. c.in_err-line-2.ensures.folds told pass rows u.blocks place l facts (rw c.loop-reader.invariant.runner status) stands next))
 
-pub returns-in-Err-line-clause-ran : goal.returns-in-Err-line-clause-ran
-returns-in-Err-line-clause-ran g c = λ told pass rows before asked facts tells status begins began.
-    let u = c.loop-line.invariant.underway told pass rows asked facts tells status begins in
-    line-ran told pass c.loop-line.fold c.line.new.self c.loop-line.reader.lines c.next.new.self.lines (final_rows told pass rows) rows _ _ _ before u c.in-Ok-Some.line c.in-Err-line.e
-    (rw c.in-Ok-Some.field-0-is at (c.in-Ok-Some.ensures.reads told u.place u.blocks (rw c.loop-line.invariant.files tells) (facts ∙ sym c.loop-line.invariant.facts) (ap (λ (a : Asked). a.original) asked ∙ sym c.loop-line.invariant.original) u.count u.bounded))
-    (λ rows place l stands next. c.in-Err-line.ensures.folds told pass rows u.blocks place l facts (rw c.loop-line.invariant.runner status) stands next)
-    (λ rows place l stands next. c.in-Err-line.ensures.ran told pass rows u.blocks place l facts (rw c.loop-line.invariant.runner status) stands next)
-    began
+pub returns-in_err-line-2-clause-ran : goal.returns-in_err-line-2-clause-ran
+returns-in_err-line-2-clause-ran g c = λ told pass rows before asked facts tells status begins began.
+    let u = c.loop-reader.invariant.underway told pass rows asked facts tells status begins in
+    let p = err_from_is_err_and c.from_residual-in_err-line-2.result c.from_residual-in_err-line-2.ensures.1 in
+    rw (p.1, p.2) (line-ran told pass c.loop-reader.fold c.line.new.self c.loop-reader.reader.lines c.next.new.self.lines (final_rows told pass rows) rows _ _ _ before u c.in-Some.line _
+    (rw c.in-Some.is at (c.in_ok-line.ensures.reads told u.place u.blocks (rw c.loop-reader.invariant.files tells) (facts ∙ sym c.loop-reader.invariant.facts) (ap (λ (a : Asked). a.original) asked ∙ sym c.loop-reader.invariant.original) u.count u.bounded))
+    (λ rows place l stands next. c.in_err-line-2.ensures.folds told pass rows u.blocks place l facts (rw c.loop-reader.invariant.runner status) stands next)
+    (λ rows place l stands next. c.in_err-line-2.ensures.ran told pass rows u.blocks place l facts (rw c.loop-reader.invariant.runner status) stands next)
+    began)
 
-pub loop-line-preserved : goal.loop-line-preserved
-loop-line-preserved g c =
-    let from = rw c.in-Ok-Some.field-0-is at c.in-Ok-Some.ensures.given in
-    let bounded = given-bounded c.loop-line.reader.lines c.next.new.self.lines c.in-Ok-Some.line (length c.loop-line.fold.applies) (length c.line.new.self.applies) from c.loop-line.invariant.fits c.in-Ok-line.ensures.depth in
+pub loop-reader-preserved : goal.loop-reader-preserved
+loop-reader-preserved g c =
+    let from = rw c.in-Some.is at c.in_ok-line.ensures.given in
+    let bounded = given-bounded c.loop-reader.reader.lines c.next.new.self.lines c.in-Some.line (length c.loop-reader.fold.applies) (length c.line.new.self.applies) from c.loop-reader.invariant.fits c.in_ok-line-2.ensures.depth in
     record {
-      files = c.next.ensures.told ∙ c.loop-line.invariant.files;
-      runner = c.line.ensures.told ∙ c.loop-line.invariant.runner;
-      file_faults = c.in-Ok-Some.ensures.cause ∙ c.loop-line.invariant.file_faults;
-      run_faults = c.in-Ok-line.ensures.cause ∙ c.loop-line.invariant.run_faults;
-      facts = ap Rattle.conf_tokens.specs.Known.known c.next.ensures.facts.0 ∙ c.loop-line.invariant.facts;
-      original = c.next.ensures.facts.1 ∙ c.loop-line.invariant.original;
+      files = c.next.ensures.told ∙ c.loop-reader.invariant.files;
+      runner = c.line.ensures.told ∙ c.loop-reader.invariant.runner;
+      file_faults = c.in_ok-line.ensures.cause ∙ c.loop-reader.invariant.file_faults;
+      run_faults = c.in_ok-line-2.ensures.cause ∙ c.loop-reader.invariant.run_faults;
+      facts = ap Rattle.conf_tokens.specs.Known.known c.next.ensures.facts.0 ∙ c.loop-reader.invariant.facts;
+      original = c.next.ensures.facts.1 ∙ c.loop-reader.invariant.original;
       fits = bounded;
       underway = λ told pass rows asked facts tells status begins.
-          let u = c.loop-line.invariant.underway told pass rows asked facts tells status begins in
-          goes-on told pass c.loop-line.fold c.line.new.self c.loop-line.reader.lines c.next.new.self.lines (final_rows told pass rows) rows _ _ u c.in-Ok-Some.line
-          (rw c.in-Ok-Some.field-0-is at (c.in-Ok-Some.ensures.reads told u.place u.blocks (rw c.loop-line.invariant.files tells) (facts ∙ sym c.loop-line.invariant.facts) (ap (λ (a : Asked). a.original) asked ∙ sym c.loop-line.invariant.original) u.count u.bounded))
-          (λ rows place l stands next. c.in-Ok-line.ensures.folds told pass rows u.blocks place l facts (rw c.loop-line.invariant.runner status) stands next)
-          (given-bounded c.loop-line.reader.lines c.next.new.self.lines c.in-Ok-Some.line (length c.loop-line.fold.applies) (c.in-Ok-Some.line.depth + 1) from c.loop-line.invariant.fits refl)
-          (depth-low told pass c.loop-line.fold u.rows u.blocks c.loop-line.reader.lines c.next.new.self.lines c.in-Ok-Some.line u.stands from c.loop-line.invariant.fits)
+          let u = c.loop-reader.invariant.underway told pass rows asked facts tells status begins in
+          goes-on told pass c.loop-reader.fold c.line.new.self c.loop-reader.reader.lines c.next.new.self.lines (final_rows told pass rows) rows _ _ u c.in-Some.line
+          (rw c.in-Some.is at (c.in_ok-line.ensures.reads told u.place u.blocks (rw c.loop-reader.invariant.files tells) (facts ∙ sym c.loop-reader.invariant.facts) (ap (λ (a : Asked). a.original) asked ∙ sym c.loop-reader.invariant.original) u.count u.bounded))
+          (λ rows place l stands next. c.in_ok-line-2.ensures.folds told pass rows u.blocks place l facts (rw c.loop-reader.invariant.runner status) stands next)
+          (given-bounded c.loop-reader.reader.lines c.next.new.self.lines c.in-Some.line (length c.loop-reader.fold.applies) (c.in-Some.line.depth + 1) from c.loop-reader.invariant.fits refl)
+          (depth-low told pass c.loop-reader.fold u.rows u.blocks c.loop-reader.reader.lines c.next.new.self.lines c.in-Some.line u.stands from c.loop-reader.invariant.fits)
           _
-          (λ rows place l stands next. c.in-Ok-line.ensures.ran told pass rows u.blocks place l facts (rw c.loop-line.invariant.runner status) stands next);
+          (λ rows place l stands next. c.in_ok-line-2.ensures.ran told pass rows u.blocks place l facts (rw c.loop-reader.invariant.runner status) stands next);
     }
 
-pub returns-in-Ok-None-clause-passes : goal.returns-in-Ok-None-clause-passes
-returns-in-Ok-None-clause-passes g c = λ told pass rows asked facts tells status begins.
-    let u = c.loop-line.invariant.underway told pass rows asked facts tells status begins in
-    all-given told pass c.loop-line.fold c.loop-line.reader.lines (final_rows told pass rows) rows _ _ u
-    (rw c.in-Ok-None.field-0-is at (c.in-Ok-None.ensures.reads told u.place u.blocks (rw c.loop-line.invariant.files tells) (facts ∙ sym c.loop-line.invariant.facts) (ap (λ (a : Asked). a.original) asked ∙ sym c.loop-line.invariant.original) u.count u.bounded))
+pub returns-clause-passes : goal.returns-clause-passes
+returns-clause-passes g c = λ told pass rows asked facts tells status begins.
+    let u = c.loop-reader.invariant.underway told pass rows asked facts tells status begins in
+    all-given told pass c.loop-reader.fold c.loop-reader.reader.lines (final_rows told pass rows) rows _ _ u
+    (none-given told u.place u.blocks c.loop-reader.reader.lines c.next.new.self.lines _ c.in_default.not-Some (c.in_ok-line.ensures.reads told u.place u.blocks (rw c.loop-reader.invariant.files tells) (facts ∙ sym c.loop-reader.invariant.facts) (ap (λ (a : Asked). a.original) asked ∙ sym c.loop-reader.invariant.original) u.count u.bounded))
 
-pub returns-in-Ok-None-clause-ran : goal.returns-in-Ok-None-clause-ran
-returns-in-Ok-None-clause-ran g c = λ told pass rows before asked facts tells status begins began.
-    let u = c.loop-line.invariant.underway told pass rows asked facts tells status begins in
-    all-ran told pass c.loop-line.fold c.loop-line.reader.lines (final_rows told pass rows) rows _ _ before u
-    (rw c.in-Ok-None.field-0-is at (c.in-Ok-None.ensures.reads told u.place u.blocks (rw c.loop-line.invariant.files tells) (facts ∙ sym c.loop-line.invariant.facts) (ap (λ (a : Asked). a.original) asked ∙ sym c.loop-line.invariant.original) u.count u.bounded))
+pub returns-clause-ran : goal.returns-clause-ran
+returns-clause-ran g c = λ told pass rows before asked facts tells status begins began.
+    let u = c.loop-reader.invariant.underway told pass rows asked facts tells status begins in
+    all-ran told pass c.loop-reader.fold c.loop-reader.reader.lines (final_rows told pass rows) rows _ _ before u
+    (none-given told u.place u.blocks c.loop-reader.reader.lines c.next.new.self.lines _ c.in_default.not-Some (c.in_ok-line.ensures.reads told u.place u.blocks (rw c.loop-reader.invariant.files tells) (facts ∙ sym c.loop-reader.invariant.facts) (ap (λ (a : Asked). a.original) asked ∙ sym c.loop-reader.invariant.original) u.count u.bounded))
     began
 
-pub returns-in-Err-next-clause-passes : goal.returns-in-Err-next-clause-passes
-returns-in-Err-next-clause-passes g c = λ told pass rows asked facts tells status begins.
-    let u = c.loop-line.invariant.underway told pass rows asked facts tells status begins in
-    subst (λ e. Rattle.conf_resolve.specs.Passes.Passes told pass rows c.loop-line.fold (Err e)) (sym c.of_files.ensures)
-    (of-reader told pass rows c.loop-line.fold c.in-Err-next.e
-    (reader-fails told pass rows c.loop-line.fold c.loop-line.reader.lines c.next.new.self.lines rows _ _ u c.in-Err-next.e
-    (c.in-Err-next.ensures.reads told u.place u.blocks (rw c.loop-line.invariant.files tells) (facts ∙ sym c.loop-line.invariant.facts) (ap (λ (a : Asked). a.original) asked ∙ sym c.loop-line.invariant.original) u.count u.bounded)))
+pub returns-in_err-line-clause-passes : goal.returns-in_err-line-clause-passes
+returns-in_err-line-clause-passes g c = λ told pass rows asked facts tells status begins.
+    let u = c.loop-reader.invariant.underway told pass rows asked facts tells status begins in
+    let p = err_from_is_err_and c.from_residual-in_err-line.result c.from_residual-in_err-line.ensures.1 in
+    rw (p.1, p.2) (reader-fails told pass rows c.loop-reader.fold c.loop-reader.reader.lines c.next.new.self.lines rows _ _ u _
+    (c.in_err-line.ensures.reads told u.place u.blocks (rw c.loop-reader.invariant.files tells) (facts ∙ sym c.loop-reader.invariant.facts) (ap (λ (a : Asked). a.original) asked ∙ sym c.loop-reader.invariant.original) u.count u.bounded))
 
-pub returns-in-Err-next-clause-ran : goal.returns-in-Err-next-clause-ran
-returns-in-Err-next-clause-ran g c = λ told pass rows before asked facts tells status begins began.
-    let u = c.loop-line.invariant.underway told pass rows asked facts tells status begins in
-    subst (λ b. RanUnless b before (g.R.Runner.ran c.loop-line.runner) (commands (final_rows told pass rows))) (sym (ap (λ e. Rattle.conf_fold.specs.Results.breaks_off {A = Unit {0}} (Err e)) c.of_files.ensures ∙ files-break c.in-Err-next.e))
-    (reader-ran told pass c.loop-line.fold c.loop-line.reader.lines c.next.new.self.lines (final_rows told pass rows) rows _ _ before u c.in-Err-next.e
-    (c.in-Err-next.ensures.reads told u.place u.blocks (rw c.loop-line.invariant.files tells) (facts ∙ sym c.loop-line.invariant.facts) (ap (λ (a : Asked). a.original) asked ∙ sym c.loop-line.invariant.original) u.count u.bounded)
+pub returns-in_err-line-clause-ran : goal.returns-in_err-line-clause-ran
+returns-in_err-line-clause-ran g c = λ told pass rows before asked facts tells status begins began.
+    let u = c.loop-reader.invariant.underway told pass rows asked facts tells status begins in
+    let p = err_from_is_err_and c.from_residual-in_err-line.result c.from_residual-in_err-line.ensures.1 in
+    rw (p.1, p.2) (reader-ran told pass c.loop-reader.fold c.loop-reader.reader.lines c.next.new.self.lines (final_rows told pass rows) rows _ _ before u _
+    (c.in_err-line.ensures.reads told u.place u.blocks (rw c.loop-reader.invariant.files tells) (facts ∙ sym c.loop-reader.invariant.facts) (ap (λ (a : Asked). a.original) asked ∙ sym c.loop-reader.invariant.original) u.count u.bounded)
     began)

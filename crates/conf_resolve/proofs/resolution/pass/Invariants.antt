@@ -9,8 +9,8 @@ use Rattle.conf_resolve.specs.Passes.{Begins, final_rows}
 use Rattle.conf_resolve.proofs.PassLemmas.{Underway}
 use Rattle.conf_resolve.proofs.resolution.pass.Given as goal
 
-abbrev pub invariant-loop-line : goal.invariant-loop-line
-invariant-loop-line g l = record {
+abbrev pub invariant-loop-reader : goal.invariant-loop-reader
+invariant-loop-reader g l = record {
   files : g.F.Files.told l.files ≡ g.F.Files.told l.fn.files;
   runner : g.R.Runner.told l.runner ≡ g.R.Runner.told l.fn.runner;
   file_faults : g.F.Files.faults l.files ≡ g.F.Files.faults l.fn.files;
@@ -22,5 +22,5 @@ invariant-loop-line g l = record {
       → Begins told pass l.fn.fold rows → Underway told pass l.fold l.reader.lines (final_rows told pass rows) rows (g.R.Runner.ran l.fn.runner) (g.R.Runner.ran l.runner);
 }
 
-abbrev pub decreases-loop-line : goal.decreases-loop-line
-decreases-loop-line g l = 100000 - l.reader.lines.read
+abbrev pub decreases-loop-reader : goal.decreases-loop-reader
+decreases-loop-reader g l = 100000 - l.reader.lines.read

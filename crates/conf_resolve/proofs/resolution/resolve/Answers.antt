@@ -1,30 +1,37 @@
 use Rattle.std.proofs.Common.{◌≡◌, ◌∙◌, sym, ap, refl, Ok, Err}
+use Rattle.std.proofs.lemmas.Result.{err_from_is_err_and}
 use Rattle.conf_resolve.proofs.ResolveLemmas.{begin-refused, begin-ran, over, over-err}
 use Rattle.conf_resolve.proofs.resolution.resolve.Goals as goal
 
-pub returns-in-Err-clause-exact : goal.returns-in-Err-clause-exact
-returns-in-Err-clause-exact g c = λ told asked facts tells status. begin-refused told c.in-Err.e (c.in-Err.ensures.begins told asked)
+pub returns-in_err-fold-clause-exact : goal.returns-in_err-fold-clause-exact
+returns-in_err-fold-clause-exact g c = λ told asked facts tells status.
+    let p = err_from_is_err_and c.from_residual.result c.from_residual.ensures.1 in
+    rw (p.1, p.2) (begin-refused told _ (c.in_err-fold.ensures.begins told asked))
 
-pub returns-in-Err-clause-ran : goal.returns-in-Err-clause-ran
-returns-in-Err-clause-ran g c = λ told asked facts tells status. begin-ran told c.in-Err.e _ (c.in-Err.ensures.begins told asked)
+pub returns-in_err-fold-clause-ran : goal.returns-in_err-fold-clause-ran
+returns-in_err-fold-clause-ran g c = λ told asked facts tells status.
+    let p = err_from_is_err_and c.from_residual.result c.from_residual.ensures.1 in
+    rw (p.1, p.2) (begin-ran told _ _ (c.in_err-fold.ensures.begins told asked))
 
-pub returns-in-Ok-passes-clause-exact : goal.returns-in-Ok-passes-clause-exact
-returns-in-Ok-passes-clause-exact g c = λ told asked facts tells status.
-    let b = c.in-Ok.ensures.begins told asked in
-    let p = c.in-Ok-passes.ensures.passes told asked facts tells status b.0 b.1 in
+pub returns-clause-exact : goal.returns-clause-exact
+returns-clause-exact g c = λ told asked facts tells status.
+    let b = c.in_ok-fold.ensures.begins told asked in
+    let p = c.in_ok-passes.ensures.passes told asked facts tells status b.0 b.1 in
     rw c.settings.ensures p
 
-pub returns-in-Ok-passes-clause-ran : goal.returns-in-Ok-passes-clause-ran
-returns-in-Ok-passes-clause-ran g c = λ told asked facts tells status.
-    let b = c.in-Ok.ensures.begins told asked in
-    c.in-Ok-passes.ensures.ran told asked facts tells status b.0 b.1
+pub returns-clause-ran : goal.returns-clause-ran
+returns-clause-ran g c = λ told asked facts tells status.
+    let b = c.in_ok-fold.ensures.begins told asked in
+    c.in_ok-passes.ensures.ran told asked facts tells status b.0 b.1
 
-pub returns-in-Err-passes-clause-exact : goal.returns-in-Err-passes-clause-exact
-returns-in-Err-passes-clause-exact g c = λ told asked facts tells status.
-    let b = c.in-Ok.ensures.begins told asked in
-    over told c.passes.new.fold c.in-Err-passes.e (c.in-Err-passes.ensures.passes told asked facts tells status b.0 b.1)
+pub returns-in_err-passes-clause-exact : goal.returns-in_err-passes-clause-exact
+returns-in_err-passes-clause-exact g c = λ told asked facts tells status.
+    let p = err_from_is_err_and c.from_residual-in_err-passes.result c.from_residual-in_err-passes.ensures.1 in
+    let b = c.in_ok-fold.ensures.begins told asked in
+    rw (p.1, p.2) (over told c.passes.new.fold _ (c.in_err-passes.ensures.passes told asked facts tells status b.0 b.1))
 
-pub returns-in-Err-passes-clause-ran : goal.returns-in-Err-passes-clause-ran
-returns-in-Err-passes-clause-ran g c = λ told asked facts tells status.
-    let b = c.in-Ok.ensures.begins told asked in
-    over-err c.in-Err-passes.e _ _ _ (c.in-Err-passes.ensures.ran told asked facts tells status b.0 b.1)
+pub returns-in_err-passes-clause-ran : goal.returns-in_err-passes-clause-ran
+returns-in_err-passes-clause-ran g c = λ told asked facts tells status.
+    let p = err_from_is_err_and c.from_residual-in_err-passes.result c.from_residual-in_err-passes.ensures.1 in
+    let b = c.in_ok-fold.ensures.begins told asked in
+    rw (p.1, p.2) (over-err _ _ _ _ (c.in_err-passes.ensures.ran told asked facts tells status b.0 b.1))
