@@ -1,5 +1,4 @@
 pub mod BetweenLemmas
-pub mod CauseLemmas
 pub mod ExpandLemmas
 pub mod FirstLemmas
 pub mod FoundLemmas
