@@ -15,4 +15,3 @@ pub use ssh_fields::OutOfMemory;
 pub use ssh_grammar::Side;
 pub use table::Table;
 pub use window_ledger::Ledger;
-
