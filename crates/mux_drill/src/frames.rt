@@ -1,6 +1,6 @@
 // What clients, server and master write in a drill.
 ghost use Rattle.std.specs.Prelude.{◌≡◌, ◌≤◌, ◌<◌, ◌+◌, ◌^◌, [], ◌++◌, OnOk, IfOk, length, replicate, codes};
-ghost use Rattle.ssh_fields.specs.Fields.{u32};
+ghost use Rattle.ssh_fields.specs.Fields.{u32, u32_at};
 ghost use Rattle.ssh_grammar.specs.Frames.{frame_body, frame_payload};
 ghost use Rattle.ssh_grammar.specs.Messages.{Session, Plain, To, Open, Confirmation, Adjust, Data};
 ghost use Rattle.ssh_grammar.specs.SpellMessage.{spell};
@@ -154,36 +154,20 @@ pub fn add_welcome(text: &mut Text, number: u32) -> Result<(), OutOfMemory>
     add_confirmation(text, 0, number)
 }
 
+// The number that four bytes spell, 0 where too few are there.
+fn first_u32(bytes: &[u8]) -> u32
+    ensures { result ≡ u32_at 0 bytes.now }
+{
+    match bytes {
+        [a, b, c, d, ..] => u32::from_be_bytes([*a, *b, *c, *d]),
+        _ => 0,
+    }
+}
+
 /// The sender's number in an open of a session, 0 where too few bytes are there.
-#[tactic(auto, unfolding(crate::specs::Frames::opener_in))]
+#[tactic(auto, using(std::proofs::lemmas::List::drop_min), unfolding(crate::specs::Frames::opener_in))]
 pub fn opener_in(bytes: &[u8]) -> u32
     ensures { result ≡ opener_in bytes.now }
 {
-    match bytes {
-        [
-            _,
-            _,
-            _,
-            _,
-            _,
-            _,
-            _,
-            _,
-            _,
-            _,
-            _,
-            _,
-            _,
-            _,
-            _,
-            _,
-            _,
-            a,
-            b,
-            c,
-            d,
-            ..
-        ] => { u32::from_be_bytes([*a, *b, *c, *d]) }
-        _ => 0,
-    }
+    first_u32(&bytes[17.min(bytes.len())..])
 }
