@@ -1,0 +1,7 @@
+//! How the bytes of a stream are cut into pieces doesn't matter: the same bytes, completing in the same
+//! order, make the same rows. Each function's contract is a law of the history.
+#![tactic(auto)]
+
+mod laws;
+
+pub use laws::{items_make_rows, journals_go_on_alike, parts_give_alike};
