@@ -48,7 +48,7 @@ fn start(rt: &HostRuntime, err: &mut RealSink<Standard>) -> Result<Status, OutOf
 fn is_drill(words: &Texts) -> bool {
     words
         .get(0)
-        .is_some_and(|word| word.as_bytes() == b"--drill")
+        .is_some_and(|word| word.as_bytes() == b"--drill".as_slice())
 }
 
 // Runs over this wire, and over the files, commands and outputs of the system, with as many turns as
