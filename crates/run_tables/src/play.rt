@@ -36,10 +36,11 @@ pub fn play(alloc: Global, mut row: Row) -> Result<Texts, OutOfMemory> {
 
 // Plays a row over this wire.
 fn play_over<W: Wire>(alloc: Global, row: Row, wire: &mut W) -> Played {
-    let mut files = MapFiles::new(alloc, row.files, row.fails.file);
-    let mut runner = MapRunner::new(alloc, row.commands, row.fails.command);
-    let mut out = ListSink::new(alloc, row.fails.out);
-    let mut err = ListSink::new(alloc, row.fails.err);
+    let fails = row.fails;
+    let mut files = MapFiles::new(alloc, row.files, fails.file);
+    let mut runner = MapRunner::new(alloc, row.commands, fails.command);
+    let mut out = ListSink::new(alloc, fails.out);
+    let mut err = ListSink::new(alloc, fails.err);
     let status = run(
         alloc,
         &row.words,

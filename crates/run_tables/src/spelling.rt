@@ -1,11 +1,15 @@
 // Bytes as the lines of a table spell them.
+ghost use Rattle.std.specs.Prelude.{◌<◌, IfSome};
+
 use ssh_fields::{OutOfMemory, Text};
 use std::alloc::Global;
 
 const HEX_DIGITS: &[u8; 16] = b"0123456789abcdef";
 
 // The value of a digit of base 16.
-fn nibble(digit: u8) -> Option<u8> {
+fn nibble(digit: u8) -> Option<u8>
+    ensures { IfSome result (λ n. n < 16) }
+{
     match digit {
         b'0'..=b'9' => Some(digit - b'0'),
         b'a'..=b'f' => Some(digit - b'a' + 10),
