@@ -1,0 +1,77 @@
+// What came of a row, as lines.
+use crate::marks::add_marks;
+use crate::play::Played;
+use crate::row::took_line;
+use crate::spelling::escape;
+use mux_outside::{Opening, WireLog};
+use ssh_fields::{OutOfMemory, Text, Texts};
+use std::alloc::Global;
+
+/// The lines of what came of a row: those of its summary; what each stream took, frame by frame; the
+/// streams that are open at the end; and the marks of the wire, where the row asks for them.
+pub fn lines_of(alloc: Global, played: &Played, log: &WireLog) -> Result<Texts, OutOfMemory> {
+    let mut lines = summary_of(alloc, played, log)?;
+    add_taken(&mut lines, alloc, log)?;
+    if played.marks {
+        add_marks(&mut lines, alloc, log.marks())?;
+    }
+    Ok(lines)
+}
+
+/// The status, what both outputs took, which commands were run, and how the wire was opened.
+pub fn summary_of(alloc: Global, played: &Played, log: &WireLog) -> Result<Texts, OutOfMemory> {
+    let mut lines = Texts::new(alloc);
+    let status = format!(in alloc; "status {}", played.status.code())?;
+    lines.push(Text::copy(alloc, status.as_bytes())?)?;
+    add_text(&mut lines, alloc, b"out ", played.out.taken())?;
+    add_text(&mut lines, alloc, b"err ", played.err.taken())?;
+    for command in played.runner.ran().as_slice() {
+        add_text(&mut lines, alloc, b"ran ", command.as_bytes())?;
+    }
+    for opening in log.openings() {
+        lines.push(opening_line(alloc, opening)?)?;
+    }
+    Ok(lines)
+}
+
+// A line of a text that isn't empty.
+fn add_text(lines: &mut Texts, alloc: Global, head: &[u8], text: &[u8]) -> Result<(), OutOfMemory> {
+    if text.is_empty() {
+        return Ok(());
+    }
+    let mut line = Text::copy(alloc, head)?;
+    escape(&mut line, text)?;
+    lines.push(line)
+}
+
+// How the wire was opened.
+fn opening_line(alloc: Global, opening: &Opening) -> Result<Text, OutOfMemory> {
+    let mut line = Text::copy(alloc, b"opened ")?;
+    escape(&mut line, opening.control.as_bytes())?;
+    line.add(b" over ")?;
+    escape(&mut line, opening.transport.as_bytes())?;
+    Ok(line)
+}
+
+// What each stream took, and the streams that are open.
+fn add_taken(lines: &mut Texts, alloc: Global, log: &WireLog) -> Result<(), OutOfMemory> {
+    if log.openings().is_empty() {
+        return Ok(());
+    }
+    for stream in 0..=log.last() {
+        let bytes = log.taken(stream)?;
+        if !bytes.as_bytes().is_empty() {
+            let number = format!(in alloc; "{stream}")?;
+            lines.push(took_line(alloc, number.as_str(), bytes.as_bytes())?)?;
+        }
+    }
+    let mut line = Text::copy(alloc, b"left")?;
+    for stream in log.streams().as_slice() {
+        let number = format!(in alloc; " {stream}")?;
+        line.add(number.as_bytes())?;
+    }
+    if !log.is_listening() {
+        line.add(b" deaf")?;
+    }
+    lines.push(line)
+}

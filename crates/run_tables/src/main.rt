@@ -1,0 +1,58 @@
+//! Plays rows of tables over memory. Each row has the words of a run, its files, commands and facts,
+//! what the streams of its wire do, and which calls fail; and behind `>` the lines that must come of
+//! it. Rows without such lines are played for what comes, which is printed. A row that says `marks`
+//! has a line for each mark of its wire, too.
+#![tactic(auto)]
+
+mod answer;
+mod facts;
+mod marks;
+mod play;
+mod row;
+mod spelling;
+mod table;
+mod trouble;
+
+use std::io;
+use table::Table;
+
+fn main(rt: HostRuntime) -> io::Result<()> {
+    let mut table = Table::new(rt.alloc());
+    play_rows(&rt, &mut table)
+}
+
+// Plays all rows of standard input.
+fn play_rows(rt: &HostRuntime, table: &mut Table) -> io::Result<()> {
+    play_lines(rt, table)?;
+    let told = table.finish();
+    tell(rt, told)?;
+    sum_up(rt, table)
+}
+
+// Plays the lines of standard input.
+fn play_lines(rt: &HostRuntime, table: &mut Table) -> io::Result<()> {
+    for line in rt.lines(rt.alloc()) {
+        let line = line?;
+        let told = table.take(line.as_str());
+        tell(rt, told)?;
+    }
+    Ok(())
+}
+
+// How many rows were played, and of how many came what was written.
+fn sum_up(rt: &HostRuntime, table: &Table) -> io::Result<()> {
+    println!(rt;
+        "{} rows, {} as written",
+        table.rows(),
+        table.rows_as_written()
+    )
+}
+
+// Prints what a row came to, where it isn't what was written.
+fn tell(rt: &HostRuntime, told: Result<Option<String>, trouble::Trouble>) -> io::Result<()> {
+    match told {
+        Ok(None) => Ok(()),
+        Ok(Some(text)) => print!(rt; "{text}"),
+        Err(trouble) => println!(rt; "{trouble}"),
+    }
+}

@@ -1,0 +1,97 @@
+// Plays a row.
+use crate::answer::{lines_of, summary_of};
+use crate::row::Row;
+use mux_drill::DrillWire;
+use mux_outside::{Facts, ListSink, MapFiles, MapRunner, NoHouse, ScriptWire, Wire};
+use ssh_fields::{OutOfMemory, Texts};
+use ssh_mux::{Status, run};
+use std::alloc::Global;
+
+/// What a run answered, and what it left beside its wire.
+#[derive(Drop)]
+pub struct Played {
+    pub status: Status,
+    pub runner: MapRunner,
+    pub out: ListSink,
+    pub err: ListSink,
+    /// Whether the marks of the wire are asked for.
+    pub marks: bool,
+}
+
+/// Plays a row: the lines of what came of it. Of a drill what its streams took isn't shown.
+pub fn play(alloc: Global, mut row: Row) -> Result<Texts, OutOfMemory> {
+    match row.script.take() {
+        Some(script) => {
+            let mut wire = ScriptWire::new(alloc, script.steps, script.writes, script.fails);
+            let played = play_over(alloc, row, &mut wire);
+            lines_of(alloc, &played, wire.log())
+        }
+        None => {
+            let mut wire = DrillWire::new(alloc);
+            let played = play_over(alloc, row, &mut wire);
+            summary_of(alloc, &played, wire.log())
+        }
+    }
+}
+
+// Plays a row over this wire.
+fn play_over<W: Wire>(alloc: Global, row: Row, wire: &mut W) -> Played {
+    let fails = row.fails;
+    let mut files = MapFiles::new(alloc, row.files, fails.file);
+    let mut runner = MapRunner::new(alloc, row.commands, fails.command);
+    let mut out = ListSink::new(alloc, fails.out);
+    let mut err = ListSink::new(alloc, fails.err);
+    let given = Given {
+        words: row.words,
+        facts: row.facts,
+        turns: row.turns,
+    };
+    let status = status_over(
+        alloc,
+        &given,
+        wire,
+        &mut files,
+        &mut runner,
+        &mut out,
+        &mut err,
+    );
+    Played {
+        status,
+        runner,
+        out,
+        err,
+        marks: row.marks,
+    }
+}
+
+// What a run is given beside its outside.
+#[derive(Drop)]
+struct Given {
+    words: Texts,
+    facts: Facts,
+    turns: u64,
+}
+
+// The status of a run, by itself: nothing else is proved beside the clauses of `run`.
+fn status_over<W: Wire>(
+    alloc: Global,
+    given: &Given,
+    wire: &mut W,
+    files: &mut MapFiles,
+    runner: &mut MapRunner,
+    out: &mut ListSink,
+    err: &mut ListSink,
+) -> Status {
+    run(
+        alloc,
+        &given.words,
+        &given.facts,
+        wire,
+        files,
+        runner,
+        out,
+        err,
+        &mut NoHouse,
+        given.turns,
+    )
+}

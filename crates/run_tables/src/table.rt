@@ -1,0 +1,138 @@
+// A table of rows, line by line.
+use crate::play::play;
+use crate::row::{Row, bytes_of};
+use crate::trouble::Trouble;
+use mux_outside::{Pair, Pairs};
+use ssh_fields::{Text, Texts};
+use std::alloc::Global;
+use std::str;
+
+/// A table that is being read.
+#[derive(Drop)]
+pub struct Table {
+    alloc: Global,
+    names: Pairs,
+    row: Option<Row>,
+    rows: u64,
+    as_written: u64,
+}
+
+impl Table {
+    /// A table without a row.
+    pub fn new(alloc: Global) -> Table {
+        Table {
+            alloc,
+            names: Pairs::new(alloc),
+            row: None,
+            rows: 0,
+            as_written: 0,
+        }
+    }
+
+    /// How many rows were played.
+    pub fn rows(&self) -> u64 {
+        self.rows
+    }
+
+    /// Of how many came what was written.
+    pub fn rows_as_written(&self) -> u64 {
+        self.as_written
+    }
+
+    /// Takes a line. `row NAME` ends the row before, which is played: what came of it, where it
+    /// isn't what was written. `let NAME BYTES` names bytes.
+    pub fn take(&mut self, line: &str) -> Result<Option<String>, Trouble> {
+        if let Some(name) = line.strip_prefix("row ") {
+            let told = self.finish()?;
+            self.begin(name)?;
+            return Ok(told);
+        }
+        if self.is_read(line)? {
+            return Ok(None);
+        }
+        Err(Trouble::Unread(String::from_str(self.alloc, line)?))
+    }
+
+    // Begins a row of this name.
+    fn begin(&mut self, name: &str) -> Result<(), Trouble> {
+        let name = Text::copy(self.alloc, name.as_bytes())?;
+        self.row = Some(Row::new(self.alloc, name)?);
+        Ok(())
+    }
+
+    // Takes a line that begins no row: whether it is read.
+    fn is_read(&mut self, line: &str) -> Result<bool, Trouble> {
+        if line.is_empty() || line.starts_with('#') {
+            return Ok(true);
+        }
+        if let Some(rest) = line.strip_prefix("let ") {
+            return self.name_bytes(rest);
+        }
+        match &mut self.row {
+            Some(row) => Ok(row.take(line, &self.names)?),
+            None => Ok(false),
+        }
+    }
+
+    // Names bytes: whether they are read.
+    fn name_bytes(&mut self, rest: &str) -> Result<bool, Trouble> {
+        let Some((name, words)) = rest.split_once(' ') else {
+            return Ok(false);
+        };
+        let Some(value) = bytes_of(self.alloc, words, &self.names)? else {
+            return Ok(false);
+        };
+        let name = Text::copy(self.alloc, name.as_bytes())?;
+        self.names.push(Pair { name, value })?;
+        Ok(true)
+    }
+
+    /// Plays the last row: what came of it, where it isn't what was written.
+    pub fn finish(&mut self) -> Result<Option<String>, Trouble> {
+        let Some(row) = self.row.take() else {
+            return Ok(None);
+        };
+        let name = Text::copy(self.alloc, row.name.as_bytes())?;
+        let expected = copy_of(self.alloc, &row.expected)?;
+        let lines = play(self.alloc, row)?;
+        self.rows = self.rows.saturating_add(1);
+        if are_same(&lines, &expected) {
+            self.as_written = self.as_written.saturating_add(1);
+            return Ok(None);
+        }
+        Ok(Some(told_of(self.alloc, &name, &lines)?))
+    }
+}
+
+// The same texts once more.
+fn copy_of(alloc: Global, texts: &Texts) -> Result<Texts, Trouble> {
+    let mut copy = Texts::new(alloc);
+    for text in texts.as_slice() {
+        copy.push(Text::copy(alloc, text.as_bytes())?)?;
+    }
+    Ok(copy)
+}
+
+// Whether two lists of lines are the same.
+fn are_same(a: &Texts, b: &Texts) -> bool {
+    if a.len() != b.len() {
+        return false;
+    }
+    for (x, y) in a.as_slice().iter().zip(b.as_slice()) {
+        if x.as_bytes() != y.as_bytes() {
+            return false;
+        }
+    }
+    true
+}
+
+// A row's name and its lines.
+fn told_of(alloc: Global, name: &Text, lines: &Texts) -> Result<String, Trouble> {
+    let mut told = format!(in alloc; "row {}\n", str::from_utf8(name.as_bytes()).unwrap_or("?"))?;
+    for line in lines.as_slice() {
+        told.push_str("> ")?;
+        told.push_str(str::from_utf8(line.as_bytes()).unwrap_or("?"))?;
+        told.push('\n')?;
+    }
+    Ok(told)
+}
