@@ -14,5 +14,3 @@ pub use farewell::{FAREWELL_ROOM, tear_down};
 pub use later::{LATE_ROOM, late};
 pub use message::Late;
 
-#[cfg(test)]
-mod tests;

@@ -8,7 +8,5 @@ mod entries;
 mod errors;
 mod fold;
 mod marks;
-#[cfg(test)]
-mod tests;
 
 pub use fold::Fold;

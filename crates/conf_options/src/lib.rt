@@ -8,8 +8,6 @@ mod forwards;
 mod kinds;
 mod patterns;
 mod settings;
-#[cfg(test)]
-mod tests;
 mod times;
 mod values;
 mod words;

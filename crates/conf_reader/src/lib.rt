@@ -10,8 +10,6 @@ mod open_file;
 mod paths;
 mod reader;
 mod stack;
-#[cfg(test)]
-mod tests;
 
 pub use line::ConfLine;
 pub use line_reader::LineReader;

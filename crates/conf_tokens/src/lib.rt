@@ -7,8 +7,6 @@ mod expansion;
 mod facts;
 mod parts;
 mod put;
-#[cfg(test)]
-mod tests;
 mod view;
 
 pub use conf_rules::{TokenError, TokenSet};

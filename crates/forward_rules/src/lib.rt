@@ -14,5 +14,3 @@ pub use forwards::{ForwardRefused, Forwards};
 pub use key::{Key, OwnKey};
 pub use policy::{Policy, PolicyError};
 
-#[cfg(test)]
-mod tests;

@@ -24,8 +24,6 @@ mod script_wire;
 mod sink;
 mod statuses;
 mod streams;
-#[cfg(test)]
-mod tests;
 mod turn;
 mod wire;
 mod wire_log;
