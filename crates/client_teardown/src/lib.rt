@@ -13,4 +13,3 @@ mod message;
 pub use farewell::{FAREWELL_ROOM, tear_down};
 pub use later::{LATE_ROOM, late};
 pub use message::Late;
-

@@ -13,4 +13,3 @@ mod steps;
 pub use forwards::{ForwardRefused, Forwards};
 pub use key::{Key, OwnKey};
 pub use policy::{Policy, PolicyError};
-
