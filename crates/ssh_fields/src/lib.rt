@@ -4,6 +4,7 @@
 mod cursor;
 mod field_reader;
 pub mod laws;
+mod list;
 mod out_of_memory;
 mod put;
 mod small;
@@ -11,6 +12,7 @@ mod text;
 
 pub use cursor::Cursor;
 pub use field_reader::{FieldFault, FieldReader};
+pub use list::ListOf;
 pub use out_of_memory::OutOfMemory;
 pub use put::{patch_u32, put_string, put_u32};
 pub use small::Small;
