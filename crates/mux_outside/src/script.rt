@@ -1,9 +1,4 @@
-ghost use Rattle.std.specs.Prelude.{◌≡◌, [], ◌∷◌, ◌++◌, length, OnOk, OnErr, slice_get};
-ghost use Rattle.std.specs.Option.{option_copied};
-
-use ssh_fields::{OutOfMemory, Text};
-use std::alloc::Global;
-use std::marker::Model;
+use ssh_fields::{ListOf, Text};
 
 /// What happens next at a wire in memory.
 #[derive(Debug, Drop)]
@@ -22,59 +17,7 @@ pub enum Step {
 }
 
 /// Steps in order.
-#[derive(Debug, Drop)]
-pub struct Steps {
-    steps: Vec<Step>,
-}
-
-impl Model for Steps {
-    ghost use Rattle.std.specs.Prelude.{List};
-    ghost use Rattle.mux_outside.specs.declared.script.Step.{Step as TheStep};
-
-    ghost Value = { List TheStep };
-
-    ghost view = { λ s. s.steps.items };
-}
-
-impl Steps {
-    /// No step.
-    pub fn new(alloc: Global) -> Steps
-        ensures { result ≡ [] }
-    {
-        Steps {
-            steps: Vec::new(alloc),
-        }
-    }
-
-    /// Adds a step at the end. An `Err` changes nothing.
-    pub fn push(&mut self, step: Step) -> Result<(), OutOfMemory>
-        ensures ok { OnOk result (self.new ≡ self.old ++ step ∷ []) }
-        ensures err { OnErr result (self.new ≡ self.old) }
-    {
-        self.steps.push(step)?;
-        Ok(())
-    }
-
-    pub fn len(&self) -> usize
-        ensures { result ≡ length self.now }
-    {
-        self.steps.len()
-    }
-
-    /// The step at a place.
-    pub fn get(&self, i: usize) -> Option<&Step>
-        ensures { option_copied result ≡ slice_get self.now i }
-    {
-        self.steps.get(i)
-    }
-
-    /// All of them.
-    pub fn as_slice(&self) -> &[Step]
-        ensures { result.now ≡ self.now }
-    {
-        self.steps.as_slice()
-    }
-}
+pub type Steps = ListOf<Step>;
 
 /// How a write goes.
 #[derive(Clone, Copy, Debug, PartialEq, Eq)]
@@ -90,56 +33,4 @@ pub enum WriteEntry {
 }
 
 /// How the writes go, in order.
-#[derive(Debug, Drop)]
-pub struct Writes {
-    entries: Vec<WriteEntry>,
-}
-
-impl Model for Writes {
-    ghost use Rattle.std.specs.Prelude.{List};
-    ghost use Rattle.mux_outside.specs.declared.script.WriteEntry.{WriteEntry as TheWriteEntry};
-
-    ghost Value = { List TheWriteEntry };
-
-    ghost view = { λ s. s.entries.items };
-}
-
-impl Writes {
-    /// No entry.
-    pub fn new(alloc: Global) -> Writes
-        ensures { result ≡ [] }
-    {
-        Writes {
-            entries: Vec::new(alloc),
-        }
-    }
-
-    /// Adds an entry at the end. An `Err` changes nothing.
-    pub fn push(&mut self, entry: WriteEntry) -> Result<(), OutOfMemory>
-        ensures ok { OnOk result (self.new ≡ self.old ++ entry ∷ []) }
-        ensures err { OnErr result (self.new ≡ self.old) }
-    {
-        self.entries.push(entry)?;
-        Ok(())
-    }
-
-    pub fn len(&self) -> usize
-        ensures { result ≡ length self.now }
-    {
-        self.entries.len()
-    }
-
-    /// The entry at a place.
-    pub fn get(&self, i: usize) -> Option<&WriteEntry>
-        ensures { option_copied result ≡ slice_get self.now i }
-    {
-        self.entries.get(i)
-    }
-
-    /// All of them.
-    pub fn as_slice(&self) -> &[WriteEntry]
-        ensures { result.now ≡ self.now }
-    {
-        self.entries.as_slice()
-    }
-}
+pub type Writes = ListOf<WriteEntry>;
