@@ -1,12 +1,11 @@
-ghost use Rattle.std.specs.Prelude.{◌≡◌, ℕ, [], ◌∷◌, ◌++◌, List, IfOk, OnOk};
-ghost use Rattle.std.specs.Option.{option_copied};
+ghost use Rattle.std.specs.Prelude.{◌≡◌, ◌++◌, IfOk, OnOk};
 ghost use Rattle.conf_rules.specs.CommandLine.{permits_in, permits, texts_of};
 ghost use Rattle.conf_rules.specs.Permissions.{PermitWord, first_not_entry, bad_entry, earlier};
 
 use crate::act::Act;
 use crate::entries::{is_alone, is_entry};
 use crate::step::Step;
-use ssh_fields::{OutOfMemory, Text, Texts};
+use ssh_fields::{ListOf, OutOfMemory, Text, Texts};
 use std::alloc::Global;
 use std::marker::Model;
 
@@ -47,52 +46,30 @@ impl Permit {
 }
 
 /// Permissions in order.
-#[derive(Debug, Drop)]
-pub struct Permits {
-    permits: Vec<Permit>,
-}
+pub type Permits = ListOf<Permit>;
 
-impl Model for Permits {
-    ghost Value = { List PermitWord };
-
-    ghost view = { λ p. p.permits.items };
-}
-
-impl Permits {
-    /// No permission.
-    fn new(alloc: Global) -> Permits
-        ensures { result ≡ [] }
-    {
-        Permits {
-            permits: Vec::new(alloc),
-        }
-    }
-
-    /// Adds the permission of a step, if it is of this list.
-    fn add(&mut self, alloc: Global, listening: bool, step: &Step) -> Result<(), OutOfMemory>
-        ensures { OnOk result (self.new ≡ self.old ++ permits_in listening step.now) }
-    {
-        match step.act() {
-            Act::Permits {
-                listening: of,
-                word,
-                entry,
-            } => {
-                if *of == listening {
-                    let text = Text::copy(alloc, entry.as_bytes())?;
-                    self.permits.push(Permit::new(*word, text))?;
-                }
-                Ok(())
+/// Adds the permission of a step, if it is of this list.
+fn add_permit(
+    all: &mut Permits,
+    alloc: Global,
+    listening: bool,
+    step: &Step,
+) -> Result<(), OutOfMemory>
+    ensures { OnOk result (all.new ≡ all.old ++ permits_in listening step.now) }
+{
+    match step.act() {
+        Act::Permits {
+            listening: of,
+            word,
+            entry,
+        } => {
+            if *of == listening {
+                let text = Text::copy(alloc, entry.as_bytes())?;
+                all.push(Permit::new(*word, text))?;
             }
-            _ => Ok(()),
+            Ok(())
         }
-    }
-
-    /// All of them.
-    fn as_slice(&self) -> &[Permit]
-        ensures { result.now ≡ self.now }
-    {
-        self.permits.as_slice()
+        _ => Ok(()),
     }
 }
 
@@ -102,7 +79,7 @@ pub fn permits_of(alloc: Global, listening: bool, steps: &[Step]) -> Result<Perm
 {
     let mut all = Permits::new(alloc);
     for step in steps {
-        all.add(alloc, listening, step)?;
+        add_permit(&mut all, alloc, listening, step)?;
     }
     Ok(all)
 }

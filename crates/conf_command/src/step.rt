@@ -1,11 +1,9 @@
-ghost use Rattle.std.specs.Prelude.{◌≡◌, ℕ, List, [], ◌∷◌, ◌++◌, Bool, Option, IfOk, OnOk, length};
-ghost use Rattle.std.specs.Option.{option_map, option_copied};
+ghost use Rattle.std.specs.Prelude.{◌≡◌};
 ghost use Rattle.conf_rules.specs.Options.{Step as TheStep, step};
-ghost use Rattle.conf_command.specs.Shown.{mode_of, act_of};
+ghost use Rattle.conf_command.specs.Shown.{act_of};
 
 use crate::act::Act;
-use ssh_fields::OutOfMemory;
-use std::alloc::Global;
+use ssh_fields::ListOf;
 use std::marker::Model;
 
 /// An act and its word, counted from 1.
@@ -45,39 +43,4 @@ impl Step {
 }
 
 /// Steps in order.
-#[derive(Debug, Drop)]
-pub struct Steps {
-    steps: Vec<Step>,
-}
-
-impl Model for Steps {
-    ghost Value = { List TheStep };
-
-    ghost view = { λ s. s.steps.items };
-}
-
-impl Steps {
-    /// No step.
-    pub fn new(alloc: Global) -> Steps
-        ensures { result ≡ [] }
-    {
-        Steps {
-            steps: Vec::new(alloc),
-        }
-    }
-
-    /// Adds a step at the end.
-    pub fn push(&mut self, step: Step) -> Result<(), OutOfMemory>
-        ensures { OnOk result (self.new ≡ self.old ++ step ∷ []) }
-    {
-        self.steps.push(step)?;
-        Ok(())
-    }
-
-    /// All of them.
-    pub fn as_slice(&self) -> &[Step]
-        ensures { result.now ≡ self.now }
-    {
-        self.steps.as_slice()
-    }
-}
+pub type Steps = ListOf<Step>;
