@@ -1,5 +1,5 @@
 -- Open files between two calls, no file at all, and the files that no line includes.
-use Rattle.std.proofs.Common.{◌≡◌, ℕ, zero, suc, ◌+◌, ◌≤◌, Bool, true, false, not, ◌&&◌, ◌||◌, List, [], ◌∷◌, ◌++◌, length, drop, Option, Some, None, refl, sym, ap, subst, ◌∙◌, append-nil, arith}
+use Rattle.std.proofs.Common.{◌≡◌, ℕ, ◌+◌, ◌≤◌, Bool, true, false, not, ◌&&◌, ◌||◌, List, [], ◌∷◌, ◌++◌, length, drop, Option, Some, None, refl, ap, ◌∙◌, append-nil, arith}
 use Rattle.std.specs.Prelude.{nat_le, is_some, flat_map, codes}
 use Rattle.std.specs.List.{list_all}
 use Rattle.std.proofs.lemmas.Bool.{le-leb, leb-true}
@@ -15,9 +15,9 @@ use Rattle.conf_reader.specs.declared.stack.OpenFiles.{OpenFiles}
 use Rattle.conf_reader.specs.declared.reader.FirstFile.{FirstFile}
 use Rattle.conf_reader.specs.declared.reader.Lines.{Lines}
 use Rattle.conf_reader.specs.Blocks.{Blocks}
-use Rattle.conf_reader.specs.Left.{stack, is_expanded, is_counted, IsGiven, open_left, left, first_left, firsts_left, is_plain_first}
+use Rattle.conf_reader.specs.Left.{is_expanded, IsGiven, open_left, left, firsts_left, is_plain_first}
 use Rattle.conf_reader.specs.Between.{is_between}
-use Rattle.conf_reader.specs.Firsts.{user_files, firsts_of}
+use Rattle.conf_reader.specs.Firsts.{firsts_of}
 
 both : (a b : Bool) → (a && b) ≡ true → (a ≡ true) × (b ≡ true)
 both true b e = (refl, e)

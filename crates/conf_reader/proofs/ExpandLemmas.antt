@@ -1,8 +1,8 @@
 -- The files that an Include line names.
-use Rattle.std.proofs.Common.{◌≡◌, ℕ, zero, suc, ◌+◌, ◌-◌, ◌<◌, ◌≤◌, Bool, true, false, cond, ◌&&◌, List, [], ◌∷◌, ◌++◌, length, take, drop, Option, Some, None, Result, Ok, Err, refl, sym, ap, ◌∙◌, append_assoc, arith}
-use Rattle.std.specs.Prelude.{flat_map, option_to_list, IfSome, is_none}
+use Rattle.std.proofs.Common.{◌≡◌, ℕ, ◌+◌, ◌-◌, Bool, true, false, cond, List, [], ◌∷◌, ◌++◌, length, take, drop, Option, Some, None, Result, Ok, Err, refl, sym, ap, ◌∙◌, arith}
+use Rattle.std.specs.Prelude.{flat_map, option_to_list}
 use Rattle.std.specs.List.{slice_get, list_all}
-use Rattle.std.specs.Option.{option_map, option_and_then}
+use Rattle.std.specs.Option.{option_and_then}
 use Rattle.std.proofs.lemmas.Grind.{flat_map-append}
 use Rattle.std.proofs.lemmas.List.Folds.{list_all-append}
 use Rattle.conf_rules.specs.declared.causes.TokenError.{TokenError}
@@ -18,13 +18,13 @@ use Rattle.conf_rules.specs.Texts.{Bytes}
 use Rattle.conf_rules.specs.Words.{words_of}
 use Rattle.conf_rules.specs.Told.{Told}
 use Rattle.conf_rules.specs.Diagnostics.{is_fault}
-use Rattle.conf_rules.specs.Includes.{Source, ConfFile, file_at, globbed, files_of, paths_of, words_named}
-use Rattle.conf_rules.specs.Sources.{Line, Refused, depth_limit}
+use Rattle.conf_rules.specs.Includes.{Source, file_at, globbed, files_of, paths_of, words_named}
+use Rattle.conf_rules.specs.Sources.{Line, Refused}
 use Rattle.conf_reader.specs.declared.open_file.OpenFile.{OpenFile}
 use Rattle.conf_reader.specs.declared.stack.OpenFiles.{OpenFiles}
 use Rattle.conf_reader.specs.Results.{Refuses}
 use Rattle.conf_reader.specs.Blocks.{Blocks, or_none}
-use Rattle.conf_reader.specs.Left.{source_of, frame_files, frames_left, deeper, stack, cur, open_left, RefusesFirst, Moves, named_by, FoundPaths, named_as, IsGiven, IsReady, is_expanded}
+use Rattle.conf_reader.specs.Left.{source_of, frame_files, frames_left, deeper, cur, open_left, RefusesFirst, named_by, FoundPaths, named_as, is_expanded}
 use Rattle.conf_reader.proofs.LeftLemmas.{top_depth, top_outer, Step, under, stays, Alike, refuses, token-refuses}
 use Rattle.conf_reader.proofs.OpenLemmas.{first-refused, moves-refused, moved}
 

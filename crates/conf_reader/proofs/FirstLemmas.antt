@@ -1,20 +1,20 @@
 -- Files that no line includes.
-use Rattle.std.proofs.Common.{◌≡◌, ℕ, zero, suc, ◌+◌, ◌-◌, ◌<◌, ◌≤◌, Bool, true, false, cond, not, ◌&&◌, List, [], ◌∷◌, ◌++◌, length, take, drop, Option, Some, None, Result, Ok, Err, refl, sym, ap, subst, ◌∙◌, append_assoc, arith}
-use Rattle.std.specs.Prelude.{option_to_list, nat_lt, IfSome}
+use Rattle.std.proofs.Common.{◌≡◌, ℕ, zero, suc, ◌+◌, ◌<◌, Bool, true, false, not, ◌&&◌, List, [], ◌∷◌, ◌++◌, length, drop, Option, Some, None, Result, Ok, Err, refl, sym, ap, ◌∙◌, arith}
+use Rattle.std.specs.Prelude.{nat_lt, IfSome}
 use Rattle.std.specs.List.{slice_get, list_all}
-use Rattle.std.proofs.lemmas.List.{append-nil, length-append}
+use Rattle.std.proofs.lemmas.List.{append-nil}
 use Rattle.conf_rules.specs.declared.causes.Cause.{Cause}
 use Rattle.conf_rules.specs.declared.causes.Cause.TheVariants as causes
 use Rattle.conf_rules.specs.Texts.{Bytes}
 use Rattle.conf_rules.specs.Told.{Told}
-use Rattle.conf_rules.specs.Includes.{Source, UserFile, ConfFile, file_at, file_of}
-use Rattle.conf_rules.specs.Sources.{Line, Refused, each_file, file_lines, first_file, named_lines, depth_limit, size_limit}
+use Rattle.conf_rules.specs.Includes.{UserFile}
+use Rattle.conf_rules.specs.Sources.{Line, Refused, file_lines, first_file, size_limit}
 use Rattle.conf_reader.specs.declared.open_file.OpenFile.{OpenFile}
 use Rattle.conf_reader.specs.declared.stack.OpenFiles.{OpenFiles}
 use Rattle.conf_reader.specs.declared.reader.FirstFile.{FirstFile}
 use Rattle.conf_reader.specs.declared.reader.Lines.{Lines}
 use Rattle.conf_reader.specs.Blocks.{Blocks}
-use Rattle.conf_reader.specs.Left.{source_of, frame_files, frames_left, open_left, parts_left, first_left, firsts_left, left, is_plain_first, RefusesFirst, IsLacking, IsFound, Moves}
+use Rattle.conf_reader.specs.Left.{source_of, open_left, parts_left, first_left, firsts_left, left, is_plain_first, RefusesFirst, IsLacking, IsFound, Moves}
 use Rattle.conf_reader.proofs.LeftLemmas.{new-left}
 use Rattle.conf_reader.proofs.OpenLemmas.{drop-at, moved, moves-refused}
 use Rattle.conf_rules.specs.declared.causes.ResolveError.{ResolveError}

@@ -1,6 +1,6 @@
 -- Paths that are found in whatever order have the same texts.
-use Rattle.std.proofs.Common.{◌≡◌, ℕ, zero, suc, ◌+◌, ◌-◌, ◌<◌, ◌≤◌, Bool, true, false, cond, eqb, ◌&&◌, ◌||◌, not, List, [], ◌∷◌, ◌++◌, length, take, drop, get_or, Option, Some, None, Ok, map, is_some, refl, sym, ap, subst, ◌∙◌, append-nil, append_assoc, Result, Err, arith}
-use Rattle.std.specs.Prelude.{sum_by, filter, filter_map, flat_map, fold, bytes_eq, IsPermutation, IfOk}
+use Rattle.std.proofs.Common.{◌≡◌, ℕ, zero, suc, ◌+◌, ◌<◌, Bool, true, false, cond, eqb, ◌||◌, not, List, [], ◌∷◌, ◌++◌, length, take, get_or, Option, Some, None, Ok, map, is_some, refl, sym, ap, ◌∙◌, append-nil, append_assoc, Result, Err, arith}
+use Rattle.std.specs.Prelude.{sum_by, filter, filter_map, flat_map, fold, bytes_eq, IfOk}
 use Rattle.std.specs.List.{list_any}
 use Rattle.std.specs.Option.{option_and_then, option_map}
 use Rattle.std.proofs.lemmas.List.Sorted.{sum_by-IsPermutation}

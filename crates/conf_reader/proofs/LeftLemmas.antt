@@ -1,16 +1,14 @@
 -- How what is left changes as lines are given and files are opened and closed.
-use Rattle.std.proofs.Common.{◌≡◌, ℕ, zero, suc, ◌+◌, ◌-◌, ◌<◌, ◌≤◌, Bool, true, false, cond, eqb, List, [], ◌∷◌, ◌++◌, length, map, take, drop, Option, Some, None, Result, Ok, Err, refl, sym, ap, ◌∙◌, append_assoc, arith}
+use Rattle.std.proofs.Common.{◌≡◌, ℕ, zero, suc, ◌+◌, ◌-◌, ◌≤◌, Bool, true, false, cond, eqb, List, [], ◌∷◌, ◌++◌, length, take, drop, Option, Some, None, Ok, Err, refl, sym, ap, ◌∙◌, append_assoc, arith}
 use Rattle.std.specs.Prelude.{flat_map, option_to_list}
 use Rattle.std.specs.List.{slice_get}
 use Rattle.std.proofs.lemmas.List.{append-nil, length-append}
 use Rattle.std.proofs.lemmas.Bool.{ne_eqb, eq-eqb}
 use Rattle.conf_rules.specs.declared.causes.TokenError.{TokenError}
-use Rattle.conf_rules.specs.declared.causes.LexError.{LexError}
-use Rattle.conf_rules.specs.Texts.{Bytes, same_word}
-use Rattle.conf_rules.specs.Heads.{Heading, Comment, Says, head_of, lines_of}
-use Rattle.conf_rules.specs.Words.{words_of}
+use Rattle.conf_rules.specs.Texts.{Bytes}
+use Rattle.conf_rules.specs.Heads.{lines_of}
 use Rattle.conf_rules.specs.Told.{Told}
-use Rattle.conf_rules.specs.Includes.{Source, ConfFile, file_at, words_named, named_in, included_files}
+use Rattle.conf_rules.specs.Includes.{Source, ConfFile, included_files}
 use Rattle.conf_rules.specs.Sources.{Line, Spelled, Where, is_opening, own_block, block_behind, lines_in, file_lines, each_file, too_deep, with_files, included, depth_limit, refused_at}
 use Rattle.conf_reader.specs.declared.open_file.OpenFile.{OpenFile}
 use Rattle.conf_reader.specs.Blocks.{Blocks, or_none}

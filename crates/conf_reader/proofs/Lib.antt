@@ -10,3 +10,4 @@ pub mod OpenLemmas
 pub mod OrderLemmas
 pub mod PathLemmas
 pub mod TakeLemmas
+pub mod UnreadLemmas

@@ -1,7 +1,6 @@
 -- Comments, and the line behind them.
-use Rattle.std.proofs.Common.{◌≡◌, ℕ, zero, suc, ◌+◌, ◌<◌, List, [], ◌∷◌, ◌++◌, length, Option, Some, None, Result, Ok, Err, refl, sym, ap, subst, ◌∙◌, append_assoc, arith}
+use Rattle.std.proofs.Common.{◌≡◌, ℕ, suc, ◌+◌, List, [], ◌∷◌, ◌++◌, length, Option, Some, None, Result, Ok, Err, sym, ap, subst, ◌∙◌, append_assoc, arith}
 use Rattle.std.proofs.lemmas.List.{append-nil, length-append}
-use Rattle.conf_rules.specs.declared.causes.Cause.{Cause}
 use Rattle.conf_rules.specs.declared.causes.ResolveError.{ResolveError}
 use Rattle.conf_rules.specs.declared.causes.ResolveError.TheVariants as errors
 use Rattle.conf_rules.specs.Told.{Told}
@@ -12,10 +11,10 @@ use Rattle.conf_rules.specs.Rows.{Row}
 use Rattle.conf_reader.specs.declared.line.ConfLine.{ConfLine}
 use Rattle.conf_reader.specs.declared.reader.Lines.{Lines}
 use Rattle.conf_reader.specs.declared.reader.Step.TheVariants as steps
-use Rattle.conf_reader.specs.Blocks.{Blocks, open_behind}
+use Rattle.conf_reader.specs.Blocks.{Blocks}
 use Rattle.conf_reader.specs.Left.{left, Bounded}
 use Rattle.std.specs.Prelude.{IfOk, IfSome}
-use Rattle.conf_reader.specs.Reads.{IsGivenFrom, IsIdle, AreIdle, GivesNext, RefusesNext, Reads, OneLine, SoFar}
+use Rattle.conf_reader.specs.Reads.{IsGivenFrom, AreIdle, GivesNext, RefusesNext, Reads, OneLine, SoFar}
 
 pub idle-append : (told : Told) (xs ys : List Line) (place : ℕ) → AreIdle told place xs → AreIdle told (place + length xs) ys → AreIdle told place (xs ++ ys)
 idle-append told [] ys place h k = subst (λ n. AreIdle told n ys) (let z : place + 0 ≡ place = omega arith in z) k

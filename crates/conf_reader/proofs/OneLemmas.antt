@@ -1,5 +1,5 @@
 -- One line of a reader.
-use Rattle.std.proofs.Common.{◌≡◌, ℕ, zero, suc, ◌+◌, ◌-◌, ◌<◌, ◌≤◌, Bool, true, false, cond, List, [], ◌∷◌, ◌++◌, length, drop, Option, Some, None, Result, Ok, Err, refl, sym, ap, subst, ◌∙◌, arith}
+use Rattle.std.proofs.Common.{◌≡◌, ℕ, zero, suc, ◌+◌, ◌-◌, ◌<◌, ◌≤◌, Bool, true, false, cond, List, [], ◌∷◌, ◌++◌, length, drop, Option, Some, None, Result, Err, refl, sym, ap, subst, ◌∙◌, arith}
 use Rattle.std.specs.Prelude.{nat_le, IfSome, IsSome}
 use Rattle.std.proofs.lemmas.Bool.{le-leb, lt-leb}
 use Rattle.conf_rules.specs.declared.causes.Cause.{Cause}
@@ -7,7 +7,6 @@ use Rattle.conf_rules.specs.declared.causes.Cause.TheVariants as causes
 use Rattle.std.specs.Prelude.{option_to_list}
 use Rattle.std.specs.List.{slice_get}
 use Rattle.conf_rules.specs.declared.entry.Entry.{Entry}
-use Rattle.conf_rules.specs.declared.entry.Entry.TheVariants.{Nothing}
 use Rattle.conf_rules.specs.declared.causes.ResolveError.{ResolveError}
 use Rattle.conf_rules.specs.declared.causes.ResolveError.TheVariants as errors
 use Rattle.conf_reader.specs.declared.errors.LineError.TheVariants as line_errors
@@ -18,18 +17,15 @@ use Rattle.conf_reader.proofs.LeftLemmas.{top_depth, top_outer, file_line, head-
 use Rattle.conf_reader.proofs.OpenLemmas.{settled-files, moved}
 use Rattle.conf_reader.proofs.TakeLemmas.{file-source}
 use Rattle.conf_rules.specs.Told.{Told}
-use Rattle.conf_rules.specs.Sources.{Line, Spelled, Refused}
-use Rattle.conf_rules.specs.Heads.{Comment, head_of, lines_of}
-use Rattle.conf_rules.specs.Includes.{Source, CommandLine, UserFile, SystemFile}
-use Rattle.conf_rules.specs.Rows.{Row}
+use Rattle.conf_rules.specs.Sources.{Line}
+use Rattle.conf_rules.specs.Heads.{lines_of}
 use Rattle.conf_rules.specs.Entries.{entry_of}
 use Rattle.conf_rules.specs.Resolution.{counted, is_past_limit, line_limit, is_asked, is_refusal}
-use Rattle.conf_reader.specs.declared.line.ConfLine.{ConfLine}
 use Rattle.conf_reader.specs.declared.stack.OpenFiles.{OpenFiles}
 use Rattle.conf_reader.specs.declared.reader.Lines.{Lines}
-use Rattle.conf_reader.specs.Blocks.{Blocks, open_behind, IsLine, or_none}
-use Rattle.conf_reader.specs.Left.{left, open_left, firsts_left, IsComment, PassesComment, GivesLine, RefusesFirst, RefusesHead, Takes, IsSettled, source_of, cur, frames_left}
-use Rattle.conf_reader.specs.Reads.{IsIdle, AreIdle, RefusesNext, OneLine}
+use Rattle.conf_reader.specs.Blocks.{Blocks, or_none}
+use Rattle.conf_reader.specs.Left.{left, open_left, firsts_left, IsComment, RefusesFirst, RefusesHead, Takes, IsSettled, source_of, cur, frames_left}
+use Rattle.conf_reader.specs.Reads.{IsIdle, RefusesNext, OneLine}
 
 -- a line of a file within the limit
 pub within-limit : (told : Told) (line : Line) (place read : ℕ) → place ≡ length told.asked.lines + read → read < 100000 → is_past_limit told line place ≡ false

@@ -16,13 +16,13 @@ use Rattle.conf_reader.specs.Results.{Refuses}
 use Rattle.conf_rules.specs.Texts.{Bytes}
 use Rattle.conf_rules.specs.Heads.{lines_of}
 use Rattle.conf_rules.specs.Told.{Told}
-use Rattle.conf_rules.specs.Includes.{Source, ConfFile, file_at, file_of}
+use Rattle.conf_rules.specs.Includes.{Source, file_at, file_of}
 use Rattle.conf_rules.specs.Sources.{Line, Refused, depth_limit, size_limit, each_file}
 use Rattle.conf_reader.specs.declared.open_file.OpenFile.{OpenFile}
 use Rattle.conf_reader.specs.declared.stack.OpenFiles.{OpenFiles}
 use Rattle.conf_reader.specs.Blocks.{Blocks, or_none}
 use Rattle.conf_reader.specs.Left.{source_of, frame_files, frames_left, stack, cur, open_left, parts_left, IsSettled, IsReady, is_expanded, RefusesFirst, RefusesTop, RefusesNext, Names, Moves, IsFound, deeper, one_below}
-use Rattle.conf_reader.proofs.LeftLemmas.{top_depth, top_outer, top-depth, Step, under, closes, stays, opens-file, Opened, Alike, front, refuses, token-refuses, depth-refuses, size-refuses}
+use Rattle.conf_reader.proofs.LeftLemmas.{top_depth, top_outer, top-depth, Step, under, closes, stays, opens-file, Opened, Alike, front, refuses, depth-refuses, size-refuses}
 
 -- ---- lists
 

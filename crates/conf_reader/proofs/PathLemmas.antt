@@ -1,6 +1,5 @@
 -- Paths, their components, and lists of them in whatever order.
-use Rattle.std.proofs.Common.{◌≡◌, ℕ, zero, suc, ◌+◌, ◌-◌, ◌<◌, ◌≤◌, Bool, true, false, cond, eqb, ◌&&◌, ◌||◌, not, List, [], ◌∷◌, ◌++◌, length, take, drop, get_or, Option, Some, None, Result, Ok, Err, map, refl, sym, ap, subst, ◌∙◌, add-one, drop-cons, append_assoc, append-nil, arith}
-use Rattle.std.specs.Prelude.{sum_by, filter, flat_map}
+use Rattle.std.proofs.Common.{◌≡◌, ℕ, zero, suc, ◌+◌, ◌<◌, Bool, true, false, eqb, List, [], ◌∷◌, ◌++◌, length, take, drop, get_or, Some, Result, Ok, Err, refl, sym, ap, ◌∙◌, add-one, drop-cons, append_assoc, append-nil, arith}
 use Rattle.std.specs.Bool.{OnFalse}
 use Rattle.conf_rules.specs.declared.causes.TokenError.{TokenError}
 use Rattle.conf_rules.specs.declared.causes.TokenError.TheVariants.{Unknown, LoneAtEnd, FactMissing, NoVariable, OpenBrace, OutOfMemory}
@@ -8,7 +7,7 @@ use Rattle.conf_rules.specs.Results.{◌>>=◌, Fails}
 use Rattle.conf_rules.specs.Wants.{token_wants_memory}
 use Rattle.conf_rules.specs.Texts.{Bytes, split_last}
 use Rattle.conf_rules.specs.Told.{Facts, Told}
-use Rattle.conf_rules.specs.Includes.{Source, ends_with_slash, paths_of, below, along}
+use Rattle.conf_rules.specs.Includes.{Source, ends_with_slash, paths_of}
 use Rattle.conf_rules.specs.Words.{words_of}
 use Rattle.conf_reader.specs.Left.{named_by, FoundPaths}
 use Rattle.conf_reader.specs.Results.{of_token}

@@ -1,9 +1,8 @@
 -- The next line of the last open file.
-use Rattle.std.proofs.Common.{◌≡◌, ℕ, zero, suc, ◌+◌, ◌-◌, ◌<◌, ◌≤◌, Bool, true, false, cond, eqb, ◌||◌, List, [], ◌∷◌, ◌++◌, length, map, take, drop, Option, Some, None, Result, Ok, Err, refl, sym, ap, ◌∙◌, append_assoc, arith, codes}
+use Rattle.std.proofs.Common.{◌≡◌, ℕ, zero, suc, ◌<◌, ◌≤◌, Bool, true, false, cond, List, [], ◌∷◌, ◌++◌, length, take, drop, Option, Some, None, Ok, Err, refl, sym, ap, ◌∙◌, arith, codes}
 use Rattle.std.specs.Prelude.{flat_map, option_to_list, IfSome, IsSome}
 use Rattle.std.specs.List.{slice_get}
 use Rattle.std.specs.Option.{option_map}
-use Rattle.std.proofs.lemmas.List.{append-nil, length-append}
 use Rattle.std.proofs.lemmas.Slice.Eq.{bytes_eq-Decides}
 use Rattle.std.proofs.Math.ListN.{drop_of_length-le}
 use Rattle.conf_rules.specs.declared.causes.LexError.{LexError}
@@ -16,18 +15,17 @@ use Rattle.conf_reader.specs.declared.errors.LineError.TheVariants as line_error
 use Rattle.conf_reader.specs.declared.open_file.Next.{Next}
 use Rattle.conf_reader.specs.Results.{Refuses}
 use Rattle.conf_rules.specs.Texts.{Bytes, same_word, lower}
-use Rattle.conf_rules.specs.Heads.{Heading, Comment, Says, head_of, lines_of}
-use Rattle.conf_rules.specs.Words.{words_of}
+use Rattle.conf_rules.specs.Heads.{Comment, Says, head_of, lines_of}
 use Rattle.conf_rules.specs.Told.{Told}
-use Rattle.conf_rules.specs.Includes.{Source, file_at, included_files, words_named}
-use Rattle.conf_rules.specs.Sources.{Line, Spelled, is_opening, own_block, block_behind, depth_limit}
+use Rattle.conf_rules.specs.Includes.{Source, included_files}
+use Rattle.conf_rules.specs.Sources.{Line, is_opening, own_block, block_behind, depth_limit}
 use Rattle.conf_rules.specs.Resolution.{is_asked}
 use Rattle.conf_reader.specs.declared.line.ConfLine.{ConfLine}
 use Rattle.conf_reader.specs.declared.open_file.OpenFile.{OpenFile}
 use Rattle.conf_reader.specs.declared.stack.OpenFiles.{OpenFiles}
 use Rattle.conf_reader.specs.declared.open_file.Said.{Said}
-use Rattle.conf_reader.specs.Blocks.{Blocks, or_none, own_of, opens_block, blocks_of, open_behind, IsLine}
-use Rattle.conf_reader.specs.Left.{source_of, frame_files, frames_left, stack, cur, open_left, IsSettled, NextLine, IsComment, PassesComment, GivesLine, GivenBy, gone, include_of, HeadIs, heading_of, RefusesHead, Takes}
+use Rattle.conf_reader.specs.Blocks.{Blocks, or_none, own_of, opens_block, open_behind}
+use Rattle.conf_reader.specs.Left.{source_of, frame_files, frames_left, cur, open_left, IsSettled, NextLine, PassesComment, GivesLine, GivenBy, gone, include_of, HeadIs, heading_of, RefusesHead, Takes}
 use Rattle.conf_reader.proofs.LeftLemmas.{top_depth, top_outer, top-depth, top-outer, Step, under, takes, Taken, file_line, head-left, front}
 use Rattle.conf_reader.proofs.OpenLemmas.{cur-below, settled-files}
 

@@ -1,5 +1,5 @@
 -- The files that no line includes.
-use Rattle.std.specs.Prelude.{Bool, true, false, List, [], ◌∷◌, ◌++◌, Option, Some, None, codes}
+use Rattle.std.specs.Prelude.{true, false, List, [], ◌∷◌, ◌++◌, Option, Some, None, codes}
 use Rattle.conf_rules.specs.declared.asked.ConfigFrom.{ConfigFrom}
 use Rattle.conf_rules.specs.declared.asked.ConfigFrom.TheVariants.{Standard, Nothing, File}
 use Rattle.conf_rules.specs.Texts.{Bytes}

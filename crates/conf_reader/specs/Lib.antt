@@ -6,3 +6,4 @@ pub mod Left
 pub mod Paths
 pub mod Reads
 pub mod Results
+pub mod Unread

@@ -1,5 +1,5 @@
 -- The paths that an Include line names, found in whatever order.
-use Rattle.std.specs.Prelude.{◌≡◌, ℕ, false, if◌then◌else◌, List, [], ◌∷◌, ◌++◌, None, Result, Ok, flat_map, sum_by}
+use Rattle.std.specs.Prelude.{◌≡◌, ℕ, false, if◌then◌else◌, List, [], ◌∷◌, None, Result, Ok, flat_map, sum_by}
 use Rattle.conf_rules.specs.declared.causes.TokenError.{TokenError}
 use Rattle.conf_rules.specs.declared.token_set.TokenSet.TheVariants.{Included}
 use Rattle.conf_rules.specs.Results.{◌>>=◌}

@@ -123,12 +123,15 @@ impl LineReader {
     ghost use Rattle.conf_reader.specs.Left.{left, Bounded};
     ghost use Rattle.conf_reader.specs.Reads.{Reads, IsGivenFrom, IsOver, open_count};
     ghost use Rattle.conf_reader.specs.Results.{HasReadCause, is_run_fault};
+    ghost use Rattle.conf_reader.specs.Unread.{unread, read_places, FaultsAmong, Follows};
 
     /// A reader of the files that are asked for.
     pub fn new(alloc: Global, asked: &Asked, facts: &Facts) -> Result<LineReader, OutOfMemory>
         ensures left { IfOk result (λ reader. (told : Told) (place : ℕ) → told.facts ≡ known facts.now → left told place [] reader.lines ≡ lines_from told place asked.now.from) }
         ensures facts { IfOk result (λ reader. (known reader.facts ≡ known facts.now) × (reader.original ≡ asked.now.original)) }
         ensures none { IfOk result (λ reader. (open_count reader.lines ≡ 0) × Bounded reader.lines.open_files 0) }
+        ensures firsts { IfOk result (λ reader. reader.lines.firsts.items ≡ firsts_of facts.now.home asked.now.from) }
+        ensures unread { IfOk result (λ reader. unread reader.lines.open_files ≡ []) }
         ensures read { IfOk result (λ reader. reader.lines.read ≡ 0) }
     {
         let firsts = first_files(alloc, &asked.from, &facts.home)?;
@@ -140,8 +143,9 @@ impl LineReader {
     }
 
     /// The next line of the files that says something; `None` at the end, and behind a refusal. Refused are files, line counts,
-    /// zero bytes, forms of lines, and what an Include line names, each at its line; a fault is one of reading, and comes only where
-    /// that of `files` rose.
+    /// zero bytes, forms of lines, and what an Include line names, each at its line; a fault is one of reading, comes only where
+    /// that of `files` rose, and is told at the Include line that names what is read, or, for a file that no line includes, at its
+    /// line 0.
     pub fn next<F: Files>(&mut self, files: &mut F) -> Result<Option<ConfLine>, ResolveError>
         ensures reads { (told : Told) (place : ℕ) (blocks : Blocks) → TellsFiles (F.told files.old) told → told.facts ≡ known self.old.facts → told.asked.original ≡ self.old.original → place ≡ length told.asked.lines + self.old.lines.read → Bounded self.old.lines.open_files (length blocks) → Reads told place blocks self.old.lines self.new.lines result }
         ensures given { IfOk result (λ given. IfSome given (IsGivenFrom self.old.lines self.new.lines)) }
@@ -150,6 +154,9 @@ impl LineReader {
         ensures told { F.told files.new ≡ F.told files.old }
         ensures cause { HasReadCause result (F.faults files.old) (F.faults files.new) }
         ensures no_run_fault { IfErr result (λ e. is_run_fault e ≡ false) }
+        ensures unread { IfOk result (λ given. IfSome given (Follows (unread self.old.lines.open_files) (unread self.new.lines.open_files))) }
+        ensures firsts { self.new.lines.firsts ≡ self.old.lines.firsts }
+        ensures fault { FaultsAmong (read_places self.old.lines) result }
     {
         let given = self
             .lines

@@ -51,6 +51,7 @@ impl Lines {
     ghost use Rattle.conf_reader.specs.declared.reader.Step.TheVariants as steps;
     ghost use Rattle.conf_reader.specs.Left.{left, IsReady, IsGiven, Moves, is_plain_first, BeginsWith, Bounded, IsLacking, IsSettled};
     ghost use Rattle.conf_reader.specs.Results.{Refuses, HasFilesCause};
+    ghost use Rattle.conf_reader.specs.Unread.{unread, read_places, IsFront, FaultsAmong, StepsFrom, Follows};
     ghost use Rattle.conf_reader.specs.declared.errors.LineError.TheVariants as line_errors;
     ghost use Rattle.std.specs.List.{list_all};
 
@@ -87,6 +88,7 @@ impl Lines {
         ensures firsts { self.new.firsts ≡ self.old.firsts }
         ensures next { OnOk result (self.new.next_first ≡ self.old.next_first + 1) }
         ensures bounded { OnOk result ((n : ℕ) → Bounded self.old.open_files n → Bounded self.new.open_files n) }
+        ensures unread { OnOk result (IsFront (unread self.new.open_files) (unread self.old.open_files)) }
         ensures count { self.new.read ≡ self.old.read }
     {
         let Some(first) = self.next_file() else {
@@ -141,6 +143,8 @@ impl Lines {
         ensures told { F.told files.new ≡ F.told files.old }
         ensures cause { HasFilesCause result (F.faults files.old) (F.faults files.new) }
         ensures bounded { OnOk result ((n : ℕ) → Bounded self.old.open_files n → Bounded self.new.open_files n) }
+        ensures unread { OnOk result (IsFront (unread self.new.open_files) (unread self.old.open_files)) }
+        ensures fault { FaultsAmong (read_places self.old) result }
         ensures count { self.new.read ≡ self.old.read }
     {
         let Some(first) = self.next_file() else {
@@ -176,6 +180,8 @@ impl Lines {
         ensures told { F.told files.new ≡ F.told files.old }
         ensures cause { HasFilesCause result (F.faults files.old) (F.faults files.new) }
         ensures bounded { OnOk result ((n : ℕ) → Bounded self.old.open_files n → Bounded self.new.open_files n) }
+        ensures unread { OnOk result (IsFront (unread self.new.open_files) (unread self.old.open_files)) }
+        ensures fault { FaultsAmong (read_places self.old) result }
         ensures count { self.new.read ≡ self.old.read }
     {
         loop {
@@ -202,6 +208,8 @@ impl Lines {
         ensures told { F.told files.new ≡ F.told files.old }
         ensures cause { HasFilesCause result (F.faults files.old) (F.faults files.new) }
         ensures bounded { OnOk result ((n : ℕ) → Bounded self.old.open_files n → Bounded self.new.open_files n) }
+        ensures unread { OnOk result (IsFront (unread self.new.open_files) (unread self.old.open_files)) }
+        ensures fault { FaultsAmong (read_places self.old) result }
     {
         self.open_files.settle(files)
     }
@@ -216,6 +224,8 @@ impl Lines {
         ensures firsts { self.new.firsts ≡ self.old.firsts }
         ensures counts { IfOk result (λ step. CountsOne step self.old.read self.new.read) }
         ensures given { IfOk result (λ step. GivenStep step self.old self.new) }
+        ensures unread { IfOk result (StepsFrom (unread self.old.open_files) (unread self.new.open_files)) }
+        ensures fault { FaultsAmong (read_places self.old) result }
         ensures told { F.told files.new ≡ F.told files.old }
         ensures cause { HasFilesCause result (F.faults files.old) (F.faults files.new) }
     {
@@ -244,6 +254,8 @@ impl Lines {
         requires plain { list_all is_plain_first self.old.firsts.items ≡ true }
         ensures reads { (told : Told) (place : ℕ) (blocks : Blocks) → TellsFiles (F.told files.old) told → place ≡ length told.asked.lines + self.old.read → Bounded self.old.open_files (length blocks) → Reads told place blocks self.old self.new result }
         ensures given { IfOk result (λ given. IfSome given (IsGivenFrom self.old self.new)) }
+        ensures unread { IfOk result (λ given. IfSome given (Follows (unread self.old.open_files) (unread self.new.open_files))) }
+        ensures fault { FaultsAmong (read_places self.old) result }
         ensures firsts { self.new.firsts ≡ self.old.firsts }
         ensures told { F.told files.new ≡ F.told files.old }
         ensures cause { HasFilesCause result (F.faults files.old) (F.faults files.new) }
@@ -272,6 +284,8 @@ impl Lines {
         ensures told { F.told files.new ≡ F.told files.old }
         ensures cause { HasFilesCause result (F.faults files.old) (F.faults files.new) }
         ensures bounded { OnOk result ((n : ℕ) → Bounded self.old.open_files n → Bounded self.new.open_files n) }
+        ensures unread { OnOk result (IsFront (unread self.new.open_files) (unread self.old.open_files)) }
+        ensures fault { FaultsAmong (read_places self.old) result }
     {
         self.open_files.expand(facts, original, files)
     }
@@ -287,6 +301,8 @@ impl Lines {
         requires plain { list_all is_plain_first self.old.firsts.items ≡ true }
         ensures reads { (told : Told) (place : ℕ) (blocks : Blocks) → TellsFiles (F.told files.old) told → told.facts ≡ known facts.now → told.asked.original ≡ original.now → place ≡ length told.asked.lines + self.old.read → Bounded self.old.open_files (length blocks) → Reads told place blocks self.old self.new result }
         ensures given { IfOk result (λ given. IfSome given (IsGivenFrom self.old self.new)) }
+        ensures unread { IfOk result (λ given. IfSome given (Follows (unread self.old.open_files) (unread self.new.open_files))) }
+        ensures fault { FaultsAmong (read_places self.old) result }
         ensures firsts { self.new.firsts ≡ self.old.firsts }
         ensures told { F.told files.new ≡ F.told files.old }
         ensures cause { HasFilesCause result (F.faults files.old) (F.faults files.new) }
@@ -303,6 +319,7 @@ impl Lines {
         ensures given { IsGiven self.new.open_files }
         ensures firsts { self.new.firsts ≡ self.old.firsts }
         ensures bounded { Bounded self.new.open_files 0 }
+        ensures unread { unread self.new.open_files ≡ [] }
     {
         self.open_files = OpenFiles::new(self.alloc);
         self.next_first = self.firsts.len();

@@ -45,6 +45,7 @@ pub enum Stand {
 impl OpenFiles {
     ghost use Rattle.conf_reader.specs.Left.{open_left, IsReady, IsSettled, work, Moves, stack, Names, RefusesTop, RefusesNext, StandOf, Bounded, Takes, IsGiven, IsGivenBy, gone, HeadIs, named_as};
     ghost use Rattle.conf_reader.specs.Results.{Refuses, HasFilesCause, is_read_fault};
+    ghost use Rattle.conf_reader.specs.Unread.{unread, unread_last, IsFront, FaultsAmong, TakenFrom};
     ghost use Rattle.std.specs.Option.{option_map};
 
     /// No file.
@@ -70,6 +71,7 @@ impl OpenFiles {
         ensures ready { IsReady self.new }
         ensures less { work self.new < work self.old }
         ensures bounded { (n : ℕ) → Bounded self.old n → Bounded self.new n }
+        ensures unread { unread self.new ≡ unread self.old }
     {
         self.top = self.below.pop();
         self.fresh = false;
@@ -84,6 +86,7 @@ impl OpenFiles {
         ensures ready { IsReady self.new }
         ensures less { work self.new < work self.old }
         ensures bounded { (n : ℕ) → Bounded self.old n → Bounded self.new n }
+        ensures unread { IsFront (unread self.new) (unread self.old) }
     {
         if let Some(top) = &mut self.top {
             top.pass();
@@ -100,6 +103,7 @@ impl OpenFiles {
         ensures ready { OnOk result (IsReady self.new) }
         ensures less { OnOk result (work self.new < work self.old) }
         ensures bounded { OnOk result ((n : ℕ) → Bounded self.old n → Bounded self.new n) }
+        ensures unread { OnOk result (IsFront (unread self.new) (unread self.old)) }
     {
         let Some(mut top) = self.top.take() else {
             return Ok(());
@@ -156,6 +160,7 @@ impl OpenFiles {
         ensures ready { OnOk result (IsReady self.new) }
         ensures less { OnOk result (work self.new < work self.old) }
         ensures bounded { OnOk result ((n : ℕ) → Bounded self.old n → Bounded self.new n) }
+        ensures unread { OnOk result (IsFront (unread self.new) (unread self.old)) }
         ensures quiet { IfErr result (λ e. is_read_fault e ≡ false) }
     {
         match found {
@@ -192,6 +197,8 @@ impl OpenFiles {
         ensures told { F.told files.new ≡ F.told files.old }
         ensures cause { HasFilesCause result (F.faults files.old) (F.faults files.new) }
         ensures bounded { OnOk result ((n : ℕ) → Bounded self.old n → Bounded self.new n) }
+        ensures unread { OnOk result (IsFront (unread self.new) (unread self.old)) }
+        ensures fault { FaultsAmong (unread_last self.old) result }
     {
         let Some(top) = &self.top else {
             return Ok(Stand::End);
@@ -224,6 +231,8 @@ impl OpenFiles {
         ensures told { F.told files.new ≡ F.told files.old }
         ensures cause { HasFilesCause result (F.faults files.old) (F.faults files.new) }
         ensures bounded { OnOk result ((n : ℕ) → Bounded self.old n → Bounded self.new n) }
+        ensures unread { OnOk result (IsFront (unread self.new) (unread self.old)) }
+        ensures fault { FaultsAmong (unread self.old) result }
     {
         loop {
             match self.advance(files) {
@@ -301,6 +310,7 @@ impl OpenFiles {
         ensures given { IfOk result (λ line. IfSome line (λ l. IsGiven self.new × (l.depth ≡ length self.new.below.items))) }
         ensures opens { IfOk result (λ line. IfSome line (λ l. (l.opens ≡ self.old.fresh) × (l.depth ≡ length self.old.below.items) × (length (stack self.new) ≡ l.depth + 1))) }
         ensures bounded { result ≡ Ok None → (n : ℕ) → Bounded self.old n → Bounded self.new n }
+        ensures unread { IfOk result (TakenFrom (unread self.old) (unread self.new)) }
         ensures quiet { IfErr result (λ e. is_read_fault e ≡ false) }
     {
         let Next { next, said } = match self.head() {
@@ -372,6 +382,8 @@ impl OpenFiles {
         ensures told { F.told files.new ≡ F.told files.old }
         ensures cause { HasFilesCause result (F.faults files.old) (F.faults files.new) }
         ensures bounded { OnOk result ((n : ℕ) → Bounded self.old n → Bounded self.new n) }
+        ensures unread { OnOk result (IsFront (unread self.new) (unread self.old)) }
+        ensures fault { FaultsAmong (unread_last self.old) result }
     {
         let found = match self.include() {
             None => return Ok(()),

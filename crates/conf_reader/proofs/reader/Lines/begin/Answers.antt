@@ -1,4 +1,4 @@
-use Rattle.std.proofs.Common.{◌≡◌, ◌∙◌, sym, ap, refl, Some, length, false}
+use Rattle.std.proofs.Common.{◌≡◌, ◌∙◌, sym, Some, length, false}
 use Rattle.std.specs.Prelude.{nat_lt}
 use Rattle.std.specs.List.{slice_get}
 use Rattle.conf_rules.specs.Sources.{size_limit}

@@ -1,10 +1,11 @@
-use Rattle.std.proofs.Common.{◌≡◌, ◌∙◌, ◌<◌, ◌+◌, sym, ap, refl, Some, [], length}
+use Rattle.std.proofs.Common.{◌≡◌, Bool, sym, ap, refl, Some, []}
 use Rattle.std.specs.List.{slice_get}
 use Rattle.conf_rules.specs.declared.causes.Cause.TheVariants as causes
 use Rattle.conf_reader.specs.declared.reader.Lines.{Lines}
 use Rattle.conf_reader.specs.Left.{left}
 use Rattle.conf_reader.proofs.OpenLemmas.{moves-refused}
 use Rattle.conf_reader.proofs.FirstLemmas.{lack-refused, size-moves, plain-at, below-end}
+use Rattle.conf_reader.proofs.UnreadLemmas.{first-fault}
 use Rattle.conf_reader.proofs.reader.Lines.first.Goals as goal
 
 pub returns-then-required-clause-moves : goal.returns-then-required-clause-moves
@@ -34,3 +35,9 @@ returns-in-Ok-TooLarge-clause-moves g c = λ told place blocks tells.
 
 pub returns-in-Ok-clause-next : goal.returns-in-Ok-clause-next
 returns-in-Ok-clause-next g c = (c.in-Ok.ensures.next, below-end c.args.self.now.firsts.items c.args.self.now.next_first c.in-Some.first.now (sym c.in-Some.ensures))
+
+pub returns-in-Err-Failed-clause-fault : goal.returns-in-Err-Failed-clause-fault
+returns-in-Err-Failed-clause-fault g c =
+    let f = c.in-Some.first.now in
+    let named : slice_get c.args.self.now.firsts.items c.args.self.now.next_first ≡ Some f = sym c.in-Some.ensures in
+    first-fault Bool c.args.self.now f c.file_refusal-in-Err-Failed.result named (rw named at c.file_refusal-in-Err-Failed.ensures)

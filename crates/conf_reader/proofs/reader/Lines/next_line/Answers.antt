@@ -1,5 +1,8 @@
-use Rattle.std.proofs.Common.{◌≡◌, ◌∙◌, ◌+◌, sym, ap, length, Ok, arith}
+use Rattle.std.proofs.Common.{◌∙◌, ◌+◌, ap, length, Ok, Err, arith}
 use Rattle.conf_reader.proofs.NextLemmas.{more, gives, ends, fails}
+use Rattle.conf_reader.specs.declared.line.ConfLine.{ConfLine}
+use Rattle.std.specs.Prelude.{Option}
+use Rattle.conf_reader.proofs.UnreadLemmas.{front-of-front, later-fault, follows-on}
 use Rattle.conf_reader.proofs.reader.Lines.next_line.Goals as goal
 
 pub returns-in-Ok-End-clause-reads : goal.returns-in-Ok-End-clause-reads
@@ -26,6 +29,7 @@ loop-line-preserved g c = record {
   kept = λ n b. c.in-Ok-Comment.ensures.bounded (ap (λ s. Ok s) c.in-Ok-Comment.field-0-is) n (c.loop-line.invariant.kept n b);
   counted = let counts = rw c.in-Ok-Comment.field-0-is at c.in-Ok-Comment.ensures.counts in omega (arith, counts.0, c.loop-line.invariant.counted);
   firsts = c.one.ensures.firsts ∙ c.loop-line.invariant.firsts;
+  unread = front-of-front _ _ _ (rw c.in-Ok-Comment.field-0-is at c.in-Ok-Comment.ensures.unread) c.loop-line.invariant.unread;
   far = λ told place blocks tells at bounded.
       let s = c.loop-line.invariant.far told place blocks tells at bounded in
       let counts = rw c.in-Ok-Comment.field-0-is at c.in-Ok-Comment.ensures.counts in
@@ -41,3 +45,9 @@ returns-in-Ok-Given-clause-given g c =
       lies = λ n b. given.lies n (c.loop-line.invariant.kept n b);
       further = omega (arith, given.further, c.loop-line.invariant.counted);
     }
+
+pub returns-in-Ok-Given-clause-unread : goal.returns-in-Ok-Given-clause-unread
+returns-in-Ok-Given-clause-unread g c = follows-on _ _ _ c.in-Ok-Given.line c.loop-line.invariant.unread (rw c.in-Ok-Given.field-0-is at c.in-Ok-Given.ensures.unread)
+
+pub returns-in-Err-clause-fault : goal.returns-in-Err-clause-fault
+returns-in-Err-clause-fault g c = later-fault (Option ConfLine) c.args.self.now c.loop-line.self (Err c.in-Err.e) c.loop-line.invariant.unread c.loop-line.invariant.firsts c.in-Err.ensures.fault

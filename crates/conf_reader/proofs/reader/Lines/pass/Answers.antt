@@ -1,4 +1,3 @@
-use Rattle.std.proofs.Common.{◌≡◌, ◌∙◌, sym, ap, refl}
 use Rattle.conf_reader.proofs.FirstLemmas.{passes-next}
 use Rattle.conf_reader.proofs.reader.Lines.pass.Goals as goal
 

@@ -1,7 +1,7 @@
-use Rattle.std.proofs.Common.{◌≡◌, ◌∙◌, ◌<◌, ◌≤◌, length, None, Some, sym, ap, refl, arith}
-use Rattle.std.specs.Prelude.{IfSome}
-use Rattle.conf_reader.specs.Left.{IsSettled}
+use Rattle.std.proofs.Common.{◌<◌, ◌≤◌, length, sym, ap, refl, arith}
+use Rattle.conf_reader.specs.declared.stack.Stand.{Stand}
 use Rattle.conf_reader.proofs.OpenLemmas.{ready-top, none-left, one-left-path, found-names}
+use Rattle.conf_reader.proofs.UnreadLemmas.{top-fault}
 use Rattle.conf_reader.proofs.stack.OpenFiles.advance.Goals as goal
 
 pub open-requires-clause-named : goal.open-requires-clause-named
@@ -20,3 +20,7 @@ close-requires-clause-ended g c =
 pub returns-in-Err-clause-moves : goal.returns-in-Err-clause-moves
 returns-in-Err-clause-moves g c = λ told place blocks tells.
     c.in-Err.ensures.moves told place blocks (rw c.in-Some.is (found-names told c.in-Ok.found c.in-Some.top c.in-Some-next_path.path.now (sym c.in-Some-next_path.ensures) (rw c.as_bytes.ensures at (c.in-Ok.ensures.found told tells))))
+
+pub returns-in-Err-Failed-clause-fault : goal.returns-in-Err-Failed-clause-fault
+returns-in-Err-Failed-clause-fault g c =
+    top-fault Stand c.args.self.now c.in-Some.top c.refusal.result c.in-Some.is (one-left-path c.in-Some.top.named c.in-Some.top.next c.in-Some-next_path.path.now c.in-Some-next_path.ensures) (rw c.in-Some.is at c.refusal.ensures)

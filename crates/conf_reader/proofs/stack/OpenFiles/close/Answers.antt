@@ -1,4 +1,4 @@
-use Rattle.std.proofs.Common.{◌≡◌, ◌∙◌, sym, ap, refl}
+use Rattle.std.proofs.Common.{refl}
 use Rattle.conf_reader.proofs.OpenLemmas.{closes-top}
 use Rattle.conf_reader.proofs.stack.OpenFiles.close.Goals as goal
 

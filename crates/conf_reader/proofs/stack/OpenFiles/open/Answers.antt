@@ -1,4 +1,4 @@
-use Rattle.std.proofs.Common.{◌≡◌, ◌∙◌, ◌<◌, length, None, Some, [], sym, ap, refl, arith}
+use Rattle.std.proofs.Common.{[], refl, arith}
 use Rattle.conf_reader.proofs.OpenLemmas.{moves-deep, moves-large, holds-names}
 use Rattle.conf_reader.proofs.stack.OpenFiles.open.Goals as goal
 
