@@ -4,10 +4,10 @@ use Rattle.conf_rules.specs.declared.criterion.Criterion.{Criterion}
 use Rattle.conf_rules.specs.declared.causes.TokenError.{TokenError}
 use Rattle.conf_rules.specs.Texts.{Bytes}
 use Rattle.conf_rules.specs.Tokens.{View}
-use Rattle.conf_rules.specs.Evaluation.{Verdict, criterion_verdict, verdict}
+use Rattle.conf_rules.specs.Evaluation.{Verdict, exec_verdict, criterion_verdict, verdict}
 use Rattle.conf_match.specs.declared.evaluation.EvalError.{EvalError}
 use Rattle.conf_match.specs.declared.evaluation.EvalError.TheVariants.{RunFault, Token, OutOfMemory}
-use Rattle.conf_match.specs.Evaluated.{Evaluated, RanAll, RanSome, Ran}
+use Rattle.conf_match.specs.Evaluated.{Evaluated, RanAll, RanSome, FailsOne, FailsIn, Ran}
 
 -- ---- what was run
 
@@ -109,3 +109,33 @@ refused_ran status view all left old now new c rest OutOfMemory l h k held = som
 refused_ran status view all left old now new c rest (Token e) l h k held =
     let w : (verdict status view all).ran ≡ held.commands ++ (criterion_verdict status view c).ran = ap (λ (v : Verdict). v.ran) (at_first status view all left held.commands _ held.rest (ap (verdict status view) l ∙ on_error status view c rest e h)) in
     rw w (both_ran old now new held.commands (criterion_verdict status view c).ran held.ran k)
+
+-- ---- a command that could not be run
+
+-- the command of an exec is the one that failed
+pub exec_failed : (status : Bytes → ℕ) (given : Result Bytes TokenError) (command : Bytes) (old new : Option (List Bytes)) → given ≡ Ok command → RanAll old new [] → FailsOne old new (exec_verdict status given).ran
+exec_failed status given command old new e k = record { done = []; failed = command; others = []; parts = rw e refl; ran = k }
+
+-- where a command failed, each answer may be given
+pub failed_in : (result : Result Bool EvalError) (old new : Option (List Bytes)) (commands : List Bytes) → FailsOne old new commands → FailsIn result old new commands
+failed_in (Ok b) old new commands k = tt
+failed_in (Err RunFault) old new commands k = k
+failed_in (Err OutOfMemory) old new commands k = tt
+failed_in (Err (Token e)) old new commands k = tt
+
+one_failed : (status : Bytes → ℕ) (view : View) (all left : List Criterion) (old now new : Option (List Bytes)) (c : Criterion) (rest : List Criterion) → left ≡ c ∷ rest → FailsOne now new (criterion_verdict status view c).ran → Held status view all left old now → FailsOne old new (verdict status view all).ran
+one_failed status view all left old now new c rest l k held =
+    let more = first_of status view c rest (criterion_verdict status view c).holds refl in
+    let here : (verdict status view left).ran ≡ k.done ++ (k.failed ∷ k.others ++ more.0) = ap (λ cs. (verdict status view cs).ran) l ∙ more.1 ∙ ap (λ cs. cs ++ more.0) k.parts ∙ append_assoc k.done (k.failed ∷ k.others) more.0 in
+    record {
+      done = held.commands ++ k.done;
+      failed = k.failed;
+      others = k.others ++ more.0;
+      parts = ap (λ (v : Verdict). v.ran) held.rest ∙ ap (λ cs. held.commands ++ cs) here ∙ sym (append_assoc held.commands k.done (k.failed ∷ k.others ++ more.0));
+      ran = both_ran old now new held.commands k.done held.ran k.ran;
+    }
+
+pub refused_failed : (status : Bytes → ℕ) (view : View) (all left : List Criterion) (old now new : Option (List Bytes)) (c : Criterion) (rest : List Criterion) (e : EvalError) → left ≡ c ∷ rest → FailsIn (Err e) now new (criterion_verdict status view c).ran → Held status view all left old now → FailsIn (Err e) old new (verdict status view all).ran
+refused_failed status view all left old now new c rest RunFault l k held = one_failed status view all left old now new c rest l k held
+refused_failed status view all left old now new c rest OutOfMemory l k held = tt
+refused_failed status view all left old now new c rest (Token e) l k held = tt

@@ -1,5 +1,5 @@
 -- What an evaluation gave, and what it ran.
-use Rattle.std.specs.Prelude.{◌≡◌, ℕ, Bool, List, ◌++◌, Option, Some, None, Result, Ok, Err}
+use Rattle.std.specs.Prelude.{◌≡◌, ℕ, Bool, List, ◌∷◌, ◌++◌, Option, Some, None, Result, Ok, Err}
 use Rattle.std.specs.Option.{option_map}
 use Rattle.mux_outside.specs.declared.statuses.CommandStatus.{CommandStatus}
 use Rattle.mux_outside.specs.declared.file_error.FileError.{FileError}
@@ -54,6 +54,19 @@ pub record RanSome (old new : Option (List Bytes)) (commands : List Bytes) : Typ
   pub others : List Bytes
   pub parts : commands ≡ done ++ others
   pub ran : RanAll old new done
+
+-- one of these commands could not be run, and all before it were
+pub record FailsOne (old new : Option (List Bytes)) (commands : List Bytes) : Type 0 where
+  pub done : List Bytes
+  pub failed : Bytes
+  pub others : List Bytes
+  pub parts : commands ≡ done ++ failed ∷ others
+  pub ran : RanAll old new done
+
+-- where the runner failed, it failed at one of these commands
+abbrev pub FailsIn : Result Bool EvalError → Option (List Bytes) → Option (List Bytes) → List Bytes → Type 0
+FailsIn (Err RunFault) old new commands = FailsOne old new commands
+FailsIn result old new commands = Unit {0}
 
 -- the commands of an evaluation were run, or, where memory or the runner failed, the first of them
 abbrev pub Ran : Result Bool EvalError → Option (List Bytes) → Option (List Bytes) → List Bytes → Type 0

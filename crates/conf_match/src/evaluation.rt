@@ -5,7 +5,7 @@ ghost use Rattle.conf_rules.specs.Texts.{Bytes};
 ghost use Rattle.conf_rules.specs.Patterns.{list_takes};
 ghost use Rattle.conf_rules.specs.Evaluation.{plain_verdict, criterion_verdict, verdict};
 ghost use Rattle.conf_tokens.specs.Seen.{seen};
-ghost use Rattle.conf_match.specs.Evaluated.{takes_user, takes_local_user, Evaluated, Ran, HasRunCause, TellsStatus, of_token, of_file};
+ghost use Rattle.conf_match.specs.Evaluated.{takes_user, takes_local_user, Evaluated, Ran, FailsIn, HasRunCause, TellsStatus, of_token, of_file};
 
 use crate::lists::matches_list;
 use conf_rules::{Criteria, Criterion, Kind, ListAnswer, TokenError, TokenSet};
@@ -80,6 +80,7 @@ fn exec<R: Runner>(
 ) -> Result<bool, EvalError>
     ensures holds { (status : Bytes → ℕ) → TellsStatus (R.told runner.old) status → Evaluated result (plain_verdict status (seen view.now) Exec value.now).holds }
     ensures ran { (status : Bytes → ℕ) → Ran result (R.ran runner.old) (R.ran runner.new) (plain_verdict status (seen view.now) Exec value.now).ran }
+    ensures failed { (status : Bytes → ℕ) → FailsIn result (R.ran runner.old) (R.ran runner.new) (plain_verdict status (seen view.now) Exec value.now).ran }
     ensures cause { HasRunCause result (R.faults runner.old) (R.faults runner.new) }
     ensures told { R.told runner.new ≡ R.told runner.old }
 {
@@ -98,6 +99,7 @@ fn plain<R: Runner>(
 ) -> Result<bool, EvalError>
     ensures holds { (status : Bytes → ℕ) → TellsStatus (R.told runner.old) status → Evaluated result (plain_verdict status (seen view.now) kind value.now).holds }
     ensures ran { (status : Bytes → ℕ) → Ran result (R.ran runner.old) (R.ran runner.new) (plain_verdict status (seen view.now) kind value.now).ran }
+    ensures failed { (status : Bytes → ℕ) → FailsIn result (R.ran runner.old) (R.ran runner.new) (plain_verdict status (seen view.now) kind value.now).ran }
     ensures cause { HasRunCause result (R.faults runner.old) (R.faults runner.new) }
     ensures told { R.told runner.new ≡ R.told runner.old }
 {
@@ -123,6 +125,7 @@ fn one<R: Runner>(
 ) -> Result<bool, EvalError>
     ensures holds { (status : Bytes → ℕ) → TellsStatus (R.told runner.old) status → Evaluated result (criterion_verdict status (seen view.now) criterion.now).holds }
     ensures ran { (status : Bytes → ℕ) → Ran result (R.ran runner.old) (R.ran runner.new) (criterion_verdict status (seen view.now) criterion.now).ran }
+    ensures failed { (status : Bytes → ℕ) → FailsIn result (R.ran runner.old) (R.ran runner.new) (criterion_verdict status (seen view.now) criterion.now).ran }
     ensures cause { HasRunCause result (R.faults runner.old) (R.faults runner.new) }
     ensures told { R.told runner.new ≡ R.told runner.old }
 {
@@ -146,6 +149,7 @@ pub fn eval<R: Runner>(
 ) -> Result<bool, EvalError>
     ensures holds { (status : Bytes → ℕ) → TellsStatus (R.told runner.old) status → Evaluated result (verdict status (seen view.now) criteria.now).holds }
     ensures ran { (status : Bytes → ℕ) → TellsStatus (R.told runner.old) status → Ran result (R.ran runner.old) (R.ran runner.new) (verdict status (seen view.now) criteria.now).ran }
+    ensures failed { (status : Bytes → ℕ) → TellsStatus (R.told runner.old) status → FailsIn result (R.ran runner.old) (R.ran runner.new) (verdict status (seen view.now) criteria.now).ran }
     ensures cause { HasRunCause result (R.faults runner.old) (R.faults runner.new) }
     ensures told { R.told runner.new ≡ R.told runner.old }
 {
