@@ -19,18 +19,19 @@ use Rattle.conf_rules.specs.Sources.{Line}
 use Rattle.conf_rules.specs.Rows.{Row, Pass}
 use Rattle.conf_rules.specs.Entries.{entry_of}
 use Rattle.conf_rules.specs.Resolution.{seen_at, is_active, effect_of, tested}
-use Rattle.conf_match.specs.Evaluated.{RanAll, RanSome}
+use Rattle.conf_match.specs.Evaluated.{RanAll, RanSome, FailsOne}
 use Rattle.conf_reader.specs.declared.line.ConfLine.{ConfLine}
 use Rattle.conf_reader.specs.Blocks.{Blocks}
 use Rattle.conf_fold.specs.declared.fold.Fold.{Fold}
 use Rattle.conf_fold.specs.declared.errors.LineError.{LineError}
 use Rattle.conf_fold.specs.declared.errors.LineError.TheVariants as line_errors
-use Rattle.conf_fold.specs.Results.{Refuses, RanUnless, breaks_line, breaks_off, HasLineCause, HasRunCause, is_line_fault, FailsLine}
+use Rattle.conf_fold.specs.Results.{Refuses, RanUnless, breaks_line, breaks_off, FailsInLine, FailsAt, HasLineCause, HasRunCause, is_line_fault, FailsLine}
 use Rattle.conf_fold.specs.Stands.{Stands, IsNext, next_row, entry_so_far, view_of}
 use Rattle.conf_fold.proofs.SeenLemmas.{view-same}
 use Rattle.conf_fold.proofs.EntryLemmas.{entry-same}
 use Rattle.conf_fold.proofs.RowLemmas.{said, row-said}
 use Rattle.conf_fold.proofs.FoldLemmas.{tests-active}
+use Rattle.conf_fold.proofs.RefusedLemmas.{failing}
 
 -- commands that were run, where they are told
 abbrev pub Commands : Type 0
@@ -118,6 +119,48 @@ refused-ran told pass fold rows blocks l place line line_errors.OutOfMemory old 
 refused-ran told pass fold rows blocks l place line (line_errors.Refused c) old new s n f k =
     let says : entry_of rows line ≡ Err c = entry-same told pass fold rows blocks line l s n.is_line ∙ f in
     ran-none (is_fault c) old new _ (rw (n.within, says) (refused-quiet told pass rows (is_active rows pass line) c)) k
+
+-- ---- a command that could not be run
+
+-- what a call for a truth failed at, the line of it failed at
+failed-in : (e : LineError) (old new : Commands) (a b : List Bytes) → a ≡ b → FailsInLine {A = Bool} (Err e) old new a → FailsInLine {A = Unit {0}} (Err e) old new b
+failed-in line_errors.OutOfMemory old new a b h f = tt
+failed-in (line_errors.Refused causes.RunFault) old new a b h f = subst (FailsOne old new) h f
+failed-in (line_errors.Refused c) old new a b h f = tt
+
+-- where the runner failed at a Match line, it failed at one of the commands of its row
+pub tests-broken : (told : Told) (pass : Pass) (fold : Fold) (rows : List Row) (blocks : Blocks) (l : ConfLine) (place : ℕ) (line : Line) (cs : List Criterion) (e : LineError) (t : Bool) (old new : Commands)
+    → Stands told pass fold rows blocks → IsNext told pass rows blocks l place line → entry_so_far fold l ≡ Ok (Tests cs) → t ≡ list_all (λ m. m) (take l.depth fold.applies)
+    → (t ≡ true → FailsInLine {A = Bool} (Err e) old new (verdict told.status (view_of fold told.facts) cs).ran) → (t ≡ false → failing e ≡ Ok false)
+    → FailsInLine {A = Unit {0}} (Err e) old new (next_row told pass rows place line).ran
+unfolding said
+tests-broken told pass fold rows blocks l place line cs e false old new s n h a failed idle = absurd (let k = idle refl in cc)
+tests-broken told pass fold rows blocks l place line cs e true old new s n h a failed idle =
+    let says : entry_of rows line ≡ Ok (Tests cs) = entry-same told pass fold rows blocks line l s n.is_line ∙ h in
+    let active : is_active rows pass line ≡ true = tests-active told pass fold rows blocks line l cs s n.is_line h ∙ sym a in
+    let row = ap (λ (r : Row). r.ran) (row-said told pass rows blocks l place line (Tests cs) n says) in
+    let commands : (verdict told.status (view_of fold told.facts) cs).ran ≡ (next_row told pass rows place line).ran =
+    ap (λ v. (verdict told.status v cs).ran) (view-same told pass fold rows blocks s) ∙ sym (row ∙ tests-run told pass rows (is_active rows pass line) cs active) in
+    failed-in e old new _ _ commands (failed refl)
+
+-- the same with its place
+placed-failed : (c : Cause) (file : Bytes) (number : ℕ) (old new : Commands) (commands : List Bytes) → FailsInLine {A = Unit {0}} (Err (line_errors.Refused c)) old new commands → FailsAt {A = Unit {0}} file number (Err (resolve_errors.At file number c)) old new commands
+placed-failed causes.RunFault file number old new commands f = (refl, (refl, f))
+placed-failed c file number old new commands f = tt
+
+pub failed-placed : (e : LineError) (file : Bytes) (number : ℕ) (d : ResolveError) (old new : Commands) (commands : List Bytes) → Refuses e file number d → FailsInLine {A = Unit {0}} (Err e) old new commands → FailsAt {A = Unit {0}} file number (Err d) old new commands
+failed-placed e file number resolve_errors.OutOfMemory old new commands r f = tt
+failed-placed line_errors.OutOfMemory file number (resolve_errors.At g n c) old new commands r f = absurd cc
+failed-placed (line_errors.Refused c) file number (resolve_errors.At g n d) old new commands r f = subst (λ x. FailsAt {A = Unit {0}} file number (Err x) old new commands) (sym r) (placed-failed c file number old new commands f)
+
+-- no fault of the outside is none of the runner
+pub never-failed : (e : LineError) (file : Bytes) (number : ℕ) (d : ResolveError) (old new : Commands) (commands : List Bytes) → is_line_fault e ≡ false → Refuses e file number d → FailsAt {A = Unit {0}} file number (Err d) old new commands
+never-failed e file number d old new commands f r = failed-placed e file number d old new commands r (none e f)
+  where
+    none : (x : LineError) → is_line_fault x ≡ false → FailsInLine {A = Unit {0}} (Err x) old new commands
+    none line_errors.OutOfMemory h = tt
+    none (line_errors.Refused causes.RunFault) h = absurd cc
+    none (line_errors.Refused c) h = tt
 
 -- ---- the place of a refusal
 

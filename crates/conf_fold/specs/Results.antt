@@ -17,7 +17,7 @@ use Rattle.conf_rules.specs.Diagnostics.{is_fault}
 use Rattle.conf_rules.specs.Texts.{Bytes}
 use Rattle.conf_match.specs.declared.evaluation.EvalError.{EvalError}
 use Rattle.conf_match.specs.declared.evaluation.EvalError.TheVariants as eval_errors
-use Rattle.conf_match.specs.Evaluated.{RanAll, RanSome}
+use Rattle.conf_match.specs.Evaluated.{RanAll, RanSome, FailsOne}
 use Rattle.conf_fold.specs.declared.errors.LineError.{LineError}
 use Rattle.conf_fold.specs.declared.errors.LineError.TheVariants as line_errors
 
@@ -92,6 +92,16 @@ abbrev pub breaks_off : {A : Type 0} → Result A ResolveError → Bool
 breaks_off (Ok x) = false
 breaks_off (Err OutOfMemory) = true
 breaks_off (Err (At file line cause)) = is_fault cause
+
+-- where the runner failed on a line, it failed at one of these commands
+abbrev pub FailsInLine : {A : Type 0} → Result A LineError → Option (List Bytes) → Option (List Bytes) → List Bytes → Type 0
+FailsInLine (Err (line_errors.Refused causes.RunFault)) old new commands = FailsOne old new commands
+FailsInLine result old new commands = Unit {0}
+
+-- the same of a refusal with its place, which is this one
+abbrev pub FailsAt : {A : Type 0} → Bytes → ℕ → Result A ResolveError → Option (List Bytes) → Option (List Bytes) → List Bytes → Type 0
+FailsAt file number (Err (At f n causes.RunFault)) old new commands = (f ≡ file) × ((n ≡ number) × FailsOne old new commands)
+FailsAt file number result old new commands = Unit {0}
 
 -- ---- faults
 

@@ -11,7 +11,7 @@ ghost use Rattle.conf_tokens.specs.Seen.{seen};
 ghost use Rattle.conf_rules.specs.Rows.{Row, Pass, word_in, values_among};
 ghost use Rattle.conf_match.specs.Evaluated.{TellsStatus, RanAll};
 ghost use Rattle.conf_tokens.specs.Known.{known};
-ghost use Rattle.conf_fold.specs.Results.{Evaluated, GivesLine, Refuses, RanUnless, breaks_line, breaks_off, HasLineCause, HasRunCause, is_line_fault, is_fault_at};
+ghost use Rattle.conf_fold.specs.Results.{Evaluated, GivesLine, Refuses, RanUnless, breaks_line, breaks_off, FailsInLine, FailsAt, HasLineCause, HasRunCause, is_line_fault, is_fault_at};
 
 use crate::entries::{asked_entry, file_entry, has_final, is_collected};
 use crate::errors::{LineError, refuse};
@@ -76,6 +76,7 @@ fn evaluate<R: Runner>(
 ) -> Result<bool, LineError>
     ensures holds { (status : Bytes → ℕ) → TellsStatus (R.told runner.old) status → Evaluated result (verdict status (seen view.now) criteria.now).holds }
     ensures ran { (status : Bytes → ℕ) → TellsStatus (R.told runner.old) status → RanUnless (breaks_line result) (R.ran runner.old) (R.ran runner.new) (verdict status (seen view.now) criteria.now).ran }
+    ensures failed { (status : Bytes → ℕ) → TellsStatus (R.told runner.old) status → FailsInLine result (R.ran runner.old) (R.ran runner.new) (verdict status (seen view.now) criteria.now).ran }
     ensures cause { HasLineCause result (R.faults runner.old) (R.faults runner.new) }
     ensures told { R.told runner.new ≡ R.told runner.old }
 {
@@ -314,6 +315,7 @@ impl Fold {
     ) -> Result<bool, LineError>
         ensures holds { (status : Bytes → ℕ) → TellsStatus (R.told runner.old) status → Evaluated result (verdict status (view_of self.now (known facts.now)) criteria.now).holds }
         ensures ran { (status : Bytes → ℕ) → TellsStatus (R.told runner.old) status → RanUnless (breaks_line result) (R.ran runner.old) (R.ran runner.new) (verdict status (view_of self.now (known facts.now)) criteria.now).ran }
+        ensures failed { (status : Bytes → ℕ) → TellsStatus (R.told runner.old) status → FailsInLine result (R.ran runner.old) (R.ran runner.new) (verdict status (view_of self.now (known facts.now)) criteria.now).ran }
         ensures cause { HasLineCause result (R.faults runner.old) (R.faults runner.new) }
         ensures told { R.told runner.new ≡ R.told runner.old }
     {
@@ -358,6 +360,7 @@ impl Fold {
         ensures held { (status : Bytes → ℕ) → TellsStatus (R.told runner.old) status → active ≡ true → Evaluated result (verdict status (view_of self.now (known facts.now)) criteria.now).holds }
         ensures idle { active ≡ false → result ≡ Ok false }
         ensures ran { (status : Bytes → ℕ) → TellsStatus (R.told runner.old) status → active ≡ true → RanUnless (breaks_line result) (R.ran runner.old) (R.ran runner.new) (verdict status (view_of self.now (known facts.now)) criteria.now).ran }
+        ensures failed { (status : Bytes → ℕ) → TellsStatus (R.told runner.old) status → active ≡ true → FailsInLine result (R.ran runner.old) (R.ran runner.new) (verdict status (view_of self.now (known facts.now)) criteria.now).ran }
         ensures quiet { active ≡ false → R.ran runner.new ≡ R.ran runner.old }
         ensures cause { HasLineCause result (R.faults runner.old) (R.faults runner.new) }
         ensures told { R.told runner.new ≡ R.told runner.old }
@@ -403,6 +406,10 @@ impl Fold {
             told.facts ≡ known facts.now → TellsStatus (R.told runner.old) told.status →
             Stands told pass self.old rows blocks → IsNext told pass rows blocks line.now place l → entry_so_far self.old line.now ≡ Ok entry →
             RanUnless (breaks_line result) (R.ran runner.old) (R.ran runner.new) (next_row told pass rows place l).ran }
+        ensures failed { (told : Told) (pass : Pass) (rows : List Row) (blocks : Blocks) (place : ℕ) (l : Line) →
+            told.facts ≡ known facts.now → TellsStatus (R.told runner.old) told.status →
+            Stands told pass self.old rows blocks → IsNext told pass rows blocks line.now place l → entry_so_far self.old line.now ≡ Ok entry →
+            FailsInLine result (R.ran runner.old) (R.ran runner.new) (next_row told pass rows place l).ran }
         ensures cause { HasLineCause result (R.faults runner.old) (R.faults runner.new) }
         ensures depth { OnOk result (length self.new.applies ≡ line.now.depth + 1) }
         ensures unchanged { OnErr result (self.new.settings ≡ self.old.settings) }
@@ -457,6 +464,10 @@ impl Fold {
             told.facts ≡ known facts.now → TellsStatus (R.told runner.old) told.status →
             Stands told pass self.old rows blocks → IsNext told pass rows blocks line.now place l →
             RanUnless (breaks_off result) (R.ran runner.old) (R.ran runner.new) (next_row told pass rows place l).ran }
+        ensures failed { (told : Told) (pass : Pass) (rows : List Row) (blocks : Blocks) (place : ℕ) (l : Line) →
+            told.facts ≡ known facts.now → TellsStatus (R.told runner.old) told.status →
+            Stands told pass self.old rows blocks → IsNext told pass rows blocks line.now place l →
+            FailsAt line.now.file line.now.number result (R.ran runner.old) (R.ran runner.new) (next_row told pass rows place l).ran }
         ensures cause { HasRunCause result (R.faults runner.old) (R.faults runner.new) }
         ensures depth { OnOk result (length self.new.applies ≡ line.now.depth + 1) }
         ensures unchanged { OnErr result (self.new.settings ≡ self.old.settings) }

@@ -6,7 +6,7 @@ use Rattle.conf_fold.specs.Stands.{view_of}
 use Rattle.conf_fold.proofs.FoldLemmas.{folds-nothing, folds-block, folds-tests}
 use Rattle.conf_fold.proofs.GiveLemmas.{folds-gives}
 use Rattle.conf_fold.proofs.RefusedLemmas.{tests-failed, gives-depth}
-use Rattle.conf_fold.proofs.RanLemmas.{ran-none, ran-weaker, quiet-row, tests-ran}
+use Rattle.conf_fold.proofs.RanLemmas.{ran-none, ran-weaker, quiet-row, tests-ran, tests-broken}
 use Rattle.conf_fold.proofs.fold.Fold.take.Goals as goal
 
 pub returns-in_ok-enter-in-Nothing-clause-folds : goal.returns-in_ok-enter-in-Nothing-clause-folds
@@ -54,6 +54,11 @@ pub returns-in-Err-clause-ran : goal.returns-in-Err-clause-ran
 returns-in-Err-clause-ran g c = λ told pass rows blocks place l facts status s n e.
     tests-ran told pass c.args.self.now rows blocks c.args.line.now place l _ c.all_before-active.result (breaks_line {A = Unit {0}} (Err c.in-Err.e)) _ _ s n (e ∙ ap (λ x. Ok x) c.in-Tests.is) c.all_before-active.ensures
     (λ a. rw facts (c.in-Err.ensures.ran told.status status a)) c.in-Err.ensures.quiet
+
+pub returns-in-Err-clause-failed : goal.returns-in-Err-clause-failed
+returns-in-Err-clause-failed g c = λ told pass rows blocks place l facts status s n e.
+    tests-broken told pass c.args.self.now rows blocks c.args.line.now place l _ c.in-Err.e c.all_before-active.result _ _ s n (e ∙ ap (λ x. Ok x) c.in-Tests.is) c.all_before-active.ensures
+    (λ a. rw facts (c.in-Err.ensures.failed told.status status a)) c.in-Err.ensures.idle
 
 pub returns-in_ok-give-in-Gives-clause-folds : goal.returns-in_ok-give-in-Gives-clause-folds
 returns-in_ok-give-in-Gives-clause-folds g c = λ told pass rows blocks place l facts status s n e.
