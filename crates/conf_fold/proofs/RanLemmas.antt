@@ -122,7 +122,7 @@ refused-ran told pass fold rows blocks l place line (line_errors.Refused c) old 
 
 -- ---- a command that could not be run
 
--- what a call for a truth failed at, the line of it failed at
+-- an evaluation's error as that of its line, at the same commands
 failed-in : (e : LineError) (old new : Commands) (a b : List Bytes) → a ≡ b → FailsInLine {A = Bool} (Err e) old new a → FailsInLine {A = Unit {0}} (Err e) old new b
 failed-in line_errors.OutOfMemory old new a b h f = tt
 failed-in (line_errors.Refused causes.RunFault) old new a b h f = subst (FailsOne old new) h f
@@ -143,7 +143,7 @@ tests-broken told pass fold rows blocks l place line cs e true old new s n h a f
     ap (λ v. (verdict told.status v cs).ran) (view-same told pass fold rows blocks s) ∙ sym (row ∙ tests-run told pass rows (is_active rows pass line) cs active) in
     failed-in e old new _ _ commands (failed refl)
 
--- the same with its place
+-- the same of a refusal with its place
 placed-failed : (c : Cause) (file : Bytes) (number : ℕ) (old new : Commands) (commands : List Bytes) → FailsInLine {A = Unit {0}} (Err (line_errors.Refused c)) old new commands → FailsAt {A = Unit {0}} file number (Err (resolve_errors.At file number c)) old new commands
 placed-failed causes.RunFault file number old new commands f = (refl, (refl, f))
 placed-failed c file number old new commands f = tt
@@ -153,7 +153,7 @@ failed-placed e file number resolve_errors.OutOfMemory old new commands r f = tt
 failed-placed line_errors.OutOfMemory file number (resolve_errors.At g n c) old new commands r f = absurd cc
 failed-placed (line_errors.Refused c) file number (resolve_errors.At g n d) old new commands r f = subst (λ x. FailsAt {A = Unit {0}} file number (Err x) old new commands) (sym r) (placed-failed c file number old new commands f)
 
--- no fault of the outside is none of the runner
+-- where no fault of the outside is, the runner did not fail
 pub never-failed : (e : LineError) (file : Bytes) (number : ℕ) (d : ResolveError) (old new : Commands) (commands : List Bytes) → is_line_fault e ≡ false → Refuses e file number d → FailsAt {A = Unit {0}} file number (Err d) old new commands
 never-failed e file number d old new commands f r = failed-placed e file number d old new commands r (none e f)
   where

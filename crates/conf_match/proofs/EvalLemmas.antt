@@ -116,7 +116,7 @@ refused_ran status view all left old now new c rest (Token e) l h k held =
 pub exec_failed : (status : Bytes → ℕ) (given : Result Bytes TokenError) (command : Bytes) (old new : Option (List Bytes)) → given ≡ Ok command → RanAll old new [] → FailsOne old new (exec_verdict status given).ran
 exec_failed status given command old new e k = record { done = []; failed = command; others = []; parts = rw e refl; ran = k }
 
--- where a command failed, each answer may be given
+-- a command that failed, said of any answer
 pub failed_in : (result : Result Bool EvalError) (old new : Option (List Bytes)) (commands : List Bytes) → FailsOne old new commands → FailsIn result old new commands
 failed_in (Ok b) old new commands k = tt
 failed_in (Err RunFault) old new commands k = k
