@@ -1,6 +1,8 @@
 pub mod CauseLemmas
 pub mod CommandLemmas
 pub mod DepthLemmas
+pub mod FaultLemmas
+pub mod IncludeLemmas
 pub mod PartsLemmas
 pub mod PassLemmas
 pub mod ResolveLemmas

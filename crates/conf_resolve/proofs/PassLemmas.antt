@@ -28,7 +28,9 @@ use Rattle.conf_fold.proofs.BlockLemmas.{marks-kept, each-kept}
 use Rattle.conf_fold.proofs.RowLemmas.{or-false, given-more, wants-more, collected-more, take-next, none-collected}
 use Rattle.conf_fold.proofs.FoldLemmas.{gives-nothing}
 use Rattle.conf_fold.proofs.OrderLemmas.{from, refusal-behind, ok-none, some-refused, rows-on, rows-end, row-line, from-front}
+use Rattle.conf_reader.specs.Unread.{unread, Follows}
 use Rattle.conf_resolve.specs.Passes.{Commands, commands, AreAgain, StandsFor, Passes, final_rows, Begins, file_lines}
+use Rattle.conf_resolve.proofs.IncludeLemmas.{AreIncluded, included-behind}
 use Rattle.conf_resolve.proofs.CommandLemmas.{commands-more, commands-quiet, idle-commands, refused-ran, ran-on, ran-some, ran-front}
 
 -- ---- lines that say nothing
@@ -78,17 +80,19 @@ stands-idle told pass fold rows blocks place line s at idle again =
     )
 
 -- behind idle lines
-pub record Ahead (told : Told) (pass : Pass) (fold : Fold) (blocks : Blocks) (place : ℕ) (rest : List Line) (final : List Row) (done : List (List ℕ)) : Type 0 where
+pub record Ahead (told : Told) (pass : Pass) (fold : Fold) (blocks : Blocks) (place : ℕ) (rest : List Line) (final start : List Row) : Type 0 where
   pub rows : List Row
   pub stands : Stands told pass fold rows blocks
   pub at : length rows ≡ start_of pass + place
   pub none : refusal_in rows ≡ None
   pub final_is : rows_from told entry_of rows (record { pass = pass; line = place }) rest ≡ final
   pub again : AreAgain told pass place rest
-  pub ran : commands rows ≡ done
+  pub ran : commands rows ≡ commands start
+  pub more : List Row
+  pub begins : rows ≡ start ++ more
 
 pub idle-many : (told : Told) (pass : Pass) (fold : Fold) (blocks : Blocks) (comments rest : List Line) (rows final : List Row) (place : ℕ) → Stands told pass fold rows blocks → length rows ≡ start_of pass + place → refusal_in rows ≡ None
-    → AreIdle told place comments → AreAgain told pass place (comments ++ rest) → rows_from told entry_of rows (record { pass = pass; line = place }) (comments ++ rest) ≡ final → Ahead told pass fold blocks (place + length comments) rest final (commands rows)
+    → AreIdle told place comments → AreAgain told pass place (comments ++ rest) → rows_from told entry_of rows (record { pass = pass; line = place }) (comments ++ rest) ≡ final → Ahead told pass fold blocks (place + length comments) rest final rows
 idle-many told pass fold blocks [] rest rows final place s at none idle again final-is =
     let z : place ≡ place + 0 = omega arith in
     record {
@@ -99,6 +103,8 @@ idle-many told pass fold blocks [] rest rows final place s at none idle again fi
       final_is = ap (λ n. rows_from told entry_of rows (record { pass = pass; line = n }) rest) (sym z) ∙ final-is;
       again = subst (λ n. AreAgain told pass n rest) z again;
       ran = refl;
+      more = [];
+      begins = sym (append-nil rows);
     }
 idle-many told pass fold blocks (l ∷ ls) rest rows final place s at none idle again final-is =
     let one = stands-idle told pass fold rows blocks place l s at idle.0 again.0 in
@@ -109,7 +115,18 @@ idle-many told pass fold blocks (l ∷ ls) rest rows final place s at none idle 
     let more = idle-many told pass fold blocks ls rest (rows ++ row ∷ []) final (place + 1) one.1 at' (refusal-behind rows row none ∙ ok-none row.line row.entry ok) idle.1 again.1 (sym (rows-on told pass rows place l (ls ++ rest) ok) ∙ final-is) in
     let n : place + 1 + length ls ≡ place + suc (length ls) = omega arith in
     let same : commands (rows ++ row ∷ []) ≡ commands rows = idle-commands told pass rows place l idle.0 in
-    subst (λ cs. Ahead told pass fold blocks (place + suc (length ls)) rest final cs) same (subst (λ m. Ahead told pass fold blocks m rest final (commands (rows ++ row ∷ []))) n more)
+    let a = subst (λ m. Ahead told pass fold blocks m rest final (rows ++ row ∷ [])) n more in
+    record {
+      rows = a.rows;
+      stands = a.stands;
+      at = a.at;
+      none = a.none;
+      final_is = a.final_is;
+      again = a.again;
+      ran = a.ran ∙ same;
+      more = row ∷ a.more;
+      begins = a.begins ∙ append_assoc rows (row ∷ []) a.more;
+    }
 
 -- ---- the steps of a pass
 
@@ -126,6 +143,7 @@ pub record Underway (told : Told) (pass : Pass) (fold : Fold) (reader : Lines) (
   pub final_is : rows_from told entry_of rows (record { pass = pass; line = place }) (left told place blocks reader) ≡ final
   pub again : AreAgain told pass place (left told place blocks reader)
   pub ran : (before : Commands) → RanAll before start (commands first) → RanAll before now (commands rows)
+  pub included : AreIncluded rows (unread reader.open_files)
 
 take-size : (d : ℕ) (bs : Blocks) → d ≤ length bs → length (take d bs) ≡ d
 take-size zero bs h = refl
@@ -139,10 +157,10 @@ behind-length line place bs h = length-append (take line.depth bs) (_ ∷ []) �
 -- a line that was given and taken
 pub goes-on : (told : Told) (pass : Pass) (fold new : Fold) (old reader : Lines) (final : List Row) (first : List Row) (start now : Commands) (u : Underway told pass fold old final first start now) (line : ConfLine) → GivesNext told u.place u.blocks old reader line
     → ((rows : List Row) (place : ℕ) (l : Line) → Stands told pass fold rows u.blocks → IsNext told pass rows u.blocks line place l → Folds told pass rows u.blocks line place l (Ok tt) new)
-    → Bounded reader.open_files (line.depth + 1) → line.depth ≤ length u.blocks → (later : Commands)
+    → Bounded reader.open_files (line.depth + 1) → line.depth ≤ length u.blocks → Follows (unread old.open_files) (unread reader.open_files) line → (later : Commands)
     → ((rows : List Row) (place : ℕ) (l : Line) → Stands told pass fold rows u.blocks → IsNext told pass rows u.blocks line place l → RanAll now later (next_row told pass rows place l).ran)
     → Underway told pass new reader final first start later
-goes-on told pass fold new old reader final first start now u line gives folds bounded deep later runs =
+goes-on told pass fold new old reader final first start now u line gives folds bounded deep follows later runs =
     let place = u.place + length gives.comments in
     let rest = left told (place + 1) (open_behind line place u.blocks) reader in
     let a = idle-many told pass fold u.blocks gives.comments (gives.line ∷ rest) u.rows final u.place u.stands u.at u.none gives.idle (subst (AreAgain told pass u.place) gives.is u.again) (ap (rows_from told entry_of u.rows (record { pass = pass; line = u.place })) (sym gives.is) ∙ u.final_is) in
@@ -163,6 +181,8 @@ goes-on told pass fold new old reader final first start now u line gives folds b
       final_is = sym (rows-on told pass a.rows place gives.line rest f.0) ∙ a.final_is;
       again = a.again.1;
       ran = λ before r. subst (RanAll before later) (sym (commands-more a.rows row)) (ran-on before now later (commands a.rows) row.ran (subst (RanAll before now) (sym a.ran) (u.ran before r)) (runs a.rows place gives.line a.stands next));
+      included = subst (λ rs. AreIncluded (rs ++ row ∷ []) (unread reader.open_files)) (sym a.begins)
+          (included-behind u.rows a.more row (unread old.open_files) (unread reader.open_files) u.blocks line gives.line u.included (row-line told pass a.rows place gives.line) gives.is_line follows);
     }
 
 -- a line that was given and refused

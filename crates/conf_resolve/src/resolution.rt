@@ -1,7 +1,7 @@
-ghost use Rattle.std.specs.Prelude.{◌≡◌, List, [], Ok};
+ghost use Rattle.std.specs.Prelude.{◌≡◌, List, [], Ok, IfErr};
 ghost use Rattle.conf_rules.specs.Told.{Told};
 ghost use Rattle.conf_rules.specs.Rows.{Row, Pass, First};
-ghost use Rattle.conf_rules.specs.Resolution.{execs, refusal_in};
+ghost use Rattle.conf_rules.specs.Resolution.{all_rows, execs, refusal_in};
 ghost use Rattle.conf_tokens.specs.Known.{known};
 ghost use Rattle.conf_match.specs.Evaluated.{TellsStatus, RanAll};
 ghost use Rattle.conf_reader.specs.Known.{TellsFiles};
@@ -10,6 +10,7 @@ ghost use Rattle.conf_fold.specs.Stands.{Stands};
 ghost use Rattle.conf_fold.specs.Begins.{asked_rows};
 ghost use Rattle.conf_resolve.specs.Passes.{Commands, commands, Begins, Passes, final_rows, BothPass, Resolved};
 ghost use Rattle.conf_resolve.specs.Causes.{HasCauses};
+ghost use Rattle.conf_resolve.specs.Faults.{FaultStands};
 
 use conf_fold::Fold;
 use conf_options::Settings;
@@ -34,6 +35,10 @@ fn pass<F: Files, R: Runner>(
         TellsFiles (F.told files.old) told → TellsStatus (R.told runner.old) told.status →
         Begins told pass fold.old rows → RanAll before (R.ran runner.old) (commands rows) →
         RanUnless (breaks_off result) before (R.ran runner.new) (commands (final_rows told pass rows)) }
+    ensures fault { (told : Told) (pass : Pass) (rows : List Row) (before : Commands) → told.asked ≡ asked.now → told.facts ≡ known facts.now →
+        TellsFiles (F.told files.old) told → TellsStatus (R.told runner.old) told.status →
+        Begins told pass fold.old rows → RanAll before (R.ran runner.old) (commands rows) →
+        IfErr result (λ e. FaultStands told (final_rows told pass rows) e before (R.ran runner.new)) }
     ensures cause { HasCauses result (F.faults files.old) (F.faults files.new) (R.faults runner.old) (R.faults runner.new) }
     ensures files { F.told files.new ≡ F.told files.old }
     ensures runner { R.told runner.new ≡ R.told runner.old }
@@ -61,6 +66,10 @@ fn passes<F: Files, R: Runner>(
         TellsFiles (F.told files.old) told → TellsStatus (R.told runner.old) told.status →
         Stands told First fold.old (asked_rows told) [] → refusal_in (asked_rows told) ≡ None →
         RanUnless (breaks_off result) (R.ran runner.old) (R.ran runner.new) (execs told) }
+    ensures fault { (told : Told) → told.asked ≡ asked.now → told.facts ≡ known facts.now →
+        TellsFiles (F.told files.old) told → TellsStatus (R.told runner.old) told.status →
+        Stands told First fold.old (asked_rows told) [] → refusal_in (asked_rows told) ≡ None →
+        IfErr result (λ e. FaultStands told (all_rows told) e (R.ran runner.old) (R.ran runner.new)) }
     ensures cause { HasCauses result (F.faults files.old) (F.faults files.new) (R.faults runner.old) (R.faults runner.new) }
     ensures files { F.told files.new ≡ F.told files.old }
     ensures runner { R.told runner.new ≡ R.told runner.old }
@@ -75,7 +84,8 @@ fn passes<F: Files, R: Runner>(
 
 /// The settings of the command line and of all files that are asked for, or the first refusal in reading order. Exactly the
 /// commands are run that the criteria of active `Match` lines reach. A fault comes only where the count of faults of `files`
-/// or `runner` rose, and no rise is passed over.
+/// or `runner` rose, and no rise is passed over; it is told at the line that asked for what failed, or at line 0 of a file that
+/// no line includes.
 pub fn resolve<F: Files, R: Runner>(
     alloc: Global,
     asked: &Asked,
@@ -88,6 +98,9 @@ pub fn resolve<F: Files, R: Runner>(
     ensures ran { (told : Told) → told.asked ≡ asked.now → told.facts ≡ known facts.now →
         TellsFiles (F.told files.old) told → TellsStatus (R.told runner.old) told.status →
         RanUnless (breaks_off result) (R.ran runner.old) (R.ran runner.new) (execs told) }
+    ensures fault { (told : Told) → told.asked ≡ asked.now → told.facts ≡ known facts.now →
+        TellsFiles (F.told files.old) told → TellsStatus (R.told runner.old) told.status →
+        IfErr result (λ e. FaultStands told (all_rows told) e (R.ran runner.old) (R.ran runner.new)) }
     ensures cause { HasCauses result (F.faults files.old) (F.faults files.new) (R.faults runner.old) (R.faults runner.new) }
     ensures files { F.told files.new ≡ F.told files.old }
     ensures runner { R.told runner.new ≡ R.told runner.old }

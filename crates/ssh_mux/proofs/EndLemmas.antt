@@ -4,6 +4,7 @@ use Rattle.std.specs.Bool.{OnFalse, OnTrue}
 use Rattle.conf_rules.specs.Diagnostics.{Ending}
 use Rattle.conf_rules.specs.Outcome.{Ends, Writes, Opens, Drills}
 use Rattle.conf_rules.specs.Texts.{Bytes}
+use Rattle.conf_rules.specs.Told.{Told}
 use Rattle.mux_outside.specs.House.{Asked}
 use Rattle.mux_outside.specs.declared.house.HouseReply.{HouseReply}
 use Rattle.mux_outside.specs.declared.mark.Mark.{Mark}
@@ -23,6 +24,7 @@ use Rattle.ssh_mux.specs.Err.{Reports, Ended}
 use Rattle.ssh_mux.specs.Out.{OutTakes}
 use Rattle.ssh_mux.specs.Outcomes.{Known, Certain, Listing, Master, drills, opens}
 use Rattle.ssh_mux.specs.Master.{ends_sharing}
+use Rattle.ssh_mux.specs.Places.{EndPlace}
 use Rattle.ssh_mux.specs.Sharing.{CallsEnd, IdleCause, IsServed, IsShared, OpensOnce, Serves, Shares, TellsEnd, WaitsFor, WireCause}
 use Rattle.ssh_mux.specs.Sharing.{told_as}
 use Rattle.ssh_mux.specs.Status.{status_of}
@@ -46,17 +48,17 @@ carried P status ending (inr e) memory held = subst P (sym e) held
 quiet : (status : Status) (ending : Ending) → is_silent status ≡ true → status ≡ status_of ending → ⊥
 quiet status ending silent e = let k : is_silent (status_of ending) ≡ true = subst (λ (s : Status). is_silent s ≡ true) e silent in let l = loud ending in absurd cc
 
-pub ended : (k : Known) (status : Status) (ending : Ending) (before now : Option (List ℕ)) (f f' files files' runner runner' : ℕ) → IsDue k ending → EndCause ending files files' runner runner' → Reports status ending before now f f' → Ended k status before now f f' files files' runner runner'
-ended k statuses.Done ending before now f f' files files' runner runner' due cause r = absurd (quiet statuses.Done ending refl r.0)
-ended k statuses.Write ending before now f f' files files' runner runner' due cause r = absurd (quiet statuses.Write ending refl r.0)
-ended k statuses.Memory ending before now f f' files files' runner runner' due cause r = r
-ended k status ending before now f f' files files' runner runner' due cause r = record { ending = ending; is_due = due; has_status = r.0; told = r.1; cause = cause }
+pub ended : (k : Known) (told : Option Told) (status : Status) (ending : Ending) (before now : Option (List ℕ)) (f f' files files' runner runner' : ℕ) (ran ran' : Option (List Bytes)) → IsDue k ending → EndCause ending files files' runner runner' → EndPlace told ending ran ran' → Reports status ending before now f f' → Ended k told status before now f f' files files' runner runner' ran ran'
+ended k told statuses.Done ending before now f f' files files' runner runner' ran ran' due cause place r = absurd (quiet statuses.Done ending refl r.0)
+ended k told statuses.Write ending before now f f' files files' runner runner' ran ran' due cause place r = absurd (quiet statuses.Write ending refl r.0)
+ended k told statuses.Memory ending before now f f' files files' runner runner' ran ran' due cause place r = r
+ended k told status ending before now f f' files files' runner runner' ran ran' due cause place r = record { ending = ending; is_due = due; has_status = r.0; line = r.1; cause = cause; place = place }
 
 -- without a line
-pub ended-well : (k : Known) (status : Status) (before : Option (List ℕ)) (f files files' runner runner' : ℕ) → IsWell k status → Ended k status before before f f files files' runner runner'
-ended-well k statuses.Done before f files files' runner runner' h = (h, refl)
-ended-well k statuses.Write before f files files' runner runner' h = (h, refl)
-ended-well k status before f files files' runner runner' h = absurd h
+pub ended-well : (k : Known) (told : Option Told) (status : Status) (before : Option (List ℕ)) (f files files' runner runner' : ℕ) (ran ran' : Option (List Bytes)) → IsWell k status → Ended k told status before before f f files files' runner runner' ran ran'
+ended-well k told statuses.Done before f files files' runner runner' ran ran' h = (h, refl)
+ended-well k told statuses.Write before f files files' runner runner' ran ran' h = (h, refl)
+ended-well k told status before f files files' runner runner' ran ran' h = absurd h
 
 pub well-cause : (k : Known) (status : Status) (f f' r r' : ℕ) → IsWell k status → (f' ≡ f) × (r' ≡ r) → FaultCause status f f' r r'
 well-cause k statuses.Done f f' r r' w h = h

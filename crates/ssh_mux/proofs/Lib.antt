@@ -6,6 +6,7 @@ pub mod ListLemmas
 pub mod PermitParts
 pub mod PermitWords
 pub mod Permits
+pub mod PlaceLemmas
 pub mod PolicyLemmas
 pub mod RefusalLemmas
 pub mod SharingLemmas

@@ -1,6 +1,8 @@
 -- What the standard error has taken.
 use Rattle.std.specs.Prelude.{◌≡◌, ℕ, List, ◌++◌, ◌⊎◌, Option, Some, None}
 use Rattle.conf_rules.specs.Diagnostics.{Ending, line_of, NoMemory}
+use Rattle.conf_rules.specs.Texts.{Bytes}
+use Rattle.conf_rules.specs.Told.{Told}
 use Rattle.mux_outside.specs.Counts.{Rose}
 use Rattle.mux_outside.specs.Sink.{TookPrefix}
 use Rattle.ssh_mux.specs.declared.status.Status.{Status}
@@ -8,6 +10,7 @@ use Rattle.ssh_mux.specs.declared.status.Status.TheVariants.{Done, Write, Memory
 use Rattle.ssh_mux.specs.Answers.{IsDue, IsWell}
 use Rattle.ssh_mux.specs.Causes.{EndCause}
 use Rattle.ssh_mux.specs.Outcomes.{Known}
+use Rattle.ssh_mux.specs.Places.{EndPlace}
 use Rattle.ssh_mux.specs.Status.{status_of}
 
 -- the whole line, or where the sink failed a prefix of it
@@ -39,25 +42,28 @@ Reports result ending before now faults faults' =
     (result ≡ status_of ending) × TookLine (line_of ending) before now faults faults'
 
 -- the run ended by an ending that is due, whose line was handed over, and whose fault, if it is one,
--- raised its count
-pub record EndsBy (known : Known) (status : Status) (before now : Option (List ℕ))
-    (faults faults' files files' runner runner' : ℕ) : Type 0 where
+-- raised its count and is told where it came up
+pub record EndsBy (known : Known) (told : Option Told) (status : Status)
+    (before now : Option (List ℕ)) (faults faults' files files' runner runner' : ℕ)
+    (ran ran' : Option (List Bytes)) : Type 0 where
   pub ending : Ending
   pub is_due : IsDue known ending
   pub has_status : status ≡ status_of ending
-  pub told : TookLine (line_of ending) before now faults faults'
+  pub line : TookLine (line_of ending) before now faults faults'
   pub cause : EndCause ending files files' runner runner'
+  pub place : EndPlace told ending ran ran'
 
 -- How a run ended: without a word where it went well or `out` failed, with the line of its ending
 -- otherwise; of the line of want of memory some part may be written. `files` and `runner` count
 -- their faults.
 abbrev pub Ended :
-    Known → Status → Option (List ℕ) → Option (List ℕ) → ℕ → ℕ → ℕ → ℕ → ℕ → ℕ → Type 0
-Ended known Done before now faults faults' files files' runner runner' =
+    Known → Option Told → Status → Option (List ℕ) → Option (List ℕ) → ℕ → ℕ → ℕ → ℕ → ℕ → ℕ
+    → Option (List Bytes) → Option (List Bytes) → Type 0
+Ended known told Done before now faults faults' files files' runner runner' ran ran' =
     IsWell known Done × (now ≡ before)
-Ended known Write before now faults faults' files files' runner runner' =
+Ended known told Write before now faults faults' files files' runner runner' ran ran' =
     IsWell known Write × (now ≡ before)
-Ended known Memory before now faults faults' files files' runner runner' =
+Ended known told Memory before now faults faults' files files' runner runner' ran ran' =
     TookSome (line_of NoMemory) before now
-Ended known status before now faults faults' files files' runner runner' =
-    EndsBy known status before now faults faults' files files' runner runner'
+Ended known told status before now faults faults' files files' runner runner' ran ran' =
+    EndsBy known told status before now faults faults' files files' runner runner' ran ran'

@@ -8,5 +8,6 @@ pub mod Commands
 pub mod Out
 pub mod Err
 pub mod Master
+pub mod Places
 pub mod Sharing
 pub mod Drill

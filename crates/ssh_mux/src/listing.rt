@@ -7,6 +7,7 @@ ghost use Rattle.ssh_mux.specs.Causes.{Caused, OutCause};
 ghost use Rattle.ssh_mux.specs.Commands.{RunsFor, RunsUnless, commands_of};
 ghost use Rattle.ssh_mux.specs.Out.{HandsOver, OutTakes};
 ghost use Rattle.ssh_mux.specs.Outcomes.{Listing, machine, of_command, writes_out};
+ghost use Rattle.ssh_mux.specs.Places.{Placed, told_over};
 
 use crate::ending::Ending;
 use crate::status::Status;
@@ -38,6 +39,8 @@ pub fn list<F: Files, R: Runner, S: Sink>(
     ensures out_cause { OutCause (so_far result) (S.faults out.old) (S.faults out.new) }
     ensures ran { RunsFor (commands_of (machine (F.told files.old) (R.told runner.old) facts.now)
         (commands.List asked.now)) (so_far result) (R.ran runner.old) (R.ran runner.new) }
+    ensures place { Placed (told_over (machine (F.told files.old) (R.told runner.old) facts.now) asked.now)
+        result (R.ran runner.old) (R.ran runner.new) }
     ensures cause { Caused result (F.faults files.old) (F.faults files.new)
         (R.faults runner.old) (R.faults runner.new) }
 {
@@ -58,6 +61,8 @@ fn listing_of<F: Files, R: Runner>(
         (commands.List asked.now)) result }
     ensures ran { RunsUnless (commands_of (machine (F.told files.old) (R.told runner.old) facts.now)
         (commands.List asked.now)) result (R.ran runner.old) (R.ran runner.new) }
+    ensures place { Placed (told_over (machine (F.told files.old) (R.told runner.old) facts.now) asked.now)
+        result (R.ran runner.old) (R.ran runner.new) }
     ensures cause { Caused result (F.faults files.old) (F.faults files.new)
         (R.faults runner.old) (R.faults runner.new) }
 {

@@ -8,6 +8,7 @@ ghost use Rattle.ssh_mux.specs.Causes.{Caused};
 ghost use Rattle.ssh_mux.specs.Commands.{RunsFor, RunsUnless, commands_of};
 ghost use Rattle.ssh_mux.specs.Master.{EndsMaster, OnlyStarves};
 ghost use Rattle.ssh_mux.specs.Outcomes.{Master, machine, of_command, opens_at};
+ghost use Rattle.ssh_mux.specs.Places.{Placed, told_over};
 ghost use Rattle.ssh_mux.specs.Sharing.{CallsEnd, IdleCause, OpensAt, OpensOnce, Shares};
 ghost use Rattle.ssh_mux.specs.Sharing.{WaitsFor, WireCause, pid_of, policy_of as the_policy_of, told_as};
 
@@ -77,6 +78,8 @@ pub fn share<W: Wire, F: Files, R: Runner, H: House>(
         (commands_of (machine (F.told files.old) (R.told runner.old) facts.now)
         (commands.Master asked.now transport.now opens.now listens.now)) (so_far result)
         (R.ran runner.old) (R.ran runner.new) }
+    ensures place { Placed (told_over (machine (F.told files.old) (R.told runner.old) facts.now) asked.now)
+        result (R.ran runner.old) (R.ran runner.new) }
     ensures cause { Caused result (F.faults files.old) (F.faults files.new)
         (R.faults runner.old) (R.faults runner.new) }
 {
@@ -102,6 +105,8 @@ fn control_of<F: Files, R: Runner>(
         RunsUnless (commands_of (machine (F.told files.old) (R.told runner.old) facts.now)
         (commands.Master asked.now transport opens listens)) result
         (R.ran runner.old) (R.ran runner.new) }
+    ensures place { Placed (told_over (machine (F.told files.old) (R.told runner.old) facts.now) asked.now)
+        result (R.ran runner.old) (R.ran runner.new) }
     ensures cause { Caused result (F.faults files.old) (F.faults files.new)
         (R.faults runner.old) (R.faults runner.new) }
 {

@@ -7,6 +7,7 @@ ghost use Rattle.ssh_mux.specs.Drill.{DrillGoes, IsDrill};
 ghost use Rattle.ssh_mux.specs.Err.{Ended};
 ghost use Rattle.ssh_mux.specs.Out.{OutTakes};
 ghost use Rattle.ssh_mux.specs.Outcomes.{machine, of_words, drills, looks, writes_out};
+ghost use Rattle.ssh_mux.specs.Places.{Placed, told_for};
 ghost use Rattle.ssh_mux.specs.Sharing.{CallsEnd, IdleCause, OpensOnce, Serves, Shares};
 ghost use Rattle.ssh_mux.specs.Sharing.{WaitsFor, WireCause, pid_of, policy_in};
 
@@ -45,8 +46,10 @@ pub fn run<W: Wire, F: Files, R: Runner, S: Sink, H: House>(
 ) -> Status
     ensures ended { Ended
         (of_words (machine (F.told files.old) (R.told runner.old) facts.now) words.now)
+        (told_for (machine (F.told files.old) (R.told runner.old) facts.now) words.now)
         result (S.told err.old) (S.told err.new) (S.faults err.old) (S.faults err.new)
-        (F.faults files.old) (F.faults files.new) (R.faults runner.old) (R.faults runner.new) }
+        (F.faults files.old) (F.faults files.new) (R.faults runner.old) (R.faults runner.new)
+        (R.ran runner.old) (R.ran runner.new) }
     ensures fault_cause { FaultCause result (F.faults files.old) (F.faults files.new)
         (R.faults runner.old) (R.faults runner.new) }
     ensures out { OutTakes result
@@ -123,6 +126,9 @@ fn obey<W: Wire, F: Files, R: Runner, S: Sink, H: House>(
     ensures exact { Comes
         (of_words (machine (F.told files.old) (R.told runner.old) facts.now) words.now)
         result }
+    ensures place { Placed
+        (told_for (machine (F.told files.old) (R.told runner.old) facts.now) words.now)
+        result (R.ran runner.old) (R.ran runner.new) }
     ensures cause { Caused result (F.faults files.old) (F.faults files.new)
         (R.faults runner.old) (R.faults runner.new) }
     ensures out { OutTakes (so_far result)

@@ -1,12 +1,15 @@
 use Rattle.std.proofs.Common.{◌≡◌, ◌≤◌, ◌∙◌, ◌+◌, Ok, Err, length, sym, ap, refl, subst, arith}
 use Rattle.std.proofs.lemmas.Result.{err_from_is_err_and}
 use Rattle.conf_rules.specs.declared.asked.Asked.{Asked}
+use Rattle.conf_rules.specs.Told.{Facts}
+use Rattle.conf_reader.specs.Firsts.{firsts_of}
 use Rattle.conf_fold.specs.Results.{RanUnless}
 use Rattle.conf_resolve.specs.Passes.{commands, final_rows}
 use Rattle.conf_resolve.proofs.CauseLemmas.{read-causes, run-causes, causes-from}
 use Rattle.conf_resolve.proofs.DepthLemmas.{depth-low, given-bounded, more-bounded}
 use Rattle.conf_resolve.proofs.PassLemmas.{goes-on, line-fails, reader-fails, all-given, line-ran, reader-ran, all-ran, start-ran, none-given}
 use Rattle.conf_resolve.proofs.ResolveLemmas.{underway}
+use Rattle.conf_resolve.proofs.FaultLemmas.{read-stands, run-stands}
 use Rattle.conf_resolve.proofs.resolution.pass.Goals as goal
 
 pub returns-in_err-reader-clause-passes : goal.returns-in_err-reader-clause-passes
@@ -30,7 +33,8 @@ loop-reader-init g c = record {
   fits = more-bounded c.in_ok-reader.reader.lines.open_files 0 (length c.args.fold.now.applies) c.in_ok-reader.ensures.none.1 (omega arith);
   underway = λ told pass rows asked facts tells status begins.
       underway told pass c.args.fold.now c.in_ok-reader.reader.lines rows _ begins
-      (c.in_ok-reader.ensures.left told (length told.asked.lines) facts ∙ ap (λ (a : Asked). Rattle.conf_rules.specs.Sources.lines_from told (length told.asked.lines) a.from) (sym asked)) c.in_ok-reader.ensures.read c.in_ok-reader.ensures.none.1;
+      (c.in_ok-reader.ensures.left told (length told.asked.lines) facts ∙ ap (λ (a : Asked). Rattle.conf_rules.specs.Sources.lines_from told (length told.asked.lines) a.from) (sym asked)) c.in_ok-reader.ensures.read c.in_ok-reader.ensures.none.1 c.in_ok-reader.ensures.unread;
+  firsts = c.in_ok-reader.ensures.firsts;
 }
 
 pub line-requires-clause-known : goal.line-requires-clause-known
@@ -72,6 +76,7 @@ loop-reader-preserved g c =
       run_faults = c.in_ok-line-2.ensures.cause ∙ c.loop-reader.invariant.run_faults;
       facts = ap Rattle.conf_tokens.specs.Known.known c.next.ensures.facts.0 ∙ c.loop-reader.invariant.facts;
       original = c.next.ensures.facts.1 ∙ c.loop-reader.invariant.original;
+      firsts = ap (λ (v : _). v.items) c.next.ensures.firsts ∙ c.loop-reader.invariant.firsts;
       fits = bounded;
       underway = λ told pass rows asked facts tells status begins.
           let u = c.loop-reader.invariant.underway told pass rows asked facts tells status begins in
@@ -80,6 +85,7 @@ loop-reader-preserved g c =
           (λ rows place l stands next. c.in_ok-line-2.ensures.folds told pass rows u.blocks place l facts (rw c.loop-reader.invariant.runner status) stands next)
           (given-bounded c.loop-reader.reader.lines c.next.new.self.lines c.in-Some.line (length c.loop-reader.fold.applies) (c.in-Some.line.depth + 1) from c.loop-reader.invariant.fits refl)
           (depth-low told pass c.loop-reader.fold u.rows u.blocks c.loop-reader.reader.lines c.next.new.self.lines c.in-Some.line u.stands from c.loop-reader.invariant.fits)
+          (rw c.in-Some.is at c.in_ok-line.ensures.unread)
           _
           (λ rows place l stands next. c.in_ok-line-2.ensures.ran told pass rows u.blocks place l facts (rw c.loop-reader.invariant.runner status) stands next);
     }
@@ -110,4 +116,28 @@ returns-in_err-line-clause-ran g c = λ told pass rows before asked facts tells 
     let p = err_from_is_err_and c.from_residual-in_err-line.result c.from_residual-in_err-line.ensures.1 in
     rw (p.1, p.2) (reader-ran told pass c.loop-reader.fold c.loop-reader.reader.lines c.next.new.self.lines (final_rows told pass rows) rows _ _ before u _
     (c.in_err-line.ensures.reads told u.place u.blocks (rw c.loop-reader.invariant.files tells) (facts ∙ sym c.loop-reader.invariant.facts) (ap (λ (a : Asked). a.original) asked ∙ sym c.loop-reader.invariant.original) u.count u.bounded)
+    began)
+
+pub returns-in_err-reader-clause-fault : goal.returns-in_err-reader-clause-fault
+returns-in_err-reader-clause-fault g c = λ told pass rows before asked facts tells status begins began.
+    let p = err_from_is_err_and c.from_residual.result c.from_residual.ensures.1 in
+    rw (p.1, p.2) tt
+
+pub returns-in_err-line-clause-fault : goal.returns-in_err-line-clause-fault
+returns-in_err-line-clause-fault g c = λ told pass rows before asked facts tells status begins began.
+    let u = c.loop-reader.invariant.underway told pass rows asked facts tells status begins in
+    let p = err_from_is_err_and c.from_residual-in_err-line.result c.from_residual-in_err-line.ensures.1 in
+    let home = ap (λ (f : Facts). f.home) facts in
+    let from = ap (λ (a : Asked). a.from) asked in
+    rw (p.1, p.2) (read-stands told pass c.loop-reader.fold c.loop-reader.reader.lines (final_rows told pass rows) rows _ _ before u _ c.in_err-line.ensures.fault c.in_err-line.ensures.no_run_fault
+    (c.loop-reader.invariant.firsts ∙ ap (λ h. firsts_of h c.args.asked.now.from) (sym home) ∙ ap (firsts_of told.facts.home) (sym from)) began)
+
+pub returns-in_err-line-2-clause-fault : goal.returns-in_err-line-2-clause-fault
+returns-in_err-line-2-clause-fault g c = λ told pass rows before asked facts tells status begins began.
+    let u = c.loop-reader.invariant.underway told pass rows asked facts tells status begins in
+    let p = err_from_is_err_and c.from_residual-in_err-line-2.result c.from_residual-in_err-line-2.ensures.1 in
+    rw (p.1, p.2) (run-stands told pass c.loop-reader.fold c.loop-reader.reader.lines c.next.new.self.lines (final_rows told pass rows) rows _ _ _ before u c.in-Some.line _ _ _
+    (rw c.in-Some.is at (c.in_ok-line.ensures.reads told u.place u.blocks (rw c.loop-reader.invariant.files tells) (facts ∙ sym c.loop-reader.invariant.facts) (ap (λ (a : Asked). a.original) asked ∙ sym c.loop-reader.invariant.original) u.count u.bounded))
+    c.in_err-line-2.ensures.cause
+    (λ rows place l stands next. c.in_err-line-2.ensures.failed told pass rows u.blocks place l facts (rw c.loop-reader.invariant.runner status) stands next)
     began)

@@ -3,6 +3,7 @@ use Rattle.conf_rules.specs.Told.{Told}
 use Rattle.conf_rules.specs.Rows.{Row, Pass}
 use Rattle.conf_match.specs.Evaluated.{TellsStatus}
 use Rattle.conf_reader.specs.Known.{TellsFiles}
+use Rattle.conf_reader.specs.Firsts.{firsts_of}
 use Rattle.conf_reader.specs.Left.{Bounded}
 use Rattle.conf_tokens.specs.Known.{known}
 use Rattle.conf_resolve.specs.Passes.{Begins, final_rows}
@@ -17,6 +18,7 @@ invariant-loop-reader g l = record {
   run_faults : g.R.Runner.faults l.runner ≡ g.R.Runner.faults l.fn.runner;
   facts : known l.reader.facts ≡ known l.facts;
   original : l.reader.original ≡ l.asked.original;
+  firsts : l.reader.lines.firsts.items ≡ firsts_of l.facts.home l.asked.from;
   fits : Bounded l.reader.lines.open_files (length l.fold.applies);
   underway : (told : Told) (pass : Pass) (rows : List Row) → told.asked ≡ l.asked → told.facts ≡ known l.facts → TellsFiles (g.F.Files.told l.fn.files) told → TellsStatus (g.R.Runner.told l.fn.runner) told.status
       → Begins told pass l.fn.fold rows → Underway told pass l.fold l.reader.lines (final_rows told pass rows) rows (g.R.Runner.ran l.fn.runner) (g.R.Runner.ran l.runner);

@@ -5,6 +5,7 @@ use Rattle.conf_fold.specs.Begins.{asked_rows, asked_again, SecondBegins}
 use Rattle.conf_fold.specs.Results.{breaks_off}
 use Rattle.conf_resolve.specs.Passes.{first_rows}
 use Rattle.conf_resolve.proofs.ResolveLemmas.{first-begins, first-refused, first-stands, behind-asked, once, second-begins, twice, asked-start, first-broken, first-ran, once-ran, second-start, twice-ran}
+use Rattle.conf_resolve.proofs.FaultLemmas as faults
 use Rattle.conf_resolve.proofs.resolution.passes.Goals as goal
 
 pub returns-in_err-pass-clause-passes : goal.returns-in_err-pass-clause-passes
@@ -54,3 +55,22 @@ returns-else-branch-clause-ran g c = λ told asked facts tells status stands non
     let first = first-stands told c.pass.new.fold none (c.in_ok-pass.ensures.passes told First (asked_rows told) asked facts tells status (first-begins told c.args.fold.now stands none)) in
     once-ran told c.pass.new.fold _ _ none first (rw c.if-branch.false at (c.in_ok-second.ensures.second told (first_rows told) first.blocks first.stands (behind-asked told none first.none)))
     (c.in_ok-pass.ensures.ran told First (asked_rows told) _ asked facts tells status (first-begins told c.args.fold.now stands none) (asked-start told _))
+
+pub returns-in_err-pass-clause-fault : goal.returns-in_err-pass-clause-fault
+returns-in_err-pass-clause-fault g c = λ told asked facts tells status stands none.
+    let p = err_from_is_err_and c.from_residual.result c.from_residual.ensures.1 in
+    rw (p.1, p.2) (faults.first-stands told _ _ _ none
+    (c.in_err-pass.ensures.fault told First (asked_rows told) _ asked facts tells status (first-begins told c.args.fold.now stands none) (asked-start told _)))
+
+pub returns-in_err-second-clause-fault : goal.returns-in_err-second-clause-fault
+returns-in_err-second-clause-fault g c = λ told asked facts tells status stands none.
+    let p = err_from_is_err_and c.from_residual-in_err-second.result c.from_residual-in_err-second.ensures.1 in
+    rw (p.1, p.2) tt
+
+pub returns-then-branch-clause-fault : goal.returns-then-branch-clause-fault
+returns-then-branch-clause-fault g c = λ told asked facts tells status stands none.
+    let first = first-stands told c.pass.new.fold none (c.in_ok-pass.ensures.passes told First (asked_rows told) asked facts tells status (first-begins told c.args.fold.now stands none)) in
+    let again : SecondBegins told (first_rows told) c.second.new.self true = rw c.if-branch.true at (c.in_ok-second.ensures.second told (first_rows told) first.blocks first.stands (behind-asked told none first.none)) in
+    faults.second-stands told c.second.new.self c.pass-then-branch.result _ _ first.none again
+    (c.pass-then-branch.ensures.fault told (Second (first_rows told)) (asked_again told (first_rows told)) _ asked facts (rw c.pass.ensures.files tells) (rw c.pass.ensures.runner status) (second-begins told c.second.new.self none first.none again)
+    (second-start told _ _ none (c.in_ok-pass.ensures.ran told First (asked_rows told) _ asked facts tells status (first-begins told c.args.fold.now stands none) (asked-start told _))))

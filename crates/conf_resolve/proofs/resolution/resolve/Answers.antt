@@ -1,6 +1,7 @@
 use Rattle.std.proofs.Common.{◌≡◌, ◌∙◌, sym, ap, refl, Ok, Err}
 use Rattle.std.proofs.lemmas.Result.{err_from_is_err_and}
 use Rattle.conf_resolve.proofs.ResolveLemmas.{begin-refused, begin-ran, over, over-err}
+use Rattle.conf_resolve.proofs.FaultLemmas.{plain-stands}
 use Rattle.conf_resolve.proofs.resolution.resolve.Goals as goal
 
 pub returns-in_err-fold-clause-exact : goal.returns-in_err-fold-clause-exact
@@ -35,3 +36,14 @@ returns-in_err-passes-clause-ran g c = λ told asked facts tells status.
     let p = err_from_is_err_and c.from_residual-in_err-passes.result c.from_residual-in_err-passes.ensures.1 in
     let b = c.in_ok-fold.ensures.begins told asked in
     rw (p.1, p.2) (over-err _ _ _ _ (c.in_err-passes.ensures.ran told asked facts tells status b.0 b.1))
+
+pub returns-in_err-fold-clause-fault : goal.returns-in_err-fold-clause-fault
+returns-in_err-fold-clause-fault g c = λ told asked facts tells status.
+    let p = err_from_is_err_and c.from_residual.result c.from_residual.ensures.1 in
+    rw (p.1, p.2) (plain-stands told _ _ _ _ c.in_err-fold.ensures.plain)
+
+pub returns-in_err-passes-clause-fault : goal.returns-in_err-passes-clause-fault
+returns-in_err-passes-clause-fault g c = λ told asked facts tells status.
+    let p = err_from_is_err_and c.from_residual-in_err-passes.result c.from_residual-in_err-passes.ensures.1 in
+    let b = c.in_ok-fold.ensures.begins told asked in
+    rw (p.1, p.2) (c.in_err-passes.ensures.fault told asked facts tells status b.0 b.1)

@@ -42,3 +42,6 @@ returns-clause-ran g c = all-ran _ _ _ _ _ c.in_ok-text.ensures.ran
 
 pub returns-clause-cause : goal.returns-clause-cause
 returns-clause-cause g c = written-cause _ _ _ _ _ (handed-tried _ _ _ _ c.hand_over.ensures.handed) c.in_ok-text.ensures.cause
+
+pub returns-in_err-text-clause-place : goal.returns-in_err-text-clause-place
+returns-in_err-text-clause-place g c = let p = err_from_is_err_and c.from_residual.result c.from_residual.ensures.1 in rw (p.1, p.2) c.in_err-text.ensures.place

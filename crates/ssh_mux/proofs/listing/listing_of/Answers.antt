@@ -3,6 +3,7 @@ use Rattle.conf_rules.specs.declared.command.Command.TheVariants as commands
 use Rattle.std.proofs.lemmas.Result.{err_from_is_err_and}
 use Rattle.ssh_mux.proofs.CauseLemmas.{refused-cause, unlisted-cause, refused-runs, resolved-runs, all-ran}
 use Rattle.ssh_mux.proofs.RefusalLemmas.{list-refused, list-unlisted, list-found}
+use Rattle.ssh_mux.proofs.PlaceLemmas.{failed-place, unlisted-place}
 use Rattle.ssh_mux.proofs.listing.listing_of.Goals as goal
 
 pub returns-in_err-settings-clause-exact : goal.returns-in_err-settings-clause-exact
@@ -28,3 +29,9 @@ returns-clause-exact g c = list-found (g.F.Files.told c.args.files.now) (g.R.Run
 
 pub returns-clause-ran : goal.returns-clause-ran
 returns-clause-ran g c = resolved-runs _ (g.F.Files.told c.args.files.now) (g.R.Runner.told c.args.runner.now) c.args.facts.now c.args.asked.now (commands.List c.args.asked.now) _ _ (λ m. refl) c.in_ok-settings.ensures.ran
+
+pub returns-in_err-settings-clause-place : goal.returns-in_err-settings-clause-place
+returns-in_err-settings-clause-place g c = let p = err_from_is_err_and c.from_residual.result c.from_residual.ensures.1 in rw (p.1, p.2) (failed-place (g.F.Files.told c.args.files.now) (g.R.Runner.told c.args.runner.now) c.args.facts.now c.args.asked.now _ _ _ c.in_err-settings.ensures.fault)
+
+pub returns-in_err-text-clause-place : goal.returns-in_err-text-clause-place
+returns-in_err-text-clause-place g c = let p = err_from_is_err_and c.from_residual-in_err-text.result c.from_residual-in_err-text.ensures.1 in rw (p.1, p.2) (unlisted-place _ _ _ _)

@@ -102,3 +102,6 @@ returns-in_err-policy-clause-idle g c = λ z. still-idle _ _ _
 
 pub returns-clause-waited : goal.returns-clause-waited
 returns-clause-waited g c = on_true _ _ c.open_and_serve.ensures.waited
+
+pub returns-in_err-control-clause-place : goal.returns-in_err-control-clause-place
+returns-in_err-control-clause-place g c = let p = err_from_is_err_and c.from_residual.result c.from_residual.ensures.1 in rw (p.1, p.2) c.in_err-control.ensures.place

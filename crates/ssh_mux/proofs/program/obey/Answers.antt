@@ -10,6 +10,7 @@ use Rattle.ssh_mux.proofs.PolicyLemmas.{are-permitted, with-policy}
 use Rattle.ssh_mux.proofs.RefusalLemmas.{list-looks, list-shut, list-undrilled, master-looks, master-quiet, master-undrilled}
 use Rattle.ssh_mux.proofs.SharingLemmas.{none-opened, none-taken, none-counted}
 use Rattle.ssh_mux.proofs.StillLemmas.{on_false, not_false, not_true, shut, loud, quiet-out, quiet-count, still-due, still-opened, still-shared, still-wire, still-calls, still-idle, still-waited, shut-all, for-master, on_true, untouched, of-drill, of-read, for-read, misread, misread-runs, misread-cause, drilled-runs}
+use Rattle.ssh_mux.proofs.PlaceLemmas.{misread-place, list-told, master-told}
 use Rattle.ssh_mux.proofs.program.obey.Goals as goal
 
 pub returns-in_err-command-clause-exact : goal.returns-in_err-command-clause-exact
@@ -200,3 +201,12 @@ returns-in-Master-clause-waited g c = rw (of-read _ _ _ (rw c.in-Master.is at c.
 
 pub returns-in-Drill-clause-waited : goal.returns-in-Drill-clause-waited
 returns-in-Drill-clause-waited g c = on_true _ _ c.drill.ensures.waited
+
+pub returns-in_err-command-clause-place : goal.returns-in_err-command-clause-place
+returns-in_err-command-clause-place g c = let p = err_from_is_err_and c.from_residual.result c.from_residual.ensures.1 in rw (p.1, p.2) (misread-place _ _ _ _)
+
+pub returns-in-List-clause-place : goal.returns-in-List-clause-place
+returns-in-List-clause-place g c = rw (list-told _ _ _ (rw c.in-List.is at c.in_ok-command.ensures.exact)) c.list.ensures.place
+
+pub returns-in-Master-clause-place : goal.returns-in-Master-clause-place
+returns-in-Master-clause-place g c = rw (master-told _ _ _ _ _ _ (rw c.in-Master.is at c.in_ok-command.ensures.exact)) c.share.ensures.place

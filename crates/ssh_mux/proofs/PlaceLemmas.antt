@@ -1,0 +1,58 @@
+-- Where faults are told, from what a resolution came to.
+use Rattle.std.proofs.Common.{◌≡◌, List, Option, Some, None, Result, Ok, Err, refl, ap}
+use Rattle.std.specs.Prelude.{IfErr}
+use Rattle.conf_command.specs.declared.reader.WordsError.{WordsError}
+use Rattle.conf_command.specs.declared.reader.WordsError.TheVariants as words_errors
+use Rattle.conf_match.specs.Evaluated.{TellsStatus}
+use Rattle.conf_reader.specs.Known.{TellsFiles}
+use Rattle.conf_resolve.specs.Faults.{FaultStands}
+use Rattle.conf_rules.specs.declared.asked.Asked.{Asked}
+use Rattle.conf_rules.specs.declared.causes.ListError.{ListError}
+use Rattle.conf_rules.specs.declared.causes.ListError.TheVariants as list_errors
+use Rattle.conf_rules.specs.declared.causes.ResolveError.{ResolveError}
+use Rattle.conf_rules.specs.declared.causes.ResolveError.TheVariants as errors
+use Rattle.conf_rules.specs.declared.command.Command.TheVariants as commands
+use Rattle.conf_rules.specs.Outcome.{Machine}
+use Rattle.conf_rules.specs.Reading.{reading}
+use Rattle.conf_rules.specs.Resolution.{all_rows}
+use Rattle.conf_rules.specs.Texts.{Bytes}
+use Rattle.conf_rules.specs.Told.{Told}
+use Rattle.conf_tokens.specs.Known.{known}
+use Rattle.mux_outside.specs.declared.facts.Facts.{Facts}
+use Rattle.mux_outside.specs.declared.pairs.Pair.{Pair}
+use Rattle.mux_outside.specs.declared.statuses.CommandStatus.{CommandStatus}
+use Rattle.ssh_mux.specs.Ending.{shown, misread_as, refused_as, unlisted_as}
+use Rattle.ssh_mux.specs.Outcomes.{machine}
+use Rattle.ssh_mux.specs.Places.{EndPlace, told_over, told_by, told_for}
+
+-- a resolution that failed
+pub failed-place : (files : Option (List Pair)) (statuses : Option (List CommandStatus)) (facts : Facts) (asked : Asked) (e : ResolveError) (before now : Option (List Bytes))
+    → ((told : Told) → told.asked ≡ asked → told.facts ≡ known facts → TellsFiles files told → TellsStatus statuses told.status → FaultStands told (all_rows told) e before now)
+    → EndPlace (told_over (machine files statuses facts) asked) (shown (refused_as e)) before now
+unfolding machine
+failed-place None None facts asked e before now f = tt
+failed-place None (Some statuses) facts asked e before now f = tt
+failed-place (Some files) None facts asked e before now f = tt
+failed-place (Some files) (Some statuses) facts asked errors.OutOfMemory before now f = tt
+failed-place (Some files) (Some statuses) facts asked (errors.At file number cause) before now f = f _ refl refl (refl, refl) refl
+
+-- a listing that failed
+pub unlisted-place : (told : Option Told) (e : ListError) (before now : Option (List Bytes)) → EndPlace told (shown (unlisted_as e)) before now
+unlisted-place None e before now = tt
+unlisted-place (Some told) (list_errors.Token key error) before now = tt
+unlisted-place (Some told) list_errors.OutOfMemory before now = tt
+
+-- words that have no reading
+pub misread-place : (told : Option Told) (e : WordsError) (before now : Option (List Bytes)) → EndPlace told (shown (misread_as e)) before now
+misread-place None e before now = tt
+misread-place (Some told) (words_errors.Refused e) before now = tt
+misread-place (Some told) words_errors.OutOfMemory before now = tt
+
+-- what is told of words that ask for a listing, or for a master
+pub list-told : (m : Option Machine) (words : List Bytes) (asked : Asked) → reading words ≡ Ok (commands.List asked) → told_for m words ≡ told_over m asked
+unfolding told_for
+list-told m words asked e = ap (told_by m) e
+
+pub master-told : (m : Option Machine) (words : List Bytes) (asked : Asked) (transport : Bytes) (opens listens : List Bytes) → reading words ≡ Ok (commands.Master asked transport opens listens) → told_for m words ≡ told_over m asked
+unfolding told_for
+master-told m words asked transport opens listens e = ap (told_by m) e
