@@ -1,7 +1,5 @@
 -- Where faults come from.
-use Rattle.std.proofs.Common.{◌≡◌, ℕ, ◌≤◌, Bool, true, false, Option, Some, None, Result, Ok, Err, refl, sym, ap, subst, ◌∙◌, arith}
-use Rattle.mux_outside.specs.Counts.{Rose}
-use Rattle.conf_rules.specs.declared.causes.Cause.{Cause}
+use Rattle.std.proofs.Common.{◌≡◌, ℕ, false, Result, Err, refl, subst, arith}
 use Rattle.conf_rules.specs.declared.causes.Cause.TheVariants as causes
 use Rattle.conf_rules.specs.declared.causes.ResolveError.{ResolveError}
 use Rattle.conf_rules.specs.declared.causes.ResolveError.TheVariants as errors

@@ -1,24 +1,21 @@
 -- The commands of rows.
-use Rattle.std.proofs.Common.{◌≡◌, ℕ, ◌+◌, Bool, true, false, List, [], ◌∷◌, ◌++◌, map, Option, Some, None, Result, Ok, Err, refl, sym, ap, subst, ◌∙◌, append_assoc}
-use Rattle.std.specs.Prelude.{flat_map}
+use Rattle.std.proofs.Common.{◌≡◌, ℕ, ◌+◌, Bool, true, false, List, [], ◌∷◌, ◌++◌, map, Some, None, Result, Ok, Err, refl, sym, ap, ◌∙◌, append_assoc}
 use Rattle.std.proofs.lemmas.List.{append-nil}
 use Rattle.std.proofs.lemmas.Grind.{flat_map-append}
 use Rattle.conf_rules.specs.declared.asked.AskedLine.{AskedLine}
 use Rattle.conf_rules.specs.declared.causes.Cause.{Cause}
-use Rattle.conf_rules.specs.declared.causes.ResolveError.{ResolveError}
 use Rattle.conf_rules.specs.declared.entry.Entry.{Entry}
 use Rattle.conf_rules.specs.declared.entry.Entry.TheVariants.{Nothing}
 use Rattle.conf_rules.specs.Told.{Told}
 use Rattle.conf_rules.specs.Sources.{Line, asked_line}
-use Rattle.conf_rules.specs.Rows.{Row, Pass, Place}
+use Rattle.conf_rules.specs.Rows.{Row, Pass}
 use Rattle.conf_rules.specs.Entries.{entry_of}
-use Rattle.conf_rules.specs.Resolution.{counted, is_active, active_before, effect_of, no_block, row_of, row_with, rows_from, is_refused}
+use Rattle.conf_rules.specs.Resolution.{counted, is_active, effect_of, row_of, rows_from, is_refused}
 use Rattle.conf_match.specs.Evaluated.{RanAll, RanSome}
 use Rattle.conf_reader.specs.Reads.{IsIdle}
-use Rattle.conf_fold.specs.Results.{RanUnless, breaks_off}
 use Rattle.conf_fold.specs.Stands.{next_row}
 use Rattle.conf_fold.proofs.AskedLemmas.{asked_with, asked-row-is, asked-row-says}
-use Rattle.conf_fold.proofs.OrderLemmas.{from, rows-on, rows-end, from-front}
+use Rattle.conf_fold.proofs.OrderLemmas.{from, rows-on, rows-end}
 use Rattle.conf_resolve.specs.Passes.{Commands, commands}
 
 -- ---- one row

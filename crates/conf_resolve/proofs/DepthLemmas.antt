@@ -1,5 +1,5 @@
 -- How deep lines lie, and how many files are open.
-use Rattle.std.proofs.Common.{◌≡◌, ℕ, zero, suc, ◌+◌, ◌≤◌, ◌<◌, Bool, true, false, cond, List, [], ◌∷◌, ◌++◌, length, Option, Some, None, refl, sym, ap, subst, ◌∙◌, arith}
+use Rattle.std.proofs.Common.{◌≡◌, ℕ, ◌+◌, ◌≤◌, Bool, true, false, cond, List, length, refl, ap, ◌∙◌, arith}
 use Rattle.std.specs.Prelude.{option_to_list}
 use Rattle.std.proofs.lemmas.List.{length-append, length-map}
 use Rattle.conf_rules.specs.Told.{Told}
@@ -8,7 +8,7 @@ use Rattle.conf_reader.specs.declared.line.ConfLine.{ConfLine}
 use Rattle.conf_reader.specs.declared.stack.OpenFiles.{OpenFiles}
 use Rattle.conf_reader.specs.declared.reader.Lines.{Lines}
 use Rattle.conf_reader.specs.Blocks.{Blocks}
-use Rattle.conf_reader.specs.Left.{stack, Bounded, IsGiven}
+use Rattle.conf_reader.specs.Left.{stack, Bounded}
 use Rattle.conf_reader.specs.Reads.{LiesAt, IsGivenFrom, open_count}
 use Rattle.conf_fold.specs.declared.fold.Fold.{Fold}
 use Rattle.conf_fold.specs.Stands.{Stands, open_applies}

@@ -1,25 +1,23 @@
 -- Where faults are told, pass by pass.
-use Rattle.std.proofs.Common.{◌≡◌, ℕ, ◌+◌, Bool, true, false, List, [], ◌∷◌, ◌++◌, length, Option, Some, None, Result, Ok, Err, refl, sym, ap, subst, ◌∙◌, append_assoc, ◌⊎◌, inl, inr}
+use Rattle.std.proofs.Common.{◌≡◌, ℕ, ◌+◌, Bool, true, false, List, [], ◌∷◌, ◌++◌, length, Option, None, Result, Err, refl, sym, ap, subst, ◌∙◌, append_assoc, inl, inr}
 use Rattle.std.specs.Prelude.{IfErr}
-use Rattle.conf_rules.specs.declared.causes.Cause.{Cause}
 use Rattle.conf_rules.specs.declared.causes.Cause.TheVariants as causes
 use Rattle.conf_rules.specs.declared.causes.ResolveError.{ResolveError}
 use Rattle.conf_rules.specs.declared.causes.ResolveError.TheVariants as errors
-use Rattle.conf_rules.specs.declared.asked.Asked.{Asked}
-use Rattle.conf_rules.specs.Told.{Told, Facts}
+use Rattle.conf_rules.specs.Told.{Told}
 use Rattle.conf_rules.specs.Sources.{Line}
 use Rattle.conf_rules.specs.Rows.{Row, Pass, First, Second}
 use Rattle.conf_rules.specs.Entries.{entry_of}
 use Rattle.conf_rules.specs.Resolution.{all_rows, is_refused, refusal_in, rows_from}
-use Rattle.conf_match.specs.Evaluated.{RanAll, FailsOne}
+use Rattle.conf_match.specs.Evaluated.{RanAll}
 use Rattle.conf_reader.specs.declared.line.ConfLine.{ConfLine}
 use Rattle.conf_reader.specs.declared.reader.Lines.{Lines}
-use Rattle.conf_reader.specs.Blocks.{Blocks, open_behind}
+use Rattle.conf_reader.specs.Blocks.{open_behind}
 use Rattle.conf_reader.specs.Firsts.{firsts_of}
 use Rattle.conf_reader.specs.Left.{left}
 use Rattle.conf_reader.specs.Reads.{GivesNext}
 use Rattle.conf_reader.specs.Results.{is_run_fault}
-use Rattle.conf_reader.specs.Unread.{Place, IsAmong, FaultsAmong, first_places, read_places, unread}
+use Rattle.conf_reader.specs.Unread.{IsAmong, FaultsAmong, first_places, read_places, unread}
 use Rattle.conf_reader.proofs.UnreadLemmas.{split}
 use Rattle.conf_fold.specs.declared.fold.Fold.{Fold}
 use Rattle.conf_fold.specs.Begins.{asked_rows, asked_again, SecondBegins}
@@ -27,7 +25,7 @@ use Rattle.conf_fold.specs.Results.{FailsAt, HasRunCause, is_fault_at}
 use Rattle.conf_fold.specs.Stands.{Stands, IsNext, next_row}
 use Rattle.conf_fold.proofs.OrderLemmas.{from, rows-on, rows-end, row-line, from-front}
 use Rattle.conf_resolve.specs.Passes.{Commands, commands, AreAgain, final_rows, first_rows}
-use Rattle.conf_resolve.specs.Faults.{ReadFails, RunFails, FaultStands}
+use Rattle.conf_resolve.specs.Faults.{FaultStands}
 use Rattle.conf_resolve.proofs.PassLemmas.{Underway, idle-many}
 use Rattle.conf_resolve.proofs.ResolveLemmas.{all-front, first-is, twice-all}
 

@@ -1,7 +1,6 @@
 -- The rows of Include lines whose files are not all read.
-use Rattle.std.proofs.Common.{◌≡◌, ℕ, ◌<◌, Bool, true, false, cond, List, [], ◌∷◌, ◌++◌, length, Option, Some, Ok, refl, sym, ap, subst, ◌∙◌, append_assoc}
+use Rattle.std.proofs.Common.{◌≡◌, ℕ, Bool, true, false, List, [], ◌∷◌, ◌++◌, length, refl, sym, ap, subst, ◌∙◌, append_assoc}
 use Rattle.std.specs.Prelude.{codes}
-use Rattle.std.specs.List.{slice_get}
 use Rattle.std.proofs.lemmas.Option.{slice_get_within}
 use Rattle.conf_rules.specs.Texts.{same_word}
 use Rattle.conf_rules.specs.Sources.{Line}
@@ -11,7 +10,7 @@ use Rattle.conf_reader.specs.Blocks.{Blocks, IsLine}
 use Rattle.conf_reader.specs.Unread.{Place, IsAmong, Follows, including}
 use Rattle.conf_reader.proofs.UnreadLemmas.{split, among-all}
 use Rattle.conf_fold.proofs.BlockLemmas.{slice_get-front, slice_get-next}
-use Rattle.conf_resolve.specs.Faults.{Includes, includes_files, is_include}
+use Rattle.conf_resolve.specs.Faults.{Includes, includes_files}
 
 -- each of these places is that of an Include line of rows
 abbrev pub AreIncluded : List Row → List Place → Type 0

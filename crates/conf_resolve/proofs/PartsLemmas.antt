@@ -1,14 +1,11 @@
 -- The rows of lines in two parts.
-use Rattle.std.proofs.Common.{◌≡◌, ℕ, zero, suc, ◌+◌, Bool, true, false, cond, ◌||◌, List, [], ◌∷◌, ◌++◌, length, map, Option, Some, None, Result, Ok, Err, refl, sym, ap, subst, ◌∙◌, append_assoc, arith}
+use Rattle.std.proofs.Common.{◌≡◌, ℕ, suc, ◌+◌, Bool, true, false, ◌||◌, List, [], ◌∷◌, ◌++◌, length, Option, Some, None, refl, sym, ap, ◌∙◌, arith}
 use Rattle.std.specs.List.{list_any}
-use Rattle.std.proofs.lemmas.List.{append-nil, length-append}
-use Rattle.conf_rules.specs.declared.causes.Cause.{Cause}
+use Rattle.std.proofs.lemmas.List.{length-append}
 use Rattle.conf_rules.specs.declared.causes.ResolveError.{ResolveError}
-use Rattle.conf_rules.specs.declared.entry.Entry.{Entry}
 use Rattle.conf_rules.specs.Told.{Told}
 use Rattle.conf_rules.specs.Sources.{Line}
-use Rattle.conf_rules.specs.Rows.{Row, Pass, Place}
-use Rattle.conf_rules.specs.Entries.{entry_of}
+use Rattle.conf_rules.specs.Rows.{Row, Pass}
 use Rattle.conf_rules.specs.Resolution.{rows_from, is_refused, refuses, refusal_at, refusal_in, or_later}
 use Rattle.conf_fold.specs.Stands.{next_row}
 use Rattle.conf_fold.proofs.OrderLemmas.{from, refusal-behind, ok-none, not-none, rows-on, rows-end, behind-ok}

@@ -1,35 +1,34 @@
 -- What a reader gives and a fold takes makes the rows of a pass.
-use Rattle.std.proofs.Common.{◌≡◌, ℕ, zero, suc, ◌+◌, ◌-◌, ◌<◌, ◌≤◌, Bool, true, false, cond, ◌&&◌, ◌||◌, List, [], ◌∷◌, ◌++◌, length, map, take, Option, Some, None, Result, Ok, Err, refl, sym, ap, subst, ◌∙◌, append_assoc, arith}
-use Rattle.std.specs.Prelude.{flat_map, option_to_list}
-use Rattle.std.specs.List.{list_any, slice_get}
+use Rattle.std.proofs.Common.{◌≡◌, ℕ, zero, suc, ◌+◌, ◌≤◌, Bool, true, false, ◌||◌, List, [], ◌∷◌, ◌++◌, length, take, Option, Some, None, Ok, Err, refl, sym, ap, subst, ◌∙◌, append_assoc, arith}
+use Rattle.std.specs.Prelude.{flat_map}
+use Rattle.std.specs.List.{list_any}
 use Rattle.std.proofs.lemmas.List.{append-nil, length-append}
 use Rattle.std.proofs.lemmas.Grind.{flat_map-append}
 use Rattle.conf_rules.specs.declared.causes.Cause.{Cause}
 use Rattle.conf_rules.specs.declared.causes.ResolveError.{ResolveError}
 use Rattle.conf_rules.specs.declared.causes.ResolveError.TheVariants as errors
-use Rattle.conf_rules.specs.declared.entry.Entry.{Entry}
 use Rattle.conf_rules.specs.declared.entry.Entry.TheVariants.{Nothing}
 use Rattle.conf_rules.specs.Told.{Told}
 use Rattle.conf_rules.specs.Diagnostics.{is_fault}
 use Rattle.conf_rules.specs.Sources.{Line}
-use Rattle.conf_rules.specs.Rows.{Row, Pass, First, Second, Place, given, entry_gives}
+use Rattle.conf_rules.specs.Rows.{Row, Pass, First, Second, given, entry_gives}
 use Rattle.conf_rules.specs.Entries.{entry_of}
-use Rattle.conf_rules.specs.Resolution.{start_of, counted, is_past_limit, is_active, active_before, Effect, effect_of, no_block, row_of, row_with, rows_from, is_refused, refusal_at, or_later, refusal_in, wants_second, asks_again}
+use Rattle.conf_rules.specs.Resolution.{start_of, counted, is_active, Effect, effect_of, no_block, row_of, rows_from, is_refused, refusal_at, refusal_in, wants_second, asks_again}
 use Rattle.conf_reader.specs.declared.line.ConfLine.{ConfLine}
 use Rattle.conf_reader.specs.declared.reader.Lines.{Lines}
-use Rattle.conf_reader.specs.Blocks.{Blocks, IsLine, open_behind}
-use Rattle.conf_reader.specs.Left.{left, stack, Bounded}
-use Rattle.conf_reader.specs.Reads.{IsIdle, AreIdle, GivesNext, RefusesNext, Reads, LiesAt, IsGivenFrom, open_count}
+use Rattle.conf_reader.specs.Blocks.{Blocks, open_behind}
+use Rattle.conf_reader.specs.Left.{left, Bounded}
+use Rattle.conf_reader.specs.Reads.{IsIdle, AreIdle, GivesNext, RefusesNext, Reads}
 use Rattle.conf_match.specs.Evaluated.{RanAll, RanSome}
 use Rattle.conf_fold.specs.declared.fold.Fold.{Fold}
 use Rattle.conf_fold.specs.Results.{RanUnless, breaks_off}
-use Rattle.conf_fold.specs.Stands.{Stands, IsAgain, IsNext, next_row, Folds, InFirst, InSecond, InPass, collects, collected}
+use Rattle.conf_fold.specs.Stands.{Stands, IsAgain, IsNext, next_row, Folds, InPass, collects, collected}
 use Rattle.conf_fold.proofs.BlockLemmas.{marks-kept, each-kept}
 use Rattle.conf_fold.proofs.RowLemmas.{or-false, given-more, wants-more, collected-more, take-next, none-collected}
 use Rattle.conf_fold.proofs.FoldLemmas.{gives-nothing}
 use Rattle.conf_fold.proofs.OrderLemmas.{from, refusal-behind, ok-none, some-refused, rows-on, rows-end, row-line, from-front}
 use Rattle.conf_reader.specs.Unread.{unread, Follows}
-use Rattle.conf_resolve.specs.Passes.{Commands, commands, AreAgain, StandsFor, Passes, final_rows, Begins, file_lines}
+use Rattle.conf_resolve.specs.Passes.{Commands, commands, AreAgain, StandsFor, Passes, final_rows, file_lines}
 use Rattle.conf_resolve.proofs.IncludeLemmas.{AreIncluded, included-behind}
 use Rattle.conf_resolve.proofs.CommandLemmas.{commands-more, commands-quiet, idle-commands, refused-ran, ran-on, ran-some, ran-front}
 

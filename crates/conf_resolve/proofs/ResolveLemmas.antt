@@ -1,18 +1,17 @@
 -- All rows, from those of the command line and of files, in one pass or two.
-use Rattle.std.proofs.Common.{◌≡◌, ℕ, zero, suc, ◌+◌, Bool, true, false, cond, ◌||◌, List, [], ◌∷◌, ◌++◌, length, map, take, Option, Some, None, Result, Ok, Err, refl, sym, ap, subst, ◌∙◌, append_assoc, arith}
+use Rattle.std.proofs.Common.{◌≡◌, ℕ, ◌+◌, Bool, true, false, List, [], ◌∷◌, ◌++◌, length, map, take, Some, None, Result, Ok, Err, refl, sym, ap, subst, ◌∙◌, append_assoc, arith}
 use Rattle.std.specs.Prelude.{flat_map}
 use Rattle.std.specs.List.{list_any, slice_get}
 use Rattle.std.proofs.lemmas.List.{append-nil, length-append, length-map}
 use Rattle.std.proofs.lemmas.Grind.{flat_map-append}
-use Rattle.conf_rules.specs.declared.causes.Cause.{Cause}
 use Rattle.conf_rules.specs.declared.causes.ResolveError.{ResolveError}
 use Rattle.conf_rules.specs.declared.causes.ResolveError.TheVariants as errors
 use Rattle.conf_rules.specs.Told.{Told}
 use Rattle.conf_rules.specs.Diagnostics.{is_fault}
-use Rattle.conf_rules.specs.Sources.{Line, asked_line, lines_from, all_lines}
-use Rattle.conf_rules.specs.Rows.{Row, Pass, First, Second, Place, given}
+use Rattle.conf_rules.specs.Sources.{Line, asked_line, all_lines}
+use Rattle.conf_rules.specs.Rows.{Row, Pass, First, Second, given}
 use Rattle.conf_rules.specs.Entries.{entry_of}
-use Rattle.conf_rules.specs.Resolution.{start_of, row_of, rows_from, rows_behind, rows_by, all_rows, first_place, is_refused, refuses, refusal_at, refusal_in, refusal, execs, wants_second}
+use Rattle.conf_rules.specs.Resolution.{row_of, rows_from, rows_behind, rows_by, all_rows, is_refused, refuses, refusal_in, execs, wants_second}
 use Rattle.conf_options.specs.Kept.{Given, Keeps}
 use Rattle.conf_match.specs.Evaluated.{RanAll, RanSome}
 use Rattle.conf_reader.specs.declared.reader.Lines.{Lines}
@@ -20,10 +19,10 @@ use Rattle.conf_reader.specs.Left.{left, Bounded}
 use Rattle.conf_reader.specs.Unread.{unread}
 use Rattle.conf_fold.specs.declared.fold.Fold.{Fold}
 use Rattle.conf_fold.specs.Results.{RanUnless, breaks_off}
-use Rattle.conf_fold.specs.Stands.{Stands, IsAgain, next_row}
+use Rattle.conf_fold.specs.Stands.{Stands, next_row}
 use Rattle.conf_fold.specs.Begins.{asked_rows, IsBegun, Behind, asked_again, SecondBegins}
 use Rattle.conf_fold.proofs.BlockLemmas.{slice_get-next}
-use Rattle.conf_fold.proofs.OrderLemmas.{from, none-parts, rows-on, rows-end, from-front}
+use Rattle.conf_fold.proofs.OrderLemmas.{from, none-parts, rows-on, from-front}
 use Rattle.conf_resolve.specs.Passes.{Commands, commands, AreAgain, file_lines, Begins, Passes, StandsFor, final_rows, first_rows, BothPass, Resolved}
 use Rattle.conf_resolve.proofs.PartsLemmas.{none-refused, any-refused, ends-refused, rows-append, rows-stop, rows-length}
 use Rattle.conf_resolve.proofs.CommandLemmas.{asked-quiet, ran-nothing, ran-front, ran-longer}

@@ -6,7 +6,7 @@ use Rattle.conf_rules.specs.Texts.{Bytes}
 use Rattle.conf_rules.specs.Told.{Told}
 use Rattle.conf_rules.specs.Diagnostics.{is_fault}
 use Rattle.conf_rules.specs.Sources.{Line, lines_from, all_lines}
-use Rattle.conf_rules.specs.Rows.{Row, Pass, First, Second, Place, given}
+use Rattle.conf_rules.specs.Rows.{Row, Pass, First, given}
 use Rattle.conf_rules.specs.Entries.{entry_of}
 use Rattle.conf_rules.specs.Resolution.{start_of, rows_from, refusal_in, refusal, all_rows, first_place}
 use Rattle.conf_options.specs.Kept.{Given, Keeps}

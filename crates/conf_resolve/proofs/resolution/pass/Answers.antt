@@ -1,11 +1,9 @@
-use Rattle.std.proofs.Common.{◌≡◌, ◌≤◌, ◌∙◌, ◌+◌, Ok, Err, length, sym, ap, refl, subst, arith}
+use Rattle.std.proofs.Common.{◌∙◌, ◌+◌, length, sym, ap, refl, arith}
 use Rattle.std.proofs.lemmas.Result.{err_from_is_err_and}
 use Rattle.conf_rules.specs.declared.asked.Asked.{Asked}
 use Rattle.conf_rules.specs.Told.{Facts}
 use Rattle.conf_reader.specs.Firsts.{firsts_of}
-use Rattle.conf_fold.specs.Results.{RanUnless}
-use Rattle.conf_resolve.specs.Passes.{commands, final_rows}
-use Rattle.conf_resolve.proofs.CauseLemmas.{read-causes, run-causes, causes-from}
+use Rattle.conf_resolve.specs.Passes.{final_rows}
 use Rattle.conf_resolve.proofs.DepthLemmas.{depth-low, given-bounded, more-bounded}
 use Rattle.conf_resolve.proofs.PassLemmas.{goes-on, line-fails, reader-fails, all-given, line-ran, reader-ran, all-ran, start-ran, none-given}
 use Rattle.conf_resolve.proofs.ResolveLemmas.{underway}

@@ -1,4 +1,4 @@
-use Rattle.std.proofs.Common.{◌≡◌, ◌≤◌, ◌-◌, ℕ, List, length}
+use Rattle.std.proofs.Common.{◌≡◌, ◌-◌, List, length}
 use Rattle.conf_rules.specs.Told.{Told}
 use Rattle.conf_rules.specs.Rows.{Row, Pass}
 use Rattle.conf_match.specs.Evaluated.{TellsStatus}

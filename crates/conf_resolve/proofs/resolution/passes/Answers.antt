@@ -1,4 +1,4 @@
-use Rattle.std.proofs.Common.{◌≡◌, ◌∙◌, sym, ap, refl, true, false, Ok, Err}
+use Rattle.std.proofs.Common.{ap, true, Ok}
 use Rattle.std.proofs.lemmas.Result.{err_from_is_err_and}
 use Rattle.conf_rules.specs.Rows.{First, Second}
 use Rattle.conf_fold.specs.Begins.{asked_rows, asked_again, SecondBegins}

@@ -1,4 +1,3 @@
-use Rattle.std.proofs.Common.{◌≡◌, ◌∙◌, sym, ap, refl, Ok, Err}
 use Rattle.std.proofs.lemmas.Result.{err_from_is_err_and}
 use Rattle.conf_resolve.proofs.ResolveLemmas.{begin-refused, begin-ran, over, over-err}
 use Rattle.conf_resolve.proofs.FaultLemmas.{plain-stands}
