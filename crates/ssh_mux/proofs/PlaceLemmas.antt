@@ -1,6 +1,5 @@
 -- Where faults are told, from what a resolution came to.
-use Rattle.std.proofs.Common.{◌≡◌, List, Option, Some, None, Result, Ok, Err, refl, ap}
-use Rattle.std.specs.Prelude.{IfErr}
+use Rattle.std.proofs.Common.{◌≡◌, List, Option, Some, None, Ok, refl, ap}
 use Rattle.conf_command.specs.declared.reader.WordsError.{WordsError}
 use Rattle.conf_command.specs.declared.reader.WordsError.TheVariants as words_errors
 use Rattle.conf_match.specs.Evaluated.{TellsStatus}
