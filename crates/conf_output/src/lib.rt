@@ -8,8 +8,6 @@ mod keys;
 mod known;
 mod output;
 mod spelling;
-#[cfg(test)]
-mod tests;
 
 pub use conf_rules::ListError;
 pub use output::{control_path, listing};

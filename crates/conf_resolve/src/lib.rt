@@ -3,7 +3,5 @@
 #![tactic(auto)]
 
 mod resolution;
-#[cfg(test)]
-mod tests;
 
 pub use resolution::resolve;

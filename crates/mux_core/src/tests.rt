@@ -19,13 +19,7 @@
 
 ghost use Rattle.std.specs.Prelude.{◌≤◌, vec_len};
 
-mod breaches;
-mod channels;
-mod forwardings;
 mod limits;
-mod losses;
-mod permissions;
-mod requests;
 
 use super::{Core, Heard, Verdict};
 use client_teardown::FAREWELL_ROOM;
