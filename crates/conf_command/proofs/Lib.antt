@@ -1,5 +1,5 @@
 pub mod Loops
-pub mod TextLemmas
+pub mod NumberLemmas
 pub mod PartLemmas
 pub mod WalkLemmas
 pub mod WordLemmas

@@ -6,7 +6,7 @@ use Rattle.std.specs.List.{list_any}
 use Rattle.conf_rules.specs.Texts.{Bytes, onto_first}
 use Rattle.conf_rules.specs.Options.{parts_from, is_bad_part, ends_of, is_count, forward_words}
 use Rattle.conf_command.specs.Parts.{one_end, two_ends, ends_among, onto_part}
-use Rattle.conf_command.proofs.TextLemmas.{at}
+use Rattle.conf_rules.proofs.SplitLemmas.{at}
 
 -- the parts, by whether the first byte parts them
 parts_by : Bool → ℕ → List Bytes → List Bytes → List Bytes

@@ -1,5 +1,5 @@
 use Rattle.std.proofs.Common.{◌∙◌, arith}
-use Rattle.conf_command.proofs.TextLemmas.{too_large}
+use Rattle.conf_command.proofs.NumberLemmas.{too_large}
 use Rattle.conf_command.proofs.bytes.number.Goals as goal
 
 pub returns-in_err-number : goal.returns-in_err-number

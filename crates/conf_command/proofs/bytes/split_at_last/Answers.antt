@@ -1,5 +1,5 @@
 use Rattle.std.proofs.Common.{arith, ◌-◌}
-use Rattle.conf_command.proofs.TextLemmas.{split-here}
+use Rattle.conf_rules.proofs.SplitLemmas.{split-here}
 use Rattle.conf_command.proofs.bytes.split_at_last.Goals as goal
 
 pub returns-then-text-i : goal.returns-then-text-i

@@ -1,5 +1,5 @@
 use Rattle.std.proofs.Common.{arith, length, ◌-◌}
-use Rattle.conf_command.proofs.TextLemmas.{closed, unclosed}
+use Rattle.conf_rules.proofs.SplitLemmas.{closed, unclosed}
 use Rattle.conf_command.proofs.entries.before_bracket.Goals as goal
 
 pub returns-then-last-eq93 : goal.returns-then-last-eq93
