@@ -22,7 +22,7 @@ use Rattle.mux_history.proofs.LawfulItems.{LawfulIn, LawfulItems}
 
 -- ---- what is cut from bytes are bytes
 
-abbrev FrontBytes : Front → Type 0
+abbrev pub FrontBytes : Front → Type 0
 FrontBytes (Frame content rest) = AreBytes content × AreBytes rest
 FrontBytes More = Unit {0}
 FrontBytes (Faulty fault) = Unit {0}
@@ -52,7 +52,7 @@ first-bytes framing (w ∷ x ∷ []) a = tt
 first-bytes framing (w ∷ x ∷ y ∷ []) a = tt
 first-bytes framing (w ∷ x ∷ y ∷ z ∷ rest) a = length-bytes framing (of_four w x y z) rest a.1.1.1.1
 
-in-bytes : (mode : Mode) (bytes : List ℕ) → AreBytes bytes → FrontBytes (first_in mode bytes)
+pub in-bytes : (mode : Mode) (bytes : List ℕ) → AreBytes bytes → FrontBytes (first_in mode bytes)
 in-bytes InControl bytes a = first-bytes framing.Control bytes a
 in-bytes InProxy bytes a = first-bytes framing.Proxy bytes a
 in-bytes Stopped bytes a = tt
