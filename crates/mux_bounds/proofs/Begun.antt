@@ -1,16 +1,17 @@
 -- What a row begins: at most that much is held after it, and nothing is begun for a lost client.
-use Rattle.std.proofs.Common.{◌≡◌, ℕ, ◌+◌, ◌≤◌, List, [], ◌∷◌, ◌++◌, map, length, length-append, true, false, Bool, refl, ◌∙◌, ap, arith, sym, Some, None}
-use Rattle.std.specs.Prelude.{filter, find}
+use Rattle.std.proofs.Common.{◌≡◌, ℕ, ◌+◌, ◌≤◌, List, [], ◌∷◌, ◌++◌, map, length, length-append, true, false, Bool, refl, ◌∙◌, ap, arith, sym, Some, None, Ok, Err}
+use Rattle.std.specs.Prelude.{◌==◌, Result, filter, find}
 use Rattle.std.proofs.lemmas.List.{length-map}
 use Rattle.mux_history.specs.Channels.{Channel, after_farewell, after_item, begun_by, held_of, is_held, opened_down}
 use Rattle.mux_history.specs.Forwardings.{Forwarding, current, forwardings_of, live_at}
-use Rattle.mux_history.specs.Gist.{Confirmation, Gist, Open, Refuses, Requests, Succeeds, Transport, Within}
+use Rattle.mux_history.specs.Gist.{Confirmation, Gist, Open, Refuses, Requests, Succeeds, Transport, Within, read_gist, reading}
 use Rattle.mux_history.specs.Heard.{ToClient, dest_open}
 use Rattle.mux_history.specs.Kept.{ForEach}
 use Rattle.mux_history.specs.Keys.{has_key}
 use Rattle.mux_history.specs.Policy.{Policy}
-use Rattle.mux_history.specs.Rows.{Row, is_lost, rows_of}
+use Rattle.mux_history.specs.Rows.{Heard, Row, is_lost, rows_of}
 use Rattle.ssh_grammar.specs.Messages.{Opens}
+use Rattle.ssh_grammar.specs.declared.fault.Bad.{Bad}
 use Rattle.mux_history.proofs.Dests.{Offered, offered}
 use Rattle.mux_history.proofs.Finds.{filter-no, filter-yes}
 use Rattle.mux_history.proofs.ForwardsLocal.{live-local}
@@ -48,6 +49,18 @@ opened-down-not k [] Refuses not = refl
 opened-down-not k [] (Confirmation n s w max) not = refl
 opened-down-not k [] (Within n act) not = refl
 opened-down-not k (q ∷ qs) m not = refl
+
+-- what the server says begins nothing, where it opens nothing
+pub heard-begins-none : (k : ℕ) (p : List ℕ) (up : List (List ℕ)) → ((what : Opens) (s w max : ℕ) → read_gist p ≡ Ok (Open what s w max) → ⊥) → begun_by k up (Heard p) ≡ []
+heard-begins-none k p up never = by_zero (k == 0)
+  where
+    by_case : (r : Result Gist Bad) → read_gist p ≡ r → (elim r as (λ _. List Channel) [ Err e ↦ [] | Ok m ↦ opened_down k up m ]) ≡ []
+    by_case (Err e) reads = refl
+    by_case (Ok m) reads = opened-down-not k up m (λ what s w max same. never what s w max (reads ∙ ap (λ (g : Gist). let r : Result Gist Bad = Ok g in r) same))
+
+    by_zero : (b : Bool) → (elim b as (λ _. List Channel) [ true ↦ [] | false ↦ reading p (opened_down k up) [] ]) ≡ []
+    by_zero true = refl
+    by_zero false = by_case (read_gist p) refl
 
 -- a lost client has no live forwarding left
 pub lost-offers : (policy : Policy) (pid : ℕ) (before : List Row) (k s : ℕ) (what : Opens) → ForEach (RowKnown policy pid) before → is_lost (rows_of k before) ≡ true → dest_open before s what ≡ ToClient k → ⊥

@@ -1,10 +1,10 @@
 -- Matters that are closed stay closed: a lost client begins nothing and asks nothing.
-use Rattle.std.proofs.Common.{◌≡◌, ℕ, ◌≤◌, List, [], ◌∷◌, length, length-append, true, false, Bool, refl, ◌∙◌, ap, arith, sym, None, subst, Ok, Err}
-use Rattle.std.specs.Prelude.{◌==◌, ◌&&◌, ◌||◌, not, Result, nat_lt}
+use Rattle.std.proofs.Common.{◌≡◌, ℕ, ◌≤◌, List, [], ◌∷◌, length, length-append, true, false, Bool, refl, ◌∙◌, ap, arith, sym, None, subst}
+use Rattle.std.specs.Prelude.{◌==◌, ◌&&◌, ◌||◌, not, nat_lt}
 use Rattle.std.proofs.lemmas.Bool.Decides.{nat_tests}
-use Rattle.mux_history.specs.Channels.{Channel, begun_by, held_of, is_held, opened_down}
+use Rattle.mux_history.specs.Channels.{Channel, begun_by, held_of, is_held}
 use Rattle.mux_history.specs.Farewell.{has_open_matters}
-use Rattle.mux_history.specs.Gist.{Confirmation, Gist, Open, Refuses, Requests, Succeeds, Transport, Within, read_gist, reading}
+use Rattle.mux_history.specs.Gist.{Open}
 use Rattle.mux_history.specs.Heard.{Breaks, Dest, Disconnects, ToClient, ToMaster, dest, heard_for}
 use Rattle.mux_history.specs.Kept.{ForEach}
 use Rattle.mux_history.specs.Log.{admits, heard_row, makes_row, said_by_client, treat}
@@ -13,7 +13,6 @@ use Rattle.mux_history.specs.Requests.{asks, asks_of, is_sent, replies, reply_in
 use Rattle.mux_history.specs.Rows.{Admit, Fate, Gone, Heard, Item, Row, Says, any_of, is_admit, is_lost, is_out, loses, rows_of}
 use Rattle.mux_history.specs.Said.{silent}
 use Rattle.mux_bounds.specs.Few.{HasNothing}
-use Rattle.ssh_grammar.specs.declared.fault.Bad.{Bad}
 use Rattle.mux_history.proofs.Dests.{dest-ok}
 use Rattle.mux_history.proofs.Finds.{filter-no, filter-yes}
 use Rattle.mux_history.proofs.Nexts.{by-next}
@@ -21,7 +20,7 @@ use Rattle.mux_history.proofs.OwnRows.{same-client}
 use Rattle.mux_history.proofs.RightLogs.{LogKnown, RowKnown}
 use Rattle.mux_history.proofs.Sends.{as_row, row-parts}
 use Rattle.mux_bounds.proofs.Closed.{lost-out, nothing-left}
-use Rattle.mux_bounds.proofs.Begun.{held-count, lost-offers, opened-down-not}
+use Rattle.mux_bounds.proofs.Begun.{heard-begins-none, held-count, lost-offers}
 use Rattle.mux_history.proofs.Bools.{or-yes}
 
 -- ---- a lost client begins nothing and asks nothing
@@ -30,24 +29,8 @@ abbrev Begins : List Row → Row → Type 0
 Begins before row = is_lost (rows_of row.client before) ≡ true → (begun_by row.client row.up row.item ≡ []) × (wanted_by row ≡ None)
 
 heard-begins : (policy : Policy) (pid : ℕ) (before : List Row) (k : ℕ) (p : List ℕ) (fw down : List (List ℕ)) (fate : Fate) → ForEach (RowKnown policy pid) before → dest before p ≡ ToClient k → Begins before (as_row (Heard p) k (heard_for (rows_of k before) p).sent fw down fate)
-heard-begins policy pid before k p fw down fate each to lost = (by_zero (k == 0), refl)
-  where
-    by_gist : (m : Gist) → read_gist p ≡ Ok m → (up : List (List ℕ)) → opened_down k up m ≡ []
-    by_gist (Open what s w max) reads up = absurd (lost-offers policy pid before k s what each lost (sym (dest-ok before p (Open what s w max) reads) ∙ to))
-    by_gist (Transport number) reads up = opened-down-not k up (Transport number) (λ a b c d e. cc)
-    by_gist (Requests what want) reads up = opened-down-not k up (Requests what want) (λ a b c d e. cc)
-    by_gist (Succeeds rest) reads up = opened-down-not k up (Succeeds rest) (λ a b c d e. cc)
-    by_gist Refuses reads up = opened-down-not k up Refuses (λ a b c d e. cc)
-    by_gist (Confirmation n s w max) reads up = opened-down-not k up (Confirmation n s w max) (λ a b c d e. cc)
-    by_gist (Within n act) reads up = opened-down-not k up (Within n act) (λ a b c d e. cc)
-
-    by_case : (r : Result Gist Bad) → read_gist p ≡ r → (up : List (List ℕ)) → (elim r as (λ _. List Channel) [ Err e ↦ [] | Ok m ↦ opened_down k up m ]) ≡ []
-    by_case (Err e) reads up = refl
-    by_case (Ok m) reads up = by_gist m reads up
-
-    by_zero : (b : Bool) → (elim b as (λ _. List Channel) [ true ↦ [] | false ↦ reading p (opened_down k (heard_for (rows_of k before) p).sent) [] ]) ≡ []
-    by_zero true = refl
-    by_zero false = by_case (read_gist p) refl (heard_for (rows_of k before) p).sent
+heard-begins policy pid before k p fw down fate each to lost =
+    (heard-begins-none k p (heard_for (rows_of k before) p).sent (λ what s w max reads. lost-offers policy pid before k s what each lost (sym (dest-ok before p (Open what s w max) reads) ∙ to)), refl)
 
 dest-begins : (policy : Policy) (pid : ℕ) (before : List Row) (p : List ℕ) → ForEach (RowKnown policy pid) before → (d : Dest) → dest before p ≡ d → Begins before (heard_row before p d)
 dest-begins policy pid before p each ToMaster e = λ lost. (refl, refl)

@@ -4,10 +4,10 @@ use Rattle.std.specs.Prelude.{◌==◌, ◌||◌, not, filter, find, slice_get, 
 use Rattle.std.proofs.lemmas.Bool.Decides.{nat_tests}
 use Rattle.ssh_grammar.specs.Messages.{Opens}
 use Rattle.ssh_grammar.specs.declared.fault.Bad.{Bad}
-use Rattle.mux_history.specs.Channels.{Channel, after_farewell, after_item, begun_by, channels_of, is_held, is_number, opened_down}
+use Rattle.mux_history.specs.Channels.{Channel, after_farewell, after_item, begun_by, channels_of, is_held, is_number}
 use Rattle.mux_history.specs.Controls.{greeted, is_says}
 use Rattle.mux_history.specs.Forwardings.{Forwarding, dropped, forwarded, forwardings_of, live_at, of_client, replied}
-use Rattle.mux_history.specs.Gist.{Confirmation, Gist, Open, Refuses, Requests, Succeeds, Transport, Within, read_gist, reading}
+use Rattle.mux_history.specs.Gist.{Confirmation, Gist, Open, Refuses, Requests, Succeeds, Transport, Within, read_gist}
 use Rattle.mux_history.specs.Heard.{Breaks, Dest, Disconnects, ToClient, ToMaster, dest, dest_gist, dest_open, heard_for}
 use Rattle.mux_history.specs.Kept.{ForEach}
 use Rattle.mux_history.specs.Keys.{has_key}
@@ -24,7 +24,7 @@ use Rattle.mux_history.proofs.ForwardsLocal.{find-part, live-local}
 use Rattle.mux_history.proofs.Local.{channels-local, is_of}
 use Rattle.mux_history.proofs.RightLogs.{RowKnown}
 use Rattle.mux_history.proofs.Sends.{as_row, row-parts}
-use Rattle.mux_bounds.proofs.Begun.{opened-down-not}
+use Rattle.mux_bounds.proofs.Begun.{heard-begins-none}
 use Rattle.mux_bounds.proofs.Matters.{still-in}
 use Rattle.mux_bounds.proofs.Owed.{asks-none}
 
@@ -81,24 +81,8 @@ abbrev Quiet : List Row → Row → Type 0
 Quiet before row = is_says row.item ≡ false → greeted (rows_of row.client before) ≡ false → begun_by row.client row.up row.item ≡ []
 
 heard-quiet : (before : List Row) (k : ℕ) (p : List ℕ) (fw down : List (List ℕ)) (fate : Fate) → dest before p ≡ ToClient k → Quiet before (as_row (Heard p) k (heard_for (rows_of k before) p).sent fw down fate)
-heard-quiet before k p fw down fate to still quiet = by_zero (k == 0)
-  where
-    by_gist : (m : Gist) → read_gist p ≡ Ok m → (up : List (List ℕ)) → opened_down k up m ≡ []
-    by_gist (Open what s w max) reads up = absurd (quiet-offers before k s what quiet (sym (dest-ok before p (Open what s w max) reads) ∙ to))
-    by_gist (Transport number) reads up = opened-down-not k up (Transport number) (λ a b c d e. cc)
-    by_gist (Requests what want) reads up = opened-down-not k up (Requests what want) (λ a b c d e. cc)
-    by_gist (Succeeds rest) reads up = opened-down-not k up (Succeeds rest) (λ a b c d e. cc)
-    by_gist Refuses reads up = opened-down-not k up Refuses (λ a b c d e. cc)
-    by_gist (Confirmation n s w max) reads up = opened-down-not k up (Confirmation n s w max) (λ a b c d e. cc)
-    by_gist (Within n act) reads up = opened-down-not k up (Within n act) (λ a b c d e. cc)
-
-    by_case : (r : Result Gist Bad) → read_gist p ≡ r → (up : List (List ℕ)) → (elim r as (λ _. List Channel) [ Err e ↦ [] | Ok m ↦ opened_down k up m ]) ≡ []
-    by_case (Err e) reads up = refl
-    by_case (Ok m) reads up = by_gist m reads up
-
-    by_zero : (b : Bool) → (elim b as (λ _. List Channel) [ true ↦ [] | false ↦ reading p (opened_down k (heard_for (rows_of k before) p).sent) [] ]) ≡ []
-    by_zero true = refl
-    by_zero false = by_case (read_gist p) refl (heard_for (rows_of k before) p).sent
+heard-quiet before k p fw down fate to still quiet =
+    heard-begins-none k p (heard_for (rows_of k before) p).sent (λ what s w max reads. quiet-offers before k s what quiet (sym (dest-ok before p (Open what s w max) reads) ∙ to))
 
 dest-quiet : (before : List Row) (p : List ℕ) (d : Dest) → dest before p ≡ d → Quiet before (heard_row before p d)
 dest-quiet before p ToMaster e = λ still quiet. refl
