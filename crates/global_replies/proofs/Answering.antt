@@ -34,7 +34,7 @@ refusal-goes-on old new now said is flags heard h =
 
 -- ---- the server's reply comes, and the refusals behind it
 
-no-replies : (ws : List Bool) → answers_to ws [] ≡ replicate (leading ws) request_failure
+pub no-replies : (ws : List Bool) → answers_to ws [] ≡ replicate (leading ws) request_failure
 no-replies [] = refl
 no-replies (true ∷ ws) = refl
 no-replies (false ∷ ws) = ap (λ rs. request_failure ∷ rs) (no-replies ws) ∙ one-more (leading ws)
