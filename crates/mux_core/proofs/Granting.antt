@@ -147,7 +147,7 @@ stays-at k j place later rest g past = record {
     by_leaving h true = h
     by_leaving h false = h
 
-pub find-passes : (test : Forwarding → Bool) (gs : List Forwarding) → is_some (find test gs) ≡ any_of test gs
+find-passes : (test : Forwarding → Bool) (gs : List Forwarding) → is_some (find test gs) ≡ any_of test gs
 find-passes test [] = refl
 find-passes test (g ∷ gs) = by_test (find-passes test gs) (test g) refl
   where
@@ -155,17 +155,35 @@ find-passes test (g ∷ gs) = by_test (find-passes test gs) (test g) refl
     by_test ih true h = ap is_some (find-yes test g gs h) ∙ sym (ap (λ b. b || any_of test gs) h)
     by_test ih false h = ap is_some (find-no test g gs h) ∙ (ih ∙ sym (ap (λ b. b || any_of test gs) h))
 
+-- ---- what stands when the reply comes
+
+-- what is awaited of each client, as one client has it
+pub waits-for : (k : ℕ) (own : ℕ → Places) (gs : List Forwarding) → AllByRecursion (λ g. IsAwaited (own g.client) g) gs → AllByRecursion (Waiting k (own k)) gs
+waits-for k own [] all = tt
+waits-for k own (g ∷ gs) all = ((λ mine. own-of k own g mine all.0), waits-for k own gs all.1)
+
+-- a forwarding was asked at the place of the reply
+pub asked-there : (k : ℕ) (key : Key) (fs : List Forward) (gs : List Forwarding) (own : ℕ → Places) (lost : ℕ → Bool) → AreFit fs gs own lost → lost k ≡ false → slice_get (own k).asked (own k).replied ≡ Some (record { client = k; what = full.Forward key }) → is_some (find (asks_at k (own k).replied) gs) ≡ true
+asked-there k key fs gs own lost fit here asked = find-passes (asks_at k (own k).replied) gs ∙ (sym (find-any (λ (g : Forwarding). g.client == k) (stands.is_asked_at (own k).replied) gs) ∙ fit.each k here (own k).replied (record { client = k; what = full.Forward key }) (omega arith) asked)
+
+-- what has no reply afterwards had none before
+pub replied-sooner : (k j : ℕ) (own own' : ℕ → Places) → Replies k own own' → (k == j) ≡ true → (at : ℕ) → (own' j).replied ≤ at → (own k).replied < at
+replied-sooner k j own own' next same at late =
+    let e : (own' j).replied ≡ (own j).replied + 1 = ap (λ (x : Places). x.replied) (next.mine j same) in
+    let c : (own k).replied ≡ (own j).replied = ap (λ i. (own i).replied) (same-number k j same) in
+    omega arith
+
 -- ---- all of it
 
 pub granted-fit : (k : ℕ) (rest : List ℕ) (key : Key) (fs : List Forward) (gs : List Forwarding) (own own' : ℕ → Places) (lost : ℕ → Bool) → AreFit fs gs own lost → Replies k own own' → lost k ≡ false → slice_get (own k).asked (own k).replied ≡ Some (record { client = k; what = full.Forward key }) → AreFit (answered k key (Some (u32_at 0 rest)) fs) (filter is_on (map (after k (own k).replied (Succeeds rest)) gs)) own' lost
 granted-fit k rest key fs gs own own' lost fit next here asked =
     subst (λ hs. AreFit fs' hs own' lost) (sym (ap (filter is_on) (granted-all k place rest key own gs fit.awaited asked) ∙ on-all (map (granted k place rest) gs) (on-granted k place rest gs (on-listed fs gs fit.listed)))) (record {
-      listed = granted-listed k place rest key (own k) fs gs fit.listed (waiting gs fit.awaited) fit.two refl asked there;
+      listed = granted-listed k place rest key (own k) fs gs fit.listed (waits-for k own gs fit.awaited) fit.two refl asked (asked-there k key fs gs own lost fit here asked);
       in_order = order-alike (granted k place rest) (λ g. let s = stays k place rest g in record { client = s.client; cancel = s.cancel }) fs fs' gs alike fit.in_order;
       awaited = awaited-granted-all k rest key own own' gs next asked fit.awaited;
       two = two-map (granted k place rest) (λ g h two. two-stays g (granted k place rest g) h (granted k place rest h) (stays k place rest g) (stays k place rest h) two) gs fit.two;
       few = λ j. subst (λ n. n ≤ MAX_FORWARDINGS) (sym (few-alike j fs fs' alike)) (fit.few j);
-      each = λ j lives at a late got. has-map at a.what j (granted k place rest) gs (λ g. stays-at k j place at rest g (λ same. sooner j same at late)) (each-next k j own own' (filter (λ g. g.client == j) gs) next (fit.each j lives) at a late got);
+      each = λ j lives at a late got. has-map at a.what j (granted k place rest) gs (λ g. stays-at k j place at rest g (λ same. replied-sooner k j own own' next same at late)) (each-next k j own own' (filter (λ g. g.client == j) gs) next (fit.each j lives) at a late got);
       ranked = ranked-alike fs fs' alike fit.ranked;
     })
   where
@@ -177,16 +195,3 @@ granted-fit k rest key fs gs own own' lost fit next here asked =
 
     alike : AreAlike fs (change_first (is_asked_at k key) (is_granted (u32_at 0 rest)) fs)
     alike = alike-first (is_asked_at k key) (is_granted (u32_at 0 rest)) (λ f. record { client = refl; cancel = refl }) fs
-
-    waiting : (hs : List Forwarding) → AllByRecursion (λ g. IsAwaited (own g.client) g) hs → AllByRecursion (Waiting k (own k)) hs
-    waiting [] all = tt
-    waiting (h ∷ hs) all = ((λ mine. own-of k own h mine all.0), waiting hs all.1)
-
-    there : is_some (find (asks_at k (own k).replied) gs) ≡ true
-    there = find-passes (asks_at k (own k).replied) gs ∙ (sym (find-any (λ (g : Forwarding). g.client == k) (stands.is_asked_at (own k).replied) gs) ∙ fit.each k here (own k).replied (record { client = k; what = full.Forward key }) (omega arith) asked)
-
-    sooner : (j : ℕ) → (k == j) ≡ true → (at : ℕ) → (own' j).replied ≤ at → (own k).replied < at
-    sooner j same at late =
-        let e : (own' j).replied ≡ (own j).replied + 1 = ap (λ (x : Places). x.replied) (next.mine j same) in
-        let c : (own k).replied ≡ (own j).replied = ap (λ i. (own i).replied) (same-number k j same) in
-        omega arith

@@ -1,5 +1,5 @@
 -- The server's failure of a request for a forwarding.
-use Rattle.std.proofs.Common.{◌≡◌, ◌≤◌, ◌<◌, ◌+◌, ℕ, List, [], ◌∷◌, map, true, false, Bool, refl, ◌∙◌, ap, sym, subst, Option, Some, None, arith}
+use Rattle.std.proofs.Common.{◌≡◌, ◌≤◌, ◌<◌, ℕ, List, [], ◌∷◌, map, true, false, Bool, refl, ◌∙◌, ap, sym, subst, Option, Some, None, arith}
 use Rattle.std.specs.Prelude.{filter, find, ◌==◌, ◌&&◌, not, is_some, is_none, slice_get}
 use Rattle.std.specs.List.{AllByRecursion}
 use Rattle.std.proofs.lemmas.Bool.Decides.{nat_tests}
@@ -18,10 +18,10 @@ use Rattle.forward_rules.specs.Stands.{AreFit, AreListed, AreTwo, EachHas, EachT
 use Rattle.forward_rules.specs.Stands as stands
 use Rattle.mux_core.proofs.Dropped.{Drops, WaitsNot, drops-map, has-kept, kept-fit}
 use Rattle.mux_core.proofs.Granted.{Waiting, asked-key, asks_at, before, none-is}
-use Rattle.mux_core.proofs.Granting.{asks-is, find-passes, no-cancel-at}
-use Rattle.mux_core.proofs.Pairs.{and-left, and-right, find-any}
+use Rattle.mux_core.proofs.Granting.{asked-there, asks-is, no-cancel-at, replied-sooner, waits-for}
+use Rattle.mux_core.proofs.Pairs.{and-left, and-right}
 use Rattle.mux_core.proofs.Removed.{all-by, first_out, kept_by, on-all, on-listed}
-use Rattle.mux_core.proofs.Replied.{IsBystander, Replies, after, awaited-all, each-next, idle-after, idle-all, never, own-of}
+use Rattle.mux_core.proofs.Replied.{IsBystander, Replies, after, awaited-all, each-next, idle-after, idle-all, never}
 
 -- ---- the first that was asked with a key is the one at the place
 
@@ -160,11 +160,11 @@ waits-not k j place later own g past h w = record {
 pub refused-fit : (k : ℕ) (key : Key) (fs : List Forward) (gs : List Forwarding) (own own' : ℕ → Places) (lost : ℕ → Bool) → AreFit fs gs own lost → Replies k own own' → lost k ≡ false → slice_get (own k).asked (own k).replied ≡ Some (record { client = k; what = full.Forward key }) → AreFit (answered k key None fs) (filter is_on (map (after k (own k).replied Refuses) gs)) own' lost
 refused-fit k key fs gs own own' lost fit next here asked =
     subst (λ hs. AreFit (without_first (is_asked_at k key) fs) hs own' lost) (sym (refused-out k place key own gs asked fit.two fit.awaited (on-listed fs gs fit.listed)))
-    (subst (λ es. AreFit es (kept_by bs gs) own' lost) (sym (without-kept (is_asked_at k key) fs ∙ ap (λ cs. kept_by cs fs) (asked-out k place key (own k) fs gs fit.listed (waiting gs fit.awaited) fit.two refl asked there)))
+    (subst (λ es. AreFit es (kept_by bs gs) own' lost) (sym (without-kept (is_asked_at k key) fs ∙ ap (λ cs. kept_by cs fs) (asked-out k place key (own k) fs gs fit.listed (waits-for k own gs fit.awaited) fit.two refl asked (asked-there k key fs gs own lost fit here asked))))
     (kept-fit bs fs gs own own' lost fit
     (drops-map (λ g. (asks_at k place g ≡ true) × IsAwaited (own g.client) g) (λ g. g.cancel ≡ None) (λ g h. idle-cancel k place g (own g.client) h.0 h.1) bs gs out)
     (awaited-all k own own' (kept_by bs gs) next (all-by (λ g. IsAwaited (own g.client) g) bs gs fit.awaited) (kept-idle k place key own gs asked fit.two fit.awaited))
-    (λ j lives at a late got. has-kept at a.what j bs gs (drops-map (λ g. (asks_at k place g ≡ true) × IsAwaited (own g.client) g) (WaitsNot j at) (λ g h. waits-not k j place at (own g.client) g (λ same. sooner j same at late) h.0 h.1) bs gs out)
+    (λ j lives at a late got. has-kept at a.what j bs gs (drops-map (λ g. (asks_at k place g ≡ true) × IsAwaited (own g.client) g) (WaitsNot j at) (λ g h. waits-not k j place at (own g.client) g (λ same. replied-sooner k j own own' next same at late) h.0 h.1) bs gs out)
     (each-next k j own own' (filter (λ g. g.client == j) gs) next (fit.each j lives) at a late got))))
   where
     place : ℕ
@@ -175,16 +175,3 @@ refused-fit k key fs gs own own' lost fit next here asked =
 
     out : Drops (λ g. (asks_at k (own k).replied g ≡ true) × IsAwaited (own g.client) g) (first_out (asks_at k (own k).replied) gs) gs
     out = out-is k (own k).replied own gs fit.awaited
-
-    waiting : (hs : List Forwarding) → AllByRecursion (λ g. IsAwaited (own g.client) g) hs → AllByRecursion (Waiting k (own k)) hs
-    waiting [] all = tt
-    waiting (h ∷ hs) all = ((λ mine. own-of k own h mine all.0), waiting hs all.1)
-
-    there : is_some (find (asks_at k (own k).replied) gs) ≡ true
-    there = find-passes (asks_at k (own k).replied) gs ∙ (sym (find-any (λ (g : Forwarding). g.client == k) (stands.is_asked_at (own k).replied) gs) ∙ fit.each k here (own k).replied (record { client = k; what = full.Forward key }) (omega arith) asked)
-
-    sooner : (j : ℕ) → (k == j) ≡ true → (at : ℕ) → (own' j).replied ≤ at → (own k).replied < at
-    sooner j same at late =
-        let e : (own' j).replied ≡ (own j).replied + 1 = ap (λ (x : Places). x.replied) (next.mine j same) in
-        let c : (own k).replied ≡ (own j).replied = ap (λ i. (own i).replied) (same-number k j same) in
-        omega arith
