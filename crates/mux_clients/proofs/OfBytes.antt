@@ -1,52 +1,12 @@
 -- What is said by bytes is of bytes.
-use Rattle.std.proofs.Common.{ℕ, zero, suc, ◌-◌, true, false, List, [], ◌∷◌, ◌++◌, length, take, drop}
-use Rattle.std.specs.Prelude.{nat_le, nat_lt, nat_eq}
-use Rattle.ssh_fields.specs.Fields.{AreBytes, of_four}
-use Rattle.ssh_fields.proofs.Fields.{AreBytes-take, AreBytes-drop}
-use Rattle.ssh_grammar.specs.declared.framing.Framing.{Framing}
-use Rattle.ssh_grammar.specs.declared.framing.Framing.TheVariants as framing
-use Rattle.ssh_grammar.specs.declared.fault.BadFrame.TheVariants as bad_frame
-use Rattle.ssh_grammar.specs.declared.numbers.TheConstants.{LONGEST_FRAME}
-use Rattle.ssh_grammar.specs.Frames.{Faulty, Frame, Front, More, cut_content, cut_length, cut_padding, cut_rest, first_frame, shortest}
+use Rattle.std.proofs.Common.{ℕ, zero, suc, List, [], ◌∷◌, ◌++◌}
+use Rattle.ssh_fields.specs.Fields.{AreBytes}
+use Rattle.ssh_grammar.specs.Frames.{Faulty, Frame, Front, More}
 use Rattle.ssh_grammar.specs.Said.{InControl, InProxy, Mode, Saying, Stopped, first_in, mode_after, parse_by, parse_front, saying_in}
 use Rattle.mux_clients.specs.Pieces.{AreOfBytes}
 use Rattle.mux_clients.specs.Says.{IsOfBytes}
 use Rattle.mux_history.specs.Journal.{said_item}
-
-abbrev FrontBytes : Front → Type 0
-FrontBytes (Frame content rest) = AreBytes content × AreBytes rest
-FrontBytes More = Unit {0}
-FrontBytes (Faulty fault) = Unit {0}
-
-content-bytes : (n : ℕ) (rest : List ℕ) → AreBytes rest → FrontBytes (cut_content n rest)
-content-bytes n rest a = elim (nat_le n (length rest)) as (λ b. FrontBytes (elim b as (λ _. Front) [ true ↦ Frame (take n rest) (drop n rest) | false ↦ More ])) [ true ↦ (AreBytes-take n rest a, AreBytes-drop n rest a) | false ↦ tt ]
-
-padding-bytes : (n : ℕ) (rest : List ℕ) → AreBytes rest → FrontBytes (cut_padding n rest)
-padding-bytes n [] a = tt
-padding-bytes n (b ∷ rest) a = elim (nat_eq b 0) as (λ t. FrontBytes (elim t as (λ _. Front) [ true ↦ cut_content (n - 1) rest | false ↦ Faulty (bad_frame.Padding b) ])) [ true ↦ content-bytes (n - 1) rest a.1 | false ↦ tt ]
-
-rest-bytes : (framing : Framing) (n : ℕ) (rest : List ℕ) → AreBytes rest → FrontBytes (cut_rest framing n rest)
-rest-bytes framing.Control n rest a = content-bytes n rest a
-rest-bytes framing.Proxy n rest a = padding-bytes n rest a
-
-length-bytes : (framing : Framing) (n : ℕ) (rest : List ℕ) → AreBytes rest → FrontBytes (cut_length framing n rest)
-length-bytes framing n rest a =
-    elim (nat_lt n (shortest framing)) as (λ s. FrontBytes (elim s as (λ _. Front) [ true ↦ Faulty (bad_frame.Short n) | false ↦ elim (nat_lt LONGEST_FRAME n) as (λ _. Front) [ true ↦ Faulty (bad_frame.Long n) | false ↦ cut_rest framing n rest ] ])) [
-      | true ↦ tt
-      | false ↦ elim (nat_lt LONGEST_FRAME n) as (λ t. FrontBytes (elim t as (λ _. Front) [ true ↦ Faulty (bad_frame.Long n) | false ↦ cut_rest framing n rest ])) [ true ↦ tt | false ↦ rest-bytes framing n rest a ]
-    ]
-
-first-bytes : (framing : Framing) (bytes : List ℕ) → AreBytes bytes → FrontBytes (first_frame framing bytes)
-first-bytes framing [] a = tt
-first-bytes framing (w ∷ []) a = tt
-first-bytes framing (w ∷ x ∷ []) a = tt
-first-bytes framing (w ∷ x ∷ y ∷ []) a = tt
-first-bytes framing (w ∷ x ∷ y ∷ z ∷ rest) a = length-bytes framing (of_four w x y z) rest a.1.1.1.1
-
-in-bytes : (mode : Mode) (bytes : List ℕ) → AreBytes bytes → FrontBytes (first_in mode bytes)
-in-bytes InControl bytes a = first-bytes framing.Control bytes a
-in-bytes InProxy bytes a = first-bytes framing.Proxy bytes a
-in-bytes Stopped bytes a = tt
+use Rattle.mux_history.proofs.Marks.{FrontBytes, in-bytes}
 
 saying-bytes : (k : ℕ) (mode : Mode) (content : List ℕ) → AreBytes content → IsOfBytes (said_item k (saying_in mode content))
 saying-bytes k InControl content a = tt
