@@ -25,7 +25,7 @@ use super::{Core, Heard, Verdict};
 use client_teardown::FAREWELL_ROOM;
 use forward_rules::Policy;
 use proxy_frames::Queue;
-use ssh_fields::{OutOfMemory, Text, Texts};
+use ssh_fields::Texts;
 use std::alloc::Global;
 use std::test::Fail;
 
@@ -38,38 +38,14 @@ struct Bench {
 
 /// Plays a script to a core that permits everything.
 fn plays(alloc: Global, script: &str) -> Result<(), Fail> {
-    plays_under(alloc, "", "", script)
+    fresh(alloc)?.follow(script)
 }
 
-/// Plays it to one with these lists of what may be opened and listened on.
-fn plays_under(alloc: Global, opens: &str, listens: &str, script: &str) -> Result<(), Fail> {
-    fresh(alloc, opens, listens)?.follow(script)
-}
-
-/// Plays each step of a script to a core of its own, behind the same beginning.
-fn plays_each(alloc: Global, beginning: &str, script: &str) -> Result<(), Fail> {
-    for step in script.split(';') {
-        let steps = format!(in alloc; "{beginning};{step}")?;
-        plays(alloc, steps.as_str())?;
-    }
-    Ok(())
-}
-
-fn fresh(alloc: Global, opens: &str, listens: &str) -> Result<Bench, Fail> {
-    let policy = Policy::read(alloc, &texts(alloc, opens)?, &texts(alloc, listens)?)?;
+fn fresh(alloc: Global) -> Result<Bench, Fail> {
+    let policy = Policy::read(alloc, &Texts::new(alloc), &Texts::new(alloc))?;
     let core = Core::new(alloc, policy)?;
     Ok(Bench { alloc, core })
 }
-
-fn texts(alloc: Global, entries: &str) -> Result<Texts, OutOfMemory> {
-    let mut texts = Texts::new(alloc);
-    for entry in entries.split_whitespace() {
-        texts.push(Text::copy(alloc, entry.as_bytes())?)?;
-    }
-    Ok(texts)
-}
-
-// ---- text
 
 fn put_hex(text: &mut String, bytes: &[u8]) -> Result<(), Fail> {
     for byte in bytes {
