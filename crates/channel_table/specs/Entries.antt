@@ -105,11 +105,20 @@ freed n es = filter (λ e. not (e.number == n)) es
 -- a channel that its client has opened, and one that the server has opened
 abbrev pub own_entry : (number client own : ℕ) → Ledger → Entry
 own_entry n k own ledger =
-    record { number = n; channel = record { client = k; own = Some own; remote = None; by = Up }; ledger = ledger }
+    record {
+      number = n;
+      channel = record { client = k; own = Some own; remote = None; by = Up };
+      ledger = ledger;
+    }
 
 abbrev pub remote_entry : (number client remote : ℕ) → Ledger → Entry
 remote_entry n k remote ledger =
-    record { number = n; channel = record { client = k; own = None; remote = Some remote; by = Down }; ledger = ledger }
+    record {
+      number = n;
+      channel =
+          record { client = k; own = None; remote = Some remote; by = Down };
+      ledger = ledger;
+    }
 
 -- ---- refusals, the first that fits
 
@@ -125,11 +134,13 @@ unless_held (Some holder) later = Some (refused.RemoteInUse holder)
 
 -- the client has all the channels that it may have
 abbrev pub full_refusal : List Entry → (client : ℕ) → Option Refused
-full_refusal es k = unless (not (nat_lt (count_of es k) MAX_CHANNELS)) (refused.Full (count_of es k)) None
+full_refusal es k = unless (not (nat_lt (count_of es k) MAX_CHANNELS))
+    (refused.Full (count_of es k)) None
 
 -- of a channel that a client opens under an own number
 abbrev pub own_refusal : List Entry → (client own : ℕ) → Option Refused
-own_refusal es k own = unless (is_some (number_of_own es k own)) refused.OwnInUse (full_refusal es k)
+own_refusal es k own =
+    unless (is_some (number_of_own es k own)) refused.OwnInUse (full_refusal es k)
 
 -- of a channel that the server opens to a client
 abbrev pub remote_refusal : List Entry → (client remote : ℕ) → Option Refused
@@ -168,7 +179,8 @@ pub record IsFree (es : List Entry) (n : ℕ) : Type 0 where
 pub record AreTwo (e f : Entry) : Type 0 where
   pub number : (e.number == f.number) ≡ false
   pub remote : (s : ℕ) → is_number e.channel.remote s ≡ true → is_number f.channel.remote s ≡ false
-  pub own : (c : ℕ) → (e.channel.client == f.channel.client) ≡ true → is_number e.channel.own c ≡ true → is_number f.channel.own c ≡ false
+  pub own : (c : ℕ) → (e.channel.client == f.channel.client) ≡ true
+      → is_number e.channel.own c ≡ true → is_number f.channel.own c ≡ false
 
 -- no number names two channels
 abbrev pub AreApart : List Entry → Type 0

@@ -66,7 +66,8 @@ AreDistinct [] = Unit {0}
 AreDistinct (e ∷ es) = (entry_at es e.number ≡ None) × AreDistinct es
 
 -- the indices agree with one list of channels, in which no client has too many and each number is small
-pub record Agrees {S T U : Type 0} (own : IndexMap (ℕ × ℕ) ℕ S) (remote : IndexMap ℕ ℕ T) (clients : IndexMap ℕ (List ℕ) U) (es : List Entry) : Type 0 where
+pub record Agrees {S T U : Type 0} (own : IndexMap (ℕ × ℕ) ℕ S) (remote : IndexMap ℕ ℕ T)
+    (clients : IndexMap ℕ (List ℕ) U) (es : List Entry) : Type 0 where
   pub distinct : AreDistinct es
   pub owns : IsOwnIndex own es
   pub remotes : IsRemoteIndex remote es

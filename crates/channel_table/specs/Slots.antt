@@ -20,7 +20,11 @@ pub record Ranked : Type 0 where
 
 -- the channel that a slot holds, under the slot's number
 abbrev pub ranked : ℕ → Opened → Ranked
-ranked n h = record { rank = h.rank; entry = record { number = n; channel = h.channel; ledger = h.ledger } }
+ranked n h = record {
+  rank = h.rank;
+  entry =
+      record { number = n; channel = h.channel; ledger = h.ledger };
+}
 
 -- before the first that was opened later
 abbrev pub placed : Ranked → List Ranked → List Ranked
@@ -46,7 +50,8 @@ free_count (Held h ∷ slots) = free_count slots
 abbrev pub IsLinked : ℕ → List Slot → Option ℕ → Type 0
 IsLinked zero slots front = front ≡ None
 IsLinked (suc count) slots front =
-    (n : ℕ) × ((next : Option ℕ) × ((front ≡ Some n) × (slice_get slots n ≡ Some (Free next)) × IsLinked count slots next))
+    (n : ℕ) × ((next : Option ℕ) × ((front ≡ Some n) × (slice_get slots n ≡ Some (Free next))
+    × IsLinked count slots next))
 
 -- fewer channels than these were opened before any of the slots' channels
 abbrev pub AreOpenedBefore : ℕ → List Slot → Type 0

@@ -28,7 +28,8 @@ pub fn add_number(clients: &mut IndexMap<u64, Numbers>, client: u64, number: u32
     requires there { IsSome (get nat_eq clients.old client) }
     requires room { length (listed (get nat_eq clients.old client)) < MAX_CHANNELS }
     ensures { (k : ℕ) → listed (get nat_eq clients.new k) ≡ (if nat_eq client k
-        then listed (get nat_eq clients.old k) ++ number ∷ [] else listed (get nat_eq clients.old k)) }
+        then listed (get nat_eq clients.old k) ++ number ∷ []
+        else listed (get nat_eq clients.old k)) }
 {
     if let Some(numbers) = clients.get_mut(&client) {
         numbers.push(number);
@@ -78,7 +79,8 @@ pub fn insert_own(
 ) -> Result<(), Refused>
     ensures ok { OnOk result ((k c : ℕ) → get pair_eq index.new (k, c)
         ≡ (if pair_eq (client, own) (k, c) then Some number else get pair_eq index.old (k, c))) }
-    ensures unchanged { OnErr result ((k c : ℕ) → get pair_eq index.new (k, c) ≡ get pair_eq index.old (k, c)) }
+    ensures unchanged { OnErr result ((k c : ℕ) → get pair_eq index.new (k, c)
+        ≡ get pair_eq index.old (k, c)) }
     ensures err { IfErr result (λ refused. refused ≡ Refused.OutOfMemory) }
 {
     index.insert((client, own), number)?;
@@ -103,7 +105,8 @@ pub fn insert_remote(
 /// Forgets a client's own number, if there is one.
 pub fn remove_own(index: &mut IndexMap<(u64, u32), u32>, client: u64, own: Option<u32>)
     ensures { (k c : ℕ) → get pair_eq index.new (k, c)
-        ≡ (if is_key pair_eq (paired client own) (k, c) then None else get pair_eq index.old (k, c)) }
+        ≡ (if is_key pair_eq (paired client own) (k, c) then None
+        else get pair_eq index.old (k, c)) }
 {
     if let Some(own) = own {
         index.swap_remove(&(client, own));

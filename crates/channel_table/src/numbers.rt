@@ -19,7 +19,8 @@ impl Model for Numbers {
 
     ghost view = { λ a. a.numbers.items };
 
-    ghost invariant = { λ a. (MAX_CHANNELS ≤ vec_capacity a.numbers) × (length a.numbers.items ≤ MAX_CHANNELS) };
+    ghost invariant = { λ a. (MAX_CHANNELS ≤ vec_capacity a.numbers)
+        × (length a.numbers.items ≤ MAX_CHANNELS) };
 }
 
 impl Numbers {

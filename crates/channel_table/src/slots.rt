@@ -39,7 +39,11 @@ impl Model for Slots {
 
     ghost Value = { SlotsState };
 
-    ghost view = { λ a. record { entries = entries_of a.slots.items; front = a.front; opened = a.opened } };
+    ghost view = { λ a. record {
+      entries = entries_of a.slots.items;
+      front = a.front;
+      opened = a.opened;
+    } };
 
     ghost invariant = { λ a. AreSlots a.slots.items a.front a.opened };
 }

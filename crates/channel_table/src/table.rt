@@ -60,7 +60,8 @@ impl Table {
     pub fn admit_own(&mut self, client: u64, own: u32, ledger: Ledger) -> Result<u32, Refused>
         ensures exact { RefusesAs result (own_refusal self.old client own) }
         ensures fresh { IfOk result (λ number. IsFree self.old number) }
-        ensures ok { IfOk result (λ number. self.new ≡ self.old ++ own_entry number client own ledger ∷ []) }
+        ensures ok { IfOk result (λ number.
+            self.new ≡ self.old ++ own_entry number client own ledger ∷ []) }
         ensures unchanged { OnErr result (self.new ≡ self.old) }
     {
         if self.by_own(client, own).is_some() {
@@ -84,7 +85,8 @@ impl Table {
     pub fn admit_remote(&mut self, client: u64, remote: u32, ledger: Ledger) -> Result<u32, Refused>
         ensures exact { RefusesAs result (remote_refusal self.old client remote) }
         ensures fresh { IfOk result (λ number. IsFree self.old number) }
-        ensures ok { IfOk result (λ number. self.new ≡ self.old ++ remote_entry number client remote ledger ∷ []) }
+        ensures ok { IfOk result (λ number.
+            self.new ≡ self.old ++ remote_entry number client remote ledger ∷ []) }
         ensures unchanged { OnErr result (self.new ≡ self.old) }
     {
         if let Some(holder) = self.holder(remote) {

@@ -31,9 +31,11 @@ forwardings_of k gs = filter (λ g. g.client == k) gs
 -- says for each of its channels, and then for each of its forwardings
 abbrev pub FarewellsAreTheHistorys : Type 0
 FarewellsAreTheHistorys =
-    (k : ℕ) (es : List Entry) (xs : List Channel) (fs : List Forward) (gs : List Forwarding) → ChannelsFit es xs → AreListed fs gs
+    (k : ℕ) (es : List Entry) (xs : List Channel) (fs : List Forward) (gs : List Forwarding)
+    → ChannelsFit es xs → AreListed fs gs
     → channel_farewells k es ++ forward_farewells k fs
-    ≡ flat_map history.leave_channel (channels_of k xs) ++ flat_map history.leave_forwarding (forwardings_of k gs)
+    ≡ flat_map history.leave_channel (channels_of k xs)
+    ++ flat_map history.leave_forwarding (forwardings_of k gs)
 
 -- what a farewell makes of a channel: CLOSE is said in one that is confirmed, and a server's open that waits has failed
 abbrev pub left : Channel → Channel
@@ -52,12 +54,17 @@ left_channels k xs = filter is_held (map (left_by k) xs)
 
 -- the table stands for them afterwards
 abbrev pub TableIsLeft : Type 0
-TableIsLeft = (k : ℕ) (es : List Entry) (xs : List Channel) → ChannelsFit es xs → ChannelsFit (left_entries k es) (left_channels k xs)
+TableIsLeft = (k : ℕ) (es : List Entry) (xs : List Channel) → ChannelsFit es xs
+    → ChannelsFit (left_entries k es) (left_channels k xs)
 
 -- ---- later
 
 -- a late message is answered by the payload that the history says
 pub record LateIsTheHistorys : Type 0 where
-  pub confirmed : (number remote window maximum : ℕ) (own : List Row) → late_payload (late.Confirmed number remote) ∷ [] ≡ history.late (Confirmation number remote window maximum) own
-  pub forwarded : (key : Key) (asked : grammar.Key) (rest : List ℕ) → key_of key ≡ bound asked rest → late_payload (late.Forwarded key) ∷ [] ≡ history.late_success rest (grammar.Forward asked)
-  pub cancel_failed : (key : Key) (asked : grammar.Key) → key_of key ≡ asked → late_payload (late.CancelFailed key) ∷ [] ≡ history.late_refusal (grammar.Cancel asked)
+  pub confirmed : (number remote window maximum : ℕ) (own : List Row)
+      → late_payload (late.Confirmed number remote) ∷ []
+      ≡ history.late (Confirmation number remote window maximum) own
+  pub forwarded : (key : Key) (asked : grammar.Key) (rest : List ℕ) → key_of key ≡ bound asked rest
+      → late_payload (late.Forwarded key) ∷ [] ≡ history.late_success rest (grammar.Forward asked)
+  pub cancel_failed : (key : Key) (asked : grammar.Key) → key_of key ≡ asked
+      → late_payload (late.CancelFailed key) ∷ [] ≡ history.late_refusal (grammar.Cancel asked)

@@ -33,7 +33,8 @@ Sends payloads up up' = up'.waiting ≡ up.waiting ++ joined (map frame_payload 
 abbrev pub farewell_for : Channel → Ledger → List (List ℕ)
 farewell_for c ledger = elim (confirmed ledger) [
   | true ↦ elim (account.said_close ledger) [ true ↦ [] | false ↦ to_number c.remote close ]
-  | false ↦ elim (is_up c.by) [ true ↦ [] | false ↦ to_number c.remote (λ s. open_failure s CONNECT_FAILED client_is_gone) ]
+  | false ↦ elim (is_up c.by)
+      [ true ↦ [] | false ↦ to_number c.remote (λ s. open_failure s CONNECT_FAILED client_is_gone) ]
 ]
 
 abbrev pub farewell_of : Entry → List (List ℕ)
@@ -63,7 +64,8 @@ left_entry k e = elim (e.channel.client == k) [ true ↦ closing e | false ↦ e
 
 -- it is still held: the server has not closed it yet, or has not answered the client's open
 abbrev pub is_open_in : Channel → Ledger → Bool
-is_open_in c ledger = elim (confirmed ledger) [ true ↦ not (account.is_over ledger) | false ↦ is_up c.by ]
+is_open_in c ledger =
+    elim (confirmed ledger) [ true ↦ not (account.is_over ledger) | false ↦ is_up c.by ]
 
 abbrev pub is_open : Entry → Bool
 is_open e = is_open_in e.channel e.ledger

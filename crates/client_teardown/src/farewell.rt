@@ -124,7 +124,8 @@ fn leave_forwards(forwards: &mut Forwards, client: u64, up: &mut Queue)
 /// is over then is freed, and all forwardings of the client are out.
 pub fn tear_down(table: &mut Table, forwards: &mut Forwards, client: u64, up: &mut Queue)
     requires { FAREWELL_ROOM ≤ up.old.spare }
-    ensures sent { Sends (channel_farewells client table.old ++ forward_farewells client forwards.old) up.old up.new }
+    ensures sent { Sends (channel_farewells client table.old
+        ++ forward_farewells client forwards.old) up.old up.new }
     ensures channels { table.new ≡ left_entries client table.old }
     ensures forwardings { forwards.new ≡ without_client client forwards.old }
     ensures spare { up.old.spare ≤ up.new.spare + FAREWELL_ROOM }

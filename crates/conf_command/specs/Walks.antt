@@ -11,7 +11,8 @@ use Rattle.conf_command.specs.declared.walk.Walk.{Walk as TheWalk}
 abbrev pub fault_of : Option Mode → Bool → Act → Option Usage
 fault_of mode going (Fails cause) = Some cause
 fault_of mode going (Chooses m) = if other_mode mode m then Some TwoModes else None
-fault_of mode going (Goes to) = if going then Some TwoDestinations else (if is_none (destination to) then Some BadDestination else None)
+fault_of mode going (Goes to) = if going then Some TwoDestinations
+    else (if is_none (destination to) then Some BadDestination else None)
 fault_of mode going act = None
 
 -- the mode that a step names

@@ -31,7 +31,8 @@ pub fn has_slash(text: &[u8]) -> bool
 
 /// What stands before the last such byte, and what stands behind it.
 pub fn split_at_last(byte: u8, text: &[u8]) -> Option<(&[u8], &[u8])>
-    ensures { MatchOption result (split_at_last byte text.now ≡ None) (λ p. split_at_last byte text.now ≡ Some (p.0.now, p.1.now)) }
+    ensures { MatchOption result (split_at_last byte text.now ≡ None) (λ p.
+        split_at_last byte text.now ≡ Some (p.0.now, p.1.now)) }
 {
     let mut i = text.len();
     while i > 0 {
@@ -46,7 +47,8 @@ pub fn split_at_last(byte: u8, text: &[u8]) -> Option<(&[u8], &[u8])>
 /// A number with one more digit, if it fits.
 fn with_digit(number: u64, digit: u8) -> Option<u64>
     requires { (48 ≤ digit) × (digit ≤ 57) }
-    ensures { MatchOption result (2 ^ 64 ≤ number * 10 + (digit - 48)) (λ n. n ≡ number * 10 + (digit - 48)) }
+    ensures { MatchOption result (2 ^ 64 ≤ number * 10 + (digit - 48)) (λ n.
+        n ≡ number * 10 + (digit - 48)) }
 {
     number.checked_mul(10)?.checked_add(u64::from(digit - b'0'))
 }

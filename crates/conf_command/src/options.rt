@@ -132,7 +132,8 @@ fn with_value(
     rest: &[u8],
     steps: &mut Steps,
 ) -> Result<Next, OutOfMemory>
-    ensures steps { OnOk result (steps.new ≡ steps.old ++ (with_value (takes_of takes) at rest.now).steps) }
+    ensures steps { OnOk result (steps.new ≡ steps.old
+        ++ (with_value (takes_of takes) at rest.now).steps) }
     ensures next { IfOk result (λ n. next_of n ≡ (with_value (takes_of takes) at rest.now).next) }
 {
     if rest.is_empty() {
@@ -236,7 +237,8 @@ fn word_steps(
     word: &[u8],
     steps: &mut Steps,
 ) -> Result<Next, OutOfMemory>
-    ensures steps { OnOk result (steps.new ≡ steps.old ++ (word_steps at (next_of next) word.now).steps) }
+    ensures steps { OnOk result (steps.new ≡ steps.old
+        ++ (word_steps at (next_of next) word.now).steps) }
     ensures next { IfOk result (λ n. next_of n ≡ (word_steps at (next_of next) word.now).next) }
 {
     match next {

@@ -43,7 +43,8 @@ fn refused(word: u64, cause: Usage) -> WordsError
 
 /// The master over a transport, which must be named; bad permissions are refused last, the earlier word first.
 fn master_of(alloc: Global, end: u64, host: &[u8], steps: &[Step]) -> Result<Command, WordsError>
-    ensures { (n : ℕ) → end ≡ n + 1 → Gives result (master_of n host.now steps.now (transport_in None steps.now)) }
+    ensures { (n : ℕ) → end ≡ n + 1
+        → Gives result (master_of n host.now steps.now (transport_in None steps.now)) }
 {
     let Some(transport) = transport_in(alloc, steps)? else {
         return Err(refused(end, Usage::NoTransport));
@@ -69,7 +70,8 @@ fn mode_command(
     host: &[u8],
     steps: &[Step],
 ) -> Result<Command, WordsError>
-    ensures { (n : ℕ) → end ≡ n + 1 → Gives result (mode_command n steps.now host.now (mode_of mode)) }
+    ensures { (n : ℕ) → end ≡ n + 1
+        → Gives result (mode_command n steps.now host.now (mode_of mode)) }
 {
     match mode {
         Mode::Listing => Ok(Command::List(asked_of(alloc, host, steps)?)),
@@ -124,7 +126,8 @@ fn drilled(words: &[Text]) -> Result<Command, WordsError>
 
 /// The command of words that begin with no drill.
 fn read_steps(alloc: Global, words: &[Text]) -> Result<Command, WordsError>
-    ensures { Gives result (walked (length words.now) (walk_from None false (steps_from 1 Free words.now))) }
+    ensures { Gives result
+        (walked (length words.now) (walk_from None false (steps_from 1 Free words.now))) }
 {
     let steps = steps_of(alloc, words)?;
     walked(alloc, words.len() as u64 + 1, steps.as_slice())

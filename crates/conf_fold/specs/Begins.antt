@@ -27,7 +27,8 @@ pub record IsEmpty (original : Bytes) (fold : Fold) : Type 0 where
 
 -- what a fold of the command line's lines is: it stands for their rows, or the first refused one is told
 abbrev pub IsBegun : Told → Result Fold ResolveError → Type 0
-IsBegun told (Ok fold) = Stands told First fold (asked_rows told) [] × (refusal_in (asked_rows told) ≡ None)
+IsBegun told (Ok fold) = Stands told First fold (asked_rows told) []
+    × (refusal_in (asked_rows told) ≡ None)
 IsBegun told (Err OutOfMemory) = Unit {0}
 IsBegun told (Err e) = refusal_in (asked_rows told) ≡ Some e
 
@@ -37,7 +38,8 @@ asked_row told rows line = next_row told First rows (length rows) line
 
 -- what a fold did with a line of the command line
 abbrev pub TakesAsked : Told → List Row → Line → Result (Unit {0}) ResolveError → Fold → Type 0
-TakesAsked told rows line (Ok x) new = (is_refused (asked_row told rows line).entry ≡ false) × Stands told First new (rows ++ asked_row told rows line ∷ []) []
+TakesAsked told rows line (Ok x) new = (is_refused (asked_row told rows line).entry ≡ false)
+    × Stands told First new (rows ++ asked_row told rows line ∷ []) []
 TakesAsked told rows line (Err OutOfMemory) new = Unit {0}
 TakesAsked told rows line (Err e) new = refusal_at line (asked_row told rows line).entry ≡ Some e
 
@@ -49,9 +51,12 @@ pub record Behind (told : Told) (rows : List Row) : Type 0 where
 
 -- the rows of the command line's lines in a second pass, behind those of the first
 abbrev pub asked_again : Told → List Row → List Row
-asked_again told rows = rows_from told entry_of rows (first_place (Second rows)) (map asked_line told.asked.lines)
+asked_again told rows =
+    rows_from told entry_of rows (first_place (Second rows)) (map asked_line told.asked.lines)
 
 -- whether a second pass begins: where a line of the first asked for it, behind the lines of the command line
 abbrev pub SecondBegins : Told → List Row → Fold → Bool → Type 0
 SecondBegins told rows new false = list_any wants_second rows ≡ false
-SecondBegins told rows new true = (list_any wants_second rows ≡ true) × (Stands told (Second rows) new (asked_again told rows) [] × (refusal_in (asked_again told rows) ≡ None))
+SecondBegins told rows new true = (list_any wants_second rows ≡ true)
+    × (Stands told (Second rows) new (asked_again told rows) []
+    × (refusal_in (asked_again told rows) ≡ None))

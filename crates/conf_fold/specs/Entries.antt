@@ -19,8 +19,10 @@ entry_fits entry = true
 
 -- what words give to a key
 abbrev pub value_entry : Key → Bytes → List Bytes → ReadEntry
-value_entry key rest words = as_error causes.Value (value_for key rest words) >>= λ v. Ok (Gives key v)
+value_entry key rest words = as_error causes.Value (value_for key rest words) >>= λ v.
+    Ok (Gives key v)
 
 -- what the bytes of a line say
 abbrev pub spelled_entry : Option Bytes → Source → Bytes → ReadEntry
-spelled_entry ignored source bytes = as_error causes.Lex (head_of bytes) >>= headed_entry ignored source
+spelled_entry ignored source bytes =
+    as_error causes.Lex (head_of bytes) >>= headed_entry ignored source

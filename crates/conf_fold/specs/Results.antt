@@ -79,7 +79,8 @@ Refuses (line_errors.Refused cause) file line (At f l c) = At f l c ≡ At file 
 
 -- all of these commands were run, or, where a call broke off, the first of them
 abbrev pub RanUnless : Bool → Option (List Bytes) → Option (List Bytes) → List Bytes → Type 0
-RanUnless broken old new commands = MatchBool broken (RanSome old new commands) (RanAll old new commands)
+RanUnless broken old new commands =
+    MatchBool broken (RanSome old new commands) (RanAll old new commands)
 
 -- whether a line breaks off before what it says is done: memory or the runner failed
 abbrev pub breaks_line : {A : Type 0} → Result A LineError → Bool
@@ -94,13 +95,16 @@ breaks_off (Err OutOfMemory) = true
 breaks_off (Err (At file line cause)) = is_fault cause
 
 -- where the runner failed on a line, it failed at one of these commands
-abbrev pub FailsInLine : {A : Type 0} → Result A LineError → Option (List Bytes) → Option (List Bytes) → List Bytes → Type 0
+abbrev pub FailsInLine : {A : Type 0} → Result A LineError → Option (List Bytes)
+    → Option (List Bytes) → List Bytes → Type 0
 FailsInLine (Err (line_errors.Refused causes.RunFault)) old new commands = FailsOne old new commands
 FailsInLine result old new commands = Unit {0}
 
 -- the same of a refusal with its place, which is this one
-abbrev pub FailsAt : {A : Type 0} → Bytes → ℕ → Result A ResolveError → Option (List Bytes) → Option (List Bytes) → List Bytes → Type 0
-FailsAt file number (Err (At f n causes.RunFault)) old new commands = (f ≡ file) × ((n ≡ number) × FailsOne old new commands)
+abbrev pub FailsAt : {A : Type 0} → Bytes → ℕ → Result A ResolveError → Option (List Bytes)
+    → Option (List Bytes) → List Bytes → Type 0
+FailsAt file number (Err (At f n causes.RunFault)) old new commands = (f ≡ file)
+    × ((n ≡ number) × FailsOne old new commands)
 FailsAt file number result old new commands = Unit {0}
 
 -- ---- faults

@@ -64,14 +64,16 @@ pub record InFirst (fold : Fold) (rows : List Row) : Type 0 where
 pub record InSecond (told : Told) (fold : Fold) (rows before : List Row) : Type 0 where
   pub name : fold.name ≡ Some (host_at told.asked.original before)
   pub active : fold.were_active ≡ flat_map collected before
-  pub seen : (line : ℕ) → length rows ≡ length before + line → fold.seen ≡ length (flat_map collected (take line before))
+  pub seen : (line : ℕ) → length rows ≡ length before + line
+      → fold.seen ≡ length (flat_map collected (take line before))
 
 abbrev pub InPass : Told → Pass → Fold → List Row → Type 0
 InPass told First fold rows = InFirst fold rows
 InPass told (Second before) fold rows = InSecond told fold rows before
 
 -- a fold stands for these rows of a pass, where these blocks are open
-pub record Stands (told : Told) (pass : Pass) (fold : Fold) (rows : List Row) (blocks : Blocks) : Type 0 where
+pub record Stands (told : Told) (pass : Pass) (fold : Fold) (rows : List Row) (blocks : Blocks) :
+    Type 0 where
   pub original : fold.original ≡ told.asked.original
   pub keeps : Keeps fold.settings (flat_map given rows)
   pub applies : fold.applies ≡ map (open_applies rows pass) blocks
@@ -84,10 +86,12 @@ pub record Stands (told : Told) (pass : Pass) (fold : Fold) (rows : List Row) (b
 -- in the second pass the same lines are given again
 abbrev pub IsAgain : Told → Pass → ℕ → Line → Type 0
 IsAgain told First place line = Unit {0}
-IsAgain told (Second before) place line = slice_get before place ≡ Some (row_of told entry_of (take place before) (record { pass = First; line = place }) line)
+IsAgain told (Second before) place line = slice_get before place
+    ≡ Some (row_of told entry_of (take place before) (record { pass = First; line = place }) line)
 
 -- the line that comes next behind rows
-pub record IsNext (told : Told) (pass : Pass) (rows : List Row) (blocks : Blocks) (given : ConfLine) (place : ℕ) (line : Line) : Type 0 where
+pub record IsNext (told : Told) (pass : Pass) (rows : List Row) (blocks : Blocks) (given : ConfLine)
+    (place : ℕ) (line : Line) : Type 0 where
   pub is_line : IsLine given blocks line
   pub at : length rows ≡ start_of pass + place
   pub within : is_past_limit told line place ≡ false
@@ -95,25 +99,31 @@ pub record IsNext (told : Told) (pass : Pass) (rows : List Row) (blocks : Blocks
 
 -- the row of a line at a place of a pass
 unfoldable pub next_row : Told → Pass → List Row → ℕ → Line → Row
-next_row told pass rows place line = row_of told entry_of rows (record { pass = pass; line = place }) line
+next_row told pass rows place line =
+    row_of told entry_of rows (record { pass = pass; line = place }) line
 
 -- what reading and evaluating a line came to, before its refusal is placed
-abbrev pub FoldsEntry : Told → Pass → List Row → Blocks → ConfLine → ℕ → Line → Result (Unit {0}) LineError → Fold → Type 0
+abbrev pub FoldsEntry : Told → Pass → List Row → Blocks → ConfLine → ℕ → Line
+    → Result (Unit {0}) LineError → Fold → Type 0
 FoldsEntry told pass rows blocks given place line (Ok x) new =
     (is_refused (next_row told pass rows place line).entry ≡ false)
-    × Stands told pass new (rows ++ next_row told pass rows place line ∷ []) (open_behind given place blocks)
+    × Stands told pass new (rows ++ next_row told pass rows place line ∷ [])
+    (open_behind given place blocks)
 FoldsEntry told pass rows blocks given place line (Err line_errors.OutOfMemory) new = Unit {0}
 FoldsEntry told pass rows blocks given place line (Err (line_errors.Refused cause)) new =
     (is_fault cause ≡ false → (next_row told pass rows place line).entry ≡ Err cause)
 
 -- what a fold did with a line: it stands for one more row, or the row is refused
-abbrev pub Folds : Told → Pass → List Row → Blocks → ConfLine → ℕ → Line → Result (Unit {0}) ResolveError → Fold → Type 0
+abbrev pub Folds : Told → Pass → List Row → Blocks → ConfLine → ℕ → Line
+    → Result (Unit {0}) ResolveError → Fold → Type 0
 Folds told pass rows blocks given place line (Ok x) new =
     (is_refused (next_row told pass rows place line).entry ≡ false)
-    × Stands told pass new (rows ++ next_row told pass rows place line ∷ []) (open_behind given place blocks)
+    × Stands told pass new (rows ++ next_row told pass rows place line ∷ [])
+    (open_behind given place blocks)
 Folds told pass rows blocks given place line (Err OutOfMemory) new = Unit {0}
 Folds told pass rows blocks given place line (Err (At file number cause)) new =
-    (is_fault cause ≡ false → refusal_at line (next_row told pass rows place line).entry ≡ Some (At file number cause))
+    (is_fault cause ≡ false → refusal_at line (next_row told pass rows place line).entry
+    ≡ Some (At file number cause))
 
 -- ---- what a fold shows
 
@@ -146,20 +156,25 @@ view_of fold facts = record {
 
 -- what a heading of a file says behind what was given so far
 unfoldable pub entry_so_far : Fold → ConfLine → Result Entry Cause
-entry_so_far fold line = headed_entry (word_in (setting keys.IgnoreUnknown fold)) UserFile (Says line.keyword line.rest)
+entry_so_far fold line = headed_entry (word_in (setting keys.IgnoreUnknown fold)) UserFile
+    (Says line.keyword line.rest)
 
 -- whether a value of an active line counts: one to collect only where the same line was not active in the first pass
 abbrev pub does_count : Key → Bool → Fold → Bool
 does_count key active fold = if is_collected key then (elim fold.name [
   | None ↦ active
-  | Some name ↦ elim (slice_get fold.were_active fold.seen) [ None ↦ active | Some was ↦ active && not was ]
+  | Some name ↦ elim (slice_get fold.were_active fold.seen) [
+    | None ↦ active
+    | Some was ↦ active && not was
+  ]
 ]) else active
 
 -- a fold that has noted whether a line was active
 abbrev pub noted : Key → Bool → Fold → Fold
 noted key active fold = if is_collected key then (elim fold.name [
   | None ↦ record fold { were_active = fold.were_active ++ active ∷ [] }
-  | Some name ↦ elim (slice_get fold.were_active fold.seen) [ None ↦ fold | Some was ↦ record fold { seen = fold.seen + 1 } ]
+  | Some name ↦ elim (slice_get fold.were_active fold.seen)
+      [ None ↦ fold | Some was ↦ record fold { seen = fold.seen + 1 } ]
 ]) else fold
 
 -- what is given, if it counts

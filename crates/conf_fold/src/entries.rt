@@ -178,7 +178,9 @@ fn unknown_entry(
     keyword: &[u8],
     rest: &[u8],
 ) -> Result<Entry, LineError>
-    ensures read { GivesLine result (unknown_entry (takes_keyword (option_copied ignored.entry) keyword.now) keyword.now (split rest.now)) }
+    ensures read { GivesLine result
+        (unknown_entry (takes_keyword (option_copied ignored.entry) keyword.now) keyword.now
+        (split rest.now)) }
     ensures fits { IfOk result (λ entry. entry_fits entry ≡ true) }
     ensures plain { IfErr result (λ e. is_line_fault e ≡ false) }
 {
@@ -196,7 +198,9 @@ fn parts_unknown_entry(
     keyword: &[u8],
     words: &Texts,
 ) -> Result<Entry, LineError>
-    ensures read { GivesLine result (unknown_entry (takes_keyword (option_copied ignored.entry) keyword.now) keyword.now (Ok words.now)) }
+    ensures read { GivesLine result
+        (unknown_entry (takes_keyword (option_copied ignored.entry) keyword.now) keyword.now
+        (Ok words.now)) }
     ensures fits { IfOk result (λ entry. entry_fits entry ≡ true) }
     ensures plain { IfErr result (λ e. is_line_fault e ≡ false) }
 {
@@ -214,7 +218,8 @@ pub fn file_entry(
     keyword: &[u8],
     rest: &[u8],
 ) -> Result<Entry, LineError>
-    ensures read { GivesLine result (headed_entry (option_copied ignored.entry) UserFile (Says keyword.now rest.now)) }
+    ensures read { GivesLine result
+        (headed_entry (option_copied ignored.entry) UserFile (Says keyword.now rest.now)) }
     ensures fits { IfOk result (λ entry. entry_fits entry ≡ true) }
     ensures plain { IfErr result (λ e. is_line_fault e ≡ false) }
 {
@@ -235,7 +240,8 @@ fn asked_heading(
     keyword: &[u8],
     rest: &[u8],
 ) -> Result<Entry, LineError>
-    ensures read { GivesLine result (headed_entry (option_copied ignored.entry) CommandLine (Says keyword.now rest.now)) }
+    ensures read { GivesLine result
+        (headed_entry (option_copied ignored.entry) CommandLine (Says keyword.now rest.now)) }
     ensures fits { IfOk result (λ entry. entry_fits entry ≡ true) }
     ensures plain { IfErr result (λ e. is_line_fault e ≡ false) }
 {
@@ -251,7 +257,8 @@ fn asked_heading(
 
 /// What a line of the command line says that is read as one of a file.
 fn asked_text(alloc: Global, ignored: Option<&[u8]>, line: &[u8]) -> Result<Entry, LineError>
-    ensures read { GivesLine result (spelled_entry (option_copied ignored.entry) CommandLine line.now) }
+    ensures read { GivesLine result
+        (spelled_entry (option_copied ignored.entry) CommandLine line.now) }
     ensures fits { IfOk result (λ entry. entry_fits entry ≡ true) }
     ensures plain { IfErr result (λ e. is_line_fault e ≡ false) }
 {
@@ -269,7 +276,9 @@ fn asked_parts(
     keyword: &[u8],
     words: &Texts,
 ) -> Result<Entry, LineError>
-    ensures read { GivesLine result (keyword_entry (option_copied ignored.entry) CommandLine keyword.now [] (Ok words.now) (meaning_of keyword.now)) }
+    ensures read { GivesLine result
+        (keyword_entry (option_copied ignored.entry) CommandLine keyword.now [] (Ok words.now)
+        (meaning_of keyword.now)) }
     ensures fits { IfOk result (λ entry. entry_fits entry ≡ true) }
     ensures plain { IfErr result (λ e. is_line_fault e ≡ false) }
 {
@@ -289,7 +298,8 @@ pub fn asked_entry(
     ignored: Option<&[u8]>,
     line: &AskedLine,
 ) -> Result<Entry, LineError>
-    ensures read { GivesLine result (content_entry (option_copied ignored.entry) CommandLine (asked_line line.now).content) }
+    ensures read { GivesLine result
+        (content_entry (option_copied ignored.entry) CommandLine (asked_line line.now).content) }
     ensures fits { IfOk result (λ entry. entry_fits entry ≡ true) }
     ensures plain { IfErr result (λ e. is_line_fault e ≡ false) }
 {

@@ -74,9 +74,14 @@ fn evaluate<R: Runner>(
     view: &View<'_>,
     runner: &mut R,
 ) -> Result<bool, LineError>
-    ensures holds { (status : Bytes → ℕ) → TellsStatus (R.told runner.old) status → Evaluated result (verdict status (seen view.now) criteria.now).holds }
-    ensures ran { (status : Bytes → ℕ) → TellsStatus (R.told runner.old) status → RanUnless (breaks_line result) (R.ran runner.old) (R.ran runner.new) (verdict status (seen view.now) criteria.now).ran }
-    ensures failed { (status : Bytes → ℕ) → TellsStatus (R.told runner.old) status → FailsInLine result (R.ran runner.old) (R.ran runner.new) (verdict status (seen view.now) criteria.now).ran }
+    ensures holds { (status : Bytes → ℕ) → TellsStatus (R.told runner.old) status
+        → Evaluated result (verdict status (seen view.now) criteria.now).holds }
+    ensures ran { (status : Bytes → ℕ) → TellsStatus (R.told runner.old) status
+        → RanUnless (breaks_line result) (R.ran runner.old) (R.ran runner.new)
+        (verdict status (seen view.now) criteria.now).ran }
+    ensures failed { (status : Bytes → ℕ) → TellsStatus (R.told runner.old) status
+        → FailsInLine result (R.ran runner.old) (R.ran runner.new)
+        (verdict status (seen view.now) criteria.now).ran }
     ensures cause { HasLineCause result (R.faults runner.old) (R.faults runner.new) }
     ensures told { R.told runner.new ≡ R.told runner.old }
 {
@@ -141,7 +146,8 @@ impl Fold {
 
     /// Takes a line of the command line.
     fn asked_line(&mut self, line: &AskedLine) -> Result<(), ResolveError>
-        ensures takes { (told : Told) (rows : List Row) → Stands told First self.old rows [] → TakesAsked told rows (asked_line line.now) result self.new }
+        ensures takes { (told : Told) (rows : List Row) → Stands told First self.old rows []
+            → TakesAsked told rows (asked_line line.now) result self.new }
         ensures plain { IfErr result (λ e. is_fault_at e ≡ false) }
     {
         let entry = match asked_entry(self.alloc, self.text(Key::IgnoreUnknown), line) {
@@ -157,7 +163,8 @@ impl Fold {
     /// Takes what a line of the command line says, which is active.
     fn take_asked(&mut self, entry: Entry) -> Result<(), OutOfMemory>
         requires fits { entry_fits entry ≡ true }
-        ensures keeps { OnOk result ((given : List Given) → Keeps self.old.settings given → Keeps self.new.settings (given ++ entry_gives false (Ok entry))) }
+        ensures keeps { OnOk result ((given : List Given) → Keeps self.old.settings given
+            → Keeps self.new.settings (given ++ entry_gives false (Ok entry))) }
         ensures others { OnOk result (self.new ≡ record self.old { settings = self.new.settings }) }
     {
         if let Entry::Gives(key, value) = entry {
@@ -169,7 +176,9 @@ impl Fold {
     /// Begins the second pass, where some Match line asked for it: `true`. The lines of the command line, which gave all that
     /// they give in the first pass, aren't given again; those of the files are.
     pub fn second(&mut self) -> Result<bool, OutOfMemory>
-        ensures second { IfOk result (λ again. (told : Told) (rows : List Row) (blocks : Blocks) → Stands told First self.old rows blocks → Behind told rows → SecondBegins told rows self.new again) }
+        ensures second { IfOk result (λ again. (told : Told) (rows : List Row) (blocks : Blocks)
+            → Stands told First self.old rows blocks → Behind told rows
+            → SecondBegins told rows self.new again) }
         ensures same { result ≡ Ok false → self.new ≡ self.old }
     {
         if !self.asks_again {
@@ -242,7 +251,8 @@ impl Fold {
 
     /// Opens a block in the file at a depth.
     fn open(&mut self, depth: usize, applies: bool) -> Result<(), OutOfMemory>
-        ensures ok { OnOk result (self.new ≡ record self.old { applies = take depth self.old.applies ++ applies ∷ [] }) }
+        ensures ok { OnOk result
+            (self.new ≡ record self.old { applies = take depth self.old.applies ++ applies ∷ [] }) }
         ensures settings { self.new.settings ≡ self.old.settings }
     {
         self.applies.truncate(depth);
@@ -252,7 +262,8 @@ impl Fold {
     /// Goes on in the file at a depth, or begins it.
     fn enter(&mut self, depth: usize, opens: bool) -> Result<(), OutOfMemory>
         requires { depth < 2 ^ 32 }
-        ensures ok { OnOk result (self.new ≡ record self.old { applies = entered depth opens self.old.applies }) }
+        ensures ok { OnOk result
+            (self.new ≡ record self.old { applies = entered depth opens self.old.applies }) }
         ensures settings { self.new.settings ≡ self.old.settings }
     {
         if opens {
@@ -272,7 +283,8 @@ impl Fold {
 
     /// Notes whether a line of a key is active, and says whether its value counts.
     fn note(&mut self, key: Key, active: bool) -> Result<bool, OutOfMemory>
-        ensures ok { OnOk result ((result ≡ Ok (does_count key active self.old)) × (self.new ≡ noted key active self.old)) }
+        ensures ok { OnOk result ((result ≡ Ok (does_count key active self.old))
+            × (self.new ≡ noted key active self.old)) }
         ensures settings { self.new.settings ≡ self.old.settings }
     {
         if !is_collected(key) {
@@ -296,8 +308,11 @@ impl Fold {
     /// Takes the value of a line.
     fn give(&mut self, key: Key, value: Value, active: bool) -> Result<(), OutOfMemory>
         requires { fits key value ≡ true }
-        ensures keeps { OnOk result ((given : List Given) → Keeps self.old.settings given → Keeps self.new.settings (given ++ if_counts (does_count key active self.old) key value)) }
-        ensures others { OnOk result (self.new ≡ record (noted key active self.old) { settings = self.new.settings }) }
+        ensures keeps { OnOk result ((given : List Given) → Keeps self.old.settings given
+            → Keeps self.new.settings
+            (given ++ if_counts (does_count key active self.old) key value)) }
+        ensures others { OnOk result
+            (self.new ≡ record (noted key active self.old) { settings = self.new.settings }) }
         ensures settings { OnErr result (self.new.settings ≡ self.old.settings) }
     {
         if self.note(key, active)? {
@@ -313,9 +328,15 @@ impl Fold {
         facts: &Facts,
         runner: &mut R,
     ) -> Result<bool, LineError>
-        ensures holds { (status : Bytes → ℕ) → TellsStatus (R.told runner.old) status → Evaluated result (verdict status (view_of self.now (known facts.now)) criteria.now).holds }
-        ensures ran { (status : Bytes → ℕ) → TellsStatus (R.told runner.old) status → RanUnless (breaks_line result) (R.ran runner.old) (R.ran runner.new) (verdict status (view_of self.now (known facts.now)) criteria.now).ran }
-        ensures failed { (status : Bytes → ℕ) → TellsStatus (R.told runner.old) status → FailsInLine result (R.ran runner.old) (R.ran runner.new) (verdict status (view_of self.now (known facts.now)) criteria.now).ran }
+        ensures holds { (status : Bytes → ℕ) → TellsStatus (R.told runner.old) status
+            → Evaluated result (verdict status (view_of self.now (known facts.now))
+            criteria.now).holds }
+        ensures ran { (status : Bytes → ℕ) → TellsStatus (R.told runner.old) status
+            → RanUnless (breaks_line result) (R.ran runner.old) (R.ran runner.new)
+            (verdict status (view_of self.now (known facts.now)) criteria.now).ran }
+        ensures failed { (status : Bytes → ℕ) → TellsStatus (R.told runner.old) status
+            → FailsInLine result (R.ran runner.old) (R.ran runner.new)
+            (verdict status (view_of self.now (known facts.now)) criteria.now).ran }
         ensures cause { HasLineCause result (R.faults runner.old) (R.faults runner.new) }
         ensures told { R.told runner.new ≡ R.told runner.old }
     {
@@ -357,10 +378,16 @@ impl Fold {
         facts: &Facts,
         runner: &mut R,
     ) -> Result<bool, LineError>
-        ensures held { (status : Bytes → ℕ) → TellsStatus (R.told runner.old) status → active ≡ true → Evaluated result (verdict status (view_of self.now (known facts.now)) criteria.now).holds }
+        ensures held { (status : Bytes → ℕ) → TellsStatus (R.told runner.old) status → active ≡ true
+            → Evaluated result (verdict status (view_of self.now (known facts.now))
+            criteria.now).holds }
         ensures idle { active ≡ false → result ≡ Ok false }
-        ensures ran { (status : Bytes → ℕ) → TellsStatus (R.told runner.old) status → active ≡ true → RanUnless (breaks_line result) (R.ran runner.old) (R.ran runner.new) (verdict status (view_of self.now (known facts.now)) criteria.now).ran }
-        ensures failed { (status : Bytes → ℕ) → TellsStatus (R.told runner.old) status → active ≡ true → FailsInLine result (R.ran runner.old) (R.ran runner.new) (verdict status (view_of self.now (known facts.now)) criteria.now).ran }
+        ensures ran { (status : Bytes → ℕ) → TellsStatus (R.told runner.old) status → active ≡ true
+            → RanUnless (breaks_line result) (R.ran runner.old) (R.ran runner.new)
+            (verdict status (view_of self.now (known facts.now)) criteria.now).ran }
+        ensures failed { (status : Bytes → ℕ) → TellsStatus (R.told runner.old) status
+            → active ≡ true → FailsInLine result (R.ran runner.old) (R.ran runner.new)
+            (verdict status (view_of self.now (known facts.now)) criteria.now).ran }
         ensures quiet { active ≡ false → R.ran runner.new ≡ R.ran runner.old }
         ensures cause { HasLineCause result (R.faults runner.old) (R.faults runner.new) }
         ensures told { R.told runner.new ≡ R.told runner.old }
@@ -374,7 +401,9 @@ impl Fold {
 
     /// Notes whether criteria ask for a second pass.
     fn ask(&mut self, criteria: &Criteria)
-        ensures { self.new ≡ record self.old { asks_again = self.old.asks_again || list_any is_final criteria.now } }
+        ensures { self.new ≡ record self.old {
+          asks_again = self.old.asks_again || list_any is_final criteria.now;
+        } }
     {
         self.asks_again = self.asks_again || has_final(criteria);
     }
@@ -382,7 +411,8 @@ impl Fold {
     /// Whether a line that opens no block is active in the file at a depth.
     fn is_active(&self, depth: usize, opens: bool) -> bool
         requires { depth ≤ length self.now.applies }
-        ensures { result ≡ (list_all (λ mark. mark) (take depth self.now.applies) && own_mark depth opens self.now.applies) }
+        ensures { result ≡ (list_all (λ mark. mark) (take depth self.now.applies)
+            && own_mark depth opens self.now.applies) }
     {
         self.applies.all_before(depth) && self.own_mark(depth, opens)
     }
@@ -398,18 +428,26 @@ impl Fold {
         requires known { line.now.opens ≡ false → line.now.depth < length self.old.applies }
         requires opened { line.now.opens ≡ true → line.now.depth ≤ length self.old.applies }
         requires fits { entry_fits entry ≡ true }
-        ensures folds { (told : Told) (pass : Pass) (rows : List Row) (blocks : Blocks) (place : ℕ) (l : Line) →
+        ensures folds { (told : Told) (pass : Pass) (rows : List Row) (blocks : Blocks) (place : ℕ)
+            (l : Line) →
             told.facts ≡ known facts.now → TellsStatus (R.told runner.old) told.status →
-            Stands told pass self.old rows blocks → IsNext told pass rows blocks line.now place l → entry_so_far self.old line.now ≡ Ok entry →
+            Stands told pass self.old rows blocks → IsNext told pass rows blocks line.now place l
+            → entry_so_far self.old line.now ≡ Ok entry →
             FoldsEntry told pass rows blocks line.now place l result self.new }
-        ensures ran { (told : Told) (pass : Pass) (rows : List Row) (blocks : Blocks) (place : ℕ) (l : Line) →
+        ensures ran { (told : Told) (pass : Pass) (rows : List Row) (blocks : Blocks) (place : ℕ)
+            (l : Line) →
             told.facts ≡ known facts.now → TellsStatus (R.told runner.old) told.status →
-            Stands told pass self.old rows blocks → IsNext told pass rows blocks line.now place l → entry_so_far self.old line.now ≡ Ok entry →
-            RanUnless (breaks_line result) (R.ran runner.old) (R.ran runner.new) (next_row told pass rows place l).ran }
-        ensures failed { (told : Told) (pass : Pass) (rows : List Row) (blocks : Blocks) (place : ℕ) (l : Line) →
+            Stands told pass self.old rows blocks → IsNext told pass rows blocks line.now place l
+            → entry_so_far self.old line.now ≡ Ok entry →
+            RanUnless (breaks_line result) (R.ran runner.old) (R.ran runner.new)
+            (next_row told pass rows place l).ran }
+        ensures failed { (told : Told) (pass : Pass) (rows : List Row) (blocks : Blocks) (place : ℕ)
+            (l : Line) →
             told.facts ≡ known facts.now → TellsStatus (R.told runner.old) told.status →
-            Stands told pass self.old rows blocks → IsNext told pass rows blocks line.now place l → entry_so_far self.old line.now ≡ Ok entry →
-            FailsInLine result (R.ran runner.old) (R.ran runner.new) (next_row told pass rows place l).ran }
+            Stands told pass self.old rows blocks → IsNext told pass rows blocks line.now place l
+            → entry_so_far self.old line.now ≡ Ok entry →
+            FailsInLine result (R.ran runner.old) (R.ran runner.new)
+            (next_row told pass rows place l).ran }
         ensures cause { HasLineCause result (R.faults runner.old) (R.faults runner.new) }
         ensures depth { OnOk result (length self.new.applies ≡ line.now.depth + 1) }
         ensures unchanged { OnErr result (self.new.settings ≡ self.old.settings) }
@@ -456,18 +494,23 @@ impl Fold {
     ) -> Result<(), ResolveError>
         requires known { line.now.opens ≡ false → line.now.depth < length self.old.applies }
         requires opened { line.now.opens ≡ true → line.now.depth ≤ length self.old.applies }
-        ensures folds { (told : Told) (pass : Pass) (rows : List Row) (blocks : Blocks) (place : ℕ) (l : Line) →
+        ensures folds { (told : Told) (pass : Pass) (rows : List Row) (blocks : Blocks) (place : ℕ)
+            (l : Line) →
             told.facts ≡ known facts.now → TellsStatus (R.told runner.old) told.status →
             Stands told pass self.old rows blocks → IsNext told pass rows blocks line.now place l →
             Folds told pass rows blocks line.now place l result self.new }
-        ensures ran { (told : Told) (pass : Pass) (rows : List Row) (blocks : Blocks) (place : ℕ) (l : Line) →
+        ensures ran { (told : Told) (pass : Pass) (rows : List Row) (blocks : Blocks) (place : ℕ)
+            (l : Line) →
             told.facts ≡ known facts.now → TellsStatus (R.told runner.old) told.status →
             Stands told pass self.old rows blocks → IsNext told pass rows blocks line.now place l →
-            RanUnless (breaks_off result) (R.ran runner.old) (R.ran runner.new) (next_row told pass rows place l).ran }
-        ensures failed { (told : Told) (pass : Pass) (rows : List Row) (blocks : Blocks) (place : ℕ) (l : Line) →
+            RanUnless (breaks_off result) (R.ran runner.old) (R.ran runner.new)
+            (next_row told pass rows place l).ran }
+        ensures failed { (told : Told) (pass : Pass) (rows : List Row) (blocks : Blocks) (place : ℕ)
+            (l : Line) →
             told.facts ≡ known facts.now → TellsStatus (R.told runner.old) told.status →
             Stands told pass self.old rows blocks → IsNext told pass rows blocks line.now place l →
-            FailsAt line.now.file line.now.number result (R.ran runner.old) (R.ran runner.new) (next_row told pass rows place l).ran }
+            FailsAt line.now.file line.now.number result (R.ran runner.old) (R.ran runner.new)
+            (next_row told pass rows place l).ran }
         ensures cause { HasRunCause result (R.faults runner.old) (R.faults runner.new) }
         ensures depth { OnOk result (length self.new.applies ≡ line.now.depth + 1) }
         ensures unchanged { OnErr result (self.new.settings ≡ self.old.settings) }

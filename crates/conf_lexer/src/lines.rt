@@ -15,7 +15,8 @@ fn line_len(bytes: &[u8]) -> usize
 pub fn next_line(text: &[u8], at: usize) -> Option<(usize, usize)>
     requires { at ≤ length text.now }
     ensures none { IsNone result ↔ (at ≡ length text.now) }
-    ensures line { IfSome result (λ x. lines_of (drop at text.now) ≡ slice_range text.now at x.0 ∷ lines_of (drop x.1 text.now)) }
+    ensures line { IfSome result (λ x. lines_of (drop at text.now) ≡ slice_range text.now at x.0
+        ∷ lines_of (drop x.1 text.now)) }
     ensures end { IfSome result (λ x. (at ≤ x.0) × (x.0 ≤ x.1)) }
     ensures next { IfSome result (λ x. (at < x.1) × (x.1 ≤ length text.now)) }
 {

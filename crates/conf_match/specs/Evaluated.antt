@@ -27,11 +27,13 @@ of_file file_errors.OutOfMemory = OutOfMemory
 
 -- whether a list of patterns takes the user, or else the local user
 abbrev pub takes_user : View → Bytes → Result Bool TokenError
-takes_user view patterns = user_of 114 view.user view.facts.local_user >>= λ user. Ok (list_takes patterns user)
+takes_user view patterns = user_of 114 view.user view.facts.local_user >>= λ user.
+    Ok (list_takes patterns user)
 
 -- whether a list of patterns takes the local user
 abbrev pub takes_local_user : View → Bytes → Result Bool TokenError
-takes_local_user view patterns = fact_of 117 view.facts.local_user >>= λ user. Ok (list_takes patterns user)
+takes_local_user view patterns = fact_of 117 view.facts.local_user >>= λ user.
+    Ok (list_takes patterns user)
 
 -- a runner tells that commands end with these statuses
 abbrev pub TellsStatus : Option (List CommandStatus) → (Bytes → ℕ) → Type 0
@@ -64,12 +66,14 @@ pub record FailsOne (old new : Option (List Bytes)) (commands : List Bytes) : Ty
   pub ran : RanAll old new done
 
 -- where the runner failed, it failed at one of these commands
-abbrev pub FailsIn : Result Bool EvalError → Option (List Bytes) → Option (List Bytes) → List Bytes → Type 0
+abbrev pub FailsIn : Result Bool EvalError → Option (List Bytes) → Option (List Bytes)
+    → List Bytes → Type 0
 FailsIn (Err RunFault) old new commands = FailsOne old new commands
 FailsIn result old new commands = Unit {0}
 
 -- the commands of an evaluation were run, or, where memory or the runner failed, the first of them
-abbrev pub Ran : Result Bool EvalError → Option (List Bytes) → Option (List Bytes) → List Bytes → Type 0
+abbrev pub Ran : Result Bool EvalError → Option (List Bytes) → Option (List Bytes)
+    → List Bytes → Type 0
 Ran (Ok b) old new commands = RanAll old new commands
 Ran (Err (Token e)) old new commands = RanAll old new commands
 Ran (Err e) old new commands = RanSome old new commands

@@ -40,13 +40,17 @@ abbrev pub NoneInLast : ℕ → Bytes → Type 0
 NoneInLast tail pattern = (k : ℕ) → length pattern ≤ tail + k → has 93 (drop k pattern) ≡ false
 
 -- how pieces before the first star fare at the front of a name
-pub record Reaches (pattern : List globs.Piece) (name : Bytes) (ps : List globs.Piece) (ts : Bytes) : Type 0 where
+pub record Reaches (pattern : List globs.Piece) (name : Bytes) (ps : List globs.Piece)
+    (ts : Bytes) : Type 0 where
   pub here : pieces_take pattern name ≡ some_suffix (pieces_take ps) ts
   -- what is taken further on reaches the star further on
-  pub further : (k : ℕ) → pieces_take pattern (drop k name) ≡ true → some_suffix (pieces_take ps) (drop k ts) ≡ true
+  pub further : (k : ℕ) → pieces_take pattern (drop k name) ≡ true
+      → some_suffix (pieces_take ps) (drop k ts) ≡ true
   pub no_longer : length ts ≤ length name
 
 abbrev pub GlobBegins : ℕ → Bytes → Bytes → Segment → Type 0
 GlobBegins tail pattern name Yes = glob pattern name ≡ true
 GlobBegins tail pattern name No = glob pattern name ≡ false
-GlobBegins tail pattern name (Star ps ts) = Reaches (pieces_from 0 pattern) name (pieces_from 0 ps.now) ts.now × (length ps.now < length pattern) × NoneInLast tail ps.now
+GlobBegins tail pattern name (Star ps ts) =
+    Reaches (pieces_from 0 pattern) name (pieces_from 0 ps.now) ts.now
+    × (length ps.now < length pattern) × NoneInLast tail ps.now

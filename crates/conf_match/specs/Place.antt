@@ -16,24 +16,31 @@ onto front reading = reading >>= λ cs. Ok (front ++ cs)
 
 -- a criterion that takes a value, with the words behind it
 abbrev pub valued : ℕ → Bool → Kind → Option Bytes → List Bytes → ReadCriteria
-valued at negated kind (Some value) rest = with_criterion negated kind value (criteria_from (at + 1) false rest)
+valued at negated kind (Some value) rest =
+    with_criterion negated kind value (criteria_from (at + 1) false rest)
 valued at negated kind None [] = Err (NoValue at)
-valued at negated kind None (next ∷ words) = with_criterion negated kind next (criteria_from (at + 2) false words)
+valued at negated kind None (next ∷ words) =
+    with_criterion negated kind next (criteria_from (at + 2) false words)
 
 -- what a step took: the criteria with what is read from the new place on are those with what was to be read
-pub record Goes (old new : List Criterion) (words : List Bytes) (at : ℕ) (place : Place) (reading : ReadCriteria) : Type 0 where
-  pub read : onto old reading ≡ onto new (criteria_from place.word place.may (drop place.word words))
+pub record Goes (old new : List Criterion) (words : List Bytes) (at : ℕ) (place : Place)
+    (reading : ReadCriteria) : Type 0 where
+  pub read : onto old reading
+      ≡ onto new (criteria_from place.word place.may (drop place.word words))
   pub further : at < place.word
   pub within : place.word ≤ length words
 
 -- what a step returned
-abbrev pub Takes : Result Place MatchError → List Criterion → List Criterion → List Bytes → ℕ → ReadCriteria → Type 0
+abbrev pub Takes : Result Place MatchError → List Criterion → List Criterion → List Bytes → ℕ
+    → ReadCriteria → Type 0
 Takes (Ok place) old new words at reading = Goes old new words at place reading
 Takes (Err e) old new words at reading = Fails match_wants_memory e reading
 
 -- a criterion was added, unless memory was wanting
-abbrev pub Adds : Result (Unit {0}) MatchError → List Criterion → List Criterion → Bool → Kind → Bytes → Type 0
-Adds (Ok x) old new negated kind value = new ≡ old ++ record { negated = negated; kind = kind; value = value } ∷ []
+abbrev pub Adds : Result (Unit {0}) MatchError → List Criterion → List Criterion → Bool → Kind
+    → Bytes → Type 0
+Adds (Ok x) old new negated kind value =
+    new ≡ old ++ record { negated = negated; kind = kind; value = value } ∷ []
 Adds (Err e) old new negated kind value = e ≡ OutOfMemory
 
 -- `all`, with the words behind it

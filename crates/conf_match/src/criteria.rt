@@ -43,7 +43,8 @@ fn take_all(
     negated: bool,
 ) -> Result<Place, MatchError>
     requires place { place.word < length words.now }
-    ensures { Takes result criteria.old criteria.new words.now place.word (every place.word place.may negated (drop (place.word + 1) words.now)) }
+    ensures { Takes result criteria.old criteria.new words.now place.word
+        (every place.word place.may negated (drop (place.word + 1) words.now)) }
 {
     if negated {
         return Err(MatchError::Unknown { word: place.word });
@@ -71,7 +72,9 @@ fn take_plain(
     kind: Kind,
 ) -> Result<Place, MatchError>
     requires place { place.word < length words.now }
-    ensures { Takes result criteria.old criteria.new words.now place.word (plain_criterion place.word place.may negated kind (drop (place.word + 1) words.now) (criteria_from (place.word + 1) (opens_all kind) (drop (place.word + 1) words.now))) }
+    ensures { Takes result criteria.old criteria.new words.now place.word
+        (plain_criterion place.word place.may negated kind (drop (place.word + 1) words.now)
+        (criteria_from (place.word + 1) (opens_all kind) (drop (place.word + 1) words.now))) }
 {
     if kind == Kind::All {
         return take_all(alloc, criteria, words, place, negated);
@@ -96,7 +99,8 @@ fn take_value(
 ) -> Result<Place, MatchError>
     requires further { at < next }
     requires within { next ≤ length words.now }
-    ensures { Takes result criteria.old criteria.new words.now at (with_criterion negated kind value.now (criteria_from next false (drop next words.now))) }
+    ensures { Takes result criteria.old criteria.new words.now at
+        (with_criterion negated kind value.now (criteria_from next false (drop next words.now))) }
 {
     add(alloc, criteria, negated, kind, value)?;
     Ok(Place {
@@ -115,7 +119,8 @@ fn take_next(
     kind: Kind,
 ) -> Result<Place, MatchError>
     requires place { at < length words.now }
-    ensures { Takes result criteria.old criteria.new words.now at (valued at negated kind None (drop (at + 1) words.now)) }
+    ensures { Takes result criteria.old criteria.new words.now at
+        (valued at negated kind None (drop (at + 1) words.now)) }
 {
     if at + 1 < words.len() {
         let value = words[at + 1].as_bytes();
@@ -132,7 +137,8 @@ fn take(
     place: Place,
 ) -> Result<Place, MatchError>
     requires place { place.word < length words.now }
-    ensures { Takes result criteria.old criteria.new words.now place.word (criteria_from place.word place.may (drop place.word words.now)) }
+    ensures { Takes result criteria.old criteria.new words.now place.word
+        (criteria_from place.word place.may (drop place.word words.now)) }
 {
     let at = place.word;
     let own = read_word(words[at].as_bytes());

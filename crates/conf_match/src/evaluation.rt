@@ -78,9 +78,14 @@ fn exec<R: Runner>(
     view: &View<'_>,
     runner: &mut R,
 ) -> Result<bool, EvalError>
-    ensures holds { (status : Bytes → ℕ) → TellsStatus (R.told runner.old) status → Evaluated result (plain_verdict status (seen view.now) Exec value.now).holds }
-    ensures ran { (status : Bytes → ℕ) → Ran result (R.ran runner.old) (R.ran runner.new) (plain_verdict status (seen view.now) Exec value.now).ran }
-    ensures failed { (status : Bytes → ℕ) → FailsIn result (R.ran runner.old) (R.ran runner.new) (plain_verdict status (seen view.now) Exec value.now).ran }
+    ensures holds { (status : Bytes → ℕ) → TellsStatus (R.told runner.old) status
+        → Evaluated result (plain_verdict status (seen view.now) Exec value.now).holds }
+    ensures ran { (status : Bytes → ℕ)
+        → Ran result (R.ran runner.old) (R.ran runner.new)
+        (plain_verdict status (seen view.now) Exec value.now).ran }
+    ensures failed { (status : Bytes → ℕ)
+        → FailsIn result (R.ran runner.old) (R.ran runner.new)
+        (plain_verdict status (seen view.now) Exec value.now).ran }
     ensures cause { HasRunCause result (R.faults runner.old) (R.faults runner.new) }
     ensures told { R.told runner.new ≡ R.told runner.old }
 {
@@ -97,9 +102,14 @@ fn plain<R: Runner>(
     view: &View<'_>,
     runner: &mut R,
 ) -> Result<bool, EvalError>
-    ensures holds { (status : Bytes → ℕ) → TellsStatus (R.told runner.old) status → Evaluated result (plain_verdict status (seen view.now) kind value.now).holds }
-    ensures ran { (status : Bytes → ℕ) → Ran result (R.ran runner.old) (R.ran runner.new) (plain_verdict status (seen view.now) kind value.now).ran }
-    ensures failed { (status : Bytes → ℕ) → FailsIn result (R.ran runner.old) (R.ran runner.new) (plain_verdict status (seen view.now) kind value.now).ran }
+    ensures holds { (status : Bytes → ℕ) → TellsStatus (R.told runner.old) status
+        → Evaluated result (plain_verdict status (seen view.now) kind value.now).holds }
+    ensures ran { (status : Bytes → ℕ)
+        → Ran result (R.ran runner.old) (R.ran runner.new)
+        (plain_verdict status (seen view.now) kind value.now).ran }
+    ensures failed { (status : Bytes → ℕ)
+        → FailsIn result (R.ran runner.old) (R.ran runner.new)
+        (plain_verdict status (seen view.now) kind value.now).ran }
     ensures cause { HasRunCause result (R.faults runner.old) (R.faults runner.new) }
     ensures told { R.told runner.new ≡ R.told runner.old }
 {
@@ -123,9 +133,14 @@ fn one<R: Runner>(
     view: &View<'_>,
     runner: &mut R,
 ) -> Result<bool, EvalError>
-    ensures holds { (status : Bytes → ℕ) → TellsStatus (R.told runner.old) status → Evaluated result (criterion_verdict status (seen view.now) criterion.now).holds }
-    ensures ran { (status : Bytes → ℕ) → Ran result (R.ran runner.old) (R.ran runner.new) (criterion_verdict status (seen view.now) criterion.now).ran }
-    ensures failed { (status : Bytes → ℕ) → FailsIn result (R.ran runner.old) (R.ran runner.new) (criterion_verdict status (seen view.now) criterion.now).ran }
+    ensures holds { (status : Bytes → ℕ) → TellsStatus (R.told runner.old) status
+        → Evaluated result (criterion_verdict status (seen view.now) criterion.now).holds }
+    ensures ran { (status : Bytes → ℕ)
+        → Ran result (R.ran runner.old) (R.ran runner.new)
+        (criterion_verdict status (seen view.now) criterion.now).ran }
+    ensures failed { (status : Bytes → ℕ)
+        → FailsIn result (R.ran runner.old) (R.ran runner.new)
+        (criterion_verdict status (seen view.now) criterion.now).ran }
     ensures cause { HasRunCause result (R.faults runner.old) (R.faults runner.new) }
     ensures told { R.told runner.new ≡ R.told runner.old }
 {
@@ -147,9 +162,14 @@ pub fn eval<R: Runner>(
     view: &View<'_>,
     runner: &mut R,
 ) -> Result<bool, EvalError>
-    ensures holds { (status : Bytes → ℕ) → TellsStatus (R.told runner.old) status → Evaluated result (verdict status (seen view.now) criteria.now).holds }
-    ensures ran { (status : Bytes → ℕ) → TellsStatus (R.told runner.old) status → Ran result (R.ran runner.old) (R.ran runner.new) (verdict status (seen view.now) criteria.now).ran }
-    ensures failed { (status : Bytes → ℕ) → TellsStatus (R.told runner.old) status → FailsIn result (R.ran runner.old) (R.ran runner.new) (verdict status (seen view.now) criteria.now).ran }
+    ensures holds { (status : Bytes → ℕ) → TellsStatus (R.told runner.old) status
+        → Evaluated result (verdict status (seen view.now) criteria.now).holds }
+    ensures ran { (status : Bytes → ℕ) → TellsStatus (R.told runner.old) status
+        → Ran result (R.ran runner.old) (R.ran runner.new)
+        (verdict status (seen view.now) criteria.now).ran }
+    ensures failed { (status : Bytes → ℕ) → TellsStatus (R.told runner.old) status
+        → FailsIn result (R.ran runner.old) (R.ran runner.new)
+        (verdict status (seen view.now) criteria.now).ran }
     ensures cause { HasRunCause result (R.faults runner.old) (R.faults runner.new) }
     ensures told { R.told runner.new ≡ R.told runner.old }
 {

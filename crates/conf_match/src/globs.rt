@@ -138,7 +138,8 @@ fn piece_at(byte: u8, behind: &[u8], tail: usize) -> (Piece<'_>, usize)
 /// The first piece, and what follows it.
 fn next_piece(pattern: &[u8], tail: usize) -> Option<(Piece<'_>, &[u8])>
     requires { NoneInLast tail pattern.now }
-    ensures piece { MatchOption result (pattern.now ≡ []) (λ x. pieces_from 0 pattern.now ≡ piece_meaning x.0 ∷ pieces_from 0 x.1.now) }
+    ensures piece { MatchOption result (pattern.now ≡ []) (λ x. pieces_from 0 pattern.now
+        ≡ piece_meaning x.0 ∷ pieces_from 0 x.1.now) }
     ensures shorter { IfSome result (λ x. length x.1.now < length pattern.now) }
     ensures tail { IfSome result (λ x. NoneInLast tail x.1.now) }
 {

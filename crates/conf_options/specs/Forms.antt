@@ -13,10 +13,12 @@ use Rattle.conf_options.specs.declared.forms.Form.TheVariants as forms
 -- the words of a choice
 abbrev pub choices_of : Choices → List Bytes
 choices_of Families = codes "any" ∷ codes "inet" ∷ codes "inet6" ∷ []
-choices_of Levels = codes "QUIET" ∷ codes "FATAL" ∷ codes "ERROR" ∷ codes "INFO" ∷ codes "VERBOSE" ∷ codes "DEBUG" ∷ codes "DEBUG1" ∷ codes "DEBUG2" ∷ codes "DEBUG3" ∷ []
+choices_of Levels = codes "QUIET" ∷ codes "FATAL" ∷ codes "ERROR" ∷ codes "INFO" ∷ codes "VERBOSE"
+    ∷ codes "DEBUG" ∷ codes "DEBUG1" ∷ codes "DEBUG2" ∷ codes "DEBUG3" ∷ []
 choices_of Bindings = codes "unbound" ∷ codes "host-bound" ∷ []
 choices_of Terminals = codes "no" ∷ codes "yes" ∷ codes "force" ∷ codes "auto" ∷ []
-choices_of Strictness = codes "yes" ∷ codes "no" ∷ codes "ask" ∷ codes "accept-new" ∷ codes "off" ∷ []
+choices_of Strictness = codes "yes" ∷ codes "no" ∷ codes "ask" ∷ codes "accept-new"
+    ∷ codes "off" ∷ []
 choices_of Tunnels = codes "no" ∷ codes "yes" ∷ codes "point-to-point" ∷ codes "ethernet" ∷ []
 
 -- the kind of value that a form is

@@ -28,19 +28,22 @@ is_unset key all = is_empty (values_among key all)
 -- the same with another first value of a key
 abbrev pub replaced : Key → Value → List Given → List Given
 replaced key value [] = []
-replaced key value (g ∷ gs) = let later = g ∷ replaced key value gs in if same_key key g.0 then (key, value) ∷ gs else later
+replaced key value (g ∷ gs) = let later = g ∷ replaced key value gs in if same_key key g.0
+    then (key, value) ∷ gs else later
 
 -- a value with more patterns, if there is one
 abbrev pub with_more : List Value → Key → Value → List Given → List Given
 with_more [] key value all = behind_all all key (Names (with_patterns [] (patterns_in value)))
-with_more (v ∷ vs) key value all = replaced key (Names (with_patterns (patterns_in v) (patterns_in value))) all
+with_more (v ∷ vs) key value all =
+    replaced key (Names (with_patterns (patterns_in v) (patterns_in value))) all
 
 -- what becomes of settings to which a value is offered
 abbrev pub offered : Keeping → List Given → Key → Value → List Given
 offered TheFirst all key value = if is_unset key all then behind_all all key value else all
 offered Every all key value = behind_all all key value
 offered Patterns all key value = with_more (values_among key all) key value all
-offered Shared all key value = if is_unset ProxyCommand all && is_unset ProxyJump all then behind_all all key value else all
+offered Shared all key value = if is_unset ProxyCommand all && is_unset ProxyJump all
+    then behind_all all key value else all
 
 -- whether two lists of texts are one
 abbrev pub same_texts : List Bytes → List Bytes → Bool

@@ -28,7 +28,8 @@ fn is_host_byte(b: u8) -> bool
 
 /// What stands before the last colon, and what stands behind it.
 fn split_at_colon(word: &[u8]) -> Option<(&[u8], &[u8])>
-    ensures { MatchOption result (split_at_last 58 word.now ≡ None) (λ p. split_at_last 58 word.now ≡ Some (p.0.now, p.1.now)) }
+    ensures { MatchOption result (split_at_last 58 word.now ≡ None) (λ p. split_at_last 58 word.now
+        ≡ Some (p.0.now, p.1.now)) }
 {
     let mut i = word.len();
     while i > 0 {

@@ -202,7 +202,8 @@ impl Settings {
     /// nothing.
     pub fn offer(&mut self, key: Key, value: Value) -> Result<bool, OutOfMemory>
         requires { fits key value ≡ true }
-        ensures keeps { OnOk result ((given : List Given) → Keeps self.old given → Keeps self.new (given ++ (key, value) ∷ [])) }
+        ensures keeps { OnOk result ((given : List Given) → Keeps self.old given
+            → Keeps self.new (given ++ (key, value) ∷ [])) }
         ensures changed { IfOk result (λ changed. IsTrue changed ↔ (self.new ≢ self.old)) }
         ensures err { OnErr result (self.new ≡ self.old) }
     {

@@ -55,7 +55,8 @@ fn two_ends(listen: Option<End>, connect: Option<End>) -> Result<Value, ValueErr
 
 /// What the words of a forwarding say.
 fn forward(alloc: Global, low: u64, listen: &[u8], connect: &[u8]) -> Result<Value, ValueError>
-    ensures { Gives value_wants_memory result (two_ends (listen_end low listen.now) (connect_end connect.now)) }
+    ensures { Gives value_wants_memory result
+        (two_ends (listen_end low listen.now) (connect_end connect.now)) }
 {
     let listen = listen_end(alloc, low, listen)?;
     let connect = connect_end(alloc, connect)?;
@@ -114,7 +115,8 @@ fn one_value(alloc: Global, form: Form, word: &[u8]) -> Result<Value, ValueError
 #[tactic(auto, unfolding(conf_rules::specs::Values::values_of))]
 fn two_values(alloc: Global, form: Form, first: &[u8], second: &[u8]) -> Result<Value, ValueError>
     requires { form_kind form ≢ kinds.Names }
-    ensures { Gives value_wants_memory result (values_of (form_kind form) (first.now ∷ second.now ∷ [])) }
+    ensures { Gives value_wants_memory result
+        (values_of (form_kind form) (first.now ∷ second.now ∷ [])) }
 {
     match form {
         Form::TwoEnds => forward(alloc, 1, first, second),

@@ -20,9 +20,12 @@ Puts wants_memory (Ok x) old new reading = onto old reading ≡ Ok new
 Puts wants_memory (Err e) old new reading = Fails wants_memory e reading
 
 -- what stood there has the lines of a key behind it, unless memory was wanting
-abbrev pub PutsTexts : {X : Type 0} → Result X TokenError → Bytes → Bytes → Key → Result (List Bytes) TokenError → Type 0
+abbrev pub PutsTexts : {X : Type 0} → Result X TokenError → Bytes → Bytes → Key
+    → Result (List Bytes) TokenError → Type 0
 PutsTexts result old new key reading = Puts token_wants_memory result old new (lines_of key reading)
 
 -- the same of some keys
-abbrev pub PutsKeys : {X : Type 0} → Result X ListError → Bytes → Bytes → List Given → View → List Key → Type 0
-PutsKeys result old new settings view keys = Puts list_wants_memory result old new (lines_over settings view keys)
+abbrev pub PutsKeys : {X : Type 0} → Result X ListError → Bytes → Bytes → List Given → View
+    → List Key → Type 0
+PutsKeys result old new settings view keys =
+    Puts list_wants_memory result old new (lines_over settings view keys)

@@ -13,7 +13,8 @@ use Rattle.conf_options.specs.Kept.{Given, Keeps}
 use Rattle.conf_tokens.specs.Known.{known}
 
 -- the name of the command line, the facts, and settings that keep what the rows give
-pub record Settled (told : Told) (rows : List Row) (settings : List Given) (original : Bytes) (machine : TheFacts) : Type 0 where
+pub record Settled (told : Told) (rows : List Row) (settings : List Given) (original : Bytes)
+    (machine : TheFacts) : Type 0 where
   pub name : told.asked.original ≡ original
   pub facts : told.facts ≡ known machine
   pub keeps : Keeps settings (flat_map given rows)
@@ -21,9 +22,11 @@ pub record Settled (told : Told) (rows : List Row) (settings : List Given) (orig
 -- the result is the listing of each such resolution, unless memory was wanting
 abbrev pub Lists : Result Bytes ListError → List Given → Bytes → TheFacts → Type 0
 Lists result settings original facts =
-    (told : Told) (rows : List Row) → Settled told rows settings original facts → Gives list_wants_memory result (listing_over LISTING_ORDER told rows)
+    (told : Told) (rows : List Row) → Settled told rows settings original facts
+    → Gives list_wants_memory result (listing_over LISTING_ORDER told rows)
 
 -- the result is the control path of each such resolution, unless memory was wanting
 abbrev pub HasControlPath : Result (Option Bytes) ListError → List Given → Bytes → TheFacts → Type 0
 HasControlPath result settings original facts =
-    (told : Told) (rows : List Row) → Settled told rows settings original facts → Gives list_wants_memory result (control_path_at told rows)
+    (told : Told) (rows : List Row) → Settled told rows settings original facts
+    → Gives list_wants_memory result (control_path_at told rows)

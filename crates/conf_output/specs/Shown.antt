@@ -67,11 +67,13 @@ default_texts key = flat_map spelled (with_default (default_of key) [])
 
 -- all values of a key, or its default
 abbrev pub plain_texts : List Given → Key → List Bytes
-plain_texts settings key = flat_map spelled (with_default (default_of key) (values_among key settings))
+plain_texts settings key =
+    flat_map spelled (with_default (default_of key) (values_among key settings))
 
 -- all values of a key, unless forwardings are cleared
 abbrev pub forward_texts : List Given → Key → List Bytes
-forward_texts settings key = if is_set (first_value keys.ClearAllForwardings settings) then [] else value_texts settings key
+forward_texts settings key = if is_set (first_value keys.ClearAllForwardings settings) then []
+    else value_texts settings key
 
 -- the value of a key, unless it is `none`
 abbrev pub proxy_texts : List Given → Key → List Bytes
@@ -79,7 +81,9 @@ proxy_texts settings key = text_list (but_none (word_in (first_value key setting
 
 -- the value of a key, or else the local user
 abbrev pub user_texts : List Given → View → Key → Result (List Bytes) TokenError
-user_texts settings view key = user_of 117 (word_in (first_value key settings)) view.facts.local_user >>= λ user. Ok (user ∷ [])
+user_texts settings view key =
+    user_of 117 (word_in (first_value key settings)) view.facts.local_user >>= λ user.
+    Ok (user ∷ [])
 
 -- the value of a key, expanded as a path
 abbrev pub path_texts : List Given → View → Key → Result (List Bytes) TokenError
@@ -87,7 +91,8 @@ path_texts settings view key = expanded_one (control_text view) (word_in (first_
 
 -- the value of a key, expanded as a command
 abbrev pub command_texts : List Given → View → Key → Result (List Bytes) TokenError
-command_texts settings view key = expanded_one (λ text. expand text Full view) (word_in (first_value key settings))
+command_texts settings view key =
+    expanded_one (λ text. expand text Full view) (word_in (first_value key settings))
 
 -- the texts of a key that is listed so
 abbrev pub shown_by : List Given → View → Key → Showing → Result (List Bytes) TokenError
@@ -107,17 +112,20 @@ shown_of settings view key = shown_by settings view key (showing key)
 unfoldable pub lines_over : List Given → View → List Key → Result Bytes ListError
 lines_over settings view [] = Ok []
 lines_over settings view (key ∷ more) =
-    at_key key (shown_of settings view key) >>= λ texts. lines_over settings view more >>= λ rest. Ok (lines key texts ++ rest)
+    at_key key (shown_of settings view key) >>= λ texts. lines_over settings view more >>= λ rest.
+    Ok (lines key texts ++ rest)
 
 -- the listing
 unfoldable pub list_of : List Given → Bytes → Facts → Result Bytes ListError
 list_of settings original facts =
-    lines_over settings (view_of settings original (host_of settings original) facts) LISTING_ORDER >>= λ rest. Ok (listed (codes "host") original ++ rest)
+    lines_over settings (view_of settings original (host_of settings original) facts) LISTING_ORDER
+    >>= λ rest. Ok (listed (codes "host") original ++ rest)
 
 -- the control path
 unfoldable pub path_of : List Given → Bytes → Facts → Result (Option Bytes) ListError
 path_of settings original facts =
-    control_path_of (view_of settings original (host_of settings original) facts) (but_none (word_in (first_value keys.ControlPath settings)))
+    control_path_of (view_of settings original (host_of settings original) facts)
+    (but_none (word_in (first_value keys.ControlPath settings)))
 
 -- ---- what the code has
 

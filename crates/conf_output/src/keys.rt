@@ -165,7 +165,8 @@ fn put_command(
     view: &View<'_>,
     key: Key,
 ) -> Result<(), TokenError>
-    ensures { PutsTexts result out.old out.new key (command_texts settings.now (seen view.now) key) }
+    ensures { PutsTexts result out.old out.new key
+        (command_texts settings.now (seen view.now) key) }
 {
     match word_of(settings, key) {
         Some(text) => {

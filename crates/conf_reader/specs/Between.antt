@@ -10,4 +10,5 @@ use Rattle.conf_reader.specs.Left.{stack, is_expanded, is_counted}
 abbrev pub is_between : OpenFiles → Bool
 is_between o =
     nat_le (length o.below.items) 16
-    && (not o.fresh && ((is_some o.top || is_empty o.below.items) && (list_all is_expanded o.below.items && list_all is_counted (stack o))))
+    && (not o.fresh && ((is_some o.top || is_empty o.below.items)
+    && (list_all is_expanded o.below.items && list_all is_counted (stack o))))

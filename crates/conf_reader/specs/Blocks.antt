@@ -26,11 +26,13 @@ opens_block keyword = same_word keyword (codes "host") || same_word keyword (cod
 
 -- the blocks in which a line stands
 abbrev pub blocks_of : ConfLine → Blocks → List ℕ
-blocks_of line blocks = flat_map option_to_list (take line.depth blocks) ++ own_block (opens_block line.keyword) (own_of line blocks)
+blocks_of line blocks = flat_map option_to_list (take line.depth blocks)
+    ++ own_block (opens_block line.keyword) (own_of line blocks)
 
 -- the blocks that are open behind a line at a place
 abbrev pub open_behind : ConfLine → ℕ → Blocks → Blocks
-open_behind line place blocks = take line.depth blocks ++ block_behind (opens_block line.keyword) place (own_of line blocks) ∷ []
+open_behind line place blocks = take line.depth blocks
+    ++ block_behind (opens_block line.keyword) place (own_of line blocks) ∷ []
 
 -- a given line is this line, where these blocks are open
 pub record IsLine (given : ConfLine) (blocks : Blocks) (line : Line) : Type 0 where

@@ -47,26 +47,34 @@ frame_files told source f = elim f.include [
 
 -- one more file below a line at a depth
 abbrev pub one_below : Told → Source → ℕ → List ℕ → ℕ → ConfFile → List Line
-one_below told source depth blocks start f = file_lines (included source told (depth_limit - (depth + 1)) (depth + 1)) (record { source = source; depth = depth + 1; outer = blocks }) start f
+one_below told source depth blocks start f =
+    file_lines (included source told (depth_limit - (depth + 1)) (depth + 1))
+    (record { source = source; depth = depth + 1; outer = blocks }) start f
 
 -- the lines of files that a line at a depth names
-unfoldable pub deeper : Told → Source → ℕ → List ℕ → Bytes → ℕ → ℕ → Result (List ConfFile) TokenError → List Line
+unfoldable pub deeper : Told → Source → ℕ → List ℕ → Bytes → ℕ → ℕ
+    → Result (List ConfFile) TokenError → List Line
 deeper told source depth blocks file number place files =
     let here : Where = record { source = source; depth = depth; outer = blocks } in
-    with_files here file number (if depth == depth_limit then too_deep here file number else each_file (one_below told source depth blocks) place) files
+    with_files here file number (if depth == depth_limit then too_deep here file number
+    else each_file (one_below told source depth blocks) place) files
 
 -- what is left of an open file
 unfoldable pub frame_left : Told → Source → ℕ → List ℕ → Option ℕ → OpenFile → ℕ → List Line
 frame_left told source depth outer own f place =
-    let inner = deeper told source depth (outer ++ option_to_list own) f.path (f.number - 1) place (frame_files told source f) in
-    inner ++ lines_in (included source told (depth_limit - depth) depth) (record { source = source; depth = depth; outer = outer }) f.path (place + length inner) f.number own (lines_of (drop f.at f.text))
+    let inner = deeper told source depth (outer ++ option_to_list own) f.path (f.number - 1) place
+    (frame_files told source f) in
+    inner ++ lines_in (included source told (depth_limit - depth) depth)
+    (record { source = source; depth = depth; outer = outer }) f.path (place + length inner)
+    f.number own (lines_of (drop f.at f.text))
 
 -- what is left of open files, the first file first
 abbrev pub frames_left : Told → Source → ℕ → List ℕ → List OpenFile → Blocks → ℕ → List Line
 frames_left told source depth outer [] blocks place = []
 frames_left told source depth outer (f ∷ fs) blocks place =
     let own = or_none (slice_get blocks 0) in
-    let inner = frames_left told source (depth + 1) (outer ++ option_to_list own) fs (drop 1 blocks) place in
+    let inner = frames_left told source (depth + 1) (outer ++ option_to_list own) fs
+    (drop 1 blocks) place in
     inner ++ frame_left told source depth outer own f (place + length inner)
 
 -- ---- open files
@@ -80,8 +88,11 @@ abbrev pub cur : OpenFiles → Blocks → Blocks
 cur o blocks = if o.fresh then take (length o.below.items) blocks else blocks
 
 -- what is left of open files of which no line of the last was given yet, or some was
-abbrev pub parts_left : Told → ℕ → Blocks → Bool → List OpenFile → Option OpenFile → Bool → List Line
-parts_left told place blocks system below top fresh = frames_left told (source_of system) 0 [] (below ++ option_to_list top) (if fresh then take (length below) blocks else blocks) place
+abbrev pub parts_left : Told → ℕ → Blocks → Bool → List OpenFile → Option OpenFile
+    → Bool → List Line
+parts_left told place blocks system below top fresh =
+    frames_left told (source_of system) 0 [] (below ++ option_to_list top) (if fresh
+    then take (length below) blocks else blocks) place
 
 -- what is left of all open files
 abbrev pub open_left : Told → ℕ → Blocks → OpenFiles → List Line
@@ -121,7 +132,8 @@ IsFound TooLarge content = IsSomeAnd content (λ text. nat_lt size_limit (length
 IsFound (Holds text) content = (content ≡ Some text) × (nat_lt size_limit (length text) ≡ false)
 
 -- a refusal of the line that is left first
-pub record RefusesFirst (before : List Line) (file : Bytes) (number : ℕ) (cause : Cause) : Type 0 where
+pub record RefusesFirst (before : List Line) (file : Bytes) (number : ℕ) (cause : Cause) :
+    Type 0 where
   pub line : Line
   pub rest : List Line
   pub is : before ≡ line ∷ rest
@@ -133,7 +145,8 @@ pub record RefusesFirst (before : List Line) (file : Bytes) (number : ℕ) (caus
 abbrev pub Moves : {A : Type 0} → List Line → List Line → Result A ResolveError → Type 0
 Moves before after (Ok x) = before ≡ after
 Moves before after (Err OutOfMemory) = Unit {0}
-Moves before after (Err (At file number cause)) = (is_fault cause ≡ false → RefusesFirst before file number cause)
+Moves before after (Err (At file number cause)) =
+    (is_fault cause ≡ false → RefusesFirst before file number cause)
 
 -- a fact of the path that an open file opens next
 abbrev pub Names : Option OpenFile → (Bytes → Type 0) → Type 0
@@ -142,7 +155,8 @@ Names (Some f) fact = IfSome (slice_get f.named f.next) fact
 
 -- where open files stand behind a step
 abbrev pub StandOf : OpenFiles → OpenFiles → Stand → Type 0
-StandOf old new stands.Line = (new ≡ old) × IfSome new.top (λ f. IsSettled f × (f.at < length f.text)) × IsSome new.top
+StandOf old new stands.Line = (new ≡ old)
+    × IfSome new.top (λ f. IsSettled f × (f.at < length f.text)) × IsSome new.top
 StandOf old new stands.Moved = work new < work old
 StandOf old new stands.End = (new ≡ old) × (new.top ≡ None)
 
@@ -154,7 +168,8 @@ RefusesTop (Some f) cause error = Refuses (line_errors.Refused cause) f.path (f.
 -- a refusal of the file that an open file opens next
 abbrev pub RefusesNext : Option OpenFile → Cause → ResolveError → Type 0
 RefusesNext None cause error = Unit {0}
-RefusesNext (Some f) cause error = IfSome (slice_get f.named f.next) (λ path. Refuses (line_errors.Refused cause) path 0 error)
+RefusesNext (Some f) cause error =
+    IfSome (slice_get f.named f.next) (λ path. Refuses (line_errors.Refused cause) path 0 error)
 
 -- what holds of open files behind a line that was given
 pub record IsGiven (o : OpenFiles) : Type 0 where
@@ -183,7 +198,8 @@ heading_of (Some said) = Says said.keyword said.rest
 abbrev pub HeadIs : OpenFile → Result Next LineError → Type 0
 HeadIs f (Ok next) = NextLine f next.next (Ok (heading_of next.said))
 HeadIs f (Err line_errors.OutOfMemory) = Unit {0}
-HeadIs f (Err (line_errors.Refused cause)) = (next : ℕ) × ((e : LexError) × ((cause ≡ causes.Lex e) × NextLine f next (Err e)))
+HeadIs f (Err (line_errors.Refused cause)) = (next : ℕ)
+    × ((e : LexError) × ((cause ≡ causes.Lex e) × NextLine f next (Err e)))
 
 -- what a reader may say of the line that comes next: it is a comment, or this line is given, or it is refused
 pub record IsComment (line : Line) : Type 0 where
@@ -192,14 +208,17 @@ pub record IsComment (line : Line) : Type 0 where
   pub head : head_of bytes ≡ Ok Comment
   pub asked : is_asked line.source ≡ false
 
-pub record PassesComment (told : Told) (place : ℕ) (blocks : Blocks) (old new : OpenFiles) : Type 0 where
+pub record PassesComment (told : Told) (place : ℕ) (blocks : Blocks) (old new : OpenFiles) :
+    Type 0 where
   pub line : Line
   pub left : open_left told place blocks old ≡ line ∷ open_left told (place + 1) blocks new
   pub comment : IsComment line
 
-pub record GivesLine (told : Told) (place : ℕ) (blocks : Blocks) (old new : OpenFiles) (given : ConfLine) : Type 0 where
+pub record GivesLine (told : Told) (place : ℕ) (blocks : Blocks) (old new : OpenFiles)
+    (given : ConfLine) : Type 0 where
   pub line : Line
-  pub left : open_left told place blocks old ≡ line ∷ open_left told (place + 1) (open_behind given place blocks) new
+  pub left : open_left told place blocks old ≡ line
+      ∷ open_left told (place + 1) (open_behind given place blocks) new
   pub is_line : IsLine given blocks line
 
 pub record RefusesHead (left : List Line) (file : Bytes) (number : ℕ) (cause : Cause) : Type 0 where
@@ -214,11 +233,13 @@ pub record RefusesHead (left : List Line) (file : Bytes) (number : ℕ) (cause :
   pub head : head_of bytes ≡ Err error
   pub cause_is : cause ≡ causes.Lex error
 
-abbrev pub Takes : Told → ℕ → Blocks → OpenFiles → OpenFiles → Result (Option ConfLine) ResolveError → Type 0
+abbrev pub Takes : Told → ℕ → Blocks → OpenFiles → OpenFiles
+    → Result (Option ConfLine) ResolveError → Type 0
 Takes told place blocks old new (Ok None) = PassesComment told place blocks old new
 Takes told place blocks old new (Ok (Some given)) = GivesLine told place blocks old new given
 Takes told place blocks old new (Err OutOfMemory) = Unit {0}
-Takes told place blocks old new (Err (At file number cause)) = RefusesHead (open_left told place blocks old) file number cause
+Takes told place blocks old new (Err (At file number cause)) =
+    RefusesHead (open_left told place blocks old) file number cause
 
 -- a given line is what the last open file says
 pub record GivenBy (o : OpenFiles) (f : OpenFile) (said : Said) (given : ConfLine) : Type 0 where
@@ -245,7 +266,8 @@ include_of said = if same_word said.keyword (codes "include") then Some said.res
 -- the paths that a rest names
 abbrev pub named_by : Source → Told → Result (List Bytes) LexError → Result (List Bytes) TokenError
 named_by source told (Err e) = Ok []
-named_by source told (Ok words) = paths_of source told words >>= λ paths. Ok (flat_map (globbed told) paths)
+named_by source told (Ok words) = paths_of source told words >>= λ paths.
+    Ok (flat_map (globbed told) paths)
 
 -- what came of finding them
 abbrev pub FoundPaths : Result (List Bytes) LineError → Result (List Bytes) TokenError → Type 0
@@ -262,16 +284,19 @@ named_as paths f = record f { include = None; named = paths; next = 0 }
 
 -- the lines of a first file at a place: one that is required must be there, and another is skipped where it isn't
 abbrev pub first_left : Told → ℕ → FirstFile → List Line
-first_left told place f = if f.required then named_lines told place f.path (told.content f.path) else each_file (first_file (source_of f.system) told) place (file_at told f.path)
+first_left told place f = if f.required then named_lines told place f.path (told.content f.path)
+    else each_file (first_file (source_of f.system) told) place (file_at told f.path)
 
 -- the lines of first files from a place on
 abbrev pub firsts_left : Told → ℕ → List FirstFile → List Line
 firsts_left told place [] = []
-firsts_left told place (f ∷ fs) = let here = first_left told place f in here ++ firsts_left told (place + length here) fs
+firsts_left told place (f ∷ fs) = let here = first_left told place f in
+    here ++ firsts_left told (place + length here) fs
 
 -- what a reader has still to give
 abbrev pub left : Told → ℕ → Blocks → Lines → List Line
-left told place blocks r = let o = open_left told place blocks r.open_files in o ++ firsts_left told (place + length o) (drop r.next_first r.firsts.items)
+left told place blocks r = let o = open_left told place blocks r.open_files in
+    o ++ firsts_left told (place + length o) (drop r.next_first r.firsts.items)
 
 -- a required file is a user's
 abbrev pub is_plain_first : FirstFile → Bool
@@ -279,11 +304,14 @@ is_plain_first f = if f.required then not f.system else true
 
 -- the first file that is opened next holds this text
 abbrev pub BeginsWith : Told → Lines → Bytes → Type 0
-BeginsWith told r text = IfSome (slice_get r.firsts.items r.next_first) (λ f. (told.content f.path ≡ Some text) × (nat_lt size_limit (length text) ≡ false))
+BeginsWith told r text =
+    IfSome (slice_get r.firsts.items r.next_first) (λ f. (told.content f.path ≡ Some text)
+    × (nat_lt size_limit (length text) ≡ false))
 
 -- the first file that is opened next isn't there, and needn't be
 abbrev pub IsLacking : Told → Lines → Type 0
-IsLacking told r = IfSome (slice_get r.firsts.items r.next_first) (λ f. (told.content f.path ≡ None) × (f.required ≡ false))
+IsLacking told r = IfSome (slice_get r.firsts.items r.next_first) (λ f. (told.content f.path ≡ None)
+    × (f.required ≡ false))
 
 -- so many files are open of which a line was given, at most
 abbrev pub Bounded : OpenFiles → ℕ → Type 0

@@ -31,17 +31,21 @@ AreIdle told place [] = Unit {0}
 AreIdle told place (l ∷ ls) = IsIdle told place l × AreIdle told (place + 1) ls
 
 -- behind comments a line is given
-pub record GivesNext (told : Told) (place : ℕ) (blocks : Blocks) (old new : Lines) (given : ConfLine) : Type 0 where
+pub record GivesNext (told : Told) (place : ℕ) (blocks : Blocks) (old new : Lines)
+    (given : ConfLine) : Type 0 where
   pub comments : List Line
   pub line : Line
-  pub is : left told place blocks old ≡ comments ++ line ∷ left told (place + length comments + 1) (open_behind given (place + length comments) blocks) new
+  pub is : left told place blocks old ≡ comments ++ line
+      ∷ left told (place + length comments + 1)
+      (open_behind given (place + length comments) blocks) new
   pub idle : AreIdle told place comments
   pub is_line : IsLine given blocks line
   pub within : is_past_limit told line (place + length comments) ≡ false
   pub count : place + length comments + 1 ≡ length told.asked.lines + new.read
 
 -- behind comments a line is refused, whatever stands before it
-pub record RefusesNext (told : Told) (place : ℕ) (left : List Line) (file : List ℕ) (number : ℕ) (cause : Cause) : Type 0 where
+pub record RefusesNext (told : Told) (place : ℕ) (left : List Line) (file : List ℕ) (number : ℕ)
+    (cause : Cause) : Type 0 where
   pub comments : List Line
   pub line : Line
   pub rest : List Line
@@ -49,14 +53,17 @@ pub record RefusesNext (told : Told) (place : ℕ) (left : List Line) (file : Li
   pub idle : AreIdle told place comments
   pub file_is : line.file ≡ file
   pub number_is : line.number ≡ number
-  pub refused : (rows : List Row) → counted told entry_of rows line (place + length comments) ≡ Err cause
+  pub refused : (rows : List Row)
+      → counted told entry_of rows line (place + length comments) ≡ Err cause
 
 -- what a reader did
-abbrev pub Reads : Told → ℕ → Blocks → Lines → Lines → Result (Option ConfLine) ResolveError → Type 0
+abbrev pub Reads : Told → ℕ → Blocks → Lines → Lines
+    → Result (Option ConfLine) ResolveError → Type 0
 Reads told place blocks old new (Ok None) = AreIdle told place (left told place blocks old)
 Reads told place blocks old new (Ok (Some given)) = GivesNext told place blocks old new given
 Reads told place blocks old new (Err OutOfMemory) = Unit {0}
-Reads told place blocks old new (Err (At file number cause)) = (is_fault cause ≡ false → RefusesNext told place (left told place blocks old) file number cause)
+Reads told place blocks old new (Err (At file number cause)) =
+    (is_fault cause ≡ false → RefusesNext told place (left told place blocks old) file number cause)
 
 -- how deep a line lies
 pub record LiesAt (old new : ℕ) (given : ConfLine) : Type 0 where
@@ -69,10 +76,15 @@ pub record LiesAt (old new : ℕ) (given : ConfLine) : Type 0 where
 -- what one line is to a reader
 abbrev pub OneLine : Told → ℕ → Blocks → Lines → Lines → Result Step ResolveError → Type 0
 OneLine told place blocks old new (Ok steps.End) = left told place blocks old ≡ []
-OneLine told place blocks old new (Ok steps.Comment) = (line : Line) × ((left told place blocks old ≡ line ∷ left told (place + 1) blocks new) × IsIdle told place line)
-OneLine told place blocks old new (Ok (steps.Given given)) = (line : Line) × ((left told place blocks old ≡ line ∷ left told (place + 1) (open_behind given place blocks) new) × (IsLine given blocks line × (is_past_limit told line place ≡ false)))
+OneLine told place blocks old new (Ok steps.Comment) = (line : Line)
+    × ((left told place blocks old ≡ line ∷ left told (place + 1) blocks new)
+    × IsIdle told place line)
+OneLine told place blocks old new (Ok (steps.Given given)) = (line : Line)
+    × ((left told place blocks old ≡ line ∷ left told (place + 1) (open_behind given place blocks)
+    new) × (IsLine given blocks line × (is_past_limit told line place ≡ false)))
 OneLine told place blocks old new (Err OutOfMemory) = Unit {0}
-OneLine told place blocks old new (Err (At file number cause)) = (is_fault cause ≡ false → RefusesNext told place (left told place blocks old) file number cause)
+OneLine told place blocks old new (Err (At file number cause)) =
+    (is_fault cause ≡ false → RefusesNext told place (left told place blocks old) file number cause)
 
 -- how many lines a step counts
 abbrev pub CountsOne : Step → ℕ → ℕ → Type 0

@@ -39,7 +39,8 @@ is_line_fault (line_errors.Refused cause) = is_fault cause
 
 -- a fault is one of reading, and comes only where the files' count rose; every other cause leaves it
 abbrev pub IsFilesCause : Cause → ℕ → ℕ → Type 0
-IsFilesCause cause before now = MatchBool (is_fault cause) ((cause ≡ causes.ReadFault) × Rose before now) (now ≡ before)
+IsFilesCause cause before now = MatchBool (is_fault cause) ((cause ≡ causes.ReadFault)
+    × Rose before now) (now ≡ before)
 
 -- the same of a line's reading
 abbrev pub HasLineCause : {A : Type 0} → Result A LineError → ℕ → ℕ → Type 0
@@ -58,7 +59,8 @@ Refuses (line_errors.Refused cause) file line (At f l c) = At f l c ≡ At file 
 abbrev pub HasReadCause : {A : Type 0} → Result A ResolveError → ℕ → ℕ → Type 0
 HasReadCause (Ok x) before now = now ≡ before
 HasReadCause (Err OutOfMemory) before now = before ≤ now
-HasReadCause (Err (At file line cause)) before now = MatchBool (is_fault cause) (Rose before now) (now ≡ before)
+HasReadCause (Err (At file line cause)) before now =
+    MatchBool (is_fault cause) (Rose before now) (now ≡ before)
 
 -- the same of a refusal, whose fault is one of reading
 abbrev pub HasFilesCause : {A : Type 0} → Result A ResolveError → ℕ → ℕ → Type 0

@@ -19,7 +19,8 @@ Place = Bytes × ℕ
 
 -- the line that an open file gave last, where it names files that are still to be read
 abbrev pub unread_in : OpenFile → List Place
-unread_in f = if is_none f.include && nat_le (length f.named) f.next then [] else (f.path, f.number - 1) ∷ []
+unread_in f = if is_none f.include && nat_le (length f.named) f.next then []
+    else (f.path, f.number - 1) ∷ []
 
 -- those of all open files, the first file first
 abbrev pub unread : OpenFiles → List Place
@@ -31,7 +32,8 @@ unread_last o = flat_map unread_in (option_to_list o.top)
 
 -- the Include line that was given
 abbrev pub including : ConfLine → List Place
-including line = if same_word line.keyword (codes "include") then (line.file, line.number) ∷ [] else []
+including line = if same_word line.keyword (codes "include")
+    then (line.file, line.number) ∷ [] else []
 
 -- where a first file is told: before its first line
 abbrev pub first_places : List FirstFile → List Place

@@ -27,7 +27,8 @@ fn size_limit() -> usize
 
 /// What a path holds.
 pub fn read_file<F: Files>(path: &[u8], files: &mut F) -> Result<Found, FileError>
-    ensures found { (told : Told) → TellsFiles (F.told files.old) told → IfOk result (λ found. IsFound found (told.content path.now)) }
+    ensures found { (told : Told) → TellsFiles (F.told files.old) told
+        → IfOk result (λ found. IsFound found (told.content path.now)) }
     ensures cause { HasCause result (F.faults files.old) (F.faults files.new) }
     ensures told { F.told files.new ≡ F.told files.old }
 {

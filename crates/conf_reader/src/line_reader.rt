@@ -58,7 +58,8 @@ fn put(
     required: bool,
     path: Text,
 ) -> Result<(), OutOfMemory>
-    ensures { OnOk result (firsts.new.items ≡ firsts.old.items ++ record { system = system; required = required; path = path } ∷ []) }
+    ensures { OnOk result (firsts.new.items ≡ firsts.old.items
+        ++ record { system = system; required = required; path = path } ∷ []) }
 {
     firsts.push(FirstFile {
         system,
@@ -127,10 +128,15 @@ impl LineReader {
 
     /// A reader of the files that are asked for.
     pub fn new(alloc: Global, asked: &Asked, facts: &Facts) -> Result<LineReader, OutOfMemory>
-        ensures left { IfOk result (λ reader. (told : Told) (place : ℕ) → told.facts ≡ known facts.now → left told place [] reader.lines ≡ lines_from told place asked.now.from) }
-        ensures facts { IfOk result (λ reader. (known reader.facts ≡ known facts.now) × (reader.original ≡ asked.now.original)) }
-        ensures none { IfOk result (λ reader. (open_count reader.lines ≡ 0) × Bounded reader.lines.open_files 0) }
-        ensures firsts { IfOk result (λ reader. reader.lines.firsts.items ≡ firsts_of facts.now.home asked.now.from) }
+        ensures left { IfOk result (λ reader. (told : Told) (place : ℕ)
+            → told.facts ≡ known facts.now → left told place [] reader.lines
+            ≡ lines_from told place asked.now.from) }
+        ensures facts { IfOk result (λ reader. (known reader.facts ≡ known facts.now)
+            × (reader.original ≡ asked.now.original)) }
+        ensures none { IfOk result (λ reader. (open_count reader.lines ≡ 0)
+            × Bounded reader.lines.open_files 0) }
+        ensures firsts { IfOk result (λ reader. reader.lines.firsts.items
+            ≡ firsts_of facts.now.home asked.now.from) }
         ensures unread { IfOk result (λ reader. unread reader.lines.open_files ≡ []) }
         ensures read { IfOk result (λ reader. reader.lines.read ≡ 0) }
     {
@@ -147,14 +153,24 @@ impl LineReader {
     /// that of `files` rose, and is told at the Include line that names what is read, or, for a file that no line includes, at its
     /// line 0.
     pub fn next<F: Files>(&mut self, files: &mut F) -> Result<Option<ConfLine>, ResolveError>
-        ensures reads { (told : Told) (place : ℕ) (blocks : Blocks) → TellsFiles (F.told files.old) told → told.facts ≡ known self.old.facts → told.asked.original ≡ self.old.original → place ≡ length told.asked.lines + self.old.lines.read → Bounded self.old.lines.open_files (length blocks) → Reads told place blocks self.old.lines self.new.lines result }
-        ensures given { IfOk result (λ given. IfSome given (IsGivenFrom self.old.lines self.new.lines)) }
-        ensures ended { IsOver result → (told : Told) (place : ℕ) (blocks : Blocks) → left told place blocks self.new.lines ≡ [] }
-        ensures facts { (self.new.facts ≡ self.old.facts) × (self.new.original ≡ self.old.original) }
+        ensures reads { (told : Told) (place : ℕ) (blocks : Blocks)
+            → TellsFiles (F.told files.old) told → told.facts ≡ known self.old.facts
+            → told.asked.original ≡ self.old.original
+            → place ≡ length told.asked.lines + self.old.lines.read
+            → Bounded self.old.lines.open_files (length blocks)
+            → Reads told place blocks self.old.lines self.new.lines result }
+        ensures given { IfOk result (λ given.
+            IfSome given (IsGivenFrom self.old.lines self.new.lines)) }
+        ensures ended { IsOver result → (told : Told) (place : ℕ) (blocks : Blocks)
+            → left told place blocks self.new.lines ≡ [] }
+        ensures facts { (self.new.facts ≡ self.old.facts)
+            × (self.new.original ≡ self.old.original) }
         ensures told { F.told files.new ≡ F.told files.old }
         ensures cause { HasReadCause result (F.faults files.old) (F.faults files.new) }
         ensures no_run_fault { IfErr result (λ e. is_run_fault e ≡ false) }
-        ensures unread { IfOk result (λ given. IfSome given (Follows (unread self.old.lines.open_files) (unread self.new.lines.open_files))) }
+        ensures unread { IfOk result (λ given.
+            IfSome given (Follows (unread self.old.lines.open_files)
+            (unread self.new.lines.open_files))) }
         ensures firsts { self.new.lines.firsts ≡ self.old.lines.firsts }
         ensures fault { FaultsAmong (read_places self.old.lines) result }
     {

@@ -82,7 +82,15 @@ impl OpenFile {
 
     /// A file at its beginning.
     pub fn begin(alloc: Global, path: Text, text: Text) -> OpenFile
-        ensures { result ≡ record { path = path; text = text; at = 0; number = 1; include = None; named = []; next = 0 } }
+        ensures { result ≡ record {
+          path = path;
+          text = text;
+          at = 0;
+          number = 1;
+          include = None;
+          named = [];
+          next = 0;
+        } }
     {
         OpenFile {
             path,

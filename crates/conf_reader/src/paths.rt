@@ -80,7 +80,8 @@ fn path_of(
     system: bool,
     word: &[u8],
 ) -> Result<Text, TokenError>
-    ensures { Gives token_wants_memory result (path_from (source_of system) (known facts.now) original.now word.now) }
+    ensures { Gives token_wants_memory result
+        (path_from (source_of system) (known facts.now) original.now word.now) }
 {
     let view = view(facts, original);
     let path = expand_path(alloc, false, word, TokenSet::Included, &view)?;
@@ -95,7 +96,8 @@ fn paths_of(
     system: bool,
     words: &Texts,
 ) -> Result<Texts, TokenError>
-    ensures { Gives token_wants_memory result (paths_from (source_of system) (known facts.now) original.now words.now) }
+    ensures { Gives token_wants_memory result
+        (paths_from (source_of system) (known facts.now) original.now words.now) }
 {
     let mut paths = Texts::new(alloc);
     for word in words.as_slice() {
@@ -154,7 +156,8 @@ fn put_taken(
     component: &[u8],
     names: &Texts,
 ) -> Result<(), OutOfMemory>
-    ensures { OnOk result (paths.new.items ≡ paths.old.items ++ map (λ name. base.now ++ 47 ∷ name) (filter (component_takes component.now) names.now)) }
+    ensures { OnOk result (paths.new.items ≡ paths.old.items
+        ++ map (λ name. base.now ++ 47 ∷ name) (filter (component_takes component.now) names.now)) }
 {
     for name in names.as_slice() {
         if glob_component(component, name.as_bytes()) {
@@ -172,7 +175,9 @@ fn put_below<F: Files>(
     component: &[u8],
     files: &mut F,
 ) -> Result<(), FileError>
-    ensures found { (told : Told) → TellsFiles (F.told files.old) told → OnOk result (SameTexts (paths.old.items ++ below told component.now base.now) paths.new.items) }
+    ensures found { (told : Told) → TellsFiles (F.told files.old) told
+        → OnOk result (SameTexts (paths.old.items ++ below told component.now base.now)
+        paths.new.items) }
     ensures cause { HasCause result (F.faults files.old) (F.faults files.new) }
     ensures told { F.told files.new ≡ F.told files.old }
 {
@@ -194,7 +199,9 @@ fn with_component<F: Files>(
     component: &[u8],
     files: &mut F,
 ) -> Result<Vec<Text>, FileError>
-    ensures found { (told : Told) → TellsFiles (F.told files.old) told → IfOk result (λ paths. SameTexts (with_component told component.now bases.items) paths.items) }
+    ensures found { (told : Told) → TellsFiles (F.told files.old) told
+        → IfOk result (λ paths.
+        SameTexts (with_component told component.now bases.items) paths.items) }
     ensures cause { HasCause result (F.faults files.old) (F.faults files.new) }
     ensures told { F.told files.new ≡ F.told files.old }
 {
@@ -210,7 +217,9 @@ fn with_component<F: Files>(
 
 /// The paths that a path with globs stands for, in whatever order.
 fn along<F: Files>(alloc: Global, path: &[u8], files: &mut F) -> Result<Vec<Text>, FileError>
-    ensures found { (told : Told) → TellsFiles (F.told files.old) told → IfOk result (λ paths. SameTexts (along told (components_of path.now) ([] ∷ [])) paths.items) }
+    ensures found { (told : Told) → TellsFiles (F.told files.old) told
+        → IfOk result (λ paths.
+        SameTexts (along told (components_of path.now) ([] ∷ [])) paths.items) }
     ensures cause { HasCause result (F.faults files.old) (F.faults files.new) }
     ensures told { F.told files.new ≡ F.told files.old }
 {
@@ -245,7 +254,8 @@ fn add_all(alloc: Global, texts: &mut Texts, more: &[Text]) -> Result<(), OutOfM
 /// The paths that an absolute path stands for, in the order of their bytes.
 #[tactic(auto, unfolding(conf_rules::specs::Includes::globbed))]
 fn globbed<F: Files>(alloc: Global, path: &[u8], files: &mut F) -> Result<Texts, FileError>
-    ensures found { (told : Told) → TellsFiles (F.told files.old) told → IfOk result (λ paths. paths ≡ globbed told path.now) }
+    ensures found { (told : Told) → TellsFiles (F.told files.old) told
+        → IfOk result (λ paths. paths ≡ globbed told path.now) }
     ensures cause { HasCause result (F.faults files.old) (F.faults files.new) }
     ensures told { F.told files.new ≡ F.told files.old }
 {
@@ -265,7 +275,8 @@ fn globbed<F: Files>(alloc: Global, path: &[u8], files: &mut F) -> Result<Texts,
 
 /// The paths that absolute paths stand for.
 fn all_globbed<F: Files>(alloc: Global, paths: &Texts, files: &mut F) -> Result<Texts, FileError>
-    ensures found { (told : Told) → TellsFiles (F.told files.old) told → IfOk result (λ found. found ≡ all_globbed told paths.now) }
+    ensures found { (told : Told) → TellsFiles (F.told files.old) told
+        → IfOk result (λ found. found ≡ all_globbed told paths.now) }
     ensures cause { HasCause result (F.faults files.old) (F.faults files.new) }
     ensures told { F.told files.new ≡ F.told files.old }
 {
@@ -287,7 +298,9 @@ pub fn named_paths<F: Files>(
     rest: &[u8],
     files: &mut F,
 ) -> Result<Texts, LineError>
-    ensures found { (told : Told) → TellsFiles (F.told files.old) told → told.facts ≡ known facts.now → told.asked.original ≡ original.now → FoundPaths result (named_by (source_of system) told (words_of rest.now)) }
+    ensures found { (told : Told) → TellsFiles (F.told files.old) told
+        → told.facts ≡ known facts.now → told.asked.original ≡ original.now
+        → FoundPaths result (named_by (source_of system) told (words_of rest.now)) }
     ensures cause { HasLineCause result (F.faults files.old) (F.faults files.new) }
     ensures told { F.told files.new ≡ F.told files.old }
 {

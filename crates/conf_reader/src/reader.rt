@@ -58,7 +58,8 @@ impl Lines {
     /// The lines of first files, of which none is opened yet.
     pub fn new(alloc: Global, firsts: Vec<FirstFile>) -> Lines
         ensures firsts { result.firsts ≡ firsts }
-        ensures none { (result.open_files.below.items ≡ []) × (result.open_files.top ≡ None) × (result.open_files.fresh ≡ false) }
+        ensures none { (result.open_files.below.items ≡ []) × (result.open_files.top ≡ None)
+            × (result.open_files.fresh ≡ false) }
         ensures counts { (result.next_first ≡ 0) × (result.read ≡ 0) }
     {
         Lines {
@@ -83,12 +84,16 @@ impl Lines {
         requires next { self.old.next_first < length self.old.firsts.items }
         requires plain { list_all is_plain_first self.old.firsts.items ≡ true }
         requires ready { IsReady self.old.open_files }
-        ensures left { OnOk result ((told : Told) (place : ℕ) (blocks : Blocks) → BeginsWith told self.old text → left told place blocks self.old ≡ left told place blocks self.new) }
+        ensures left { OnOk result ((told : Told) (place : ℕ) (blocks : Blocks)
+            → BeginsWith told self.old text → left told place blocks self.old
+            ≡ left told place blocks self.new) }
         ensures ready { OnOk result (IsReady self.new.open_files) }
         ensures firsts { self.new.firsts ≡ self.old.firsts }
         ensures next { OnOk result (self.new.next_first ≡ self.old.next_first + 1) }
-        ensures bounded { OnOk result ((n : ℕ) → Bounded self.old.open_files n → Bounded self.new.open_files n) }
-        ensures unread { OnOk result (IsFront (unread self.new.open_files) (unread self.old.open_files)) }
+        ensures bounded { OnOk result ((n : ℕ) → Bounded self.old.open_files n
+            → Bounded self.new.open_files n) }
+        ensures unread { OnOk result
+            (IsFront (unread self.new.open_files) (unread self.old.open_files)) }
         ensures count { self.new.read ≡ self.old.read }
     {
         let Some(first) = self.next_file() else {
@@ -108,7 +113,8 @@ impl Lines {
         requires none { self.old.open_files.top ≡ None }
         requires ready { IsReady self.old.open_files }
         requires next { self.old.next_first < length self.old.firsts.items }
-        ensures left { (told : Told) (place : ℕ) (blocks : Blocks) → IsLacking told self.old → left told place blocks self.old ≡ left told place blocks self.new }
+        ensures left { (told : Told) (place : ℕ) (blocks : Blocks) → IsLacking told self.old
+            → left told place blocks self.old ≡ left told place blocks self.new }
         ensures others { self.new ≡ record self.old { next_first = self.old.next_first + 1 } }
     {
         if self.next_first < self.firsts.len() {
@@ -118,7 +124,8 @@ impl Lines {
 
     /// The refusal of the first file that is opened next.
     fn file_refusal(&self, cause: Cause) -> ResolveError
-        ensures { IfSome (slice_get self.now.firsts.items self.now.next_first) (λ f. Refuses (line_errors.Refused cause) f.path 0 result) }
+        ensures { IfSome (slice_get self.now.firsts.items self.now.next_first) (λ f.
+            Refuses (line_errors.Refused cause) f.path 0 result) }
     {
         match self.next_file() {
             None => ResolveError::OutOfMemory,
@@ -136,14 +143,21 @@ impl Lines {
         requires none { self.old.open_files.top ≡ None }
         requires ready { IsReady self.old.open_files }
         requires plain { list_all is_plain_first self.old.firsts.items ≡ true }
-        ensures moves { (told : Told) (place : ℕ) (blocks : Blocks) → TellsFiles (F.told files.old) told → Moves (left told place blocks self.old) (left told place blocks self.new) result }
+        ensures moves { (told : Told) (place : ℕ) (blocks : Blocks)
+            → TellsFiles (F.told files.old) told
+            → Moves (left told place blocks self.old) (left told place blocks self.new) result }
         ensures ready { OnOk result (IsReady self.new.open_files) }
         ensures firsts { self.new.firsts ≡ self.old.firsts }
-        ensures next { IfOk result (λ more. MatchBool more ((self.new.next_first ≡ self.old.next_first + 1) × (self.old.next_first < length self.old.firsts.items)) ((self.new ≡ self.old) × (length self.old.firsts.items ≤ self.old.next_first))) }
+        ensures next { IfOk result (λ more.
+            MatchBool more ((self.new.next_first ≡ self.old.next_first + 1)
+            × (self.old.next_first < length self.old.firsts.items)) ((self.new ≡ self.old)
+            × (length self.old.firsts.items ≤ self.old.next_first))) }
         ensures told { F.told files.new ≡ F.told files.old }
         ensures cause { HasFilesCause result (F.faults files.old) (F.faults files.new) }
-        ensures bounded { OnOk result ((n : ℕ) → Bounded self.old.open_files n → Bounded self.new.open_files n) }
-        ensures unread { OnOk result (IsFront (unread self.new.open_files) (unread self.old.open_files)) }
+        ensures bounded { OnOk result ((n : ℕ) → Bounded self.old.open_files n
+            → Bounded self.new.open_files n) }
+        ensures unread { OnOk result
+            (IsFront (unread self.new.open_files) (unread self.old.open_files)) }
         ensures fault { FaultsAmong (read_places self.old) result }
         ensures count { self.new.read ≡ self.old.read }
     {
@@ -173,14 +187,22 @@ impl Lines {
     fn reach<F: Files>(&mut self, files: &mut F) -> Result<bool, ResolveError>
         requires ready { IsReady self.old.open_files }
         requires plain { list_all is_plain_first self.old.firsts.items ≡ true }
-        ensures moves { (told : Told) (place : ℕ) (blocks : Blocks) → TellsFiles (F.told files.old) told → Moves (left told place blocks self.old) (left told place blocks self.new) result }
+        ensures moves { (told : Told) (place : ℕ) (blocks : Blocks)
+            → TellsFiles (F.told files.old) told
+            → Moves (left told place blocks self.old) (left told place blocks self.new) result }
         ensures ready { OnOk result (IsReady self.new.open_files) }
-        ensures line { IfOk result (λ found. MatchBool found (IfSome self.new.open_files.top (λ f. IsSettled f × (f.at < length f.text)) × IsSome self.new.open_files.top) ((self.new.open_files.top ≡ None) × (length self.new.firsts.items ≤ self.new.next_first))) }
+        ensures line { IfOk result (λ found.
+            MatchBool found (IfSome self.new.open_files.top (λ f. IsSettled f
+            × (f.at < length f.text)) × IsSome self.new.open_files.top)
+            ((self.new.open_files.top ≡ None)
+            × (length self.new.firsts.items ≤ self.new.next_first))) }
         ensures firsts { self.new.firsts ≡ self.old.firsts }
         ensures told { F.told files.new ≡ F.told files.old }
         ensures cause { HasFilesCause result (F.faults files.old) (F.faults files.new) }
-        ensures bounded { OnOk result ((n : ℕ) → Bounded self.old.open_files n → Bounded self.new.open_files n) }
-        ensures unread { OnOk result (IsFront (unread self.new.open_files) (unread self.old.open_files)) }
+        ensures bounded { OnOk result ((n : ℕ) → Bounded self.old.open_files n
+            → Bounded self.new.open_files n) }
+        ensures unread { OnOk result
+            (IsFront (unread self.new.open_files) (unread self.old.open_files)) }
         ensures fault { FaultsAmong (read_places self.old) result }
         ensures count { self.new.read ≡ self.old.read }
     {
@@ -201,14 +223,21 @@ impl Lines {
     /// Goes to the next line of the open files.
     fn settle<F: Files>(&mut self, files: &mut F) -> Result<bool, ResolveError>
         requires ready { IsReady self.old.open_files }
-        ensures moves { (told : Told) (place : ℕ) (blocks : Blocks) → TellsFiles (F.told files.old) told → Moves (left told place blocks self.old) (left told place blocks self.new) result }
+        ensures moves { (told : Told) (place : ℕ) (blocks : Blocks)
+            → TellsFiles (F.told files.old) told
+            → Moves (left told place blocks self.old) (left told place blocks self.new) result }
         ensures ready { OnOk result (IsReady self.new.open_files) }
-        ensures line { IfOk result (λ found. MatchBool found (IfSome self.new.open_files.top (λ f. IsSettled f × (f.at < length f.text)) × IsSome self.new.open_files.top) (self.new.open_files.top ≡ None)) }
+        ensures line { IfOk result (λ found.
+            MatchBool found (IfSome self.new.open_files.top (λ f. IsSettled f
+            × (f.at < length f.text)) × IsSome self.new.open_files.top)
+            (self.new.open_files.top ≡ None)) }
         ensures others { self.new ≡ record self.old { open_files = self.new.open_files } }
         ensures told { F.told files.new ≡ F.told files.old }
         ensures cause { HasFilesCause result (F.faults files.old) (F.faults files.new) }
-        ensures bounded { OnOk result ((n : ℕ) → Bounded self.old.open_files n → Bounded self.new.open_files n) }
-        ensures unread { OnOk result (IsFront (unread self.new.open_files) (unread self.old.open_files)) }
+        ensures bounded { OnOk result ((n : ℕ) → Bounded self.old.open_files n
+            → Bounded self.new.open_files n) }
+        ensures unread { OnOk result
+            (IsFront (unread self.new.open_files) (unread self.old.open_files)) }
         ensures fault { FaultsAmong (read_places self.old) result }
     {
         self.open_files.settle(files)
@@ -218,13 +247,18 @@ impl Lines {
     fn one<F: Files>(&mut self, files: &mut F) -> Result<Step, ResolveError>
         requires ready { IsReady self.old.open_files }
         requires plain { list_all is_plain_first self.old.firsts.items ≡ true }
-        ensures one { (told : Told) (place : ℕ) (blocks : Blocks) → TellsFiles (F.told files.old) told → place ≡ length told.asked.lines + self.old.read → Bounded self.old.open_files (length blocks) → OneLine told place blocks self.old self.new result }
+        ensures one { (told : Told) (place : ℕ) (blocks : Blocks)
+            → TellsFiles (F.told files.old) told → place ≡ length told.asked.lines + self.old.read
+            → Bounded self.old.open_files (length blocks)
+            → OneLine told place blocks self.old self.new result }
         ensures comment { result ≡ Ok steps.Comment → IsReady self.new.open_files }
-        ensures bounded { result ≡ Ok steps.Comment → (n : ℕ) → Bounded self.old.open_files n → Bounded self.new.open_files n }
+        ensures bounded { result ≡ Ok steps.Comment → (n : ℕ) → Bounded self.old.open_files n
+            → Bounded self.new.open_files n }
         ensures firsts { self.new.firsts ≡ self.old.firsts }
         ensures counts { IfOk result (λ step. CountsOne step self.old.read self.new.read) }
         ensures given { IfOk result (λ step. GivenStep step self.old self.new) }
-        ensures unread { IfOk result (StepsFrom (unread self.old.open_files) (unread self.new.open_files)) }
+        ensures unread { IfOk result
+            (StepsFrom (unread self.old.open_files) (unread self.new.open_files)) }
         ensures fault { FaultsAmong (read_places self.old) result }
         ensures told { F.told files.new ≡ F.told files.old }
         ensures cause { HasFilesCause result (F.faults files.old) (F.faults files.new) }
@@ -252,9 +286,13 @@ impl Lines {
     pub fn next_line<F: Files>(&mut self, files: &mut F) -> Result<Option<ConfLine>, ResolveError>
         requires ready { IsReady self.old.open_files }
         requires plain { list_all is_plain_first self.old.firsts.items ≡ true }
-        ensures reads { (told : Told) (place : ℕ) (blocks : Blocks) → TellsFiles (F.told files.old) told → place ≡ length told.asked.lines + self.old.read → Bounded self.old.open_files (length blocks) → Reads told place blocks self.old self.new result }
+        ensures reads { (told : Told) (place : ℕ) (blocks : Blocks)
+            → TellsFiles (F.told files.old) told → place ≡ length told.asked.lines + self.old.read
+            → Bounded self.old.open_files (length blocks)
+            → Reads told place blocks self.old self.new result }
         ensures given { IfOk result (λ given. IfSome given (IsGivenFrom self.old self.new)) }
-        ensures unread { IfOk result (λ given. IfSome given (Follows (unread self.old.open_files) (unread self.new.open_files))) }
+        ensures unread { IfOk result (λ given.
+            IfSome given (Follows (unread self.old.open_files) (unread self.new.open_files))) }
         ensures fault { FaultsAmong (read_places self.old) result }
         ensures firsts { self.new.firsts ≡ self.old.firsts }
         ensures told { F.told files.new ≡ F.told files.old }
@@ -278,13 +316,18 @@ impl Lines {
         files: &mut F,
     ) -> Result<(), ResolveError>
         requires given { IsGiven self.old.open_files }
-        ensures moves { (told : Told) (place : ℕ) (blocks : Blocks) → TellsFiles (F.told files.old) told → told.facts ≡ known facts.now → told.asked.original ≡ original.now → Moves (left told place blocks self.old) (left told place blocks self.new) result }
+        ensures moves { (told : Told) (place : ℕ) (blocks : Blocks)
+            → TellsFiles (F.told files.old) told → told.facts ≡ known facts.now
+            → told.asked.original ≡ original.now
+            → Moves (left told place blocks self.old) (left told place blocks self.new) result }
         ensures ready { OnOk result (IsReady self.new.open_files) }
         ensures others { self.new ≡ record self.old { open_files = self.new.open_files } }
         ensures told { F.told files.new ≡ F.told files.old }
         ensures cause { HasFilesCause result (F.faults files.old) (F.faults files.new) }
-        ensures bounded { OnOk result ((n : ℕ) → Bounded self.old.open_files n → Bounded self.new.open_files n) }
-        ensures unread { OnOk result (IsFront (unread self.new.open_files) (unread self.old.open_files)) }
+        ensures bounded { OnOk result ((n : ℕ) → Bounded self.old.open_files n
+            → Bounded self.new.open_files n) }
+        ensures unread { OnOk result
+            (IsFront (unread self.new.open_files) (unread self.old.open_files)) }
         ensures fault { FaultsAmong (read_places self.old) result }
     {
         self.open_files.expand(facts, original, files)
@@ -299,9 +342,14 @@ impl Lines {
     ) -> Result<Option<ConfLine>, ResolveError>
         requires given { IsGiven self.old.open_files }
         requires plain { list_all is_plain_first self.old.firsts.items ≡ true }
-        ensures reads { (told : Told) (place : ℕ) (blocks : Blocks) → TellsFiles (F.told files.old) told → told.facts ≡ known facts.now → told.asked.original ≡ original.now → place ≡ length told.asked.lines + self.old.read → Bounded self.old.open_files (length blocks) → Reads told place blocks self.old self.new result }
+        ensures reads { (told : Told) (place : ℕ) (blocks : Blocks)
+            → TellsFiles (F.told files.old) told → told.facts ≡ known facts.now
+            → told.asked.original ≡ original.now → place ≡ length told.asked.lines + self.old.read
+            → Bounded self.old.open_files (length blocks)
+            → Reads told place blocks self.old self.new result }
         ensures given { IfOk result (λ given. IfSome given (IsGivenFrom self.old self.new)) }
-        ensures unread { IfOk result (λ given. IfSome given (Follows (unread self.old.open_files) (unread self.new.open_files))) }
+        ensures unread { IfOk result (λ given.
+            IfSome given (Follows (unread self.old.open_files) (unread self.new.open_files))) }
         ensures fault { FaultsAmong (read_places self.old) result }
         ensures firsts { self.new.firsts ≡ self.old.firsts }
         ensures told { F.told files.new ≡ F.told files.old }
@@ -315,7 +363,8 @@ impl Lines {
 
     /// Gives no more line.
     pub fn end(&mut self)
-        ensures left { (told : Told) (place : ℕ) (blocks : Blocks) → left told place blocks self.new ≡ [] }
+        ensures left { (told : Told) (place : ℕ) (blocks : Blocks)
+            → left told place blocks self.new ≡ [] }
         ensures given { IsGiven self.new.open_files }
         ensures firsts { self.new.firsts ≡ self.old.firsts }
         ensures bounded { Bounded self.new.open_files 0 }

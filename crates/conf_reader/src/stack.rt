@@ -67,7 +67,8 @@ impl OpenFiles {
         requires ready { IsReady self.old }
         requires ended { IfSome self.old.top (λ f. IsSettled f × (length f.text ≤ f.at)) }
         requires some { IsSome self.old.top }
-        ensures left { (told : Told) (place : ℕ) (blocks : Blocks) → open_left told place blocks self.old ≡ open_left told place blocks self.new }
+        ensures left { (told : Told) (place : ℕ) (blocks : Blocks)
+            → open_left told place blocks self.old ≡ open_left told place blocks self.new }
         ensures ready { IsReady self.new }
         ensures less { work self.new < work self.old }
         ensures bounded { (n : ℕ) → Bounded self.old n → Bounded self.new n }
@@ -82,7 +83,9 @@ impl OpenFiles {
         requires ready { IsReady self.old }
         requires named { IfSome self.old.top (λ f. (f.include ≡ None) × (f.next < length f.named)) }
         requires some { IsSome self.old.top }
-        ensures left { (told : Told) (place : ℕ) (blocks : Blocks) → Names self.old.top (λ path. told.content path ≡ None) → open_left told place blocks self.old ≡ open_left told place blocks self.new }
+        ensures left { (told : Told) (place : ℕ) (blocks : Blocks)
+            → Names self.old.top (λ path. told.content path ≡ None)
+            → open_left told place blocks self.old ≡ open_left told place blocks self.new }
         ensures ready { IsReady self.new }
         ensures less { work self.new < work self.old }
         ensures bounded { (n : ℕ) → Bounded self.old n → Bounded self.new n }
@@ -99,7 +102,10 @@ impl OpenFiles {
         requires named { IfSome self.old.top (λ f. (f.include ≡ None) × (f.next < length f.named)) }
         requires some { IsSome self.old.top }
         requires deep { length self.old.below.items < 16 }
-        ensures left { OnOk result ((told : Told) (place : ℕ) (blocks : Blocks) → Names self.old.top (λ path. told.content path ≡ Some text) → nat_lt size_limit (length text) ≡ false → open_left told place blocks self.old ≡ open_left told place blocks self.new) }
+        ensures left { OnOk result ((told : Told) (place : ℕ) (blocks : Blocks)
+            → Names self.old.top (λ path. told.content path ≡ Some text)
+            → nat_lt size_limit (length text) ≡ false → open_left told place blocks self.old
+            ≡ open_left told place blocks self.new) }
         ensures ready { OnOk result (IsReady self.new) }
         ensures less { OnOk result (work self.new < work self.old) }
         ensures bounded { OnOk result ((n : ℕ) → Bounded self.old n → Bounded self.new n) }
@@ -156,7 +162,10 @@ impl OpenFiles {
         requires ready { IsReady self.old }
         requires named { IfSome self.old.top (λ f. (f.include ≡ None) × (f.next < length f.named)) }
         requires some { IsSome self.old.top }
-        ensures moves { (told : Told) (place : ℕ) (blocks : Blocks) → Names self.old.top (λ path. IsFound found (told.content path)) → Moves (open_left told place blocks self.old) (open_left told place blocks self.new) result }
+        ensures moves { (told : Told) (place : ℕ) (blocks : Blocks)
+            → Names self.old.top (λ path. IsFound found (told.content path))
+            → Moves (open_left told place blocks self.old)
+            (open_left told place blocks self.new) result }
         ensures ready { OnOk result (IsReady self.new) }
         ensures less { OnOk result (work self.new < work self.old) }
         ensures bounded { OnOk result ((n : ℕ) → Bounded self.old n → Bounded self.new n) }
@@ -191,7 +200,10 @@ impl OpenFiles {
     /// Does one step towards the next line.
     pub fn advance<F: Files>(&mut self, files: &mut F) -> Result<Stand, ResolveError>
         requires ready { IsReady self.old }
-        ensures moves { (told : Told) (place : ℕ) (blocks : Blocks) → TellsFiles (F.told files.old) told → Moves (open_left told place blocks self.old) (open_left told place blocks self.new) result }
+        ensures moves { (told : Told) (place : ℕ) (blocks : Blocks)
+            → TellsFiles (F.told files.old) told
+            → Moves (open_left told place blocks self.old)
+            (open_left told place blocks self.new) result }
         ensures ready { OnOk result (IsReady self.new) }
         ensures stand { IfOk result (StandOf self.old self.new) }
         ensures told { F.told files.new ≡ F.told files.old }
@@ -225,9 +237,14 @@ impl OpenFiles {
     /// Goes to the next line; `false` where there is none.
     pub fn settle<F: Files>(&mut self, files: &mut F) -> Result<bool, ResolveError>
         requires ready { IsReady self.old }
-        ensures moves { (told : Told) (place : ℕ) (blocks : Blocks) → TellsFiles (F.told files.old) told → Moves (open_left told place blocks self.old) (open_left told place blocks self.new) result }
+        ensures moves { (told : Told) (place : ℕ) (blocks : Blocks)
+            → TellsFiles (F.told files.old) told
+            → Moves (open_left told place blocks self.old)
+            (open_left told place blocks self.new) result }
         ensures ready { OnOk result (IsReady self.new) }
-        ensures line { IfOk result (λ found. MatchBool found (IfSome self.new.top (λ f. IsSettled f × (f.at < length f.text)) × IsSome self.new.top) (self.new.top ≡ None)) }
+        ensures line { IfOk result (λ found.
+            MatchBool found (IfSome self.new.top (λ f. IsSettled f × (f.at < length f.text))
+            × IsSome self.new.top) (self.new.top ≡ None)) }
         ensures told { F.told files.new ≡ F.told files.old }
         ensures cause { HasFilesCause result (F.faults files.old) (F.faults files.new) }
         ensures bounded { OnOk result ((n : ℕ) → Bounded self.old n → Bounded self.new n) }
@@ -267,7 +284,8 @@ impl OpenFiles {
     /// Goes behind the next line of the last file.
     pub fn go(&mut self, next: usize, include: Option<Text>)
         requires some { IsSome self.old.top }
-        requires counted { IfSome self.old.top (λ f. (f.number ≤ f.at + 1) × (f.at < next) × (next ≤ length f.text)) }
+        requires counted { IfSome self.old.top (λ f. (f.number ≤ f.at + 1) × (f.at < next)
+            × (next ≤ length f.text)) }
         ensures { self.new ≡ record self.old { top = option_map (gone next include) self.old.top } }
     {
         if let Some(top) = &mut self.top {
@@ -305,10 +323,15 @@ impl OpenFiles {
         requires ready { IsReady self.old }
         requires some { IsSome self.old.top }
         requires line { IfSome self.old.top (λ f. IsSettled f × (f.at < length f.text)) }
-        ensures takes { (told : Told) (place : ℕ) (blocks : Blocks) → length self.old.below.items ≤ length blocks → Takes told place blocks self.old self.new result }
+        ensures takes { (told : Told) (place : ℕ) (blocks : Blocks)
+            → length self.old.below.items ≤ length blocks
+            → Takes told place blocks self.old self.new result }
         ensures comment { result ≡ Ok None → IsReady self.new }
-        ensures given { IfOk result (λ line. IfSome line (λ l. IsGiven self.new × (l.depth ≡ length self.new.below.items))) }
-        ensures opens { IfOk result (λ line. IfSome line (λ l. (l.opens ≡ self.old.fresh) × (l.depth ≡ length self.old.below.items) × (length (stack self.new) ≡ l.depth + 1))) }
+        ensures given { IfOk result (λ line.
+            IfSome line (λ l. IsGiven self.new × (l.depth ≡ length self.new.below.items))) }
+        ensures opens { IfOk result (λ line.
+            IfSome line (λ l. (l.opens ≡ self.old.fresh) × (l.depth ≡ length self.old.below.items)
+            × (length (stack self.new) ≡ l.depth + 1))) }
         ensures bounded { result ≡ Ok None → (n : ℕ) → Bounded self.old n → Bounded self.new n }
         ensures unread { IfOk result (TakenFrom (unread self.old) (unread self.new)) }
         ensures quiet { IfErr result (λ e. is_read_fault e ≡ false) }
@@ -376,7 +399,11 @@ impl OpenFiles {
         files: &mut F,
     ) -> Result<(), ResolveError>
         requires given { IsGiven self.old }
-        ensures moves { (told : Told) (place : ℕ) (blocks : Blocks) → TellsFiles (F.told files.old) told → told.facts ≡ known facts.now → told.asked.original ≡ original.now → Moves (open_left told place blocks self.old) (open_left told place blocks self.new) result }
+        ensures moves { (told : Told) (place : ℕ) (blocks : Blocks)
+            → TellsFiles (F.told files.old) told → told.facts ≡ known facts.now
+            → told.asked.original ≡ original.now
+            → Moves (open_left told place blocks self.old)
+            (open_left told place blocks self.new) result }
         ensures ready { OnOk result (IsReady self.new) }
         ensures below { OnOk result (self.new.below ≡ self.old.below) }
         ensures told { F.told files.new ≡ F.told files.old }

@@ -9,7 +9,11 @@ use Rattle.conf_rules.specs.declared.causes.ResolveError.TheVariants.{At, OutOfM
 -- answer leaves both counts, but want of memory, before which one may have risen.
 abbrev pub HasCauses : {A : Type 0} → Result A ResolveError → ℕ → ℕ → ℕ → ℕ → Type 0
 HasCauses (Ok x) files files_now runner runner_now = (files_now ≡ files) × (runner_now ≡ runner)
-HasCauses (Err OutOfMemory) files files_now runner runner_now = (files ≤ files_now) × (runner ≤ runner_now)
-HasCauses (Err (At file line causes.ReadFault)) files files_now runner runner_now = Rose files files_now × (runner_now ≡ runner)
-HasCauses (Err (At file line causes.RunFault)) files files_now runner runner_now = (files_now ≡ files) × Rose runner runner_now
-HasCauses (Err (At file line cause)) files files_now runner runner_now = (files_now ≡ files) × (runner_now ≡ runner)
+HasCauses (Err OutOfMemory) files files_now runner runner_now = (files ≤ files_now)
+    × (runner ≤ runner_now)
+HasCauses (Err (At file line causes.ReadFault)) files files_now runner runner_now =
+    Rose files files_now × (runner_now ≡ runner)
+HasCauses (Err (At file line causes.RunFault)) files files_now runner runner_now =
+    (files_now ≡ files) × Rose runner runner_now
+HasCauses (Err (At file line cause)) files files_now runner runner_now = (files_now ≡ files)
+    × (runner_now ≡ runner)

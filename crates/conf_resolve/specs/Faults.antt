@@ -36,16 +36,19 @@ pub record Includes (rows : List Row) (file : Bytes) (number : ℕ) : Type 0 whe
 
 -- A read failed behind these rows, whose commands were all run. It is told at one of their Include lines, or at line 0 of a file
 -- that no line includes.
-pub record ReadFails (told : Told) (all : List Row) (file : Bytes) (number : ℕ) (before now : Commands) : Type 0 where
+pub record ReadFails (told : Told) (all : List Row) (file : Bytes) (number : ℕ)
+    (before now : Commands) : Type 0 where
   pub rows : List Row
   pub later : List Row
   pub parts : all ≡ rows ++ later
   pub ran : RanAll before now (commands rows)
-  pub place : Includes rows file number ⊎ IsAmong (file, number) (first_places (firsts_of told.facts.home told.asked.from))
+  pub place : Includes rows file number
+      ⊎ IsAmong (file, number) (first_places (firsts_of told.facts.home told.asked.from))
 
 -- A command could not be run, behind rows whose commands were all run. It is told at the line of the row that asks for it, whose
 -- earlier commands were run.
-pub record RunFails (all : List Row) (file : Bytes) (number : ℕ) (before now : Commands) : Type 0 where
+pub record RunFails (all : List Row) (file : Bytes) (number : ℕ) (before now : Commands) :
+    Type 0 where
   pub rows : List Row
   pub row : Row
   pub later : List Row
@@ -58,6 +61,8 @@ pub record RunFails (all : List Row) (file : Bytes) (number : ℕ) (before now :
 
 -- a fault is told where it came up
 abbrev pub FaultStands : Told → List Row → ResolveError → Commands → Commands → Type 0
-FaultStands told all (At file number causes.ReadFault) before now = ReadFails told all file number before now
-FaultStands told all (At file number causes.RunFault) before now = RunFails all file number before now
+FaultStands told all (At file number causes.ReadFault) before now =
+    ReadFails told all file number before now
+FaultStands told all (At file number causes.RunFault) before now =
+    RunFails all file number before now
 FaultStands told all e before now = Unit {0}

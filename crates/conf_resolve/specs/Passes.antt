@@ -40,7 +40,9 @@ pub record Begins (told : Told) (pass : Pass) (fold : Fold) (rows : List Row) : 
 
 -- the rows behind all lines of files
 abbrev pub final_rows : Told → Pass → List Row → List Row
-final_rows told pass rows = rows_from told entry_of rows (record { pass = pass; line = length told.asked.lines }) (file_lines told)
+final_rows told pass rows =
+    rows_from told entry_of rows (record { pass = pass; line = length told.asked.lines })
+    (file_lines told)
 
 -- a fold stands for these rows, of which none is refused
 pub record StandsFor (told : Told) (pass : Pass) (fold : Fold) (rows : List Row) : Type 0 where
@@ -52,7 +54,8 @@ pub record StandsFor (told : Told) (pass : Pass) (fold : Fold) (rows : List Row)
 abbrev pub Passes : Told → Pass → List Row → Fold → Result (Unit {0}) ResolveError → Type 0
 Passes told pass rows new (Ok x) = StandsFor told pass new (final_rows told pass rows)
 Passes told pass rows new (Err OutOfMemory) = Unit {0}
-Passes told pass rows new (Err (At file number cause)) = (is_fault cause ≡ false → refusal_in (final_rows told pass rows) ≡ Some (At file number cause))
+Passes told pass rows new (Err (At file number cause)) =
+    (is_fault cause ≡ false → refusal_in (final_rows told pass rows) ≡ Some (At file number cause))
 
 -- the rows of the first pass
 abbrev pub first_rows : Told → List Row
@@ -60,12 +63,16 @@ first_rows told = rows_from told entry_of [] (first_place First) (all_lines told
 
 -- what both passes came to
 abbrev pub BothPass : Told → Fold → Result (Unit {0}) ResolveError → Type 0
-BothPass told new (Ok x) = (refusal told ≡ None) × Keeps new.settings (flat_map given (all_rows told))
+BothPass told new (Ok x) = (refusal told ≡ None)
+    × Keeps new.settings (flat_map given (all_rows told))
 BothPass told new (Err OutOfMemory) = Unit {0}
-BothPass told new (Err (At file number cause)) = (is_fault cause ≡ false → refusal told ≡ Some (At file number cause))
+BothPass told new (Err (At file number cause)) =
+    (is_fault cause ≡ false → refusal told ≡ Some (At file number cause))
 
 -- what a resolution gives: settings that keep what all rows give, or the first refusal
 abbrev pub Resolved : Told → Result (List Given) ResolveError → Type 0
-Resolved told (Ok settings) = (refusal told ≡ None) × Keeps settings (flat_map given (all_rows told))
+Resolved told (Ok settings) = (refusal told ≡ None)
+    × Keeps settings (flat_map given (all_rows told))
 Resolved told (Err OutOfMemory) = Unit {0}
-Resolved told (Err (At file number cause)) = (is_fault cause ≡ false → refusal told ≡ Some (At file number cause))
+Resolved told (Err (At file number cause)) =
+    (is_fault cause ≡ false → refusal told ≡ Some (At file number cause))

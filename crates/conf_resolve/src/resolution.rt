@@ -28,18 +28,24 @@ fn pass<F: Files, R: Runner>(
     files: &mut F,
     runner: &mut R,
 ) -> Result<(), ResolveError>
-    ensures passes { (told : Told) (pass : Pass) (rows : List Row) → told.asked ≡ asked.now → told.facts ≡ known facts.now →
+    ensures passes { (told : Told) (pass : Pass) (rows : List Row) → told.asked ≡ asked.now
+        → told.facts ≡ known facts.now →
         TellsFiles (F.told files.old) told → TellsStatus (R.told runner.old) told.status →
         Begins told pass fold.old rows → Passes told pass rows fold.new result }
-    ensures ran { (told : Told) (pass : Pass) (rows : List Row) (before : Commands) → told.asked ≡ asked.now → told.facts ≡ known facts.now →
+    ensures ran { (told : Told) (pass : Pass) (rows : List Row) (before : Commands)
+        → told.asked ≡ asked.now → told.facts ≡ known facts.now →
         TellsFiles (F.told files.old) told → TellsStatus (R.told runner.old) told.status →
         Begins told pass fold.old rows → RanAll before (R.ran runner.old) (commands rows) →
-        RanUnless (breaks_off result) before (R.ran runner.new) (commands (final_rows told pass rows)) }
-    ensures fault { (told : Told) (pass : Pass) (rows : List Row) (before : Commands) → told.asked ≡ asked.now → told.facts ≡ known facts.now →
+        RanUnless (breaks_off result) before (R.ran runner.new)
+        (commands (final_rows told pass rows)) }
+    ensures fault { (told : Told) (pass : Pass) (rows : List Row) (before : Commands)
+        → told.asked ≡ asked.now → told.facts ≡ known facts.now →
         TellsFiles (F.told files.old) told → TellsStatus (R.told runner.old) told.status →
         Begins told pass fold.old rows → RanAll before (R.ran runner.old) (commands rows) →
-        IfErr result (λ e. FaultStands told (final_rows told pass rows) e before (R.ran runner.new)) }
-    ensures cause { HasCauses result (F.faults files.old) (F.faults files.new) (R.faults runner.old) (R.faults runner.new) }
+        IfErr result (λ e. FaultStands told (final_rows told pass rows) e before
+        (R.ran runner.new)) }
+    ensures cause { HasCauses result (F.faults files.old) (F.faults files.new) (R.faults runner.old)
+        (R.faults runner.new) }
     ensures files { F.told files.new ≡ F.told files.old }
     ensures runner { R.told runner.new ≡ R.told runner.old }
 {
@@ -61,7 +67,8 @@ fn passes<F: Files, R: Runner>(
 ) -> Result<(), ResolveError>
     ensures passes { (told : Told) → told.asked ≡ asked.now → told.facts ≡ known facts.now →
         TellsFiles (F.told files.old) told → TellsStatus (R.told runner.old) told.status →
-        Stands told First fold.old (asked_rows told) [] → refusal_in (asked_rows told) ≡ None → BothPass told fold.new result }
+        Stands told First fold.old (asked_rows told) [] → refusal_in (asked_rows told) ≡ None
+        → BothPass told fold.new result }
     ensures ran { (told : Told) → told.asked ≡ asked.now → told.facts ≡ known facts.now →
         TellsFiles (F.told files.old) told → TellsStatus (R.told runner.old) told.status →
         Stands told First fold.old (asked_rows told) [] → refusal_in (asked_rows told) ≡ None →
@@ -69,8 +76,10 @@ fn passes<F: Files, R: Runner>(
     ensures fault { (told : Told) → told.asked ≡ asked.now → told.facts ≡ known facts.now →
         TellsFiles (F.told files.old) told → TellsStatus (R.told runner.old) told.status →
         Stands told First fold.old (asked_rows told) [] → refusal_in (asked_rows told) ≡ None →
-        IfErr result (λ e. FaultStands told (all_rows told) e (R.ran runner.old) (R.ran runner.new)) }
-    ensures cause { HasCauses result (F.faults files.old) (F.faults files.new) (R.faults runner.old) (R.faults runner.new) }
+        IfErr result (λ e. FaultStands told (all_rows told) e (R.ran runner.old)
+        (R.ran runner.new)) }
+    ensures cause { HasCauses result (F.faults files.old) (F.faults files.new) (R.faults runner.old)
+        (R.faults runner.new) }
     ensures files { F.told files.new ≡ F.told files.old }
     ensures runner { R.told runner.new ≡ R.told runner.old }
 {
@@ -94,14 +103,17 @@ pub fn resolve<F: Files, R: Runner>(
     runner: &mut R,
 ) -> Result<Settings, ResolveError>
     ensures exact { (told : Told) → told.asked ≡ asked.now → told.facts ≡ known facts.now →
-        TellsFiles (F.told files.old) told → TellsStatus (R.told runner.old) told.status → Resolved told result }
+        TellsFiles (F.told files.old) told → TellsStatus (R.told runner.old) told.status
+        → Resolved told result }
     ensures ran { (told : Told) → told.asked ≡ asked.now → told.facts ≡ known facts.now →
         TellsFiles (F.told files.old) told → TellsStatus (R.told runner.old) told.status →
         RanUnless (breaks_off result) (R.ran runner.old) (R.ran runner.new) (execs told) }
     ensures fault { (told : Told) → told.asked ≡ asked.now → told.facts ≡ known facts.now →
         TellsFiles (F.told files.old) told → TellsStatus (R.told runner.old) told.status →
-        IfErr result (λ e. FaultStands told (all_rows told) e (R.ran runner.old) (R.ran runner.new)) }
-    ensures cause { HasCauses result (F.faults files.old) (F.faults files.new) (R.faults runner.old) (R.faults runner.new) }
+        IfErr result (λ e. FaultStands told (all_rows told) e (R.ran runner.old)
+        (R.ran runner.new)) }
+    ensures cause { HasCauses result (F.faults files.old) (F.faults files.new) (R.faults runner.old)
+        (R.faults runner.new) }
     ensures files { F.told files.new ≡ F.told files.old }
     ensures runner { R.told runner.new ≡ R.told runner.old }
 {

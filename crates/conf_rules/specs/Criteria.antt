@@ -44,7 +44,10 @@ split_value negated word = elim (split_at_first 61 word) [
 
 -- a criterion's own word
 abbrev pub spelled : Bytes → Spelled
-spelled word = elim (behind (33 ∷ []) word) [ Some rest ↦ split_value true rest | None ↦ split_value false word ]
+spelled word = elim (behind (33 ∷ []) word) [
+  | Some rest ↦ split_value true rest
+  | None ↦ split_value false word
+]
 
 -- criteria, or why there are none
 abbrev pub ReadCriteria : Type 0
@@ -52,7 +55,8 @@ ReadCriteria = Result (List Criterion) MatchError
 
 -- a criterion in front of later ones
 abbrev pub with_criterion : Bool → Kind → Bytes → ReadCriteria → ReadCriteria
-with_criterion negated kind value later = later >>= λ cs. Ok (record { negated = negated; kind = kind; value = value } ∷ cs)
+with_criterion negated kind value later = later >>= λ cs.
+    Ok (record { negated = negated; kind = kind; value = value } ∷ cs)
 
 -- whether `all` may stand behind a criterion
 abbrev pub opens_all : Kind → Bool
@@ -81,12 +85,17 @@ unfoldable pub criteria_from : ℕ → Bool → List Bytes → ReadCriteria
 criteria_from at may [] = Ok []
 criteria_from at may (word ∷ []) = let s = spelled word in elim s.name [
   | Plain kind ↦ unvalued at s.value (plain_criterion at may s.negated kind [] (Ok []))
-  | Valued kind ↦ elim s.value [ Some value ↦ with_criterion s.negated kind value (Ok []) | None ↦ Err (NoValue at) ]
+  | Valued kind ↦ elim s.value [
+    | Some value ↦ with_criterion s.negated kind value (Ok [])
+    | None ↦ Err (NoValue at)
+  ]
   | NotSupported ↦ Err (Unsupported at)
   | NoName ↦ Err (Unknown at)
 ]
 criteria_from at may (word ∷ next ∷ words) = let s = spelled word in elim s.name [
-  | Plain kind ↦ unvalued at s.value (plain_criterion at may s.negated kind (next ∷ words) (criteria_from (at + 1) (opens_all kind) (next ∷ words)))
+  | Plain kind ↦ unvalued at s.value
+      (plain_criterion at may s.negated kind (next ∷ words)
+      (criteria_from (at + 1) (opens_all kind) (next ∷ words)))
   | Valued kind ↦ elim s.value [
     | Some value ↦ with_criterion s.negated kind value (criteria_from (at + 1) false (next ∷ words))
     | None ↦ with_criterion s.negated kind next (criteria_from (at + 2) false words)

@@ -53,7 +53,8 @@ key_words false words = words
 
 -- a line of a key
 abbrev pub key_entry : Key → Bytes → SplitWords → ReadEntry
-key_entry key rest words = key_words (is_raw key) words >>= λ ws. as_error causes.Value (value_for key rest ws) >>= λ v. Ok (Gives key v)
+key_entry key rest words = key_words (is_raw key) words >>= λ ws.
+    as_error causes.Value (value_for key rest ws) >>= λ v. Ok (Gives key v)
 
 -- a line whose words alone are read
 abbrev pub words_entry : SplitWords → ReadEntry
@@ -77,17 +78,21 @@ keyword_entry ignored source keyword rest words kinds.Host = in_file source (blo
 keyword_entry ignored source keyword rest words kinds.Match = in_file source (tests_entry words)
 keyword_entry ignored source keyword rest words kinds.Include = in_file source (words_entry words)
 keyword_entry ignored source keyword rest words kinds.Unchecked = Ok Nothing
-keyword_entry ignored source keyword rest words kinds.Unknown = unknown_entry (takes_keyword ignored keyword) keyword words
+keyword_entry ignored source keyword rest words kinds.Unknown =
+    unknown_entry (takes_keyword ignored keyword) keyword words
 
 -- what a heading says
 abbrev pub headed_entry : Option Bytes → Source → Heading → ReadEntry
 headed_entry ignored source Comment = Ok Nothing
-headed_entry ignored source (Says keyword rest) = keyword_entry ignored source keyword rest (split rest) (meaning_of keyword)
+headed_entry ignored source (Says keyword rest) =
+    keyword_entry ignored source keyword rest (split rest) (meaning_of keyword)
 
 -- what the content of a line says
 abbrev pub content_entry : Option Bytes → Source → Content → ReadEntry
-content_entry ignored source (Spelled bytes) = as_error causes.Lex (head_of bytes) >>= headed_entry ignored source
-content_entry ignored source (Parts keyword words) = keyword_entry ignored source keyword [] (Ok words) (meaning_of keyword)
+content_entry ignored source (Spelled bytes) =
+    as_error causes.Lex (head_of bytes) >>= headed_entry ignored source
+content_entry ignored source (Parts keyword words) =
+    keyword_entry ignored source keyword [] (Ok words) (meaning_of keyword)
 content_entry ignored source (Refused cause) = Err cause
 
 -- what a line says behind rows: an unknown keyword that IgnoreUnknown, set earlier, takes is ignored

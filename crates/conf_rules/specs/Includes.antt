@@ -20,23 +20,38 @@ pub data Source : Type 0 where
 
 -- facts alone, since the list of files depends on no configured value
 abbrev pub facts_view : Told → View
-facts_view told = record { original = told.asked.original; host = []; jump = []; tag = []; port = 22; user = None; «alias» = None; facts = told.facts; last = false; name = told.asked.original }
+facts_view told = record {
+  original = told.asked.original;
+  host = [];
+  jump = [];
+  tag = [];
+  port =
+      22;
+  user = None;
+  «alias» = None;
+  facts = told.facts;
+  last = false;
+  name = told.asked.original;
+}
 
 -- a path that isn't absolute is taken from the folder of its source
 abbrev pub absolute : Source → Facts → Bytes → Result Bytes TokenError
-absolute SystemFile facts path = if starts_with_slash path then Ok path else Ok (codes "/etc/ssh/" ++ path)
+absolute SystemFile facts path = if starts_with_slash path then Ok path
+    else Ok (codes "/etc/ssh/" ++ path)
 absolute source facts path =
     if starts_with_slash path then Ok path
     else (fact_of 100 facts.home >>= λ home. Ok (home ++ (codes "/.ssh/" ++ path)))
 
 -- the path of a word
 abbrev pub path_of : Source → Told → Bytes → Result Bytes TokenError
-path_of source told word = expand_path false Included (facts_view told) word >>= absolute source told.facts
+path_of source told word =
+    expand_path false Included (facts_view told) word >>= absolute source told.facts
 
 -- the paths of words, or the first refusal
 abbrev pub paths_of : Source → Told → List Bytes → Result (List Bytes) TokenError
 paths_of source told [] = Ok []
-paths_of source told (word ∷ words) = path_of source told word >>= λ path. paths_of source told words >>= λ paths. Ok (path ∷ paths)
+paths_of source told (word ∷ words) = path_of source told word >>= λ path.
+    paths_of source told words >>= λ paths. Ok (path ∷ paths)
 
 -- a directory's path; that of the root is a slash
 abbrev pub or_root : Bytes → Bytes
@@ -46,13 +61,15 @@ or_root (b ∷ bs) = b ∷ bs
 -- a path with one more component; of a component with globs all names that it takes
 abbrev pub below : Told → Bytes → Bytes → List Bytes
 below told component base =
-    if is_glob component then map (λ name. base ++ (47 ∷ name)) (filter (component_takes component) (told.names (or_root base)))
+    if is_glob component then map (λ name. base ++ (47 ∷ name))
+    (filter (component_takes component) (told.names (or_root base)))
     else (base ++ (47 ∷ component)) ∷ []
 
 -- paths along components
 abbrev pub along : Told → List Bytes → List Bytes → List Bytes
 along told [] bases = bases
-along told (component ∷ components) bases = along told components (flat_map (below told component) bases)
+along told (component ∷ components) bases =
+    along told components (flat_map (below told component) bases)
 
 -- the components of a path; empty ones are dropped
 abbrev pub components_of : Bytes → List Bytes
@@ -88,13 +105,16 @@ abbrev pub files_of : Told → List Bytes → List ConfFile
 files_of told paths = flat_map (λ path. flat_map (file_at told) (globbed told path)) paths
 
 -- the files that words name; words without a reading name none, since their line is refused
-abbrev pub words_named : Source → Told → Result (List Bytes) LexError → Result (List ConfFile) TokenError
+abbrev pub words_named : Source → Told → Result (List Bytes) LexError
+    → Result (List ConfFile) TokenError
 words_named source told (Err e) = Ok []
-words_named source told (Ok words) = paths_of source told words >>= λ paths. Ok (files_of told paths)
+words_named source told (Ok words) = paths_of source told words >>= λ paths.
+    Ok (files_of told paths)
 
 -- the files that a heading names
 abbrev pub named_in : Source → Told → Result Heading LexError → Result (List ConfFile) TokenError
-named_in source told (Ok (Says keyword rest)) = if same_word keyword (codes "include") then words_named source told (words_of rest) else Ok []
+named_in source told (Ok (Says keyword rest)) = if same_word keyword (codes "include")
+    then words_named source told (words_of rest) else Ok []
 named_in source told heading = Ok []
 
 -- the files that a line includes, or the refusal of its tokens

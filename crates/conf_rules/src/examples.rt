@@ -14,142 +14,288 @@ pub fn a_listing_in_full()
 
 /// A negated pattern alone applies to nothing; criteria see the host name set so far; a last line may lack its line feed.
 pub fn blocks_and_ends()
-    ensures denied { listed_values (codes "port") (outcome (with_f (codes "Host !a" ∷ codes "Port 5" ∷ [])) (list_file (codes "f") (codes "b"))) ≡ codes "22" ∷ [] }
-    ensures criteria { listed_values (codes "port") (outcome (with_f (codes "Hostname %h.example" ∷ codes "Match host db.example" ∷ codes "Port 7" ∷ codes "Match originalhost db.example" ∷ codes "Port 8" ∷ [])) (list_file (codes "f") (codes "db"))) ≡ codes "7" ∷ [] }
-    ensures empty { listed_values (codes "port") (outcome (with_f []) (list_file (codes "f") (codes "b"))) ≡ codes "22" ∷ [] }
-    ensures unended { listed_values (codes "port") (outcome (machine ann (record { name = codes "f"; value = codes "Port 5" } ∷ [])) (list_file (codes "f") (codes "b"))) ≡ codes "5" ∷ [] }
+    ensures denied { listed_values (codes "port")
+        (outcome (with_f (codes "Host !a" ∷ codes "Port 5" ∷ []))
+        (list_file (codes "f") (codes "b"))) ≡ codes "22" ∷ [] }
+    ensures criteria { listed_values (codes "port")
+        (outcome (with_f (codes "Hostname %h.example" ∷ codes "Match host db.example"
+        ∷ codes "Port 7" ∷ codes "Match originalhost db.example" ∷ codes "Port 8" ∷ []))
+        (list_file (codes "f") (codes "db"))) ≡ codes "7" ∷ [] }
+    ensures empty { listed_values (codes "port")
+        (outcome (with_f []) (list_file (codes "f") (codes "b"))) ≡ codes "22" ∷ [] }
+    ensures unended { listed_values (codes "port")
+        (outcome (machine ann (record { name = codes "f"; value = codes "Port 5" } ∷ []))
+        (list_file (codes "f") (codes "b"))) ≡ codes "5" ∷ [] }
 {}
 
 /// A command runs only where the criteria before it hold.
 pub fn commands_reached()
-    ensures port { listed_values (codes "port") (outcome exec_machine (list_file (codes "f") (codes "db"))) ≡ codes "2" ∷ [] }
+    ensures port { listed_values (codes "port")
+        (outcome exec_machine (list_file (codes "f") (codes "db"))) ≡ codes "2" ∷ [] }
     ensures ran { ran_for exec_machine (list_file (codes "f") (codes "db")) ≡ codes "ok db" ∷ [] }
 {}
 
 /// A file that includes itself ends at the depth that is too much; one that isn't there is skipped.
 pub fn including_itself()
-    ensures deep { written (outcome (with_root_f (codes "Include /f" ∷ []) []) (list_file (codes "/f") (codes "x"))) ≡ says (codes "/f line 1: includes are too deep") }
-    ensures skipped { listed_values (codes "port") (outcome (with_root_f (codes "Include /none" ∷ []) []) (list_file (codes "/f") (codes "x"))) ≡ codes "22" ∷ [] }
-    ensures token { written (outcome (with_root_f (codes "Include /a %x" ∷ []) (file (codes "/a") (codes "Porp 1" ∷ []) ∷ [])) (list_file (codes "/f") (codes "x"))) ≡ says (codes "/f line 1: not a token here") }
+    ensures deep { written
+        (outcome (with_root_f (codes "Include /f" ∷ []) []) (list_file (codes "/f") (codes "x")))
+        ≡ says (codes "/f line 1: includes are too deep") }
+    ensures skipped { listed_values (codes "port")
+        (outcome (with_root_f (codes "Include /none" ∷ []) []) (list_file (codes "/f") (codes "x")))
+        ≡ codes "22" ∷ [] }
+    ensures token { written
+        (outcome (with_root_f (codes "Include /a %x" ∷ [])
+        (file (codes "/a") (codes "Porp 1" ∷ []) ∷ [])) (list_file (codes "/f") (codes "x")))
+        ≡ says (codes "/f line 1: not a token here") }
 {}
 
 /// Lines that are refused, and one that IgnoreUnknown takes.
 pub fn refused_lines()
-    ensures equals { written (outcome (with_f (codes "Port = = 2" ∷ [])) (list_file (codes "f") (codes "x"))) ≡ says (codes "f line 1: two equals signs") }
-    ensures unknown { written (outcome (with_f (codes "Porp 2" ∷ [])) (list_file (codes "f") (codes "x"))) ≡ says (codes "f line 1: unknown keyword porp") }
-    ensures ignored { listed_values (codes "port") (outcome (with_f (codes "IgnoreUnknown porp*" ∷ codes "Porp 2" ∷ [])) (list_file (codes "f") (codes "x"))) ≡ codes "22" ∷ [] }
-    ensures quote { written (outcome (with_f (codes "Host \"a" ∷ [])) (list_file (codes "f") (codes "x"))) ≡ says (codes "f line 1: a quote is not closed") }
+    ensures equals { written
+        (outcome (with_f (codes "Port = = 2" ∷ [])) (list_file (codes "f") (codes "x")))
+        ≡ says (codes "f line 1: two equals signs") }
+    ensures unknown { written
+        (outcome (with_f (codes "Porp 2" ∷ [])) (list_file (codes "f") (codes "x")))
+        ≡ says (codes "f line 1: unknown keyword porp") }
+    ensures ignored { listed_values (codes "port")
+        (outcome (with_f (codes "IgnoreUnknown porp*" ∷ codes "Porp 2" ∷ []))
+        (list_file (codes "f") (codes "x"))) ≡ codes "22" ∷ [] }
+    ensures quote { written
+        (outcome (with_f (codes "Host \"a" ∷ [])) (list_file (codes "f") (codes "x")))
+        ≡ says (codes "f line 1: a quote is not closed") }
 {}
 
 /// What is missing on the command line.
 pub fn missing_words()
-    ensures destination { written (outcome bare (codes "-G" ∷ [])) ≡ says (codes "word 2: a destination is missing") }
-    ensures value { written (outcome bare (codes "-G" ∷ codes "-F" ∷ codes "none" ∷ codes "x" ∷ codes "-p" ∷ [])) ≡ says (codes "word 5: a value is missing") }
-    ensures transport { written (outcome bare (codes "-M" ∷ codes "-F" ∷ codes "none" ∷ codes "-S" ∷ codes "/c" ∷ codes "x" ∷ [])) ≡ says (codes "word 7: --transport is missing") }
+    ensures destination { written (outcome bare (codes "-G" ∷ []))
+        ≡ says (codes "word 2: a destination is missing") }
+    ensures value { written
+        (outcome bare (codes "-G" ∷ codes "-F" ∷ codes "none" ∷ codes "x" ∷ codes "-p" ∷ []))
+        ≡ says (codes "word 5: a value is missing") }
+    ensures transport { written
+        (outcome bare (codes "-M" ∷ codes "-F" ∷ codes "none" ∷ codes "-S" ∷ codes "/c"
+        ∷ codes "x" ∷ [])) ≡ says (codes "word 7: --transport is missing") }
 {}
 
 /// The master needs a control path.
 pub fn control_path_of_the_master()
-    ensures unset { written (outcome bare (codes "-M" ∷ codes "-F" ∷ codes "none" ∷ codes "--transport" ∷ codes "/t" ∷ codes "x" ∷ [])) ≡ says (codes "controlpath: not set") }
-    ensures opened { outcome bare (codes "-M" ∷ codes "-F" ∷ codes "none" ∷ codes "--transport" ∷ codes "/t" ∷ codes "-S" ∷ codes "/c" ∷ codes "x" ∷ []) ≡ Opens (codes "/c") (codes "/t") [] [] }
+    ensures unset { written
+        (outcome bare (codes "-M" ∷ codes "-F" ∷ codes "none" ∷ codes "--transport" ∷ codes "/t"
+        ∷ codes "x" ∷ [])) ≡ says (codes "controlpath: not set") }
+    ensures opened { outcome bare (codes "-M" ∷ codes "-F" ∷ codes "none" ∷ codes "--transport"
+        ∷ codes "/t" ∷ codes "-S" ∷ codes "/c" ∷ codes "x" ∷ [])
+        ≡ Opens (codes "/c") (codes "/t") [] [] }
 {}
 
 /// A drill is read from three numbers in their ranges.
 pub fn words_of_a_drill()
-    ensures read { outcome bare (codes "--drill" ∷ codes "0" ∷ codes "1" ∷ codes "1" ∷ []) ≡ Drills 0 1 1 }
-    ensures refused { written (outcome bare (codes "--drill" ∷ codes "1" ∷ codes "65" ∷ codes "0" ∷ [])) ≡ says (codes "word 3: not a drill number") }
+    ensures read { outcome bare (codes "--drill" ∷ codes "0" ∷ codes "1" ∷ codes "1" ∷ [])
+        ≡ Drills 0 1 1 }
+    ensures refused { written
+        (outcome bare (codes "--drill" ∷ codes "1" ∷ codes "65" ∷ codes "0" ∷ []))
+        ≡ says (codes "word 3: not a drill number") }
 {}
 
 /// Of two hosts' blocks one applies.
 pub fn one_host()
-    ensures host { listed_values (codes "host") (outcome (with_f (codes "# one host" ∷ codes "Host db" ∷ codes "Hostname 10.0.0.5" ∷ codes "Port = 2222" ∷ codes "User ann" ∷ codes "Host other" ∷ codes "Port 9" ∷ [])) (list_file (codes "f") (codes "db"))) ≡ codes "db" ∷ [] }
-    ensures user { listed_values (codes "user") (outcome (with_f (codes "# one host" ∷ codes "Host db" ∷ codes "Hostname 10.0.0.5" ∷ codes "Port = 2222" ∷ codes "User ann" ∷ codes "Host other" ∷ codes "Port 9" ∷ [])) (list_file (codes "f") (codes "db"))) ≡ codes "ann" ∷ [] }
-    ensures hostname { listed_values (codes "hostname") (outcome (with_f (codes "# one host" ∷ codes "Host db" ∷ codes "Hostname 10.0.0.5" ∷ codes "Port = 2222" ∷ codes "User ann" ∷ codes "Host other" ∷ codes "Port 9" ∷ [])) (list_file (codes "f") (codes "db"))) ≡ codes "10.0.0.5" ∷ [] }
-    ensures port { listed_values (codes "port") (outcome (with_f (codes "# one host" ∷ codes "Host db" ∷ codes "Hostname 10.0.0.5" ∷ codes "Port = 2222" ∷ codes "User ann" ∷ codes "Host other" ∷ codes "Port 9" ∷ [])) (list_file (codes "f") (codes "db"))) ≡ codes "2222" ∷ [] }
-    ensures all { length (lines_of (written (outcome (with_f (codes "# one host" ∷ codes "Host db" ∷ codes "Hostname 10.0.0.5" ∷ codes "Port = 2222" ∷ codes "User ann" ∷ codes "Host other" ∷ codes "Port 9" ∷ [])) (list_file (codes "f") (codes "db"))))) ≡ 29 }
+    ensures host { listed_values (codes "host")
+        (outcome (with_f (codes "# one host" ∷ codes "Host db" ∷ codes "Hostname 10.0.0.5"
+        ∷ codes "Port = 2222" ∷ codes "User ann" ∷ codes "Host other" ∷ codes "Port 9" ∷ []))
+        (list_file (codes "f") (codes "db"))) ≡ codes "db" ∷ [] }
+    ensures user { listed_values (codes "user")
+        (outcome (with_f (codes "# one host" ∷ codes "Host db" ∷ codes "Hostname 10.0.0.5"
+        ∷ codes "Port = 2222" ∷ codes "User ann" ∷ codes "Host other" ∷ codes "Port 9" ∷ []))
+        (list_file (codes "f") (codes "db"))) ≡ codes "ann" ∷ [] }
+    ensures hostname { listed_values (codes "hostname")
+        (outcome (with_f (codes "# one host" ∷ codes "Host db" ∷ codes "Hostname 10.0.0.5"
+        ∷ codes "Port = 2222" ∷ codes "User ann" ∷ codes "Host other" ∷ codes "Port 9" ∷ []))
+        (list_file (codes "f") (codes "db"))) ≡ codes "10.0.0.5" ∷ [] }
+    ensures port { listed_values (codes "port")
+        (outcome (with_f (codes "# one host" ∷ codes "Host db" ∷ codes "Hostname 10.0.0.5"
+        ∷ codes "Port = 2222" ∷ codes "User ann" ∷ codes "Host other" ∷ codes "Port 9" ∷ []))
+        (list_file (codes "f") (codes "db"))) ≡ codes "2222" ∷ [] }
+    ensures all { length (lines_of
+        (written (outcome (with_f (codes "# one host" ∷ codes "Host db" ∷ codes "Hostname 10.0.0.5"
+        ∷ codes "Port = 2222" ∷ codes "User ann" ∷ codes "Host other" ∷ codes "Port 9" ∷ []))
+        (list_file (codes "f") (codes "db"))))) ≡ 29 }
 {}
 
 /// The first value counts.
 pub fn first_value_wins()
-    ensures { listed_values (codes "port") (outcome (with_f (codes "Port 1" ∷ codes "Port 2" ∷ codes "User a" ∷ [])) (list_file (codes "f") (codes "x"))) ≡ codes "1" ∷ [] }
+    ensures { listed_values (codes "port")
+        (outcome (with_f (codes "Port 1" ∷ codes "Port 2" ∷ codes "User a" ∷ []))
+        (list_file (codes "f") (codes "x"))) ≡ codes "1" ∷ [] }
 {}
 
 /// A pattern of SendEnv behind a dash removes the earlier ones that it matches.
 pub fn removed_patterns()
-    ensures { listed_values (codes "sendenv") (outcome (with_f (codes "SendEnv LANG LC_*" ∷ codes "SendEnv -LC_?" ∷ codes "SendEnv -L*G X" ∷ codes "User a" ∷ [])) (list_file (codes "f") (codes "x"))) ≡ codes "X" ∷ [] }
+    ensures { listed_values (codes "sendenv")
+        (outcome (with_f (codes "SendEnv LANG LC_*" ∷ codes "SendEnv -LC_?" ∷ codes "SendEnv -L*G X"
+        ∷ codes "User a" ∷ [])) (list_file (codes "f") (codes "x"))) ≡ codes "X" ∷ [] }
 {}
 
 /// Times are seconds, `off` is `no`, and a proxy command `none` leaves no place for a jump.
 pub fn values_as_listed()
-    ensures interval { listed_values (codes "serveraliveinterval") (outcome (with_f (codes "ServerAliveInterval 1m30" ∷ codes "StrictHostKeyChecking OFF" ∷ codes "ProxyCommand none" ∷ codes "ProxyJump gate" ∷ codes "User a" ∷ [])) (list_file (codes "f") (codes "x"))) ≡ codes "90" ∷ [] }
-    ensures strict { listed_values (codes "stricthostkeychecking") (outcome (with_f (codes "ServerAliveInterval 1m30" ∷ codes "StrictHostKeyChecking OFF" ∷ codes "ProxyCommand none" ∷ codes "ProxyJump gate" ∷ codes "User a" ∷ [])) (list_file (codes "f") (codes "x"))) ≡ codes "no" ∷ [] }
-    ensures command { listed_values (codes "proxycommand") (outcome (with_f (codes "ServerAliveInterval 1m30" ∷ codes "StrictHostKeyChecking OFF" ∷ codes "ProxyCommand none" ∷ codes "ProxyJump gate" ∷ codes "User a" ∷ [])) (list_file (codes "f") (codes "x"))) ≡ [] }
-    ensures jump { listed_values (codes "proxyjump") (outcome (with_f (codes "ServerAliveInterval 1m30" ∷ codes "StrictHostKeyChecking OFF" ∷ codes "ProxyCommand none" ∷ codes "ProxyJump gate" ∷ codes "User a" ∷ [])) (list_file (codes "f") (codes "x"))) ≡ [] }
+    ensures interval { listed_values (codes "serveraliveinterval")
+        (outcome (with_f (codes "ServerAliveInterval 1m30" ∷ codes "StrictHostKeyChecking OFF"
+        ∷ codes "ProxyCommand none" ∷ codes "ProxyJump gate" ∷ codes "User a" ∷ []))
+        (list_file (codes "f") (codes "x"))) ≡ codes "90" ∷ [] }
+    ensures strict { listed_values (codes "stricthostkeychecking")
+        (outcome (with_f (codes "ServerAliveInterval 1m30" ∷ codes "StrictHostKeyChecking OFF"
+        ∷ codes "ProxyCommand none" ∷ codes "ProxyJump gate" ∷ codes "User a" ∷ []))
+        (list_file (codes "f") (codes "x"))) ≡ codes "no" ∷ [] }
+    ensures command { listed_values (codes "proxycommand")
+        (outcome (with_f (codes "ServerAliveInterval 1m30" ∷ codes "StrictHostKeyChecking OFF"
+        ∷ codes "ProxyCommand none" ∷ codes "ProxyJump gate" ∷ codes "User a" ∷ []))
+        (list_file (codes "f") (codes "x"))) ≡ [] }
+    ensures jump { listed_values (codes "proxyjump")
+        (outcome (with_f (codes "ServerAliveInterval 1m30" ∷ codes "StrictHostKeyChecking OFF"
+        ∷ codes "ProxyCommand none" ∷ codes "ProxyJump gate" ∷ codes "User a" ∷ []))
+        (list_file (codes "f") (codes "x"))) ≡ [] }
 {}
 
 /// Tokens of a control path, and one whose fact isn't known.
 pub fn tokens_of_a_control_path()
-    ensures home { listed_values (codes "controlpath") (outcome (machine (at_home (codes "/h")) (file (codes "f") (codes "ControlPath ~/%r%%$" ∷ codes "User a" ∷ []) ∷ [])) (list_file (codes "f") (codes "x"))) ≡ codes "/h/a%$" ∷ [] }
-    ensures missing { written (outcome (with_f (codes "ControlPath /tmp/%i" ∷ codes "User a" ∷ [])) (list_file (codes "f") (codes "x"))) ≡ says (codes "controlpath: fact i is missing") }
+    ensures home { listed_values (codes "controlpath")
+        (outcome (machine (at_home (codes "/h"))
+        (file (codes "f") (codes "ControlPath ~/%r%%$" ∷ codes "User a" ∷ []) ∷ []))
+        (list_file (codes "f") (codes "x"))) ≡ codes "/h/a%$" ∷ [] }
+    ensures missing { written (outcome (with_f (codes "ControlPath /tmp/%i" ∷ codes "User a" ∷ []))
+        (list_file (codes "f") (codes "x"))) ≡ says (codes "controlpath: fact i is missing") }
 {}
 
 /// Criteria that aren't supported, or don't stand alone.
 pub fn refused_criteria()
-    ensures supported { written (outcome (with_f (codes "Match user ann" ∷ codes "Port 1" ∷ codes "Match localnetwork 10.0.0.0/8" ∷ [])) (list_file (codes "f") (codes "x"))) ≡ says (codes "f line 3: criterion not supported") }
-    ensures alone { written (outcome (with_f (codes "Match all host x" ∷ [])) (list_file (codes "f") (codes "x"))) ≡ says (codes "f line 1: all must stand alone") }
+    ensures supported { written
+        (outcome (with_f (codes "Match user ann" ∷ codes "Port 1"
+        ∷ codes "Match localnetwork 10.0.0.0/8" ∷ [])) (list_file (codes "f") (codes "x")))
+        ≡ says (codes "f line 3: criterion not supported") }
+    ensures alone { written
+        (outcome (with_f (codes "Match all host x" ∷ [])) (list_file (codes "f") (codes "x")))
+        ≡ says (codes "f line 1: all must stand alone") }
 {}
 
 /// Letters, lines and a user, in the order of the words.
 pub fn letters_in_order()
-    ensures host { listed_values (codes "host") (outcome bare (codes "-GF" ∷ codes "none" ∷ codes "-p" ∷ codes "10" ∷ codes "-oPort=9" ∷ codes "bob@x" ∷ [])) ≡ codes "x" ∷ [] }
-    ensures user { listed_values (codes "user") (outcome bare (codes "-GF" ∷ codes "none" ∷ codes "-p" ∷ codes "10" ∷ codes "-oPort=9" ∷ codes "bob@x" ∷ [])) ≡ codes "bob" ∷ [] }
-    ensures port { listed_values (codes "port") (outcome bare (codes "-GF" ∷ codes "none" ∷ codes "-p" ∷ codes "10" ∷ codes "-oPort=9" ∷ codes "bob@x" ∷ [])) ≡ codes "10" ∷ [] }
-    ensures all { length (lines_of (written (outcome bare (codes "-GF" ∷ codes "none" ∷ codes "-p" ∷ codes "10" ∷ codes "-oPort=9" ∷ codes "bob@x" ∷ [])))) ≡ 29 }
+    ensures host { listed_values (codes "host")
+        (outcome bare (codes "-GF" ∷ codes "none" ∷ codes "-p" ∷ codes "10" ∷ codes "-oPort=9"
+        ∷ codes "bob@x" ∷ [])) ≡ codes "x" ∷ [] }
+    ensures user { listed_values (codes "user")
+        (outcome bare (codes "-GF" ∷ codes "none" ∷ codes "-p" ∷ codes "10" ∷ codes "-oPort=9"
+        ∷ codes "bob@x" ∷ [])) ≡ codes "bob" ∷ [] }
+    ensures port { listed_values (codes "port")
+        (outcome bare (codes "-GF" ∷ codes "none" ∷ codes "-p" ∷ codes "10" ∷ codes "-oPort=9"
+        ∷ codes "bob@x" ∷ [])) ≡ codes "10" ∷ [] }
+    ensures all { length (lines_of
+        (written (outcome bare (codes "-GF" ∷ codes "none" ∷ codes "-p" ∷ codes "10"
+        ∷ codes "-oPort=9" ∷ codes "bob@x" ∷ [])))) ≡ 29 }
 {}
 
 /// What stands only in files, two modes, options of the master, and two destinations.
 pub fn refused_words()
-    ensures block { written (outcome bare (codes "-G" ∷ codes "-F" ∷ codes "none" ∷ codes "-o" ∷ codes "Host a" ∷ codes "x" ∷ [])) ≡ says (codes "command line line 5: not on the command line") }
-    ensures modes { written (outcome bare (codes "-G" ∷ codes "-M" ∷ codes "x" ∷ [])) ≡ says (codes "word 2: only one of -G and -M is taken") }
-    ensures master { written (outcome bare (codes "-G" ∷ codes "--transport" ∷ codes "/t" ∷ codes "x" ∷ [])) ≡ says (codes "word 2: only for -M") }
-    ensures destinations { written (outcome bare (codes "-G" ∷ codes "a" ∷ codes "b" ∷ [])) ≡ says (codes "word 3: only one destination is taken") }
+    ensures block { written
+        (outcome bare (codes "-G" ∷ codes "-F" ∷ codes "none" ∷ codes "-o" ∷ codes "Host a"
+        ∷ codes "x" ∷ [])) ≡ says (codes "command line line 5: not on the command line") }
+    ensures modes { written (outcome bare (codes "-G" ∷ codes "-M" ∷ codes "x" ∷ []))
+        ≡ says (codes "word 2: only one of -G and -M is taken") }
+    ensures master { written
+        (outcome bare (codes "-G" ∷ codes "--transport" ∷ codes "/t" ∷ codes "x" ∷ []))
+        ≡ says (codes "word 2: only for -M") }
+    ensures destinations { written (outcome bare (codes "-G" ∷ codes "a" ∷ codes "b" ∷ []))
+        ≡ says (codes "word 3: only one destination is taken") }
 {}
 
 /// Included files are read in the order of their paths; a name with a leading dot isn't matched by a star.
 pub fn included_in_order()
-    ensures sorted { listed_values (codes "identityfile") (outcome (with_root_f (codes "Include /d/*.c" ∷ []) (file (codes "/d/b.c") (codes "IdentityFile b" ∷ []) ∷ file (codes "/d/a.c") (codes "IdentityFile a" ∷ []) ∷ file (codes "/d/.h.c") (codes "IdentityFile h" ∷ []) ∷ file (codes "/d/.c") (codes "IdentityFile dot" ∷ []) ∷ [])) (list_file (codes "/f") (codes "x"))) ≡ codes "a" ∷ codes "b" ∷ [] }
-    ensures empty_components { listed_values (codes "identityfile") (outcome (with_root_f (codes "Include /d//*.c" ∷ []) (file (codes "/d/b.c") (codes "IdentityFile b" ∷ []) ∷ file (codes "/d/a.c") (codes "IdentityFile a" ∷ []) ∷ file (codes "/d/.h.c") (codes "IdentityFile h" ∷ []) ∷ file (codes "/d/.c") (codes "IdentityFile dot" ∷ []) ∷ [])) (list_file (codes "/f") (codes "x"))) ≡ codes "a" ∷ codes "b" ∷ [] }
+    ensures sorted { listed_values (codes "identityfile")
+        (outcome (with_root_f (codes "Include /d/*.c" ∷ [])
+        (file (codes "/d/b.c") (codes "IdentityFile b" ∷ [])
+        ∷ file (codes "/d/a.c") (codes "IdentityFile a" ∷ [])
+        ∷ file (codes "/d/.h.c") (codes "IdentityFile h" ∷ [])
+        ∷ file (codes "/d/.c") (codes "IdentityFile dot" ∷ []) ∷ []))
+        (list_file (codes "/f") (codes "x"))) ≡ codes "a" ∷ codes "b" ∷ [] }
+    ensures empty_components { listed_values (codes "identityfile")
+        (outcome (with_root_f (codes "Include /d//*.c" ∷ [])
+        (file (codes "/d/b.c") (codes "IdentityFile b" ∷ [])
+        ∷ file (codes "/d/a.c") (codes "IdentityFile a" ∷ [])
+        ∷ file (codes "/d/.h.c") (codes "IdentityFile h" ∷ [])
+        ∷ file (codes "/d/.c") (codes "IdentityFile dot" ∷ []) ∷ []))
+        (list_file (codes "/f") (codes "x"))) ≡ codes "a" ∷ codes "b" ∷ [] }
 {}
 
 /// A path with globs and a slash at its end names directories alone, so no file is read.
 pub fn directories_alone()
-    ensures slash { listed_values (codes "identityfile") (outcome (with_root_f (codes "Include /i/*/" ∷ []) (file (codes "/i/a") (codes "IdentityFile a" ∷ []) ∷ file (codes "/i/d/b") (codes "IdentityFile b" ∷ []) ∷ [])) (list_file (codes "/f") (codes "x"))) ≡ [] }
-    ensures plain { listed_values (codes "identityfile") (outcome (with_root_f (codes "Include /i/*" ∷ []) (file (codes "/i/a") (codes "IdentityFile a" ∷ []) ∷ file (codes "/i/d/b") (codes "IdentityFile b" ∷ []) ∷ [])) (list_file (codes "/f") (codes "x"))) ≡ codes "a" ∷ [] }
-    ensures inside { listed_values (codes "identityfile") (outcome (with_root_f (codes "Include /i//*//b" ∷ []) (file (codes "/i/a") (codes "IdentityFile a" ∷ []) ∷ file (codes "/i/d/b") (codes "IdentityFile b" ∷ []) ∷ [])) (list_file (codes "/f") (codes "x"))) ≡ codes "b" ∷ [] }
+    ensures slash { listed_values (codes "identityfile")
+        (outcome (with_root_f (codes "Include /i/*/" ∷ [])
+        (file (codes "/i/a") (codes "IdentityFile a" ∷ [])
+        ∷ file (codes "/i/d/b") (codes "IdentityFile b" ∷ []) ∷ []))
+        (list_file (codes "/f") (codes "x"))) ≡ [] }
+    ensures plain { listed_values (codes "identityfile")
+        (outcome (with_root_f (codes "Include /i/*" ∷ [])
+        (file (codes "/i/a") (codes "IdentityFile a" ∷ [])
+        ∷ file (codes "/i/d/b") (codes "IdentityFile b" ∷ []) ∷ []))
+        (list_file (codes "/f") (codes "x"))) ≡ codes "a" ∷ [] }
+    ensures inside { listed_values (codes "identityfile")
+        (outcome (with_root_f (codes "Include /i//*//b" ∷ [])
+        (file (codes "/i/a") (codes "IdentityFile a" ∷ [])
+        ∷ file (codes "/i/d/b") (codes "IdentityFile b" ∷ []) ∷ []))
+        (list_file (codes "/f") (codes "x"))) ≡ codes "b" ∷ [] }
 {}
 
 /// A second pass, where a Match line asks for it: its blocks see the host name behind the first pass.
 pub fn second_pass()
-    ensures late { listed_values (codes "user") (outcome (with_f (codes "Host 10.*" ∷ codes "Port 9" ∷ codes "Host db" ∷ codes "Hostname 10.0.0.5" ∷ codes "Match final" ∷ codes "User late" ∷ [])) (list_file (codes "f") (codes "db"))) ≡ codes "late" ∷ [] }
-    ensures name { listed_values (codes "hostname") (outcome (with_f (codes "Host 10.*" ∷ codes "Port 9" ∷ codes "Host db" ∷ codes "Hostname 10.0.0.5" ∷ codes "Match final" ∷ codes "User late" ∷ [])) (list_file (codes "f") (codes "db"))) ≡ codes "10.0.0.5" ∷ [] }
-    ensures port { listed_values (codes "port") (outcome (with_f (codes "Host 10.*" ∷ codes "Port 9" ∷ codes "Host db" ∷ codes "Hostname 10.0.0.5" ∷ codes "Match final" ∷ codes "User late" ∷ [])) (list_file (codes "f") (codes "db"))) ≡ codes "9" ∷ [] }
-    ensures user_without { listed_values (codes "user") (outcome (with_f (codes "Host 10.*" ∷ codes "Port 9" ∷ codes "Host db" ∷ codes "Hostname 10.0.0.5" ∷ [])) (list_file (codes "f") (codes "db"))) ≡ codes "ann" ∷ [] }
-    ensures port_without { listed_values (codes "port") (outcome (with_f (codes "Host 10.*" ∷ codes "Port 9" ∷ codes "Host db" ∷ codes "Hostname 10.0.0.5" ∷ [])) (list_file (codes "f") (codes "db"))) ≡ codes "22" ∷ [] }
+    ensures late { listed_values (codes "user")
+        (outcome (with_f (codes "Host 10.*" ∷ codes "Port 9" ∷ codes "Host db"
+        ∷ codes "Hostname 10.0.0.5" ∷ codes "Match final" ∷ codes "User late" ∷ []))
+        (list_file (codes "f") (codes "db"))) ≡ codes "late" ∷ [] }
+    ensures name { listed_values (codes "hostname")
+        (outcome (with_f (codes "Host 10.*" ∷ codes "Port 9" ∷ codes "Host db"
+        ∷ codes "Hostname 10.0.0.5" ∷ codes "Match final" ∷ codes "User late" ∷ []))
+        (list_file (codes "f") (codes "db"))) ≡ codes "10.0.0.5" ∷ [] }
+    ensures port { listed_values (codes "port")
+        (outcome (with_f (codes "Host 10.*" ∷ codes "Port 9" ∷ codes "Host db"
+        ∷ codes "Hostname 10.0.0.5" ∷ codes "Match final" ∷ codes "User late" ∷ []))
+        (list_file (codes "f") (codes "db"))) ≡ codes "9" ∷ [] }
+    ensures user_without { listed_values (codes "user")
+        (outcome (with_f (codes "Host 10.*" ∷ codes "Port 9" ∷ codes "Host db"
+        ∷ codes "Hostname 10.0.0.5" ∷ [])) (list_file (codes "f") (codes "db")))
+        ≡ codes "ann" ∷ [] }
+    ensures port_without { listed_values (codes "port")
+        (outcome (with_f (codes "Host 10.*" ∷ codes "Port 9" ∷ codes "Host db"
+        ∷ codes "Hostname 10.0.0.5" ∷ [])) (list_file (codes "f") (codes "db"))) ≡ codes "22" ∷ [] }
 {}
 
 /// What is collected counts once, and `final` holds in the second pass alone.
 pub fn each_pass()
-    ensures once { listed_values (codes "identityfile") (outcome (with_f (codes "IdentityFile a" ∷ codes "Match final" ∷ codes "IdentityFile b" ∷ codes "Match !final" ∷ codes "Port 5" ∷ codes "Match final all" ∷ codes "Port 6" ∷ codes "User u" ∷ [])) (list_file (codes "f") (codes "db"))) ≡ codes "a" ∷ codes "b" ∷ [] }
-    ensures first { listed_values (codes "port") (outcome (with_f (codes "IdentityFile a" ∷ codes "Match final" ∷ codes "IdentityFile b" ∷ codes "Match !final" ∷ codes "Port 5" ∷ codes "Match final all" ∷ codes "Port 6" ∷ codes "User u" ∷ [])) (list_file (codes "f") (codes "db"))) ≡ codes "5" ∷ [] }
-    ensures second { listed_values (codes "user") (outcome (with_f (codes "IdentityFile a" ∷ codes "Match final" ∷ codes "IdentityFile b" ∷ codes "Match !final" ∷ codes "Port 5" ∷ codes "Match final all" ∷ codes "Port 6" ∷ codes "User u" ∷ [])) (list_file (codes "f") (codes "db"))) ≡ codes "u" ∷ [] }
-    ensures alone { written (outcome (with_f (codes "Match all final" ∷ [])) (list_file (codes "f") (codes "x"))) ≡ says (codes "f line 1: all must stand alone") }
-    ensures behind { listed_values (codes "port") (outcome (with_f (codes "Match canonical all" ∷ codes "Port 5" ∷ codes "Match all" ∷ codes "Port 6" ∷ [])) (list_file (codes "f") (codes "db"))) ≡ codes "6" ∷ [] }
+    ensures once { listed_values (codes "identityfile")
+        (outcome (with_f (codes "IdentityFile a" ∷ codes "Match final" ∷ codes "IdentityFile b"
+        ∷ codes "Match !final" ∷ codes "Port 5" ∷ codes "Match final all" ∷ codes "Port 6"
+        ∷ codes "User u" ∷ [])) (list_file (codes "f") (codes "db"))) ≡ codes "a" ∷ codes "b" ∷ [] }
+    ensures first { listed_values (codes "port")
+        (outcome (with_f (codes "IdentityFile a" ∷ codes "Match final" ∷ codes "IdentityFile b"
+        ∷ codes "Match !final" ∷ codes "Port 5" ∷ codes "Match final all" ∷ codes "Port 6"
+        ∷ codes "User u" ∷ [])) (list_file (codes "f") (codes "db"))) ≡ codes "5" ∷ [] }
+    ensures second { listed_values (codes "user")
+        (outcome (with_f (codes "IdentityFile a" ∷ codes "Match final" ∷ codes "IdentityFile b"
+        ∷ codes "Match !final" ∷ codes "Port 5" ∷ codes "Match final all" ∷ codes "Port 6"
+        ∷ codes "User u" ∷ [])) (list_file (codes "f") (codes "db"))) ≡ codes "u" ∷ [] }
+    ensures alone { written
+        (outcome (with_f (codes "Match all final" ∷ [])) (list_file (codes "f") (codes "x")))
+        ≡ says (codes "f line 1: all must stand alone") }
+    ensures behind { listed_values (codes "port")
+        (outcome (with_f (codes "Match canonical all" ∷ codes "Port 5" ∷ codes "Match all"
+        ∷ codes "Port 6" ∷ [])) (list_file (codes "f") (codes "db"))) ≡ codes "6" ∷ [] }
 {}
 
 /// A refusal of the second pass counts, and its commands run behind those of the first.
 pub fn reached_in_the_second_pass()
-    ensures refused { written (outcome (machine (record ann { local_user = None }) (file (codes "f") (codes "Match final user ann" ∷ []) ∷ [])) (list_file (codes "f") (codes "x"))) ≡ says (codes "f line 1: fact r is missing") }
-    ensures ran { ran_for (with_f (codes "Match final exec \"a %h\"" ∷ codes "Match exec \"b %n\"" ∷ [])) (list_file (codes "f") (codes "x")) ≡ codes "b x" ∷ codes "a x" ∷ codes "b x" ∷ [] }
+    ensures refused { written
+        (outcome (machine (record ann { local_user = None })
+        (file (codes "f") (codes "Match final user ann" ∷ []) ∷ []))
+        (list_file (codes "f") (codes "x"))) ≡ says (codes "f line 1: fact r is missing") }
+    ensures ran { ran_for
+        (with_f (codes "Match final exec \"a %h\"" ∷ codes "Match exec \"b %n\"" ∷ []))
+        (list_file (codes "f") (codes "x")) ≡ codes "b x" ∷ codes "a x" ∷ codes "b x" ∷ [] }
 {}
 
 ghost use Rattle.conf_rules.specs.Tokens.{digest};
@@ -158,5 +304,9 @@ ghost use Rattle.conf_rules.specs.Tokens.{digest};
 #[tactic(auto, unfolding(crate::specs::Numbers::digits_of, crate::specs::Heads::lines_of, crate::specs::Heads::head_of, crate::specs::Heads::uncommented, crate::specs::Heads::said_at, crate::specs::Heads::after_keyword, crate::specs::Words::words_from, crate::specs::Words::move_of, crate::specs::Patterns::matches, crate::specs::Patterns::answer_of, crate::specs::Globs::pieces_take, crate::specs::Globs::component_takes, crate::specs::Globs::pieces_from, crate::specs::Keys::key_of, crate::specs::Keywords::meaning_of, crate::specs::Keywords::unchecked, crate::specs::Kinds::default_of, crate::specs::Values::values_of, crate::specs::Values::value_of, crate::specs::Times::seconds_from, crate::specs::Tokens::expand_from, crate::specs::Tokens::name_expanded, crate::specs::Tokens::meaning, crate::specs::Criteria::criteria_from, crate::specs::Evaluation::verdict, crate::specs::Includes::included_files, crate::specs::Includes::globbed, crate::specs::Sources::lines_in, crate::specs::Sources::file_lines, crate::specs::Sources::included, crate::specs::Sources::all_lines, crate::specs::Sources::size_limit, crate::specs::Sources::is_opening, crate::specs::Rows::values, crate::specs::Resolution::view_at, crate::specs::Resolution::line_limit, crate::specs::Resolution::row_of, crate::specs::Resolution::rows_from, crate::specs::Resolution::rows_by, crate::specs::Resolution::rows_behind, crate::specs::Resolution::all_rows, crate::specs::Entries::entry_of, crate::specs::Listing::shown, crate::specs::Listing::listing_over, crate::specs::Listing::control_path_at, crate::specs::Options::forward_words, crate::specs::CommandLine::steps_from, crate::specs::CommandLine::walk_from, crate::specs::CommandLine::command_of, crate::specs::Reading::reading, crate::specs::Reading::drill_of, crate::specs::Reading::seed_limit, crate::specs::Diagnostics::text_of, crate::specs::Diagnostics::line_of, crate::specs::Tokens::digest, sha1::specs::Sha1::sha1, sha1::specs::Sha1::hash_after, sha1::specs::Sha1::digest_bytes, sha1::specs::Sha1::compress, sha1::specs::Sha1::rounds, sha1::specs::Sha1::schedule, sha1::specs::Sha1::first_words, hex::specs::Hex::encode_with))]
 pub fn digest_of_a_connection()
     ensures digest { digest (codes "abc123") ≡ codes "6367c48dd193d56ea7b0baad25b19455e529f5ee" }
-    ensures path { listed_values (codes "controlpath") (outcome (machine (record ann { host_name = Some (codes "a") }) (file (codes "f") (codes "Port 1" ∷ codes "User 23" ∷ codes "ControlPath /tmp/%C" ∷ []) ∷ [])) (list_file (codes "f") (codes "bc"))) ≡ codes "/tmp/6367c48dd193d56ea7b0baad25b19455e529f5ee" ∷ [] }
+    ensures path { listed_values (codes "controlpath")
+        (outcome (machine (record ann { host_name = Some (codes "a") })
+        (file (codes "f") (codes "Port 1" ∷ codes "User 23" ∷ codes "ControlPath /tmp/%C" ∷ []) ∷
+        [])) (list_file (codes "f") (codes "bc")))
+        ≡ codes "/tmp/6367c48dd193d56ea7b0baad25b19455e529f5ee" ∷ [] }
 {}

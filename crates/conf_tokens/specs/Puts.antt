@@ -11,7 +11,8 @@ abbrev pub onto : Bytes → Result Bytes TokenError → Result Bytes TokenError
 onto front reading = reading >>= λ text. Ok (front ++ text)
 
 -- what stood there has the reading behind it, unless memory was wanting
-abbrev pub Puts : {X : Type 0} → Result X TokenError → Bytes → Bytes → Result Bytes TokenError → Type 0
+abbrev pub Puts : {X : Type 0} → Result X TokenError → Bytes → Bytes
+    → Result Bytes TokenError → Type 0
 Puts (Ok x) old new reading = onto old reading ≡ Ok new
 Puts (Err e) old new reading = Fails token_wants_memory e reading
 

@@ -24,7 +24,8 @@ fn expand_onto(
     view: &View<'_>,
 ) -> Result<Text, TokenError>
     requires { start + length text.now < 2 ^ 64 }
-    ensures { Gives token_wants_memory result (onto front (expand_from set (seen view.now) 0 start text.now)) }
+    ensures { Gives token_wants_memory result
+        (onto front (expand_from set (seen view.now) 0 start text.now)) }
 {
     let mut out = front;
     let mut at = start;

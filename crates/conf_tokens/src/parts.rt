@@ -72,7 +72,8 @@ fn put_variable(
     at: usize,
     inner: &[u8],
 ) -> Result<usize, TokenError>
-    ensures puts { PutsPart result out.old out.new (variable_of (seen view.now).facts.variable at (split_at_first 125 inner.now)) }
+    ensures puts { PutsPart result out.old out.new
+        (variable_of (seen view.now).facts.variable at (split_at_first 125 inner.now)) }
     ensures within { IfOk result (λ more. more ≤ length inner.now + 1) }
 {
     let Some((name, _)) = split_at_first(b'}', inner) else {

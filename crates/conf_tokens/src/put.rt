@@ -33,7 +33,8 @@ fn put_fact(out: &mut Text, byte: u8, known: &Option<Text>) -> Result<(), TokenE
 
 /// Adds the user.
 fn put_user(out: &mut Text, byte: u8, view: &View<'_>) -> Result<(), TokenError>
-    ensures { Puts result out.old out.new (user_of byte (seen view.now).user (seen view.now).facts.local_user) }
+    ensures { Puts result out.old out.new
+        (user_of byte (seen view.now).user (seen view.now).facts.local_user) }
 {
     let text = user(byte, view)?;
     put(out, text)

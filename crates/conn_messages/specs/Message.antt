@@ -31,18 +31,24 @@ opens_of opens.Other = grammar.OtherType
 
 abbrev pub message_of : Message → grammar.Message
 message_of (message.Transport number rest) = grammar.Plain (grammar.Transport number rest.now)
-message_of (message.GlobalRequest name want rest what) = grammar.Plain (grammar.GlobalRequest name.now want rest.now (global_of what))
+message_of (message.GlobalRequest name want rest what) =
+    grammar.Plain (grammar.GlobalRequest name.now want rest.now (global_of what))
 message_of (message.RequestSuccess rest) = grammar.Plain (grammar.RequestSuccess rest.now)
 message_of message.RequestFailure = grammar.Plain grammar.RequestFailure
-message_of (message.Open kind sender window maximum rest what) = grammar.Plain (grammar.Open kind.now sender window maximum rest.now (opens_of what))
-message_of (message.Confirmation recipient sender window maximum rest) = grammar.To recipient (grammar.Confirmation sender window maximum rest.now)
-message_of (message.OpenFailure recipient reason text language) = grammar.To recipient (grammar.OpenFailure reason text.now language.now)
+message_of (message.Open kind sender window maximum rest what) =
+    grammar.Plain (grammar.Open kind.now sender window maximum rest.now (opens_of what))
+message_of (message.Confirmation recipient sender window maximum rest) =
+    grammar.To recipient (grammar.Confirmation sender window maximum rest.now)
+message_of (message.OpenFailure recipient reason text language) =
+    grammar.To recipient (grammar.OpenFailure reason text.now language.now)
 message_of (message.Adjust recipient add) = grammar.To recipient (grammar.Adjust add)
 message_of (message.Data recipient bytes) = grammar.To recipient (grammar.Data bytes.now)
-message_of (message.Extended recipient code bytes) = grammar.To recipient (grammar.Extended code bytes.now)
+message_of (message.Extended recipient code bytes) =
+    grammar.To recipient (grammar.Extended code bytes.now)
 message_of (message.Eof recipient) = grammar.To recipient grammar.Eof
 message_of (message.Close recipient) = grammar.To recipient grammar.Close
-message_of (message.Request recipient kind want rest) = grammar.To recipient (grammar.Request kind.now want rest.now)
+message_of (message.Request recipient kind want rest) =
+    grammar.To recipient (grammar.Request kind.now want rest.now)
 message_of (message.Success recipient) = grammar.To recipient grammar.Success
 message_of (message.Failure recipient) = grammar.To recipient grammar.Failure
 
@@ -52,7 +58,8 @@ GivesPlain result reading = Gives message_of result (with_reading reading gramma
 
 -- what was returned is the message to this recipient that reading gives
 abbrev pub GivesTo : ℕ → Result Message Bad → Result grammar.ChannelMessage Bad → Type 0
-GivesTo recipient result reading = Gives message_of result (with_reading reading (grammar.To recipient))
+GivesTo recipient result reading =
+    Gives message_of result (with_reading reading (grammar.To recipient))
 
 -- how the bytes after this number are read
 abbrev pub form_of : ℕ → Form
@@ -61,4 +68,5 @@ form_of number = by_number (forms number) number OfNone
 -- a cancel that wants no reply
 abbrev pub cancel_of : grammar.Key → grammar.Message
 cancel_of key =
-    grammar.Plain (grammar.GlobalRequest (grammar.cancel_name_of key) false (spell_key key) (grammar.Cancel key))
+    grammar.Plain (grammar.GlobalRequest (grammar.cancel_name_of key) false (spell_key key)
+    (grammar.Cancel key))

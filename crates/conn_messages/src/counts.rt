@@ -8,7 +8,8 @@ use crate::message::Message;
 /// How many bytes of data a message carries into its channel's window (RFC 4254, section 5.2); None exactly
 /// where it is neither DATA nor EXTENDED_DATA.
 pub fn data_len(message: &Message<'_>) -> Option<u32>
-    ensures exact { IsMessage (message_of message.now) → result ≡ data_length (message_of message.now) }
+    ensures exact { IsMessage (message_of message.now)
+        → result ≡ data_length (message_of message.now) }
     // Of data that is longer than any message can carry too.
     ensures some { is_some result ≡ is_some (data_length (message_of message.now)) }
 {

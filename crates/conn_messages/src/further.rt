@@ -21,7 +21,8 @@ const KEEP_ALIVE: &[u8] = b"keepalive@openssh.com";
 /// An address and a port, and nothing after them.
 fn key<'a>(fields: &mut FieldReader<'a>) -> Result<(&'a [u8], u32), Bad>
     ensures { (what : grammar.Key → grammar.Global)
-        → Gives (λ k. what (grammar.Tcp k.0.now k.1)) result (read_key fields.old.cursor fields.old.at what) }
+        → Gives (λ k. what (grammar.Tcp k.0.now k.1)) result
+        (read_key fields.old.cursor fields.old.at what) }
 {
     let address = fields.take_string()?;
     let port = fields.take_u32()?;
@@ -46,7 +47,8 @@ fn cancel<'a>(fields: &mut FieldReader<'a>) -> Result<Global<'a>, Bad>
 /// A path, and nothing after it.
 fn path<'a>(fields: &mut FieldReader<'a>) -> Result<&'a [u8], Bad>
     ensures { (what : grammar.Key → grammar.Global)
-        → Gives (λ p. what (grammar.Path p.now)) result (read_path fields.old.cursor fields.old.at what) }
+        → Gives (λ p. what (grammar.Path p.now)) result
+        (read_path fields.old.cursor fields.old.at what) }
 {
     let path = fields.take_string()?;
     fields.end()?;
@@ -99,7 +101,8 @@ const FORWARDED_PATH: &[u8] = b"forwarded-streamlocal@openssh.com";
 /// A host and a port, those of the originator, and nothing after them.
 fn ends<'a>(fields: &mut FieldReader<'a>) -> Result<(&'a [u8], u32), Bad>
     ensures { (what : grammar.Key → grammar.Opens)
-        → Gives (λ k. what (grammar.Tcp k.0.now k.1)) result (read_ends fields.old.cursor fields.old.at what) }
+        → Gives (λ k. what (grammar.Tcp k.0.now k.1)) result
+        (read_ends fields.old.cursor fields.old.at what) }
 {
     let host = fields.take_string()?;
     let port = fields.take_u32()?;

@@ -13,7 +13,8 @@ use ssh_grammar::numbers::*;
 
 /// A message with no field that isn't read yet.
 fn bare<'a>(message: Message<'a>, fields: &mut FieldReader<'a>) -> Result<Message<'a>, Bad>
-    ensures { Gives message_of result (on_end fields.old.cursor fields.old.at (message_of message.entry)) }
+    ensures { Gives message_of result
+        (on_end fields.old.cursor fields.old.at (message_of message.entry)) }
 {
     fields.end()?;
     Ok(message)

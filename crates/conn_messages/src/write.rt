@@ -20,7 +20,8 @@ const NO_REPLY: &[u8] = &[0];
 pub fn open_failure(recipient: u32, reason: u32, text: &[u8]) -> Small
     requires { length text.now ≤ LONGEST_TEXT }
     ensures spelled { result ≡ spelling.open_failure recipient reason text.now }
-    ensures read_back { reading result ≡ Ok (grammar.To recipient (grammar.OpenFailure reason text.now [])) }
+    ensures read_back { reading result
+        ≡ Ok (grammar.To recipient (grammar.OpenFailure reason text.now [])) }
 {
     let mut payload = Small::copy(&[CHANNEL_OPEN_FAILURE]);
     payload.push_u32(recipient);

@@ -40,7 +40,8 @@ allow_of (allowed.Entries entries) = history.Entries (map entry_of entries.items
 -- ---- one list
 
 -- what was returned is what reading gives; want of memory is free
-abbrev pub EntriesReadAs : Result (Vec Entry Global) ListFault → Result (List history.Entry) ℕ → Type 0
+abbrev pub EntriesReadAs : Result (Vec Entry Global) ListFault
+    → Result (List history.Entry) ℕ → Type 0
 EntriesReadAs (Ok entries) read = read ≡ Ok (map entry_of entries.items)
 EntriesReadAs (Err (fault.Bad at)) read = read ≡ Err at
 EntriesReadAs (Err fault.OutOfMemory) read = Unit {0}
@@ -75,7 +76,8 @@ read_policy opens listens = elim (history.read_list opens) [
 -- what was returned is what reading gives; want of memory is free
 abbrev pub ReadsAs : Result history.Policy PolicyError → Result history.Policy BadText → Type 0
 ReadsAs (Ok policy) read = read ≡ Ok policy
-ReadsAs (Err (error.BadEntry for_open at)) read = read ≡ Err (record { for_open = for_open; at = at })
+ReadsAs (Err (error.BadEntry for_open at)) read =
+    read ≡ Err (record { for_open = for_open; at = at })
 ReadsAs (Err error.OutOfMemory) read = Unit {0}
 
 -- a fault of one of the lists

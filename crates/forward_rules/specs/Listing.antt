@@ -4,4 +4,9 @@ use Rattle.forward_rules.specs.State.{Forward}
 use Rattle.forward_rules.specs.declared.listed.Listed.{Listed}
 
 abbrev pub forward_of : Listed → Forward
-forward_of f = record { client = f.client; key = own_key_of f.key; live = f.live; cancel = f.cancel }
+forward_of f = record {
+  client = f.client;
+  key = own_key_of f.key;
+  live = f.live;
+  cancel = f.cancel;
+}

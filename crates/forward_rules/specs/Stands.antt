@@ -28,7 +28,9 @@ AreListed (f ∷ fs) (g ∷ gs) = Fits f g × AreListed fs gs
 -- of two of one client, the cancel of the one was sent before that of the other in both
 abbrev pub InOrder : Forward → Forwarding → Forward → Forwarding → Type 0
 InOrder f g f' g' =
-    (r q r' q' : ℕ) → g.client ≡ g'.client → f.cancel ≡ Some r → g.cancel ≡ Some q → f'.cancel ≡ Some r' → g'.cancel ≡ Some q' → (nat_lt r r' ≡ nat_lt q q') × (nat_lt r' r ≡ nat_lt q' q)
+    (r q r' q' : ℕ) → g.client ≡ g'.client → f.cancel ≡ Some r → g.cancel ≡ Some q
+    → f'.cancel ≡ Some r' → g'.cancel ≡ Some q' → (nat_lt r r' ≡ nat_lt q q')
+    × (nat_lt r' r ≡ nat_lt q' q)
 
 -- one and each behind it
 abbrev pub InOrderWith : Forward → Forwarding → List Forward → List Forwarding → Type 0
@@ -53,8 +55,12 @@ places_of rows = record { asked = asks rows; replied = length (replies rows) }
 -- what waits for a reply: the request of one that is asked, and the cancel of one that is to end, at places whose replies
 -- did not come
 pub record IsAwaited (own : Places) (g : Forwarding) : Type 0 where
-  pub asked : g.live ≡ None → (own.replied ≤ g.request) × (slice_get own.asked g.request ≡ Some (record { client = g.client; what = full.Forward g.key }))
-  pub leaving : (q : ℕ) → g.cancel ≡ Some q → (own.replied ≤ q) × (slice_get own.asked q ≡ Some (record { client = g.client; what = full.Cancel (unwrap_or g.live g.key) }))
+  pub asked : g.live ≡ None → (own.replied ≤ g.request)
+      × (slice_get own.asked g.request
+      ≡ Some (record { client = g.client; what = full.Forward g.key }))
+  pub leaving : (q : ℕ) → g.cancel ≡ Some q → (own.replied ≤ q)
+      × (slice_get own.asked q
+      ≡ Some (record { client = g.client; what = full.Cancel (unwrap_or g.live g.key) }))
   pub either : g.live ≡ None → g.cancel ≡ None
 
 -- no two wait at one place
@@ -83,14 +89,16 @@ HasAt place what gs = Unit {0}
 
 -- each request and each cancel without a reply is that of a forwarding
 abbrev pub EachHas : Places → List Forwarding → Type 0
-EachHas own gs = (place : ℕ) (a : Ask) → own.replied ≤ place → slice_get own.asked place ≡ Some a → HasAt place a.what gs
+EachHas own gs = (place : ℕ) (a : Ask) → own.replied ≤ place → slice_get own.asked place ≡ Some a
+    → HasAt place a.what gs
 
 -- fewer cancels of its client were sent before that of one than there are
 abbrev pub IsRanked : List Forward → Forward → Type 0
 IsRanked fs f = (r : ℕ) → f.cancel ≡ Some r → r < cancels f.client fs
 
 -- the list stands for these forwardings, at most 64 a client, where these are the requests of each client, and these clients are lost
-pub record AreFit (fs : List Forward) (gs : List Forwarding) (own : ℕ → Places) (lost : ℕ → Bool) : Type 0 where
+pub record AreFit (fs : List Forward) (gs : List Forwarding) (own : ℕ → Places) (lost : ℕ
+    → Bool) : Type 0 where
   pub listed : AreListed fs gs
   pub in_order : AreInOrder fs gs
   pub awaited : AllByRecursion (λ g. IsAwaited (own g.client) g) gs

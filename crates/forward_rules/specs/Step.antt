@@ -29,7 +29,8 @@ is_leaving_at k key f = is_of k f && (is_some f.cancel && is_live_at key f)
 
 abbrev pub change_first : (Forward → Bool) → (Forward → Forward) → List Forward → List Forward
 change_first test change [] = []
-change_first test change (f ∷ fs) = elim (test f) [ true ↦ change f ∷ fs | false ↦ f ∷ change_first test change fs ]
+change_first test change (f ∷ fs) =
+    elim (test f) [ true ↦ change f ∷ fs | false ↦ f ∷ change_first test change fs ]
 
 abbrev pub without_first : (Forward → Bool) → List Forward → List Forward
 without_first test [] = []
@@ -47,7 +48,8 @@ count_of fs k = length (filter (is_of k) fs)
 
 -- the key that is listened on: the one asked, with the port that the server chose where 0 was asked
 abbrev pub with_port : ℕ → Key → Key
-with_port chosen (Tcp address port) = Tcp address (elim (port == 0) [ true ↦ chosen | false ↦ port ])
+with_port chosen (Tcp address port) =
+    Tcp address (elim (port == 0) [ true ↦ chosen | false ↦ port ])
 with_port chosen (Path path) = Path path
 
 -- the server's answer to the one of this key that was asked first: it is live, or it is none
@@ -69,7 +71,8 @@ cancels k fs = length (filter (is_leaving k) fs)
 -- a cancel means the earliest that is free: one that wants a reply waits for it, behind those that wait, and one that
 -- wants none ends the forwarding
 abbrev pub cancelled : ℕ → Key → Bool → List Forward → List Forward
-cancelled k key true fs = change_first (is_free_at k key) (λ f. record f { cancel = Some (cancels k fs) }) fs
+cancelled k key true fs =
+    change_first (is_free_at k key) (λ f. record f { cancel = Some (cancels k fs) }) fs
 cancelled k key false fs = without_first (is_free_at k key) fs
 
 -- there is one that may be cancelled
@@ -85,7 +88,8 @@ earlier (Some a) (Some b) = Some (min a b)
 -- the cancel that was sent first of those that pass
 abbrev pub first_cancel : (Forward → Bool) → List Forward → Option ℕ
 first_cancel test [] = None
-first_cancel test (f ∷ fs) = elim (test f) [ true ↦ earlier f.cancel (first_cancel test fs) | false ↦ first_cancel test fs ]
+first_cancel test (f ∷ fs) =
+    elim (test f) [ true ↦ earlier f.cancel (first_cancel test fs) | false ↦ first_cancel test fs ]
 
 -- one cancel fewer was sent before a later one
 abbrev pub moved_up : ℕ → Option ℕ → Option ℕ
@@ -94,7 +98,10 @@ moved_up r (Some q) = elim (nat_lt r q) [ true ↦ Some (q - 1) | false ↦ Some
 
 -- a forwarding of the client whose cancel of a place is answered
 abbrev pub without_cancel : ℕ → Forward → Forward
-without_cancel r f = elim (is_number f.cancel r) [ true ↦ record f { cancel = None } | false ↦ record f { cancel = moved_up r f.cancel } ]
+without_cancel r f = elim (is_number f.cancel r) [
+  | true ↦ record f { cancel = None }
+  | false ↦ record f { cancel = moved_up r f.cancel }
+]
 
 -- of this client alone
 abbrev pub without_cancel_of : ℕ → ℕ → Forward → Forward

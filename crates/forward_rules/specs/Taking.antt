@@ -39,7 +39,10 @@ taken_of t = (own_key_of t.0, t.1)
 
 -- one cancel of the client fewer was sent before a later one
 abbrev pub moved_up_of : ℕ → ℕ → Forward → Forward
-moved_up_of k r f = elim (is_of k f) [ true ↦ record f { cancel = moved_up r f.cancel } | false ↦ f ]
+moved_up_of k r f = elim (is_of k f) [
+  | true ↦ record f { cancel = moved_up r f.cancel }
+  | false ↦ f
+]
 
 -- where there was one
 abbrev pub closed_up : ℕ → Option ℕ → List Forward → List Forward

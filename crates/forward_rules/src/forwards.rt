@@ -144,7 +144,8 @@ impl Forwards {
     /// Takes a client's earliest live forwarding out: its key, and whether a cancel of it has no reply. Where it has no
     /// live one, all that it has asked are taken out, and None is answered.
     pub fn take_of(&mut self, client: u64) -> Option<(OwnKey, bool)>
-        ensures exact { option_map taken_of result ≡ option_map told_of (first_live client self.old) }
+        ensures exact { option_map taken_of result
+            ≡ option_map told_of (first_live client self.old) }
         ensures step { self.new ≡ after_taking client self.old }
         ensures short { IfSome result (λ t. IsShort (own_key_of t.0)) }
         ensures fewer { OnSome result (count_of self.new client + 1 ≡ count_of self.old client) }
@@ -193,14 +194,16 @@ impl Forwards {
 
 /// The place of the client's first that has this key and is asked.
 fn asked_in(listed: &[Listed], client: u64, key: Key<'_>) -> Option<usize>
-    ensures { result ≡ position (λ f. is_asked_at client (key_of key.entry) (forward_of f)) listed.now }
+    ensures { result ≡ position (λ f. is_asked_at client (key_of key.entry) (forward_of f))
+        listed.now }
 {
     listed.iter().position(|f| f.is_asked(client, key))
 }
 
 /// The place of the client's first that is live with this key, and that no unanswered cancel means.
 fn free_in(listed: &[Listed], client: u64, key: Key<'_>) -> Option<usize>
-    ensures { result ≡ position (λ f. is_free_at client (key_of key.entry) (forward_of f)) listed.now }
+    ensures { result ≡ position (λ f. is_free_at client (key_of key.entry) (forward_of f))
+        listed.now }
 {
     listed.iter().position(|f| f.is_free(client, key))
 }
@@ -246,7 +249,8 @@ fn cancels_in(listed: &[Listed], client: u64) -> usize
 
 /// How many cancels of the client were sent before the first of this key that has no reply.
 fn first_cancel_in(listed: &[Listed], client: u64, key: Key<'_>) -> Option<usize>
-    ensures { result ≡ first_cancel (is_leaving_at client (key_of key.entry)) (map forward_of listed.now) }
+    ensures { result ≡ first_cancel (is_leaving_at client (key_of key.entry))
+        (map forward_of listed.now) }
 {
     let mut first = None;
     for f in listed {
@@ -269,7 +273,8 @@ fn earlier(a: Option<usize>, b: Option<usize>) -> Option<usize>
 
 /// The client's cancel with so many before it is none any more.
 fn settle_in(listed: &mut [Listed], client: u64, rank: usize)
-    ensures { map forward_of listed.new ≡ map (without_cancel_of client rank) (map forward_of listed.old) }
+    ensures { map forward_of listed.new
+        ≡ map (without_cancel_of client rank) (map forward_of listed.old) }
 {
     for f in listed.iter_mut() {
         f.settle(client, rank);
@@ -278,7 +283,8 @@ fn settle_in(listed: &mut [Listed], client: u64, rank: usize)
 
 /// One cancel of the client fewer was sent before those that came after this one.
 fn move_up_in(listed: &mut [Listed], client: u64, rank: usize)
-    ensures { map forward_of listed.new ≡ map (moved_up_of client rank) (map forward_of listed.old) }
+    ensures { map forward_of listed.new
+        ≡ map (moved_up_of client rank) (map forward_of listed.old) }
 {
     for f in listed.iter_mut() {
         f.move_up(client, rank);

@@ -45,7 +45,10 @@ impl Listed {
 
     /// The server's success: it is live, under the port that the server chose where 0 was asked.
     pub fn begin(&mut self, port: u32)
-        ensures { forward_of self.new ≡ record (forward_of self.old) { live = true; key = with_port port (own_key_of self.old.key) } }
+        ensures { forward_of self.new ≡ record (forward_of self.old) {
+          live = true;
+          key = with_port port (own_key_of self.old.key);
+        } }
     {
         self.key.bind(port);
         self.live = true;

@@ -16,17 +16,20 @@ pub record IsQueue (queue asked : List history.Ask) (replied : ℕ) : Type 0 whe
 -- one more request was sent
 abbrev pub AskGoesOn : List history.Ask → List history.Ask → history.Ask → Type 0
 AskGoesOn old new a =
-    (asked : List history.Ask) (replied : ℕ) → IsQueue old asked replied → IsQueue new (asked ++ a ∷ []) replied
+    (asked : List history.Ask) (replied : ℕ) → IsQueue old asked replied
+    → IsQueue new (asked ++ a ∷ []) replied
 
 -- the asker of the next reply, and one more reply
 abbrev pub IsAsker : List history.Ask → ℕ → List history.Ask → Option (ℕ × Ask) → Type 0
 IsAsker asked replied new None = (slice_get asked replied ≡ None) × IsQueue new asked replied
-IsAsker asked replied new (Some a) = (slice_get asked replied ≡ Some (request_of a.0 a.1)) × IsQueue new asked (replied + 1)
+IsAsker asked replied new (Some a) = (slice_get asked replied ≡ Some (request_of a.0 a.1))
+    × IsQueue new asked (replied + 1)
 
 -- as the history finds it: the request at the place of the reply
 abbrev pub ReplyGoesOn : List history.Ask → List history.Ask → Option (ℕ × Ask) → Type 0
 ReplyGoesOn old new asker =
-    (asked : List history.Ask) (replied : ℕ) → IsQueue old asked replied → IsAsker asked replied new asker
+    (asked : List history.Ask) (replied : ℕ) → IsQueue old asked replied
+    → IsAsker asked replied new asker
 
 -- ---- what a client is answered
 
@@ -42,7 +45,9 @@ Waits (true ∷ flags) (p ∷ heard) waiting = Waits flags heard waiting
 -- one more was sent: nothing is answered
 abbrev pub SentGoesOn : List Bool → List Bool → Type 0
 SentGoesOn old new =
-    (flags : List Bool) (heard : List (List ℕ)) → Waits flags heard old → Waits (flags ++ true ∷ []) heard new × (answers_to (flags ++ true ∷ []) heard ≡ answers_to flags heard)
+    (flags : List Bool) (heard : List (List ℕ)) → Waits flags heard old
+    → Waits (flags ++ true ∷ []) heard new
+    × (answers_to (flags ++ true ∷ []) heard ≡ answers_to flags heard)
 
 -- a refusal that is said now, or isn't
 abbrev pub refused : Bool → List (List ℕ)
@@ -52,14 +57,20 @@ refused false = []
 -- one more was refused
 abbrev pub RefusalGoesOn : List Bool → List Bool → Bool → Type 0
 RefusalGoesOn old new now =
-    (flags : List Bool) (heard : List (List ℕ)) → Waits flags heard old → Waits (flags ++ false ∷ []) heard new × (answers_to (flags ++ false ∷ []) heard ≡ answers_to flags heard ++ refused now)
+    (flags : List Bool) (heard : List (List ℕ)) → Waits flags heard old
+    → Waits (flags ++ false ∷ []) heard new
+    × (answers_to (flags ++ false ∷ []) heard ≡ answers_to flags heard ++ refused now)
 
 -- one more reply came to a request that was sent: it is answered, and so many refusals behind it
 abbrev pub AnswerGoesOn : List Bool → List Bool → ℕ → Type 0
 AnswerGoesOn old new refusals =
-    (flags : List Bool) (heard : List (List ℕ)) (p : List ℕ) → IsAwaited old → Waits flags heard old → Waits flags (heard ++ p ∷ []) new × (answers_to flags (heard ++ p ∷ []) ≡ answers_to flags heard ++ (p ∷ replicate refusals request_failure))
+    (flags : List Bool) (heard : List (List ℕ)) (p : List ℕ) → IsAwaited old → Waits flags heard old
+    → Waits flags (heard ++ p ∷ []) new
+    × (answers_to flags (heard ++ p ∷ []) ≡ answers_to flags heard
+    ++ (p ∷ replicate refusals request_failure))
 
 -- so many have no answer
 abbrev pub LeavesUnanswered : List Bool → ℕ → Type 0
 LeavesUnanswered waiting count =
-    (flags : List Bool) (heard : List (List ℕ)) → Waits flags heard waiting → count ≡ length flags - length (answers_to flags heard)
+    (flags : List Bool) (heard : List (List ℕ)) → Waits flags heard waiting
+    → count ≡ length flags - length (answers_to flags heard)

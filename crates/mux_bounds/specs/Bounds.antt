@@ -49,7 +49,8 @@ longest_row = LONGEST_FRAME + 4 + longest_farewell
 
 -- no key that may be asked for has a longer cancel
 abbrev pub CancelsAreShort : Type 0
-CancelsAreShort = (key : Key) → is_askable key ≡ true → weight (cancel_forward key ∷ []) ≤ longest_cancel
+CancelsAreShort = (key : Key) → is_askable key ≡ true
+    → weight (cancel_forward key ∷ []) ≤ longest_cancel
 
 -- no row leaves more for its client
 abbrev pub LeavesLittle : List Row → Row → Type 0
@@ -83,7 +84,8 @@ longest_piece = 65536
 -- a mark: for each of 64 clients a farewell, and a cancel for each of 64 requests that are answered late; besides
 -- these thrice the bytes that were read, those of a frame that wasn't whole among them: 4,096,009 bytes
 abbrev pub longest_mark : ℕ
-longest_mark = longest_farewells + MAX_CLIENTS * (MAX_FORWARDINGS * longest_cancel) + 3 * (LONGEST_FRAME + 3 + longest_piece)
+longest_mark = longest_farewells + MAX_CLIENTS * (MAX_FORWARDINGS * longest_cancel) + 3 *
+    (LONGEST_FRAME + 3 + longest_piece)
 
 -- the log of all marks, or one that want of memory cut
 abbrev pub IsLog : Setting → List Mark → List Row → Type 0
@@ -92,12 +94,15 @@ IsLog setting marks rows = (rows ≡ log_of_journal setting marks) ⊎ IsCut set
 -- of every log of a lawful journal, whatever numbers are picked and whatever the house replies
 abbrev pub OverJournals : (Setting → List Mark → List Row → Type 0) → Type 0
 OverJournals P =
-    (policy : Policy) (pid : ℕ) (picks : List ℕ) (given : List HouseReply) (marks : List Mark) (rows : List Row) → IsLawful marks → IsLog (by_lists policy pid picks given) marks rows → AreFresh rows → P (by_lists policy pid picks given) marks rows
+    (policy : Policy) (pid : ℕ) (picks : List ℕ) (given : List HouseReply) (marks : List Mark)
+    (rows : List Row) → IsLawful marks → IsLog (by_lists policy pid picks given) marks rows
+    → AreFresh rows → P (by_lists policy pid picks given) marks rows
 
 -- the rows of the newest mark add no more
 abbrev pub AddsAtOnce : Setting → List Mark → List Row → Type 0
 AddsAtOnce setting [] rows = pending 0 rows ≡ []
-AddsAtOnce setting (mark ∷ before) rows = length (pending 0 rows) ≤ waiting_up setting before + longest_mark
+AddsAtOnce setting (mark ∷ before) rows =
+    length (pending 0 rows) ≤ waiting_up setting before + longest_mark
 
 abbrev pub MarksAddLittle : Type 0
 MarksAddLittle = OverJournals AddsAtOnce
@@ -127,7 +132,8 @@ ServerQueueIsBounded =
 -- what a run promises of it, so much waits for the server at no mark
 abbrev pub RunsAreBounded : Type 0
 RunsAreBounded =
-    OverJournals (λ setting marks rows. Throughout ReadsWhenAsked marks → Throughout (WaitsAt setting) marks → StaysBelow rows)
+    OverJournals (λ setting marks rows. Throughout ReadsWhenAsked marks
+    → Throughout (WaitsAt setting) marks → StaysBelow rows)
 
 -- ---- bytes that are not cut yet
 
@@ -137,7 +143,8 @@ longest_rest = LONGEST_FRAME + 3
 
 -- of a stream that is read on
 abbrev pub RestIsShort : Mode → List ℕ → Type 0
-RestIsShort mode bytes = ((parse mode bytes).mode ≡ Stopped → ⊥) → length (parse mode bytes).rest ≤ longest_rest
+RestIsShort mode bytes = ((parse mode bytes).mode ≡ Stopped → ⊥)
+    → length (parse mode bytes).rest ≤ longest_rest
 
 -- whatever bytes it gave: a client's, and the server's
 pub record RestsShort (bytes : List ℕ) : Type 0 where

@@ -21,7 +21,8 @@ pub record HasNothing (own : List Row) : Type 0 where
 -- an admitted client whose matters are closed has nothing left
 abbrev pub NothingIsLeft : Type 0
 NothingIsLeft =
-    OverRight (λ setting rows. (k : ℕ) → IsAdmitted k rows → has_open_matters (rows_of k rows) ≡ false → HasNothing (rows_of k rows))
+    OverRight (λ setting rows. (k : ℕ) → IsAdmitted k rows → has_open_matters (rows_of k rows)
+    ≡ false → HasNothing (rows_of k rows))
 
 -- a client holds at most 256 channels
 abbrev pub ChannelsBounded : List Row → Type 0
@@ -39,7 +40,8 @@ ForwardingsAreFew = OverRight (λ setting rows. AtEach ForwardingsBounded rows)
 
 -- at most 1,024 global requests of a client that were sent have no reply
 abbrev pub RequestsBounded : List Row → Type 0
-RequestsBounded rows = (k : ℕ) → length (asks (rows_of k rows)) ≤ length (replies (rows_of k rows)) + MAX_GLOBAL_REQUESTS
+RequestsBounded rows = (k : ℕ)
+    → length (asks (rows_of k rows)) ≤ length (replies (rows_of k rows)) + MAX_GLOBAL_REQUESTS
 
 abbrev pub RequestsAreFew : Type 0
 RequestsAreFew = OverRight (λ setting rows. AtEach RequestsBounded rows)

@@ -19,15 +19,22 @@ use Rattle.mux_clients.specs.Hearings.{AreHere}
 
 -- the master's hello waits for it, and its own is awaited
 abbrev pub new_client : ℕ → ClientState
-new_client k = record { seat = record { number = k; standing = Awaited; queue = frame_answer (Greets VERSION) }; rest = [] }
+new_client k = record {
+  seat =
+      record { number = k; standing = Awaited; queue = frame_answer (Greets VERSION) };
+  rest = [];
+}
 
 -- with its row all clients stand for the longer log, and it is let in exactly where fewer than 64 have open matters
-pub record EntersBy (core' : CoreState) (cs cs' : List ClientState) (queue : QueueState) (let_in : Bool) (rows : List Row) (row : Row) : Type 0 where
+pub record EntersBy (core' : CoreState) (cs cs' : List ClientState) (queue : QueueState)
+    (let_in : Bool) (rows : List Row) (row : Row) : Type 0 where
   pub exact : let_in ≡ nat_lt (open_matters rows) MAX_CLIENTS
   pub fit : AllFit (row ∷ rows) core' cs' queue
   pub here : AreHere rows cs → AreHere (row ∷ rows) cs'
 
 abbrev pub Enters : ℕ → CoreState → CoreState → List ClientState → List ClientState → Bool → Type 0
 Enters k core core' cs cs' let_in =
-    (policy : Policy) (pid : ℕ) (picks : List ℕ) (given : List HouseReply) (queue : QueueState) (rows : List Row) → AllFit rows core cs queue → is_ended rows ≡ false → IsNew k rows
-    → EntersBy core' cs cs' queue let_in rows (next_row (by_lists policy pid picks given) rows (Admit k))
+    (policy : Policy) (pid : ℕ) (picks : List ℕ) (given : List HouseReply) (queue : QueueState)
+    (rows : List Row) → AllFit rows core cs queue → is_ended rows ≡ false → IsNew k rows
+    → EntersBy core' cs cs' queue let_in rows
+    (next_row (by_lists policy pid picks given) rows (Admit k))

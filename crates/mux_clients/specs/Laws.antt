@@ -35,11 +35,15 @@ pub record ReadsAs (bytes : List ℕ) (c : ClientState) : Type 0 where
   pub rest : (parse InControl bytes).rest ≡ c.rest
 
 -- the rows of the log after a piece of a client that gave other bytes before
-abbrev pub rows_given : Policy → ℕ → List ℕ → List HouseReply → ℕ → List ℕ → List ℕ → List Row → List Row
-rows_given policy pid picks given k before bytes rows = more_all (by_lists policy pid picks given) rows (new_sayings k before (before ++ bytes))
+abbrev pub rows_given : Policy → ℕ → List ℕ → List HouseReply → ℕ → List ℕ → List ℕ
+    → List Row → List Row
+rows_given policy pid picks given k before bytes rows =
+    more_all (by_lists policy pid picks given) rows (new_sayings k before (before ++ bytes))
 
 -- how a piece leaves its client, by these rows
-pub record IsReadTo (k : ℕ) (before bytes picked : List ℕ) (used : List HouseReply) (asks : List Asked) (rows rows' : List Row) (core : CoreState) (up : QueueState) (now : ClientState) (heard : Heard) : Type 0 where
+pub record IsReadTo (k : ℕ) (before bytes picked : List ℕ) (used : List HouseReply)
+    (asks : List Asked) (rows rows' : List Row) (core : CoreState) (up : QueueState)
+    (now : ClientState) (heard : Heard) : Type 0 where
   pub number : now.seat.number ≡ k
   pub adds : AddsFor k rows rows'
   pub fits : Fits rows' (part core now.seat up)
@@ -51,16 +55,22 @@ pub record IsReadTo (k : ℕ) (before bytes picked : List ℕ) (used : List Hous
   pub ended_is : end_of rows' ≡ ended_then heard.ended (end_of rows)
   pub live : is_read now.seat.standing ≡ true → is_ended rows' ≡ false
   -- one that isn't read any more, nor lost, has stopped for good
-  pub stopped : is_read now.seat.standing ≡ false → is_lost now.seat.standing ≡ false → is_ended rows' ≡ false → (parse InControl (before ++ bytes)).mode ≡ Stopped
+  pub stopped : is_read now.seat.standing ≡ false → is_lost now.seat.standing ≡ false
+      → is_ended rows' ≡ false → (parse InControl (before ++ bytes)).mode ≡ Stopped
   pub reads : is_read now.seat.standing ≡ true → ReadsAs (before ++ bytes) now
 
 -- what was said so far is all of the piece where nothing whole is left
 abbrev pub PiecesOfAClient : Type 0
 PiecesOfAClient =
-    (policy : Policy) (pid : ℕ) (picks : List ℕ) (given : List HouseReply) (k : ℕ) (before bytes : List ℕ) (first now : ClientState) (picked : List ℕ) (used : List HouseReply) (asks : List Asked) (rows : List Row) (core : CoreState) (up : QueueState) (heard : Heard)
-    → ReadsAs before first → (is_read now.seat.standing ≡ true → first_in (mode_of now.seat.standing) now.rest ≡ More)
-    → RunsTo policy pid picks given k (mode_of first.seat.standing) (first.rest ++ bytes) picked used asks rows core up now heard
-    → IsReadTo k before bytes picked used asks rows (rows_given policy pid picks given k before bytes rows) core up now heard
+    (policy : Policy) (pid : ℕ) (picks : List ℕ) (given : List HouseReply) (k : ℕ)
+    (before bytes : List ℕ) (first now : ClientState) (picked : List ℕ) (used : List HouseReply)
+    (asks : List Asked) (rows : List Row) (core : CoreState) (up : QueueState) (heard : Heard)
+    → ReadsAs before first
+    → (is_read now.seat.standing ≡ true → first_in (mode_of now.seat.standing) now.rest ≡ More)
+    → RunsTo policy pid picks given k (mode_of first.seat.standing) (first.rest ++ bytes) picked
+    used asks rows core up now heard
+    → IsReadTo k before bytes picked used asks rows
+    (rows_given policy pid picks given k before bytes rows) core up now heard
 
 -- ---- the server
 
@@ -71,11 +81,14 @@ pub record ServerReads (bytes left : List ℕ) : Type 0 where
 
 -- the rows of the log after a piece of the server, which gave other bytes before
 abbrev pub rows_told : Policy → ℕ → List ℕ → List HouseReply → List ℕ → List ℕ → List Row → List Row
-rows_told policy pid picks given before bytes rows = more_all (by_lists policy pid picks given) rows (new_heard before (before ++ bytes))
+rows_told policy pid picks given before bytes rows =
+    more_all (by_lists policy pid picks given) rows (new_heard before (before ++ bytes))
 
 -- how a piece leaves all clients, by these rows: it takes no number and no reply, and stops nobody, and these
 -- are the losses by it
-pub record IsHeardTo (before bytes : List ℕ) (noted : List (ℕ × Option Why)) (rows rows' : List Row) (core : CoreState) (cs : List ClientState) (queue : QueueState) (rest : List ℕ) (index : ℕ) (ended : Option Ended) : Type 0 where
+pub record IsHeardTo (before bytes : List ℕ) (noted : List (ℕ × Option Why)) (rows rows' : List Row)
+    (core : CoreState) (cs : List ClientState) (queue : QueueState) (rest : List ℕ) (index : ℕ)
+    (ended : Option Ended) : Type 0 where
   pub fit : AllFit rows' core cs queue
   pub lost : losses rows' ≡ losses rows ++ noted
   pub ended_is : ended ≡ end_of rows'
@@ -88,14 +101,20 @@ pub record IsHeardTo (before bytes : List ℕ) (noted : List (ℕ × Option Why)
 
 abbrev pub PiecesOfTheServer : Type 0
 PiecesOfTheServer =
-    (policy : Policy) (pid : ℕ) (picks : List ℕ) (given : List HouseReply) (before bytes rest rest' : List ℕ) (noted : List (ℕ × Option Why)) (rows : List Row) (core : CoreState) (cs : List ClientState) (queue : QueueState) (index : ℕ) (ended : Option Ended)
-    → ServerReads before rest → (ended ≡ None → first_in InProxy rest' ≡ More) → HeardTo policy pid picks given (rest ++ bytes) noted rows core cs queue rest' index ended
-    → IsHeardTo before bytes noted rows (rows_told policy pid picks given before bytes rows) core cs queue rest' index ended
+    (policy : Policy) (pid : ℕ) (picks : List ℕ) (given : List HouseReply)
+    (before bytes rest rest' : List ℕ) (noted : List (ℕ × Option Why)) (rows : List Row)
+    (core : CoreState) (cs : List ClientState) (queue : QueueState) (index : ℕ)
+    (ended : Option Ended)
+    → ServerReads before rest → (ended ≡ None → first_in InProxy rest' ≡ More)
+    → HeardTo policy pid picks given (rest ++ bytes) noted rows core cs queue rest' index ended
+    → IsHeardTo before bytes noted rows (rows_told policy pid picks given before bytes rows) core cs
+    queue rest' index ended
 
 -- ---- all clients
 
 -- they stand for the rows with the one that went on, and each of them that isn't lost is here still
-pub record AllMoved (rows rows' : List Row) (core' : CoreState) (cs cs' : List ClientState) (up' : QueueState) : Type 0 where
+pub record AllMoved (rows rows' : List Row) (core' : CoreState) (cs cs' : List ClientState)
+    (up' : QueueState) : Type 0 where
   pub fit : AllFit rows' core' cs' up'
   pub here : AreHere rows cs → AreHere rows' cs'
   pub present : (j : ℕ) → is_present cs' j ≡ is_present cs j
@@ -103,9 +122,13 @@ pub record AllMoved (rows rows' : List Row) (core' : CoreState) (cs cs' : List C
 -- where one of them goes on and the others stay
 abbrev pub OneMovesAll : Type 0
 OneMovesAll =
-    (k : ℕ) (rows rows' : List Row) (core core' : CoreState) (cs cs' : List ClientState) (up up' : QueueState)
-    → AllFit rows core cs up → AddsFor k rows rows' → is_present cs k ≡ true → ChangesOne k (MovesTo rows' core' up') cs cs' → AllMoved rows rows' core' cs cs' up'
+    (k : ℕ) (rows rows' : List Row) (core core' : CoreState) (cs cs' : List ClientState)
+    (up up' : QueueState)
+    → AllFit rows core cs up → AddsFor k rows rows' → is_present cs k ≡ true
+    → ChangesOne k (MovesTo rows' core' up') cs cs' → AllMoved rows rows' core' cs cs' up'
 
 -- the row of a client whose stream is gone concerns it alone
 abbrev pub LossesAddForOne : Type 0
-LossesAddForOne = (policy : Policy) (pid : ℕ) (picks : List ℕ) (given : List HouseReply) (k : ℕ) (rows : List Row) → AddsFor k rows (next_row (by_lists policy pid picks given) rows (Gone k) ∷ rows)
+LossesAddForOne = (policy : Policy) (pid : ℕ) (picks : List ℕ) (given : List HouseReply) (k : ℕ)
+    (rows : List Row) → AddsFor k rows
+    (next_row (by_lists policy pid picks given) rows (Gone k) ∷ rows)

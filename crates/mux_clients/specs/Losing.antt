@@ -17,18 +17,22 @@ use Rattle.mux_clients.specs.Stands.{Fits, is_lost}
 pub record Loses (old new : Part) : Type 0 where
   pub number : new.seat.number ≡ old.seat.number
   pub standing : new.seat.standing ≡ Lost None
-  pub goes : (policy : Policy) (pid : ℕ) (picks : List ℕ) (given : List HouseReply) (rows : List Row) → Fits rows old → is_ended rows ≡ false → is_lost old.seat.standing ≡ false
+  pub goes : (policy : Policy) (pid : ℕ) (picks : List ℕ) (given : List HouseReply)
+      (rows : List Row) → Fits rows old → is_ended rows ≡ false → is_lost old.seat.standing ≡ false
       → Fits (next_row (by_lists policy pid picks given) rows (Gone old.seat.number) ∷ rows) new
 
 -- one that is lost already stays as it is
-pub record LosesNothing (old new : CoreState) (up up' : QueueState) (x y : ClientState) : Type 0 where
+pub record LosesNothing (old new : CoreState) (up up' : QueueState) (x y : ClientState) :
+    Type 0 where
   pub same : y ≡ x
   pub core_same : new ≡ old
   pub up_same : up' ≡ up
 
 -- of one among all
-abbrev pub LosesIn : CoreState → CoreState → QueueState → QueueState → ClientState → ClientState → Type 0
-LosesIn old new up up' x y = MatchBool (is_lost x.seat.standing) (LosesNothing old new up up' x y) (Loses (part old x.seat up) (part new y.seat up'))
+abbrev pub LosesIn : CoreState → CoreState → QueueState → QueueState → ClientState
+    → ClientState → Type 0
+LosesIn old new up up' x y = MatchBool (is_lost x.seat.standing) (LosesNothing old new up up' x y)
+    (Loses (part old x.seat up) (part new y.seat up'))
 
 -- ---- who is noted as lost
 

@@ -38,7 +38,8 @@ fn note_loss(
     now: Standing,
     number: u64,
 ) -> Result<(), OutOfMemory>
-    ensures { OnOk result (leaving.new.items ≡ leaving.old.items ++ loss_between before now number) }
+    ensures { OnOk result (leaving.new.items ≡ leaving.old.items
+        ++ loss_between before now number) }
 {
     match (before, now) {
         (Standing::Lost(_), _) => Ok(()),
@@ -60,7 +61,9 @@ pub fn hear_at(
 ) -> Result<(), OutOfMemory>
     requires payload { IsContent Proxy payload.now }
     requires room { HasRoom clients.old up.old }
-    ensures hears { OnOk result (HearsAt number (frame_payload payload.now ∷ refusals_of refusals) leaving.old.items leaving.new.items core.old core.new up.old up.new clients.old clients.new) }
+    ensures hears { OnOk result (HearsAt number (frame_payload payload.now ∷ refusals_of refusals)
+        leaving.old.items leaving.new.items core.old core.new up.old up.new clients.old
+        clients.new) }
     ensures present { OnOk result ((j : ℕ) → is_present clients.new j ≡ is_present clients.old j) }
     ensures room { OnOk result (HasRoom clients.old up.old → HasRoom clients.new up.new) }
     ensures policy { core.new.policy ≡ core.old.policy }
@@ -86,8 +89,11 @@ pub fn got_at<H: House>(
     up: &mut Queue,
 ) -> Result<Heard, OutOfMemory>
     requires room { HasRoom clients.old up.old }
-    ensures hears { IfOk result (λ heard. is_present clients.old number ≡ true → ChangesOne number (HearsIn H.may (H.told house.old) (H.told house.new) pid bytes.now core.old core.new up.old up.new heard) clients.old clients.new) }
-    ensures absent { is_present clients.old number ≡ false → IsUntouched clients.old clients.new core.old core.new up.old up.new }
+    ensures hears { IfOk result (λ heard. is_present clients.old number ≡ true
+        → ChangesOne number (HearsIn H.may (H.told house.old) (H.told house.new) pid bytes.now
+        core.old core.new up.old up.new heard) clients.old clients.new) }
+    ensures absent { is_present clients.old number ≡ false
+        → IsUntouched clients.old clients.new core.old core.new up.old up.new }
     ensures silent { is_present clients.old number ≡ false → result ≡ Ok unheard }
     ensures asks { AsksMore (H.told house.old) (H.told house.new) }
     ensures untold { is_present clients.old number ≡ false → H.told house.new ≡ H.told house.old }
@@ -109,8 +115,10 @@ pub fn got_at<H: House>(
 /// The stream of the client of a number is gone: what it left open is closed, where it isn't lost already.
 pub fn lose_at(clients: &mut [Client], number: u64, core: &mut Core, up: &mut Queue)
     requires room { HasRoom clients.old up.old }
-    ensures loses { is_present clients.old number ≡ true → ChangesOne number (LosesIn core.old core.new up.old up.new) clients.old clients.new }
-    ensures absent { is_present clients.old number ≡ false → IsUntouched clients.old clients.new core.old core.new up.old up.new }
+    ensures loses { is_present clients.old number ≡ true
+        → ChangesOne number (LosesIn core.old core.new up.old up.new) clients.old clients.new }
+    ensures absent { is_present clients.old number ≡ false
+        → IsUntouched clients.old clients.new core.old core.new up.old up.new }
     ensures present { (j : ℕ) → is_present clients.new j ≡ is_present clients.old j }
     ensures numbers { numbers clients.new ≡ numbers clients.old }
     ensures room { HasRoom clients.old up.old → HasRoom clients.new up.new }

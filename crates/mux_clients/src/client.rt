@@ -39,9 +39,13 @@ impl Model for Client {
 
     ghost Value = { ClientState };
 
-    ghost view = { λ a. record { seat = a.seat; rest = rest_if (is_read a.seat.standing) a.framer.rest } };
+    ghost view = { λ a. record {
+      seat = a.seat;
+      rest = rest_if (is_read a.seat.standing) a.framer.rest;
+    } };
 
-    ghost invariant = { λ a. is_read a.seat.standing ≡ true → (a.framer.framing ≡ framing_of a.seat.standing) × (a.framer.fault ≡ None) };
+    ghost invariant = { λ a. is_read a.seat.standing ≡ true
+        → (a.framer.framing ≡ framing_of a.seat.standing) × (a.framer.fault ≡ None) };
 }
 
 /// A client comes: whether it is let in. Then the master's hello waits for it, and its own is awaited.
@@ -51,8 +55,11 @@ pub fn admit(
     number: u64,
     core: &mut Core,
 ) -> Result<bool, OutOfMemory>
-    ensures enters { IfOk result (λ let_in. Enters number core.old core.new clients.old.items clients.new.items let_in) }
-    ensures clients { IfOk result (λ let_in. clients.new.items ≡ (if let_in then clients.old.items ++ new_client number ∷ [] else clients.old.items)) }
+    ensures enters { IfOk result (λ let_in.
+        Enters number core.old core.new clients.old.items clients.new.items let_in) }
+    ensures clients { IfOk result (λ let_in.
+        clients.new.items ≡ (if let_in then clients.old.items ++ new_client number ∷ []
+        else clients.old.items)) }
     ensures policy { core.new.policy ≡ core.old.policy }
 {
     let client = Client::new(alloc, number)?;
@@ -107,7 +114,9 @@ impl Client {
         requires room { is_read self.old.seat.standing ≡ true → FAREWELL_ROOM ≤ up.old.spare }
         ensures number { OnOk result (self.new.seat.number ≡ self.old.seat.number) }
         ensures room { OnOk result (LeavesRoom up.old up.new self.old self.new) }
-        ensures hears { IfOk result (λ heard. HearsIn H.may (H.told house.old) (H.told house.new) pid bytes.now core.old core.new up.old up.new heard self.old self.new) }
+        ensures hears { IfOk result (λ heard.
+            HearsIn H.may (H.told house.old) (H.told house.new) pid bytes.now core.old core.new
+            up.old up.new heard self.old self.new) }
         ensures asks { AsksMore (H.told house.old) (H.told house.new) }
         ensures policy { OnOk result (core.new.policy ≡ core.old.policy) }
     {
@@ -171,8 +180,10 @@ impl Client {
     ) -> Result<(), OutOfMemory>
         requires payload { IsContent Proxy payload.now }
         requires room { is_lost self.old.seat.standing ≡ false → FAREWELL_ROOM ≤ up.old.spare }
-        ensures stands { OnOk result (HearsTold (frame_payload payload.now ∷ refusals_of refusals) (part core.old self.old.seat up.old) (part core.new self.new.seat up.new)) }
-        ensures reads { is_lost self.new.seat.standing ≡ false → (self.new.seat.standing ≡ self.old.seat.standing) × (self.new.rest ≡ self.old.rest) }
+        ensures stands { OnOk result (HearsTold (frame_payload payload.now ∷ refusals_of refusals)
+            (part core.old self.old.seat up.old) (part core.new self.new.seat up.new)) }
+        ensures reads { is_lost self.new.seat.standing ≡ false
+            → (self.new.seat.standing ≡ self.old.seat.standing) × (self.new.rest ≡ self.old.rest) }
         ensures policy { core.new.policy ≡ core.old.policy }
         ensures room { OnOk result (LeavesRoom up.old up.new self.old self.new) }
     {
@@ -194,7 +205,10 @@ impl Client {
         requires read { is_read self.old.seat.standing ≡ true }
         requires room { FAREWELL_ROOM ≤ up.old.spare }
         ensures asks { AsksMore (H.told house.old) (H.told house.new) }
-        ensures next { IfOk result (λ more. SaysNext H.may (H.told house.old) (H.told house.new) pid more (first_in (mode_of self.old.seat.standing) self.old.rest) core.old core.new up.old up.new self.old heard.old self.new heard.new) }
+        ensures next { IfOk result (λ more.
+            SaysNext H.may (H.told house.old) (H.told house.new) pid more
+            (first_in (mode_of self.old.seat.standing) self.old.rest) core.old core.new up.old
+            up.new self.old heard.old self.new heard.new) }
         ensures policy { core.new.policy ≡ core.old.policy }
         ensures number { OnOk result (self.new.seat.number ≡ self.old.seat.number) }
         ensures spare { OnOk result (KeepsRoom up.old up.new self.new.seat.standing) }
@@ -233,7 +247,9 @@ impl Client {
         requires read { is_read self.old.seat.standing ≡ true }
         requires room { FAREWELL_ROOM ≤ up.old.spare }
         ensures asks { AsksMore (H.told house.old) (H.told house.new) }
-        ensures hears { IfOk result (λ heard. HearsPiece H.may (H.told house.old) (H.told house.new) pid bytes.now core.old up.old self.old core.new up.new self.new heard) }
+        ensures hears { IfOk result (λ heard.
+            HearsPiece H.may (H.told house.old) (H.told house.new) pid bytes.now core.old up.old
+            self.old core.new up.new self.new heard) }
         ensures policy { OnOk result (core.new.policy ≡ core.old.policy) }
         ensures number { OnOk result (self.new.seat.number ≡ self.old.seat.number) }
         ensures spare { OnOk result (KeepsRoom up.old up.new self.new.seat.standing) }

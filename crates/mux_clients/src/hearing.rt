@@ -24,7 +24,9 @@ pub fn hear(
 ) -> Result<Option<Ended>, OutOfMemory>
     requires payload { IsContent Proxy payload.old }
     requires room { HasRoom clients.old up.old }
-    ensures hears { IfOk result (λ ended. HearsPayload payload.old index leaving.old.items leaving.new.items core.old core.new clients.old clients.new up.old up.new ended) }
+    ensures hears { IfOk result (λ ended.
+        HearsPayload payload.old index leaving.old.items leaving.new.items core.old core.new
+        clients.old clients.new up.old up.new ended) }
     ensures present { OnOk result ((j : ℕ) → is_present clients.new j ≡ is_present clients.old j) }
     ensures room { OnOk result (HasRoom clients.old up.old → HasRoom clients.new up.new) }
     ensures policy { OnOk result (core.new.policy ≡ core.old.policy) }

@@ -47,7 +47,11 @@ impl Model for Seat {
 
     ghost Value = { SeatState };
 
-    ghost view = { λ a. record { number = a.number; standing = a.standing; queue = a.queue.waiting } };
+    ghost view = { λ a. record {
+      number = a.number;
+      standing = a.standing;
+      queue = a.queue.waiting;
+    } };
 }
 
 // How a client stands that goes on so.
@@ -85,7 +89,8 @@ impl Seat {
     fn tell(&mut self, payload: &[u8]) -> Result<Option<Why>, OutOfMemory>
         requires { IsContent Proxy payload.now }
         ensures queue { OnOk result (self.new ≡ told (frame_payload payload.now ∷ []) self.old) }
-        ensures full { IfOk result (λ full. full ≡ full_of (frame_payload payload.now ∷ []) self.old) }
+        ensures full { IfOk result (λ full.
+            full ≡ full_of (frame_payload payload.now ∷ []) self.old) }
         ensures stays { self.new.standing ≡ self.old.standing }
     {
         let have = self.queue.len();
@@ -117,8 +122,10 @@ impl Seat {
     // It is told a payload and then so many refusals, as far as they fit into the queue.
     fn tell_all(&mut self, payload: &[u8], refusals: u32) -> Result<Option<Why>, OutOfMemory>
         requires { IsContent Proxy payload.now }
-        ensures queue { OnOk result (self.new ≡ told (frame_payload payload.now ∷ refusals_of refusals) self.old) }
-        ensures full { IfOk result (λ full. full ≡ full_of (frame_payload payload.now ∷ refusals_of refusals) self.old) }
+        ensures queue { OnOk result
+            (self.new ≡ told (frame_payload payload.now ∷ refusals_of refusals) self.old) }
+        ensures full { IfOk result (λ full.
+            full ≡ full_of (frame_payload payload.now ∷ refusals_of refusals) self.old) }
         ensures stays { self.new.standing ≡ self.old.standing }
     {
         match self.tell(payload)? {
@@ -209,7 +216,9 @@ impl Seat {
     /// What it says is no frame.
     pub fn fails(&mut self, fault: BadFrame, core: &mut Core, up: &mut Queue)
         requires room { FAREWELL_ROOM ≤ up.old.spare }
-        ensures faults { (heard : TheHeard) → FaultBy fault (part core.old self.old up.old) heard (part core.new self.new up.new) heard }
+        ensures faults { (heard : TheHeard)
+            → FaultBy fault (part core.old self.old up.old) heard
+            (part core.new self.new up.new) heard }
         ensures out { is_read self.new.standing ≡ false }
         ensures number { self.new.number ≡ self.old.number }
         ensures policy { core.new.policy ≡ core.old.policy }
@@ -227,7 +236,9 @@ impl Seat {
     ) -> Result<(), OutOfMemory>
         requires length { length payload.old ≤ 262143 }
         requires room { FAREWELL_ROOM ≤ up.old.spare }
-        ensures stands { OnOk result (SaysPayload payload.old (part core.old self.old up.old) (part core.new self.new up.new)) }
+        ensures stands { OnOk result
+            (SaysPayload payload.old (part core.old self.old up.old)
+            (part core.new self.new up.new)) }
         ensures keeps { is_read self.new.standing ≡ true → self.new.standing ≡ self.old.standing }
         ensures number { OnOk result (self.new.number ≡ self.old.number) }
         ensures policy { core.new.policy ≡ core.old.policy }
@@ -261,7 +272,8 @@ impl Seat {
         requires room { FAREWELL_ROOM ≤ up.old.spare }
         ensures keeps { is_read self.new.standing ≡ true → self.new.standing ≡ self.old.standing }
         ensures stays { is_lost self.new.standing ≡ false → self.new.standing ≡ self.old.standing }
-        ensures stands { OnOk result (HearsTold (frame_payload payload.now ∷ refusals_of refusals) (part core.old self.old up.old) (part core.new self.new up.new)) }
+        ensures stands { OnOk result (HearsTold (frame_payload payload.now ∷ refusals_of refusals)
+            (part core.old self.old up.old) (part core.new self.new up.new)) }
         ensures policy { core.new.policy ≡ core.old.policy }
         ensures spare { OnOk result (KeepsRoom up.old up.new self.new.standing) }
     {
@@ -301,8 +313,11 @@ impl Seat {
         up: &mut Queue,
     ) -> Result<(), OutOfMemory>
         requires room { FAREWELL_ROOM ≤ up.old.spare }
-        ensures err { OnErr result (is_read self.new.standing ≡ true → self.new.standing ≡ self.old.standing) }
-        ensures follows { OnOk result (FollowsBy decision.now (part core.old self.old up.old) heard.old (part core.new self.new up.new) heard.new) }
+        ensures err { OnErr result (is_read self.new.standing ≡ true
+            → self.new.standing ≡ self.old.standing) }
+        ensures follows { OnOk result
+            (FollowsBy decision.now (part core.old self.old up.old) heard.old
+            (part core.new self.new up.new) heard.new) }
         ensures number { OnOk result (self.new.number ≡ self.old.number) }
         ensures policy { core.new.policy ≡ core.old.policy }
         ensures spare { OnOk result (KeepsRoom up.old up.new self.new.standing) }

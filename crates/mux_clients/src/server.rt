@@ -25,7 +25,12 @@ impl Model for Server {
 
     ghost Value = { ServerState };
 
-    ghost view = { λ a. record { framing = a.framer.framing; fault = a.framer.fault; rest = a.framer.rest; index = a.index } };
+    ghost view = { λ a. record {
+      framing = a.framer.framing;
+      fault = a.framer.fault;
+      rest = a.framer.rest;
+      index = a.index;
+    } };
 }
 
 impl Server {
@@ -71,7 +76,10 @@ impl Server {
         requires cuts { self.old.framing ≡ InFrames }
         requires well { self.old.fault ≡ None }
         requires room { HasRoom clients.old up.old }
-        ensures next { IfOk result (λ more. ServerNext more (first_in InProxy self.old.rest) leaving.old.items leaving.new.items core.old core.new clients.old clients.new up.old up.new self.old self.new ended.old ended.new) }
+        ensures next { IfOk result (λ more.
+            ServerNext more (first_in InProxy self.old.rest) leaving.old.items leaving.new.items
+            core.old core.new clients.old clients.new up.old up.new self.old self.new ended.old
+            ended.new) }
         ensures room { OnOk result (HasRoom clients.old up.old → HasRoom clients.new up.new) }
         ensures policy { OnOk result (core.new.policy ≡ core.old.policy) }
     {
@@ -105,7 +113,9 @@ impl Server {
         requires cuts { self.old.framing ≡ InFrames }
         requires well { self.old.fault ≡ None }
         requires room { HasRoom clients.old up.old }
-        ensures hears { IfOk result (λ ended. HearsBytes bytes.now leaving.old.items leaving.new.items core.old clients.old up.old self.old core.new clients.new up.new self.new ended) }
+        ensures hears { IfOk result (λ ended.
+            HearsBytes bytes.now leaving.old.items leaving.new.items core.old clients.old up.old
+            self.old core.new clients.new up.new self.new ended) }
         ensures room { OnOk result (HasRoom clients.old up.old → HasRoom clients.new up.new) }
         ensures policy { OnOk result (core.new.policy ≡ core.old.policy) }
     {

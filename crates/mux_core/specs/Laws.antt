@@ -17,14 +17,18 @@ pub record IsIdle (row : Row) : Type 0 where
 
 -- such rows leave a core as it is
 abbrev pub IdleRowsStay : Type 0
-IdleRowsStay = (s : CoreState) (row : Row) (rows : List Row) → Stands s rows → IsIdle row → Stands s (row ∷ rows)
+IdleRowsStay = (s : CoreState) (row : Row) (rows : List Row) → Stands s rows → IsIdle row
+    → Stands s (row ∷ rows)
 
 -- what a row tells its client is nothing to a core
 abbrev pub DownIsFree : Type 0
 DownIsFree =
-    (s : CoreState) (row : Row) (rows : List Row) (down : List (List ℕ)) → Stands s (row ∷ rows) → Stands s (record row { down = down } ∷ rows)
+    (s : CoreState) (row : Row) (rows : List Row) (down : List (List ℕ)) → Stands s (row ∷ rows)
+    → Stands s (record row { down = down } ∷ rows)
 
 -- the number that the row of a client's open or confirmation carries up is the pick
 abbrev pub CarriesPick : Type 0
 CarriesPick =
-    (s : CoreState) (k : ℕ) (p : List ℕ) (pick : ℕ) (rows : List Row) → AreBytes p → pick < 2 ^ 32 → takes_number (said_row s k p pick rows) ≡ true → carried_number (said_row s k p pick rows).up ≡ pick
+    (s : CoreState) (k : ℕ) (p : List ℕ) (pick : ℕ) (rows : List Row) → AreBytes p → pick < 2 ^ 32
+    → takes_number (said_row s k p pick rows) ≡ true
+    → carried_number (said_row s k p pick rows).up ≡ pick

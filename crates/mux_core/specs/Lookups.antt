@@ -11,7 +11,8 @@ use Rattle.channel_table.specs.Entries.{channel_at, changed_at, with_ledger, adm
 
 -- the number and the account, where the channel is the client's and confirmed
 abbrev pub if_confirmed : ℕ → ℕ → Option Channel → Option Ledger → Option (ℕ × Ledger)
-if_confirmed k n (Some c) (Some l) = elim ((c.client == k) && confirmed l) [ true ↦ Some (n, l) | false ↦ None ]
+if_confirmed k n (Some c) (Some l) =
+    elim ((c.client == k) && confirmed l) [ true ↦ Some (n, l) | false ↦ None ]
 if_confirmed k n _ _ = None
 
 -- of the channel that the server names so
@@ -57,7 +58,8 @@ awaits_answer c l = not (history.is_up c.by) && not (confirmed l)
 
 -- the number and the account, where it is the client's to answer
 abbrev pub if_waiting : ℕ → ℕ → Option Channel → Option Ledger → Option (ℕ × Ledger)
-if_waiting k n (Some c) (Some l) = elim ((c.client == k) && awaits_answer c l) [ true ↦ Some (n, l) | false ↦ None ]
+if_waiting k n (Some c) (Some l) =
+    elim ((c.client == k) && awaits_answer c l) [ true ↦ Some (n, l) | false ↦ None ]
 if_waiting k n _ _ = None
 
 -- of the channel that the server names so

@@ -13,7 +13,11 @@ lost_clients k cs = map (lose k) cs
 
 -- its tables after a farewell, and the client is lost
 abbrev pub left_core : CoreState → ℕ → CoreState
-left_core s k = record s { channels = left_entries k s.channels; forwards = without_client k s.forwards }
+left_core s k = record s {
+  channels = left_entries k s.channels;
+  forwards =
+      without_client k s.forwards;
+}
 
 abbrev pub lost_core : CoreState → ℕ → CoreState
 lost_core s k = record (left_core s k) { clients = lost_clients k s.clients }

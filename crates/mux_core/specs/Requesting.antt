@@ -57,6 +57,8 @@ abbrev pub may_ask : Policy → Key → Bool → Bool
 may_ask policy key want = want && (is_askable key && permits policy.listens key)
 
 -- of a request that isn't one too many
-abbrev pub SaysRoomy : CoreState → CoreState → ℕ → List ℕ → Global → Bool → QueueState → QueueState → Verdict → Type 0
+abbrev pub SaysRoomy : CoreState → CoreState → ℕ → List ℕ → Global → Bool → QueueState → QueueState
+    → Verdict → Type 0
 SaysRoomy old new k p what want up up' v =
-    is_full want (waiting_of k old.clients) ≡ false → SaysAs old new k p (Requests what want) 0 up up' v
+    is_full want (waiting_of k old.clients) ≡ false
+    → SaysAs old new k p (Requests what want) 0 up up' v

@@ -95,7 +95,8 @@ fn place_in(clients: &[Client], client: u64) -> usize
 
 // A request of a client was sent: its answer is awaited.
 fn await_in(clients: &mut Vec<Client>, client: u64) -> Result<(), OutOfMemory>
-    ensures { OnOk result (map client_state clients.new.items ≡ with_waiting client more_awaited (map client_state clients.old.items)) }
+    ensures { OnOk result (map client_state clients.new.items
+        ≡ with_waiting client more_awaited (map client_state clients.old.items)) }
 {
     let place = place_in(clients, client);
     if place >= clients.len() {
@@ -107,8 +108,10 @@ fn await_in(clients: &mut Vec<Client>, client: u64) -> Result<(), OutOfMemory>
 
 // A request of a client is refused: whether at once, or behind what waits.
 fn refuse_in(clients: &mut Vec<Client>, client: u64) -> Result<bool, OutOfMemory>
-    ensures now { IfOk result (λ now. now ≡ is_none_left (waiting_of client (map client_state clients.old.items))) }
-    ensures ok { OnOk result (map client_state clients.new.items ≡ with_waiting client or_behind (map client_state clients.old.items)) }
+    ensures now { IfOk result (λ now.
+        now ≡ is_none_left (waiting_of client (map client_state clients.old.items))) }
+    ensures ok { OnOk result (map client_state clients.new.items
+        ≡ with_waiting client or_behind (map client_state clients.old.items)) }
 {
     let place = place_in(clients, client);
     if place >= clients.len() {
@@ -120,8 +123,10 @@ fn refuse_in(clients: &mut Vec<Client>, client: u64) -> Result<bool, OutOfMemory
 
 // The server's reply to a client's first request came: so many refusals follow it now.
 fn answer_in(clients: &mut Vec<Client>, client: u64) -> u32
-    ensures refusals { result ≡ refusals_behind (waiting_of client (map client_state clients.old.items)) }
-    ensures left { map client_state clients.new.items ≡ with_waiting client after_reply (map client_state clients.old.items) }
+    ensures refusals { result
+        ≡ refusals_behind (waiting_of client (map client_state clients.old.items)) }
+    ensures left { map client_state clients.new.items
+        ≡ with_waiting client after_reply (map client_state clients.old.items) }
 {
     let place = place_in(clients, client);
     if place >= clients.len() {
@@ -131,7 +136,8 @@ fn answer_in(clients: &mut Vec<Client>, client: u64) -> u32
 }
 
 fn forget_in(clients: &mut Vec<Client>, client: u64)
-    ensures { map client_state clients.new.items ≡ kept client false (map client_state clients.old.items) }
+    ensures { map client_state clients.new.items
+        ≡ kept client false (map client_state clients.old.items) }
 {
     clients.retain(|c| c.number != client);
 }

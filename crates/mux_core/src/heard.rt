@@ -115,7 +115,8 @@ impl Core {
     /// The server says a payload. Where it goes to a client it has the client's own number for the channel afterwards.
     pub fn heard(&mut self, payload: &mut [u8], up: &mut Queue) -> Result<Heard, OutOfMemory>
         requires { length payload.old ≤ 262143 }
-        ensures stands { IfOk result (λ h. HearsOn self.old self.new payload.old payload.new up.old up.new h) }
+        ensures stands { IfOk result (λ h.
+            HearsOn self.old self.new payload.old payload.new up.old up.new h) }
         ensures length { length payload.new ≡ length payload.old }
         ensures spare { up.old.spare ≤ up.new.spare }
         ensures policy { self.new.policy ≡ self.old.policy }
@@ -159,7 +160,9 @@ impl Core {
         want: bool,
         up: &mut Queue,
     ) -> Result<Heard, OutOfMemory>
-        ensures stands { IfOk result (λ h. HearsWith self.now self.now payload.now payload.now (Requests (request_of what.entry) want) up.old up.new h) }
+        ensures stands { IfOk result (λ h.
+            HearsWith self.now self.now payload.now payload.now
+            (Requests (request_of what.entry) want) up.old up.new h) }
         ensures spare { up.new.spare ≡ up.old.spare }
         ensures err { OnErr result (up.new ≡ up.old) }
     {
@@ -178,7 +181,9 @@ impl Core {
         rest: &[u8],
         up: &mut Queue,
     ) -> Result<Heard, OutOfMemory>
-        ensures stands { IfOk result (λ h. HearsWith self.old self.new payload.now payload.now (Succeeds rest.now) up.old up.new h) }
+        ensures stands { IfOk result (λ h.
+            HearsWith self.old self.new payload.now payload.now (Succeeds rest.now)
+            up.old up.new h) }
         ensures spare { up.new.spare ≡ up.old.spare }
         ensures policy { self.new.policy ≡ self.old.policy }
         ensures err { OnErr result (up.new ≡ up.old) }
@@ -199,7 +204,8 @@ impl Core {
 
     // A failure: to the client whose request waits longest, and where that is lost its cancel is said again.
     fn hear_refusal(&mut self, payload: &[u8], up: &mut Queue) -> Result<Heard, OutOfMemory>
-        ensures stands { IfOk result (λ h. HearsWith self.old self.new payload.now payload.now Refuses up.old up.new h) }
+        ensures stands { IfOk result (λ h.
+            HearsWith self.old self.new payload.now payload.now Refuses up.old up.new h) }
         ensures spare { up.new.spare ≡ up.old.spare }
         ensures policy { self.new.policy ≡ self.old.policy }
         ensures err { OnErr result (up.new ≡ up.old) }
@@ -239,7 +245,8 @@ impl Core {
     // A reply goes to its client, and so many refusals after it as waited behind it.
     fn pass_on(&mut self, client: u64) -> Heard
         ensures to { result ≡ Client client (refusals_behind (waiting_of client self.old.clients)) }
-        ensures left { self.new ≡ record self.old { clients = with_waiting client after_reply self.old.clients } }
+        ensures left { self.new
+            ≡ record self.old { clients = with_waiting client after_reply self.old.clients } }
     {
         let refusals = self.pass_reply(client);
         Heard::Client { client, refusals }
@@ -247,7 +254,10 @@ impl Core {
 
     // What a success does to the forwardings.
     fn succeed(&mut self, client: u64, request: Request<'_>, rest: &[u8])
-        ensures { self.new ≡ record self.old { forwards = after_success client (request_of request.entry) rest.now self.old.forwards } }
+        ensures { self.new ≡ record self.old {
+          forwards = after_success client (request_of request.entry) rest.now
+              self.old.forwards;
+        } }
     {
         match request {
             Request::Forward(key) => self.answer_forward(client, key, Some(told_port(rest))),
@@ -258,7 +268,9 @@ impl Core {
 
     // What a failure does to them.
     fn fail(&mut self, client: u64, request: Request<'_>)
-        ensures { self.new ≡ record self.old { forwards = after_failure client (request_of request.entry) self.old.forwards } }
+        ensures { self.new ≡ record self.old {
+          forwards = after_failure client (request_of request.entry) self.old.forwards;
+        } }
     {
         match request {
             Request::Forward(key) => self.answer_forward(client, key, None),
@@ -279,7 +291,9 @@ impl Core {
         maximum: u32,
         up: &mut Queue,
     ) -> Result<Heard, OutOfMemory>
-        ensures stands { IfOk result (λ h. HearsWith self.old self.new payload.now payload.now (Open (opening_of what.now) sender window maximum) up.old up.new h) }
+        ensures stands { IfOk result (λ h.
+            HearsWith self.old self.new payload.now payload.now
+            (Open (opening_of what.now) sender window maximum) up.old up.new h) }
         ensures spare { up.new.spare ≡ up.old.spare }
         ensures policy { self.new.policy ≡ self.old.policy }
         ensures err { OnErr result (up.new ≡ up.old) }
@@ -335,7 +349,9 @@ impl Core {
         maximum: u32,
         up: &mut Queue,
     ) -> Result<Heard, OutOfMemory>
-        ensures stands { IfOk result (λ h. HearsWith self.old self.new payload.old payload.new (Confirmation number remote window maximum) up.old up.new h) }
+        ensures stands { IfOk result (λ h.
+            HearsWith self.old self.new payload.old payload.new
+            (Confirmation number remote window maximum) up.old up.new h) }
         ensures spare { up.new.spare ≡ up.old.spare }
         ensures policy { self.new.policy ≡ self.old.policy }
         ensures err { OnErr result (up.new ≡ up.old) }
@@ -367,7 +383,8 @@ impl Core {
 
     // The server refuses a client's open.
     fn hear_failure(&mut self, payload: &mut [u8], number: u32) -> Heard
-        ensures stands { HearsGist self.old self.new payload.old payload.new (Within number Fails) result }
+        ensures stands { HearsGist self.old self.new payload.old payload.new
+            (Within number Fails) result }
         ensures policy { self.new.policy ≡ self.old.policy }
     {
         let Some((channel, ledger)) = self.channel_for(number) else {
@@ -393,7 +410,8 @@ impl Core {
 
     // What the server says in a channel that both sides have confirmed.
     fn hear_within(&mut self, payload: &mut [u8], number: u32, act: Act) -> Heard
-        ensures stands { HearsGist self.old self.new payload.old payload.new (Within number (act_of act)) result }
+        ensures stands { HearsGist self.old self.new payload.old payload.new
+            (Within number (act_of act)) result }
         ensures policy { self.new.policy ≡ self.old.policy }
     {
         let Some((channel, mut ledger)) = self.channel_for(number) else {

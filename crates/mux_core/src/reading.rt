@@ -195,7 +195,8 @@ fn shorten<'a>(message: Message<'a>) -> Gist<'a>
 
 /// The gist of what a payload says, or why it doesn't read.
 pub fn read_gist(payload: &[u8]) -> Result<Gist<'_>, Bad>
-    ensures { MatchResult result (λ m. read_gist payload.now ≡ Ok (gist_of m)) (λ e. read_gist payload.now ≡ Err e) }
+    ensures { MatchResult result (λ m. read_gist payload.now ≡ Ok (gist_of m)) (λ e.
+        read_gist payload.now ≡ Err e) }
 {
     match read_message(payload) {
         Ok(message) => Ok(shorten(message)),

@@ -92,7 +92,8 @@ impl Core {
         up: &mut Queue,
     ) -> Result<Verdict, OutOfMemory>
         requires { length payload.old ≤ 262143 }
-        ensures stands { IfOk result (λ v. SaysOn self.old self.new client payload.old up.old up.new v) }
+        ensures stands { IfOk result (λ v.
+            SaysOn self.old self.new client payload.old up.old up.new v) }
         ensures fits { IfOk result AnswerFits }
         ensures spare { up.old.spare ≤ up.new.spare }
         ensures policy { self.new.policy ≡ self.old.policy }
@@ -190,7 +191,8 @@ impl Core {
     ) -> Result<Verdict, OutOfMemory>
         requires content { IsContent Proxy payload.old }
         requires bytes { AreBytes payload.old }
-        ensures stands { IfOk result (λ v. StartsOn self.old self.new client payload.old sender window maximum up.old up.new v) }
+        ensures stands { IfOk result (λ v.
+            StartsOn self.old self.new client payload.old sender window maximum up.old up.new v) }
         ensures fits { IfOk result AnswerFits }
         ensures spare { up.new.spare ≡ up.old.spare }
         ensures policy { self.new.policy ≡ self.old.policy }
@@ -226,7 +228,9 @@ impl Core {
     ) -> Result<Verdict, OutOfMemory>
         requires content { IsContent Proxy payload.old }
         requires bytes { AreBytes payload.old }
-        ensures stands { IfOk result (λ v. SaysSome self.old self.new client payload.old (Confirmation remote sender window maximum) up.old up.new v) }
+        ensures stands { IfOk result (λ v.
+            SaysSome self.old self.new client payload.old
+            (Confirmation remote sender window maximum) up.old up.new v) }
         ensures fits { IfOk result AnswerFits }
         ensures spare { up.new.spare ≡ up.old.spare }
         ensures policy { self.new.policy ≡ self.old.policy }
@@ -253,7 +257,8 @@ impl Core {
         up: &mut Queue,
     ) -> Result<Verdict, OutOfMemory>
         requires { IsContent Proxy payload.now }
-        ensures stands { IfOk result (λ v. SaysAs self.old self.new client payload.now (Within remote Fails) 0 up.old up.new v) }
+        ensures stands { IfOk result (λ v.
+            SaysAs self.old self.new client payload.now (Within remote Fails) 0 up.old up.new v) }
         ensures fits { IfOk result AnswerFits }
         ensures spare { up.new.spare ≡ up.old.spare }
         ensures policy { self.new.policy ≡ self.old.policy }
@@ -277,7 +282,9 @@ impl Core {
         up: &mut Queue,
     ) -> Result<Verdict, OutOfMemory>
         requires { IsContent Proxy payload.now }
-        ensures stands { IfOk result (λ v. SaysAs self.old self.new client payload.now (Within remote (act_of act)) 0 up.old up.new v) }
+        ensures stands { IfOk result (λ v.
+            SaysAs self.old self.new client payload.now (Within remote (act_of act)) 0
+            up.old up.new v) }
         ensures fits { IfOk result AnswerFits }
         ensures spare { up.new.spare ≡ up.old.spare }
         ensures policy { self.new.policy ≡ self.old.policy }
@@ -309,7 +316,9 @@ impl Core {
         up: &mut Queue,
     ) -> Result<Verdict, OutOfMemory>
         requires { IsContent Proxy payload.now }
-        ensures stands { IfOk result (λ v. SaysAs self.old self.new client payload.now (Requests (request_of what.entry) want) 0 up.old up.new v) }
+        ensures stands { IfOk result (λ v.
+            SaysAs self.old self.new client payload.now (Requests (request_of what.entry) want) 0
+            up.old up.new v) }
         ensures fits { IfOk result AnswerFits }
         ensures spare { up.new.spare ≡ up.old.spare }
         ensures policy { self.new.policy ≡ self.old.policy }
@@ -347,7 +356,8 @@ impl Core {
     fn refuse_request(&mut self, client: u64, want: bool) -> Result<Verdict, OutOfMemory>
         ensures verdict { IfOk result (λ v. v ≡ refusal want (waiting_of client self.old.clients)) }
         ensures fits { IfOk result AnswerFits }
-        ensures ok { OnOk result (self.new ≡ record self.old { clients = after_refusal want client self.old.clients }) }
+        ensures ok { OnOk result
+            (self.new ≡ record self.old { clients = after_refusal want client self.old.clients }) }
         ensures policy { self.new.policy ≡ self.old.policy }
     {
         if !want {
@@ -369,7 +379,8 @@ impl Core {
         up: &mut Queue,
     ) -> Result<Verdict, OutOfMemory>
         requires { IsContent Proxy payload.now }
-        ensures stands { IfOk result (λ v. SaysRoomy self.old self.new client payload.now KeepAlive want up.old up.new v) }
+        ensures stands { IfOk result (λ v.
+            SaysRoomy self.old self.new client payload.now KeepAlive want up.old up.new v) }
         ensures fits { IfOk result AnswerFits }
         ensures spare { up.new.spare ≡ up.old.spare }
         ensures policy { self.new.policy ≡ self.old.policy }
@@ -394,7 +405,9 @@ impl Core {
         up: &mut Queue,
     ) -> Result<Verdict, OutOfMemory>
         requires { IsContent Proxy payload.now }
-        ensures stands { IfOk result (λ v. SaysRoomy self.old self.new client payload.now (Forward (key_of key.entry)) want up.old up.new v) }
+        ensures stands { IfOk result (λ v.
+            SaysRoomy self.old self.new client payload.now (Forward (key_of key.entry)) want
+            up.old up.new v) }
         ensures fits { IfOk result AnswerFits }
         ensures spare { up.new.spare ≡ up.old.spare }
         ensures policy { self.new.policy ≡ self.old.policy }
@@ -423,7 +436,9 @@ impl Core {
         up: &mut Queue,
     ) -> Result<Verdict, OutOfMemory>
         requires { IsContent Proxy payload.now }
-        ensures stands { IfOk result (λ v. SaysRoomy self.old self.new client payload.now (Cancel (key_of key.entry)) want up.old up.new v) }
+        ensures stands { IfOk result (λ v.
+            SaysRoomy self.old self.new client payload.now (Cancel (key_of key.entry)) want
+            up.old up.new v) }
         ensures fits { IfOk result AnswerFits }
         ensures spare { up.new.spare ≡ up.old.spare }
         ensures policy { self.new.policy ≡ self.old.policy }

@@ -55,7 +55,13 @@ impl Model for Core {
 
     ghost Value = { CoreState };
 
-    ghost view = { λ a. record { policy = a.policy; channels = a.table; asks = a.askers; clients = a.clients; forwards = a.forwards } };
+    ghost view = { λ a. record {
+      policy = a.policy;
+      channels = a.table;
+      asks = a.askers;
+      clients = a.clients;
+      forwards = a.forwards;
+    } };
 }
 
 // The number at the sender's place, where a payload has one.
@@ -143,7 +149,8 @@ impl Core {
 
     fn let_in(&mut self, client: u64) -> Result<bool, OutOfMemory>
         ensures exact { IfOk result (λ b. b ≡ nat_lt (length self.old.clients) MAX_CLIENTS) }
-        ensures ok { IfOk result (λ b. self.new ≡ record self.old { clients = with_client b client self.old.clients }) }
+        ensures ok { IfOk result (λ b.
+            self.new ≡ record self.old { clients = with_client b client self.old.clients }) }
         ensures unchanged { OnErr result (self.new ≡ self.old) }
     {
         self.clients.enter(client)
@@ -226,7 +233,11 @@ impl Core {
     pub(crate) fn add_own(&mut self, client: u64, own: u32, ledger: Ledger) -> Result<u32, Refused>
         ensures exact { RefusesAs result (own_refusal self.old.channels client own) }
         ensures fresh { IfOk result (λ n. IsFree self.old.channels n) }
-        ensures ok { IfOk result (λ n. self.new ≡ record self.old { channels = self.old.channels ++ own_entry n client own ledger ∷ [] }) }
+        ensures ok { IfOk result (λ n.
+            self.new ≡ record self.old {
+              channels =
+                  self.old.channels ++ own_entry n client own ledger ∷ [];
+            }) }
         ensures unchanged { OnErr result (self.new ≡ self.old) }
     {
         self.table.admit_own(client, own, ledger)
@@ -241,7 +252,11 @@ impl Core {
     ) -> Result<u32, Refused>
         ensures exact { RefusesAs result (remote_refusal self.old.channels client remote) }
         ensures fresh { IfOk result (λ n. IsFree self.old.channels n) }
-        ensures ok { IfOk result (λ n. self.new ≡ record self.old { channels = self.old.channels ++ remote_entry n client remote ledger ∷ [] }) }
+        ensures ok { IfOk result (λ n.
+            self.new ≡ record self.old {
+              channels =
+                  self.old.channels ++ remote_entry n client remote ledger ∷ [];
+            }) }
         ensures unchanged { OnErr result (self.new ≡ self.old) }
     {
         self.table.admit_remote(client, remote, ledger)
@@ -250,7 +265,11 @@ impl Core {
     // The client's own number of a channel that the server has opened: whether the client uses it for no other.
     pub(crate) fn name_own(&mut self, number: u32, own: u32) -> Result<bool, OutOfMemory>
         ensures exact { IfOk result (λ free. free ≡ not (uses_own self.old.channels number own)) }
-        ensures ok { IfOk result (λ free. self.new ≡ record self.old { channels = changed_if free number (with_own own) self.old.channels }) }
+        ensures ok { IfOk result (λ free.
+            self.new ≡ record self.old {
+              channels =
+                  changed_if free number (with_own own) self.old.channels;
+            }) }
         ensures policy { self.new.policy ≡ self.old.policy }
     {
         match self.table.set_own(number, own) {
@@ -262,8 +281,13 @@ impl Core {
 
     // The server's number of a channel that a client has opened: whether the server uses it for no other.
     pub(crate) fn name_remote(&mut self, number: u32, remote: u32) -> Result<bool, OutOfMemory>
-        ensures exact { IfOk result (λ free. free ≡ not (is_some (number_of_remote self.old.channels remote))) }
-        ensures ok { IfOk result (λ free. self.new ≡ record self.old { channels = changed_if free number (with_remote remote) self.old.channels }) }
+        ensures exact { IfOk result (λ free.
+            free ≡ not (is_some (number_of_remote self.old.channels remote))) }
+        ensures ok { IfOk result (λ free.
+            self.new ≡ record self.old {
+              channels =
+                  changed_if free number (with_remote remote) self.old.channels;
+            }) }
         ensures policy { self.new.policy ≡ self.old.policy }
     {
         match self.table.set_remote(number, remote) {
@@ -275,7 +299,9 @@ impl Core {
 
     // The account of a channel that goes on.
     pub(crate) fn set_ledger(&mut self, number: u32, ledger: Ledger)
-        ensures { self.new ≡ record self.old { channels = changed_at number (with_ledger ledger) self.old.channels } }
+        ensures { self.new ≡ record self.old {
+          channels = changed_at number (with_ledger ledger) self.old.channels;
+        } }
     {
         self.table.set_ledger(number, ledger);
     }
@@ -309,7 +335,11 @@ impl Core {
     // A request that was sent and wants a reply.
     pub(crate) fn await_reply(&mut self, client: u64, what: Ask) -> Result<(), OutOfMemory>
         requires { asks.IsShort what }
-        ensures ok { OnOk result (self.new ≡ record self.old { asks = self.old.asks ++ request_of client what ∷ []; clients = with_waiting client more_awaited self.old.clients }) }
+        ensures ok { OnOk result
+            (self.new ≡ record self.old {
+              asks = self.old.asks ++ request_of client what ∷ [];
+              clients = with_waiting client more_awaited self.old.clients;
+            }) }
         ensures policy { self.new.policy ≡ self.old.policy }
     {
         self.askers.ask(client, what)?;
@@ -320,7 +350,10 @@ impl Core {
     // A request that wants a reply and isn't sent: whether its refusal goes out at once.
     pub(crate) fn refuse_waiting(&mut self, client: u64) -> Result<bool, OutOfMemory>
         ensures now { IfOk result (λ now. now ≡ is_none_left (waiting_of client self.old.clients)) }
-        ensures ok { OnOk result (self.new ≡ record self.old { clients = with_waiting client or_behind self.old.clients }) }
+        ensures ok { OnOk result
+            (self.new ≡ record self.old {
+              clients = with_waiting client or_behind self.old.clients;
+            }) }
         ensures policy { self.new.policy ≡ self.old.policy }
     {
         self.clients.refused(client)
@@ -338,7 +371,8 @@ impl Core {
     // The reply to a client's first request goes to it: how many refusals follow it now.
     pub(crate) fn pass_reply(&mut self, client: u64) -> u32
         ensures refusals { result ≡ refusals_behind (waiting_of client self.old.clients) }
-        ensures left { self.new ≡ record self.old { clients = with_waiting client after_reply self.old.clients } }
+        ensures left { self.new
+            ≡ record self.old { clients = with_waiting client after_reply self.old.clients } }
     {
         self.clients.answered(client)
     }
@@ -356,7 +390,10 @@ impl Core {
     pub(crate) fn add_forward(&mut self, client: u64, key: Key<'_>) -> Result<(), ForwardRefused>
         requires { IsShort (key_of key) }
         ensures exact { AddsAs self.old.forwards client result }
-        ensures ok { OnOk result (self.new ≡ record self.old { forwards = self.old.forwards ++ asked client (key_of key.entry) ∷ [] }) }
+        ensures ok { OnOk result
+            (self.new ≡ record self.old {
+              forwards = self.old.forwards ++ asked client (key_of key.entry) ∷ [];
+            }) }
         ensures unchanged { OnErr result (self.new ≡ self.old) }
     {
         self.forwards.add(client, key)
@@ -364,7 +401,9 @@ impl Core {
 
     // The server's answer to a client's request for a forwarding.
     pub(crate) fn answer_forward(&mut self, client: u64, key: Key<'_>, bound: Option<u32>)
-        ensures { self.new ≡ record self.old { forwards = answered client (key_of key.entry) bound self.old.forwards } }
+        ensures { self.new ≡ record self.old {
+          forwards = answered client (key_of key.entry) bound self.old.forwards;
+        } }
     {
         self.forwards.answer(client, key, bound);
     }
@@ -372,7 +411,11 @@ impl Core {
     // The forwarding that a cancel means is cancelled: whether there is one.
     pub(crate) fn cancel_forward(&mut self, client: u64, key: Key<'_>, want: bool) -> bool
         ensures exact { result ≡ some_free client (key_of key.entry) self.old.forwards }
-        ensures step { self.new ≡ record self.old { forwards = cancelled client (key_of key.entry) want self.old.forwards } }
+        ensures step { self.new
+            ≡ record self.old {
+              forwards =
+                  cancelled client (key_of key.entry) want self.old.forwards;
+            } }
         ensures short { result ≡ true → IsShort (key_of key.entry) }
         ensures none { result ≡ false → self.new ≡ self.old }
     {
@@ -381,7 +424,9 @@ impl Core {
 
     // The server's answer to a client's cancel.
     pub(crate) fn answer_cancel(&mut self, client: u64, key: Key<'_>, done: bool)
-        ensures { self.new ≡ record self.old { forwards = cancel_answered client (key_of key.entry) done self.old.forwards } }
+        ensures { self.new ≡ record self.old {
+          forwards = cancel_answered client (key_of key.entry) done self.old.forwards;
+        } }
     {
         self.forwards.cancel_answer(client, key, done);
     }
@@ -404,7 +449,8 @@ impl Core {
     pub(crate) fn leave(&mut self, client: u64, up: &mut Queue)
         requires { FAREWELL_ROOM ≤ up.old.spare }
         ensures exact { self.new ≡ left_core self.old client }
-        ensures sent { Sends (channel_farewells client self.old.channels ++ forward_farewells client self.old.forwards) up.old up.new }
+        ensures sent { Sends (channel_farewells client self.old.channels
+            ++ forward_farewells client self.old.forwards) up.old up.new }
         ensures spare { up.old.spare ≤ up.new.spare + FAREWELL_ROOM }
     {
         tear_down(&mut self.table, &mut self.forwards, client, up);

@@ -24,7 +24,8 @@ abbrev pub stage_after : Plan → Stage → Stage
 stage_after plan Unopened = Unopened
 stage_after plan (Accepting c) = Entering c
 stage_after plan (Entering c) = if nat_lt c plan.clients then Accepting (c + 1) else Confirming 1
-stage_after plan (Confirming c) = if nat_lt c plan.clients then Confirming (c + 1) else from_message plan 0
+stage_after plan (Confirming c) = if nat_lt c plan.clients then Confirming (c + 1)
+    else from_message plan 0
 stage_after plan (Sending i) = Echoing i
 stage_after plan (Echoing i) = Adjusting i
 stage_after plan (Adjusting i) = from_message plan (i + 1)
@@ -148,11 +149,15 @@ drawn_after _ x = x
 -- what was counted after a step, by the length of the message drawn last
 abbrev pub counting : Plan → Stage → ℕ → Tally → Tally
 counting plan (Accepting c) len tally = record tally { clients = counted tally.clients }
-counting plan (Sending i) len tally = if nat_lt 0 i then record tally { messages = counted tally.messages } else tally
-counting plan (Echoing i) len tally = record tally { data_up = min (tally.data_up + len) (2 ^ 64 - 1) }
-counting plan (Adjusting i) len tally = record tally { data_down = min (tally.data_down + len) (2 ^ 64 - 1) }
+counting plan (Sending i) len tally = if nat_lt 0 i
+    then record tally { messages = counted tally.messages } else tally
+counting plan (Echoing i) len tally =
+    record tally { data_up = min (tally.data_up + len) (2 ^ 64 - 1) }
+counting plan (Adjusting i) len tally =
+    record tally { data_down = min (tally.data_down + len) (2 ^ 64 - 1) }
 counting plan (Closing c) len tally =
-    if (c == 1) && nat_lt 0 plan.messages then record tally { messages = counted tally.messages } else tally
+    if (c == 1) && nat_lt 0 plan.messages
+    then record tally { messages = counted tally.messages } else tally
 counting plan (Leaving c) len tally = record tally { closed = counted tally.closed }
 counting plan _ len tally = tally
 

@@ -57,6 +57,7 @@ pub record PlaysNext (old new : DrillWire) (turn : Turn) (bytes : List ℕ) : Ty
   pub play_is : new.play ≡ next_play old.play old.log
 
 -- a write took all bytes, and they wait to be read
-pub record TakesAll (stream : ℕ) (bytes : List ℕ) (old new : DrillWire) (wrote : Wrote) : Type 0 where
+pub record TakesAll (stream : ℕ) (bytes : List ℕ) (old new : DrillWire) (wrote : Wrote) :
+    Type 0 where
   pub wrote_is : wrote ≡ Took (length bytes)
   pub play_is : new.play ≡ record old.play { unread = with_more stream bytes old.play.unread }

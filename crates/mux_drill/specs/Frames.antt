@@ -9,7 +9,8 @@ use Rattle.ssh_grammar.specs.SpellMessage.{spell}
 
 -- a session is opened
 unfoldable pub open_frame : ℕ → List ℕ
-open_frame sender = frame_payload (spell (Plain (Open (codes "session") sender 2097152 32768 [] Session)))
+open_frame sender = frame_payload
+    (spell (Plain (Open (codes "session") sender 2097152 32768 [] Session)))
 
 -- an open is confirmed
 unfoldable pub confirmation_frame : ℕ → ℕ → List ℕ
@@ -30,11 +31,13 @@ close_frame recipient = frame_payload (spell (To recipient Close))
 
 -- what a client says first: HELLO, PROXY and an open
 unfoldable pub greeting : List ℕ
-greeting = (frame_body (spell_control (Hello 4 [])) ++ frame_body (spell_control (Proxy 0))) ++ open_frame 0
+greeting = (frame_body (spell_control (Hello 4 [])) ++ frame_body (spell_control (Proxy 0)))
+    ++ open_frame 0
 
 -- what a client reads first: the master's answers, and the confirmation with the server's number
 unfoldable pub welcome : ℕ → List ℕ
-welcome number = (frame_answer (Greets 4) ++ frame_answer (Proxies 0)) ++ confirmation_frame 0 number
+welcome number = (frame_answer (Greets 4) ++ frame_answer (Proxies 0))
+    ++ confirmation_frame 0 number
 
 -- the sender's number in an open of a session, which stands behind its length, its padding length, its
 -- number and its type

@@ -18,7 +18,8 @@ without_first stream count unread = slice_set unread stream (drop count (unread_
 -- so many of a stream, those that were written last, are taken away
 abbrev pub without_last : ℕ → ℕ → List (List ℕ) → List (List ℕ)
 without_last stream count unread =
-    slice_set unread stream (take (length (unread_at stream unread) - count) (unread_at stream unread))
+    slice_set unread stream
+    (take (length (unread_at stream unread) - count) (unread_at stream unread))
 
 -- whether a stream has these first
 abbrev pub stands_first : ℕ → List ℕ → List (List ℕ) → Bool

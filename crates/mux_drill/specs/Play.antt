@@ -38,7 +38,8 @@ may_happen NoMemory log unread = false
 -- whether all that a step needs was written, and its turn may happen
 abbrev pub is_met : Step → Logged → List (List ℕ) → Bool
 is_met step log unread =
-    stands_first 0 step.up unread && (stands_first step.client step.down unread && may_happen step.turn log unread)
+    stands_first 0 step.up unread
+    && (stands_first step.client step.down unread && may_happen step.turn log unread)
 
 -- the step that comes next
 abbrev pub next_step : Play → Step
@@ -77,7 +78,8 @@ abbrev pub begun : Step → Play → Play
 begun step play = record play {
   course = spot_after play.course;
   said = gone_on (record { stream = speaker_of step.turn; rest = step.says });
-  unread = without_first step.client (length step.down) (without_first 0 (length step.up) play.unread);
+  unread = without_first step.client (length step.down)
+      (without_first 0 (length step.up) play.unread);
   picks = picks_after play.course.stage (opener_in (unread_at 0 play.unread)) play.picks;
 }
 

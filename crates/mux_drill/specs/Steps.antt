@@ -96,10 +96,14 @@ step_at picks waiting plan Unopened = bare (Failed 0)
 step_at picks waiting plan (Accepting c) = bare (Accepted c)
 step_at picks waiting plan (Entering c) = record (bare (Got c)) { says = greeting }
 step_at picks waiting plan (Confirming c) = confirming c (opener_in waiting)
-step_at picks waiting plan (Sending i) = sending plan.clients i (message_before plan i) (message_at plan i)
-step_at picks waiting plan (Echoing i) = echoing (slice_index picks (message_at plan i).client) (message_at plan i)
+step_at picks waiting plan (Sending i) =
+    sending plan.clients i (message_before plan i) (message_at plan i)
+step_at picks waiting plan (Echoing i) =
+    echoing (slice_index picks (message_at plan i).client) (message_at plan i)
 step_at picks waiting plan (Adjusting i) = adjusting (message_at plan i)
-step_at picks waiting plan (Closing c) = closing plan.clients plan.messages (message_before plan plan.messages) c
-step_at picks waiting plan (ClosingBack c) = record (bare (Got 0)) { up = close_frame (c - 1); says = close_frame (slice_index picks c) }
+step_at picks waiting plan (Closing c) =
+    closing plan.clients plan.messages (message_before plan plan.messages) c
+step_at picks waiting plan (ClosingBack c) =
+    record (bare (Got 0)) { up = close_frame (c - 1); says = close_frame (slice_index picks c) }
 step_at picks waiting plan (Leaving c) = record (bare (End c)) { client = c; down = close_frame 0 }
 step_at picks waiting plan Ending = bare (End 0)

@@ -84,17 +84,21 @@ impl Wire for DrillWire {
         requires waiting_open { All (λ t. IsTrue (among t self.old.log.streams)) waiting.now }
         requires server { IsTrue (among 0 self.old.log.streams) }
         requires some { want ≡ WriteOnly → 0 < length waiting.now }
-        ensures turn { TurnFits result want self.old.log.listens self.old.log.last self.old.log.streams
+        ensures turn { TurnFits result want self.old.log.listens self.old.log.last
+            self.old.log.streams
             self.old.log.blocked into.new }
         ensures openings { Some self.new.log.openings ≡ Some self.old.log.openings }
-        ensures seen { seen_in self.new.log ≡ seen_after_turn result waiting.now want into.new (seen_in self.old.log) }
+        ensures seen { seen_in self.new.log ≡ seen_after_turn result waiting.now want into.new
+            (seen_in self.old.log) }
         ensures calls { self.new.log.calls ≡ calls_after_wait result self.old.log.calls }
         ensures cause { TurnFaults result self.old.log.server_faults self.new.log.server_faults
             self.old.log.client_faults self.new.log.client_faults }
-        ensures drilled { result ≡ End 0 → tally_of self.new ≡ full_tally self.old.play.course.plan }
+        ensures drilled { result ≡ End 0
+            → tally_of self.new ≡ full_tally self.old.play.course.plan }
         ensures ends { result ≡ End 0 → IsOver self.new }
         ensures over { IsOver self.old → tally_of self.new ≡ tally_of self.old }
-        ensures given { want ≡ Read → result ≢ NoMemory → PlaysNext self.old self.new result into.new }
+        ensures given { want ≡ Read → result ≢ NoMemory
+            → PlaysNext self.old self.new result into.new }
         ensures err { result ≡ NoMemory → SamePlay self.old self.new }
     {
         let given = self.given(waiting, want, into);
@@ -115,11 +119,14 @@ impl Wire for DrillWire {
         requires some { 0 < length bytes.now }
         ensures wrote { WroteFits result (length bytes.now) }
         ensures openings { Some self.new.log.openings ≡ Some self.old.log.openings }
-        ensures seen { seen_in self.new.log ≡ seen_after_write result stream bytes.now (seen_in self.old.log) }
+        ensures seen { seen_in self.new.log
+            ≡ seen_after_write result stream bytes.now (seen_in self.old.log) }
         ensures calls { self.new.log.calls ≡ calls_after_write result self.old.log.calls }
-        ensures cause { WroteFaults result stream self.old.log.server_faults self.new.log.server_faults
+        ensures cause { WroteFaults result stream self.old.log.server_faults
+            self.new.log.server_faults
             self.old.log.client_faults self.new.log.client_faults }
-        ensures all { result ≢ NoMemoryToWrite → TakesAll stream bytes.now self.old self.new result }
+        ensures all { result ≢ NoMemoryToWrite
+            → TakesAll stream bytes.now self.old self.new result }
         ensures over { tally_of self.new ≡ tally_of self.old }
         ensures err { result ≡ NoMemoryToWrite → SamePlay self.old self.new }
     {
@@ -171,7 +178,8 @@ impl DrillWire {
         requires waiting_open { All (λ t. IsTrue (among t self.now.log.streams)) waiting.now }
         requires server { IsTrue (among 0 self.now.log.streams) }
         requires some { want ≡ WriteOnly → 0 < length waiting.now }
-        ensures turn { TurnFits result.turn want self.now.log.listens self.now.log.last self.now.log.streams
+        ensures turn { TurnFits result.turn want self.now.log.listens self.now.log.last
+            self.now.log.streams
             self.now.log.blocked into.new }
         ensures gives { want ≡ Read → result.turn ≢ NoMemory
             → GivesNext self.now.play self.now.log result into.new }

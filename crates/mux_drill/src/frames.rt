@@ -28,7 +28,8 @@ fn add_frame(text: &mut Text, payload: &[u8]) -> Result<(), OutOfMemory>
 }
 
 fn open_payload(sender: u32) -> Small
-    ensures spelled { result ≡ spell (Plain (Open (codes "session") sender 2097152 32768 [] Session)) }
+    ensures spelled { result
+        ≡ spell (Plain (Open (codes "session") sender 2097152 32768 [] Session)) }
     ensures short { length result ≤ 512 }
 {
     let mut payload = Small::copy(&[CHANNEL_OPEN]);
@@ -61,7 +62,8 @@ fn adjust_payload(recipient: u32, len: u32) -> Small
 
 fn data_payload(alloc: Global, recipient: u32, len: u32, byte: u8) -> Result<Text, OutOfMemory>
     requires { len ≤ 1024 }
-    ensures spelled { IfOk result (λ payload. payload ≡ spell (To recipient (Data (replicate len byte)))) }
+    ensures spelled { IfOk result (λ payload.
+        payload ≡ spell (To recipient (Data (replicate len byte)))) }
     ensures short { IfOk result (λ payload. length payload < 4096) }
 {
     let mut bytes = Vec::new(alloc);

@@ -144,7 +144,8 @@ impl Step {
         requires some { 1 ≤ clients }
         requires few { clients ≤ 64 }
         requires earlier { IsMessage before }
-        ensures { IfOk result (λ step. step ≡ record (closing clients messages before client) { says = [] }) }
+        ensures { IfOk result (λ step.
+            step ≡ record (closing clients messages before client) { says = [] }) }
     {
         let mut step = Step::bare(alloc, Turn::Got(client));
         step.client = clients;

@@ -30,18 +30,21 @@ pub record IsOfWire (journal : List Mark) : Type 0 where
   pub asked : Throughout ReadsWhenAsked journal
 
 -- how a run ends: as the journal says, and each stream was offered what waits for it
-pub record EndsRight (setting : Setting) (turns : ℕ) (journal : List Mark) (answer : Ended) : Type 0 where
+pub record EndsRight (setting : Setting) (turns : ℕ) (journal : List Mark) (answer : Ended) :
+    Type 0 where
   pub end : ConnectionEnds setting turns journal answer
   pub settled : Settled setting journal
 
 -- what the stream of each admitted client took begins, byte for byte, what its unshared connection gives it
 abbrev pub TakesUnshared : Setting → List Mark → List Row → Type 0
 TakesUnshared setting journal rows =
-    (k : ℕ) → 0 < k → IsAdmitted k rows → IsFront (taken_by k journal) (given_to k (solo setting k rows))
+    (k : ℕ) → 0 < k → IsAdmitted k rows
+    → IsFront (taken_by k journal) (given_to k (solo setting k rows))
 
 -- nothing is left of an admitted client whose matters are closed
 abbrev pub LeavesNothing : List Row → Type 0
-LeavesNothing rows = (k : ℕ) → IsAdmitted k rows → has_open_matters (rows_of k rows) ≡ false → HasNothing (rows_of k rows)
+LeavesNothing rows = (k : ℕ) → IsAdmitted k rows → has_open_matters (rows_of k rows) ≡ false
+    → HasNothing (rows_of k rows)
 
 -- what is promised of rows: windows, permissions, askers, numbers and the unshared connection of each admitted client; byte
 -- for byte it is given what that connection gives; the master's own words; the limits; and what waits for a client and for the server
@@ -63,7 +66,9 @@ pub record KeepsRows (setting : Setting) (rows : List Row) : Type 0 where
 -- that takes one, and one reply for each row that asks; the house, which told `before` and tells `now`, was told exactly the
 -- asks of these rows with these replies, and of a cut mark perhaps some more. These rows, and all others that want of memory
 -- may have left, keep what is promised of rows; and but for want of memory the run ends right.
-pub record IsRun (May : HouseReply → Type 0) (policy : Policy) (pid turns : ℕ) (before now : Option (List Asked)) (start told : Option (List Mark)) (answer : Ended) : Type 0 where
+pub record IsRun (May : HouseReply → Type 0) (policy : Policy) (pid turns : ℕ)
+    (before now : Option (List Asked)) (start told : Option (List Mark)) (answer : Ended) :
+    Type 0 where
   pub journal : List Mark
   pub picks : List ℕ
   pub replies : List HouseReply
@@ -74,9 +79,11 @@ pub record IsRun (May : HouseReply → Type 0) (policy : Policy) (pid turns : �
   pub written : Written (by_lists policy pid picks replies) journal
   pub open_streams : OpenStreams (by_lists policy pid picks replies) journal
   pub is_log : IsLog (by_lists policy pid picks replies) journal rows
-  pub whole : answer ≢ OutOfMemory → rows ≡ log_of_journal (by_lists policy pid picks replies) journal
+  pub whole : answer ≢ OutOfMemory
+      → rows ≡ log_of_journal (by_lists policy pid picks replies) journal
   pub fresh : AreFresh rows
-  pub keeps : (others : List Row) → IsLog (by_lists policy pid picks replies) journal others → AreFresh others → KeepsRows (by_lists policy pid picks replies) others
+  pub keeps : (others : List Row) → IsLog (by_lists policy pid picks replies) journal others
+      → AreFresh others → KeepsRows (by_lists policy pid picks replies) others
   pub alone : TakesUnshared (by_lists policy pid picks replies) journal rows
   pub rests : (t : ℕ) → RestsShort (bytes_of t journal)
   pub waits : waits_in journal ≤ turns
@@ -85,4 +92,5 @@ pub record IsRun (May : HouseReply → Type 0) (policy : Policy) (pid turns : �
   pub more_asks : List Asked
   pub house : TellsAsks before now (asked_of rows ++ more_asks)
   pub house_whole : answer ≢ OutOfMemory → TellsAsks before now (asked_of rows)
-  pub ends : answer ≢ OutOfMemory → EndsRight (by_lists policy pid picks replies) turns journal answer
+  pub ends : answer ≢ OutOfMemory
+      → EndsRight (by_lists policy pid picks replies) turns journal answer

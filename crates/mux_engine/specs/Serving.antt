@@ -35,9 +35,11 @@ pub record Kept (setting : Setting) (journal : List Mark) : Type 0 where
 
 -- all that was promised so far: while the run goes on, a client to whose stream a write failed is out; and the streams that
 -- are not in `todo` were offered what waits for them
-pub record IsSound (setting : Setting) (journal : List Mark) (todo : List ℕ) (s : State) : Type 0 where
+pub record IsSound (setting : Setting) (journal : List Mark) (todo : List ℕ) (s : State) :
+    Type 0 where
   pub kept : Kept setting journal
-  pub failed_out : (t : ℕ) → write_failed t journal ≡ true → s.ended ≡ None → is_out (rows_of t (log_of_journal setting journal)) ≡ true
+  pub failed_out : (t : ℕ) → write_failed t journal ≡ true → s.ended ≡ None
+      → is_out (rows_of t (log_of_journal setting journal)) ≡ true
   pub settled : (t : ℕ) → among t todo ≡ false → IsSettled setting journal t
 
 -- a client that did not come yet
@@ -50,7 +52,9 @@ pub record IsUnseen (journal : List Mark) (blocked : List ℕ) (k : ℕ) : Type 
 -- `before`, the engine stands for what the wire told since the start, in which `given` turns were asked for; the journal is
 -- one that a wire can give; the streams that are open are the server's and those of the clients that are here; and whatever
 -- is picked and replied later, all is sound
-pub record Serving (May : HouseReply → Type 0) (before now : Option (List Asked)) (policy : Policy) (pid : ℕ) (start : Option (List Mark)) (seen : Seen) (held : List ℕ) (given : ℕ) (todo : List ℕ) (s : State) : Type 0 where
+pub record Serving (May : HouseReply → Type 0) (before now : Option (List Asked)) (policy : Policy)
+    (pid : ℕ) (start : Option (List Mark)) (seen : Seen) (held : List ℕ) (given : ℕ) (todo : List ℕ)
+    (s : State) : Type 0 where
   pub journal : List Mark
   pub closed : List ℕ
   pub picked : List ℕ
@@ -68,10 +72,12 @@ pub record Serving (May : HouseReply → Type 0) (before now : Option (List Aske
   pub blocked_is : (t : ℕ) → is_open s t ≡ true → among t seen.blocked ≡ is_blocked t journal
   pub unseen : (k : ℕ) → seen.last < k → IsUnseen journal seen.blocked k
   pub hears : s.listening ≡ true → seen.listens ≡ true
-  pub sound : (picks : List ℕ) (given_later : List HouseReply) → IsSound (by_lists policy pid (picked ++ picks) (replies ++ given_later)) journal todo s
+  pub sound : (picks : List ℕ) (given_later : List HouseReply)
+      → IsSound (by_lists policy pid (picked ++ picks) (replies ++ given_later)) journal todo s
 
 -- the same, whatever came before, and whichever streams are to be offered what waits for them
-pub record IsServed (May : HouseReply → Type 0) (now : Option (List Asked)) (seen : Seen) (held : List ℕ) (s : State) : Type 0 where
+pub record IsServed (May : HouseReply → Type 0) (now : Option (List Asked)) (seen : Seen)
+    (held : List ℕ) (s : State) : Type 0 where
   pub before : Option (List Asked)
   pub policy : Policy
   pub pid : ℕ
@@ -81,7 +87,8 @@ pub record IsServed (May : HouseReply → Type 0) (now : Option (List Asked)) (s
   pub serving : Serving May before now policy pid start seen held given todo s
 
 -- the same, with these streams still to be offered what waits for them
-pub record IsServedBut (May : HouseReply → Type 0) (now : Option (List Asked)) (seen : Seen) (held : List ℕ) (todo : List ℕ) (s : State) : Type 0 where
+pub record IsServedBut (May : HouseReply → Type 0) (now : Option (List Asked)) (seen : Seen)
+    (held : List ℕ) (todo : List ℕ) (s : State) : Type 0 where
   pub before : Option (List Asked)
   pub policy : Policy
   pub pid : ℕ
@@ -92,7 +99,8 @@ pub record IsServedBut (May : HouseReply → Type 0) (now : Option (List Asked))
 -- ---- want of memory
 
 -- rows that were left of the journal: so many took a number, and they ask this
-pub record IsLeft (setting : Setting) (journal : List Mark) (taken : ℕ) (asks : List Asked) : Type 0 where
+pub record IsLeft (setting : Setting) (journal : List Mark) (taken : ℕ) (asks : List Asked) :
+    Type 0 where
   pub kept : Kept setting journal
   pub rows : List Row
   pub is_log : IsLog setting journal rows
@@ -102,7 +110,8 @@ pub record IsLeft (setting : Setting) (journal : List Mark) (taken : ℕ) (asks 
   pub asked_is : asked_of rows ≡ asks
 
 -- what is left of it for want of memory
-pub record Promised (May : HouseReply → Type 0) (before now : Option (List Asked)) (policy : Policy) (pid : ℕ) (start told : Option (List Mark)) (given : ℕ) : Type 0 where
+pub record Promised (May : HouseReply → Type 0) (before now : Option (List Asked)) (policy : Policy)
+    (pid : ℕ) (start told : Option (List Mark)) (given : ℕ) : Type 0 where
   pub journal : List Mark
   pub picked : List ℕ
   pub replies : List HouseReply
@@ -114,10 +123,13 @@ pub record Promised (May : HouseReply → Type 0) (before now : Option (List Ask
   pub tells : Tells start told journal
   pub of_wire : IsOfWire journal
   pub waits : waits_in journal ≤ given
-  pub left : (picks : List ℕ) (given_later : List HouseReply) → IsLeft (by_lists policy pid (picked ++ picks) (replies ++ given_later)) journal (length picked) asks
+  pub left : (picks : List ℕ) (given_later : List HouseReply)
+      → IsLeft (by_lists policy pid (picked ++ picks) (replies ++ given_later)) journal
+      (length picked) asks
 
 -- ---- the end
 
 -- it ended as before, or the server's stream failed, whose count rose; no count falls
 abbrev pub StaysOrFails : Option Ended → Option Ended → ℕ → ℕ → Type 0
-StaysOrFails old new faults faults' = ((new ≡ old) × (faults ≤ faults')) ⊎ ((new ≡ Some ServerFailed) × Rose faults faults')
+StaysOrFails old new faults faults' = ((new ≡ old) × (faults ≤ faults'))
+    ⊎ ((new ≡ Some ServerFailed) × Rose faults faults')

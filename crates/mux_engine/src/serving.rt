@@ -41,18 +41,24 @@ fn turn<W: Wire, H: House>(
     held: &mut Streams,
     piece: &mut Piece,
 ) -> Result<Went, OutOfMemory>
-    requires served { IsServedBut H.may (H.told house.old) (W.seen wire.old) held.old [] engine.old }
+    requires served { IsServedBut H.may (H.told house.old) (W.seen wire.old) held.old []
+        engine.old }
     requires closed { engine.old.leaving ≡ [] }
     requires refused { engine.old.refused ≡ [] }
     requires on { engine.old.ended ≡ None }
     requires hears { (W.seen wire.old).listens ≡ engine.old.listening }
-    ensures serving { (before : Option (List TheAsked)) (policy : ThePolicy) (pid : ℕ) (start : Option (List TheMark)) (given : ℕ) →
-        Serving H.may before (H.told house.old) policy pid start (W.seen wire.old) held.old given [] engine.old →
+    ensures serving { (before : Option (List TheAsked)) (policy : ThePolicy) (pid : ℕ)
+        (start : Option (List TheMark)) (given : ℕ) →
+        Serving H.may before (H.told house.old) policy pid start (W.seen wire.old) held.old given []
+        engine.old →
         MatchResult result
-        (λ went. Serving H.may before (H.told house.new) policy pid start (W.seen wire.new) held.new (given + 1) (0 ∷ here engine.new) engine.new)
-        (λ e. Promised H.may before (H.told house.new) policy pid start (W.seen wire.new).told (given + 1)) }
+        (λ went. Serving H.may before (H.told house.new) policy pid start (W.seen wire.new) held.new
+        (given + 1) (0 ∷ here engine.new) engine.new)
+        (λ e. Promised H.may before (H.told house.new) policy pid start (W.seen wire.new).told
+        (given + 1)) }
     ensures went { IfOk result (λ went. went ≡ went_of engine.new.ended) }
-    ensures failed { OnOk result (engine.new.ended ≡ Some ServerFailed → Rose (W.server_faults wire.old) (W.server_faults wire.new)) }
+    ensures failed { OnOk result (engine.new.ended ≡ Some ServerFailed
+        → Rose (W.server_faults wire.old) (W.server_faults wire.new)) }
     ensures unspent { OnOk result (engine.new.ended ≢ Some TurnsSpent) }
     ensures later { W.server_faults wire.old ≤ W.server_faults wire.new }
     ensures calls { Counts 1 result (W.calls wire.old) (W.calls wire.new) }
@@ -79,20 +85,28 @@ fn run<W: Wire, H: House>(
     house: &mut H,
     turns: u64,
 ) -> Result<Ended, OutOfMemory>
-    requires running { IsServedBut H.may (H.told house.old) (W.seen wire.old) [] (0 ∷ here engine.old) engine.old }
+    requires running { IsServedBut H.may (H.told house.old) (W.seen wire.old) []
+        (0 ∷ here engine.old) engine.old }
     requires on { engine.old.ended ≡ None }
     requires quiet { engine.old.waiting ≡ [] }
-    ensures ran { (before : Option (List TheAsked)) (policy : ThePolicy) (pid : ℕ) (start : Option (List TheMark)) →
-        Serving H.may before (H.told house.old) policy pid start (W.seen wire.old) [] 0 (0 ∷ here engine.old) engine.old →
+    ensures ran { (before : Option (List TheAsked)) (policy : ThePolicy) (pid : ℕ)
+        (start : Option (List TheMark)) →
+        Serving H.may before (H.told house.old) policy pid start (W.seen wire.old) [] 0
+        (0 ∷ here engine.old) engine.old →
         MatchResult result
-        (λ answer. IsRun H.may policy pid turns before (H.told house.new) start (W.seen wire.new).told answer)
-        (λ e. IsRun H.may policy pid turns before (H.told house.new) start (W.seen wire.new).told WantOfMemory) }
-    ensures failed { IfOk result (λ answer. answer ≡ ServerFailed → Rose (W.server_faults wire.old) (W.server_faults wire.new)) }
+        (λ answer. IsRun H.may policy pid turns before (H.told house.new) start
+        (W.seen wire.new).told answer)
+        (λ e. IsRun H.may policy pid turns before (H.told house.new) start (W.seen wire.new).told
+        WantOfMemory) }
+    ensures failed { IfOk result (λ answer. answer ≡ ServerFailed
+        → Rose (W.server_faults wire.old) (W.server_faults wire.new)) }
     ensures calls { MatchResult result
         (λ answer. Stops turns answer (W.calls wire.old) (W.calls wire.new))
         (λ e. Stops turns WantOfMemory (W.calls wire.old) (W.calls wire.new)) }
     ensures openings { W.openings wire.new ≡ W.openings wire.old }
-    ensures idle { turns ≡ 0 → SameFaults (W.server_faults wire.old) (W.server_faults wire.new) (W.client_faults wire.old) (W.client_faults wire.new) }
+    ensures idle { turns ≡ 0
+        → SameFaults (W.server_faults wire.old) (W.server_faults wire.new)
+        (W.client_faults wire.old) (W.client_faults wire.new) }
 {
     let mut piece = Piece::new(alloc)?;
     let mut held = Streams::new(alloc);
@@ -123,14 +137,19 @@ fn serve_new<W: Wire, H: House>(
     requires none_blocked { (W.seen wire.old).blocked ≡ [] }
     requires listens { (W.seen wire.old).listens ≡ true }
     ensures kept { MatchResult result
-        (λ answer. IsRun H.may policy pid turns (H.told house.old) (H.told house.new) (W.seen wire.old).told (W.seen wire.new).told answer)
-        (λ e. IsRun H.may policy pid turns (H.told house.old) (H.told house.new) (W.seen wire.old).told (W.seen wire.new).told WantOfMemory) }
-    ensures failed { IfOk result (λ answer. answer ≡ ServerFailed → Rose (W.server_faults wire.old) (W.server_faults wire.new)) }
+        (λ answer. IsRun H.may policy pid turns (H.told house.old) (H.told house.new)
+        (W.seen wire.old).told (W.seen wire.new).told answer)
+        (λ e. IsRun H.may policy pid turns (H.told house.old) (H.told house.new)
+        (W.seen wire.old).told (W.seen wire.new).told WantOfMemory) }
+    ensures failed { IfOk result (λ answer. answer ≡ ServerFailed
+        → Rose (W.server_faults wire.old) (W.server_faults wire.new)) }
     ensures calls { MatchResult result
         (λ answer. Stops turns answer (W.calls wire.old) (W.calls wire.new))
         (λ e. Stops turns WantOfMemory (W.calls wire.old) (W.calls wire.new)) }
     ensures openings { W.openings wire.new ≡ W.openings wire.old }
-    ensures idle { turns ≡ 0 → SameFaults (W.server_faults wire.old) (W.server_faults wire.new) (W.client_faults wire.old) (W.client_faults wire.new) }
+    ensures idle { turns ≡ 0
+        → SameFaults (W.server_faults wire.old) (W.server_faults wire.new)
+        (W.client_faults wire.old) (W.client_faults wire.new) }
 {
     let mut engine = Engine::new(alloc, policy, pid)?;
     run(alloc, &mut engine, wire, house, turns)
@@ -151,11 +170,15 @@ pub fn serve<W: Wire, H: House>(
     requires server_alone { (W.seen wire.old).streams ≡ 0 ∷ [] }
     requires none_blocked { (W.seen wire.old).blocked ≡ [] }
     requires listens { (W.seen wire.old).listens ≡ true }
-    ensures kept { IsRun H.may policy pid turns (H.told house.old) (H.told house.new) (W.seen wire.old).told (W.seen wire.new).told result }
-    ensures failed { result ≡ ServerFailed → Rose (W.server_faults wire.old) (W.server_faults wire.new) }
+    ensures kept { IsRun H.may policy pid turns (H.told house.old) (H.told house.new)
+        (W.seen wire.old).told (W.seen wire.new).told result }
+    ensures failed { result ≡ ServerFailed
+        → Rose (W.server_faults wire.old) (W.server_faults wire.new) }
     ensures calls { Stops turns result (W.calls wire.old) (W.calls wire.new) }
     ensures openings { W.openings wire.new ≡ W.openings wire.old }
-    ensures idle { turns ≡ 0 → SameFaults (W.server_faults wire.old) (W.server_faults wire.new) (W.client_faults wire.old) (W.client_faults wire.new) }
+    ensures idle { turns ≡ 0
+        → SameFaults (W.server_faults wire.old) (W.server_faults wire.new)
+        (W.client_faults wire.old) (W.client_faults wire.new) }
 {
     match serve_new(alloc, policy, pid, wire, house, turns) {
         Ok(ended) => ended,

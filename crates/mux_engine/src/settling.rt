@@ -47,7 +47,8 @@ fn offer_once<W: Wire, H: House>(
     ensures later { W.server_faults wire.old ≤ W.server_faults wire.new }
     ensures calls { Counts 0 result (W.calls wire.old) (W.calls wire.new) }
     ensures openings { W.openings wire.new ≡ W.openings wire.old }
-    ensures idle { queue_in engine.old stream ≡ [] → (engine.new ≡ engine.old) × (wire.new ≡ wire.old) }
+    ensures idle { queue_in engine.old stream ≡ [] → (engine.new ≡ engine.old)
+        × (wire.new ≡ wire.old) }
 {
     let bytes = engine.queue_of(stream);
     if bytes.is_empty() {
@@ -97,7 +98,8 @@ fn offer<W: Wire, H: House>(
     ensures later { W.server_faults wire.old ≤ W.server_faults wire.new }
     ensures calls { Counts 0 result (W.calls wire.old) (W.calls wire.new) }
     ensures openings { W.openings wire.new ≡ W.openings wire.old }
-    ensures idle { queue_in engine.old stream ≡ [] → (engine.new ≡ engine.old) × (wire.new ≡ wire.old) }
+    ensures idle { queue_in engine.old stream ≡ [] → (engine.new ≡ engine.old)
+        × (wire.new ≡ wire.old) }
 {
     if held.contains(stream) {
         return Ok(());

@@ -131,7 +131,8 @@ after_item row x = elim (x.client == row.client) [
 
 -- what the farewell sends
 abbrev pub after_farewell : Row → Channel → Channel
-after_farewell row x = elim (x.client == row.client) [ true ↦ with_ups None row.farewell x | false ↦ x ]
+after_farewell row x =
+    elim (x.client == row.client) [ true ↦ with_ups None row.farewell x | false ↦ x ]
 
 -- ---- the channels of a log
 
@@ -139,13 +140,31 @@ after_farewell row x = elim (x.client == row.client) [ true ↦ with_ups None ro
 abbrev pub opened_up : ℕ → List (List ℕ) → Gist → List Channel
 opened_up k [] m = []
 opened_up k (p ∷ ps) (Open what c w m) =
-    record { client = k; by = Up; own = Some c; number = reading p sender_of None; remote = None; window = w; maximum = m; acts = [] } ∷ []
+    record {
+      client = k;
+      by = Up;
+      own = Some c;
+      number = reading p sender_of None;
+      remote = None;
+      window = w;
+      maximum = m;
+      acts = [];
+    } ∷ []
 opened_up k (p ∷ ps) _ = []
 
 -- a server's open; one that is answered in its row begins no channel
 abbrev pub opened_down : ℕ → List (List ℕ) → Gist → List Channel
 opened_down k [] (Open what s w m) =
-    record { client = k; by = Down; own = None; number = None; remote = Some s; window = w; maximum = m; acts = [] } ∷ []
+    record {
+      client = k;
+      by = Down;
+      own = None;
+      number = None;
+      remote = Some s;
+      window = w;
+      maximum = m;
+      acts = [];
+    } ∷ []
 opened_down k _ _ = []
 
 -- the channel that an item begins, if it begins one
@@ -158,7 +177,8 @@ begun_by k up _ = []
 abbrev pub channels_of : List Row → List Channel
 channels_of [] = []
 channels_of (row ∷ before) =
-    map (after_farewell row) (map (after_item row) (channels_of before) ++ begun_by row.client row.up row.item)
+    map (after_farewell row) (map (after_item row) (channels_of before)
+    ++ begun_by row.client row.up row.item)
 
 -- those that are not over
 abbrev pub held_of : List Row → List Channel

@@ -22,7 +22,8 @@ to_number (Some n) f = f n ∷ []
 abbrev pub leave_channel : Channel → List (List ℕ)
 leave_channel x = elim (is_confirmed x) [
   | true ↦ elim (any_by Up is_closes x.acts) [ true ↦ [] | false ↦ to_number x.remote close ]
-  | false ↦ elim (is_up x.by) [ true ↦ [] | false ↦ to_number x.remote (λ s. open_failure s CONNECT_FAILED client_is_gone) ]
+  | false ↦ elim (is_up x.by)
+      [ true ↦ [] | false ↦ to_number x.remote (λ s. open_failure s CONNECT_FAILED client_is_gone) ]
 ]
 
 -- a cancel without reply of a key that is live
@@ -38,7 +39,9 @@ leave_forwarding f = elim (is_none f.cancel) [ true ↦ cancel_live f.live | fal
 -- which they began, then forwardings in order of asking; the loss itself has not ended the forwardings here
 abbrev pub farewell : Row → List Row → List (List ℕ)
 farewell row own =
-    flat_map leave_channel (held_of (row ∷ own)) ++ flat_map leave_forwarding (filter (λ f. not f.over) (forwarded row own (forwardings_of own)))
+    flat_map leave_channel (held_of (row ∷ own))
+    ++ flat_map leave_forwarding
+    (filter (λ f. not f.over) (forwarded row own (forwardings_of own)))
 
 -- ---- later
 
@@ -70,4 +73,5 @@ late _ own = []
 -- a client's matters are open while it is admitted and not lost, holds a channel, or has a sent request without reply
 abbrev pub has_open_matters : List Row → Bool
 has_open_matters own =
-    (any_of is_admit own && not (is_lost own)) || (any_of is_held (held_of own) || nat_lt (length (replies own)) (length (asks own)))
+    (any_of is_admit own && not (is_lost own))
+    || (any_of is_held (held_of own) || nat_lt (length (replies own)) (length (asks own)))

@@ -46,7 +46,8 @@ stopped true place f = record f { cancel = Some place }
 stopped false place f = record f { over = true }
 
 -- the earliest forwarding that passes, changed
-abbrev pub change_first : (Forwarding → Bool) → (Forwarding → Forwarding) → List Forwarding → List Forwarding
+abbrev pub change_first : (Forwarding → Bool) → (Forwarding → Forwarding) → List Forwarding
+    → List Forwarding
 change_first test change [] = []
 change_first test change (f ∷ fs) = elim (test f) [
   | true ↦ change f ∷ fs
@@ -56,7 +57,15 @@ change_first test change (f ∷ fs) = elim (test f) [
 -- what a client's request that is sent makes of the forwardings
 abbrev pub requested : ℕ → ℕ → Gist → List Forwarding → List Forwarding
 requested k place (Requests (Forward key) wants) fs =
-    fs ++ record { client = k; key = key; request = place; live = None; cancel = None; over = false } ∷ []
+    fs ++ record {
+      client = k;
+      key = key;
+      request = place;
+      live = None;
+      cancel = None;
+      over =
+          false;
+    } ∷ []
 requested k place (Requests (Cancel key) wants) fs =
     change_first (is_free_at k key) (stopped wants place) fs
 requested k place _ fs = fs
@@ -68,7 +77,13 @@ of_client k change f = elim (f.client == k) [ true ↦ change f | false ↦ f ]
 -- the forwardings after what one more row says; `own` are the rows of its client before it
 abbrev pub forwarded : Row → List Row → List Forwarding → List Forwarding
 forwarded row own fs = elim row.item [
-  | Says k saying reply ↦ elim saying [ Payload p ↦ elim (is_sent row) [ true ↦ reading p (λ m. requested row.client (length (asks own)) m fs) fs | false ↦ fs ] | _ ↦ fs ]
+  | Says k saying reply ↦ elim saying [
+    | Payload p ↦ elim (is_sent row) [
+      | true ↦ reading p (λ m. requested row.client (length (asks own)) m fs) fs
+      | false ↦ fs
+    ]
+    | _ ↦ fs
+  ]
   | Heard p ↦ reading p (λ m. map (of_client row.client (replied (length (replies own)) m)) fs) fs
   | _ ↦ fs
 ]

@@ -37,7 +37,8 @@ dest_asker (Some a) f = f a
 -- a success must have four bytes where a port is to be learnt
 abbrev pub dest_success : List ℕ → Ask → Dest
 dest_success rest a = elim a.what [
-  | Forward key ↦ elim (learns_port key && not (length rest == 4)) [ true ↦ Breaks (broke.BadReply (length rest)) | false ↦ ToClient a.client ]
+  | Forward key ↦ elim (learns_port key && not (length rest == 4))
+      [ true ↦ Breaks (broke.BadReply (length rest)) | false ↦ ToClient a.client ]
   | _ ↦ ToClient a.client
 ]
 
@@ -47,7 +48,10 @@ dest_open rows s (Forwarded key) = elim (live_in rows s) [
   | Some x ↦ Breaks (broke.NumberInUse s)
   | None ↦ elim (live_at rows key) [ Some f ↦ ToClient f.client | None ↦ ToMaster ]
 ]
-dest_open rows s _ = elim (live_in rows s) [ Some x ↦ Breaks (broke.NumberInUse s) | None ↦ ToMaster ]
+dest_open rows s _ = elim (live_in rows s) [
+  | Some x ↦ Breaks (broke.NumberInUse s)
+  | None ↦ ToMaster
+]
 
 -- a channel that a client opened and that has no answer
 abbrev pub is_pending : Channel → Bool
@@ -64,7 +68,10 @@ pending_open rows n = elim (holder rows n) [
 abbrev pub dest_confirmation : List Row → ℕ → ℕ → Dest
 dest_confirmation rows n s = elim (pending_open rows n) [
   | None ↦ Breaks (broke.NotPending n)
-  | Some x ↦ elim (live_in rows s) [ Some y ↦ Breaks (broke.NumberInUse s) | None ↦ ToClient x.client ]
+  | Some x ↦ elim (live_in rows s) [
+    | Some y ↦ Breaks (broke.NumberInUse s)
+    | None ↦ ToClient x.client
+  ]
 ]
 
 -- a failure to the client that opened; all else to the client whose channel it is, where the account allows it
@@ -75,12 +82,16 @@ dest_within rows n Fails = elim (pending_open rows n) [
 ]
 dest_within rows n act = elim (holder rows n) [
   | None ↦ Breaks (broke.NoChannel n)
-  | Some x ↦ elim (breach Down act x) [ Some b ↦ Breaks (broke.Channel n b) | None ↦ ToClient x.client ]
+  | Some x ↦ elim (breach Down act x) [
+    | Some b ↦ Breaks (broke.Channel n b)
+    | None ↦ ToClient x.client
+  ]
 ]
 
 -- where a message goes
 abbrev pub dest_gist : List Row → Gist → Dest
-dest_gist rows (Transport number) = elim (number == DISCONNECT) [ true ↦ Disconnects | false ↦ ToMaster ]
+dest_gist rows (Transport number) =
+    elim (number == DISCONNECT) [ true ↦ Disconnects | false ↦ ToMaster ]
 dest_gist rows (Requests what wants) = ToMaster
 dest_gist rows (Succeeds rest) = dest_asker (asker rows) (dest_success rest)
 dest_gist rows Refuses = dest_asker (asker rows) (λ a. ToClient a.client)
@@ -97,7 +108,8 @@ dest rows p = elim (read_gist p) [ Err bad ↦ Breaks (broke.Message bad) | Ok m
 -- what the master answers itself
 abbrev pub for_master : Gist → Outcome
 for_master (Requests what true) = sends request_failure
-for_master (Open what s window maximum) = sends (open_failure s ADMINISTRATIVELY_PROHIBITED not_permitted)
+for_master (Open what s window maximum) =
+    sends (open_failure s ADMINISTRATIVELY_PROHIBITED not_permitted)
 for_master _ = silent
 
 -- the client's own number of a channel

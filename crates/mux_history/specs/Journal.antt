@@ -32,8 +32,10 @@ taken_by t (mark ∷ before) = taken_by t before ++ taken_in t mark
 -- the stream takes no bytes for now: it held back, and was not freed since
 abbrev pub is_blocked : ℕ → List Mark → Bool
 is_blocked t [] = false
-is_blocked t (Holds stream ∷ before) = elim (stream == t) [ true ↦ true | false ↦ is_blocked t before ]
-is_blocked t (Frees stream ∷ before) = elim (stream == t) [ true ↦ false | false ↦ is_blocked t before ]
+is_blocked t (Holds stream ∷ before) =
+    elim (stream == t) [ true ↦ true | false ↦ is_blocked t before ]
+is_blocked t (Frees stream ∷ before) =
+    elim (stream == t) [ true ↦ false | false ↦ is_blocked t before ]
 is_blocked t (mark ∷ before) = is_blocked t before
 
 -- ---- items
@@ -54,7 +56,8 @@ heard_item (BadFraming fault) = BadServer fault
 
 -- the same of the server: a frame that is none is told once, since nothing is read after it
 abbrev pub new_heard : List ℕ → List ℕ → List Item
-new_heard before after = map heard_item (drop (length (parse InProxy before).says) (parse InProxy after).says)
+new_heard before after =
+    map heard_item (drop (length (parse InProxy before).says) (parse InProxy after).says)
 
 -- the end of the server's stream, after the bytes that are left
 abbrev pub server_end : List ℕ → Item
@@ -72,7 +75,8 @@ items_in before (Ends stream) = elim (stream == 0) [
   | true ↦ server_end (parse InProxy (bytes_of 0 before)).rest ∷ []
   | false ↦ Gone stream ∷ []
 ]
-items_in before (Fails stream) = elim (stream == 0) [ true ↦ ServerFailed ∷ [] | false ↦ Gone stream ∷ [] ]
+items_in before (Fails stream) =
+    elim (stream == 0) [ true ↦ ServerFailed ∷ [] | false ↦ Gone stream ∷ [] ]
 items_in before (WriteFails stream) = elim (stream == 0) [
   | true ↦ ServerFailed ∷ []
   | false ↦ Gone stream ∷ []
@@ -127,7 +131,8 @@ LawfulMark before (Takes stream bytes) =
     IsTrue (is_known stream before) × (0 < length bytes) × AreBytes bytes
 LawfulMark before (Holds stream) = IsTrue (is_known stream before)
 LawfulMark before (WriteFails stream) = IsTrue (is_known stream before)
-LawfulMark before (Waits waiting want streams listens) = All (λ t. IsTrue (is_blocked t before)) waiting
+LawfulMark before (Waits waiting want streams listens) =
+    All (λ t. IsTrue (is_blocked t before)) waiting
 
 -- each mark is lawful after those before it
 abbrev pub IsLawful : List Mark → Type 0

@@ -93,7 +93,8 @@ pub record Permission (policy : Policy) (before : List Row) (row : Row) : Type 0
 -- it is a row of the client that asked
 abbrev pub ReachesAsker : List Row → Row → Type 0
 ReachesAsker before row =
-    (p : List ℕ) → row.item ≡ Heard p → reading p is_reply false ≡ true → is_end row.fate ≡ false → option_map (λ a. a.client) (asker before) ≡ Some row.client
+    (p : List ℕ) → row.item ≡ Heard p → reading p is_reply false ≡ true → is_end row.fate ≡ false
+    → option_map (λ a. a.client) (asker before) ≡ Some row.client
 
 -- it stands first in what the row tells, before the refusals that waited behind it, and these are the client's next
 -- answers, in the order of its requests
@@ -105,7 +106,8 @@ pub record TellsNext (own : List Row) (row : Row) (p : List ℕ) : Type 0 where
 -- unless the client was lost before or is dropped by this row
 abbrev pub TellsReply : List Row → Row → Type 0
 TellsReply before row =
-    (p : List ℕ) → row.item ≡ Heard p → reading p is_reply false ≡ true → row.fate ≡ Goes → is_lost (rows_of row.client before) ≡ false → TellsNext (rows_of row.client before) row p
+    (p : List ℕ) → row.item ≡ Heard p → reading p is_reply false ≡ true → row.fate ≡ Goes
+    → is_lost (rows_of row.client before) ≡ false → TellsNext (rows_of row.client before) row p
 
 -- a reply in a row is its asker's
 pub record Asker (before : List Row) (row : Row) : Type 0 where

@@ -31,5 +31,6 @@ learns_port (Path path) = false
 
 -- the key that is listened on: the one asked, with the port in the success where 0 was asked
 abbrev pub bound : Key → List ℕ → Key
-bound (Tcp address port) rest = Tcp address (elim (port == 0) [ true ↦ u32_at 0 rest | false ↦ port ])
+bound (Tcp address port) rest =
+    Tcp address (elim (port == 0) [ true ↦ u32_at 0 rest | false ↦ port ])
 bound (Path path) rest = Path path

@@ -26,12 +26,14 @@ use Rattle.mux_history.specs.Settings.{by_lists}
 -- a row of another client leaves a client's rows as they were, and with them all that is looked up in them
 abbrev pub OthersStay : Type 0
 OthersStay =
-    (k : ℕ) (row : Row) (before : List Row) → (row.client == k) ≡ false → rows_of k (row ∷ before) ≡ rows_of k before
+    (k : ℕ) (row : Row) (before : List Row) → (row.client == k) ≡ false
+    → rows_of k (row ∷ before) ≡ rows_of k before
 
 -- a client's channels, forwardings and asks are those of all that are its own
 pub record IsLocal (k : ℕ) (rows : List Row) : Type 0 where
   pub channels : channels_of (rows_of k rows) ≡ filter (λ x. x.client == k) (channels_of rows)
-  pub forwardings : forwardings_of (rows_of k rows) ≡ filter (λ f. f.client == k) (forwardings_of rows)
+  pub forwardings : forwardings_of (rows_of k rows)
+      ≡ filter (λ f. f.client == k) (forwardings_of rows)
   pub asks : asks (rows_of k rows) ≡ filter (λ a. a.client == k) (asks rows)
 
 -- of every client and every log
@@ -47,28 +49,34 @@ IsOf k item = ⊥
 
 -- a client's row looks at nothing but the client's rows, once the item is known to be its own
 pub record RowsAreLocal (policy : Policy) (pid pick k : ℕ) (rows : List Row) : Type 0 where
-  pub own : (item : Item) → IsOf k item → treat policy pid pick rows item ≡ treat policy pid pick (rows_of k rows) item
-  pub heard : (p : List ℕ) → dest rows p ≡ ToClient k → treat policy pid pick rows (Heard p) ≡ heard_row (rows_of k rows) p (ToClient k)
+  pub own : (item : Item) → IsOf k item → treat policy pid pick rows item
+      ≡ treat policy pid pick (rows_of k rows) item
+  pub heard : (p : List ℕ) → dest rows p ≡ ToClient k → treat policy pid pick rows (Heard p)
+      ≡ heard_row (rows_of k rows) p (ToClient k)
 
 -- of every client and every log
 abbrev pub Locality : Type 0
-Locality = (policy : Policy) (pid pick k : ℕ) (rows : List Row) → RowsAreLocal policy pid pick k rows
+Locality = (policy : Policy) (pid pick k : ℕ) (rows : List Row)
+    → RowsAreLocal policy pid pick k rows
 
 -- ---- one more row
 
 -- the channels that are held after a row, from those that were held before it
 abbrev pub next_held : Row → List Channel → List Channel
 next_held row held =
-    filter is_held (map (after_farewell row) (filter is_held (map (after_item row) held ++ begun_by row.client row.up row.item)))
+    filter is_held (map (after_farewell row)
+    (filter is_held (map (after_item row) held ++ begun_by row.client row.up row.item)))
 
 -- so the channels that are held are known from those before the row
 abbrev pub HeldGoesOn : Type 0
-HeldGoesOn = (row : Row) (before : List Row) → held_of (row ∷ before) ≡ next_held row (held_of before)
+HeldGoesOn = (row : Row) (before : List Row)
+    → held_of (row ∷ before) ≡ next_held row (held_of before)
 
 -- what a client was answered stays: a row only adds answers
 abbrev pub AnswersOnlyGrow : Type 0
 AnswersOnlyGrow =
-    (row : Row) (own : List Row) → (more : List (List ℕ)) × (answers (row ∷ own) ≡ answers own ++ more)
+    (row : Row) (own : List Row) → (more : List (List ℕ))
+    × (answers (row ∷ own) ≡ answers own ++ more)
 
 -- ---- one more act in a channel
 
@@ -89,7 +97,8 @@ pub record IsAccounted (way : Side) (x : Channel) : Type 0 where
 pub record RoomsGoOn (way : Side) (n : ℕ) (x : Channel) : Type 0 where
   pub carries : room way (with_act way (Carries n) x) ≡ room way x - n
   pub leaves : room (other_side way) (with_act way (Carries n) x) ≡ room (other_side way) x
-  pub grants : IsWithin (other_side way) x → room (other_side way) (with_act way (Grants n) x) ≡ room (other_side way) x + n
+  pub grants : IsWithin (other_side way) x → room (other_side way) (with_act way (Grants n) x)
+      ≡ room (other_side way) x + n
   pub keeps : room way (with_act way (Grants n) x) ≡ room way x
 
 -- of every channel
@@ -101,29 +110,37 @@ AccountsGoOn = (way : Side) (n : ℕ) (x : Channel) → RoomsGoOn way n x
 -- of every stream
 abbrev pub AddsUp : Setting → List Mark → Type 0
 AddsUp setting marks =
-    (t : ℕ) → taken_by t marks ++ pending t (log_of_journal setting marks) ≡ given_to t (log_of_journal setting marks)
+    (t : ℕ) → taken_by t marks ++ pending t (log_of_journal setting marks)
+    ≡ given_to t (log_of_journal setting marks)
 
 -- where each take is the front of what waited
 abbrev pub WrittenAddsUp : Type 0
 WrittenAddsUp =
-    (setting : Setting) (marks : List Mark) → Throughout (TakesFront setting) marks → AddsUp setting marks
+    (setting : Setting) (marks : List Mark) → Throughout (TakesFront setting) marks
+    → AddsUp setting marks
 
 -- ---- at every row of a right log
 
 -- of every right log of a lawful wire, whatever numbers are picked and whatever the house replies
 abbrev pub OverRight : (Setting → List Row → Type 0) → Type 0
 OverRight P =
-    (policy : Policy) (pid : ℕ) (picks : List ℕ) (given : List HouseReply) (marks : List Mark) (left : ℕ) (rows : List Row) → IsLawful marks → IsRight (by_lists policy pid picks given) marks left rows → P (by_lists policy pid picks given) rows
+    (policy : Policy) (pid : ℕ) (picks : List ℕ) (given : List HouseReply) (marks : List Mark)
+    (left : ℕ) (rows : List Row) → IsLawful marks
+    → IsRight (by_lists policy pid picks given) marks left rows
+    → P (by_lists policy pid picks given) rows
 
 -- the log of a journal is right where its picks were fresh, and so is one that want of memory cut
 pub record LogsAreRight (setting : Setting) (marks : List Mark) : Type 0 where
-  pub whole : AreFresh (log_of_journal setting marks) → IsRight setting marks 0 (log_of_journal setting marks)
-  pub cut : (rows : List Row) → IsCut setting marks rows → AreFresh rows → (left : ℕ) × IsRight setting marks left rows
+  pub whole : AreFresh (log_of_journal setting marks)
+      → IsRight setting marks 0 (log_of_journal setting marks)
+  pub cut : (rows : List Row) → IsCut setting marks rows → AreFresh rows → (left : ℕ)
+      × IsRight setting marks left rows
 
 -- of every journal
 abbrev pub JournalsGiveRightLogs : Type 0
 JournalsGiveRightLogs =
-    (policy : Policy) (pid : ℕ) (picks : List ℕ) (given : List HouseReply) (marks : List Mark) → LogsAreRight (by_lists policy pid picks given) marks
+    (policy : Policy) (pid : ℕ) (picks : List ℕ) (given : List HouseReply) (marks : List Mark)
+    → LogsAreRight (by_lists policy pid picks given) marks
 
 -- no number is held by two channels, nor is one of the server's live in two
 abbrev pub NumbersAreApart : Type 0
@@ -148,8 +165,10 @@ kept test (Some x) = elim (test x) [ true ↦ Some x | false ↦ None ]
 
 -- a look-up by the server's number among a client's channels is the one among all, so that one index serves all
 pub record LooksUpAt (rows : List Row) (k s : ℕ) : Type 0 where
-  pub confirmed : confirmed_at (rows_of k rows) s ≡ kept (λ x. (x.client == k) && is_confirmed x) (live_in rows s)
-  pub waiting : waiting_at (rows_of k rows) s ≡ kept (λ x. (x.client == k) && (not (is_up x.by) && not (is_confirmed x))) (live_in rows s)
+  pub confirmed : confirmed_at (rows_of k rows) s ≡ kept (λ x. (x.client == k) && is_confirmed x)
+      (live_in rows s)
+  pub waiting : waiting_at (rows_of k rows) s
+      ≡ kept (λ x. (x.client == k) && (not (is_up x.by) && not (is_confirmed x))) (live_in rows s)
 
 -- of every client and number
 abbrev pub LooksUp : List Row → Type 0

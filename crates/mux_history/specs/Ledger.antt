@@ -96,7 +96,8 @@ act_breach way (Grants n) x = elim (nat_lt MAX_WINDOW (room (other_side way) x +
   | true ↦ Some (Overflow (room (other_side way) x) n)
   | false ↦ None
 ]
-act_breach way Answers x = elim (unanswered (other_side way) x == 0) [ true ↦ Some Unasked | false ↦ None ]
+act_breach way Answers x =
+    elim (unanswered (other_side way) x == 0) [ true ↦ Some Unasked | false ↦ None ]
 act_breach way (Asks true) x = elim (nat_lt (unanswered way x) MAX_CHANNEL_REQUESTS) [
   | true ↦ None
   | false ↦ Some (TooManyAsks (unanswered way x))
@@ -107,5 +108,8 @@ act_breach way _ x = None
 abbrev pub breach : Side → Act → Channel → Option Breach
 breach way act x = elim (is_confirmed x) [
   | false ↦ Some NotOpen
-  | true ↦ elim (any_by way is_closes x.acts) [ true ↦ Some AfterClose | false ↦ act_breach way act x ]
+  | true ↦ elim (any_by way is_closes x.acts) [
+    | true ↦ Some AfterClose
+    | false ↦ act_breach way act x
+  ]
 ]

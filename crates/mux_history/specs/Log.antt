@@ -3,7 +3,26 @@ use Rattle.std.specs.Prelude.{ℕ, List, [], ◌∷◌, Bool, true, false, not}
 use Rattle.mux_history.specs.Rows.{Row, rows_of, is_out, is_ended, Item, Says, Gone, Took, RunEnd}
 use Rattle.mux_history.specs.Policy.{Policy}
 use Rattle.mux_history.specs.Choices.{Choices, pick_of, with_reply}
-pub use Rattle.mux_history.specs.Treat.{bare, new_answers, goes, all_told, fitting, overflow, fate_with, queued, with_farewell, row_of, said_by_client, entered, matters_of, open_matters, served, admits, heard_row, treat}
+pub use Rattle.mux_history.specs.Treat.{
+  bare,
+  new_answers,
+  goes,
+  all_told,
+  fitting,
+  overflow,
+  fate_with,
+  queued,
+  with_farewell,
+  row_of,
+  said_by_client,
+  entered,
+  matters_of,
+  open_matters,
+  served,
+  admits,
+  heard_row,
+  treat,
+}
 
 -- ---- which items make rows
 
@@ -34,7 +53,8 @@ pub record Setting : Type 0 where
 -- the row that an item makes
 abbrev pub next_row : Setting → List Row → Item → Row
 next_row setting rows item =
-    treat setting.policy setting.pid (pick_of setting.choices rows item) rows (with_reply setting.choices rows item)
+    treat setting.policy setting.pid (pick_of setting.choices rows item) rows
+    (with_reply setting.choices rows item)
 
 -- the rows after one more item
 abbrev pub more_of : Setting → List Row → Item → List Row

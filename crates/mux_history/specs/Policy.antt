@@ -108,7 +108,8 @@ read_bracketed text = elim (before_last 93 text) [
 abbrev pub read_bare : List ℕ → Option Entry
 read_bare text = elim (before_last 58 text) [
   | None ↦ entry_of (Some None) (read_port text)
-  | Some parts ↦ elim (any_of is_mark parts.0) [ true ↦ None | false ↦ entry_of (read_host parts.0) (read_port parts.1) ]
+  | Some parts ↦ elim (any_of is_mark parts.0)
+      [ true ↦ None | false ↦ entry_of (read_host parts.0) (read_port parts.1) ]
 ]
 
 -- an entry, by its first byte: one that begins with a slash is a path

@@ -49,13 +49,15 @@ write_failed t (Takes stream bytes ∷ before) = elim (stream == t) [
   | true ↦ false
   | false ↦ write_failed t before
 ]
-write_failed t (Holds stream ∷ before) = elim (stream == t) [ true ↦ false | false ↦ write_failed t before ]
+write_failed t (Holds stream ∷ before) =
+    elim (stream == t) [ true ↦ false | false ↦ write_failed t before ]
 write_failed t (mark ∷ before) = write_failed t before
 
 -- nothing more can be written to the stream now
 abbrev pub IsSettled : Setting → List Mark → ℕ → Type 0
 IsSettled setting marks t =
-    (pending t (log_of_journal setting marks) ≡ []) ⊎ (IsTrue (is_blocked t marks) ⊎ IsTrue (write_failed t marks))
+    (pending t (log_of_journal setting marks) ≡ [])
+    ⊎ (IsTrue (is_blocked t marks) ⊎ IsTrue (write_failed t marks))
 
 -- something waits for the stream
 abbrev pub has_output : List Row → ℕ → Bool
@@ -63,15 +65,18 @@ has_output rows t = not (is_empty (pending t rows))
 
 -- a call of `wait`: the waiting streams are exactly the open ones with output, each of them blocked; no more is read
 -- exactly while 4,194,304 bytes or more wait for the server; and every stream that is not waited for is settled
-pub record WaitsRight (setting : Setting) (before : List Mark) (waiting : List ℕ) (want : Want) (streams : List ℕ) : Type 0 where
+pub record WaitsRight (setting : Setting) (before : List Mark) (waiting : List ℕ) (want : Want)
+    (streams : List ℕ) : Type 0 where
   pub waits_for : waiting ≡ filter (has_output (log_of_journal setting before)) streams
   pub blocked : All (λ t. IsTrue (is_blocked t before)) waiting
-  pub write_only : (want ≡ WriteOnly) ↔ (READING_STOPS_AT ≤ length (pending 0 (log_of_journal setting before)))
+  pub write_only : (want ≡ WriteOnly) ↔
+      (READING_STOPS_AT ≤ length (pending 0 (log_of_journal setting before)))
   pub settled : (t : ℕ) → IsSettled setting before t
 
 -- of a wait
 abbrev pub WaitsAt : Setting → List Mark → Mark → Type 0
-WaitsAt setting before (Waits waiting want streams listens) = WaitsRight setting before waiting want streams
+WaitsAt setting before (Waits waiting want streams listens) =
+    WaitsRight setting before waiting want streams
 WaitsAt setting before _ = Unit {0}
 
 -- takes and waits
@@ -88,7 +93,13 @@ Settled setting marks = (t : ℕ) → IsSettled setting marks t
 -- a row serves STOP_LISTENING: it is said after the hello, and the row goes on
 abbrev pub stops : Row → List Row → Bool
 stops row own =
-    goes row.fate && elim row.item [ Says k saying given ↦ elim saying [ Body body ↦ greeted own && body_stops body | _ ↦ false ] | _ ↦ false ]
+    goes row.fate && elim row.item [
+      | Says k saying given ↦ elim saying [
+        | Body body ↦ greeted own && body_stops body
+        | _ ↦ false
+      ]
+      | _ ↦ false
+    ]
 
 -- no row so far serves it
 abbrev pub listens : List Row → Bool
@@ -125,7 +136,8 @@ EndsAs turns marks None answer = (answer ≡ Spent) × (waits_in marks ≡ turns
 
 -- of a run of at most so many turns
 abbrev pub ConnectionEnds : Setting → ℕ → List Mark → Ended → Type 0
-ConnectionEnds setting turns marks answer = EndsAs turns marks (end_of (log_of_journal setting marks)) answer
+ConnectionEnds setting turns marks answer =
+    EndsAs turns marks (end_of (log_of_journal setting marks)) answer
 
 -- ---- Want of memory
 
@@ -133,7 +145,8 @@ ConnectionEnds setting turns marks answer = EndsAs turns marks (end_of (log_of_j
 abbrev pub IsCut : Setting → List Mark → List Row → Type 0
 IsCut setting [] rows = rows ≡ []
 IsCut setting (mark ∷ before) rows =
-    (n : ℕ) × (rows ≡ more_all setting (log_of_journal setting before) (take n (items_in before mark)))
+    (n : ℕ) × (rows ≡ more_all setting (log_of_journal setting before)
+    (take n (items_in before mark)))
 
 -- ---- the house
 

@@ -19,11 +19,13 @@ carried_number (p ∷ ps) = said_number (reading p sender_of None)
 abbrev pub AreFresh : List Row → Type 0
 AreFresh [] = Unit {0}
 AreFresh (row ∷ before) =
-    MatchBool (takes_number row) ((carried_number row.up < NUMBERS_END) × (holder before (carried_number row.up) ≡ None)) (Unit {0}) × AreFresh before
+    MatchBool (takes_number row) ((carried_number row.up < NUMBERS_END)
+    × (holder before (carried_number row.up) ≡ None)) (Unit {0}) × AreFresh before
 
 -- a right log for these marks, without the newest items that are left out: none, or after want of memory some of the
 -- last event
-pub record IsRight (setting : Setting) (marks : List Mark) (left : ℕ) (rows : List Row) : Type 0 where
+pub record IsRight (setting : Setting) (marks : List Mark) (left : ℕ) (rows : List Row) :
+    Type 0 where
   pub determined : rows ≡ log_of setting (drop left (items marks))
   pub fresh : AreFresh rows
 
@@ -33,4 +35,5 @@ IsAdmitted k rows = IsTrue (any_of is_admit (rows_of k rows))
 
 -- a row that takes a number carries the next pick up, as four bytes spell it
 abbrev pub TakesPick : Choices → List Row → Row → Type 0
-TakesPick choices before row = takes_number row ≡ true → carried_number row.up ≡ u32_at 0 (u32 (pick_of choices before row.item))
+TakesPick choices before row = takes_number row ≡ true
+    → carried_number row.up ≡ u32_at 0 (u32 (pick_of choices before row.item))

@@ -53,7 +53,11 @@ sent_by row = row.up ++ row.farewell
 
 -- a row that loses its client: its stream is gone, or it is dropped
 abbrev pub loses : Row → Bool
-loses row = elim row.fate [ Drop why ↦ true | Goes ↦ elim row.item [ Gone k ↦ true | _ ↦ false ] | _ ↦ false ]
+loses row = elim row.fate [
+  | Drop why ↦ true
+  | Goes ↦ elim row.item [ Gone k ↦ true | _ ↦ false ]
+  | _ ↦ false
+]
 
 -- some row lost the client
 abbrev pub is_lost : List Row → Bool

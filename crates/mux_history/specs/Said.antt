@@ -119,8 +119,10 @@ abbrev pub said_request : Policy → ℕ → List Row → List ℕ → Global �
 said_request policy k own p KeepAlive wants = sends p
 said_request policy k own p OtherName wants = silent
 said_request policy k own p (Forward key) wants =
-    sends_if (wants && (is_askable key && (permits policy.listens key && nat_lt (length (current own)) MAX_FORWARDINGS))) p
-said_request policy k own p (Cancel key) wants = sends_if (any_of (is_free_at k key) (current own)) p
+    sends_if (wants && (is_askable key
+    && (permits policy.listens key && nat_lt (length (current own)) MAX_FORWARDINGS))) p
+said_request policy k own p (Cancel key) wants =
+    sends_if (any_of (is_free_at k key) (current own)) p
 
 -- one wanted request too many
 abbrev pub is_full_of_asks : Bool → List Row → Bool

@@ -7,7 +7,8 @@ use Rattle.mux_history.specs.Log.{Setting}
 
 -- with the picks and the house's replies as they come
 abbrev pub by_lists : Policy → ℕ → List ℕ → List HouseReply → Setting
-by_lists policy pid picks replies = record { policy = policy; pid = pid; choices = FromLists picks replies }
+by_lists policy pid picks replies =
+    record { policy = policy; pid = pid; choices = FromLists picks replies }
 
 -- with the numbers that the client says, and the replies that its items carry
 abbrev pub by_own : Policy → ℕ → Setting

@@ -52,7 +52,11 @@ own_ups (Some c) ups = map (λ p. with_sender p c) ups
 -- among others, under its own numbers
 abbrev pub seen : Row → Seen
 seen row =
-    record { sent = own_ups (own_of row.item) row.up ++ row.farewell; told = row.down; ends = row.fate }
+    record {
+      sent = own_ups (own_of row.item) row.up ++ row.farewell;
+      told = row.down;
+      ends = row.fate;
+    }
 
 -- alone
 abbrev pub seen_alone : Row → Seen

@@ -23,8 +23,11 @@ pub record SamePlaces (own others : List Row) : Type 0 where
 
 -- nothing else is looked at, and of the client's rows nothing but these places
 pub record CurrentStep (row : Row) (before : List Row) : Type 0 where
-  pub goes_on : current (row ∷ before) ≡ next_current row (rows_of row.client before) (current before)
-  pub places : (others : List Row) → SamePlaces (rows_of row.client before) others → next_current row (rows_of row.client before) (current before) ≡ next_current row others (current before)
+  pub goes_on : current (row ∷ before) ≡ next_current row (rows_of row.client before)
+      (current before)
+  pub places : (others : List Row) → SamePlaces (rows_of row.client before) others
+      → next_current row (rows_of row.client before) (current before)
+      ≡ next_current row others (current before)
 
 -- of every row
 abbrev pub CurrentGoesOn : Type 0
@@ -44,7 +47,8 @@ one_if false = 0
 -- one more where the matters of the row's client open, one less where they close, else as it was
 abbrev pub MattersStep : List Row → Row → Type 0
 MattersStep before row =
-    open_matters (row ∷ before) + one_if (counts (rows_of row.client before)) ≡ open_matters before + one_if (counts (rows_of row.client (row ∷ before)))
+    open_matters (row ∷ before) + one_if (counts (rows_of row.client before))
+    ≡ open_matters before + one_if (counts (rows_of row.client (row ∷ before)))
 
 -- at every row of every right log
 abbrev pub MattersGoOn : Type 0
@@ -74,7 +78,8 @@ AskersGoOn = OverRight (λ setting rows. ForEach AskersStep rows)
 -- while the run goes on, a client's are those of all that are its own
 abbrev pub UnrepliedOfEach : List Row → Type 0
 UnrepliedOfEach rows =
-    is_ended rows ≡ false → (k : ℕ) → unreplied (rows_of k rows) ≡ filter (λ a. a.client == k) (unreplied rows)
+    is_ended rows ≡ false → (k : ℕ)
+    → unreplied (rows_of k rows) ≡ filter (λ a. a.client == k) (unreplied rows)
 
 -- at every row of every right log
 abbrev pub UnrepliedAreLocal : Type 0
@@ -96,7 +101,8 @@ next_pending stream row before = drop (taken_from stream row) (before ++ given_b
 -- of every stream and row
 abbrev pub PendingGoesOn : Type 0
 PendingGoesOn =
-    (stream : ℕ) (row : Row) (before : List Row) → pending stream (row ∷ before) ≡ next_pending stream row (pending stream before)
+    (stream : ℕ) (row : Row) (before : List Row) → pending stream (row ∷ before)
+    ≡ next_pending stream row (pending stream before)
 
 -- the row of a take
 abbrev pub take_row : ℕ → ℕ → Row
@@ -105,8 +111,11 @@ take_row stream size = bare (Took stream size) stream silent
 -- it leaves its stream what waits behind, which is the rest where so much waits, and the others as they were
 pub record TakeStep (stream size : ℕ) (before : List Row) : Type 0 where
   pub own : pending stream (take_row stream size ∷ before) ≡ drop size (pending stream before)
-  pub rest : size ≤ length (pending stream before) → length (pending stream (take_row stream size ∷ before)) + size ≡ length (pending stream before)
-  pub others : (other : ℕ) → (other == stream) ≡ false → pending other (take_row stream size ∷ before) ≡ pending other before
+  pub rest : size ≤ length (pending stream before)
+      → length (pending stream (take_row stream size ∷ before)) + size
+      ≡ length (pending stream before)
+  pub others : (other : ℕ) → (other == stream) ≡ false
+      → pending other (take_row stream size ∷ before) ≡ pending other before
 
 -- of every take
 abbrev pub TakesLeaveTheRest : Type 0

@@ -23,7 +23,14 @@ use Rattle.mux_history.specs.Heard.{Dest, ToMaster, ToClient, Disconnects, Break
 
 -- a row of what an item does, and nothing else
 abbrev pub bare : Item → ℕ → Outcome → Row
-bare item k o = record { item = item; client = k; up = o.sent; farewell = []; down = o.told; fate = o.ends }
+bare item k o = record {
+  item = item;
+  client = k;
+  up = o.sent;
+  farewell = [];
+  down = o.told;
+  fate = o.ends;
+}
 
 -- the answers that this row adds to those before it
 abbrev pub new_answers : Row → List Row → List (List ℕ)
@@ -67,15 +74,21 @@ fate_with ends (Some cause) = Drop cause
 -- a row with the frames that fit
 abbrev pub queued : List (List ℕ) → Row → List Row → Row
 queued frames row own =
-    record row { down = fitting (waiting_down own) frames; fate = fate_with row.fate (overflow (waiting_down own) frames) }
+    record row {
+      down = fitting (waiting_down own) frames;
+      fate =
+          fate_with row.fate (overflow (waiting_down own) frames);
+    }
 
 -- a row that loses its client says farewell
 abbrev pub with_farewell : Row → List Row → Row
-with_farewell row own = elim (loses row) [ true ↦ record row { farewell = farewell row own } | false ↦ row ]
+with_farewell row own =
+    elim (loses row) [ true ↦ record row { farewell = farewell row own } | false ↦ row ]
 
 -- the row of a client, from its rows so far and what its item does
 abbrev pub row_of : Item → ℕ → Outcome → List Row → Row
-row_of item k o own = let row = bare item k o in with_farewell (queued (all_told row own) row own) own
+row_of item k o own = let row = bare item k o in
+    with_farewell (queued (all_told row own) row own) own
 
 -- ---- what each item does
 
@@ -88,7 +101,8 @@ said_by_client policy pid k own pick (BadFraming fault) given = drops (why.BadFr
 -- the clients that were let in, in order
 abbrev pub entered : List Row → List ℕ
 entered [] = []
-entered (row ∷ before) = entered before ++ elim (is_admit row) [ true ↦ row.client ∷ [] | false ↦ [] ]
+entered (row ∷ before) =
+    entered before ++ elim (is_admit row) [ true ↦ row.client ∷ [] | false ↦ [] ]
 
 -- how many of these clients have open matters
 abbrev pub matters_of : List Row → List ℕ → ℕ
@@ -124,10 +138,12 @@ heard_row rows p (Breaks cause) = bare (Heard p) 0 (broken rows cause)
 abbrev pub treat : Policy → ℕ → ℕ → List Row → Item → Row
 treat policy pid pick rows (Admit k) = row_of (Admit k) k (admits rows) (rows_of k rows)
 treat policy pid pick rows (Says k saying given) =
-    row_of (Says k saying given) k (said_by_client policy pid k (rows_of k rows) pick saying given) (rows_of k rows)
+    row_of (Says k saying given) k (said_by_client policy pid k (rows_of k rows) pick saying given)
+    (rows_of k rows)
 treat policy pid pick rows (Gone k) = row_of (Gone k) k silent (rows_of k rows)
 treat policy pid pick rows (Heard p) = heard_row rows p (dest rows p)
-treat policy pid pick rows (BadServer fault) = bare (BadServer fault) 0 (broken rows (broke.Frame fault))
+treat policy pid pick rows (BadServer fault) =
+    bare (BadServer fault) 0 (broken rows (broke.Frame fault))
 treat policy pid pick rows ServerEnd = bare ServerEnd 0 (finishes ended.ServerEnd)
 treat policy pid pick rows (ServerCut left) = bare (ServerCut left) 0 (broken rows (broke.Cut left))
 treat policy pid pick rows ServerFailed = bare ServerFailed 0 (finishes ended.ServerFailed)

@@ -40,10 +40,20 @@ pub record OfWire (streams blocked : List ℕ) (last : ℕ) (marks : List Mark) 
 -- where a stream is closed
 pub record WireKeeps (streams blocked : List ℕ) (last : ℕ) (marks : List Mark) : Type 0 where
   pub none : OfWire (0 ∷ []) [] last []
-  pub turn : (given : Turn) (waiting : List ℕ) (want : Want) (listens : Bool) (bytes : List ℕ) → AreBytes bytes → All (λ t. IsTrue (among t blocked)) waiting → TurnFits given want listens last streams blocked bytes → OfWire streams blocked last marks → OfWire (open_after given streams) (blocked_after given blocked) (last_after given last) (reverse (wait_marks given waiting want streams listens bytes) ++ marks)
-  pub write : (answer : Wrote) (t : ℕ) (bytes : List ℕ) → AreBytes bytes → 0 < length bytes → IsTrue (among t streams) → WroteFits answer (length bytes) → OfWire streams blocked last marks → OfWire streams (blocked_after_write answer t blocked) last (reverse (write_marks answer t bytes) ++ marks)
-  pub close : (t : ℕ) → OfWire streams blocked last marks → OfWire (without t streams) (without t blocked) last marks
+  pub turn : (given : Turn) (waiting : List ℕ) (want : Want) (listens : Bool) (bytes : List ℕ)
+      → AreBytes bytes → All (λ t. IsTrue (among t blocked)) waiting
+      → TurnFits given want listens last streams blocked bytes → OfWire streams blocked last marks
+      → OfWire (open_after given streams) (blocked_after given blocked) (last_after given last)
+      (reverse (wait_marks given waiting want streams listens bytes) ++ marks)
+  pub write : (answer : Wrote) (t : ℕ) (bytes : List ℕ) → AreBytes bytes → 0 < length bytes
+      → IsTrue (among t streams) → WroteFits answer (length bytes)
+      → OfWire streams blocked last marks
+      → OfWire streams (blocked_after_write answer t blocked) last
+      (reverse (write_marks answer t bytes) ++ marks)
+  pub close : (t : ℕ) → OfWire streams blocked last marks
+      → OfWire (without t streams) (without t blocked) last marks
 
 -- of every wire
 abbrev pub WiresKeepTheLaw : Type 0
-WiresKeepTheLaw = (streams blocked : List ℕ) (last : ℕ) (marks : List Mark) → WireKeeps streams blocked last marks
+WiresKeepTheLaw = (streams blocked : List ℕ) (last : ℕ) (marks : List Mark)
+    → WireKeeps streams blocked last marks

@@ -20,7 +20,10 @@ digit c = elim (nat_lt c 58) [ true ↦ c - 48 | false ↦ c - 87 ]
 abbrev pub hex : List ℕ → List ℕ
 hex [] = []
 hex (c ∷ []) = []
-hex (c ∷ d ∷ text) = elim (c == 32) [ true ↦ hex (d ∷ text) | false ↦ (digit c * 16 + digit d) ∷ hex text ]
+hex (c ∷ d ∷ text) = elim (c == 32) [
+  | true ↦ hex (d ∷ text)
+  | false ↦ (digit c * 16 + digit d) ∷ hex text
+]
 
 -- ---- runs
 
@@ -85,17 +88,20 @@ two_alive_checks = Accepts 1 ∷ Accepts 2 ∷ bytewise 1 2 alive_check ++ Ends 
 -- one client speaks version 3
 abbrev pub another_version : List Mark
 another_version =
-    Accepts 1 ∷ Accepts 2 ∷ Gets 1 (hex (codes "00000008 00000001 00000003")) ∷ Gets 2 alive_check ∷ []
+    Accepts 1 ∷ Accepts 2 ∷ Gets 1 (hex (codes "00000008 00000001 00000003"))
+    ∷ Gets 2 alive_check ∷ []
 
 -- a session by descriptors, and bytes after it
 abbrev pub session_with_descriptors : List Mark
 session_with_descriptors =
-    greets 1 ++ Gets 1 (hex (codes "0000000c 10000002 00000005 00000000")) ∷ Gets 1 (hex (codes "00 00 00")) ∷ []
+    greets 1 ++ Gets 1 (hex (codes "0000000c 10000002 00000005 00000000"))
+    ∷ Gets 1 (hex (codes "00 00 00")) ∷ []
 
 -- the end is asked for, and more
 abbrev pub terminate : List Mark
 terminate =
-    greets 1 ++ Gets 1 (hex (codes "00000008 10000005 00000003")) ∷ Gets 1 (hex (codes "00000008 10000004 00000007")) ∷ []
+    greets 1 ++ Gets 1 (hex (codes "00000008 10000005 00000003"))
+    ∷ Gets 1 (hex (codes "00000008 10000004 00000007")) ∷ []
 
 -- an alive check that is cut short
 abbrev pub alive_without_id : List Mark
@@ -104,11 +110,14 @@ alive_without_id = greets 1 ++ Gets 1 (hex (codes "00000004 10000004")) ∷ []
 -- an unknown type with an id, and one without
 abbrev pub unknown_types : List Mark
 unknown_types =
-    greets 1 ++ greets 2 ++ Gets 1 (hex (codes "00000008 1000000a 00000009")) ∷ Gets 2 (hex (codes "00000004 1000000a")) ∷ []
+    greets 1 ++ greets 2 ++ Gets 1 (hex (codes "00000008 1000000a 00000009"))
+    ∷ Gets 2 (hex (codes "00000004 1000000a")) ∷ []
 
 -- what is asked of the house: a remote forwarding of port 8080 at any address to port 80 of a host
 abbrev pub forward_asks : List Mark
 forward_asks =
-    greets 1 ++ Gets 1 (hex (codes "0000001e 10000006 00000001 00000002 00000000 00001f90 00000002") ++ (codes "db" ++ hex (codes "00000050")))
-    ∷ Gets 1 (hex (codes "0000001e 10000007 00000002 00000002 00000000 00001f90 00000002") ++ (codes "db" ++ hex (codes "00000050")))
+    greets 1 ++ Gets 1 (hex (codes "0000001e 10000006 00000001 00000002 00000000 00001f90 00000002")
+    ++ (codes "db" ++ hex (codes "00000050")))
+    ∷ Gets 1 (hex (codes "0000001e 10000007 00000002 00000002 00000000 00001f90 00000002")
+    ++ (codes "db" ++ hex (codes "00000050")))
     ∷ []

@@ -9,7 +9,8 @@ use Rattle.mux_history.specs.Worked.{hex, enters}
 -- asks for a forwarding of a port at any address
 abbrev pub asks_port : ℕ → List ℕ
 asks_port port =
-    hex (codes "0000001c 00 50 0000000d") ++ (codes "tcpip-forward" ++ (hex (codes "01 00000000") ++ u32 port))
+    hex (codes "0000001c 00 50 0000000d")
+    ++ (codes "tcpip-forward" ++ (hex (codes "01 00000000") ++ u32 port))
 
 -- the server's success with a port, and without data; and its failure
 abbrev pub bound_to : ℕ → List ℕ
@@ -26,27 +27,34 @@ failure = hex (codes "00000002 00 52")
 -- a cancel that wants a reply, and one that does not
 abbrev pub cancels : ℕ → List ℕ
 cancels port =
-    hex (codes "00000023 00 50 00000014") ++ (codes "cancel-tcpip-forward" ++ (hex (codes "01 00000000") ++ u32 port))
+    hex (codes "00000023 00 50 00000014")
+    ++ (codes "cancel-tcpip-forward" ++ (hex (codes "01 00000000") ++ u32 port))
 
 -- a cancel that wants no reply
 abbrev pub cancels_at_once : ℕ → List ℕ
 cancels_at_once port =
-    hex (codes "00000023 00 50 00000014") ++ (codes "cancel-tcpip-forward" ++ (hex (codes "00 00000000") ++ u32 port))
+    hex (codes "00000023 00 50 00000014")
+    ++ (codes "cancel-tcpip-forward" ++ (hex (codes "00 00000000") ++ u32 port))
 
 -- the server opens a channel for a connection to a port
 abbrev pub connects_to : ℕ → ℕ → List ℕ
 connects_to port sender =
-    hex (codes "00000031 00 5a 0000000f") ++ (codes "forwarded-tcpip" ++ (u32 sender ++ (hex (codes "00200000 00008000 00000000") ++ (u32 port ++ hex (codes "00000000 00000007")))))
+    hex (codes "00000031 00 5a 0000000f")
+    ++ (codes "forwarded-tcpip"
+    ++ (u32 sender ++ (hex (codes "00200000 00008000 00000000")
+    ++ (u32 port ++ hex (codes "00000000 00000007")))))
 
 -- two clients ask for a port, and are told theirs in the order in which they asked
 abbrev pub two_ports : List Mark
 two_ports =
-    enters 1 ++ (enters 2 ++ (Gets 1 (asks_port 0) ∷ Gets 2 (asks_port 0) ∷ Gets 0 (bound_to 40001) ∷ Gets 0 (bound_to 40002) ∷ []))
+    enters 1 ++ (enters 2 ++ (Gets 1 (asks_port 0) ∷ Gets 2 (asks_port 0) ∷ Gets 0 (bound_to 40001)
+    ∷ Gets 0 (bound_to 40002) ∷ []))
 
 -- a connection comes to the second, and its client takes it
 abbrev pub connected : List Mark
 connected =
-    two_ports ++ (Gets 0 (connects_to 40002 9) ∷ Gets 2 (hex (codes "00000012 00 5b 00000009 00000003 00200000 00008000")) ∷ [])
+    two_ports ++ (Gets 0 (connects_to 40002 9)
+    ∷ Gets 2 (hex (codes "00000012 00 5b 00000009 00000003 00200000 00008000")) ∷ [])
 
 -- the server uses its number twice
 abbrev pub connected_twice : List Mark
@@ -59,27 +67,32 @@ port_8080_only =
 
 -- two ports are asked for
 abbrev pub one_of_two_ports : List Mark
-one_of_two_ports = enters 1 ++ (Gets 1 (asks_port 8080) ∷ Gets 1 (asks_port 9090) ∷ Gets 0 (bound_to 0) ∷ [])
+one_of_two_ports = enters 1
+    ++ (Gets 1 (asks_port 8080) ∷ Gets 1 (asks_port 9090) ∷ Gets 0 (bound_to 0) ∷ [])
 
 -- a request that is refused
 abbrev pub no_more_sessions : List Mark
 no_more_sessions =
-    enters 1 ++ Gets 1 (hex (codes "00000023 00 50 0000001c") ++ (codes "no-more-sessions@openssh.com" ++ hex (codes "01"))) ∷ []
+    enters 1 ++ Gets 1 (hex (codes "00000023 00 50 0000001c")
+    ++ (codes "no-more-sessions@openssh.com" ++ hex (codes "01"))) ∷ []
 
 -- a forwarding is cancelled twice, the server answers once, and then a connection comes to the port
 abbrev pub cancelled_twice : List Mark
 cancelled_twice =
-    two_ports ++ (Gets 1 (cancels 40001) ∷ Gets 1 (cancels 40001) ∷ Gets 0 success ∷ Gets 0 (connects_to 40001 12) ∷ [])
+    two_ports ++ (Gets 1 (cancels 40001) ∷ Gets 1 (cancels 40001) ∷ Gets 0 success
+    ∷ Gets 0 (connects_to 40001 12) ∷ [])
 
 -- the client ends while its cancel is unanswered, and the server refuses the cancel
 abbrev pub cancel_refused_late : List Mark
 cancel_refused_late =
-    enters 1 ++ (Gets 1 (asks_port 8080) ∷ Gets 0 success ∷ Gets 1 (cancels 8080) ∷ Ends 1 ∷ Gets 0 failure ∷ [])
+    enters 1 ++ (Gets 1 (asks_port 8080) ∷ Gets 0 success ∷ Gets 1 (cancels 8080) ∷ Ends 1
+    ∷ Gets 0 failure ∷ [])
 
 -- the first client fails while it is told its port
 abbrev pub told_too_late : List Mark
 told_too_late =
-    enters 1 ++ (enters 2 ++ (Gets 1 (asks_port 0) ∷ Gets 2 (asks_port 0) ∷ Gets 0 (bound_to 40001) ∷ WriteFails 1 ∷ Gets 0 (bound_to 40002) ∷ []))
+    enters 1 ++ (enters 2 ++ (Gets 1 (asks_port 0) ∷ Gets 2 (asks_port 0) ∷ Gets 0 (bound_to 40001)
+    ∷ WriteFails 1 ∷ Gets 0 (bound_to 40002) ∷ []))
 
 -- a reply where nothing was asked
 abbrev pub replies_to_nothing : List Mark

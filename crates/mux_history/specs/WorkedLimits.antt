@@ -18,7 +18,10 @@ payload_in frame = drop 5 frame
 -- a client with 256 channels that opens one more, under its number 300
 abbrev pub FullOfChannels : Type 0
 FullOfChannels =
-    (policy : Policy) (k pick : ℕ) (own : List Row) → length (held_of own) ≡ 256 → with_own own 300 ≡ None → said_payload policy k own pick (payload_in (session 300)) ≡ tells (hex (codes "00000023 00 5c 0000012c 00000004 00000011") ++ (codes "too many channels" ++ hex (codes "00000000")))
+    (policy : Policy) (k pick : ℕ) (own : List Row) → length (held_of own) ≡ 256
+    → with_own own 300 ≡ None → said_payload policy k own pick (payload_in (session 300))
+    ≡ tells (hex (codes "00000023 00 5c 0000012c 00000004 00000011")
+    ++ (codes "too many channels" ++ hex (codes "00000000")))
 
 -- a global request that wants a reply
 abbrev pub keepalive : List ℕ
@@ -27,14 +30,17 @@ keepalive = hex (codes "50 00000015") ++ (codes "keepalive@openssh.com" ++ hex (
 -- after 1,023 that are unanswered it is sent, after 1,024 it drops its client
 abbrev pub OneMoreAsk : Type 0
 OneMoreAsk =
-    (policy : Policy) (k pick : ℕ) (own : List Row) → unanswered_asks own ≡ 1023 → said_payload policy k own pick keepalive ≡ sends keepalive
+    (policy : Policy) (k pick : ℕ) (own : List Row) → unanswered_asks own ≡ 1023
+    → said_payload policy k own pick keepalive ≡ sends keepalive
 
 -- the 1,025th
 abbrev pub OneAskTooMany : Type 0
 OneAskTooMany =
-    (policy : Policy) (k pick : ℕ) (own : List Row) → unanswered_asks own ≡ 1024 → said_payload policy k own pick keepalive ≡ drops (TooManyAsks 1024)
+    (policy : Policy) (k pick : ℕ) (own : List Row) → unanswered_asks own ≡ 1024
+    → said_payload policy k own pick keepalive ≡ drops (TooManyAsks 1024)
 
 -- the longest payload
 abbrev pub LongestFrame : Type 0
 LongestFrame =
-    (payload : List ℕ) → length payload ≡ 262143 → first_frame Proxy (hex (codes "00040000 00") ++ payload) ≡ Frame payload []
+    (payload : List ℕ) → length payload ≡ 262143
+    → first_frame Proxy (hex (codes "00040000 00") ++ payload) ≡ Frame payload []

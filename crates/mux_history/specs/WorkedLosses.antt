@@ -9,12 +9,14 @@ use Rattle.mux_history.specs.WorkedForwards.{asks_port, bound_to, success, conne
 -- a client with a confirmed channel, an open without an answer and a forwarding without an answer ends
 abbrev pub leaves : List Mark
 leaves =
-    enters 1 ++ (Gets 1 (session 0) ∷ Gets 0 (hex (codes "00000012 00 5b 00000000 00000007 00000064 00000064"))
+    enters 1 ++ (Gets 1 (session 0)
+    ∷ Gets 0 (hex (codes "00000012 00 5b 00000000 00000007 00000064 00000064"))
     ∷ Gets 1 (session 1) ∷ Gets 1 (asks_port 0) ∷ Ends 1 ∷ [])
 
 -- its open is confirmed afterwards
 abbrev pub late_confirmation : List Mark
-late_confirmation = leaves ++ Gets 0 (hex (codes "00000012 00 5b 00000001 00000008 00000064 00000064")) ∷ []
+late_confirmation = leaves
+    ++ Gets 0 (hex (codes "00000012 00 5b 00000001 00000008 00000064 00000064")) ∷ []
 
 -- its forwarding succeeds afterwards
 abbrev pub late_success : List Mark
@@ -23,13 +25,15 @@ late_success = late_confirmation ++ Gets 0 (bound_to 40001) ∷ []
 -- the server closes both channels
 abbrev pub all_closed : List Mark
 all_closed =
-    late_success ++ (Gets 0 (hex (codes "00000006 00 61 00000000")) ∷ Gets 0 (hex (codes "00000006 00 61 00000001")) ∷ [])
+    late_success ++ (Gets 0 (hex (codes "00000006 00 61 00000000"))
+    ∷ Gets 0 (hex (codes "00000006 00 61 00000001")) ∷ [])
 
 -- a client that ends with an open of the server that it has not answered, and one that it has
 abbrev pub leaves_opens : List Mark
 leaves_opens =
     enters 1 ++ (Gets 1 (asks_port 8080) ∷ Gets 0 success ∷ Gets 0 (connects_to 8080 3)
-    ∷ Gets 1 (hex (codes "00000012 00 5b 00000003 00000006 0000000a 0000000a")) ∷ Gets 0 (connects_to 8080 4) ∷ Ends 1 ∷ [])
+    ∷ Gets 1 (hex (codes "00000012 00 5b 00000003 00000006 0000000a 0000000a"))
+    ∷ Gets 0 (connects_to 8080 4) ∷ Ends 1 ∷ [])
 
 -- so many clients come
 abbrev pub come : ℕ → ℕ → List Mark
@@ -47,7 +51,8 @@ crowded = leaves ++ come 2 64
 -- a client takes nothing for now; another is served
 abbrev pub held_back : List Mark
 held_back =
-    Accepts 1 ∷ Holds 1 ∷ Accepts 2 ∷ Takes 2 hello ∷ Gets 2 (hello ++ hex (codes "00000008 10000004 00000007")) ∷ []
+    Accepts 1 ∷ Holds 1 ∷ Accepts 2 ∷ Takes 2 hello
+    ∷ Gets 2 (hello ++ hex (codes "00000008 10000004 00000007")) ∷ []
 
 -- the first takes its output
 abbrev pub freed_again : List Mark

@@ -12,7 +12,8 @@ use Rattle.mux_history.specs.Worked.{hex, sent, enters}
 -- an open of a session under the client's number, with a window of 2,097,152 and a maximum of 32,768
 abbrev pub session : ℕ → List ℕ
 session own =
-    hex (codes "00000019 00 5a 00000007") ++ (codes "session" ++ (u32 own ++ hex (codes "00200000 00008000")))
+    hex (codes "00000019 00 5a 00000007")
+    ++ (codes "session" ++ (u32 own ++ hex (codes "00200000 00008000")))
 
 -- two clients that both opened a session as 0, and what went up after these
 abbrev pub two_sessions : List Mark
@@ -24,27 +25,32 @@ sent_after_two rows = drop 58 (sent rows)
 
 -- the server confirms the second, as its own 5 with a window of 5
 abbrev pub confirmed : List Mark
-confirmed = two_sessions ++ Gets 0 (hex (codes "00000012 00 5b 00000001 00000005 00000005 00008000")) ∷ []
+confirmed = two_sessions
+    ++ Gets 0 (hex (codes "00000012 00 5b 00000001 00000005 00000005 00008000")) ∷ []
 
 -- the window is filled, and then one byte more
 abbrev pub past_window : List Mark
 past_window =
-    confirmed ++ (Gets 2 (hex (codes "0000000f 00 5e 00000005 00000005") ++ codes "hello") ∷ Gets 2 (hex (codes "0000000b 00 5e 00000005 00000001") ++ codes "x") ∷ [])
+    confirmed ++ (Gets 2 (hex (codes "0000000f 00 5e 00000005 00000005") ++ codes "hello")
+    ∷ Gets 2 (hex (codes "0000000b 00 5e 00000005 00000001") ++ codes "x") ∷ [])
 
 -- the client grants as much as fits, and then one more
 abbrev pub overgrown_down : List Mark
 overgrown_down =
-    confirmed ++ (Gets 2 (hex (codes "0000000a 00 5d 00000005 ffdfffff")) ∷ Gets 2 (hex (codes "0000000a 00 5d 00000005 00000001")) ∷ [])
+    confirmed ++ (Gets 2 (hex (codes "0000000a 00 5d 00000005 ffdfffff"))
+    ∷ Gets 2 (hex (codes "0000000a 00 5d 00000005 00000001")) ∷ [])
 
 -- the server does
 abbrev pub overgrown_up : List Mark
 overgrown_up =
-    confirmed ++ (Gets 0 (hex (codes "0000000a 00 5d 00000001 fffffffa")) ∷ Gets 0 (hex (codes "0000000a 00 5d 00000001 00000001")) ∷ [])
+    confirmed ++ (Gets 0 (hex (codes "0000000a 00 5d 00000001 fffffffa"))
+    ∷ Gets 0 (hex (codes "0000000a 00 5d 00000001 00000001")) ∷ [])
 
 -- the channel is closed both ways
 abbrev pub closed : List Mark
 closed =
-    confirmed ++ (Gets 2 (hex (codes "00000006 00 61 00000005")) ∷ Gets 0 (hex (codes "00000006 00 61 00000001")) ∷ [])
+    confirmed ++ (Gets 2 (hex (codes "00000006 00 61 00000005"))
+    ∷ Gets 0 (hex (codes "00000006 00 61 00000001")) ∷ [])
 
 -- the server writes to number 1
 abbrev pub data_to_one : Mark
@@ -64,7 +70,8 @@ again_setting = record { policy = any_policy; pid = 42; choices = FromLists (0 �
 
 -- a client writes to another's channel
 abbrev pub foreign_data : List Mark
-foreign_data = confirmed ++ Gets 1 (hex (codes "0000000b 00 5e 00000005 00000001") ++ codes "x") ∷ []
+foreign_data = confirmed
+    ++ Gets 1 (hex (codes "0000000b 00 5e 00000005 00000001") ++ codes "x") ∷ []
 
 -- ---- what opens are refused
 
@@ -76,12 +83,18 @@ database_only =
 -- an open to another
 abbrev pub to_web : List ℕ
 to_web =
-    hex (codes "00000031 00 5a 0000000c") ++ (codes "direct-tcpip" ++ (hex (codes "00000004 00200000 00008000 00000003") ++ (codes "web" ++ hex (codes "00000050 00000000 00000001"))))
+    hex (codes "00000031 00 5a 0000000c")
+    ++ (codes "direct-tcpip"
+    ++ (hex (codes "00000004 00200000 00008000 00000003")
+    ++ (codes "web" ++ hex (codes "00000050 00000000 00000001"))))
 
 -- an open to it
 abbrev pub to_database : ℕ → List ℕ
 to_database number =
-    hex (codes "00000030 00 5a 0000000c") ++ (codes "direct-tcpip" ++ (u32 number ++ (hex (codes "00200000 00008000 00000002") ++ (codes "db" ++ hex (codes "00001538 00000000 00000001")))))
+    hex (codes "00000030 00 5a 0000000c")
+    ++ (codes "direct-tcpip"
+    ++ (u32 number ++ (hex (codes "00200000 00008000 00000002")
+    ++ (codes "db" ++ hex (codes "00001538 00000000 00000001")))))
 
 -- both are opened
 abbrev pub opens_directly : List Mark
@@ -90,7 +103,8 @@ opens_directly = enters 1 ++ (Gets 1 to_web ∷ Gets 1 (to_database 4) ∷ [])
 -- an open of another type
 abbrev pub opens_display : List Mark
 opens_display =
-    enters 1 ++ Gets 1 (hex (codes "00000015 00 5a 00000003") ++ (codes "x11" ++ hex (codes "00000004 00200000 00008000"))) ∷ []
+    enters 1 ++ Gets 1 (hex (codes "00000015 00 5a 00000003")
+    ++ (codes "x11" ++ hex (codes "00000004 00200000 00008000"))) ∷ []
 
 -- ---- frames
 

@@ -25,9 +25,13 @@ BytesAreUnshared = OverRight GivesAlike
 -- so the bytes that its stream took begin what the unshared connection gives
 abbrev pub TakesAlike : Setting → List Mark → Type 0
 TakesAlike setting marks =
-    (k : ℕ) → 0 < k → IsAdmitted k (log_of_journal setting marks) → IsFront (taken_by k marks) (given_to k (solo setting k (log_of_journal setting marks)))
+    (k : ℕ) → 0 < k → IsAdmitted k (log_of_journal setting marks)
+    → IsFront (taken_by k marks) (given_to k (solo setting k (log_of_journal setting marks)))
 
 -- where each take is the front of what waited
 abbrev pub TakesAreUnshared : Type 0
 TakesAreUnshared =
-    (policy : Policy) (pid : ℕ) (picks : List ℕ) (given : List HouseReply) (marks : List Mark) → IsLawful marks → AreFresh (log_of_journal (by_lists policy pid picks given) marks) → Throughout (TakesFront (by_lists policy pid picks given)) marks → TakesAlike (by_lists policy pid picks given) marks
+    (policy : Policy) (pid : ℕ) (picks : List ℕ) (given : List HouseReply) (marks : List Mark)
+    → IsLawful marks → AreFresh (log_of_journal (by_lists policy pid picks given) marks)
+    → Throughout (TakesFront (by_lists policy pid picks given)) marks
+    → TakesAlike (by_lists policy pid picks given) marks

@@ -60,7 +60,8 @@ ViewsShowRooms = (way : Side) (x : Channel) → WayShows way x
 -- a row of another client, or of nobody, leaves the view as it was, whatever it does
 abbrev pub IdleRowsLeaveViews : Type 0
 IdleRowsLeaveViews =
-    (k : ℕ) (row : Row) (before : List Row) → (row.client == k) ≡ false → view_of k (row ∷ before) ≡ view_of k before
+    (k : ℕ) (row : Row) (before : List Row) → (row.client == k) ≡ false
+    → view_of k (row ∷ before) ≡ view_of k before
 
 -- a log that is cut to the client's rows shows the same of it
 abbrev pub CutsKeepViews : Type 0
@@ -75,9 +76,14 @@ pub record SameStep (k : ℕ) (rows others : List Row) (row other : Row) : Type 
 -- that goes to it in both; with its admission, where both let it in or both refuse it. Which of its items make rows,
 -- and whether its matters are open, is the same in both
 pub record StepsAlike (policy : Policy) (pid pick k : ℕ) (rows others : List Row) : Type 0 where
-  pub own : (item : Item) → IsOf k item → SameStep k rows others (treat policy pid pick rows item) (treat policy pid pick others item)
-  pub heard : (p : List ℕ) → dest rows p ≡ ToClient k → dest others p ≡ ToClient k → SameStep k rows others (treat policy pid pick rows (Heard p)) (treat policy pid pick others (Heard p))
-  pub let_in : admits rows ≡ admits others → SameStep k rows others (treat policy pid pick rows (Admit k)) (treat policy pid pick others (Admit k))
+  pub own : (item : Item) → IsOf k item
+      → SameStep k rows others (treat policy pid pick rows item) (treat policy pid pick others item)
+  pub heard : (p : List ℕ) → dest rows p ≡ ToClient k → dest others p ≡ ToClient k
+      → SameStep k rows others (treat policy pid pick rows (Heard p))
+      (treat policy pid pick others (Heard p))
+  pub let_in : admits rows ≡ admits others
+      → SameStep k rows others (treat policy pid pick rows (Admit k))
+      (treat policy pid pick others (Admit k))
   pub makes : (item : Item) → IsOf k item → makes_row rows item ≡ makes_row others item
   pub matters : has_open_matters (rows_of k rows) ≡ has_open_matters (rows_of k others)
 
@@ -85,4 +91,5 @@ pub record StepsAlike (policy : Policy) (pid pick k : ℕ) (rows others : List R
 -- pick and its view before it
 abbrev pub RowsFollowViews : Type 0
 RowsFollowViews =
-    (policy : Policy) (pid pick k : ℕ) (rows others : List Row) → view_of k rows ≡ view_of k others → StepsAlike policy pid pick k rows others
+    (policy : Policy) (pid pick k : ℕ) (rows others : List Row) → view_of k rows ≡ view_of k others
+    → StepsAlike policy pid pick k rows others

@@ -22,13 +22,18 @@ log_alone setting own = log_of (alone_setting setting) (items_for own)
 
 -- the row there: the item as the client sees it, and what it sends under the number that the client said
 abbrev pub row_alone : List Row → Row → Row
-row_alone own row = record row { item = item_for own row.item; up = own_ups (own_of row.item) row.up }
+row_alone own row = record row {
+  item = item_for own row.item;
+  up =
+      own_ups (own_of row.item) row.up;
+}
 
 -- the next item of the client makes that row, and no other: what it sends else, its farewell, what it tells and its fate
 -- are the same
 abbrev pub RowIsRenamed : Setting → List Row → Row → Type 0
 RowIsRenamed setting own row =
-    more_of (alone_setting setting) (log_alone setting own) (item_for own row.item) ≡ row_alone own row ∷ log_alone setting own
+    more_of (alone_setting setting) (log_alone setting own) (item_for own row.item)
+    ≡ row_alone own row ∷ log_alone setting own
 
 -- ---- what is seen of the client
 
@@ -50,12 +55,14 @@ ViewIsRenamed setting k own = view_of k (log_alone setting own) ≡ view_alone (
 -- loses it, and what comes for it later
 abbrev pub RowsAreRenamed : Type 0
 RowsAreRenamed =
-    OverRight (λ setting rows. (k : ℕ) → 0 < k → IsAdmitted k rows → ForEach (RowIsRenamed setting) (rows_of k rows))
+    OverRight (λ setting rows. (k : ℕ) → 0 < k → IsAdmitted k rows
+    → ForEach (RowIsRenamed setting) (rows_of k rows))
 
 -- and so is what is seen of it at each of its rows
 abbrev pub ViewsAreRenamed : Type 0
 ViewsAreRenamed =
-    OverRight (λ setting rows. (k : ℕ) → 0 < k → IsAdmitted k rows → AtEach (ViewIsRenamed setting k) (rows_of k rows))
+    OverRight (λ setting rows. (k : ℕ) → 0 < k → IsAdmitted k rows
+    → AtEach (ViewIsRenamed setting k) (rows_of k rows))
 
 -- ---- the items
 

@@ -76,7 +76,8 @@ MayEnd event now = (now ≢ Some ended.ServerFailed) × (now ≢ Some ended.Spen
 abbrev pub EndsBy : Event → State → State → Mark → Type 0
 EndsBy event old new mark =
     (picked : List ℕ) (given : List HouseReply) (marks : List Mark) (closed : List ℕ)
-    → Stands picked given old marks closed → IsAllowed old marks mark → old.ended ≡ None → MayEnd event new.ended
+    → Stands picked given old marks closed → IsAllowed old marks mark → old.ended ≡ None
+    → MayEnd event new.ended
 
 pub record Keeps (event : Event) (old new : State) : Type 0 where
   pub pid : new.pid ≡ old.pid

@@ -44,7 +44,8 @@ IsGone mark k = ⊥
 
 -- no client of a number stands so
 abbrev pub NoneStands : (Standing → Bool) → ℕ → List ClientState → Type 0
-NoneStands test k cs = AllByRecursion (λ c. (c.seat.number == k) ≡ true → test c.seat.standing ≡ false) cs
+NoneStands test k cs =
+    AllByRecursion (λ c. (c.seat.number == k) ≡ true → test c.seat.standing ≡ false) cs
 
 abbrev pub not_lost : Standing → Bool
 not_lost s = not (is_lost s)
@@ -57,17 +58,23 @@ pub record LosesAt (s new : State) (k : ℕ) : Type 0 where
   pub refused : new.refused ≡ s.refused
   pub listening : new.listening ≡ s.listening
   pub ended : new.ended ≡ s.ended
-  pub changes : ChangesOne k (λ x y. (is_lost x.seat.standing ≡ false) × Loses (clients.part s.core x.seat s.up) (clients.part new.core y.seat new.up)) s.clients new.clients
+  pub changes : ChangesOne k (λ x y. (is_lost x.seat.standing ≡ false)
+      × Loses (clients.part s.core x.seat s.up) (clients.part new.core y.seat new.up))
+      s.clients new.clients
   pub leaving : new.leaving ≡ s.leaving ++ (k, None) ∷ []
   pub waiting : new.waiting ≡ waiting_in new
 
 -- a client that is read gave bytes
-pub record GainsAt (May : HouseReply → Type 0) (before told : Option (List Asked)) (s new : State) (k : ℕ) (bytes : List ℕ) : Type 0 where
+pub record GainsAt (May : HouseReply → Type 0) (before told : Option (List Asked)) (s new : State)
+    (k : ℕ) (bytes : List ℕ) : Type 0 where
   pub heard : Heard
   pub pid : new.pid ≡ s.pid
   pub server : new.server ≡ s.server
   pub refused : new.refused ≡ s.refused
-  pub changes : ChangesOne k (λ x y. (is_read x.seat.standing ≡ true) × (HearsPiece May before told s.pid bytes s.core s.up x new.core new.up y heard × (new.leaving ≡ s.leaving ++ loss_between x.seat.standing y.seat.standing k))) s.clients new.clients
+  pub changes : ChangesOne k (λ x y. (is_read x.seat.standing ≡ true)
+      × (HearsPiece May before told s.pid bytes s.core s.up x new.core new.up y heard
+      × (new.leaving ≡ s.leaving ++ loss_between x.seat.standing y.seat.standing k)))
+      s.clients new.clients
   pub listening : new.listening ≡ (s.listening && not heard.stops)
   pub ended : new.ended ≡ heard.ended
   pub waiting : new.waiting ≡ waiting_in new
@@ -77,7 +84,8 @@ pub record HeardAt (s new : State) (bytes : List ℕ) : Type 0 where
   pub pid : new.pid ≡ s.pid
   pub refused : new.refused ≡ s.refused
   pub listening : new.listening ≡ s.listening
-  pub piece : HearsBytes bytes s.leaving new.leaving s.core s.clients s.up s.server new.core new.clients new.up new.server new.ended
+  pub piece : HearsBytes bytes s.leaving new.leaving s.core s.clients s.up s.server new.core
+      new.clients new.up new.server new.ended
   pub waiting : new.waiting ≡ waiting_in new
 
 -- ---- the laws
@@ -87,37 +95,48 @@ abbrev pub ClosedGoesOn : Type 0
 ClosedGoesOn = (s : State) (k : ℕ) → IsFirst k s.leaving → Closes s (closed_by s k) k
 
 abbrev pub TakenGoesOn : Type 0
-TakenGoesOn = (s : State) (t n : ℕ) (bytes : List ℕ) → length bytes ≡ n → GoesAlone s (taken s t n) (Takes t bytes)
+TakenGoesOn = (s : State) (t n : ℕ) (bytes : List ℕ) → length bytes ≡ n
+    → GoesAlone s (taken s t n) (Takes t bytes)
 
 -- after the end of the run nothing changes
 abbrev pub OverStays : Type 0
-OverStays = (s : State) (mark : Mark) (cause : Ended) → IsEvent mark → s.ended ≡ Some cause → GoesAlone s s mark
+OverStays = (s : State) (mark : Mark) (cause : Ended) → IsEvent mark → s.ended ≡ Some cause
+    → GoesAlone s s mark
 
 -- the server's stream ends or fails
 pub record ServerLaws : Type 0 where
   pub ends : (s : State) → s.ended ≡ None → GoesAlone s (over s (server_cause s)) (Ends 0)
   pub fails : (s : State) → s.ended ≡ None → GoesAlone s (over s ended.ServerFailed) (Fails 0)
-  pub unwritten : (s : State) → s.ended ≡ None → GoesAlone s (over s ended.ServerFailed) (WriteFails 0)
+  pub unwritten : (s : State) → s.ended ≡ None
+      → GoesAlone s (over s ended.ServerFailed) (WriteFails 0)
 
 -- a client comes
 abbrev pub EnteredGoesOn : Type 0
 EnteredGoesOn =
     (s : State) (core' : CoreState) (up' : QueueState) (k : ℕ) (let_in : Bool)
-    → s.ended ≡ None → core'.policy ≡ s.core.policy → up'.waiting ≡ s.up.waiting → Enters k s.core core' s.clients (entered s core' up' k let_in).clients let_in → GoesAlone s (entered s core' up' k let_in) (Accepts k)
+    → s.ended ≡ None → core'.policy ≡ s.core.policy → up'.waiting ≡ s.up.waiting
+    → Enters k s.core core' s.clients (entered s core' up' k let_in).clients let_in
+    → GoesAlone s (entered s core' up' k let_in) (Accepts k)
 
 -- the stream of a client is gone: of one that wasn't lost, and of none
 pub record LossLaws : Type 0 where
-  pub goes : (s new : State) (k : ℕ) (mark : Mark) → k ≢ 0 → IsGone mark k → s.ended ≡ None → is_present s.clients k ≡ true → LosesAt s new k → GoesAlone s new mark
-  pub stays : (s : State) (k : ℕ) (mark : Mark) → k ≢ 0 → IsGone mark k → s.ended ≡ None → NoneStands not_lost k s.clients → GoesAlone s s mark
+  pub goes : (s new : State) (k : ℕ) (mark : Mark) → k ≢ 0 → IsGone mark k → s.ended ≡ None
+      → is_present s.clients k ≡ true → LosesAt s new k → GoesAlone s new mark
+  pub stays : (s : State) (k : ℕ) (mark : Mark) → k ≢ 0 → IsGone mark k → s.ended ≡ None
+      → NoneStands not_lost k s.clients → GoesAlone s s mark
 
 -- a client that is read gave bytes
 abbrev pub GainedGoesOn : (HouseReply → Type 0) → Type 0
-GainedGoesOn May = (before told : Option (List Asked)) (s new : State) (k : ℕ) (bytes : List ℕ) → s.ended ≡ None → is_present s.clients k ≡ true → k ≢ 0 → GainsAt May before told s new k bytes → GoesOn May before told s new (Gets k bytes)
+GainedGoesOn May = (before told : Option (List Asked)) (s new : State) (k : ℕ) (bytes : List ℕ)
+    → s.ended ≡ None → is_present s.clients k ≡ true → k ≢ 0 → GainsAt May before told s new k bytes
+    → GoesOn May before told s new (Gets k bytes)
 
 -- and one that isn't
 abbrev pub UnheardStays : (HouseReply → Type 0) → Type 0
-UnheardStays May = (told : Option (List Asked)) (s : State) (k : ℕ) (bytes : List ℕ) → k ≢ 0 → s.ended ≡ None → NoneStands is_read k s.clients → GoesOn May told told s s (Gets k bytes)
+UnheardStays May = (told : Option (List Asked)) (s : State) (k : ℕ) (bytes : List ℕ) → k ≢ 0
+    → s.ended ≡ None → NoneStands is_read k s.clients → GoesOn May told told s s (Gets k bytes)
 
 -- the server gave bytes
 abbrev pub HeardGoesOn : Type 0
-HeardGoesOn = (s new : State) (bytes : List ℕ) → s.ended ≡ None → HeardAt s new bytes → GoesAlone s new (Gets 0 bytes)
+HeardGoesOn = (s new : State) (bytes : List ℕ) → s.ended ≡ None → HeardAt s new bytes
+    → GoesAlone s new (Gets 0 bytes)

@@ -53,7 +53,8 @@ place rows = min (next_index rows) (2 ^ 64 - 1)
 
 -- with so many numbers taken, and the house asked this: the shared connection, the clients and what waits for the server
 -- stand for the rows, and everything else that is kept is what the rows say
-pub record RowsFit (taken : ℕ) (drawn : List Asked) (s : State) (closed : List ℕ) (rows : List Row) : Type 0 where
+pub record RowsFit (taken : ℕ) (drawn : List Asked) (s : State) (closed : List ℕ)
+    (rows : List Row) : Type 0 where
   pub taken_is : numbers_taken rows ≡ taken
   pub drawn_is : replies_given rows ≡ length drawn
   pub asked_is : asked_of rows ≡ drawn
@@ -79,7 +80,8 @@ pub record RowsFit (taken : ℕ) (drawn : List Asked) (s : State) (closed : List
 
 -- a client that isn't lost has read its bytes so far
 pub record ClientReads (bytes : List ℕ) (c : ClientState) : Type 0 where
-  pub mode_is : is_lost c.seat.standing ≡ false → (parse InControl bytes).mode ≡ mode_of c.seat.standing
+  pub mode_is : is_lost c.seat.standing ≡ false → (parse InControl bytes).mode
+      ≡ mode_of c.seat.standing
   pub rest_is : is_read c.seat.standing ≡ true → (parse InControl bytes).rest ≡ c.rest
 
 abbrev pub EachReads : List Mark → List ClientState → Type 0
@@ -96,27 +98,32 @@ pub record IsStrange (s : State) (marks : List Mark) (closed : List ℕ) (k : �
   pub not_closed_yet : among k closed ≡ false
   pub no_bytes : k ≢ 0 → bytes_of k marks ≡ []
 
-pub record BytesFit (s : State) (marks : List Mark) (closed : List ℕ) (rows : List Row) : Type 0 where
+pub record BytesFit (s : State) (marks : List Mark) (closed : List ℕ) (rows : List Row) :
+    Type 0 where
   pub are_bytes : (t : ℕ) → AreBytes (bytes_of t marks)
   pub clients : is_ended rows ≡ false → EachReads marks s.clients
   pub server : is_ended rows ≡ false → ServerReads (bytes_of 0 marks) s.server
   -- while the run goes on, one that was accepted is here or closed
-  pub there : is_ended rows ≡ false → (k : ℕ) → is_accepted k marks ≡ true → is_here s k ≡ false → among k closed ≡ true
+  pub there : is_ended rows ≡ false → (k : ℕ) → is_accepted k marks ≡ true → is_here s k ≡ false
+      → among k closed ≡ true
   pub strange : (k : ℕ) → is_accepted k marks ≡ false → IsStrange s marks closed k
 
 -- ---- for a journal
 
 -- with these picks and replies
-pub record StandsFor (picks : List ℕ) (replies : List HouseReply) (taken : ℕ) (drawn : List Asked) (s : State) (marks : List Mark) (closed : List ℕ) : Type 0 where
+pub record StandsFor (picks : List ℕ) (replies : List HouseReply) (taken : ℕ) (drawn : List Asked)
+    (s : State) (marks : List Mark) (closed : List ℕ) : Type 0 where
   pub rows : RowsFit taken drawn s closed (log s picks replies marks)
   pub bytes : BytesFit s marks closed (log s picks replies marks)
 
 -- these numbers were taken and these replies given so far, one to each ask, and whatever is picked and replied later, the
 -- engine stands for the marks and for the clients that were closed
-pub record Stands (picked : List ℕ) (given : List HouseReply) (s : State) (marks : List Mark) (closed : List ℕ) : Type 0 where
+pub record Stands (picked : List ℕ) (given : List HouseReply) (s : State) (marks : List Mark)
+    (closed : List ℕ) : Type 0 where
   pub asks : List Asked
   pub each : length asks ≡ length given
-  pub at : (picks : List ℕ) (replies : List HouseReply) → StandsFor (picked ++ picks) (given ++ replies) (length picked) asks s marks closed
+  pub at : (picks : List ℕ) (replies : List HouseReply)
+      → StandsFor (picked ++ picks) (given ++ replies) (length picked) asks s marks closed
 
 -- ---- one step more
 
@@ -135,26 +142,33 @@ IsAllowed s marks (Waits waiting want streams listens) = Unit {0}
 -- some numbers more were picked and some replies given, each of which the house may give, and the engine stands for the
 -- journal with the mark; the house, which told `before` and tells `now`, was told exactly these asks, which are those that
 -- the new rows have
-pub record GoesBy (May : HouseReply → Type 0) (before now : Option (List Asked)) (picked : List ℕ) (given : List HouseReply) (old new : State) (mark : Mark) (marks : List Mark) (closed : List ℕ) : Type 0 where
+pub record GoesBy (May : HouseReply → Type 0) (before now : Option (List Asked)) (picked : List ℕ)
+    (given : List HouseReply) (old new : State) (mark : Mark) (marks : List Mark)
+    (closed : List ℕ) : Type 0 where
   pub picks : List ℕ
   pub replies : List HouseReply
   pub asks : List Asked
   pub may : MayGive May replies
   pub stands : Stands (picked ++ picks) (given ++ replies) new (mark ∷ marks) closed
   pub told : TellsAsks before now asks
-  pub asked : (p : List ℕ) (r : List HouseReply) → asked_of (log new ((picked ++ picks) ++ p) ((given ++ replies) ++ r) (mark ∷ marks)) ≡ asked_of (log old ((picked ++ picks) ++ p) ((given ++ replies) ++ r) marks) ++ asks
+  pub asked : (p : List ℕ) (r : List HouseReply)
+      → asked_of (log new ((picked ++ picks) ++ p) ((given ++ replies) ++ r) (mark ∷ marks))
+      ≡ asked_of (log old ((picked ++ picks) ++ p) ((given ++ replies) ++ r) marks) ++ asks
 
 -- from every journal that the engine stood for, it stands afterwards for that journal with the mark
-abbrev pub GoesOn : (HouseReply → Type 0) → Option (List Asked) → Option (List Asked) → State → State → Mark → Type 0
+abbrev pub GoesOn : (HouseReply → Type 0) → Option (List Asked) → Option (List Asked) → State
+    → State → Mark → Type 0
 GoesOn May before now old new mark =
     (picked : List ℕ) (given : List HouseReply) (marks : List Mark) (closed : List ℕ)
-    → Stands picked given old marks closed → IsAllowed old marks mark → GoesBy May before now picked given old new mark marks closed
+    → Stands picked given old marks closed → IsAllowed old marks mark
+    → GoesBy May before now picked given old new mark marks closed
 
 -- the same where nothing is picked and the house isn't asked
 abbrev pub GoesAlone : State → State → Mark → Type 0
 GoesAlone old new mark =
     (picked : List ℕ) (given : List HouseReply) (marks : List Mark) (closed : List ℕ)
-    → Stands picked given old marks closed → IsAllowed old marks mark → Stands picked given new (mark ∷ marks) closed
+    → Stands picked given old marks closed → IsAllowed old marks mark
+    → Stands picked given new (mark ∷ marks) closed
 
 -- the client is the first of those that are lost and not closed
 abbrev pub IsFirst : ℕ → List (ℕ × Option Why) → Type 0

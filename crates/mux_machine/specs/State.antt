@@ -58,15 +58,18 @@ queue_in s t = if t == 0 then s.up.waiting else in_client [] (λ c. c.seat.queue
 -- the bytes that a stream gave and that are not cut yet: none at the end of the run
 abbrev pub rest_in : State → ℕ → List ℕ
 rest_in s t =
-    if is_some s.ended then [] else if t == 0 then s.server.rest else in_client [] (λ c. c.rest) s.clients t
+    if is_some s.ended then [] else if t == 0 then s.server.rest
+    else in_client [] (λ c. c.rest) s.clients t
 
 -- the streams with something that waits
 abbrev pub waiting_clients : List ClientState → List ℕ
 waiting_clients [] = []
-waiting_clients (c ∷ cs) = if is_empty c.seat.queue then waiting_clients cs else c.seat.number ∷ waiting_clients cs
+waiting_clients (c ∷ cs) = if is_empty c.seat.queue then waiting_clients cs
+    else c.seat.number ∷ waiting_clients cs
 
 abbrev pub waiting_in : State → List ℕ
-waiting_in s = if is_empty s.up.waiting then waiting_clients s.clients else 0 ∷ waiting_clients s.clients
+waiting_in s = if is_empty s.up.waiting then waiting_clients s.clients
+    else 0 ∷ waiting_clients s.clients
 
 -- ---- those that are lost or refused and not closed
 
@@ -76,7 +79,13 @@ first_of (l ∷ ls) = Some l
 
 -- a client whose stream was closed: nothing waits for it any more
 abbrev pub closed_by : State → ℕ → State
-closed_by s k = record s { clients = without_client k s.clients; refused = without k s.refused; leaving = filter (λ (l : ℕ × Option Why). not (l.0 == k)) s.leaving; waiting = without k s.waiting }
+closed_by s k = record s {
+  clients = without_client k s.clients;
+  refused = without k s.refused;
+  leaving = filter (λ (l : ℕ × Option Why). not (l.0 == k)) s.leaving;
+  waiting =
+      without k s.waiting;
+}
 
 -- ---- what was taken
 
@@ -87,10 +96,13 @@ at_client k f (c ∷ cs) = if c.seat.number == k then f c ∷ cs else c ∷ at_c
 
 -- so many bytes that a stream took, and then the streams that wait
 abbrev pub took : State → ℕ → ℕ → State
-took s t n = if t == 0 then record s { up = without_first n s.up } else record s { clients = at_client t (client_took n) s.clients }
+took s t n = if t == 0 then record s { up = without_first n s.up }
+    else record s { clients = at_client t (client_took n) s.clients }
 
 abbrev pub taken : State → ℕ → ℕ → State
-taken s t n = record (took s t n) { waiting = if is_empty (queue_in (took s t n) t) then without t s.waiting else s.waiting }
+taken s t n = record (took s t n) {
+  waiting = if is_empty (queue_in (took s t n) t) then without t s.waiting else s.waiting;
+}
 
 -- ---- the end of the run
 
@@ -99,7 +111,10 @@ over s cause = record s { ended = Some cause }
 
 -- why it ends where the server's stream does: inside a frame that breaks the protocol
 abbrev pub server_cause : State → Ended
-server_cause s = elim s.server.rest [ [] ↦ ended.ServerEnd | b ∷ rest ↦ ended.Broke s.server.index (broke.Cut (length (b ∷ rest))) ]
+server_cause s = elim s.server.rest [
+  | [] ↦ ended.ServerEnd
+  | b ∷ rest ↦ ended.Broke s.server.index (broke.Cut (length (b ∷ rest)))
+]
 
 -- ---- who is here
 
@@ -115,5 +130,11 @@ entered s core' up' k true =
     let s' = record s { core = core'; up = up'; clients = s.clients ++ new_client k ∷ [] } in
     record s' { waiting = waiting_in s' }
 entered s core' up' k false =
-    let s' = record s { core = core'; up = up'; refused = s.refused ++ k ∷ []; leaving = s.leaving ++ (k, None) ∷ [] } in
+    let s' = record s {
+      core = core';
+      up = up';
+      refused = s.refused ++ k ∷ [];
+      leaving =
+          s.leaving ++ (k, None) ∷ [];
+    } in
     record s' { waiting = waiting_in s' }

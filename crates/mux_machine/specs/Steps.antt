@@ -27,7 +27,8 @@ abbrev pub waiting_for : QueueState → List ClientState → ℕ → List ℕ
 waiting_for up cs t = if t == 0 then up.waiting else in_client [] (λ c. c.seat.queue) cs t
 
 -- a client came: it was let in, or refused and is to be closed
-pub record Receives (k : ℕ) (core core' : CoreState) (cs cs' : List ClientState) (refused refused' : List ℕ) (leaving leaving' : List (ℕ × Option Why)) : Type 0 where
+pub record Receives (k : ℕ) (core core' : CoreState) (cs cs' : List ClientState)
+    (refused refused' : List ℕ) (leaving leaving' : List (ℕ × Option Why)) : Type 0 where
   pub let_in : Bool
   pub enters : Enters k core core' cs cs' let_in
   pub clients_are : cs' ≡ (if let_in then cs ++ new_client k ∷ [] else cs)

@@ -96,8 +96,11 @@ pub fn receive(
     number: u64,
     core: &mut Core,
 ) -> Result<(), OutOfMemory>
-    ensures receives { OnOk result (Receives number core.old core.new clients.old.items clients.new.items refused.old refused.new leaving.old.items leaving.new.items) }
-    ensures listed { AreListed refused.old leaving.old.items → AreListed refused.new leaving.new.items }
+    ensures receives { OnOk result
+        (Receives number core.old core.new clients.old.items clients.new.items refused.old
+        refused.new leaving.old.items leaving.new.items) }
+    ensures listed { AreListed refused.old leaving.old.items
+        → AreListed refused.new leaving.new.items }
     ensures policy { core.new.policy ≡ core.old.policy }
 {
     if admit(clients, alloc, number, core)? {
@@ -113,7 +116,8 @@ pub fn note_loss(
     clients: &[Client],
     number: u64,
 ) -> Result<(), OutOfMemory>
-    ensures ok { OnOk result (leaving.new.items ≡ leaving.old.items ++ in_client [] (λ c. loss_in c.seat.standing number) clients.now number) }
+    ensures ok { OnOk result (leaving.new.items ≡ leaving.old.items
+        ++ in_client [] (λ c. loss_in c.seat.standing number) clients.now number) }
     ensures err { OnErr result (leaving.new.items ≡ leaving.old.items) }
 {
     let i = index_of(clients, number);
@@ -141,7 +145,8 @@ pub fn queue_at(clients: &[Client], number: u64) -> &[u8]
 pub fn take(up: &mut Queue, clients: &mut [Client], stream: u64, n: usize) -> bool
     requires { n ≤ length (waiting_for up.old clients.old stream) }
     ensures up { up.new ≡ (if stream == 0 then without_first n up.old else up.old) }
-    ensures clients { clients.new ≡ (if stream == 0 then clients.old else at_client stream (client_took n) clients.old) }
+    ensures clients { clients.new ≡ (if stream == 0 then clients.old
+        else at_client stream (client_took n) clients.old) }
     ensures left { result ≡ is_empty (waiting_for up.new clients.new stream) }
 {
     if stream == 0 {

@@ -58,9 +58,36 @@ impl Model for Engine {
 
     ghost Value = { State };
 
-    ghost view = { λ a. record { pid = a.pid; core = a.core; server = a.server; up = a.up; clients = a.clients.items; refused = a.refused; leaving = a.leaving.items; waiting = a.waiting; listening = a.listening; ended = a.ended; starved = a.starved } };
+    ghost view = { λ a. record {
+      pid = a.pid;
+      core = a.core;
+      server = a.server;
+      up = a.up;
+      clients = a.clients.items;
+      refused = a.refused;
+      leaving = a.leaving.items;
+      waiting =
+          a.waiting;
+      listening = a.listening;
+      ended = a.ended;
+      starved = a.starved;
+    } };
 
-    ghost invariant = { λ a. IsSound (record { pid = a.pid; core = a.core; server = a.server; up = a.up; clients = a.clients.items; refused = a.refused; leaving = a.leaving.items; waiting = a.waiting; listening = a.listening; ended = a.ended; starved = a.starved }) };
+    ghost invariant = { λ a.
+        IsSound (record {
+          pid = a.pid;
+          core = a.core;
+          server = a.server;
+          up = a.up;
+          clients = a.clients.items;
+          refused = a.refused;
+          leaving = a.leaving.items;
+          waiting =
+              a.waiting;
+          listening = a.listening;
+          ended = a.ended;
+          starved = a.starved;
+        }) };
 }
 
 fn went_by(ended: Option<Ended>) -> Went
@@ -110,10 +137,12 @@ impl Engine {
     /// with a number from 1 on, and all other events of clients name one that was accepted. Once there was no memory
     /// there is none for any later event.
     pub fn event<H: House>(&mut self, e: Event<'_>, house: &mut H) -> Result<Went, OutOfMemory>
-        ensures stands { OnOk result ((mark : TheMark) → Tells e.entry mark → GoesOn H.may (H.told house.old) (H.told house.new) self.old self.new mark) }
+        ensures stands { OnOk result ((mark : TheMark) → Tells e.entry mark
+            → GoesOn H.may (H.told house.old) (H.told house.new) self.old self.new mark) }
         ensures asks { AsksMore (H.told house.old) (H.told house.new) }
         ensures keeps { OnOk result (Keeps e.entry self.old self.new) }
-        ensures ends { OnOk result ((mark : TheMark) → Tells e.entry mark → EndsBy e.entry self.old self.new mark) }
+        ensures ends { OnOk result ((mark : TheMark) → Tells e.entry mark
+            → EndsBy e.entry self.old self.new mark) }
         ensures went { IfOk result (λ went. went ≡ went_of self.new.ended) }
         ensures starved { self.old.starved ≡ true → IsErr result }
         ensures err { OnErr result (self.new.starved ≡ true) }
@@ -138,10 +167,12 @@ impl Engine {
         requires goes { self.old.ended ≡ None }
         requires starved { self.old.starved ≡ true }
         requires ready { IsReady self.old }
-        ensures stands { OnOk result ((mark : TheMark) → Tells e.entry mark → GoesOn H.may (H.told house.old) (H.told house.new) self.old self.new mark) }
+        ensures stands { OnOk result ((mark : TheMark) → Tells e.entry mark
+            → GoesOn H.may (H.told house.old) (H.told house.new) self.old self.new mark) }
         ensures asks { AsksMore (H.told house.old) (H.told house.new) }
         ensures keeps { OnOk result (Keeps e.entry self.old self.new) }
-        ensures ends { OnOk result ((mark : TheMark) → Tells e.entry mark → EndsBy e.entry self.old self.new mark) }
+        ensures ends { OnOk result ((mark : TheMark) → Tells e.entry mark
+            → EndsBy e.entry self.old self.new mark) }
         ensures ready { OnOk result (self.new.ended ≡ None → IsReady self.new) }
         ensures starved { self.new.starved ≡ true }
     {
@@ -184,9 +215,13 @@ impl Engine {
         requires goes { self.old.ended ≡ None }
         requires starved { self.old.starved ≡ true }
         requires ready { IsReady self.old }
-        ensures gains { OnOk result (is_heard self.old.clients client ≡ true → GainsAt H.may (H.told house.old) (H.told house.new) self.old self.new client bytes.now) }
-        ensures stays { OnOk result (is_heard self.old.clients client ≡ false → self.new ≡ self.old) }
-        ensures untold { is_heard self.old.clients client ≡ false → H.told house.new ≡ H.told house.old }
+        ensures gains { OnOk result (is_heard self.old.clients client ≡ true
+            → GainsAt H.may (H.told house.old) (H.told house.new) self.old self.new client
+            bytes.now) }
+        ensures stays { OnOk result (is_heard self.old.clients client ≡ false
+            → self.new ≡ self.old) }
+        ensures untold { is_heard self.old.clients client ≡ false
+            → H.told house.new ≡ H.told house.old }
         ensures asks { AsksMore (H.told house.old) (H.told house.new) }
         ensures policy { OnOk result (self.new.core.policy ≡ self.old.core.policy) }
         ensures numbers { OnOk result (numbers self.new.clients ≡ numbers self.old.clients) }
@@ -215,8 +250,10 @@ impl Engine {
     fn lose(&mut self, client: u64) -> Result<(), OutOfMemory>
         requires starved { self.old.starved ≡ true }
         requires ready { IsReady self.old }
-        ensures loses { OnOk result (is_served self.old.clients client ≡ true → LosesAt self.old self.new client) }
-        ensures stays { OnOk result (is_served self.old.clients client ≡ false → self.new ≡ self.old) }
+        ensures loses { OnOk result (is_served self.old.clients client ≡ true
+            → LosesAt self.old self.new client) }
+        ensures stays { OnOk result (is_served self.old.clients client ≡ false
+            → self.new ≡ self.old) }
         ensures ready { OnOk result (IsReady self.new) }
         ensures starved { self.new.starved ≡ true }
     {
@@ -264,7 +301,11 @@ impl Engine {
     pub fn queue_of(&self, stream: u64) -> &[u8]
         ensures exact { result.now ≡ queue_in self.now stream }
         ensures bytes { AreBytes result.now }
-        ensures waits { (picked : List ℕ) (given : List TheReply) (marks : List TheMark) (closed : List ℕ) → Stands picked given self.now marks closed → among stream closed ≡ false → (picks : List ℕ) (replies : List TheReply) → result.now ≡ pending stream (log self.now (picked ++ picks) (given ++ replies) marks) }
+        ensures waits { (picked : List ℕ) (given : List TheReply) (marks : List TheMark)
+            (closed : List ℕ) → Stands picked given self.now marks closed
+            → among stream closed ≡ false → (picks : List ℕ) (replies : List TheReply)
+            → result.now ≡ pending stream
+            (log self.now (picked ++ picks) (given ++ replies) marks) }
     {
         // Named first: what a name holds is known to be bytes.
         let bytes = self.do_queue_of(stream);
@@ -284,7 +325,8 @@ impl Engine {
     pub fn took(&mut self, stream: u64, n: usize)
         requires { n ≤ length (queue_in self.old stream) }
         ensures exact { self.new ≡ taken self.old stream n }
-        ensures stands { (bytes : List ℕ) → length bytes ≡ n → GoesAlone self.old self.new (Takes stream bytes) }
+        ensures stands { (bytes : List ℕ) → length bytes ≡ n
+            → GoesAlone self.old self.new (Takes stream bytes) }
     {
         if take(&mut self.up, &mut self.clients, stream, n) {
             self.waiting.remove(stream);
@@ -294,7 +336,8 @@ impl Engine {
     /// How many bytes that a stream gave are not cut yet: less than the longest frame has, and none at the end of the run.
     pub fn rest_of(&self, stream: u64) -> usize
         ensures exact { result ≡ length (rest_in self.now stream) }
-        ensures short { (picked : List ℕ) (given : List TheReply) (marks : List TheMark) (closed : List ℕ) → Stands picked given self.now marks closed → result ≤ 262147 }
+        ensures short { (picked : List ℕ) (given : List TheReply) (marks : List TheMark)
+            (closed : List ℕ) → Stands picked given self.now marks closed → result ≤ 262147 }
     {
         if self.ended.is_some() {
             return 0;
@@ -308,8 +351,14 @@ impl Engine {
     /// The streams for which bytes wait: the server's first, then the clients' in the order in which they came.
     pub fn waiting(&self) -> &Streams
         ensures exact { result.now ≡ self.now.waiting }
-        ensures waits { (picked : List ℕ) (given : List TheReply) (marks : List TheMark) (closed : List ℕ) → Stands picked given self.now marks closed → (t : ℕ) → among t closed ≡ false → (picks : List ℕ) (replies : List TheReply) → among t result.now ≡ has_output (log self.now (picked ++ picks) (given ++ replies) marks) t }
-        ensures listed { (picked : List ℕ) (given : List TheReply) (marks : List TheMark) (closed : List ℕ) → Stands picked given self.now marks closed → result.now ≡ waiting_in self.now }
+        ensures waits { (picked : List ℕ) (given : List TheReply) (marks : List TheMark)
+            (closed : List ℕ) → Stands picked given self.now marks closed → (t : ℕ)
+            → among t closed ≡ false → (picks : List ℕ) (replies : List TheReply)
+            → among t result.now ≡ has_output
+            (log self.now (picked ++ picks) (given ++ replies) marks) t }
+        ensures listed { (picked : List ℕ) (given : List TheReply) (marks : List TheMark)
+            (closed : List ℕ) → Stands picked given self.now marks closed
+            → result.now ≡ waiting_in self.now }
     {
         &self.waiting
     }
@@ -317,7 +366,10 @@ impl Engine {
     /// Whether clients are to be accepted.
     pub fn listening(&self) -> bool
         ensures exact { result ≡ self.now.listening }
-        ensures stands { (picked : List ℕ) (given : List TheReply) (marks : List TheMark) (closed : List ℕ) → Stands picked given self.now marks closed → (picks : List ℕ) (replies : List TheReply) → result ≡ listens (log self.now (picked ++ picks) (given ++ replies) marks) }
+        ensures stands { (picked : List ℕ) (given : List TheReply) (marks : List TheMark)
+            (closed : List ℕ) → Stands picked given self.now marks closed
+            → (picks : List ℕ) (replies : List TheReply)
+            → result ≡ listens (log self.now (picked ++ picks) (given ++ replies) marks) }
     {
         self.listening
     }
@@ -332,7 +384,10 @@ impl Engine {
     /// How many clients have open matters, while the run goes on: channels, requests without a reply, forwardings, or a
     /// stream.
     pub fn open_matters(&self) -> u32
-        ensures stands { (picked : List ℕ) (given : List TheReply) (marks : List TheMark) (closed : List ℕ) → Stands picked given self.now marks closed → self.now.ended ≡ None → (picks : List ℕ) (replies : List TheReply) → result ≡ open_matters (log self.now (picked ++ picks) (given ++ replies) marks) }
+        ensures stands { (picked : List ℕ) (given : List TheReply) (marks : List TheMark)
+            (closed : List ℕ) → Stands picked given self.now marks closed → self.now.ended ≡ None
+            → (picks : List ℕ) (replies : List TheReply)
+            → result ≡ open_matters (log self.now (picked ++ picks) (given ++ replies) marks) }
     {
         self.core.open_matters()
     }
@@ -341,7 +396,11 @@ impl Engine {
     /// dropped, if it was.
     pub fn closing(&self) -> Option<(u64, Option<Why>)>
         ensures exact { result ≡ first_of self.now.leaving }
-        ensures stands { (picked : List ℕ) (given : List TheReply) (marks : List TheMark) (closed : List ℕ) → Stands picked given self.now marks closed → (picks : List ℕ) (replies : List TheReply) → result ≡ first_of (filter (not_closed closed) (losses (log self.now (picked ++ picks) (given ++ replies) marks))) }
+        ensures stands { (picked : List ℕ) (given : List TheReply) (marks : List TheMark)
+            (closed : List ℕ) → Stands picked given self.now marks closed
+            → (picks : List ℕ) (replies : List TheReply)
+            → result ≡ first_of (filter (not_closed closed)
+            (losses (log self.now (picked ++ picks) (given ++ replies) marks))) }
         ensures none { self.now.leaving ≡ [] → self.now.refused ≡ [] }
     {
         self.leaving.first().copied()

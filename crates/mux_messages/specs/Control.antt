@@ -41,8 +41,10 @@ GivesControl (Err e) reading = reading ≡ Err e
 abbrev pub ArePairs : List ℕ → ℕ → Type 0
 ArePairs bytes at =
     (pairs : List (List ℕ × List ℕ))
-    × ((next : List (List ℕ × List ℕ) → grammar.Control) → on_pairs (length bytes) bytes at next ≡ Ok (next pairs))
+    × ((next : List (List ℕ × List ℕ) → grammar.Control) → on_pairs (length bytes) bytes at next
+    ≡ Ok (next pairs))
 
 -- they are none, with that fault
 abbrev pub AreNoPairs : List ℕ → ℕ → BadControl → Type 0
-AreNoPairs bytes at fault = (next : List (List ℕ × List ℕ) → grammar.Control) → on_pairs (length bytes) bytes at next ≡ Err fault
+AreNoPairs bytes at fault = (next : List (List ℕ × List ℕ) → grammar.Control)
+    → on_pairs (length bytes) bytes at next ≡ Err fault

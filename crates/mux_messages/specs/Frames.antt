@@ -8,5 +8,9 @@ use Rattle.ssh_grammar.specs.Frames.{cut}
 
 -- the bytes are one control frame, and its body reads as the answer
 pub record Says (bytes : List ℕ) (answer : Answer) : Type 0 where
-  pub whole : cut framing.Control bytes ≡ record { frames = spell_answer answer ∷ []; rest = []; fault = None }
+  pub whole : cut framing.Control bytes ≡ record {
+    frames = spell_answer answer ∷ [];
+    rest = [];
+    fault = None;
+  }
   pub reads : read_answer (spell_answer answer) ≡ Some answer

@@ -27,7 +27,8 @@ fn id(fields: &mut FieldReader<'_>) -> Result<u32, BadControl>
 fn id_alone(fields: &mut FieldReader<'_>) -> Result<u32, BadControl>
     requires { fields.old.at ≡ 4 }
     ensures { (message : ℕ → List ℕ → grammar.Control)
-        → Gives (λ id. message id fields.new.cursor) result (read_unread message fields.old.cursor) }
+        → Gives (λ id. message id fields.new.cursor) result
+        (read_unread message fields.old.cursor) }
 {
     let id = fields.take_u32()?;
     Ok(id)
@@ -141,7 +142,8 @@ fn control(body: &[u8]) -> Result<Control<'_>, BadControl>
 /// fault's place.
 pub fn read_control(body: &[u8]) -> Result<Control<'_>, BadControl>
     // What is read is spelled so.
-    ensures spelled { IfOk result (λ c. (skipped : Skipped) × SpellsControl (control_of skipped c) body.now) }
+    ensures spelled { IfOk result (λ c. (skipped : Skipped)
+        × SpellsControl (control_of skipped c) body.now) }
     // What is spelled so is read.
     ensures only { (c : grammar.Control) → SpellsControl c body.now → GivesControl result (Ok c) }
     // Which fault it is.

@@ -24,7 +24,8 @@ is_given listens last streams blocked (Writable t) = among t streams && among t 
 
 -- the same in a state of the wire
 abbrev pub is_given_in : State → Step → Bool
-is_given_in state step = is_given state.listening state.last state.streams.now state.blocked.now step
+is_given_in state step =
+    is_given state.listening state.last state.streams.now state.blocked.now step
 
 -- a client can come only while there is a number above that of the last one
 abbrev pub FirstGives : ℕ → List Step → Type 0

@@ -22,7 +22,8 @@ steps_left w = steps_from w.steps w.place
 
 -- the steps that are left without those that are skipped now
 abbrev pub steps_ahead : ScriptWire → List Step
-steps_ahead w = from_first (is_given w.log.listens w.log.last w.log.streams w.log.blocked) (steps_left w)
+steps_ahead w = from_first (is_given w.log.listens w.log.last w.log.streams w.log.blocked)
+    (steps_left w)
 
 -- a turn is that of the next step that isn't skipped, and the place after it leaves those behind it
 pub record GivesStep (old : ScriptWire) (place : Place) (turn : Turn) (before after : List ℕ)

@@ -39,7 +39,8 @@ seen_after_open (Err e) seen = seen
 -- after a turn
 abbrev pub seen_after_turn : Turn → List ℕ → Want → List ℕ → Seen → Seen
 seen_after_turn turn waiting want bytes seen = record seen {
-  told = option_map (λ m. m ++ wait_marks turn waiting want seen.streams seen.listens bytes) seen.told;
+  told = option_map (λ m.
+      m ++ wait_marks turn waiting want seen.streams seen.listens bytes) seen.told;
   streams = open_after turn seen.streams;
   blocked = blocked_after turn seen.blocked;
   last = last_after turn seen.last;

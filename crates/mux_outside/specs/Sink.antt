@@ -17,7 +17,8 @@ Takes (Err Failed) before now bytes = TookPrefix before now bytes
 Takes (Err OutOfMemory) before now bytes = now ≡ before
 
 -- the same, where it is told
-abbrev pub TakesTold : Result (Unit {0}) FileError → Option (List ℕ) → Option (List ℕ) → List ℕ → Type 0
+abbrev pub TakesTold : Result (Unit {0}) FileError → Option (List ℕ) → Option (List ℕ)
+    → List ℕ → Type 0
 TakesTold answer None None bytes = Unit {0}
 TakesTold answer None (Some now) bytes = ⊥
 TakesTold answer (Some before) None bytes = ⊥

@@ -31,7 +31,8 @@ StreamFault t server server' client client' =
 -- the arguments that a call adds to those told: for want of memory none
 abbrev pub openings_of : Result (Unit {0}) FileError → List ℕ → List ℕ → List Opening
 openings_of (Ok x) control transport = record { control = control; transport = transport } ∷ []
-openings_of (Err FailedFile) control transport = record { control = control; transport = transport } ∷ []
+openings_of (Err FailedFile) control transport =
+    record { control = control; transport = transport } ∷ []
 openings_of (Err OutOfMemory) control transport = []
 
 -- where it failed, one of the counts rose and none fell
@@ -44,7 +45,8 @@ pub record SomeFault (server server' client client' : ℕ) : Type 0 where
 abbrev pub OpenFaults : Result (Unit {0}) FileError → ℕ → ℕ → ℕ → ℕ → Type 0
 OpenFaults (Ok x) server server' client client' = SameFaults server server' client client'
 OpenFaults (Err FailedFile) server server' client client' = SomeFault server server' client client'
-OpenFaults (Err OutOfMemory) server server' client client' = SameFaults server server' client client'
+OpenFaults (Err OutOfMemory) server server' client client' =
+    SameFaults server server' client client'
 
 -- ---- wait
 
@@ -144,7 +146,9 @@ blocked_after_write NoMemoryToWrite t blocked = blocked
 
 -- the counts after a write
 abbrev pub WroteFaults : Wrote → ℕ → ℕ → ℕ → ℕ → ℕ → Type 0
-WroteFaults FailedWrite t server server' client client' = StreamFault t server server' client client'
+WroteFaults FailedWrite t server server' client client' =
+    StreamFault t server server' client client'
 WroteFaults (Took n) t server server' client client' = SameFaults server server' client client'
 WroteFaults Later t server server' client client' = SameFaults server server' client client'
-WroteFaults NoMemoryToWrite t server server' client client' = SameFaults server server' client client'
+WroteFaults NoMemoryToWrite t server server' client client' =
+    SameFaults server server' client client'

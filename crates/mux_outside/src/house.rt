@@ -38,7 +38,8 @@ pub trait House {
     /// Opens a forwarding for a client, or closes one where `opening` is false.
     fn ask(&mut self, client: u64, opening: bool, what: &FwdAsk<'_>) -> HouseReply
         ensures may { may result }
-        ensures told { told self.new ≡ option_map (λ asks. asks ++ asked client opening what.now result ∷ [])
+        ensures told { told self.new
+            ≡ option_map (λ asks. asks ++ asked client opening what.now result ∷ [])
             (told self.old) };
 }
 

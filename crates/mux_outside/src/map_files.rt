@@ -50,7 +50,8 @@ fn read_first(
     path: &[u8],
     most: usize,
 ) -> Result<Option<Text>, OutOfMemory>
-    ensures { IfOk result (λ found. found ≡ option_map (take most) (content_at files.now path.now)) }
+    ensures { IfOk result (λ found.
+        found ≡ option_map (take most) (content_at files.now path.now)) }
 {
     if is_directory(files, path) {
         return Ok(None);

@@ -55,7 +55,8 @@ fn is_given(step: &Step, offset: usize, state: State<'_>) -> bool
 
 /// The first place from this one on whose step isn't skipped.
 pub fn find(steps: &[Step], place: Place, state: State<'_>) -> Place
-    ensures { steps_from steps.now result ≡ from_first (is_given_in state.entry) (steps_from steps.now place) }
+    ensures { steps_from steps.now result
+        ≡ from_first (is_given_in state.entry) (steps_from steps.now place) }
 {
     let mut offset = place.offset;
     for step in place.step..steps.len() {

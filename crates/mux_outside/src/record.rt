@@ -73,7 +73,8 @@ pub fn record_write(
     bytes: &[u8],
 ) -> Result<(), OutOfMemory>
     requires { WroteFits wrote (length bytes.now) }
-    ensures ok { OnOk result (marks.new.items ≡ marks.old.items ++ write_marks wrote stream bytes.now) }
+    ensures ok { OnOk result (marks.new.items ≡ marks.old.items
+        ++ write_marks wrote stream bytes.now) }
     ensures blocks { OnOk result (blocked.new ≡ blocked_after_write wrote stream blocked.old) }
     ensures err { OnErr result (marks.new.items ≡ marks.old.items) }
     ensures err_blocked { OnErr result (blocked.new ≡ blocked.old) }

@@ -20,7 +20,8 @@ pub trait Runner {
     /// The status with which a command of the shell ends.
     fn run(&mut self, command: &[u8]) -> Result<u8, FileError>
         ensures status { EndsWith (told self.old) command.now result }
-        ensures ran { ran self.new ≡ option_map (λ cs. cs ++ commands_run result command.now) (ran self.old) }
+        ensures ran { ran self.new ≡ option_map (λ cs. cs ++ commands_run result command.now)
+            (ran self.old) }
         ensures cause { HasCause result (faults self.old) (faults self.new) }
         ensures told { told self.new ≡ told self.old };
 }

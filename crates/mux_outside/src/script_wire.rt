@@ -70,9 +70,11 @@ impl ScriptWire {
         requires waiting_open { All (λ t. IsTrue (among t self.now.log.streams)) waiting.now }
         requires server { IsTrue (among 0 self.now.log.streams) }
         requires some { want ≡ WriteOnly → 0 < length waiting.now }
-        ensures turn { TurnFits result.turn want self.now.log.listens self.now.log.last self.now.log.streams
+        ensures turn { TurnFits result.turn want self.now.log.listens self.now.log.last
+            self.now.log.streams
             self.now.log.blocked into.new }
-        ensures script { GivesAt want waiting.now self.now result.place result.turn into.old into.new }
+        ensures script { GivesAt want waiting.now self.now result.place result.turn
+            into.old into.new }
     {
         match want {
             Want::Read => {
@@ -133,10 +135,12 @@ impl Wire for ScriptWire {
         requires waiting_open { All (λ t. IsTrue (among t self.old.log.streams)) waiting.now }
         requires server { IsTrue (among 0 self.old.log.streams) }
         requires some { want ≡ WriteOnly → 0 < length waiting.now }
-        ensures turn { TurnFits result want self.old.log.listens self.old.log.last self.old.log.streams
+        ensures turn { TurnFits result want self.old.log.listens self.old.log.last
+            self.old.log.streams
             self.old.log.blocked into.new }
         ensures openings { Some self.new.log.openings ≡ Some self.old.log.openings }
-        ensures seen { seen_in self.new.log ≡ seen_after_turn result waiting.now want into.new (seen_in self.old.log) }
+        ensures seen { seen_in self.new.log ≡ seen_after_turn result waiting.now want into.new
+            (seen_in self.old.log) }
         ensures calls { self.new.log.calls ≡ calls_after_wait result self.old.log.calls }
         ensures cause { TurnFaults result self.old.log.server_faults self.new.log.server_faults
             self.old.log.client_faults self.new.log.client_faults }
@@ -163,11 +167,14 @@ impl Wire for ScriptWire {
         requires some { 0 < length bytes.now }
         ensures wrote { WroteFits result (length bytes.now) }
         ensures openings { Some self.new.log.openings ≡ Some self.old.log.openings }
-        ensures seen { seen_in self.new.log ≡ seen_after_write result stream bytes.now (seen_in self.old.log) }
+        ensures seen { seen_in self.new.log
+            ≡ seen_after_write result stream bytes.now (seen_in self.old.log) }
         ensures calls { self.new.log.calls ≡ calls_after_write result self.old.log.calls }
-        ensures cause { WroteFaults result stream self.old.log.server_faults self.new.log.server_faults
+        ensures cause { WroteFaults result stream self.old.log.server_faults
+            self.new.log.server_faults
             self.old.log.client_faults self.new.log.client_faults }
-        ensures script { result ≢ NoMemoryToWrite → FollowsEntry (length bytes.now) self.old self.new result }
+        ensures script { result ≢ NoMemoryToWrite
+            → FollowsEntry (length bytes.now) self.old self.new result }
         ensures err { result ≡ NoMemoryToWrite → KeepsWrites self.old self.new }
         ensures others { KeepsSteps self.old self.new × KeepsOpens self.old self.new }
     {

@@ -38,7 +38,8 @@ pub trait Wire {
 
     /// Listens at the path of the control socket, and connects stream 0 to the transport.
     fn open(&mut self, control: &[u8], transport: &[u8]) -> Result<(), FileError>
-        ensures openings { openings self.new ≡ option_map (λ os. os ++ openings_of result control.now transport.now)
+        ensures openings { openings self.new
+            ≡ option_map (λ os. os ++ openings_of result control.now transport.now)
             (openings self.old) }
         ensures seen { seen self.new ≡ seen_after_open result (seen self.old) }
         ensures calls { calls self.new ≡ calls self.old }
@@ -55,7 +56,8 @@ pub trait Wire {
         ensures turn { TurnFits result want (seen self.old).listens (seen self.old).last
             (seen self.old).streams (seen self.old).blocked into.new }
         ensures openings { openings self.new ≡ openings self.old }
-        ensures seen { seen self.new ≡ seen_after_turn result waiting.now want into.new (seen self.old) }
+        ensures seen { seen self.new ≡ seen_after_turn result waiting.now want into.new
+            (seen self.old) }
         ensures calls { calls self.new ≡ calls_after_wait result (calls self.old) }
         ensures cause { TurnFaults result (server_faults self.old) (server_faults self.new)
             (client_faults self.old) (client_faults self.new) }

@@ -159,7 +159,8 @@ impl WireLog {
     ) -> Result<(), OutOfMemory>
         ensures openings { self.new.openings ≡ self.old.openings }
         ensures seen { seen_in self.new
-            ≡ seen_after_turn (turn_kept result turn) waiting.now want bytes.now (seen_in self.old) }
+            ≡ seen_after_turn (turn_kept result turn) waiting.now want bytes.now
+            (seen_in self.old) }
         ensures calls { self.new.calls ≡ calls_after_wait (turn_kept result turn) self.old.calls }
         ensures cause { TurnFaults (turn_kept result turn) self.old.server_faults
             self.new.server_faults self.old.client_faults self.new.client_faults }
@@ -200,7 +201,8 @@ impl WireLog {
         ensures openings { self.new.openings ≡ self.old.openings }
         ensures seen { seen_in self.new
             ≡ seen_after_write (answer_kept result wrote) stream bytes.now (seen_in self.old) }
-        ensures calls { self.new.calls ≡ calls_after_write (answer_kept result wrote) self.old.calls }
+        ensures calls { self.new.calls ≡ calls_after_write (answer_kept result wrote)
+            self.old.calls }
         ensures cause { WroteFaults (answer_kept result wrote) stream self.old.server_faults
             self.new.server_faults self.old.client_faults self.new.client_faults }
     {

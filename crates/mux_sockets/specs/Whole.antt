@@ -4,7 +4,8 @@ use Rattle.mux_outside.specs.declared.file_error.FileError.{FileError}
 use Rattle.mux_outside.specs.Sink.{Takes}
 
 -- all bytes were added behind those that it held, and after a fault a prefix of them
-abbrev pub WritesWhole : Result (Unit {0}) FileError → Option (List ℕ) → Option (List ℕ) → List ℕ → Type 0
+abbrev pub WritesWhole : Result (Unit {0}) FileError → Option (List ℕ) → Option (List ℕ)
+    → List ℕ → Type 0
 WritesWhole answer None now bytes = Unit {0}
 WritesWhole answer (Some before) None bytes = ⊥
 WritesWhole answer (Some before) (Some now) bytes = Takes answer before now bytes

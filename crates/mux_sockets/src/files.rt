@@ -97,7 +97,8 @@ fn read_file<R: System>(
 // The first bytes that a reader gives.
 fn read_first<F: Read + Drop>(file: F, alloc: Global, most: usize) -> Result<Text, FileError>
     ensures at_most { IfOk result (λ text. length text ≤ most) }
-    ensures first { IfOk result (λ text. IfSome (F.remaining file) (λ left. text ≡ take most left)) }
+    ensures first { IfOk result (λ text.
+        IfSome (F.remaining file) (λ left. text ≡ take most left)) }
 {
     let mut bytes = Vec::new(alloc);
     let mut front = file.take(most as u64);

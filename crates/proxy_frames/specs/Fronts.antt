@@ -24,14 +24,16 @@ HasNoPadding Proxy [] = ⊤
 HasNoPadding Proxy (b ∷ behind) = b ≡ 0
 
 -- a length field in range, no padding, and fewer bytes than the length says
-pub record IsUnfinished (framing : Framing) (bytes : List ℕ) (n : ℕ) (behind : List ℕ) : Type 0 where
+pub record IsUnfinished (framing : Framing) (bytes : List ℕ) (n : ℕ) (behind : List ℕ) :
+    Type 0 where
   pub header : IsHeader framing bytes n behind
   pub padding : HasNoPadding framing behind
   pub short : length behind < n
 
 -- less than a whole frame: less than a length field, or a whole one and less than the rest of its frame
 abbrev pub IsPartial : Framing → List ℕ → Type 0
-IsPartial framing bytes = (length bytes < 4) ⊎ ((n : ℕ) × (behind : List ℕ) × IsUnfinished framing bytes n behind)
+IsPartial framing bytes = (length bytes < 4)
+    ⊎ ((n : ℕ) × (behind : List ℕ) × IsUnfinished framing bytes n behind)
 
 -- a proper prefix of a frame, whatever length its field says
 pub record IsPrefix (framing : Framing) (bytes : List ℕ) : Type 0 where
@@ -43,10 +45,13 @@ pub record IsPrefix (framing : Framing) (bytes : List ℕ) : Type 0 where
 
 -- a fault: a length field out of range, or a padding length behind one that is in range
 abbrev pub IsFault : Framing → List ℕ → BadFrame → Type 0
-IsFault framing bytes (bad.Long n) = (behind : List ℕ) × (take_u32 bytes ≡ Some (n, behind)) × (LONGEST_FRAME < n)
-IsFault framing bytes (bad.Short n) = (behind : List ℕ) × (take_u32 bytes ≡ Some (n, behind)) × (n < shortest framing)
+IsFault framing bytes (bad.Long n) = (behind : List ℕ) × (take_u32 bytes ≡ Some (n, behind))
+    × (LONGEST_FRAME < n)
+IsFault framing bytes (bad.Short n) = (behind : List ℕ) × (take_u32 bytes ≡ Some (n, behind))
+    × (n < shortest framing)
 IsFault framing bytes (bad.Padding b) =
-    (n : ℕ) × (behind : List ℕ) × (framing ≡ Proxy) × (b ≢ 0) × IsHeader framing bytes n (b ∷ behind)
+    (n : ℕ) × (behind : List ℕ) × (framing ≡ Proxy) × (b ≢ 0)
+    × IsHeader framing bytes n (b ∷ behind)
 
 -- ---- what a framer is answered
 
@@ -63,6 +68,7 @@ HasFault f fault = (f.fault ≡ Some fault) ⊎ ((f.fault ≡ None) × IsFault f
 -- so many bytes of header and so many of content, less than a frame, or a fault
 abbrev pub IsPiece : List ℕ → Piece → Front → Type 0
 IsPiece bytes (piece.Frame header n) front =
-    (header + n ≤ length bytes) × (front ≡ Frame (take n (drop header bytes)) (drop n (drop header bytes)))
+    (header + n ≤ length bytes)
+    × (front ≡ Frame (take n (drop header bytes)) (drop n (drop header bytes)))
 IsPiece bytes piece.More front = front ≡ More
 IsPiece bytes (piece.Bad fault) front = front ≡ Faulty fault

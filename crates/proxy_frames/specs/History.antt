@@ -51,7 +51,12 @@ and_fault fault h = record h { told = Some fault }
 -- from now on the bytes that are left are cut so; after a fault nothing is
 abbrev pub and_switch : Framing → History → History
 and_switch framing h =
-    once_told h.told (λ _. h) (record { framing = framing; bytes = left h; given = []; told = None })
+    once_told h.told (λ _. h) (record {
+      framing = framing;
+      bytes = left h;
+      given = [];
+      told = None;
+    })
 
 -- ---- what is next
 

@@ -27,7 +27,8 @@ PiecesGiveTheCut =
 abbrev pub AnyPiecesGiveTheSame : Type 0
 AnyPiecesGiveTheSame =
     (framing : Framing) (pieces others : List (List ℕ)) → stream_of pieces ≡ stream_of others
-    → cut_taken (taken_of (new_framer framing) pieces) ≡ cut_taken (taken_of (new_framer framing) others)
+    → cut_taken (taken_of (new_framer framing) pieces)
+    ≡ cut_taken (taken_of (new_framer framing) others)
 
 -- whenever frames are taken: the frames given and those to come, the rest and the fault behind them
 pub record AreAlike (h i : History) (f g : FramerState) : Type 0 where
@@ -54,14 +55,17 @@ NothingIsLost =
 abbrev pub SwitchedIsSaid : Type 0
 SwitchedIsSaid =
     (h : History) (f : FramerState) (bodies : List (List ℕ)) (last more : List ℕ) → StandsFor h f
-    → h.framing ≡ framing.Control → h.given ≡ bodies ++ last ∷ [] → KeepControl bodies → after_body last ≡ InProxy
-    → said (h.bytes ++ more) ≡ map Body bodies ++ (Body last ∷ says framing.Proxy Payload (left h ++ more))
+    → h.framing ≡ framing.Control → h.given ≡ bodies ++ last ∷ [] → KeepControl bodies
+    → after_body last ≡ InProxy
+    → said (h.bytes ++ more) ≡ map Body bodies
+    ++ (Body last ∷ says framing.Proxy Payload (left h ++ more))
 
 -- ---- at the front
 
 -- more is wanted exactly where less than a whole frame is there
 abbrev pub MoreIsPartial : Type 0
-MoreIsPartial = (framing : Framing) (bytes : List ℕ) → (first_frame framing bytes ≡ More) ↔ IsPartial framing bytes
+MoreIsPartial = (framing : Framing) (bytes : List ℕ)
+    → (first_frame framing bytes ≡ More) ↔ IsPartial framing bytes
 
 -- that is a proper prefix of a frame in which no fault is seen yet
 abbrev pub MoreIsPrefix : Type 0
@@ -87,7 +91,8 @@ FaultsStay =
 -- frames that were queued are cut one by one, and then what follows them
 abbrev pub QueuedFramesAreCut : Type 0
 QueuedFramesAreCut =
-    (framing : Framing) (contents : List (List ℕ)) (rest : List ℕ) → AllByRecursion (IsContent framing) contents
+    (framing : Framing) (contents : List (List ℕ)) (rest : List ℕ)
+    → AllByRecursion (IsContent framing) contents
     → cut framing (joined framing contents ++ rest) ≡ behind contents (cut framing rest)
 
 -- ---- in a frame
@@ -95,11 +100,13 @@ QueuedFramesAreCut =
 -- what is written there, byte for byte, changes nothing else
 abbrev pub WritingChangesTheFrame : Type 0
 WritingChangesTheFrame =
-    (f : FramerState) (content written : List ℕ) → f.current ≡ Some content → length written ≡ length content
+    (f : FramerState) (content written : List ℕ) → f.current ≡ Some content
+    → length written ≡ length content
     → with_written f written ≡ record f { current = Some written }
 
 -- and the framer stands for what it stood for
 abbrev pub WritingKeepsTheHistory : Type 0
 WritingKeepsTheHistory =
-    (h : History) (f : FramerState) (content written : List ℕ) → f.current ≡ Some content → length written ≡ length content
+    (h : History) (f : FramerState) (content written : List ℕ) → f.current ≡ Some content
+    → length written ≡ length content
     → StandsFor h f → StandsFor h (with_written f written)

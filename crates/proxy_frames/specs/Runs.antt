@@ -15,7 +15,8 @@ and_taken frames t = record { frames = frames ++ t.frames; framer = t.framer }
 
 -- a frame is taken, and then the others; where there is none, nothing more is
 abbrev pub taken_front : (FramerState → Taken) → FramerState → Front → Taken
-taken_front go f (Frame content rest) = and_taken (content ∷ []) (go (after_front (Frame content rest) f))
+taken_front go f (Frame content rest) =
+    and_taken (content ∷ []) (go (after_front (Frame content rest) f))
 taken_front go f More = record { frames = []; framer = after_front More f }
 taken_front go f (Faulty fault) = record { frames = []; framer = after_front (Faulty fault) f }
 
@@ -31,7 +32,8 @@ taken f = taken_by (length f.rest + 1) f
 -- of each piece, all frames that are there then
 abbrev pub taken_of : FramerState → List (List ℕ) → Taken
 taken_of f [] = record { frames = []; framer = f }
-taken_of f (piece ∷ pieces) = and_taken (taken (pushed piece f)).frames (taken_of (taken (pushed piece f)).framer pieces)
+taken_of f (piece ∷ pieces) =
+    and_taken (taken (pushed piece f)).frames (taken_of (taken (pushed piece f)).framer pieces)
 
 -- the bytes of all pieces
 abbrev pub stream_of : List (List ℕ) → List ℕ

@@ -55,4 +55,8 @@ frame_of f = elim f.current [ None ↦ [] | Some content ↦ content ]
 abbrev pub with_written : FramerState → List ℕ → FramerState
 with_written f written =
     let all = over written (frame_of f ++ f.rest) in
-    record f { rest = drop (length (frame_of f)) all; current = Some (take (length (frame_of f)) all) }
+    record f {
+      rest = drop (length (frame_of f)) all;
+      current =
+          Some (take (length (frame_of f)) all);
+    }

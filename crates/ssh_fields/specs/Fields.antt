@@ -49,7 +49,10 @@ take_u32 _ = None
 
 -- so many bytes
 abbrev pub split_at : ℕ → List ℕ → Option (List ℕ × List ℕ)
-split_at n bytes = elim (nat_le n (length bytes)) [ true ↦ Some (take n bytes, drop n bytes) | false ↦ None ]
+split_at n bytes = elim (nat_le n (length bytes)) [
+  | true ↦ Some (take n bytes, drop n bytes)
+  | false ↦ None
+]
 
 -- string
 abbrev pub take_str : List ℕ → Option (List ℕ × List ℕ)

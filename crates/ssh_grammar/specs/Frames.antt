@@ -36,12 +36,16 @@ pub data Front : Type 0 where
 
 -- so many bytes, as soon as they are there
 abbrev pub cut_content : ℕ → List ℕ → Front
-cut_content n rest = elim (nat_le n (length rest)) [ true ↦ Frame (take n rest) (drop n rest) | false ↦ More ]
+cut_content n rest = elim (nat_le n (length rest)) [
+  | true ↦ Frame (take n rest) (drop n rest)
+  | false ↦ More
+]
 
 -- the padding length comes first
 abbrev pub cut_padding : ℕ → List ℕ → Front
 cut_padding n [] = More
-cut_padding n (b ∷ rest) = elim (nat_eq b 0) [ true ↦ cut_content (n - 1) rest | false ↦ Faulty (bad.Padding b) ]
+cut_padding n (b ∷ rest) =
+    elim (nat_eq b 0) [ true ↦ cut_content (n - 1) rest | false ↦ Faulty (bad.Padding b) ]
 
 -- the least length field
 abbrev pub shortest : Framing → ℕ
@@ -58,12 +62,16 @@ abbrev pub cut_length : Framing → ℕ → List ℕ → Front
 cut_length framing n rest =
     elim (nat_lt n (shortest framing)) [
       | true ↦ Faulty (bad.Short n)
-      | false ↦ elim (nat_lt LONGEST_FRAME n) [ true ↦ Faulty (bad.Long n) | false ↦ cut_rest framing n rest ]
+      | false ↦ elim (nat_lt LONGEST_FRAME n) [
+        | true ↦ Faulty (bad.Long n)
+        | false ↦ cut_rest framing n rest
+      ]
     ]
 
 -- the front, by its length field
 abbrev pub first_frame : Framing → List ℕ → Front
-first_frame framing bytes = elim (take_u32 bytes) [ None ↦ More | Some p ↦ cut_length framing p.0 p.1 ]
+first_frame framing bytes =
+    elim (take_u32 bytes) [ None ↦ More | Some p ↦ cut_length framing p.0 p.1 ]
 
 -- all frames of some bytes: what they hold, the bytes after the last one, and the fault of those bytes, if any
 pub record Cut : Type 0 where

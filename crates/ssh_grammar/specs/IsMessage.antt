@@ -29,7 +29,8 @@ IsGlobal name rest (Forward key) = (name ≡ forward_name_of key) × IsKey rest 
 IsGlobal name rest (Cancel key) = (name ≡ cancel_name_of key) × IsKey rest key
 IsGlobal name rest KeepAlive = name ≡ keepalive_name
 IsGlobal name rest OtherName =
-    (name ≢ forward_name) × (name ≢ cancel_name) × (name ≢ forward_path_name) × (name ≢ cancel_path_name) × (name ≢ keepalive_name)
+    (name ≢ forward_name) × (name ≢ cancel_name) × (name ≢ forward_path_name)
+    × (name ≢ cancel_path_name) × (name ≢ keepalive_name)
 
 -- data that is a key, and a text and a number: those of an originator, or reserved ones
 pub record IsEnds (rest : List ℕ) (key : Key) : Type 0 where
@@ -58,7 +59,8 @@ IsOpens kind rest Session = kind ≡ session_type
 IsOpens kind rest (Direct key) = (kind ≡ direct_type_of key) × IsEnds rest key
 IsOpens kind rest (Forwarded key) = (kind ≡ forwarded_type_of key) × IsForwarded rest key
 IsOpens kind rest OtherType =
-    (kind ≢ session_type) × (kind ≢ direct_type) × (kind ≢ forwarded_type) × (kind ≢ direct_path_type) × (kind ≢ forwarded_path_type)
+    (kind ≢ session_type) × (kind ≢ direct_type) × (kind ≢ forwarded_type)
+    × (kind ≢ direct_path_type) × (kind ≢ forwarded_path_type)
 
 abbrev pub IsPlain : PlainMessage → Type 0
 IsPlain (Transport n rest) = (number.DISCONNECT ≤ n) × (n ≤ number.DEBUG)
@@ -69,8 +71,10 @@ IsPlain (Open kind sender window maximum rest what) =
     IsString kind × IsNumber sender × IsNumber window × IsNumber maximum × IsOpens kind rest what
 
 abbrev pub IsChannelMessage : ChannelMessage → Type 0
-IsChannelMessage (Confirmation sender window maximum rest) = IsNumber sender × IsNumber window × IsNumber maximum
-IsChannelMessage (OpenFailure reason text language) = IsNumber reason × IsString text × IsString language
+IsChannelMessage (Confirmation sender window maximum rest) = IsNumber sender × IsNumber window
+    × IsNumber maximum
+IsChannelMessage (OpenFailure reason text language) = IsNumber reason × IsString text
+    × IsString language
 IsChannelMessage (Adjust add) = IsNumber add
 IsChannelMessage (Data bytes) = IsString bytes
 IsChannelMessage (Extended code bytes) = IsNumber code × IsString bytes

@@ -37,7 +37,8 @@ NoPayloadForTwo = (a b : Message) → IsMessage a → IsMessage b → spell a �
 abbrev pub NumbersStand : Type 0
 NumbersStand =
     (p : List ℕ) → AreBytes p
-    → IfOk (read_message p) (λ m. Stands (recipient_of m) (recipient_place m) p × Stands (sender_of m) (sender_place m) p)
+    → IfOk (read_message p) (λ m. Stands (recipient_of m) (recipient_place m) p
+    × Stands (sender_of m) (sender_place m) p)
 
 -- with one number replaced in place, a payload reads as the same message but for that number
 abbrev pub RecipientIsReplaced : Type 0
@@ -53,14 +54,16 @@ SenderIsReplaced =
 -- ---- control messages
 
 abbrev pub ControlsAreSpelledSo : Type 0
-ControlsAreSpelledSo = (body : List ℕ) → AreBytes body → IfOk (read_control body) (λ c. SpellsControl c body)
+ControlsAreSpelledSo = (body : List ℕ) → AreBytes body
+    → IfOk (read_control body) (λ c. SpellsControl c body)
 
 abbrev pub ControlsReadBack : Type 0
 ControlsReadBack = (c : Control) (body : List ℕ) → SpellsControl c body → read_control body ≡ Ok c
 
 -- no body is written for two control messages
 abbrev pub NoBodyForTwo : Type 0
-NoBodyForTwo = (a b : Control) → IsControl a → IsControl b → spell_control a ≡ spell_control b → a ≡ b
+NoBodyForTwo = (a b : Control) → IsControl a → IsControl b
+    → spell_control a ≡ spell_control b → a ≡ b
 
 -- ---- answers
 
@@ -70,17 +73,20 @@ AnswersReadBack = (a : Answer) → IsAnswer a → read_answer (spell_answer a) �
 
 -- no body is written for two answers
 abbrev pub NoBodyForTwoAnswers : Type 0
-NoBodyForTwoAnswers = (a b : Answer) → IsAnswer a → IsAnswer b → spell_answer a ≡ spell_answer b → a ≡ b
+NoBodyForTwoAnswers = (a b : Answer) → IsAnswer a → IsAnswer b
+    → spell_answer a ≡ spell_answer b → a ≡ b
 
 -- ---- frames
 
 -- a cut gives the longest list of valid frames that is a front of the bytes, and no other list is that
 abbrev pub CutIsLongest : Type 0
-CutIsLongest = (framing : Framing) (bytes : List ℕ) → AreBytes bytes → Cuts framing bytes (cut framing bytes)
+CutIsLongest = (framing : Framing) (bytes : List ℕ) → AreBytes bytes
+    → Cuts framing bytes (cut framing bytes)
 
 abbrev pub NoOtherCut : Type 0
 NoOtherCut =
-    (framing : Framing) (bytes : List ℕ) (frames : List (List ℕ)) (rest : List ℕ) (fault : Option BadFrame)
+    (framing : Framing) (bytes : List ℕ) (frames : List (List ℕ)) (rest : List ℕ)
+    (fault : Option BadFrame)
     → Cuts framing bytes (record { frames = frames; rest = rest; fault = fault })
     → cut framing bytes ≡ record { frames = frames; rest = rest; fault = fault }
 
@@ -110,7 +116,8 @@ faults (Some fault) = BadFraming fault ∷ []
 
 -- all frames of some bytes, and then their fault
 abbrev pub says : Framing → (List ℕ → Saying) → List ℕ → List Saying
-says framing saying bytes = map saying (cut framing bytes).frames ++ faults (cut framing bytes).fault
+says framing saying bytes = map saying (cut framing bytes).frames
+    ++ faults (cut framing bytes).fault
 
 -- control messages after which control messages are read
 abbrev pub KeepControl : List (List ℕ) → Type 0

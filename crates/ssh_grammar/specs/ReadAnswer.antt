@@ -25,7 +25,8 @@ abbrev pub read_two : (ℕ → ℕ → Answer) → List ℕ → Option Answer
 read_two answer rest = on_u32 rest (λ id rest. on_u32 rest (λ n rest. on_end rest (answer id n)))
 
 abbrev pub read_reason : (ℕ → List ℕ → Answer) → List ℕ → Option Answer
-read_reason answer rest = on_u32 rest (λ id rest. on_str rest (λ reason rest. on_end rest (answer id reason)))
+read_reason answer rest =
+    on_u32 rest (λ id rest. on_str rest (λ reason rest. on_end rest (answer id reason)))
 
 abbrev pub forms : List (ℕ × (List ℕ → Option Answer))
 forms =

@@ -13,11 +13,16 @@ Reading = Result Control BadControl
 
 -- a number
 abbrev pub on_u32 : List ℕ → ℕ → (ℕ → List ℕ → ℕ → Reading) → Reading
-on_u32 bytes at next = elim (take_u32 bytes) [ None ↦ Err (bad.Short at) | Some p ↦ next p.0 p.1 (at + 4) ]
+on_u32 bytes at next =
+    elim (take_u32 bytes) [ None ↦ Err (bad.Short at) | Some p ↦ next p.0 p.1 (at + 4) ]
 
 -- a string
 abbrev pub on_str : List ℕ → ℕ → (List ℕ → List ℕ → ℕ → Reading) → Reading
-on_str bytes at next = elim (take_str bytes) [ None ↦ Err (bad.Short at) | Some p ↦ next p.0 p.1 (at + 4 + length p.0) ]
+on_str bytes at next =
+    elim (take_str bytes) [
+      | None ↦ Err (bad.Short at)
+      | Some p ↦ next p.0 p.1 (at + 4 + length p.0)
+    ]
 
 -- nothing is left over
 abbrev pub on_end : List ℕ → ℕ → Control → Reading
@@ -36,7 +41,9 @@ read_unread message rest = on_u32 rest 4 (λ id rest at. Ok (message id rest))
 abbrev pub on_pairs : ℕ → List ℕ → ℕ → (List (List ℕ × List ℕ) → Control) → Reading
 on_pairs zero rest at next = on_end rest at (next [])
 on_pairs (suc n) [] at next = Ok (next [])
-on_pairs (suc n) (b ∷ rest) at next = on_str (b ∷ rest) at (λ name rest at. on_str rest at (λ value rest at. on_pairs n rest at (λ pairs. next ((name, value) ∷ pairs))))
+on_pairs (suc n) (b ∷ rest) at next =
+    on_str (b ∷ rest) at (λ name rest at.
+    on_str rest at (λ value rest at. on_pairs n rest at (λ pairs. next ((name, value) ∷ pairs))))
 
 -- a version and extensions
 abbrev pub read_hello : List ℕ → Reading
@@ -48,7 +55,14 @@ read_forward message rest =
     on_u32 rest 4 (λ id rest at. on_u32 rest at (λ kind rest at.
     on_str rest at (λ listen_host rest at. on_u32 rest at (λ listen_port rest at.
     on_str rest at (λ connect_host rest at. on_u32 rest at (λ connect_port rest at.
-    on_end rest at (message id (record { kind = kind; listen_host = listen_host; listen_port = listen_port; connect_host = connect_host; connect_port = connect_port }))))))))
+    on_end rest at (message id
+    (record {
+      kind = kind;
+      listen_host = listen_host;
+      listen_port = listen_port;
+      connect_host = connect_host;
+      connect_port = connect_port;
+    }))))))))
 
 -- how each type is read
 abbrev pub forms : List (ℕ × (List ℕ → Reading))
@@ -66,7 +80,11 @@ forms =
 
 -- a type that no client says, and the id after it, if there is one
 abbrev pub read_unknown : ℕ → List ℕ → Reading
-read_unknown kind rest = elim (take_u32 rest) [ None ↦ Err (bad.Unknown kind None) | Some p ↦ Err (bad.Unknown kind (Some p.0)) ]
+read_unknown kind rest =
+    elim (take_u32 rest) [
+      | None ↦ Err (bad.Unknown kind None)
+      | Some p ↦ Err (bad.Unknown kind (Some p.0))
+    ]
 
 -- the control message that a body is, or why it is none
 abbrev pub read_control : List ℕ → Reading

@@ -16,11 +16,13 @@ Reading A = Result A Bad
 
 -- a boolean
 abbrev pub on_bool : {A : Type 0} → List ℕ → ℕ → (Bool → List ℕ → ℕ → Reading A) → Reading A
-on_bool bytes at next = elim (take_bool bytes) [ None ↦ Err (bad.Short at) | Some p ↦ next p.0 p.1 (at + 1) ]
+on_bool bytes at next =
+    elim (take_bool bytes) [ None ↦ Err (bad.Short at) | Some p ↦ next p.0 p.1 (at + 1) ]
 
 -- a number
 abbrev pub on_u32 : {A : Type 0} → List ℕ → ℕ → (ℕ → List ℕ → ℕ → Reading A) → Reading A
-on_u32 bytes at next = elim (take_u32 bytes) [ None ↦ Err (bad.Short at) | Some p ↦ next p.0 p.1 (at + 4) ]
+on_u32 bytes at next =
+    elim (take_u32 bytes) [ None ↦ Err (bad.Short at) | Some p ↦ next p.0 p.1 (at + 4) ]
 
 -- a string
 abbrev pub on_str : {A : Type 0} → List ℕ → ℕ → (List ℕ → List ℕ → ℕ → Reading A) → Reading A
@@ -39,7 +41,8 @@ on_end (b ∷ bytes) at m = Err (bad.Extra at)
 -- an address and a port, and nothing after them
 abbrev pub read_key : List ℕ → ℕ → (Key → Global) → Reading Global
 read_key rest at what =
-    on_str rest at (λ address rest at. on_u32 rest at (λ port rest at. on_end rest at (what (Tcp address port))))
+    on_str rest at (λ address rest at.
+    on_u32 rest at (λ port rest at. on_end rest at (what (Tcp address port))))
 
 -- a path, and nothing after it
 abbrev pub read_path : List ℕ → ℕ → (Key → Global) → Reading Global
@@ -62,17 +65,23 @@ read_global name rest at = by_name (globals rest at) name (Ok OtherName)
 -- a host and a port, those of the originator, and nothing after them
 abbrev pub read_ends : List ℕ → ℕ → (Key → Opens) → Reading Opens
 read_ends rest at what =
-    on_str rest at (λ host rest at. on_u32 rest at (λ port rest at. on_str rest at (λ from rest at. on_u32 rest at (λ from_port rest at. on_end rest at (what (Tcp host port))))))
+    on_str rest at (λ host rest at.
+    on_u32 rest at (λ port rest at.
+    on_str rest at (λ from rest at.
+    on_u32 rest at (λ from_port rest at. on_end rest at (what (Tcp host port))))))
 
 -- a path, a reserved text and a reserved number, and nothing after them
 abbrev pub read_direct_path : List ℕ → ℕ → Reading Opens
 read_direct_path rest at =
-    on_str rest at (λ path rest at. on_str rest at (λ reserved rest at. on_u32 rest at (λ number rest at. on_end rest at (Direct (Path path)))))
+    on_str rest at (λ path rest at.
+    on_str rest at (λ reserved rest at.
+    on_u32 rest at (λ number rest at. on_end rest at (Direct (Path path)))))
 
 -- a path and a reserved text, and nothing after them
 abbrev pub read_forwarded_path : List ℕ → ℕ → Reading Opens
 read_forwarded_path rest at =
-    on_str rest at (λ path rest at. on_str rest at (λ reserved rest at. on_end rest at (Forwarded (Path path))))
+    on_str rest at (λ path rest at.
+    on_str rest at (λ reserved rest at. on_end rest at (Forwarded (Path path))))
 
 -- the types of opens whose data are read further, or known without data
 abbrev pub types : List ℕ → ℕ → List (List ℕ × Reading Opens)
@@ -102,24 +111,34 @@ read_transport n rest = Ok (Transport n rest)
 -- a name, whether a reply is wanted, and data (section 4)
 abbrev pub read_global_request : List ℕ → Reading PlainMessage
 read_global_request rest =
-    on_str rest 1 (λ name rest at. on_bool rest at (λ want rest at. with_reading (read_global name rest at) (GlobalRequest name want rest)))
+    on_str rest 1 (λ name rest at.
+    on_bool rest at (λ want rest at.
+    with_reading (read_global name rest at) (GlobalRequest name want rest)))
 
 -- a type, the sender, window and maximum, and data (section 5.1)
 abbrev pub read_open : List ℕ → Reading PlainMessage
 read_open rest =
-    on_str rest 1 (λ kind rest at. on_u32 rest at (λ sender rest at. on_u32 rest at (λ window rest at. on_u32 rest at (λ maximum rest at. with_reading (read_opens kind rest at) (Open kind sender window maximum rest)))))
+    on_str rest 1 (λ kind rest at.
+    on_u32 rest at (λ sender rest at.
+    on_u32 rest at (λ window rest at.
+    on_u32 rest at (λ maximum rest at.
+    with_reading (read_opens kind rest at) (Open kind sender window maximum rest)))))
 
 -- ---- the messages to a channel, from the place after the recipient
 
 -- the sender, window and maximum, and data (section 5.1)
 abbrev pub read_confirmation : List ℕ → Reading ChannelMessage
 read_confirmation rest =
-    on_u32 rest 5 (λ sender rest at. on_u32 rest at (λ window rest at. on_u32 rest at (λ maximum rest at. Ok (Confirmation sender window maximum rest))))
+    on_u32 rest 5 (λ sender rest at.
+    on_u32 rest at (λ window rest at.
+    on_u32 rest at (λ maximum rest at. Ok (Confirmation sender window maximum rest))))
 
 -- a reason, a text and its language (section 5.1)
 abbrev pub read_open_failure : List ℕ → Reading ChannelMessage
 read_open_failure rest =
-    on_u32 rest 5 (λ reason rest at. on_str rest at (λ text rest at. on_str rest at (λ language rest at. on_end rest at (OpenFailure reason text language))))
+    on_u32 rest 5 (λ reason rest at.
+    on_str rest at (λ text rest at.
+    on_str rest at (λ language rest at. on_end rest at (OpenFailure reason text language))))
 
 -- the bytes to add (section 5.2)
 abbrev pub read_adjust : List ℕ → Reading ChannelMessage
@@ -132,7 +151,8 @@ read_data rest = on_str rest 5 (λ bytes rest at. on_end rest at (Data bytes))
 -- data of a kind (section 5.2)
 abbrev pub read_extended : List ℕ → Reading ChannelMessage
 read_extended rest =
-    on_u32 rest 5 (λ code rest at. on_str rest at (λ bytes rest at. on_end rest at (Extended code bytes)))
+    on_u32 rest 5 (λ code rest at.
+    on_str rest at (λ bytes rest at. on_end rest at (Extended code bytes)))
 
 -- a type, whether a reply is wanted, and data (section 5.4)
 abbrev pub read_request : List ℕ → Reading ChannelMessage
@@ -151,7 +171,8 @@ pub data Form : Type 0 where
 abbrev pub forms : ℕ → List (ℕ × Form)
 forms n =
     (number.DISCONNECT, OfPlain (read_transport n)) ∷ (number.IGNORE, OfPlain (read_transport n))
-    ∷ (number.UNIMPLEMENTED, OfPlain (read_transport n)) ∷ (number.DEBUG, OfPlain (read_transport n))
+    ∷ (number.UNIMPLEMENTED, OfPlain (read_transport n))
+    ∷ (number.DEBUG, OfPlain (read_transport n))
     ∷ (number.GLOBAL_REQUEST, OfPlain read_global_request)
     ∷ (number.REQUEST_SUCCESS, OfPlain (λ rest. Ok (RequestSuccess rest)))
     ∷ (number.REQUEST_FAILURE, OfPlain (λ rest. on_end rest 1 RequestFailure))
@@ -171,7 +192,8 @@ forms n =
 -- a message of a form
 abbrev pub read_as : ℕ → Form → List ℕ → Reading Message
 read_as n (OfPlain read) rest = with_reading (read rest) Plain
-read_as n (OfChannel read) rest = on_u32 rest 1 (λ recipient rest at. with_reading (read rest) (To recipient))
+read_as n (OfChannel read) rest =
+    on_u32 rest 1 (λ recipient rest at. with_reading (read rest) (To recipient))
 read_as n OfNone rest = Err (bad.Kind n)
 
 -- the message that a payload is, or why it is none

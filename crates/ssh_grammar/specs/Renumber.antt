@@ -8,8 +8,10 @@ to_recipient n (Plain m) = Plain m
 to_recipient n (To recipient m) = To n m
 
 abbrev pub to_sender : ℕ → Message → Message
-to_sender n (Plain (Open kind sender window maximum rest what)) = Plain (Open kind n window maximum rest what)
-to_sender n (To recipient (Confirmation sender window maximum rest)) = To recipient (Confirmation n window maximum rest)
+to_sender n (Plain (Open kind sender window maximum rest what)) =
+    Plain (Open kind n window maximum rest what)
+to_sender n (To recipient (Confirmation sender window maximum rest)) =
+    To recipient (Confirmation n window maximum rest)
 to_sender n m = m
 
 -- the number stands at the place; a message without the number has no place

@@ -60,9 +60,11 @@ with_saying x p = record { says = x ∷ p.says; mode = p.mode; rest = p.rest }
 
 -- after a fault nothing more is read
 abbrev pub parse_front : (Mode → List ℕ → Parsed) → Mode → List ℕ → Front → Parsed
-parse_front go mode bytes (Frame content rest) = with_saying (saying_in mode content) (go (mode_after mode content) rest)
+parse_front go mode bytes (Frame content rest) =
+    with_saying (saying_in mode content) (go (mode_after mode content) rest)
 parse_front go mode bytes More = record { says = []; mode = mode; rest = bytes }
-parse_front go mode bytes (Faulty fault) = record { says = BadFraming fault ∷ []; mode = Stopped; rest = bytes }
+parse_front go mode bytes (Faulty fault) =
+    record { says = BadFraming fault ∷ []; mode = Stopped; rest = bytes }
 
 -- the first number bounds how many frames
 abbrev pub parse_by : ℕ → Mode → List ℕ → Parsed

@@ -11,11 +11,13 @@ spell_pairs (pair ∷ pairs) = str pair.0 ++ (str pair.1 ++ spell_pairs pairs)
 
 -- a forwarding
 abbrev pub spell_ask : ForwardAsk → List ℕ
-spell_ask a = u32 a.kind ++ (str a.listen_host ++ (u32 a.listen_port ++ (str a.connect_host ++ u32 a.connect_port)))
+spell_ask a = u32 a.kind
+    ++ (str a.listen_host ++ (u32 a.listen_port ++ (str a.connect_host ++ u32 a.connect_port)))
 
 -- what a client says
 abbrev pub spell_control : Control → List ℕ
-spell_control (Hello version extensions) = u32 number.HELLO ++ (u32 version ++ spell_pairs extensions)
+spell_control (Hello version extensions) =
+    u32 number.HELLO ++ (u32 version ++ spell_pairs extensions)
 spell_control (NewSession id rest) = u32 number.NEW_SESSION ++ (u32 id ++ rest)
 spell_control (AliveCheck id) = u32 number.ALIVE_CHECK ++ u32 id
 spell_control (Terminate id) = u32 number.TERMINATE ++ u32 id

@@ -11,10 +11,12 @@ use Rattle.ssh_grammar.specs.ReadMessage.{read_message}
 -- a message to no channel
 abbrev pub spell_plain : ℕ → PlainMessage → List ℕ
 spell_plain flag (Transport n rest) = n ∷ rest
-spell_plain flag (GlobalRequest name want rest what) = number.GLOBAL_REQUEST ∷ (str name ++ (flag ∷ rest))
+spell_plain flag (GlobalRequest name want rest what) = number.GLOBAL_REQUEST
+    ∷ (str name ++ (flag ∷ rest))
 spell_plain flag (RequestSuccess rest) = number.REQUEST_SUCCESS ∷ rest
 spell_plain flag RequestFailure = number.REQUEST_FAILURE ∷ []
-spell_plain flag (Open kind sender window maximum rest what) = number.CHANNEL_OPEN ∷ (str kind ++ (u32 sender ++ (u32 window ++ (u32 maximum ++ rest))))
+spell_plain flag (Open kind sender window maximum rest what) =
+    number.CHANNEL_OPEN ∷ (str kind ++ (u32 sender ++ (u32 window ++ (u32 maximum ++ rest))))
 
 -- the number of a message to a channel
 abbrev pub number_of : ChannelMessage → ℕ
@@ -31,7 +33,8 @@ number_of Failure = number.CHANNEL_FAILURE
 
 -- the fields after the recipient
 abbrev pub fields_of : ℕ → ChannelMessage → List ℕ
-fields_of flag (Confirmation sender window maximum rest) = u32 sender ++ (u32 window ++ (u32 maximum ++ rest))
+fields_of flag (Confirmation sender window maximum rest) =
+    u32 sender ++ (u32 window ++ (u32 maximum ++ rest))
 fields_of flag (OpenFailure reason text language) = u32 reason ++ (str text ++ str language)
 fields_of flag (Adjust add) = u32 add
 fields_of flag (Data bytes) = str bytes
@@ -132,7 +135,8 @@ spell_key (Path path) = str path
 
 -- a forwarding is cancelled, without reply (section 7.1)
 abbrev pub cancel_forward : Key → List ℕ
-cancel_forward key = spell (Plain (GlobalRequest (cancel_name_of key) false (spell_key key) (Cancel key)))
+cancel_forward key = spell
+    (Plain (GlobalRequest (cancel_name_of key) false (spell_key key) (Cancel key)))
 
 -- the texts that go with the reasons of a failed open
 abbrev pub not_permitted : List ℕ

@@ -22,7 +22,8 @@ EndCause ending files files' runner runner' = (files' ≡ files) × (runner' ≡
 -- the same of a call
 abbrev pub Caused : {A : Type 0} → Result A MeantEnding → ℕ → ℕ → ℕ → ℕ → Type 0
 Caused (Ok x) files files' runner runner' = (files' ≡ files) × (runner' ≡ runner)
-Caused (Err ending) files files' runner runner' = EndCause (shown ending) files files' runner runner'
+Caused (Err ending) files files' runner runner' =
+    EndCause (shown ending) files files' runner runner'
 
 -- one of both counts rises with its status alone; before want of memory either may have risen
 abbrev pub FaultCause : Status → ℕ → ℕ → ℕ → ℕ → Type 0

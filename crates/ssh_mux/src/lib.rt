@@ -11,8 +11,6 @@ mod master;
 mod program;
 mod reporting;
 mod status;
-#[cfg(test)]
-mod tests;
 
 pub use ending::Ending;
 pub use program::run;

@@ -39,7 +39,8 @@ pub fn list<F: Files, R: Runner, S: Sink>(
     ensures out_cause { OutCause (so_far result) (S.faults out.old) (S.faults out.new) }
     ensures ran { RunsFor (commands_of (machine (F.told files.old) (R.told runner.old) facts.now)
         (commands.List asked.now)) (so_far result) (R.ran runner.old) (R.ran runner.new) }
-    ensures place { Placed (told_over (machine (F.told files.old) (R.told runner.old) facts.now) asked.now)
+    ensures place { Placed
+        (told_over (machine (F.told files.old) (R.told runner.old) facts.now) asked.now)
         result (R.ran runner.old) (R.ran runner.new) }
     ensures cause { Caused result (F.faults files.old) (F.faults files.new)
         (R.faults runner.old) (R.faults runner.new) }
@@ -61,7 +62,8 @@ fn listing_of<F: Files, R: Runner>(
         (commands.List asked.now)) result }
     ensures ran { RunsUnless (commands_of (machine (F.told files.old) (R.told runner.old) facts.now)
         (commands.List asked.now)) result (R.ran runner.old) (R.ran runner.new) }
-    ensures place { Placed (told_over (machine (F.told files.old) (R.told runner.old) facts.now) asked.now)
+    ensures place { Placed
+        (told_over (machine (F.told files.old) (R.told runner.old) facts.now) asked.now)
         result (R.ran runner.old) (R.ran runner.new) }
     ensures cause { Caused result (F.faults files.old) (F.faults files.new)
         (R.faults runner.old) (R.faults runner.new) }

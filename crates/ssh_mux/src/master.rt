@@ -78,7 +78,8 @@ pub fn share<W: Wire, F: Files, R: Runner, H: House>(
         (commands_of (machine (F.told files.old) (R.told runner.old) facts.now)
         (commands.Master asked.now transport.now opens.now listens.now)) (so_far result)
         (R.ran runner.old) (R.ran runner.new) }
-    ensures place { Placed (told_over (machine (F.told files.old) (R.told runner.old) facts.now) asked.now)
+    ensures place { Placed
+        (told_over (machine (F.told files.old) (R.told runner.old) facts.now) asked.now)
         result (R.ran runner.old) (R.ran runner.new) }
     ensures cause { Caused result (F.faults files.old) (F.faults files.new)
         (R.faults runner.old) (R.faults runner.new) }
@@ -105,7 +106,8 @@ fn control_of<F: Files, R: Runner>(
         RunsUnless (commands_of (machine (F.told files.old) (R.told runner.old) facts.now)
         (commands.Master asked.now transport opens listens)) result
         (R.ran runner.old) (R.ran runner.new) }
-    ensures place { Placed (told_over (machine (F.told files.old) (R.told runner.old) facts.now) asked.now)
+    ensures place { Placed
+        (told_over (machine (F.told files.old) (R.told runner.old) facts.now) asked.now)
         result (R.ran runner.old) (R.ran runner.new) }
     ensures cause { Caused result (F.faults files.old) (F.faults files.new)
         (R.faults runner.old) (R.faults runner.new) }

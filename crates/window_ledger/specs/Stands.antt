@@ -16,11 +16,18 @@ use Rattle.window_ledger.specs.declared.ledger.State.TheVariants.{Opened, Confir
 
 -- what the sender of a direction has ended
 abbrev pub speech_of : Side → Channel → Speech
-speech_of way x = elim (any_by way is_closes x.acts) [ true ↦ Closed | false ↦ elim (any_by way is_ends x.acts) [ true ↦ Ended | false ↦ Speaking ] ]
+speech_of way x = elim (any_by way is_closes x.acts)
+    [ true ↦ Closed | false ↦ elim (any_by way is_ends x.acts) [ true ↦ Ended | false ↦ Speaking ] ]
 
 -- the account of a direction: the sums over all that was done in the channel
 abbrev pub account_of : Side → Channel → Account
-account_of way x = record { room = room way x; maximum = maximum_of way x; unanswered = unanswered way x; speech = speech_of way x }
+account_of way x = record {
+  room = room way x;
+  maximum = maximum_of way x;
+  unanswered =
+      unanswered way x;
+  speech = speech_of way x;
+}
 
 -- a side has opened the channel with this window and this maximum, and nothing was done in it yet
 pub record IsBegun (by : Side) (window maximum : ℕ) (x : Channel) : Type 0 where
@@ -67,11 +74,13 @@ GoesOn old new way act = (x : Channel) → Stands old x → Stands new (with_act
 
 -- and for the channel that the other side has confirmed with this window and this maximum
 abbrev pub IsConfirmed : Ledger → Ledger → (window maximum : ℕ) → Type 0
-IsConfirmed old new window maximum = (x : Channel) → Stands old x → Stands new (with_act (other_side x.by) (Confirms window maximum) x)
+IsConfirmed old new window maximum = (x : Channel) → Stands old x
+    → Stands new (with_act (other_side x.by) (Confirms window maximum) x)
 
 -- what is left for a direction and what was carried in it make up all that was granted for it
 abbrev pub AddsUp : (left : ℕ) → Side → Channel → Type 0
-AddsUp left way x = left + sum_of carried way x.acts ≡ initial way x + sum_of granted (other_side way) x.acts
+AddsUp left way x = left + sum_of carried way x.acts
+    ≡ initial way x + sum_of granted (other_side way) x.acts
 
 -- both sides have sent CLOSE
 abbrev pub both_closed : Channel → Bool

@@ -34,7 +34,8 @@ while_open Closed other = Some AfterClose
 abbrev pub own_act_breach : Act → Account → Option Breach
 own_act_breach (Data size) own = while_speaking own.speech (packet_breach own.maximum own.room size)
 own_act_breach Eof own = while_speaking own.speech None
-own_act_breach (Request true) own = elim (nat_lt own.unanswered 1024) [ true ↦ None | false ↦ Some (TooManyAsks own.unanswered) ]
+own_act_breach (Request true) own =
+    elim (nat_lt own.unanswered 1024) [ true ↦ None | false ↦ Some (TooManyAsks own.unanswered) ]
 own_act_breach _ own = None
 
 abbrev pub own_breach : Act → Account → Option Breach
@@ -42,7 +43,11 @@ own_breach act own = while_open own.speech (own_act_breach act own)
 
 -- and in that of the other direction
 abbrev pub other_breach : Act → Account → Option Breach
-other_breach (Grant add) other = elim (nat_lt 4294967295 (other.room + add)) [ true ↦ Some (Overflow other.room add) | false ↦ None ]
+other_breach (Grant add) other =
+    elim (nat_lt 4294967295 (other.room + add)) [
+      | true ↦ Some (Overflow other.room add)
+      | false ↦ None
+    ]
 other_breach Reply other = elim (other.unanswered == 0) [ true ↦ Some Unasked | false ↦ None ]
 other_breach _ other = None
 

@@ -47,7 +47,12 @@ pub struct Account {
 impl Account {
     /// A direction in which nothing was sent yet.
     pub fn new(room: u32, maximum: u32) -> Account
-        ensures { result ≡ record { room = room; maximum = maximum; unanswered = 0; speech = Speaking } }
+        ensures { result ≡ record {
+          room = room;
+          maximum = maximum;
+          unanswered = 0;
+          speech = Speaking;
+        } }
     {
         Account {
             room,
@@ -133,7 +138,8 @@ impl Account {
     }
 
     fn ask(self) -> Result<Account, Breach>
-        ensures { result ≡ judged (own_act_breach (Request true) self) (own_after (Request true) self) }
+        ensures { result ≡ judged (own_act_breach (Request true) self)
+            (own_after (Request true) self) }
     {
         if self.unanswered >= MOST_ASKS {
             return Err(Breach::TooManyAsks {
