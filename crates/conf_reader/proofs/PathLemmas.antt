@@ -1,30 +1,20 @@
 -- Paths, their components, and lists of them in whatever order.
-use Rattle.std.proofs.Common.{◌≡◌, ℕ, zero, suc, ◌+◌, ◌<◌, Bool, true, false, eqb, List, [], ◌∷◌, ◌++◌, length, take, drop, get_or, Some, Result, Ok, Err, refl, sym, ap, ◌∙◌, add-one, drop-cons, append_assoc, append-nil, arith}
+use Rattle.std.proofs.Common.{◌≡◌, ℕ, suc, ◌+◌, ◌<◌, Bool, true, false, eqb, List, [], ◌∷◌, ◌++◌, length, take, drop, get_or, Result, Ok, Err, refl, sym, ap, ◌∙◌, add-one, drop-cons, append_assoc, append-nil}
 use Rattle.std.specs.Bool.{OnFalse}
 use Rattle.conf_rules.specs.declared.causes.TokenError.{TokenError}
 use Rattle.conf_rules.specs.declared.causes.TokenError.TheVariants.{Unknown, LoneAtEnd, FactMissing, NoVariable, OpenBrace, OutOfMemory}
 use Rattle.conf_rules.specs.Results.{◌>>=◌, Fails}
 use Rattle.conf_rules.specs.Wants.{token_wants_memory}
-use Rattle.conf_rules.specs.Texts.{Bytes, split_last}
+use Rattle.conf_rules.specs.Texts.{Bytes}
 use Rattle.conf_rules.specs.Told.{Facts, Told}
 use Rattle.conf_rules.specs.Includes.{Source, ends_with_slash, paths_of}
 use Rattle.conf_rules.specs.Words.{words_of}
+use Rattle.conf_rules.proofs.SplitLemmas.{split-end, last-split}
 use Rattle.conf_reader.specs.Left.{named_by, FoundPaths}
 use Rattle.conf_reader.specs.Results.{of_token}
 use Rattle.conf_reader.specs.Paths.{path_from, paths_from, all_globbed}
 
 -- ---- the end of a path
-
-split-end : (inner : Bytes) (b : ℕ) → split_last (inner ++ b ∷ []) ≡ Some (inner, b)
-split-end [] b = refl
-split-end (x ∷ xs) b = rw (split-end xs b) refl
-
-last-split : (inner : Bytes) (n : ℕ) → length inner ≡ n + 1 → inner ≡ take n inner ++ get_or inner n 0 ∷ []
-last-split [] n h = absurd (omega (arith, h))
-last-split (x ∷ []) zero h = refl
-last-split (x ∷ []) (suc n) h = absurd (omega (arith, h))
-last-split (x ∷ y ∷ ys) zero h = absurd (omega (arith, h))
-last-split (x ∷ y ∷ ys) (suc n) h = ap (λ l. x ∷ l) (last-split (y ∷ ys) n (omega (arith, h)))
 
 pub slash-end : (path : Bytes) (n : ℕ) → length path ≡ n + 1 → eqb (get_or path n 0) 47 ≡ ends_with_slash path
 slash-end path n h = sym (ap ends_with_slash (last-split path n h) ∙ rw (ends_with_slash, split-end (take n path) (get_or path n 0)) refl)

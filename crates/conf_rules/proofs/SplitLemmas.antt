@@ -43,11 +43,11 @@ split-here c word i j same h none here =
 
 -- ---- hosts
 
-split-end : (inner : Bytes) (b : ℕ) → split_last (inner ++ b ∷ []) ≡ Some (inner, b)
+pub split-end : (inner : Bytes) (b : ℕ) → split_last (inner ++ b ∷ []) ≡ Some (inner, b)
 split-end [] b = refl
 split-end (x ∷ xs) b = rw (split-end xs b) refl
 
-last-split : (inner : Bytes) (n : ℕ) → length inner ≡ n + 1 → inner ≡ take n inner ++ get_or inner n 0 ∷ []
+pub last-split : (inner : Bytes) (n : ℕ) → length inner ≡ n + 1 → inner ≡ take n inner ++ get_or inner n 0 ∷ []
 last-split [] n h = absurd (omega (arith, h))
 last-split (x ∷ []) zero h = refl
 last-split (x ∷ []) (suc n) h = absurd (omega (arith, h))
