@@ -1,6 +1,7 @@
 -- What a fold stands for: the rows of the places given so far, and the blocks that are open.
 use Rattle.std.specs.Prelude.{◌≡◌, ℕ, ◌+◌, ◌<◌, Bool, true, false, not, ◌&&◌, unwrap_or, if◌then◌else◌, List, [], ◌∷◌, ◌++◌, length, map, flat_map, take, Option, Some, None, is_some, Result, Ok, Err}
 use Rattle.std.specs.List.{list_any, slice_get}
+use Rattle.mux_outside.specs.declared.statuses.CommandStatus.{CommandStatus}
 use Rattle.conf_rules.specs.declared.key.Key.{Key}
 use Rattle.conf_rules.specs.declared.key.Key.TheVariants as keys
 use Rattle.conf_rules.specs.declared.value.Value.{Value}
@@ -20,6 +21,7 @@ use Rattle.conf_rules.specs.Rows.{Row, Pass, First, Second, is_collected, values
 use Rattle.conf_rules.specs.Entries.{entry_of, headed_entry}
 use Rattle.conf_rules.specs.Resolution.{applies_at, start_of, host_from, host_at, wants_second, is_asked, is_past_limit, row_of, is_refused, refusal_at}
 use Rattle.conf_options.specs.Kept.{Given, Keeps}
+use Rattle.conf_match.specs.Evaluated.{TellsStatus}
 use Rattle.conf_reader.specs.declared.line.ConfLine.{ConfLine}
 use Rattle.conf_reader.specs.Blocks.{Blocks, IsLine, open_behind}
 use Rattle.conf_fold.specs.declared.fold.Fold.{Fold}
@@ -96,6 +98,18 @@ pub record IsNext (told : Told) (pass : Pass) (rows : List Row) (blocks : Blocks
   pub at : length rows ≡ start_of pass + place
   pub within : is_past_limit told line place ≡ false
   pub again : IsAgain told pass place line
+
+-- where commands tell their statuses
+abbrev pub WhereTold : Option (List CommandStatus) → ((status : Bytes → ℕ) → Type 0) → Type 0
+WhereTold statuses fact = (status : Bytes → ℕ) → TellsStatus statuses status → fact status
+
+-- whatever rows a fold stands for, where commands tell and the line comes next
+abbrev pub OnNext : Facts → Option (List CommandStatus) → Fold → ConfLine
+    → (Told → Pass → List Row → Blocks → ℕ → Line → Type 0) → Type 0
+OnNext facts statuses fold given fact =
+    (told : Told) (pass : Pass) (rows : List Row) (blocks : Blocks) (place : ℕ) (l : Line)
+    → told.facts ≡ facts → TellsStatus statuses told.status → Stands told pass fold rows blocks
+    → IsNext told pass rows blocks given place l → fact told pass rows blocks place l
 
 -- the row of a line at a place of a pass
 unfoldable pub next_row : Told → Pass → List Row → ℕ → Line → Row

@@ -3,6 +3,7 @@ pub mod Blocks
 pub mod Firsts
 pub mod Known
 pub mod Left
+pub mod Moving
 pub mod Paths
 pub mod Reads
 pub mod Results

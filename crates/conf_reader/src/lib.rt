@@ -4,12 +4,15 @@
 
 mod errors;
 mod files;
+mod including;
 mod line;
 mod line_reader;
 mod open_file;
 mod paths;
 mod reader;
 mod stack;
+mod steps;
+mod taking;
 
 pub use line::ConfLine;
 pub use line_reader::LineReader;

@@ -119,10 +119,10 @@ pub struct LineReader {
 impl LineReader {
     ghost use Rattle.conf_rules.specs.Told.{Told};
     ghost use Rattle.conf_rules.specs.Sources.{lines_from};
-    ghost use Rattle.conf_reader.specs.Known.{TellsFiles};
     ghost use Rattle.conf_reader.specs.Blocks.{Blocks};
     ghost use Rattle.conf_reader.specs.Left.{left, Bounded};
-    ghost use Rattle.conf_reader.specs.Reads.{Reads, IsGivenFrom, IsOver, open_count};
+    ghost use Rattle.conf_reader.specs.Moving.{ReadsFor};
+    ghost use Rattle.conf_reader.specs.Reads.{IsGivenFrom, IsOver, open_count};
     ghost use Rattle.conf_reader.specs.Results.{HasReadCause, is_run_fault};
     ghost use Rattle.conf_reader.specs.Unread.{unread, read_places, FaultsAmong, Follows};
 
@@ -153,12 +153,8 @@ impl LineReader {
     /// that of `files` rose, and is told at the Include line that names what is read, or, for a file that no line includes, at its
     /// line 0.
     pub fn next<F: Files>(&mut self, files: &mut F) -> Result<Option<ConfLine>, ResolveError>
-        ensures reads { (told : Told) (place : ℕ) (blocks : Blocks)
-            → TellsFiles (F.told files.old) told → told.facts ≡ known self.old.facts
-            → told.asked.original ≡ self.old.original
-            → place ≡ length told.asked.lines + self.old.lines.read
-            → Bounded self.old.lines.open_files (length blocks)
-            → Reads told place blocks self.old.lines self.new.lines result }
+        ensures reads { ReadsFor (F.told files.old) (known self.old.facts) self.old.original
+            self.old.lines self.new.lines result }
         ensures given { IfOk result (λ given.
             IfSome given (IsGivenFrom self.old.lines self.new.lines)) }
         ensures ended { IsOver result → (told : Told) (place : ℕ) (blocks : Blocks)

@@ -1,9 +1,8 @@
-ghost use Rattle.std.specs.Prelude.{◌≡◌, ◌<◌, ◌≤◌, ◌+◌, ℕ, IfOk, IfSome, OnOk, IsSome, slice_get, true, length, None, Ok, [], false};
+ghost use Rattle.std.specs.Prelude.{◌≡◌, ◌<◌, ◌≤◌, ◌+◌, ℕ, IfOk, IfSome, OnOk, IsSome, true, false, length, None, [], slice_get};
 ghost use Rattle.std.specs.Option.{option_copied};
 ghost use Rattle.std.specs.Bool.{MatchBool};
+ghost use Rattle.std.specs.List.{list_all};
 ghost use Rattle.conf_rules.specs.Told.{Told};
-ghost use Rattle.conf_tokens.specs.Known.{known};
-ghost use Rattle.conf_reader.specs.Known.{TellsFiles};
 ghost use Rattle.conf_reader.specs.Blocks.{Blocks};
 
 use crate::errors::{LineError, refuse};
@@ -12,7 +11,7 @@ use crate::line::ConfLine;
 use crate::open_file::OpenFile;
 use crate::stack::OpenFiles;
 use conf_rules::{Cause, ResolveError};
-use mux_outside::{Facts, FileError, Files};
+use mux_outside::{FileError, Files};
 use ssh_fields::{OutOfMemory, Text};
 use std::alloc::Global;
 
@@ -47,13 +46,11 @@ pub struct Lines {
 }
 
 impl Lines {
-    ghost use Rattle.conf_reader.specs.Reads.{OneLine, CountsOne, GivenStep, IsGivenFrom, Reads};
-    ghost use Rattle.conf_reader.specs.declared.reader.Step.TheVariants as steps;
-    ghost use Rattle.conf_reader.specs.Left.{left, IsReady, IsGiven, Moves, is_plain_first, BeginsWith, Bounded, IsLacking, IsSettled};
-    ghost use Rattle.conf_reader.specs.Results.{Refuses, HasFilesCause};
-    ghost use Rattle.conf_reader.specs.Unread.{unread, read_places, IsFront, FaultsAmong, StepsFrom, Follows};
     ghost use Rattle.conf_reader.specs.declared.errors.LineError.TheVariants as line_errors;
-    ghost use Rattle.std.specs.List.{list_all};
+    ghost use Rattle.conf_reader.specs.Left.{left, IsReady, is_plain_first, BeginsWith, IsLacking};
+    ghost use Rattle.conf_reader.specs.Moving.{IsAtLine, Settles, KeepsBounds, AllMove};
+    ghost use Rattle.conf_reader.specs.Results.{Refuses, HasFilesCause};
+    ghost use Rattle.conf_reader.specs.Unread.{unread, read_places, IsFront, FaultsAmong};
 
     /// The lines of first files, of which none is opened yet.
     pub fn new(alloc: Global, firsts: Vec<FirstFile>) -> Lines
@@ -90,8 +87,7 @@ impl Lines {
         ensures ready { OnOk result (IsReady self.new.open_files) }
         ensures firsts { self.new.firsts ≡ self.old.firsts }
         ensures next { OnOk result (self.new.next_first ≡ self.old.next_first + 1) }
-        ensures bounded { OnOk result ((n : ℕ) → Bounded self.old.open_files n
-            → Bounded self.new.open_files n) }
+        ensures bounded { OnOk result (KeepsBounds self.old.open_files self.new.open_files) }
         ensures unread { OnOk result
             (IsFront (unread self.new.open_files) (unread self.old.open_files)) }
         ensures count { self.new.read ≡ self.old.read }
@@ -143,9 +139,7 @@ impl Lines {
         requires none { self.old.open_files.top ≡ None }
         requires ready { IsReady self.old.open_files }
         requires plain { list_all is_plain_first self.old.firsts.items ≡ true }
-        ensures moves { (told : Told) (place : ℕ) (blocks : Blocks)
-            → TellsFiles (F.told files.old) told
-            → Moves (left told place blocks self.old) (left told place blocks self.new) result }
+        ensures moves { AllMove (F.told files.old) self.old self.new result }
         ensures ready { OnOk result (IsReady self.new.open_files) }
         ensures firsts { self.new.firsts ≡ self.old.firsts }
         ensures next { IfOk result (λ more.
@@ -154,8 +148,7 @@ impl Lines {
             × (length self.old.firsts.items ≤ self.old.next_first))) }
         ensures told { F.told files.new ≡ F.told files.old }
         ensures cause { HasFilesCause result (F.faults files.old) (F.faults files.new) }
-        ensures bounded { OnOk result ((n : ℕ) → Bounded self.old.open_files n
-            → Bounded self.new.open_files n) }
+        ensures bounded { OnOk result (KeepsBounds self.old.open_files self.new.open_files) }
         ensures unread { OnOk result
             (IsFront (unread self.new.open_files) (unread self.old.open_files)) }
         ensures fault { FaultsAmong (read_places self.old) result }
@@ -184,23 +177,19 @@ impl Lines {
     }
 
     /// Goes to the next line of all files; `false` where there is none.
-    fn reach<F: Files>(&mut self, files: &mut F) -> Result<bool, ResolveError>
+    pub fn reach<F: Files>(&mut self, files: &mut F) -> Result<bool, ResolveError>
         requires ready { IsReady self.old.open_files }
         requires plain { list_all is_plain_first self.old.firsts.items ≡ true }
-        ensures moves { (told : Told) (place : ℕ) (blocks : Blocks)
-            → TellsFiles (F.told files.old) told
-            → Moves (left told place blocks self.old) (left told place blocks self.new) result }
+        ensures moves { AllMove (F.told files.old) self.old self.new result }
         ensures ready { OnOk result (IsReady self.new.open_files) }
         ensures line { IfOk result (λ found.
-            MatchBool found (IfSome self.new.open_files.top (λ f. IsSettled f
-            × (f.at < length f.text)) × IsSome self.new.open_files.top)
+            MatchBool found (IsAtLine self.new.open_files.top × IsSome self.new.open_files.top)
             ((self.new.open_files.top ≡ None)
             × (length self.new.firsts.items ≤ self.new.next_first))) }
         ensures firsts { self.new.firsts ≡ self.old.firsts }
         ensures told { F.told files.new ≡ F.told files.old }
         ensures cause { HasFilesCause result (F.faults files.old) (F.faults files.new) }
-        ensures bounded { OnOk result ((n : ℕ) → Bounded self.old.open_files n
-            → Bounded self.new.open_files n) }
+        ensures bounded { OnOk result (KeepsBounds self.old.open_files self.new.open_files) }
         ensures unread { OnOk result
             (IsFront (unread self.new.open_files) (unread self.old.open_files)) }
         ensures fault { FaultsAmong (read_places self.old) result }
@@ -223,154 +212,17 @@ impl Lines {
     /// Goes to the next line of the open files.
     fn settle<F: Files>(&mut self, files: &mut F) -> Result<bool, ResolveError>
         requires ready { IsReady self.old.open_files }
-        ensures moves { (told : Told) (place : ℕ) (blocks : Blocks)
-            → TellsFiles (F.told files.old) told
-            → Moves (left told place blocks self.old) (left told place blocks self.new) result }
+        ensures moves { AllMove (F.told files.old) self.old self.new result }
         ensures ready { OnOk result (IsReady self.new.open_files) }
-        ensures line { IfOk result (λ found.
-            MatchBool found (IfSome self.new.open_files.top (λ f. IsSettled f
-            × (f.at < length f.text)) × IsSome self.new.open_files.top)
-            (self.new.open_files.top ≡ None)) }
+        ensures line { IfOk result (Settles self.new.open_files.top) }
         ensures others { self.new ≡ record self.old { open_files = self.new.open_files } }
         ensures told { F.told files.new ≡ F.told files.old }
         ensures cause { HasFilesCause result (F.faults files.old) (F.faults files.new) }
-        ensures bounded { OnOk result ((n : ℕ) → Bounded self.old.open_files n
-            → Bounded self.new.open_files n) }
+        ensures bounded { OnOk result (KeepsBounds self.old.open_files self.new.open_files) }
         ensures unread { OnOk result
             (IsFront (unread self.new.open_files) (unread self.old.open_files)) }
         ensures fault { FaultsAmong (read_places self.old) result }
     {
         self.open_files.settle(files)
-    }
-
-    /// Takes one line of all files.
-    fn one<F: Files>(&mut self, files: &mut F) -> Result<Step, ResolveError>
-        requires ready { IsReady self.old.open_files }
-        requires plain { list_all is_plain_first self.old.firsts.items ≡ true }
-        ensures one { (told : Told) (place : ℕ) (blocks : Blocks)
-            → TellsFiles (F.told files.old) told → place ≡ length told.asked.lines + self.old.read
-            → Bounded self.old.open_files (length blocks)
-            → OneLine told place blocks self.old self.new result }
-        ensures comment { result ≡ Ok steps.Comment → IsReady self.new.open_files }
-        ensures bounded { result ≡ Ok steps.Comment → (n : ℕ) → Bounded self.old.open_files n
-            → Bounded self.new.open_files n }
-        ensures firsts { self.new.firsts ≡ self.old.firsts }
-        ensures counts { IfOk result (λ step. CountsOne step self.old.read self.new.read) }
-        ensures given { IfOk result (λ step. GivenStep step self.old self.new) }
-        ensures unread { IfOk result
-            (StepsFrom (unread self.old.open_files) (unread self.new.open_files)) }
-        ensures fault { FaultsAmong (read_places self.old) result }
-        ensures told { F.told files.new ≡ F.told files.old }
-        ensures cause { HasFilesCause result (F.faults files.old) (F.faults files.new) }
-    {
-        match self.reach(files) {
-            Err(e) => return Err(e),
-            Ok(false) => return Ok(Step::End),
-            Ok(true) => {}
-        }
-        if self.read >= 100_000 {
-            return Err(
-                self.open_files
-                    .line_refusal(LineError::Refused(Cause::TooManyLines)),
-            );
-        }
-        self.read += 1;
-        match self.open_files.take_line() {
-            Err(e) => Err(e),
-            Ok(None) => Ok(Step::Comment),
-            Ok(Some(line)) => Ok(Step::Given(line)),
-        }
-    }
-
-    /// The next line that says something.
-    pub fn next_line<F: Files>(&mut self, files: &mut F) -> Result<Option<ConfLine>, ResolveError>
-        requires ready { IsReady self.old.open_files }
-        requires plain { list_all is_plain_first self.old.firsts.items ≡ true }
-        ensures reads { (told : Told) (place : ℕ) (blocks : Blocks)
-            → TellsFiles (F.told files.old) told → place ≡ length told.asked.lines + self.old.read
-            → Bounded self.old.open_files (length blocks)
-            → Reads told place blocks self.old self.new result }
-        ensures given { IfOk result (λ given. IfSome given (IsGivenFrom self.old self.new)) }
-        ensures unread { IfOk result (λ given.
-            IfSome given (Follows (unread self.old.open_files) (unread self.new.open_files))) }
-        ensures fault { FaultsAmong (read_places self.old) result }
-        ensures firsts { self.new.firsts ≡ self.old.firsts }
-        ensures told { F.told files.new ≡ F.told files.old }
-        ensures cause { HasFilesCause result (F.faults files.old) (F.faults files.new) }
-    {
-        loop {
-            match self.one(files) {
-                Ok(Step::End) => return Ok(None),
-                Ok(Step::Comment) => {}
-                Ok(Step::Given(line)) => return Ok(Some(line)),
-                Err(e) => return Err(e),
-            }
-        }
-    }
-
-    /// Finds the files that the last line includes.
-    fn expand<F: Files>(
-        &mut self,
-        facts: &Facts,
-        original: &[u8],
-        files: &mut F,
-    ) -> Result<(), ResolveError>
-        requires given { IsGiven self.old.open_files }
-        ensures moves { (told : Told) (place : ℕ) (blocks : Blocks)
-            → TellsFiles (F.told files.old) told → told.facts ≡ known facts.now
-            → told.asked.original ≡ original.now
-            → Moves (left told place blocks self.old) (left told place blocks self.new) result }
-        ensures ready { OnOk result (IsReady self.new.open_files) }
-        ensures others { self.new ≡ record self.old { open_files = self.new.open_files } }
-        ensures told { F.told files.new ≡ F.told files.old }
-        ensures cause { HasFilesCause result (F.faults files.old) (F.faults files.new) }
-        ensures bounded { OnOk result ((n : ℕ) → Bounded self.old.open_files n
-            → Bounded self.new.open_files n) }
-        ensures unread { OnOk result
-            (IsFront (unread self.new.open_files) (unread self.old.open_files)) }
-        ensures fault { FaultsAmong (read_places self.old) result }
-    {
-        self.open_files.expand(facts, original, files)
-    }
-
-    /// The next line that says something, with the files that the last one includes before it.
-    pub fn next<F: Files>(
-        &mut self,
-        facts: &Facts,
-        original: &[u8],
-        files: &mut F,
-    ) -> Result<Option<ConfLine>, ResolveError>
-        requires given { IsGiven self.old.open_files }
-        requires plain { list_all is_plain_first self.old.firsts.items ≡ true }
-        ensures reads { (told : Told) (place : ℕ) (blocks : Blocks)
-            → TellsFiles (F.told files.old) told → told.facts ≡ known facts.now
-            → told.asked.original ≡ original.now → place ≡ length told.asked.lines + self.old.read
-            → Bounded self.old.open_files (length blocks)
-            → Reads told place blocks self.old self.new result }
-        ensures given { IfOk result (λ given. IfSome given (IsGivenFrom self.old self.new)) }
-        ensures unread { IfOk result (λ given.
-            IfSome given (Follows (unread self.old.open_files) (unread self.new.open_files))) }
-        ensures fault { FaultsAmong (read_places self.old) result }
-        ensures firsts { self.new.firsts ≡ self.old.firsts }
-        ensures told { F.told files.new ≡ F.told files.old }
-        ensures cause { HasFilesCause result (F.faults files.old) (F.faults files.new) }
-    {
-        match self.expand(facts, original, files) {
-            Ok(()) => self.next_line(files),
-            Err(e) => Err(e),
-        }
-    }
-
-    /// Gives no more line.
-    pub fn end(&mut self)
-        ensures left { (told : Told) (place : ℕ) (blocks : Blocks)
-            → left told place blocks self.new ≡ [] }
-        ensures given { IsGiven self.new.open_files }
-        ensures firsts { self.new.firsts ≡ self.old.firsts }
-        ensures bounded { Bounded self.new.open_files 0 }
-        ensures unread { unread self.new.open_files ≡ [] }
-    {
-        self.open_files = OpenFiles::new(self.alloc);
-        self.next_first = self.firsts.len();
     }
 }

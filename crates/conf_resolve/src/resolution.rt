@@ -1,16 +1,15 @@
 ghost use Rattle.std.specs.Prelude.{◌≡◌, List, [], Ok, IfErr};
-ghost use Rattle.conf_rules.specs.Told.{Told};
 ghost use Rattle.conf_rules.specs.Rows.{Row, Pass, First};
 ghost use Rattle.conf_rules.specs.Resolution.{all_rows, execs, refusal_in};
 ghost use Rattle.conf_tokens.specs.Known.{known};
-ghost use Rattle.conf_match.specs.Evaluated.{TellsStatus, RanAll};
-ghost use Rattle.conf_reader.specs.Known.{TellsFiles};
+ghost use Rattle.conf_match.specs.Evaluated.{RanAll};
 ghost use Rattle.conf_fold.specs.Results.{RanUnless, breaks_off};
 ghost use Rattle.conf_fold.specs.Stands.{Stands};
 ghost use Rattle.conf_fold.specs.Begins.{asked_rows};
 ghost use Rattle.conf_resolve.specs.Passes.{Commands, commands, Begins, Passes, final_rows, BothPass, Resolved};
 ghost use Rattle.conf_resolve.specs.Causes.{HasCauses};
 ghost use Rattle.conf_resolve.specs.Faults.{FaultStands};
+ghost use Rattle.conf_resolve.specs.Telling.{WhereTold};
 
 use conf_fold::Fold;
 use conf_options::Settings;
@@ -28,22 +27,19 @@ fn pass<F: Files, R: Runner>(
     files: &mut F,
     runner: &mut R,
 ) -> Result<(), ResolveError>
-    ensures passes { (told : Told) (pass : Pass) (rows : List Row) → told.asked ≡ asked.now
-        → told.facts ≡ known facts.now →
-        TellsFiles (F.told files.old) told → TellsStatus (R.told runner.old) told.status →
-        Begins told pass fold.old rows → Passes told pass rows fold.new result }
-    ensures ran { (told : Told) (pass : Pass) (rows : List Row) (before : Commands)
-        → told.asked ≡ asked.now → told.facts ≡ known facts.now →
-        TellsFiles (F.told files.old) told → TellsStatus (R.told runner.old) told.status →
-        Begins told pass fold.old rows → RanAll before (R.ran runner.old) (commands rows) →
-        RanUnless (breaks_off result) before (R.ran runner.new)
-        (commands (final_rows told pass rows)) }
-    ensures fault { (told : Told) (pass : Pass) (rows : List Row) (before : Commands)
-        → told.asked ≡ asked.now → told.facts ≡ known facts.now →
-        TellsFiles (F.told files.old) told → TellsStatus (R.told runner.old) told.status →
-        Begins told pass fold.old rows → RanAll before (R.ran runner.old) (commands rows) →
-        IfErr result (λ e. FaultStands told (final_rows told pass rows) e before
-        (R.ran runner.new)) }
+    ensures passes { WhereTold asked.now (known facts.now) (F.told files.old) (R.told runner.old)
+        (λ told. (pass : Pass) (rows : List Row) → Begins told pass fold.old rows
+        → Passes told pass rows fold.new result) }
+    ensures ran { WhereTold asked.now (known facts.now) (F.told files.old) (R.told runner.old)
+        (λ told. (pass : Pass) (rows : List Row) (before : Commands)
+        → Begins told pass fold.old rows → RanAll before (R.ran runner.old) (commands rows)
+        → RanUnless (breaks_off result) before (R.ran runner.new)
+        (commands (final_rows told pass rows))) }
+    ensures fault { WhereTold asked.now (known facts.now) (F.told files.old) (R.told runner.old)
+        (λ told. (pass : Pass) (rows : List Row) (before : Commands)
+        → Begins told pass fold.old rows → RanAll before (R.ran runner.old) (commands rows)
+        → IfErr result (λ e. FaultStands told (final_rows told pass rows) e before
+        (R.ran runner.new))) }
     ensures cause { HasCauses result (F.faults files.old) (F.faults files.new) (R.faults runner.old)
         (R.faults runner.new) }
     ensures files { F.told files.new ≡ F.told files.old }
@@ -65,19 +61,18 @@ fn passes<F: Files, R: Runner>(
     files: &mut F,
     runner: &mut R,
 ) -> Result<(), ResolveError>
-    ensures passes { (told : Told) → told.asked ≡ asked.now → told.facts ≡ known facts.now →
-        TellsFiles (F.told files.old) told → TellsStatus (R.told runner.old) told.status →
-        Stands told First fold.old (asked_rows told) [] → refusal_in (asked_rows told) ≡ None
-        → BothPass told fold.new result }
-    ensures ran { (told : Told) → told.asked ≡ asked.now → told.facts ≡ known facts.now →
-        TellsFiles (F.told files.old) told → TellsStatus (R.told runner.old) told.status →
-        Stands told First fold.old (asked_rows told) [] → refusal_in (asked_rows told) ≡ None →
-        RanUnless (breaks_off result) (R.ran runner.old) (R.ran runner.new) (execs told) }
-    ensures fault { (told : Told) → told.asked ≡ asked.now → told.facts ≡ known facts.now →
-        TellsFiles (F.told files.old) told → TellsStatus (R.told runner.old) told.status →
-        Stands told First fold.old (asked_rows told) [] → refusal_in (asked_rows told) ≡ None →
-        IfErr result (λ e. FaultStands told (all_rows told) e (R.ran runner.old)
-        (R.ran runner.new)) }
+    ensures passes { WhereTold asked.now (known facts.now) (F.told files.old) (R.told runner.old)
+        (λ told. Stands told First fold.old (asked_rows told) []
+        → refusal_in (asked_rows told) ≡ None → BothPass told fold.new result) }
+    ensures ran { WhereTold asked.now (known facts.now) (F.told files.old) (R.told runner.old)
+        (λ told. Stands told First fold.old (asked_rows told) []
+        → refusal_in (asked_rows told) ≡ None
+        → RanUnless (breaks_off result) (R.ran runner.old) (R.ran runner.new) (execs told)) }
+    ensures fault { WhereTold asked.now (known facts.now) (F.told files.old) (R.told runner.old)
+        (λ told. Stands told First fold.old (asked_rows told) []
+        → refusal_in (asked_rows told) ≡ None
+        → IfErr result (λ e.
+        FaultStands told (all_rows told) e (R.ran runner.old) (R.ran runner.new))) }
     ensures cause { HasCauses result (F.faults files.old) (F.faults files.new) (R.faults runner.old)
         (R.faults runner.new) }
     ensures files { F.told files.new ≡ F.told files.old }
@@ -102,16 +97,13 @@ pub fn resolve<F: Files, R: Runner>(
     files: &mut F,
     runner: &mut R,
 ) -> Result<Settings, ResolveError>
-    ensures exact { (told : Told) → told.asked ≡ asked.now → told.facts ≡ known facts.now →
-        TellsFiles (F.told files.old) told → TellsStatus (R.told runner.old) told.status
-        → Resolved told result }
-    ensures ran { (told : Told) → told.asked ≡ asked.now → told.facts ≡ known facts.now →
-        TellsFiles (F.told files.old) told → TellsStatus (R.told runner.old) told.status →
-        RanUnless (breaks_off result) (R.ran runner.old) (R.ran runner.new) (execs told) }
-    ensures fault { (told : Told) → told.asked ≡ asked.now → told.facts ≡ known facts.now →
-        TellsFiles (F.told files.old) told → TellsStatus (R.told runner.old) told.status →
-        IfErr result (λ e. FaultStands told (all_rows told) e (R.ran runner.old)
-        (R.ran runner.new)) }
+    ensures exact { WhereTold asked.now (known facts.now) (F.told files.old) (R.told runner.old)
+        (λ told. Resolved told result) }
+    ensures ran { WhereTold asked.now (known facts.now) (F.told files.old) (R.told runner.old)
+        (λ told. RanUnless (breaks_off result) (R.ran runner.old) (R.ran runner.new) (execs told)) }
+    ensures fault { WhereTold asked.now (known facts.now) (F.told files.old) (R.told runner.old)
+        (λ told. IfErr result (λ e.
+        FaultStands told (all_rows told) e (R.ran runner.old) (R.ran runner.new))) }
     ensures cause { HasCauses result (F.faults files.old) (F.faults files.new) (R.faults runner.old)
         (R.faults runner.new) }
     ensures files { F.told files.new ≡ F.told files.old }

@@ -11,12 +11,12 @@ use Rattle.conf_resolve.proofs.FaultLemmas.{read-stands, run-stands}
 use Rattle.conf_resolve.proofs.resolution.pass.Goals as goal
 
 pub returns-in_err-reader-clause-passes : goal.returns-in_err-reader-clause-passes
-returns-in_err-reader-clause-passes g c = λ told pass rows asked facts tells status begins.
+returns-in_err-reader-clause-passes g c = λ told asked facts tells status pass rows begins.
     let p = err_from_is_err_and c.from_residual.result c.from_residual.ensures.1 in
     rw (p.1, p.2) tt
 
 pub returns-in_err-reader-clause-ran : goal.returns-in_err-reader-clause-ran
-returns-in_err-reader-clause-ran g c = λ told pass rows before asked facts tells status begins began.
+returns-in_err-reader-clause-ran g c = λ told asked facts tells status pass rows before begins began.
     let p = err_from_is_err_and c.from_residual.result c.from_residual.ensures.1 in
     rw (p.1, p.2) (start-ran told pass rows before _ began)
 
@@ -46,7 +46,7 @@ line-requires-clause-opened g c =
     (from.lies (length c.loop-reader.fold.applies) c.loop-reader.invariant.fits).opened
 
 pub returns-in_err-line-2-clause-passes : goal.returns-in_err-line-2-clause-passes
-returns-in_err-line-2-clause-passes g c = λ told pass rows asked facts tells status begins.
+returns-in_err-line-2-clause-passes g c = λ told asked facts tells status pass rows begins.
     let u = c.loop-reader.invariant.underway told pass rows asked facts tells status begins in
     let p = err_from_is_err_and c.from_residual-in_err-line-2.result c.from_residual-in_err-line-2.ensures.1 in
     rw (p.1, p.2) (line-fails told pass rows c.loop-reader.fold c.line.new.self c.loop-reader.reader.lines c.next.new.self.lines rows _ _ u c.in-Some.line _
@@ -54,7 +54,7 @@ returns-in_err-line-2-clause-passes g c = λ told pass rows asked facts tells st
     (λ rows place l stands next. c.in_err-line-2.ensures.folds told pass rows u.blocks place l facts (rw c.loop-reader.invariant.runner status) stands next))
 
 pub returns-in_err-line-2-clause-ran : goal.returns-in_err-line-2-clause-ran
-returns-in_err-line-2-clause-ran g c = λ told pass rows before asked facts tells status begins began.
+returns-in_err-line-2-clause-ran g c = λ told asked facts tells status pass rows before begins began.
     let u = c.loop-reader.invariant.underway told pass rows asked facts tells status begins in
     let p = err_from_is_err_and c.from_residual-in_err-line-2.result c.from_residual-in_err-line-2.ensures.1 in
     rw (p.1, p.2) (line-ran told pass c.loop-reader.fold c.line.new.self c.loop-reader.reader.lines c.next.new.self.lines (final_rows told pass rows) rows _ _ _ before u c.in-Some.line _
@@ -89,27 +89,27 @@ loop-reader-preserved g c =
     }
 
 pub returns-clause-passes : goal.returns-clause-passes
-returns-clause-passes g c = λ told pass rows asked facts tells status begins.
+returns-clause-passes g c = λ told asked facts tells status pass rows begins.
     let u = c.loop-reader.invariant.underway told pass rows asked facts tells status begins in
     all-given told pass c.loop-reader.fold c.loop-reader.reader.lines (final_rows told pass rows) rows _ _ u
     (none-given told u.place u.blocks c.loop-reader.reader.lines c.next.new.self.lines _ c.in_default.not-Some (c.in_ok-line.ensures.reads told u.place u.blocks (rw c.loop-reader.invariant.files tells) (facts ∙ sym c.loop-reader.invariant.facts) (ap (λ (a : Asked). a.original) asked ∙ sym c.loop-reader.invariant.original) u.count u.bounded))
 
 pub returns-clause-ran : goal.returns-clause-ran
-returns-clause-ran g c = λ told pass rows before asked facts tells status begins began.
+returns-clause-ran g c = λ told asked facts tells status pass rows before begins began.
     let u = c.loop-reader.invariant.underway told pass rows asked facts tells status begins in
     all-ran told pass c.loop-reader.fold c.loop-reader.reader.lines (final_rows told pass rows) rows _ _ before u
     (none-given told u.place u.blocks c.loop-reader.reader.lines c.next.new.self.lines _ c.in_default.not-Some (c.in_ok-line.ensures.reads told u.place u.blocks (rw c.loop-reader.invariant.files tells) (facts ∙ sym c.loop-reader.invariant.facts) (ap (λ (a : Asked). a.original) asked ∙ sym c.loop-reader.invariant.original) u.count u.bounded))
     began
 
 pub returns-in_err-line-clause-passes : goal.returns-in_err-line-clause-passes
-returns-in_err-line-clause-passes g c = λ told pass rows asked facts tells status begins.
+returns-in_err-line-clause-passes g c = λ told asked facts tells status pass rows begins.
     let u = c.loop-reader.invariant.underway told pass rows asked facts tells status begins in
     let p = err_from_is_err_and c.from_residual-in_err-line.result c.from_residual-in_err-line.ensures.1 in
     rw (p.1, p.2) (reader-fails told pass rows c.loop-reader.fold c.loop-reader.reader.lines c.next.new.self.lines rows _ _ u _
     (c.in_err-line.ensures.reads told u.place u.blocks (rw c.loop-reader.invariant.files tells) (facts ∙ sym c.loop-reader.invariant.facts) (ap (λ (a : Asked). a.original) asked ∙ sym c.loop-reader.invariant.original) u.count u.bounded))
 
 pub returns-in_err-line-clause-ran : goal.returns-in_err-line-clause-ran
-returns-in_err-line-clause-ran g c = λ told pass rows before asked facts tells status begins began.
+returns-in_err-line-clause-ran g c = λ told asked facts tells status pass rows before begins began.
     let u = c.loop-reader.invariant.underway told pass rows asked facts tells status begins in
     let p = err_from_is_err_and c.from_residual-in_err-line.result c.from_residual-in_err-line.ensures.1 in
     rw (p.1, p.2) (reader-ran told pass c.loop-reader.fold c.loop-reader.reader.lines c.next.new.self.lines (final_rows told pass rows) rows _ _ before u _
@@ -117,12 +117,12 @@ returns-in_err-line-clause-ran g c = λ told pass rows before asked facts tells 
     began)
 
 pub returns-in_err-reader-clause-fault : goal.returns-in_err-reader-clause-fault
-returns-in_err-reader-clause-fault g c = λ told pass rows before asked facts tells status begins began.
+returns-in_err-reader-clause-fault g c = λ told asked facts tells status pass rows before begins began.
     let p = err_from_is_err_and c.from_residual.result c.from_residual.ensures.1 in
     rw (p.1, p.2) tt
 
 pub returns-in_err-line-clause-fault : goal.returns-in_err-line-clause-fault
-returns-in_err-line-clause-fault g c = λ told pass rows before asked facts tells status begins began.
+returns-in_err-line-clause-fault g c = λ told asked facts tells status pass rows before begins began.
     let u = c.loop-reader.invariant.underway told pass rows asked facts tells status begins in
     let p = err_from_is_err_and c.from_residual-in_err-line.result c.from_residual-in_err-line.ensures.1 in
     let home = ap (λ (f : Facts). f.home) facts in
@@ -131,7 +131,7 @@ returns-in_err-line-clause-fault g c = λ told pass rows before asked facts tell
     (c.loop-reader.invariant.firsts ∙ ap (λ h. firsts_of h c.args.asked.now.from) (sym home) ∙ ap (firsts_of told.facts.home) (sym from)) began)
 
 pub returns-in_err-line-2-clause-fault : goal.returns-in_err-line-2-clause-fault
-returns-in_err-line-2-clause-fault g c = λ told pass rows before asked facts tells status begins began.
+returns-in_err-line-2-clause-fault g c = λ told asked facts tells status pass rows before begins began.
     let u = c.loop-reader.invariant.underway told pass rows asked facts tells status begins in
     let p = err_from_is_err_and c.from_residual-in_err-line-2.result c.from_residual-in_err-line-2.ensures.1 in
     rw (p.1, p.2) (run-stands told pass c.loop-reader.fold c.loop-reader.reader.lines c.next.new.self.lines (final_rows told pass rows) rows _ _ _ before u c.in-Some.line _ _ _

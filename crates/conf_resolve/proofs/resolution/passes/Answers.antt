@@ -11,14 +11,14 @@ use Rattle.conf_resolve.proofs.resolution.passes.Goals as goal
 pub returns-in_err-pass-clause-passes : goal.returns-in_err-pass-clause-passes
 returns-in_err-pass-clause-passes g c = λ told asked facts tells status stands none.
     let p = err_from_is_err_and c.from_residual.result c.from_residual.ensures.1 in
-    rw (p.1, p.2) (first-refused told c.pass.new.fold _ none (c.in_err-pass.ensures.passes told First (asked_rows told) asked facts tells status (first-begins told c.args.fold.now stands none)))
+    rw (p.1, p.2) (first-refused told c.pass.new.fold _ none (c.in_err-pass.ensures.passes told asked facts tells status First (asked_rows told) (first-begins told c.args.fold.now stands none)))
 
 pub returns-in_err-pass-clause-ran : goal.returns-in_err-pass-clause-ran
 returns-in_err-pass-clause-ran g c = λ told asked facts tells status stands none.
     let p = err_from_is_err_and c.from_residual.result c.from_residual.ensures.1 in
     rw (p.1, p.2) (first-ran told c.pass.new.fold _ _ _ none
-    (c.in_err-pass.ensures.passes told First (asked_rows told) asked facts tells status (first-begins told c.args.fold.now stands none))
-    (c.in_err-pass.ensures.ran told First (asked_rows told) _ asked facts tells status (first-begins told c.args.fold.now stands none) (asked-start told _)))
+    (c.in_err-pass.ensures.passes told asked facts tells status First (asked_rows told) (first-begins told c.args.fold.now stands none))
+    (c.in_err-pass.ensures.ran told asked facts tells status First (asked_rows told) _ (first-begins told c.args.fold.now stands none) (asked-start told _)))
 
 pub returns-in_err-second-clause-passes : goal.returns-in_err-second-clause-passes
 returns-in_err-second-clause-passes g c = λ told asked facts tells status stands none.
@@ -28,39 +28,39 @@ returns-in_err-second-clause-passes g c = λ told asked facts tells status stand
 pub returns-in_err-second-clause-ran : goal.returns-in_err-second-clause-ran
 returns-in_err-second-clause-ran g c = λ told asked facts tells status stands none.
     let p = err_from_is_err_and c.from_residual-in_err-second.result c.from_residual-in_err-second.ensures.1 in
-    rw (p.1, p.2) (first-broken told _ _ none (c.in_ok-pass.ensures.ran told First (asked_rows told) _ asked facts tells status (first-begins told c.args.fold.now stands none) (asked-start told _)))
+    rw (p.1, p.2) (first-broken told _ _ none (c.in_ok-pass.ensures.ran told asked facts tells status First (asked_rows told) _ (first-begins told c.args.fold.now stands none) (asked-start told _)))
 
 pub returns-then-branch-clause-passes : goal.returns-then-branch-clause-passes
 returns-then-branch-clause-passes g c = λ told asked facts tells status stands none.
-    let first = first-stands told c.pass.new.fold none (c.in_ok-pass.ensures.passes told First (asked_rows told) asked facts tells status (first-begins told c.args.fold.now stands none)) in
+    let first = first-stands told c.pass.new.fold none (c.in_ok-pass.ensures.passes told asked facts tells status First (asked_rows told) (first-begins told c.args.fold.now stands none)) in
     let again : SecondBegins told (first_rows told) c.second.new.self true = rw c.if-branch.true at (c.in_ok-second.ensures.second told (first_rows told) first.blocks first.stands (behind-asked told none first.none)) in
     twice told c.pass.new.fold c.pass-then-branch.new.fold c.second.new.self c.pass-then-branch.result first again
-    (c.pass-then-branch.ensures.passes told (Second (first_rows told)) (asked_again told (first_rows told)) asked facts (rw c.pass.ensures.files tells) (rw c.pass.ensures.runner status) (second-begins told c.second.new.self none first.none again))
+    (c.pass-then-branch.ensures.passes told asked facts (rw c.pass.ensures.files tells) (rw c.pass.ensures.runner status) (Second (first_rows told)) (asked_again told (first_rows told)) (second-begins told c.second.new.self none first.none again))
 
 pub returns-then-branch-clause-ran : goal.returns-then-branch-clause-ran
 returns-then-branch-clause-ran g c = λ told asked facts tells status stands none.
-    let first = first-stands told c.pass.new.fold none (c.in_ok-pass.ensures.passes told First (asked_rows told) asked facts tells status (first-begins told c.args.fold.now stands none)) in
+    let first = first-stands told c.pass.new.fold none (c.in_ok-pass.ensures.passes told asked facts tells status First (asked_rows told) (first-begins told c.args.fold.now stands none)) in
     let again : SecondBegins told (first_rows told) c.second.new.self true = rw c.if-branch.true at (c.in_ok-second.ensures.second told (first_rows told) first.blocks first.stands (behind-asked told none first.none)) in
     twice-ran told c.second.new.self (breaks_off c.pass-then-branch.result) _ _ first.none again
-    (c.pass-then-branch.ensures.ran told (Second (first_rows told)) (asked_again told (first_rows told)) _ asked facts (rw c.pass.ensures.files tells) (rw c.pass.ensures.runner status) (second-begins told c.second.new.self none first.none again)
-    (second-start told _ _ none (c.in_ok-pass.ensures.ran told First (asked_rows told) _ asked facts tells status (first-begins told c.args.fold.now stands none) (asked-start told _))))
+    (c.pass-then-branch.ensures.ran told asked facts (rw c.pass.ensures.files tells) (rw c.pass.ensures.runner status) (Second (first_rows told)) (asked_again told (first_rows told)) _ (second-begins told c.second.new.self none first.none again)
+    (second-start told _ _ none (c.in_ok-pass.ensures.ran told asked facts tells status First (asked_rows told) _ (first-begins told c.args.fold.now stands none) (asked-start told _))))
 
 pub returns-else-branch-clause-passes : goal.returns-else-branch-clause-passes
 returns-else-branch-clause-passes g c = λ told asked facts tells status stands none.
-    let first = first-stands told c.pass.new.fold none (c.in_ok-pass.ensures.passes told First (asked_rows told) asked facts tells status (first-begins told c.args.fold.now stands none)) in
+    let first = first-stands told c.pass.new.fold none (c.in_ok-pass.ensures.passes told asked facts tells status First (asked_rows told) (first-begins told c.args.fold.now stands none)) in
     once told c.pass.new.fold c.second.new.self first (rw c.if-branch.false at (c.in_ok-second.ensures.second told (first_rows told) first.blocks first.stands (behind-asked told none first.none))) (c.in_ok-second.ensures.same (ap (λ b. Ok b) c.if-branch.false))
 
 pub returns-else-branch-clause-ran : goal.returns-else-branch-clause-ran
 returns-else-branch-clause-ran g c = λ told asked facts tells status stands none.
-    let first = first-stands told c.pass.new.fold none (c.in_ok-pass.ensures.passes told First (asked_rows told) asked facts tells status (first-begins told c.args.fold.now stands none)) in
+    let first = first-stands told c.pass.new.fold none (c.in_ok-pass.ensures.passes told asked facts tells status First (asked_rows told) (first-begins told c.args.fold.now stands none)) in
     once-ran told c.pass.new.fold _ _ none first (rw c.if-branch.false at (c.in_ok-second.ensures.second told (first_rows told) first.blocks first.stands (behind-asked told none first.none)))
-    (c.in_ok-pass.ensures.ran told First (asked_rows told) _ asked facts tells status (first-begins told c.args.fold.now stands none) (asked-start told _))
+    (c.in_ok-pass.ensures.ran told asked facts tells status First (asked_rows told) _ (first-begins told c.args.fold.now stands none) (asked-start told _))
 
 pub returns-in_err-pass-clause-fault : goal.returns-in_err-pass-clause-fault
 returns-in_err-pass-clause-fault g c = λ told asked facts tells status stands none.
     let p = err_from_is_err_and c.from_residual.result c.from_residual.ensures.1 in
     rw (p.1, p.2) (faults.first-stands told _ _ _ none
-    (c.in_err-pass.ensures.fault told First (asked_rows told) _ asked facts tells status (first-begins told c.args.fold.now stands none) (asked-start told _)))
+    (c.in_err-pass.ensures.fault told asked facts tells status First (asked_rows told) _ (first-begins told c.args.fold.now stands none) (asked-start told _)))
 
 pub returns-in_err-second-clause-fault : goal.returns-in_err-second-clause-fault
 returns-in_err-second-clause-fault g c = λ told asked facts tells status stands none.
@@ -69,8 +69,8 @@ returns-in_err-second-clause-fault g c = λ told asked facts tells status stands
 
 pub returns-then-branch-clause-fault : goal.returns-then-branch-clause-fault
 returns-then-branch-clause-fault g c = λ told asked facts tells status stands none.
-    let first = first-stands told c.pass.new.fold none (c.in_ok-pass.ensures.passes told First (asked_rows told) asked facts tells status (first-begins told c.args.fold.now stands none)) in
+    let first = first-stands told c.pass.new.fold none (c.in_ok-pass.ensures.passes told asked facts tells status First (asked_rows told) (first-begins told c.args.fold.now stands none)) in
     let again : SecondBegins told (first_rows told) c.second.new.self true = rw c.if-branch.true at (c.in_ok-second.ensures.second told (first_rows told) first.blocks first.stands (behind-asked told none first.none)) in
     faults.second-stands told c.second.new.self c.pass-then-branch.result _ _ first.none again
-    (c.pass-then-branch.ensures.fault told (Second (first_rows told)) (asked_again told (first_rows told)) _ asked facts (rw c.pass.ensures.files tells) (rw c.pass.ensures.runner status) (second-begins told c.second.new.self none first.none again)
-    (second-start told _ _ none (c.in_ok-pass.ensures.ran told First (asked_rows told) _ asked facts tells status (first-begins told c.args.fold.now stands none) (asked-start told _))))
+    (c.pass-then-branch.ensures.fault told asked facts (rw c.pass.ensures.files tells) (rw c.pass.ensures.runner status) (Second (first_rows told)) (asked_again told (first_rows told)) _ (second-begins told c.second.new.self none first.none again)
+    (second-start told _ _ none (c.in_ok-pass.ensures.ran told asked facts tells status First (asked_rows told) _ (first-begins told c.args.fold.now stands none) (asked-start told _))))

@@ -1,0 +1,242 @@
+// One line of a file: what it says, and what comes of it.
+
+ghost use Rattle.std.specs.Prelude.{◌≡◌, ◌≤◌, ◌<◌, ◌+◌, [], OnOk, OnErr, IfErr, IfOk, true, false, length, Ok};
+ghost use Rattle.conf_rules.specs.Texts.{or_text};
+ghost use Rattle.conf_rules.specs.Evaluation.{verdict};
+ghost use Rattle.conf_rules.specs.Rows.{word_in, but_none};
+ghost use Rattle.conf_tokens.specs.Seen.{seen};
+ghost use Rattle.conf_tokens.specs.Known.{known};
+ghost use Rattle.conf_fold.specs.Entries.{entry_fits};
+ghost use Rattle.conf_fold.specs.Results.{Evaluated, GivesLine, Refuses, RanUnless, breaks_line, breaks_off, FailsInLine, FailsAt, HasLineCause, HasRunCause, is_line_fault};
+ghost use Rattle.conf_fold.specs.Stands.{OnNext, WhereTold, FoldsEntry, Folds, next_row, setting, view_of, entry_so_far};
+ghost use Rattle.conf_rules.specs.declared.key.Key.TheVariants as keys;
+
+use super::Fold;
+use crate::entries::file_entry;
+use crate::errors::{LineError, refuse};
+use conf_match::eval;
+use conf_reader::ConfLine;
+use conf_rules::{Criteria, Entry, Key, ResolveError};
+use conf_tokens::View;
+use mux_outside::{Facts, Runner};
+use std::alloc::Global;
+
+/// Whether criteria hold; an error is one of a line.
+fn evaluate<R: Runner>(
+    alloc: Global,
+    criteria: &Criteria,
+    view: &View<'_>,
+    runner: &mut R,
+) -> Result<bool, LineError>
+    ensures holds { WhereTold (R.told runner.old) (λ status.
+        Evaluated result (verdict status (seen view.now) criteria.now).holds) }
+    ensures ran { WhereTold (R.told runner.old) (λ status.
+        RanUnless (breaks_line result) (R.ran runner.old) (R.ran runner.new)
+        (verdict status (seen view.now) criteria.now).ran) }
+    ensures failed { WhereTold (R.told runner.old) (λ status.
+        FailsInLine result (R.ran runner.old) (R.ran runner.new)
+        (verdict status (seen view.now) criteria.now).ran) }
+    ensures cause { HasLineCause result (R.faults runner.old) (R.faults runner.new) }
+    ensures told { R.told runner.new ≡ R.told runner.old }
+{
+    match eval(alloc, criteria, view, runner) {
+        Ok(holds) => Ok(holds),
+        Err(e) => Err(LineError::from(e)),
+    }
+}
+
+impl Fold {
+    /// Whether criteria hold, and which commands were run to find out.
+    pub(crate) fn holds<R: Runner>(
+        &self,
+        criteria: &Criteria,
+        facts: &Facts,
+        runner: &mut R,
+    ) -> Result<bool, LineError>
+        ensures holds { WhereTold (R.told runner.old) (λ status.
+            Evaluated result (verdict status (view_of self.now (known facts.now))
+            criteria.now).holds) }
+        ensures ran { WhereTold (R.told runner.old) (λ status.
+            RanUnless (breaks_line result) (R.ran runner.old) (R.ran runner.new)
+            (verdict status (view_of self.now (known facts.now)) criteria.now).ran) }
+        ensures failed { WhereTold (R.told runner.old) (λ status.
+            FailsInLine result (R.ran runner.old) (R.ran runner.new)
+            (verdict status (view_of self.now (known facts.now)) criteria.now).ran) }
+        ensures cause { HasLineCause result (R.faults runner.old) (R.faults runner.new) }
+        ensures told { R.told runner.new ≡ R.told runner.old }
+    {
+        let host = self.host()?;
+        let name = match &self.name {
+            None => host.as_bytes(),
+            Some(name) => name.as_bytes(),
+        };
+        let view = View {
+            original: self.original.as_bytes(),
+            host: host.as_bytes(),
+            jump: self.jump(),
+            tag: self.text(Key::Tag).unwrap_or(b""),
+            port: self.settings.port(),
+            user: self.text(Key::User),
+            alias: self.text(Key::HostKeyAlias),
+            facts,
+            last: self.name.is_some(),
+            name,
+        };
+        evaluate(self.alloc, criteria, &view, runner)
+    }
+
+    /// The jump, or nothing.
+    pub(crate) fn jump(&self) -> &[u8]
+        ensures { result.now ≡ or_text [] (but_none (word_in (setting keys.ProxyJump self.now))) }
+    {
+        match self.text(Key::ProxyJump) {
+            Some(text) if !text.eq_ignore_ascii_case(b"none") => text,
+            _ => b"",
+        }
+    }
+
+    /// Whether the block of criteria applies, which are evaluated only on an active line.
+    pub(crate) fn tests<R: Runner>(
+        &self,
+        active: bool,
+        criteria: &Criteria,
+        facts: &Facts,
+        runner: &mut R,
+    ) -> Result<bool, LineError>
+        ensures held { WhereTold (R.told runner.old) (λ status. active ≡ true
+            → Evaluated result (verdict status (view_of self.now (known facts.now))
+            criteria.now).holds) }
+        ensures idle { active ≡ false → result ≡ Ok false }
+        ensures ran { WhereTold (R.told runner.old) (λ status. active ≡ true
+            → RanUnless (breaks_line result) (R.ran runner.old) (R.ran runner.new)
+            (verdict status (view_of self.now (known facts.now)) criteria.now).ran) }
+        ensures failed { WhereTold (R.told runner.old) (λ status. active ≡ true
+            → FailsInLine result (R.ran runner.old) (R.ran runner.new)
+            (verdict status (view_of self.now (known facts.now)) criteria.now).ran) }
+        ensures quiet { active ≡ false → R.ran runner.new ≡ R.ran runner.old }
+        ensures cause { HasLineCause result (R.faults runner.old) (R.faults runner.new) }
+        ensures told { R.told runner.new ≡ R.told runner.old }
+    {
+        if active {
+            self.holds(criteria, facts, runner)
+        } else {
+            Ok(false)
+        }
+    }
+
+    /// Takes what a line of a file says.
+    pub(crate) fn take<R: Runner>(
+        &mut self,
+        entry: Entry,
+        line: &ConfLine,
+        facts: &Facts,
+        runner: &mut R,
+    ) -> Result<(), LineError>
+        requires known { line.now.opens ≡ false → line.now.depth < length self.old.applies }
+        requires opened { line.now.opens ≡ true → line.now.depth ≤ length self.old.applies }
+        requires fits { entry_fits entry ≡ true }
+        ensures folds { OnNext (known facts.now) (R.told runner.old) self.old line.now
+            (λ told pass rows blocks place l. entry_so_far self.old line.now ≡ Ok entry
+            → FoldsEntry told pass rows blocks line.now place l result self.new) }
+        ensures ran { OnNext (known facts.now) (R.told runner.old) self.old line.now
+            (λ told pass rows blocks place l. entry_so_far self.old line.now ≡ Ok entry
+            → RanUnless (breaks_line result) (R.ran runner.old) (R.ran runner.new)
+            (next_row told pass rows place l).ran) }
+        ensures failed { OnNext (known facts.now) (R.told runner.old) self.old line.now
+            (λ told pass rows blocks place l. entry_so_far self.old line.now ≡ Ok entry
+            → FailsInLine result (R.ran runner.old) (R.ran runner.new)
+            (next_row told pass rows place l).ran) }
+        ensures cause { HasLineCause result (R.faults runner.old) (R.faults runner.new) }
+        ensures depth { OnOk result (length self.new.applies ≡ line.now.depth + 1) }
+        ensures unchanged { OnErr result (self.new.settings ≡ self.old.settings) }
+        ensures told { R.told runner.new ≡ R.told runner.old }
+    {
+        let depth = line.depth as usize;
+        match entry {
+            Entry::Block(patterns) => {
+                let applies = self.names_it(&patterns);
+                self.open(depth, applies)?;
+                Ok(())
+            }
+            Entry::Tests(criteria) => {
+                let active = self.applies.all_before(depth);
+                let applies = match self.tests(active, &criteria, facts, runner) {
+                    Ok(applies) => applies,
+                    Err(e) => return Err(e),
+                };
+                self.ask(&criteria);
+                self.open(depth, applies)?;
+                Ok(())
+            }
+            Entry::Gives(key, value) => {
+                let active = self.is_active(depth, line.opens);
+                self.enter(depth, line.opens)?;
+                self.give(key, value, active)?;
+                Ok(())
+            }
+            Entry::Nothing => {
+                self.enter(depth, line.opens)?;
+                Ok(())
+            }
+        }
+    }
+
+    /// Takes one line of a file, behind those taken so far: `opens` where it is the first of its reading of the file, which lies at
+    /// most as deep as files are open. A refusal is that of the line; settings stay. Criteria of an active Match line are
+    /// evaluated here, and the runner's fault comes only where its count rose.
+    pub fn line<R: Runner>(
+        &mut self,
+        line: &ConfLine,
+        facts: &Facts,
+        runner: &mut R,
+    ) -> Result<(), ResolveError>
+        requires known { line.now.opens ≡ false → line.now.depth < length self.old.applies }
+        requires opened { line.now.opens ≡ true → line.now.depth ≤ length self.old.applies }
+        ensures folds { OnNext (known facts.now) (R.told runner.old) self.old line.now
+            (λ told pass rows blocks place l.
+            Folds told pass rows blocks line.now place l result self.new) }
+        ensures ran { OnNext (known facts.now) (R.told runner.old) self.old line.now
+            (λ told pass rows blocks place l.
+            RanUnless (breaks_off result) (R.ran runner.old) (R.ran runner.new)
+            (next_row told pass rows place l).ran) }
+        ensures failed { OnNext (known facts.now) (R.told runner.old) self.old line.now
+            (λ told pass rows blocks place l.
+            FailsAt line.now.file line.now.number result (R.ran runner.old) (R.ran runner.new)
+            (next_row told pass rows place l).ran) }
+        ensures cause { HasRunCause result (R.faults runner.old) (R.faults runner.new) }
+        ensures depth { OnOk result (length self.new.applies ≡ line.now.depth + 1) }
+        ensures unchanged { OnErr result (self.new.settings ≡ self.old.settings) }
+        ensures told { R.told runner.new ≡ R.told runner.old }
+    {
+        let entry = match self.said(line) {
+            Ok(entry) => entry,
+            Err(e) => return Err(self.refused(line, e)),
+        };
+        match self.take(entry, line, facts, runner) {
+            Ok(()) => Ok(()),
+            Err(e) => Err(self.refused(line, e)),
+        }
+    }
+
+    /// What a line says behind those given so far.
+    #[tactic(auto, unfolding(crate::specs::Stands::entry_so_far))]
+    pub(crate) fn said(&self, line: &ConfLine) -> Result<Entry, LineError>
+        ensures fits { IfOk result (λ entry. entry_fits entry ≡ true) }
+        ensures read { GivesLine result (entry_so_far self.now line.now) }
+        ensures plain { IfErr result (λ e. is_line_fault e ≡ false) }
+    {
+        file_entry(
+            self.alloc,
+            self.text(Key::IgnoreUnknown),
+            line.keyword.as_bytes(),
+            line.rest.as_bytes(),
+        )
+    }
+
+    /// The refusal of a line.
+    pub(crate) fn refused(&self, line: &ConfLine, error: LineError) -> ResolveError
+        ensures { Refuses error line.now.file line.now.number result }
+    {
+        refuse(self.alloc, line.file.as_bytes(), line.number, error)
+    }
+}

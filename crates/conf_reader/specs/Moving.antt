@@ -1,0 +1,96 @@
+-- What the steps of a reader keep and do, whatever is told.
+use Rattle.std.specs.Prelude.{◌≡◌, ℕ, ◌+◌, ◌<◌, Bool, IfSome, IsSome, List, length, Option, None, Result}
+use Rattle.std.specs.Bool.{MatchBool}
+use Rattle.mux_outside.specs.declared.pairs.Pair.{Pair}
+use Rattle.conf_rules.specs.declared.causes.ResolveError.{ResolveError}
+use Rattle.conf_rules.specs.Texts.{Bytes}
+use Rattle.conf_rules.specs.Told.{Facts, Told}
+use Rattle.conf_reader.specs.declared.line.ConfLine.{ConfLine}
+use Rattle.conf_reader.specs.declared.open_file.OpenFile.{OpenFile}
+use Rattle.conf_reader.specs.declared.reader.Lines.{Lines}
+use Rattle.conf_reader.specs.declared.reader.Step.{Step}
+use Rattle.conf_reader.specs.declared.stack.OpenFiles.{OpenFiles}
+use Rattle.conf_reader.specs.Blocks.{Blocks}
+use Rattle.conf_reader.specs.Known.{TellsFiles}
+use Rattle.conf_reader.specs.Left.{open_left, left, Moves, IsSettled, Bounded}
+use Rattle.conf_reader.specs.Reads.{OneLine, Reads}
+
+-- ---- open files
+
+-- an open file names a path that is opened next
+abbrev pub NamesPath : Option OpenFile → Type 0
+NamesPath top = IfSome top (λ f. (f.include ≡ None) × (f.next < length f.named))
+
+-- a line of an open file comes next
+abbrev pub IsAtLine : Option OpenFile → Type 0
+IsAtLine top = IfSome top (λ f. IsSettled f × (f.at < length f.text))
+
+-- a line was found, or no file is open
+abbrev pub Settles : Option OpenFile → Bool → Type 0
+Settles top found = MatchBool found (IsAtLine top × IsSome top) (top ≡ None)
+
+-- as much is left as before
+abbrev pub KeepsLeft : OpenFiles → OpenFiles → Type 0
+KeepsLeft old new =
+    (told : Told) (place : ℕ) (blocks : Blocks)
+    → open_left told place blocks old ≡ open_left told place blocks new
+
+-- no more files are open of which a line was given
+abbrev pub KeepsBounds : OpenFiles → OpenFiles → Type 0
+KeepsBounds old new = (n : ℕ) → Bounded old n → Bounded new n
+
+-- where files tell, a step left everything as it was, or it refused
+abbrev pub MovesOver : {A : Type 0} →
+    Option (List Pair) → OpenFiles → OpenFiles → Result A ResolveError → Type 0
+MovesOver files old new result =
+    (told : Told) (place : ℕ) (blocks : Blocks) → TellsFiles files told
+    → Moves (open_left told place blocks old) (open_left told place blocks new) result
+
+-- the same of one that looks at the machine too
+abbrev pub ExpandsOver : {A : Type 0} →
+    Option (List Pair) → Facts → Bytes → OpenFiles → OpenFiles → Result A ResolveError → Type 0
+ExpandsOver files facts original old new result =
+    (told : Told) (place : ℕ) (blocks : Blocks)
+    → TellsFiles files told → told.facts ≡ facts → told.asked.original ≡ original
+    → Moves (open_left told place blocks old) (open_left told place blocks new) result
+
+-- ---- all files
+
+-- where files tell, a step over all files left everything as it was, or it refused
+abbrev pub AllMove : {A : Type 0} →
+    Option (List Pair) → Lines → Lines → Result A ResolveError → Type 0
+AllMove files old new result =
+    (told : Told) (place : ℕ) (blocks : Blocks) → TellsFiles files told
+    → Moves (left told place blocks old) (left told place blocks new) result
+
+-- the same of one that looks at the machine too
+abbrev pub AllExpand : {A : Type 0} →
+    Option (List Pair) → Facts → Bytes → Lines → Lines → Result A ResolveError → Type 0
+AllExpand files facts original old new result =
+    (told : Told) (place : ℕ) (blocks : Blocks)
+    → TellsFiles files told → told.facts ≡ facts → told.asked.original ≡ original
+    → Moves (left told place blocks old) (left told place blocks new) result
+
+-- where files tell, one line was taken
+abbrev pub TakesOne : Option (List Pair) → Lines → Lines → Result Step ResolveError → Type 0
+TakesOne files old new result =
+    (told : Told) (place : ℕ) (blocks : Blocks)
+    → TellsFiles files told → place ≡ length told.asked.lines + old.read
+    → Bounded old.open_files (length blocks) → OneLine told place blocks old new result
+
+-- where files tell, the next line was read that says something
+abbrev pub ReadsOver : Option (List Pair) → Lines → Lines
+    → Result (Option ConfLine) ResolveError → Type 0
+ReadsOver files old new result =
+    (told : Told) (place : ℕ) (blocks : Blocks)
+    → TellsFiles files told → place ≡ length told.asked.lines + old.read
+    → Bounded old.open_files (length blocks) → Reads told place blocks old new result
+
+-- the same of a call that looks at the machine too
+abbrev pub ReadsFor : Option (List Pair) → Facts → Bytes → Lines → Lines
+    → Result (Option ConfLine) ResolveError → Type 0
+ReadsFor files facts original old new result =
+    (told : Told) (place : ℕ) (blocks : Blocks)
+    → TellsFiles files told → told.facts ≡ facts → told.asked.original ≡ original
+    → place ≡ length told.asked.lines + old.read
+    → Bounded old.open_files (length blocks) → Reads told place blocks old new result

@@ -1,0 +1,93 @@
+// The files that the last line includes.
+
+ghost use Rattle.std.specs.Prelude.{◌≡◌, ◌-◌, IfSome, OnOk};
+ghost use Rattle.std.specs.Option.{option_copied, option_and_then, option_map};
+ghost use Rattle.conf_tokens.specs.Known.{known};
+
+use crate::errors::{LineError, refuse};
+use crate::paths::named_paths;
+use crate::stack::OpenFiles;
+use conf_rules::ResolveError;
+use mux_outside::{Facts, Files};
+use ssh_fields::{Text, Texts};
+
+impl OpenFiles {
+    ghost use Rattle.conf_reader.specs.Left.{IsReady, IsGiven, named_as};
+    ghost use Rattle.conf_reader.specs.Moving.{KeepsBounds, ExpandsOver};
+    ghost use Rattle.conf_reader.specs.Results.{Refuses, HasFilesCause};
+    ghost use Rattle.conf_reader.specs.Unread.{unread, unread_last, IsFront, FaultsAmong};
+
+    /// Notes the paths that the last line names.
+    pub fn name(&mut self, paths: Texts)
+        ensures { self.new ≡ record self.old { top = option_map (named_as paths) self.old.top } }
+    {
+        if let Some(top) = &mut self.top {
+            top.include = None;
+            top.named = paths;
+            top.next = 0;
+        }
+    }
+
+    /// What the last line includes, if it does.
+    pub fn include(&self) -> Option<&Text>
+        ensures { option_copied result ≡ option_and_then (λ f. f.include) self.now.top }
+    {
+        match &self.top {
+            None => None,
+            Some(top) => top.include.as_ref(),
+        }
+    }
+
+    /// The refusal of the files that the last line names.
+    pub fn include_refusal(&self, error: LineError) -> ResolveError
+        ensures { IfSome self.now.top (λ f. Refuses error f.path (f.number - 1) result) }
+    {
+        match &self.top {
+            None => ResolveError::OutOfMemory,
+            Some(top) => refuse(
+                self.alloc,
+                top.path.as_bytes(),
+                top.number.saturating_sub(1),
+                error,
+            ),
+        }
+    }
+
+    /// Finds the files that the last line includes.
+    pub fn expand<F: Files>(
+        &mut self,
+        facts: &Facts,
+        original: &[u8],
+        files: &mut F,
+    ) -> Result<(), ResolveError>
+        requires given { IsGiven self.old }
+        ensures moves { ExpandsOver (F.told files.old) (known facts.now) original.now self.old
+            self.new result }
+        ensures ready { OnOk result (IsReady self.new) }
+        ensures below { OnOk result (self.new.below ≡ self.old.below) }
+        ensures told { F.told files.new ≡ F.told files.old }
+        ensures cause { HasFilesCause result (F.faults files.old) (F.faults files.new) }
+        ensures bounded { OnOk result (KeepsBounds self.old self.new) }
+        ensures unread { OnOk result (IsFront (unread self.new) (unread self.old)) }
+        ensures fault { FaultsAmong (unread_last self.old) result }
+    {
+        let found = match self.include() {
+            None => return Ok(()),
+            Some(rest) => named_paths(
+                self.alloc,
+                facts,
+                original,
+                self.system,
+                rest.as_bytes(),
+                files,
+            ),
+        };
+        match found {
+            Ok(paths) => {
+                self.name(paths);
+                Ok(())
+            }
+            Err(e) => Err(self.include_refusal(e)),
+        }
+    }
+}

@@ -1,0 +1,142 @@
+// The next line of all files, line by line.
+
+ghost use Rattle.std.specs.Prelude.{◌≡◌, ℕ, IfOk, IfSome, OnOk, true, Ok, []};
+ghost use Rattle.std.specs.List.{list_all};
+ghost use Rattle.conf_rules.specs.Told.{Told};
+ghost use Rattle.conf_tokens.specs.Known.{known};
+ghost use Rattle.conf_reader.specs.Blocks.{Blocks};
+
+use crate::errors::LineError;
+use crate::line::ConfLine;
+use crate::reader::{Lines, Step};
+use crate::stack::OpenFiles;
+use conf_rules::{Cause, ResolveError};
+use mux_outside::{Facts, Files};
+
+impl Lines {
+    ghost use Rattle.conf_reader.specs.declared.reader.Step.TheVariants as steps;
+    ghost use Rattle.conf_reader.specs.Reads.{CountsOne, GivenStep, IsGivenFrom};
+    ghost use Rattle.conf_reader.specs.Left.{left, IsReady, IsGiven, is_plain_first, Bounded};
+    ghost use Rattle.conf_reader.specs.Moving.{KeepsBounds, AllExpand, TakesOne, ReadsOver, ReadsFor};
+    ghost use Rattle.conf_reader.specs.Results.{HasFilesCause};
+    ghost use Rattle.conf_reader.specs.Unread.{unread, read_places, IsFront, FaultsAmong, StepsFrom, Follows};
+
+    /// Takes one line of all files.
+    fn one<F: Files>(&mut self, files: &mut F) -> Result<Step, ResolveError>
+        requires ready { IsReady self.old.open_files }
+        requires plain { list_all is_plain_first self.old.firsts.items ≡ true }
+        ensures one { TakesOne (F.told files.old) self.old self.new result }
+        ensures comment { result ≡ Ok steps.Comment → IsReady self.new.open_files }
+        ensures bounded { result ≡ Ok steps.Comment
+            → KeepsBounds self.old.open_files self.new.open_files }
+        ensures firsts { self.new.firsts ≡ self.old.firsts }
+        ensures counts { IfOk result (λ step. CountsOne step self.old.read self.new.read) }
+        ensures given { IfOk result (λ step. GivenStep step self.old self.new) }
+        ensures unread { IfOk result
+            (StepsFrom (unread self.old.open_files) (unread self.new.open_files)) }
+        ensures fault { FaultsAmong (read_places self.old) result }
+        ensures told { F.told files.new ≡ F.told files.old }
+        ensures cause { HasFilesCause result (F.faults files.old) (F.faults files.new) }
+    {
+        match self.reach(files) {
+            Err(e) => return Err(e),
+            Ok(false) => return Ok(Step::End),
+            Ok(true) => {}
+        }
+        if self.read >= 100_000 {
+            return Err(
+                self.open_files
+                    .line_refusal(LineError::Refused(Cause::TooManyLines)),
+            );
+        }
+        self.read += 1;
+        match self.open_files.take_line() {
+            Err(e) => Err(e),
+            Ok(None) => Ok(Step::Comment),
+            Ok(Some(line)) => Ok(Step::Given(line)),
+        }
+    }
+
+    /// The next line that says something.
+    pub fn next_line<F: Files>(&mut self, files: &mut F) -> Result<Option<ConfLine>, ResolveError>
+        requires ready { IsReady self.old.open_files }
+        requires plain { list_all is_plain_first self.old.firsts.items ≡ true }
+        ensures reads { ReadsOver (F.told files.old) self.old self.new result }
+        ensures given { IfOk result (λ given. IfSome given (IsGivenFrom self.old self.new)) }
+        ensures unread { IfOk result (λ given.
+            IfSome given (Follows (unread self.old.open_files) (unread self.new.open_files))) }
+        ensures fault { FaultsAmong (read_places self.old) result }
+        ensures firsts { self.new.firsts ≡ self.old.firsts }
+        ensures told { F.told files.new ≡ F.told files.old }
+        ensures cause { HasFilesCause result (F.faults files.old) (F.faults files.new) }
+    {
+        loop {
+            match self.one(files) {
+                Ok(Step::End) => return Ok(None),
+                Ok(Step::Comment) => {}
+                Ok(Step::Given(line)) => return Ok(Some(line)),
+                Err(e) => return Err(e),
+            }
+        }
+    }
+
+    /// Finds the files that the last line includes.
+    fn expand<F: Files>(
+        &mut self,
+        facts: &Facts,
+        original: &[u8],
+        files: &mut F,
+    ) -> Result<(), ResolveError>
+        requires given { IsGiven self.old.open_files }
+        ensures moves { AllExpand (F.told files.old) (known facts.now) original.now self.old
+            self.new result }
+        ensures ready { OnOk result (IsReady self.new.open_files) }
+        ensures others { self.new ≡ record self.old { open_files = self.new.open_files } }
+        ensures told { F.told files.new ≡ F.told files.old }
+        ensures cause { HasFilesCause result (F.faults files.old) (F.faults files.new) }
+        ensures bounded { OnOk result (KeepsBounds self.old.open_files self.new.open_files) }
+        ensures unread { OnOk result
+            (IsFront (unread self.new.open_files) (unread self.old.open_files)) }
+        ensures fault { FaultsAmong (read_places self.old) result }
+    {
+        self.open_files.expand(facts, original, files)
+    }
+
+    /// The next line that says something, with the files that the last one includes before it.
+    pub fn next<F: Files>(
+        &mut self,
+        facts: &Facts,
+        original: &[u8],
+        files: &mut F,
+    ) -> Result<Option<ConfLine>, ResolveError>
+        requires given { IsGiven self.old.open_files }
+        requires plain { list_all is_plain_first self.old.firsts.items ≡ true }
+        ensures reads { ReadsFor (F.told files.old) (known facts.now) original.now self.old
+            self.new result }
+        ensures given { IfOk result (λ given. IfSome given (IsGivenFrom self.old self.new)) }
+        ensures unread { IfOk result (λ given.
+            IfSome given (Follows (unread self.old.open_files) (unread self.new.open_files))) }
+        ensures fault { FaultsAmong (read_places self.old) result }
+        ensures firsts { self.new.firsts ≡ self.old.firsts }
+        ensures told { F.told files.new ≡ F.told files.old }
+        ensures cause { HasFilesCause result (F.faults files.old) (F.faults files.new) }
+    {
+        match self.expand(facts, original, files) {
+            Ok(()) => self.next_line(files),
+            Err(e) => Err(e),
+        }
+    }
+
+    /// Gives no more line.
+    pub fn end(&mut self)
+        ensures left { (told : Told) (place : ℕ) (blocks : Blocks)
+            → left told place blocks self.new ≡ [] }
+        ensures given { IsGiven self.new.open_files }
+        ensures firsts { self.new.firsts ≡ self.old.firsts }
+        ensures bounded { Bounded self.new.open_files 0 }
+        ensures unread { unread self.new.open_files ≡ [] }
+    {
+        self.open_files = OpenFiles::new(self.alloc);
+        self.next_first = self.firsts.len();
+    }
+}
