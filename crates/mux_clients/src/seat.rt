@@ -1,4 +1,4 @@
-ghost use Rattle.std.specs.Prelude.{◌≡◌, true, false, ◌≤◌, ◌+◌, [], ◌∷◌, drop, length, IfOk, OnOk, OnErr, Some, None};
+ghost use Rattle.std.specs.Prelude.{◌≡◌, true, false, ◌≤◌, ◌+◌, [], ◌∷◌, length, IfOk, OnOk, OnErr, Some};
 ghost use Rattle.ssh_grammar.specs.declared.framing.Framing.TheVariants.{Proxy};
 ghost use Rattle.ssh_grammar.specs.IsFrame.{IsContent};
 ghost use Rattle.ssh_grammar.specs.Frames.{frame_payload};
@@ -14,7 +14,9 @@ ghost use Rattle.mux_clients.specs.Decisions.{frames, is_stops, GoesOn, StandsAs
 ghost use Rattle.mux_clients.specs.Bodies.{FollowsBy};
 ghost use Rattle.mux_clients.specs.declared.heard.Heard.{Heard as TheHeard};
 ghost use Rattle.mux_clients.specs.Nexts.{FaultBy};
-ghost use Rattle.mux_clients.specs.Stands.{is_lost, is_read, is_proxied, is_greeted};
+ghost use Rattle.mux_clients.specs.Stands.{is_lost, is_read};
+
+mod views;
 
 use crate::decision::{Decision, Fate};
 use crate::heard::Heard;
@@ -158,59 +160,6 @@ impl Seat {
     {
         self.standing = Standing::Lost(None);
         core.gone(self.number, up);
-    }
-
-    /// Its number, by which the wire names its stream.
-    pub fn number(&self) -> u64
-        ensures { result ≡ self.now.number }
-    {
-        self.number
-    }
-
-    /// How it stands.
-    pub fn standing(&self) -> Standing
-        ensures { result ≡ self.now.standing }
-    {
-        self.standing
-    }
-
-    /// The bytes that wait for it.
-    pub fn queue(&self) -> &[u8]
-        ensures { result.now ≡ self.now.queue }
-    {
-        self.queue.front()
-    }
-
-    /// So many of them were taken.
-    pub fn took(&mut self, n: usize)
-        requires { n ≤ length self.old.queue }
-        ensures { self.new ≡ record self.old { queue = drop n self.old.queue } }
-    {
-        self.queue.took(n);
-    }
-
-    /// Whether what it says is read.
-    pub fn is_read(&self) -> bool
-        ensures { result ≡ is_read self.now.standing }
-    {
-        matches!(
-            self.standing,
-            Standing::Awaited | Standing::Greeted | Standing::Proxied
-        )
-    }
-
-    /// Whether it speaks to the server.
-    pub fn is_proxied(&self) -> bool
-        ensures { result ≡ is_proxied self.now.standing }
-    {
-        matches!(self.standing, Standing::Proxied)
-    }
-
-    /// Whether it has said its hello.
-    pub fn is_greeted(&self) -> bool
-        ensures { result ≡ is_greeted self.now.standing }
-    {
-        !matches!(self.standing, Standing::Awaited)
     }
 
     /// What it says is no frame.

@@ -1,34 +1,29 @@
-ghost use Rattle.std.specs.Prelude.{◌≡◌, ◌≤◌, ◌+◌, length, true, IfOk, IfSome, OnOk, OnErr};
+ghost use Rattle.std.specs.Prelude.{◌≡◌, ◌≤◌, length, IfOk, IfSome, OnOk, OnErr};
 ghost use Rattle.ssh_fields.specs.Fields.{u32_at};
 ghost use Rattle.ssh_grammar.specs.declared.framing.Framing.TheVariants.{Proxy};
 ghost use Rattle.ssh_grammar.specs.IsFrame.{IsContent};
 ghost use Rattle.ssh_grammar.specs.SpellMessage as spelling;
-ghost use Rattle.mux_history.specs.Gist.{Confirmation, Fails, Open, Refuses, Requests, Succeeds, Within};
-ghost use Rattle.window_ledger.specs.Act.{act_of};
+ghost use Rattle.mux_history.specs.Gist.{Refuses, Requests, Succeeds};
 ghost use Rattle.mux_history.specs.Farewell.{late_refusal, late_success};
 ghost use Rattle.global_replies.specs.Replies.{after_reply, refusals_behind};
 ghost use Rattle.forward_rules.specs.Keys.{IsShort, key_of};
 ghost use Rattle.forward_rules.specs.Step.{with_port};
 ghost use Rattle.client_teardown.specs.Leaving.{with_payloads};
-ghost use Rattle.mux_core.specs.Calls.{HearsGist, HearsOn, HearsWith};
-ghost use Rattle.mux_core.specs.Gists.{opening_of, request_of};
-ghost use Rattle.mux_core.specs.Opening.{owner_for};
+ghost use Rattle.mux_core.specs.Calls.{HearsOn, HearsWith};
+ghost use Rattle.mux_core.specs.Gists.{request_of};
 ghost use Rattle.mux_core.specs.Replying.{MayBeCancelled, after_failure, after_success, listed, misses_port};
 ghost use Rattle.mux_core.specs.Requesting.{waiting_of, with_waiting};
 ghost use Rattle.mux_core.specs.Settling.{settled};
 ghost use Rattle.mux_core.specs.declared.heard.Heard.TheVariants.{Client, Lost};
 
-use crate::reading::{Gist, Opening, Request, asked, read_gist};
-use crate::state::{Core, confirmed_ledger, put_recipient, waits};
-use channel_table::Refused;
-use conn_messages::{cancel_forward, cancel_path, close, open_failure, request_failure};
+use crate::reading::{Gist, Request, asked, read_gist};
+use crate::state::{Core, waits};
+use conn_messages::{cancel_forward, cancel_path, request_failure};
 use forward_rules::Key;
 use mux_history::Break;
 use proxy_frames::Queue;
 use ssh_fields::{Cursor, OutOfMemory, Small};
-use ssh_grammar::Side;
 use ssh_grammar::numbers::*;
-use window_ledger::{Act, Ledger};
 
 /// Where what the server said goes.
 #[derive(Clone, Copy, Debug, PartialEq, Eq)]
@@ -243,7 +238,7 @@ impl Core {
     }
 
     // A reply goes to its client, and so many refusals after it as waited behind it.
-    fn pass_on(&mut self, client: u64) -> Heard
+    pub(crate) fn pass_on(&mut self, client: u64) -> Heard
         ensures to { result ≡ Client client (refusals_behind (waiting_of client self.old.clients)) }
         ensures left { self.new
             ≡ record self.old { clients = with_waiting client after_reply self.old.clients } }
@@ -281,155 +276,5 @@ impl Core {
 
     // ---- opens
 
-    // The server opens a channel: to the client of a live forwarding, or the master answers.
-    fn hear_open(
-        &mut self,
-        payload: &[u8],
-        what: &Opening<'_>,
-        sender: u32,
-        window: u32,
-        maximum: u32,
-        up: &mut Queue,
-    ) -> Result<Heard, OutOfMemory>
-        ensures stands { IfOk result (λ h.
-            HearsWith self.old self.new payload.now payload.now
-            (Open (opening_of what.now) sender window maximum) up.old up.new h) }
-        ensures spare { up.new.spare ≡ up.old.spare }
-        ensures policy { self.new.policy ≡ self.old.policy }
-        ensures err { OnErr result (up.new ≡ up.old) }
-    {
-        if self.uses_remote(sender) {
-            return Ok(Heard::Broke(Break::NumberInUse { number: sender }));
-        }
-        let Some(client) = self.owner(what) else {
-            let refusal = open_failure(sender, ADMINISTRATIVELY_PROHIBITED, b"not permitted");
-            up.push_payload(refusal.as_bytes())?;
-            return Ok(Heard::Master);
-        };
-        let ledger = Ledger::opened(Side::Down, window, maximum);
-        match self.add_remote(client, sender, ledger) {
-            Ok(number) => {
-                let _ = number;
-                return Ok(Heard::Client {
-                    client,
-                    refusals: 0,
-                });
-            }
-            Err(Refused::OutOfMemory) => return Err(OutOfMemory),
-            Err(Refused::OwnInUse) => {
-                return Ok(Heard::Broke(Break::NumberInUse { number: sender }));
-            }
-            Err(Refused::RemoteInUse { .. }) => {
-                return Ok(Heard::Broke(Break::NumberInUse { number: sender }));
-            }
-            Err(Refused::Full { .. }) => {}
-        }
-        let refusal = open_failure(sender, RESOURCE_SHORTAGE, b"too many channels");
-        up.push_payload(refusal.as_bytes())?;
-        Ok(Heard::Master)
-    }
-
-    // Whose a server's open is.
-    fn owner(&self, what: &Opening<'_>) -> Option<u64>
-        ensures { result ≡ owner_for (opening_of what.now) self.now.forwards }
-    {
-        match what {
-            Opening::Forwarded(key) => self.owner_of(*key),
-            Opening::Session | Opening::Direct(_) | Opening::Other => None,
-        }
-    }
-
-    // The server confirms a client's open: the client is told, and for one that is lost the master closes the channel.
-    fn hear_confirmation(
-        &mut self,
-        payload: &mut [u8],
-        number: u32,
-        remote: u32,
-        window: u32,
-        maximum: u32,
-        up: &mut Queue,
-    ) -> Result<Heard, OutOfMemory>
-        ensures stands { IfOk result (λ h.
-            HearsWith self.old self.new payload.old payload.new
-            (Confirmation number remote window maximum) up.old up.new h) }
-        ensures spare { up.new.spare ≡ up.old.spare }
-        ensures policy { self.new.policy ≡ self.old.policy }
-        ensures err { OnErr result (up.new ≡ up.old) }
-    {
-        let Some((channel, ledger)) = self.channel_for(number) else {
-            return Ok(Heard::Broke(Break::NotPending { number }));
-        };
-        if !waits(&channel, &ledger) {
-            return Ok(Heard::Broke(Break::NotPending { number }));
-        }
-        if !self.name_remote(number, remote)? {
-            return Ok(Heard::Broke(Break::NumberInUse { number: remote }));
-        }
-        let given = confirmed_ledger(ledger, window, maximum);
-        let client = channel.client;
-        if self.is_lost(client) {
-            up.push_payload(close(remote).as_bytes())?;
-            self.set_ledger(number, given.left());
-            self.settle(client);
-            return Ok(Heard::Lost { client });
-        }
-        self.set_ledger(number, given);
-        put_recipient(payload, channel.own.unwrap_or(0));
-        Ok(Heard::Client {
-            client,
-            refusals: 0,
-        })
-    }
-
-    // The server refuses a client's open.
-    fn hear_failure(&mut self, payload: &mut [u8], number: u32) -> Heard
-        ensures stands { HearsGist self.old self.new payload.old payload.new
-            (Within number Fails) result }
-        ensures policy { self.new.policy ≡ self.old.policy }
-    {
-        let Some((channel, ledger)) = self.channel_for(number) else {
-            return Heard::Broke(Break::NotPending { number });
-        };
-        if !waits(&channel, &ledger) {
-            return Heard::Broke(Break::NotPending { number });
-        }
-        self.free(number);
-        let client = channel.client;
-        if self.is_lost(client) {
-            self.settle(client);
-            return Heard::Lost { client };
-        }
-        put_recipient(payload, channel.own.unwrap_or(0));
-        Heard::Client {
-            client,
-            refusals: 0,
-        }
-    }
-
     // ---- channels
-
-    // What the server says in a channel that both sides have confirmed.
-    fn hear_within(&mut self, payload: &mut [u8], number: u32, act: Act) -> Heard
-        ensures stands { HearsGist self.old self.new payload.old payload.new
-            (Within number (act_of act)) result }
-        ensures policy { self.new.policy ≡ self.old.policy }
-    {
-        let Some((channel, mut ledger)) = self.channel_for(number) else {
-            return Heard::Broke(Break::NoChannel { number });
-        };
-        if let Err(why) = ledger.take(Side::Down, act) {
-            return Heard::Broke(Break::Channel { number, why });
-        }
-        self.put(number, ledger);
-        let client = channel.client;
-        if self.is_lost(client) {
-            self.settle(client);
-            return Heard::Lost { client };
-        }
-        put_recipient(payload, channel.own.unwrap_or(0));
-        Heard::Client {
-            client,
-            refusals: 0,
-        }
-    }
 }

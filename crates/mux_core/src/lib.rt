@@ -9,9 +9,11 @@
 mod clients;
 mod gone;
 mod heard;
+mod heard_channels;
 pub mod laws;
 mod reading;
 mod said;
+mod said_requests;
 mod state;
 #[cfg(test)]
 mod tests;

@@ -1,30 +1,21 @@
-ghost use Rattle.std.specs.Prelude.{◌≡◌, ◌≤◌, length, true, IfOk, IfSome, OnOk, OnErr};
+ghost use Rattle.std.specs.Prelude.{◌≡◌, ◌≤◌, length, IfOk, IfSome, OnErr};
 ghost use Rattle.ssh_fields.specs.Fields.{AreBytes};
 ghost use Rattle.ssh_grammar.specs.declared.framing.Framing.TheVariants.{Proxy};
 ghost use Rattle.ssh_grammar.specs.IsFrame.{IsContent};
-ghost use Rattle.ssh_grammar.specs.Messages.{Cancel, Forward, KeepAlive};
-ghost use Rattle.mux_history.specs.Gist.{Confirmation, Fails, Requests, Within};
+ghost use Rattle.mux_history.specs.Gist.{Confirmation, Fails, Within};
 ghost use Rattle.window_ledger.specs.Act.{act_of};
-ghost use Rattle.mux_history.specs.Keys.{is_askable};
-ghost use Rattle.forward_rules.specs.Keys.{IsShort, key_of};
-ghost use Rattle.global_replies.specs.Asks.{what_of};
-ghost use Rattle.global_replies.specs.Asks as asks;
 ghost use Rattle.mux_core.specs.Calls.{AnswerFits, SaysAs, SaysOn, SaysSome, StartsOn};
-ghost use Rattle.mux_core.specs.Gists.{opening_of, request_of};
+ghost use Rattle.mux_core.specs.Gists.{opening_of};
 ghost use Rattle.mux_core.specs.Opening.{fails_with, open_verdict};
-ghost use Rattle.mux_core.specs.Requesting.{SaysRoomy, after_refusal, is_full, may_ask, refusal, waiting_of};
 
-use crate::reading::{Gist, Opening, Request, read_gist};
+use crate::reading::{Gist, Opening, read_gist};
 use crate::state::{Core, confirmed_ledger, note_bytes, put_sender};
 use crate::verdict::Verdict;
 use channel_table::Refused;
-use conn_messages::{open_failure, request_failure};
-use forward_rules::{ForwardRefused, Key};
-use global_replies::Ask;
+use conn_messages::open_failure;
 use mux_history::Why;
-use mux_history::limits::{MAX_ADDRESS, MAX_GLOBAL_REQUESTS};
 use proxy_frames::Queue;
-use ssh_fields::{OutOfMemory, Small};
+use ssh_fields::OutOfMemory;
 use ssh_grammar::Side;
 use ssh_grammar::numbers::*;
 use window_ledger::{Act, Ledger};
@@ -35,51 +26,6 @@ fn refuse(sender: u32, reason: u32, text: &[u8]) -> Verdict
     ensures { result ≡ fails_with sender reason text.now }
 {
     Verdict::Answer(open_failure(sender, reason, text))
-}
-
-// An address or a path that isn't too long; a path isn't empty.
-fn is_askable(key: Key<'_>) -> bool
-    ensures exact { result ≡ is_askable (key_of key.entry) }
-    ensures short { result ≡ true → IsShort (key_of key.entry) }
-{
-    match key {
-        Key::Tcp { address, .. } => address.len() <= MAX_ADDRESS,
-        Key::Path(path) => !path.is_empty() && path.len() <= MAX_ADDRESS,
-    }
-}
-
-// A request for a forwarding.
-fn ask_forward(key: Key<'_>) -> Ask
-    requires { IsShort (key_of key) }
-    ensures exact { what_of result ≡ Forward (key_of key.entry) }
-    ensures short { asks.IsShort result }
-{
-    match key {
-        Key::Tcp { address, port } => Ask::Forward {
-            address: Small::copy(address),
-            port,
-        },
-        Key::Path(path) => Ask::PathForward {
-            path: Small::copy(path),
-        },
-    }
-}
-
-// A cancel of one.
-fn ask_cancel(key: Key<'_>) -> Ask
-    requires { IsShort (key_of key) }
-    ensures exact { what_of result ≡ Cancel (key_of key.entry) }
-    ensures short { asks.IsShort result }
-{
-    match key {
-        Key::Tcp { address, port } => Ask::Cancel {
-            address: Small::copy(address),
-            port,
-        },
-        Key::Path(path) => Ask::PathCancel {
-            path: Small::copy(path),
-        },
-    }
 }
 
 impl Core {
@@ -305,154 +251,4 @@ impl Core {
     }
 
     // ---- global requests
-
-    // What a client asks of all.
-    fn say_request(
-        &mut self,
-        client: u64,
-        payload: &[u8],
-        what: Request<'_>,
-        want: bool,
-        up: &mut Queue,
-    ) -> Result<Verdict, OutOfMemory>
-        requires { IsContent Proxy payload.now }
-        ensures stands { IfOk result (λ v.
-            SaysAs self.old self.new client payload.now (Requests (request_of what.entry) want) 0
-            up.old up.new v) }
-        ensures fits { IfOk result AnswerFits }
-        ensures spare { up.new.spare ≡ up.old.spare }
-        ensures policy { self.new.policy ≡ self.old.policy }
-        ensures err { OnErr result (up.new ≡ up.old) }
-    {
-        if self.is_full(client, want) {
-            return Ok(Verdict::Drop(Why::TooManyAsks {
-                have: MAX_GLOBAL_REQUESTS,
-            }));
-        }
-        match what {
-            Request::KeepAlive => return self.say_alive(client, payload, want, up),
-            Request::Other => return self.refuse_request(client, want),
-            Request::Forward(key) => return self.say_forward(client, payload, key, want, up),
-            Request::Cancel(key) => return self.say_cancel(client, payload, key, want, up),
-        }
-    }
-
-    // Whether a client's request is one too many.
-    fn is_full(&self, client: u64, want: bool) -> bool
-        ensures { result ≡ is_full want (waiting_of client self.now.clients) }
-    {
-        want && self.waiting(client) >= MAX_GLOBAL_REQUESTS
-    }
-
-    // Whether a client may ask for a forwarding, however many it has.
-    fn may_listen(&self, key: Key<'_>, want: bool) -> bool
-        ensures exact { result ≡ may_ask self.now.policy (key_of key.entry) want }
-        ensures short { result ≡ true → IsShort (key_of key.entry) }
-    {
-        want && is_askable(key) && self.permits_listen(key)
-    }
-
-    // A request that isn't sent.
-    fn refuse_request(&mut self, client: u64, want: bool) -> Result<Verdict, OutOfMemory>
-        ensures verdict { IfOk result (λ v. v ≡ refusal want (waiting_of client self.old.clients)) }
-        ensures fits { IfOk result AnswerFits }
-        ensures ok { OnOk result
-            (self.new ≡ record self.old { clients = after_refusal want client self.old.clients }) }
-        ensures policy { self.new.policy ≡ self.old.policy }
-    {
-        if !want {
-            return Ok(Verdict::Silent);
-        }
-        let now = self.refuse_waiting(client)?;
-        if now {
-            return Ok(Verdict::Answer(request_failure()));
-        }
-        Ok(Verdict::Held)
-    }
-
-    // A client asks whether the server is there.
-    fn say_alive(
-        &mut self,
-        client: u64,
-        payload: &[u8],
-        want: bool,
-        up: &mut Queue,
-    ) -> Result<Verdict, OutOfMemory>
-        requires { IsContent Proxy payload.now }
-        ensures stands { IfOk result (λ v.
-            SaysRoomy self.old self.new client payload.now KeepAlive want up.old up.new v) }
-        ensures fits { IfOk result AnswerFits }
-        ensures spare { up.new.spare ≡ up.old.spare }
-        ensures policy { self.new.policy ≡ self.old.policy }
-        ensures err { OnErr result (up.new ≡ up.old) }
-    {
-        if want {
-            self.await_reply(client, Ask::KeepAlive)?;
-            up.push_payload(payload)?;
-            return Ok(Verdict::Sent);
-        }
-        up.push_payload(payload)?;
-        Ok(Verdict::Sent)
-    }
-
-    // A client asks for a forwarding.
-    fn say_forward(
-        &mut self,
-        client: u64,
-        payload: &[u8],
-        key: Key<'_>,
-        want: bool,
-        up: &mut Queue,
-    ) -> Result<Verdict, OutOfMemory>
-        requires { IsContent Proxy payload.now }
-        ensures stands { IfOk result (λ v.
-            SaysRoomy self.old self.new client payload.now (Forward (key_of key.entry)) want
-            up.old up.new v) }
-        ensures fits { IfOk result AnswerFits }
-        ensures spare { up.new.spare ≡ up.old.spare }
-        ensures policy { self.new.policy ≡ self.old.policy }
-        ensures err { OnErr result (up.new ≡ up.old) }
-    {
-        if !self.may_listen(key, want) {
-            return self.refuse_request(client, want);
-        }
-        match self.add_forward(client, key) {
-            Ok(()) => {}
-            Err(ForwardRefused::Full { .. }) => return self.refuse_request(client, want),
-            Err(ForwardRefused::OutOfMemory) => return Err(OutOfMemory),
-        }
-        self.await_reply(client, ask_forward(key))?;
-        up.push_payload(payload)?;
-        Ok(Verdict::Sent)
-    }
-
-    // A client cancels a forwarding.
-    fn say_cancel(
-        &mut self,
-        client: u64,
-        payload: &[u8],
-        key: Key<'_>,
-        want: bool,
-        up: &mut Queue,
-    ) -> Result<Verdict, OutOfMemory>
-        requires { IsContent Proxy payload.now }
-        ensures stands { IfOk result (λ v.
-            SaysRoomy self.old self.new client payload.now (Cancel (key_of key.entry)) want
-            up.old up.new v) }
-        ensures fits { IfOk result AnswerFits }
-        ensures spare { up.new.spare ≡ up.old.spare }
-        ensures policy { self.new.policy ≡ self.old.policy }
-        ensures err { OnErr result (up.new ≡ up.old) }
-    {
-        if !self.cancel_forward(client, key, want) {
-            return self.refuse_request(client, want);
-        }
-        if want {
-            self.await_reply(client, ask_cancel(key))?;
-            up.push_payload(payload)?;
-            return Ok(Verdict::Sent);
-        }
-        up.push_payload(payload)?;
-        Ok(Verdict::Sent)
-    }
 }
