@@ -6,8 +6,6 @@
 mod bytes;
 mod heads;
 mod lines;
-#[cfg(test)]
-mod tests;
 mod words;
 
 pub use bytes::{first, split_at_first};

@@ -19,5 +19,3 @@ pub use write::{
     request_failure,
 };
 
-#[cfg(test)]
-mod tests;

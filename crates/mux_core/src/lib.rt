@@ -15,8 +15,6 @@ mod reading;
 mod said;
 mod said_requests;
 mod state;
-#[cfg(test)]
-mod tests;
 mod verdict;
 
 pub use heard::Heard;

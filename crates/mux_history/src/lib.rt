@@ -7,8 +7,6 @@ mod broke;
 mod ended;
 pub mod laws;
 pub mod limits;
-#[cfg(test)]
-mod tests;
 mod why;
 mod worked;
 

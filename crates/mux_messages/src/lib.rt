@@ -11,5 +11,3 @@ pub use read::read_control;
 pub use ssh_grammar::BadControl;
 pub use write::{LONGEST_REASON, alive, failure, hello, ok, proxy, remote_port};
 
-#[cfg(test)]
-mod tests;

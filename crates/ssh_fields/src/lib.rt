@@ -18,5 +18,3 @@ pub use put::{patch_u32, put_string, put_u32};
 pub use small::Small;
 pub use text::{Text, Texts};
 
-#[cfg(test)]
-mod tests;

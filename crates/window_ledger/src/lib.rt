@@ -11,5 +11,3 @@ pub use act::Act;
 pub use ledger::Ledger;
 pub use ssh_grammar::{Breach, Side};
 
-#[cfg(test)]
-mod tests;

@@ -1,7 +1,7 @@
-use super::*;
 use Act::{Close, Data, Eof, Grant, Reply, Request};
 use Breach::{AfterClose, AfterEof, Overflow, PastPacket, PastWindow, Unasked};
 use Side::{Down, Up};
+use window_ledger::{Act, Breach, Ledger, Side};
 
 /// The most that a window holds.
 const FULL: u32 = 4_294_967_295;

@@ -21,9 +21,9 @@ ghost use Rattle.std.specs.Prelude.{◌≤◌, vec_len};
 
 mod limits;
 
-use super::{Core, Heard, Verdict};
 use client_teardown::FAREWELL_ROOM;
 use forward_rules::Policy;
+use mux_core::{Core, Heard, Verdict};
 use proxy_frames::Queue;
 use ssh_fields::Texts;
 use std::alloc::Global;

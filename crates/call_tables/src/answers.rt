@@ -1,8 +1,8 @@
 ghost use Rattle.std.specs.Prelude.{IfSome};
 ghost use Rattle.global_replies.specs.Asks.{IsShort};
 
-use super::*;
 use Step::{Refused, Replied, Sent};
+use global_replies::{Ask, Askers, ClientAnswers};
 use ssh_fields::{OutOfMemory, Small};
 
 /// A client, and what it asks: the request, its address or path, and its port.

@@ -1,4 +1,4 @@
-use crate::{Head, LexError, first, next_line, split_at_first, split_head, split_words};
+use conf_lexer::{Head, LexError, first, next_line, split_at_first, split_head, split_words};
 use ssh_fields::Text;
 use std::alloc::Global;
 use std::test::Fail;

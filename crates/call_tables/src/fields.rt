@@ -1,4 +1,4 @@
-use super::*;
+use ssh_fields::{Cursor, OutOfMemory, Text, Texts, put_string, put_u32};
 use std::test::Fail;
 
 /// The spellings that RFC 4251, section 5, shows: 699921578 and "testing".

@@ -1,4 +1,4 @@
-use crate::{Break, Ended};
+use mux_history::{Break, Ended};
 use ssh_grammar::{Bad, BadFrame, Breach};
 
 const BROKEN: [(Break, &str); 9] = [

@@ -1,4 +1,7 @@
-use super::*;
+use conn_messages::{
+    Bad, cancel_forward, cancel_path, close, data_len, open_failure, read_message, request_failure,
+    wanted,
+};
 
 /// A payload with one byte too many behind it; the fault where its last byte is missing, and the fault
 /// with the byte too many. Where its last field is data, neither is a fault.
