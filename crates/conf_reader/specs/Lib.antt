@@ -3,6 +3,7 @@ pub mod Blocks
 pub mod Firsts
 pub mod Known
 pub mod Left
+pub mod Looking
 pub mod Moving
 pub mod Paths
 pub mod Reads

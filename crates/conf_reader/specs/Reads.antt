@@ -15,7 +15,7 @@ use Rattle.conf_reader.specs.declared.reader.Lines.{Lines}
 use Rattle.conf_reader.specs.declared.reader.Step.{Step}
 use Rattle.conf_reader.specs.declared.reader.Step.TheVariants as steps
 use Rattle.conf_reader.specs.Blocks.{Blocks, IsLine, open_behind}
-use Rattle.conf_reader.specs.Left.{left, stack, Bounded, IsGiven}
+use Rattle.conf_reader.specs.Left.{left, source_of, stack, Bounded, IsGiven}
 
 -- how many files a reader has open
 abbrev pub open_count : Lines → ℕ
@@ -42,6 +42,7 @@ pub record GivesNext (told : Told) (place : ℕ) (blocks : Blocks) (old new : Li
   pub is_line : IsLine given blocks line
   pub within : is_past_limit told line (place + length comments) ≡ false
   pub count : place + length comments + 1 ≡ length told.asked.lines + new.read
+  pub source : line.source ≡ source_of new.open_files.system
 
 -- behind comments a line is refused, whatever stands before it
 pub record RefusesNext (told : Told) (place : ℕ) (left : List Line) (file : List ℕ) (number : ℕ)

@@ -1,9 +1,10 @@
-ghost use Rattle.std.specs.Prelude.{◌≡◌, ◌<◌, ◌^◌, ℕ, IfOk};
+ghost use Rattle.std.specs.Prelude.{◌≡◌, ◌<◌, ◌^◌, ◌∷◌, [], ℕ, IfOk};
 ghost use Rattle.conf_rules.specs.Told.{Told};
 ghost use Rattle.conf_rules.specs.Sources.{size_limit};
 ghost use Rattle.mux_outside.specs.Counts.{HasCause};
 ghost use Rattle.conf_reader.specs.Known.{TellsFiles};
 ghost use Rattle.conf_reader.specs.Left.{IsFound};
+ghost use Rattle.conf_reader.specs.Looking.{FileFails};
 
 use mux_outside::{FileError, Files};
 use ssh_fields::Text;
@@ -30,6 +31,7 @@ pub fn read_file<F: Files>(path: &[u8], files: &mut F) -> Result<Found, FileErro
     ensures found { (told : Told) → TellsFiles (F.told files.old) told
         → IfOk result (λ found. IsFound found (told.content path.now)) }
     ensures cause { HasCause result (F.faults files.old) (F.faults files.new) }
+    ensures failed { FileFails (path.now ∷ []) result (F.failed files.old) (F.failed files.new) }
     ensures told { F.told files.new ≡ F.told files.old }
 {
     let text = match files.read(path, size_limit() + 1)? {

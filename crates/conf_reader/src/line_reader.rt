@@ -124,7 +124,7 @@ impl LineReader {
     ghost use Rattle.conf_reader.specs.Moving.{ReadsFor};
     ghost use Rattle.conf_reader.specs.Reads.{IsGivenFrom, IsOver, open_count};
     ghost use Rattle.conf_reader.specs.Results.{HasReadCause, is_run_fault};
-    ghost use Rattle.conf_reader.specs.Unread.{unread, read_places, FaultsAmong, Follows};
+    ghost use Rattle.conf_reader.specs.Looking.{Test, passes, Looks};
 
     /// A reader of the files that are asked for.
     pub fn new(alloc: Global, asked: &Asked, facts: &Facts) -> Result<LineReader, OutOfMemory>
@@ -137,7 +137,8 @@ impl LineReader {
             × Bounded reader.lines.open_files 0) }
         ensures firsts { IfOk result (λ reader. reader.lines.firsts.items
             ≡ firsts_of facts.now.home asked.now.from) }
-        ensures unread { IfOk result (λ reader. unread reader.lines.open_files ≡ []) }
+        ensures looks { IfOk result (λ reader. (test : Test) (told : Told)
+            → passes test told reader.lines.open_files ≡ true) }
         ensures read { IfOk result (λ reader. reader.lines.read ≡ 0) }
     {
         let firsts = first_files(alloc, &asked.from, &facts.home)?;
@@ -164,11 +165,9 @@ impl LineReader {
         ensures told { F.told files.new ≡ F.told files.old }
         ensures cause { HasReadCause result (F.faults files.old) (F.faults files.new) }
         ensures no_run_fault { IfErr result (λ e. is_run_fault e ≡ false) }
-        ensures unread { IfOk result (λ given.
-            IfSome given (Follows (unread self.old.lines.open_files)
-            (unread self.new.lines.open_files))) }
+        ensures looks { Looks (F.told files.old) (known self.old.facts) self.old.original
+            (F.failed files.old) (F.failed files.new) self.old.lines self.new.lines result }
         ensures firsts { self.new.lines.firsts ≡ self.old.lines.firsts }
-        ensures fault { FaultsAmong (read_places self.old.lines) result }
     {
         let given = self
             .lines

@@ -1,4 +1,4 @@
-ghost use Rattle.std.specs.Prelude.{◌≡◌, ◌≤◌, ◌∷◌, ◌++◌, [], ℕ, IfOk, OnOk, map, filter, length};
+ghost use Rattle.std.specs.Prelude.{◌≡◌, ◌≤◌, ◌∷◌, ◌++◌, [], ℕ, IfOk, OnOk, map, filter, flat_map, length, if◌then◌else◌};
 ghost use Rattle.conf_rules.specs.Results.{Gives};
 ghost use Rattle.conf_rules.specs.Wants.{token_wants_memory};
 ghost use Rattle.conf_rules.specs.Told.{Told};
@@ -8,12 +8,14 @@ ghost use Rattle.conf_rules.specs.Tokens.{starts_with_slash};
 ghost use Rattle.conf_rules.specs.Globs.{is_glob, component_takes};
 ghost use Rattle.conf_rules.specs.Order.{sorted};
 ghost use Rattle.conf_rules.specs.Includes.{absolute, or_root, below, along, components_of, ends_with_slash, globbed};
+ghost use Rattle.conf_rules.specs.Looks.{folders_along, folders_of, looks_in};
 ghost use Rattle.mux_outside.specs.Counts.{HasCause};
 ghost use Rattle.conf_tokens.specs.Known.{known};
 ghost use Rattle.conf_tokens.specs.Seen.{seen};
 ghost use Rattle.conf_reader.specs.Known.{TellsFiles};
 ghost use Rattle.conf_reader.specs.Left.{FoundPaths, named_by, source_of};
 ghost use Rattle.conf_reader.specs.Paths.{facts_seen, path_from, paths_from, SameTexts, with_component, all_globbed};
+ghost use Rattle.conf_reader.specs.Looking.{FileFails, LineFails};
 ghost use Rattle.conf_reader.specs.Results.{HasLineCause};
 
 use crate::errors::LineError;
@@ -179,6 +181,8 @@ fn put_below<F: Files>(
         → OnOk result (SameTexts (paths.old.items ++ below told component.now base.now)
         paths.new.items) }
     ensures cause { HasCause result (F.faults files.old) (F.faults files.new) }
+    ensures failed { FileFails (if is_glob component.now then or_root base.now ∷ [] else []) result
+        (F.failed files.old) (F.failed files.new) }
     ensures told { F.told files.new ≡ F.told files.old }
 {
     if !is_glob(component) {
@@ -203,6 +207,8 @@ fn with_component<F: Files>(
         → IfOk result (λ paths.
         SameTexts (with_component told component.now bases.items) paths.items) }
     ensures cause { HasCause result (F.faults files.old) (F.faults files.new) }
+    ensures failed { FileFails (if is_glob component.now then map or_root bases.items else []) result
+        (F.failed files.old) (F.failed files.new) }
     ensures told { F.told files.new ≡ F.told files.old }
 {
     if component.is_empty() {
@@ -221,6 +227,9 @@ fn along<F: Files>(alloc: Global, path: &[u8], files: &mut F) -> Result<Vec<Text
         → IfOk result (λ paths.
         SameTexts (along told (components_of path.now) ([] ∷ [])) paths.items) }
     ensures cause { HasCause result (F.faults files.old) (F.faults files.new) }
+    ensures failed { (told : Told) → TellsFiles (F.told files.old) told
+        → FileFails (folders_along told (components_of path.now) ([] ∷ [])) result
+        (F.failed files.old) (F.failed files.new) }
     ensures told { F.told files.new ≡ F.told files.old }
 {
     let mut paths = Vec::new(alloc);
@@ -257,6 +266,8 @@ fn globbed<F: Files>(alloc: Global, path: &[u8], files: &mut F) -> Result<Texts,
     ensures found { (told : Told) → TellsFiles (F.told files.old) told
         → IfOk result (λ paths. paths ≡ globbed told path.now) }
     ensures cause { HasCause result (F.faults files.old) (F.faults files.new) }
+    ensures failed { (told : Told) → TellsFiles (F.told files.old) told
+        → FileFails (folders_of told path.now) result (F.failed files.old) (F.failed files.new) }
     ensures told { F.told files.new ≡ F.told files.old }
 {
     let mut found = Texts::new(alloc);
@@ -278,6 +289,9 @@ fn all_globbed<F: Files>(alloc: Global, paths: &Texts, files: &mut F) -> Result<
     ensures found { (told : Told) → TellsFiles (F.told files.old) told
         → IfOk result (λ found. found ≡ all_globbed told paths.now) }
     ensures cause { HasCause result (F.faults files.old) (F.faults files.new) }
+    ensures failed { (told : Told) → TellsFiles (F.told files.old) told
+        → FileFails (flat_map (folders_of told) paths.now) result (F.failed files.old)
+        (F.failed files.new) }
     ensures told { F.told files.new ≡ F.told files.old }
 {
     let mut all = Texts::new(alloc);
@@ -302,6 +316,10 @@ pub fn named_paths<F: Files>(
         → told.facts ≡ known facts.now → told.asked.original ≡ original.now
         → FoundPaths result (named_by (source_of system) told (words_of rest.now)) }
     ensures cause { HasLineCause result (F.faults files.old) (F.faults files.new) }
+    ensures failed { (told : Told) → TellsFiles (F.told files.old) told
+        → told.facts ≡ known facts.now → told.asked.original ≡ original.now
+        → LineFails (looks_in (source_of system) told (words_of rest.now)) result
+        (F.failed files.old) (F.failed files.new) }
     ensures told { F.told files.new ≡ F.told files.old }
 {
     let words = match split_words(alloc, rest) {

@@ -4,6 +4,7 @@ use Rattle.std.specs.List.{list_any, before_first}
 use Rattle.std.specs.Option.{option_and_then, option_map}
 use Rattle.std.specs.Str.{bytes_eq}
 use Rattle.mux_outside.specs.declared.file_error.FileError.{FileError}
+use Rattle.mux_outside.specs.declared.file_error.FileError.TheVariants.{Failed}
 use Rattle.mux_outside.specs.declared.pairs.Pair.{Pair}
 
 -- the value under a name, of equal names the first
@@ -74,3 +75,9 @@ abbrev pub Lists : Option (List Pair) → List ℕ → Result (Option (List (Lis
 Lists None dir found = Unit {0}
 Lists (Some files) dir (Err e) = Unit {0}
 Lists (Some files) dir (Ok found) = ListsNames files dir found
+
+-- the paths that failed after a call: its own, where it failed
+abbrev pub NotesFailed : {X : Type 0} → Result X FileError → List ℕ → Option (List (List ℕ))
+    → Option (List (List ℕ)) → Type 0
+NotesFailed (Err Failed) path before now = now ≡ option_map (λ paths. paths ++ path ∷ []) before
+NotesFailed answer path before now = now ≡ before

@@ -1,7 +1,7 @@
 ghost use Rattle.std.specs.Prelude.{◌≡◌, ◌≤◌, ℕ, List, length, Option, IfOk, IfSome};
 ghost use Rattle.mux_outside.specs.declared.pairs.Pair.{Pair as ThePair};
 ghost use Rattle.mux_outside.specs.Counts.{HasCause};
-ghost use Rattle.mux_outside.specs.Files.{Reads, Lists};
+ghost use Rattle.mux_outside.specs.Files.{Reads, Lists, NotesFailed};
 
 use crate::file_error::FileError;
 use ssh_fields::{Text, Texts};
@@ -14,17 +14,22 @@ pub trait Files {
     /// How many calls failed.
     ghost faults: { Self → ℕ };
 
+    /// The paths that the calls which failed were given, in their order, where they are told.
+    ghost failed: { Self → Option (List (List ℕ)) };
+
     /// The first `most` bytes of a file, fewer where it is shorter. `None`: there is no such file,
     /// or the path names a directory.
     fn read(&mut self, path: &[u8], most: usize) -> Result<Option<Text>, FileError>
         ensures reads { Reads (told self.old) path.now most result }
         ensures at_most { IfOk result (λ found. IfSome found (λ text. length text ≤ most)) }
         ensures cause { HasCause result (faults self.old) (faults self.new) }
+        ensures failed { NotesFailed result path.now (failed self.old) (failed self.new) }
         ensures told { told self.new ≡ told self.old };
 
     /// The names in a directory, in any order. `None`: there is no such directory.
     fn list(&mut self, dir: &[u8]) -> Result<Option<Texts>, FileError>
         ensures lists { Lists (told self.old) dir.now result }
         ensures cause { HasCause result (faults self.old) (faults self.new) }
+        ensures failed { NotesFailed result dir.now (failed self.old) (failed self.new) }
         ensures told { told self.new ≡ told self.old };
 }

@@ -1,7 +1,7 @@
-ghost use Rattle.std.specs.Prelude.{◌≡◌, ◌≤◌, length, Some, IfOk, IfSome};
-ghost use Rattle.mux_outside.specs.Calls.{FailsByNumber, calls_after};
-ghost use Rattle.mux_outside.specs.Counts.{HasCause};
-ghost use Rattle.mux_outside.specs.Files.{Reads, Lists, ListsNames, content_at};
+ghost use Rattle.std.specs.Prelude.{◌≡◌, ◌≤◌, ◌++◌, ◌∷◌, [], length, Some, IfOk, IfErr, IfSome, OnOk};
+ghost use Rattle.mux_outside.specs.Calls.{FailsWhereNoted, calls_after};
+ghost use Rattle.mux_outside.specs.Counts.{HasCause, Rose};
+ghost use Rattle.mux_outside.specs.Files.{Reads, Lists, ListsNames, NotesFailed, content_at};
 ghost use Rattle.std.specs.Prelude.{take};
 ghost use Rattle.std.specs.Option.{option_map};
 
@@ -21,15 +21,17 @@ pub struct MapFiles {
     alloc: Global,
     files: Pairs,
     fails: Calls,
+    failed: Texts,
     calls: u64,
     faults: u64,
 }
 
 impl MapFiles {
-    /// These files. The calls that fail are counted over reads and listings.
+    /// These files. The calls that fail are counted over reads and listings, and their paths are kept.
     pub fn new(alloc: Global, files: Pairs, fails: Calls) -> MapFiles
         ensures files { result.files ≡ files }
         ensures fails { result.fails ≡ fails }
+        ensures failed { result.failed ≡ [] }
         ensures calls { result.calls ≡ 0 }
         ensures faults { result.faults ≡ 0 }
     {
@@ -37,9 +39,24 @@ impl MapFiles {
             alloc,
             files,
             fails,
+            failed: Texts::new(alloc),
             calls: 0,
             faults: 0,
         }
+    }
+
+    // Fails the call of this number, with its path.
+    fn fail(&mut self, call: u64, path: &[u8]) -> Result<(), OutOfMemory>
+        ensures failed { OnOk result (self.new.failed ≡ self.old.failed ++ path.now ∷ []) }
+        ensures faults { OnOk result (Rose self.old.faults self.new.faults) }
+        ensures calls { OnOk result (self.new.calls ≡ call) }
+        ensures kept { (self.new.files ≡ self.old.files) × (self.new.fails ≡ self.old.fails) }
+        ensures unchanged { IfErr result (λ e. self.new ≡ self.old) }
+    {
+        self.failed.push(Text::copy(self.alloc, path)?)?;
+        self.calls = call;
+        self.faults = raised(self.faults);
+        Ok(())
     }
 }
 
@@ -78,19 +95,21 @@ impl Files for MapFiles {
 
     ghost faults = { λ f. f.faults };
 
+    ghost failed = { λ f. Some f.failed };
+
     fn read(&mut self, path: &[u8], most: usize) -> Result<Option<Text>, FileError>
         ensures reads { Reads (Some self.old.files) path.now most result }
         ensures at_most { IfOk result (λ found. IfSome found (λ text. length text ≤ most)) }
         ensures cause { HasCause result self.old.faults self.new.faults }
         ensures told { Some self.new.files ≡ Some self.old.files }
-        ensures exact { FailsByNumber result self.old.calls self.old.fails }
+        ensures failed { NotesFailed result path.now (Some self.old.failed) (Some self.new.failed) }
+        ensures exact { FailsWhereNoted result self.old.calls self.old.fails }
         ensures calls { self.new.calls ≡ calls_after result self.old.calls }
         ensures fails { self.new.fails ≡ self.old.fails }
     {
         let call = counted(self.calls);
         if self.fails.contains(call) {
-            self.calls = call;
-            self.faults = raised(self.faults);
+            self.fail(call, path)?;
             return Err(FileError::Failed);
         }
         let found = read_first(self.alloc, self.files.as_slice(), path, most)?;
@@ -102,14 +121,14 @@ impl Files for MapFiles {
         ensures lists { Lists (Some self.old.files) dir.now result }
         ensures cause { HasCause result self.old.faults self.new.faults }
         ensures told { Some self.new.files ≡ Some self.old.files }
-        ensures exact { FailsByNumber result self.old.calls self.old.fails }
+        ensures failed { NotesFailed result dir.now (Some self.old.failed) (Some self.new.failed) }
+        ensures exact { FailsWhereNoted result self.old.calls self.old.fails }
         ensures calls { self.new.calls ≡ calls_after result self.old.calls }
         ensures fails { self.new.fails ≡ self.old.fails }
     {
         let call = counted(self.calls);
         if self.fails.contains(call) {
-            self.calls = call;
-            self.faults = raised(self.faults);
+            self.fail(call, dir)?;
             return Err(FileError::Failed);
         }
         let found = list_names(self.alloc, self.files.as_slice(), dir)?;

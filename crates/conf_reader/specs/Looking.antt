@@ -1,0 +1,110 @@
+-- What open files have still to look at, and where a failed read is told.
+use Rattle.std.specs.Prelude.{◌≡◌, ℕ, ◌-◌, Bool, true, ◌&&◌, if◌then◌else◌, List, [], ◌∷◌, ◌++◌, drop, Option, Some, None, Result, Ok, Err, codes}
+use Rattle.std.specs.List.{list_all, list_any}
+use Rattle.std.specs.Option.{option_map}
+use Rattle.std.specs.Str.{bytes_eq}
+use Rattle.mux_outside.specs.declared.pairs.Pair.{Pair}
+use Rattle.mux_outside.specs.declared.file_error.FileError.{FileError}
+use Rattle.mux_outside.specs.declared.file_error.FileError.TheVariants as file_errors
+use Rattle.conf_rules.specs.declared.causes.Cause.TheVariants as causes
+use Rattle.conf_rules.specs.declared.causes.ResolveError.{ResolveError}
+use Rattle.conf_rules.specs.declared.causes.ResolveError.TheVariants.{At, OutOfMemory}
+use Rattle.conf_rules.specs.Texts.{Bytes, same_word}
+use Rattle.conf_rules.specs.Told.{Facts, Told}
+use Rattle.conf_rules.specs.Includes.{Source}
+use Rattle.conf_rules.specs.Looks.{looks_at}
+use Rattle.conf_reader.specs.declared.errors.LineError.{LineError}
+use Rattle.conf_reader.specs.declared.errors.LineError.TheVariants as line_errors
+use Rattle.conf_reader.specs.declared.line.ConfLine.{ConfLine}
+use Rattle.conf_reader.specs.declared.open_file.OpenFile.{OpenFile}
+use Rattle.conf_reader.specs.declared.stack.OpenFiles.{OpenFiles}
+use Rattle.conf_reader.specs.declared.reader.FirstFile.{FirstFile}
+use Rattle.conf_reader.specs.declared.reader.Lines.{Lines}
+use Rattle.conf_reader.specs.Known.{TellsFiles}
+use Rattle.conf_reader.specs.Left.{source_of, stack}
+
+-- ---- what failed, call by call
+
+-- one more path failed, which is among these
+pub record FailsAmong (paths : List Bytes) (before now : Option (List Bytes)) : Type 0 where
+  pub path : Bytes
+  pub is : now ≡ option_map (λ failed. failed ++ path ∷ []) before
+  pub among : list_any (bytes_eq path) paths ≡ true
+
+-- a call failed at one of these paths, or nothing failed
+abbrev pub FileFails :
+    {A : Type 0} → List Bytes → Result A FileError → Option (List Bytes) → Option (List Bytes) → Type 0
+FileFails paths (Err file_errors.Failed) before now = FailsAmong paths before now
+FileFails paths answer before now = now ≡ before
+
+-- the same of a line's reading
+abbrev pub LineFails :
+    {A : Type 0} → List Bytes → Result A LineError → Option (List Bytes) → Option (List Bytes) → Type 0
+LineFails paths (Err (line_errors.Refused causes.ReadFault)) before now = FailsAmong paths before now
+LineFails paths result before now = now ≡ before
+
+-- ---- where a failed read is told
+
+-- whether a failed read may be told in a file, at a line's number, of a path
+abbrev pub Test : Type 0
+Test = Bytes → ℕ → Bytes → Bool
+
+-- what the last line of an open file has still to look at
+abbrev pub to_look : Told → Source → OpenFile → List Bytes
+to_look told source f = elim f.include [
+  | None ↦ drop f.next f.named
+  | Some rest ↦ looks_at source told rest
+]
+
+-- whether all that an open file has still to look at may be told at its last line
+abbrev pub passes_in : Test → Told → Source → OpenFile → Bool
+passes_in test told source f = list_all (test f.path (f.number - 1)) (to_look told source f)
+
+-- the same of all open files
+abbrev pub passes : Test → Told → OpenFiles → Bool
+passes test told o = list_all (passes_in test told (source_of o.system)) (stack o)
+
+-- whether each first file may be told before its first line
+abbrev pub firsts_pass : Test → List FirstFile → Bool
+firsts_pass test firsts = list_all (λ f. test f.path 0 f.path) firsts
+
+-- whether all that a reader has still to look at may be told there
+abbrev pub all_pass : Test → Told → Lines → Bool
+all_pass test told r = passes test told r.open_files && firsts_pass test r.firsts.items
+
+-- whether all that a given line looks at may be told at it
+abbrev pub line_passes : Test → Told → Source → ConfLine → Bool
+line_passes test told source line = if same_word line.keyword (codes "include")
+    then list_all (test line.file line.number) (looks_at source told line.rest) else true
+
+-- one more path failed, and it may be told there
+pub record FailsAt (test : Test) (file : Bytes) (number : ℕ) (before now : Option (List Bytes)) :
+    Type 0 where
+  pub path : Bytes
+  pub is : now ≡ option_map (λ failed. failed ++ path ∷ []) before
+  pub passes : test file number path ≡ true
+
+-- a failed read is told where its path may be, and no other answer comes behind one
+abbrev pub TellsFailed :
+    {A : Type 0} → Test → Result A ResolveError → Option (List Bytes) → Option (List Bytes) → Type 0
+TellsFailed test (Ok x) before now = now ≡ before
+TellsFailed test (Err OutOfMemory) before now = Unit {0}
+TellsFailed test (Err (At file number causes.ReadFault)) before now =
+    FailsAt test file number before now
+TellsFailed test (Err (At file number cause)) before now = now ≡ before
+
+-- behind a line that was given, all that is still to be looked at passes, where the line's own does
+abbrev pub LooksOn : Test → Told → Lines → Result (Option ConfLine) ResolveError → Type 0
+LooksOn test told new (Ok (Some line)) =
+    line_passes test told (source_of new.open_files.system) line ≡ true
+    → passes test told new.open_files ≡ true
+LooksOn test told new result = Unit {0}
+
+-- where files tell, with these facts: whatever test all passes that is still to be looked at, a failed read passes it where it
+-- is told, and so does what is to be looked at behind a line that is given
+abbrev pub Looks : Option (List Pair) → Facts → Bytes → Option (List Bytes) → Option (List Bytes)
+    → Lines → Lines → Result (Option ConfLine) ResolveError → Type 0
+Looks files facts original failed now old new result =
+    (told : Told) (test : Test) → TellsFiles files told → told.facts ≡ facts
+    → told.asked.original ≡ original → all_pass test told old ≡ true
+    → TellsFailed test result failed now × LooksOn test told new result
