@@ -1,5 +1,4 @@
 pub mod Loops
-pub mod NumberLemmas
 pub mod PartLemmas
 pub mod WalkLemmas
 pub mod WordLemmas

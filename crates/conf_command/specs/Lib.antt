@@ -1,4 +1,3 @@
-pub mod Hosts
 pub mod Parts
 pub mod Words
 pub mod Sound

@@ -3,7 +3,7 @@ ghost use Rattle.std.specs.Option.{option_map};
 ghost use Rattle.conf_rules.specs.Destinations.{is_host, destination};
 ghost use Rattle.conf_command.specs.Shown.{destination_of};
 
-use crate::bytes::split_at_last;
+use conf_lexer::split_at_last;
 
 /// A host, and the user if one is named.
 #[derive(Clone, Copy, Debug)]

@@ -1,7 +1,7 @@
 ghost use Rattle.std.specs.Prelude.{◌≡◌, ℕ, Ok, Err, Result, ◌∷◌};
 ghost use Rattle.conf_rules.specs.Reading.{seed_limit, drill_number, drill_of};
 
-use crate::bytes::number;
+use conf_lexer::number;
 use conf_rules::{Command, Usage, UsageError};
 use ssh_fields::Text;
 

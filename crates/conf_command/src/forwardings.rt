@@ -3,7 +3,8 @@ ghost use Rattle.std.specs.List.{list_any};
 ghost use Rattle.conf_rules.specs.Options.{parts_from, is_bad_part, forward_words};
 ghost use Rattle.conf_command.specs.Parts.{one_end, two_ends, ends_among};
 
-use crate::bytes::{has_slash, joined};
+use crate::bytes::joined;
+use conf_lexer::has_slash;
 use ssh_fields::{OutOfMemory, Text, Texts};
 use std::alloc::Global;
 use std::mem;

@@ -6,10 +6,11 @@ ghost use Rattle.conf_command.specs.Shown.{act_of, takes_of, next_of};
 ghost use Rattle.conf_command.specs.Words.{word_steps, end_steps};
 
 use crate::act::Act;
-use crate::bytes::{first, is_same};
+use crate::bytes::is_same;
 use crate::forwardings::forward_words;
 use crate::letters::{Letter, Takes, meaning_of};
 use crate::step::{Step, Steps};
+use conf_lexer::first;
 use conf_rules::{AskedLine, ConfigFrom, Usage};
 use ssh_fields::{OutOfMemory, Text, Texts};
 use std::alloc::Global;

@@ -2,7 +2,6 @@ pub mod Sums
 pub mod OfferLemmas
 pub mod ChangeLemmas
 pub mod KindLemmas
-pub mod Digits
 pub mod WordLemmas
 pub mod FitLemmas
 pub mod ReadLemmas

@@ -1,10 +1,8 @@
 -- The forms of values as the code has them.
 use Rattle.std.specs.Prelude.{◌^◌, ◌<◌, Bool, true, false, not, ◌==◌, ◌&&◌, ◌||◌, if◌then◌else◌, List, [], ◌∷◌, Option, Some, None, codes}
-use Rattle.std.specs.List.{list_any}
 use Rattle.conf_rules.specs.Texts.{Bytes}
 use Rattle.conf_rules.specs.Kinds.{ValueKind}
 use Rattle.conf_rules.specs.Kinds as kinds
-use Rattle.conf_rules.specs.Forwardings.{is_host_byte}
 use Rattle.conf_options.specs.declared.forms.Choices.{Choices}
 use Rattle.conf_options.specs.declared.forms.Choices.TheVariants.{Families, Levels, Bindings, Terminals, Strictness, Tunnels}
 use Rattle.conf_options.specs.declared.forms.Form.{Form}
@@ -51,7 +49,3 @@ abbrev pub tokens_from : Bool → Bytes → Bool
 tokens_from marked [] = not marked
 tokens_from true (b ∷ bs) = let later = tokens_from false bs in ((b == 37) || (b == 104)) && later
 tokens_from false (b ∷ bs) = tokens_from (b == 37) bs
-
--- a host without brackets
-abbrev pub plain_host : Bytes → Option Bytes
-plain_host host = if list_any is_host_byte host then None else Some host

@@ -9,10 +9,11 @@ ghost use Rattle.conf_rules.specs.Wants.{value_wants_memory};
 ghost use Rattle.conf_options.specs.Forms.{choices_of, form_kind, IsSmall};
 
 use crate::forms::{Choices, Form, choice_of, form_of};
-use crate::forwards::{connect_end, has_slash, listen_end, listen_port};
+use crate::forwards::{connect_end, listen_end, listen_port};
 use crate::patterns::copied;
 use crate::times::time_of;
-use crate::words::{flag, has_name_tokens, number};
+use crate::words::{flag, has_name_tokens};
+use conf_lexer::{has_slash, number};
 use conf_rules::{End, Forward, Key, Value, ValueError};
 use ssh_fields::{Text, Texts};
 use std::alloc::Global;
