@@ -1,10 +1,11 @@
 -- The paths at which a call may have failed, and those that a path asks for.
-use Rattle.std.proofs.Common.{◌≡◌, ℕ, zero, suc, ◌+◌, ◌<◌, Bool, true, false, cond, ◌||◌, List, [], ◌∷◌, ◌++◌, length, get_or, Option, Some, None, Ok, Err, map, refl, sym, ap, ◌∙◌, Result, arith}
-use Rattle.std.specs.Prelude.{sum_by, filter, flat_map, nat_lt, if◌then◌else◌, not}
+use Rattle.std.proofs.Common.{◌≡◌, ℕ, zero, suc, ◌+◌, ◌<◌, Bool, true, false, cond, ◌||◌, List, [], ◌∷◌, ◌++◌, length, take, get_or, Option, Some, None, Ok, Err, map, refl, sym, ap, ◌∙◌, Result, arith}
+use Rattle.std.specs.Prelude.{◌==◌, ◌≤◌, sum_by, filter, flat_map, nat_lt, if◌then◌else◌, not}
 use Rattle.std.specs.List.{list_any}
 use Rattle.std.specs.Str.{bytes_eq}
 use Rattle.std.proofs.Math.Nat.{zero-add}
 use Rattle.std.proofs.lemmas.Bool.{lt-ltb}
+use Rattle.std.proofs.lemmas.List.{take_all}
 use Rattle.std.proofs.lemmas.List.Sums.{sum_by-cons, sum_by-append}
 use Rattle.std.proofs.lemmas.List.Folds.{list_any-append}
 use Rattle.std.proofs.lemmas.Slice.Eq.{bytes_eq-Decides}
@@ -18,7 +19,7 @@ use Rattle.conf_rules.specs.Includes.{or_root, below, components_of, ends_with_s
 use Rattle.conf_rules.specs.Looks.{folders_along, folders_of, looks_of}
 use Rattle.conf_reader.specs.Looking.{FailsAmong, FileFails}
 use Rattle.conf_reader.specs.Paths.{SameTexts, with_component}
-use Rattle.conf_reader.proofs.FoundLemmas.{same-flat, sum-map, parts-some, parts-none}
+use Rattle.conf_reader.proofs.FoundLemmas.{same-flat, sum-map, parts-some, parts-none, not-empty}
 
 -- ---- texts that are among others
 
@@ -158,3 +159,14 @@ asked-further told left component rest bases found whole e same so_far path k =
     let cs = components_of rest in
     so_far path (ap (list_any (bytes_eq path)) (some-folders told left component rest bases e) ∙ behind (asked_at component bases) (folders_along told cs (with_component told component bases)) path
     (same-among (folders_along told cs (with_component told component bases)) (folders_along told cs found) (same-folders told cs (with_component told component bases) found same) path k))
+
+-- ---- one component
+
+length-empty : (xs : Bytes) → (length xs == 0) ≡ is_empty xs
+length-empty [] = refl
+length-empty (x ∷ xs) = refl
+
+-- all that was found for a component that isn't empty
+pub all-found : (told : Told) (component : Bytes) (bases found : List Bytes) (n : ℕ) → (length component == 0) ≡ false → length bases ≤ n → SameTexts (flat_map (below told component) (take n bases)) found → SameTexts (with_component told component bases) found
+all-found told component bases found n e h so_far f =
+    so_far f ∙ ap (λ xs. sum_by f (flat_map (below told component) xs)) (take_all n bases h) ∙ sym (ap (sum_by f) (not-empty told component bases (sym (length-empty component) ∙ e)))

@@ -9,6 +9,7 @@ abbrev pub invariant-loop-component : goal.invariant-loop-component
 invariant-loop-component g l = record {
   told : g.F.Files.told l.files ≡ g.F.Files.told l.initial.files;
   faults : g.F.Files.faults l.files ≡ g.F.Files.faults l.initial.files;
+  failed : g.F.Files.failed l.files ≡ g.F.Files.failed l.initial.files;
   found : (told : Told) → TellsFiles (g.F.Files.told l.initial.files) told → SameTexts (along told (components_of l.path) ([] ∷ [])) (along told (components_of l.left) l.paths.items);
 }
 
