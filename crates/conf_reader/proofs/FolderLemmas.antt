@@ -4,6 +4,7 @@ use Rattle.std.specs.Prelude.{◌==◌, ◌≤◌, sum_by, filter, flat_map, nat
 use Rattle.std.specs.List.{list_any}
 use Rattle.std.specs.Str.{bytes_eq}
 use Rattle.std.proofs.Math.Nat.{zero-add}
+use Rattle.std.proofs.Math.Dec.{eqb-suc-zero}
 use Rattle.std.proofs.lemmas.Bool.{lt-ltb}
 use Rattle.std.proofs.lemmas.List.{take_all}
 use Rattle.std.proofs.lemmas.List.Sums.{sum_by-cons, sum_by-append}
@@ -13,12 +14,16 @@ use Rattle.mux_outside.specs.declared.file_error.FileError.{FileError}
 use Rattle.mux_outside.specs.declared.file_error.FileError.TheVariants.{Failed, OutOfMemory}
 use Rattle.mux_outside.specs.Files.{NotesFailed}
 use Rattle.conf_rules.specs.Texts.{Bytes, is_empty, split_at_first, split_at_each}
-use Rattle.conf_rules.specs.Told.{Told}
+use Rattle.conf_rules.specs.Told.{Facts, Told}
+use Rattle.conf_rules.specs.Words.{words_of}
 use Rattle.conf_rules.specs.Globs.{is_glob}
-use Rattle.conf_rules.specs.Includes.{or_root, below, components_of, ends_with_slash, globbed}
-use Rattle.conf_rules.specs.Looks.{folders_along, folders_of, looks_of}
-use Rattle.conf_reader.specs.Looking.{FailsAmong, FileFails}
-use Rattle.conf_reader.specs.Paths.{SameTexts, with_component}
+use Rattle.conf_rules.specs.Includes.{Source, or_root, below, components_of, ends_with_slash, globbed}
+use Rattle.conf_rules.specs.Looks.{folders_along, folders_of, looks_of, looks_along, looks_in}
+use Rattle.conf_reader.specs.declared.errors.LineError.{LineError}
+use Rattle.conf_reader.specs.Looking.{FailsAmong, FileFails, LineFails}
+use Rattle.conf_reader.specs.Results.{of_file}
+use Rattle.conf_reader.specs.Paths.{SameTexts, with_component, paths_from}
+use Rattle.conf_reader.proofs.PathLemmas.{told-paths}
 use Rattle.conf_reader.proofs.FoundLemmas.{same-flat, sum-map, parts-some, parts-none, not-empty}
 
 -- ---- texts that are among others
@@ -39,6 +44,20 @@ pub fails-among : {A B : Type 0} (xs ys : List Bytes) (e : FileError) (q : Resul
 fails-among {A = A} {B = B} xs ys e q r before now was is among f = rw is (of e (rw was at f))
   where
     of : (e : FileError) → FileFails {A = A} xs (Err e) before now → FileFails {A = B} ys (Err e) before now
+    of Failed f = record { path = f.path; is = f.is; among = among f.path f.among }
+    of OutOfMemory f = f
+
+-- and so where its answer is handed on
+pub fails-more : {A : Type 0} (xs ys : List Bytes) (r : Result A FileError) (before now : Option (List Bytes)) → Among xs ys → FileFails xs r before now → FileFails ys r before now
+fails-more xs ys (Ok x) before now among f = f
+fails-more xs ys (Err Failed) before now among f = record { path = f.path; is = f.is; among = among f.path f.among }
+fails-more xs ys (Err OutOfMemory) before now among f = f
+
+-- the same in a line's reading
+pub line-fails : {A B : Type 0} (xs ys : List Bytes) (e : FileError) (q : Result A FileError) (r : Result B LineError) (before now : Option (List Bytes)) → q ≡ Err e → r ≡ Err (of_file e) → Among xs ys → FileFails xs q before now → LineFails ys r before now
+line-fails {A = A} {B = B} xs ys e q r before now was is among f = rw is (of e (rw was at f))
+  where
+    of : (e : FileError) → FileFails {A = A} xs (Err e) before now → LineFails {A = B} ys (Err (of_file e)) before now
     of Failed f = record { path = f.path; is = f.is; among = among f.path f.among }
     of OutOfMemory f = f
 
@@ -65,6 +84,19 @@ in-front xs ys path e = list_any-append (bytes_eq path) xs ys ∙ or-left (list_
 
 pub behind : (xs ys : List Bytes) → Among ys (xs ++ ys)
 behind xs ys path e = list_any-append (bytes_eq path) xs ys ∙ or-right (list_any (bytes_eq path) xs) (list_any (bytes_eq path) ys) e
+
+or-of : (s t u v : Bool) → (s ≡ true → u ≡ true) → (t ≡ true → v ≡ true) → (s || t) ≡ true → (u || v) ≡ true
+or-of true t u v a b k = or-left u v (a refl)
+or-of false t u v a b k = or-right u v (b k)
+
+both-among : (xs ys us vs : List Bytes) → Among xs ys → Among us vs → Among (xs ++ us) (ys ++ vs)
+both-among xs ys us vs a b path k =
+    let has = list_any (bytes_eq path) in
+    list_any-append (bytes_eq path) ys vs ∙ or-of (has xs) (has us) (has ys) (has vs) (a path) (b path) (sym (list_any-append (bytes_eq path) xs us) ∙ k)
+
+flat-among : (g h : Bytes → List Bytes) (xs : List Bytes) → ((x : Bytes) → Among (g x) (h x)) → Among (flat_map g xs) (flat_map h xs)
+flat-among g h [] each = λ path k. k
+flat-among g h (x ∷ xs) each = both-among (g x) (h x) (flat_map g xs) (flat_map h xs) (each x) (flat-among g h xs each)
 
 -- ---- lists that have the same texts
 
@@ -164,9 +196,21 @@ asked-further told left component rest bases found whole e same so_far path k =
 
 length-empty : (xs : Bytes) → (length xs == 0) ≡ is_empty xs
 length-empty [] = refl
-length-empty (x ∷ xs) = refl
+length-empty (x ∷ xs) = eqb-suc-zero (length xs)
 
 -- all that was found for a component that isn't empty
 pub all-found : (told : Told) (component : Bytes) (bases found : List Bytes) (n : ℕ) → (length component == 0) ≡ false → length bases ≤ n → SameTexts (flat_map (below told component) (take n bases)) found → SameTexts (with_component told component bases) found
 all-found told component bases found n e h so_far f =
     so_far f ∙ ap (λ xs. sum_by f (flat_map (below told component) xs)) (take_all n bases h) ∙ sym (ap (sum_by f) (not-empty told component bases (sym (length-empty component) ∙ e)))
+
+-- ---- what a line looks at
+
+-- the directories that paths ask for are among what they look at
+pub folders-looked : (told : Told) (paths : List Bytes) → Among (flat_map (folders_of told) paths) (looks_of told paths)
+folders-looked told paths = flat-among (folders_of told) (λ path. folders_of told path ++ globbed told path) paths (λ path. in-front (folders_of told path) (globbed told path))
+
+pub looks-named : (source : Source) (told : Told) (facts : Facts) (original rest : Bytes) (words paths : List Bytes) → told.facts ≡ facts → told.asked.original ≡ original → words_of rest ≡ Ok words → paths_from source facts original words ≡ Ok paths
+    → looks_in source told (words_of rest) ≡ looks_of told paths
+looks-named source told facts original rest words paths f o w p =
+    ap (looks_in source told) w
+    ∙ ap (looks_along told) (told-paths source told words ∙ ap (λ f. paths_from source f told.asked.original words) f ∙ ap (λ o. paths_from source facts o words) o ∙ p)
