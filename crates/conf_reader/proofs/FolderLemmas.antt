@@ -47,6 +47,10 @@ fails-among {A = A} {B = B} xs ys e q r before now was is among f = rw is (of e 
     of Failed f = record { path = f.path; is = f.is; among = among f.path f.among }
     of OutOfMemory f = f
 
+-- want of memory leaves what failed
+pub unfailed : {A : Type 0} (xs : List Bytes) (r : Result A FileError) (before now : Option (List Bytes)) → r ≡ Err OutOfMemory → now ≡ before → FileFails xs r before now
+unfailed xs r before now is same = rw is same
+
 -- and so where its answer is handed on
 pub fails-more : {A : Type 0} (xs ys : List Bytes) (r : Result A FileError) (before now : Option (List Bytes)) → Among xs ys → FileFails xs r before now → FileFails ys r before now
 fails-more xs ys (Ok x) before now among f = f
