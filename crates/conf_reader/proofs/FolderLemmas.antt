@@ -17,10 +17,10 @@ use Rattle.conf_rules.specs.Texts.{Bytes, is_empty, split_at_first, split_at_eac
 use Rattle.conf_rules.specs.Told.{Facts, Told}
 use Rattle.conf_rules.specs.Words.{words_of}
 use Rattle.conf_rules.specs.Globs.{is_glob}
-use Rattle.conf_rules.specs.Includes.{Source, or_root, below, components_of, ends_with_slash, globbed}
+use Rattle.conf_rules.specs.Includes.{Source, or_root, below, components_of, globbed}
 use Rattle.conf_rules.specs.Looks.{folders_along, folders_of, looks_of, looks_along, looks_in}
 use Rattle.conf_reader.specs.declared.errors.LineError.{LineError}
-use Rattle.conf_reader.specs.Looking.{FailsAmong, FileFails, LineFails}
+use Rattle.conf_reader.specs.Looking.{FileFails, LineFails}
 use Rattle.conf_reader.specs.Results.{of_file}
 use Rattle.conf_reader.specs.Paths.{SameTexts, with_component, paths_from}
 use Rattle.conf_reader.proofs.PathLemmas.{told-paths}
@@ -39,6 +39,31 @@ or-right : (a b : Bool) → b ≡ true → (a || b) ≡ true
 or-right true b e = refl
 or-right false b e = e
 
+pub in-front : (xs ys : List Bytes) → Among xs (xs ++ ys)
+in-front xs ys path e = list_any-append (bytes_eq path) xs ys ∙ or-left (list_any (bytes_eq path) xs) (list_any (bytes_eq path) ys) e
+
+pub behind : (xs ys : List Bytes) → Among ys (xs ++ ys)
+behind xs ys path e = list_any-append (bytes_eq path) xs ys ∙ or-right (list_any (bytes_eq path) xs) (list_any (bytes_eq path) ys) e
+
+or-of : (s t u v : Bool) → (s ≡ true → u ≡ true) → (t ≡ true → v ≡ true) → (s || t) ≡ true → (u || v) ≡ true
+or-of true t u v a b k = or-left u v (a refl)
+or-of false t u v a b k = or-right u v (b k)
+
+both-among : (xs ys us vs : List Bytes) → Among xs ys → Among us vs → Among (xs ++ us) (ys ++ vs)
+both-among xs ys us vs a b path k =
+    let has = list_any (bytes_eq path) in
+    list_any-append (bytes_eq path) ys vs ∙ or-of (has xs) (has us) (has ys) (has vs) (a path) (b path) (sym (list_any-append (bytes_eq path) xs us) ∙ k)
+
+flat-among : (g h : Bytes → List Bytes) (xs : List Bytes) → ((x : Bytes) → Among (g x) (h x)) → Among (flat_map g xs) (flat_map h xs)
+flat-among g h [] each = λ path k. k
+flat-among g h (x ∷ xs) each = both-among (g x) (h x) (flat_map g xs) (flat_map h xs) (each x) (flat-among g h xs each)
+
+-- ---- the path of a failed call
+
+-- a path is among itself
+pub alone : (path : Bytes) → list_any (bytes_eq path) (path ∷ []) ≡ true
+alone path = or-left (bytes_eq path path) false ((bytes_eq-Decides path path).1 refl)
+
 -- a failed call was given a path that is among more paths too
 pub fails-among : {A B : Type 0} (xs ys : List Bytes) (e : FileError) (q : Result A FileError) (r : Result B FileError) (before now : Option (List Bytes)) → q ≡ Err e → r ≡ Err e → Among xs ys → FileFails xs q before now → FileFails ys r before now
 fails-among {A = A} {B = B} xs ys e q r before now was is among f = rw is (of e (rw was at f))
@@ -46,10 +71,6 @@ fails-among {A = A} {B = B} xs ys e q r before now was is among f = rw is (of e 
     of : (e : FileError) → FileFails {A = A} xs (Err e) before now → FileFails {A = B} ys (Err e) before now
     of Failed f = record { path = f.path; is = f.is; among = among f.path f.among }
     of OutOfMemory f = f
-
--- want of memory leaves what failed
-pub unfailed : {A : Type 0} (xs : List Bytes) (r : Result A FileError) (before now : Option (List Bytes)) → r ≡ Err OutOfMemory → now ≡ before → FileFails xs r before now
-unfailed xs r before now is same = rw is same
 
 -- and so where its answer is handed on
 pub fails-more : {A : Type 0} (xs ys : List Bytes) (r : Result A FileError) (before now : Option (List Bytes)) → Among xs ys → FileFails xs r before now → FileFails ys r before now
@@ -74,33 +95,9 @@ fails-there {A = A} {B = B} xs path e q r before now was is among f = rw is (of 
     of Failed f = record { path = path; is = f; among = among }
     of OutOfMemory f = f
 
-own : (path : Bytes) (xs : List Bytes) → list_any (bytes_eq path) (path ∷ xs) ≡ true
-own path xs = or-left (bytes_eq path path) (list_any (bytes_eq path) xs) ((bytes_eq-Decides path path).1 refl)
-
-pub alone : (path : Bytes) → list_any (bytes_eq path) (path ∷ []) ≡ true
-alone path = own path []
-
-nothing : (ys : List Bytes) → Among [] ys
-nothing ys path e = absurd cc
-
-pub in-front : (xs ys : List Bytes) → Among xs (xs ++ ys)
-in-front xs ys path e = list_any-append (bytes_eq path) xs ys ∙ or-left (list_any (bytes_eq path) xs) (list_any (bytes_eq path) ys) e
-
-pub behind : (xs ys : List Bytes) → Among ys (xs ++ ys)
-behind xs ys path e = list_any-append (bytes_eq path) xs ys ∙ or-right (list_any (bytes_eq path) xs) (list_any (bytes_eq path) ys) e
-
-or-of : (s t u v : Bool) → (s ≡ true → u ≡ true) → (t ≡ true → v ≡ true) → (s || t) ≡ true → (u || v) ≡ true
-or-of true t u v a b k = or-left u v (a refl)
-or-of false t u v a b k = or-right u v (b k)
-
-both-among : (xs ys us vs : List Bytes) → Among xs ys → Among us vs → Among (xs ++ us) (ys ++ vs)
-both-among xs ys us vs a b path k =
-    let has = list_any (bytes_eq path) in
-    list_any-append (bytes_eq path) ys vs ∙ or-of (has xs) (has us) (has ys) (has vs) (a path) (b path) (sym (list_any-append (bytes_eq path) xs us) ∙ k)
-
-flat-among : (g h : Bytes → List Bytes) (xs : List Bytes) → ((x : Bytes) → Among (g x) (h x)) → Among (flat_map g xs) (flat_map h xs)
-flat-among g h [] each = λ path k. k
-flat-among g h (x ∷ xs) each = both-among (g x) (h x) (flat_map g xs) (flat_map h xs) (each x) (flat-among g h xs each)
+-- want of memory leaves what failed
+pub unfailed : {A : Type 0} (xs : List Bytes) (r : Result A FileError) (before now : Option (List Bytes)) → r ≡ Err OutOfMemory → now ≡ before → FileFails xs r before now
+unfailed xs r before now is same = rw is same
 
 -- ---- lists that have the same texts
 
@@ -116,6 +113,7 @@ counts : (test : Bytes → Bool) (xs : List Bytes) → list_any test xs ≡ nat_
 counts test [] = refl
 counts test (x ∷ xs) = count-first test x xs (test x) refl (counts test xs) ∙ sym (ap (nat_lt 0) (sum_by-cons (passed test) x xs))
 
+-- a text that is in one of them is in the other
 same-among : (xs ys : List Bytes) → SameTexts xs ys → Among ys xs
 same-among xs ys same path e = counts (bytes_eq path) xs ∙ sym (ap (nat_lt 0) (same (passed (bytes_eq path)))) ∙ sym (counts (bytes_eq path) ys) ∙ e
 
@@ -124,8 +122,6 @@ same-map g xs ys same f = sum-map f g ys ∙ same (λ x. f (g x)) ∙ sym (sum-m
 
 same-both : (xs ys us vs : List Bytes) → SameTexts xs ys → SameTexts us vs → SameTexts (xs ++ us) (ys ++ vs)
 same-both xs ys us vs a b f = let s = a f in let t = b f in let x = sum_by-append f xs us in let y = sum_by-append f ys vs in omega (arith, s, t, x, y)
-
--- ---- elements of a list
 
 -- an element's texts are among those of all
 pub one-among : (g : Bytes → List Bytes) (xs : List Bytes) (i : ℕ) (x : Bytes) → i < length xs → x ≡ get_or xs i x → Among (g x) (flat_map g xs)
@@ -139,12 +135,14 @@ one-among g (y ∷ ys) (suc i) x h e = λ path k. behind (g y) (flat_map g ys) p
 abbrev pub asked_at : Bytes → List Bytes → List Bytes
 asked_at component bases = if is_glob component then map or_root bases else []
 
+-- those of one path are among those of all
 pub asked-one : (component : Bytes) (bases : List Bytes) (i : ℕ) (base : Bytes) → i < length bases → base ≡ get_or bases i base → Among (if is_glob component then or_root base ∷ [] else []) (asked_at component bases)
 asked-one component bases i base h e = of (is_glob component)
   where
     mapped : (xs : List Bytes) → flat_map (λ x. or_root x ∷ []) xs ≡ map or_root xs
     mapped [] = refl
     mapped (x ∷ xs) = ap (λ ys. or_root x ∷ ys) (mapped xs)
+
     of : (t : Bool) → Among (if t then or_root base ∷ [] else []) (if t then map or_root bases else [])
     of true path k = sym (ap (list_any (bytes_eq path)) (mapped bases)) ∙ one-among (λ x. or_root x ∷ []) bases i base h e path k
     of false path k = absurd cc
@@ -156,6 +154,7 @@ same-asked component xs ys same = of (is_glob component)
     of true = same-map or_root xs ys same
     of false = λ f. refl
 
+-- the directories are the same in whatever order paths are
 same-folders : (told : Told) (components : List Bytes) (xs ys : List Bytes) → SameTexts xs ys → SameTexts (folders_along told components xs) (folders_along told components ys)
 same-folders told [] xs ys same = λ f. refl
 same-folders told (c ∷ cs) xs ys same =
@@ -213,6 +212,7 @@ all-found told component bases found n e h so_far f =
 pub folders-looked : (told : Told) (paths : List Bytes) → Among (flat_map (folders_of told) paths) (looks_of told paths)
 folders-looked told paths = flat-among (folders_of told) (λ path. folders_of told path ++ globbed told path) paths (λ path. in-front (folders_of told path) (globbed told path))
 
+-- where facts are those that are told
 pub looks-named : (source : Source) (told : Told) (facts : Facts) (original rest : Bytes) (words paths : List Bytes) → told.facts ≡ facts → told.asked.original ≡ original → words_of rest ≡ Ok words → paths_from source facts original words ≡ Ok paths
     → looks_in source told (words_of rest) ≡ looks_of told paths
 looks-named source told facts original rest words paths f o w p =

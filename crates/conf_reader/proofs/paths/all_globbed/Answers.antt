@@ -1,7 +1,6 @@
 use Rattle.std.proofs.Common.{◌≡◌, ◌<◌, length, get_or, Err, ◌∙◌, sym, ap, subst}
 use Rattle.std.specs.Prelude.{flat_map}
 use Rattle.std.proofs.lemmas.Result.{err_from_is_err_and}
-use Rattle.mux_outside.specs.declared.file_error.FileError.TheVariants.{OutOfMemory}
 use Rattle.conf_rules.specs.Looks.{folders_of}
 use Rattle.conf_reader.specs.Known.{TellsFiles}
 use Rattle.conf_reader.proofs.FolderLemmas.{fails-among, unfailed, one-among}
@@ -22,4 +21,3 @@ returns-in_err-add_all-clause-failed g c = λ told t.
     let p = err_from_is_err_and c.from_residual-in_err-add_all.result c.from_residual-in_err-add_all.ensures.1 in
     let here = c.in_ok-found.ensures.failed told (subst (λ x. TellsFiles x told) (sym c.loop-path.invariant.told) t) in
     unfailed (flat_map (folders_of told) c.args.paths.now) c.from_residual-in_err-add_all.result (g.F.Files.failed c.args.files.now) (g.F.Files.failed c.globbed.new.files) (p.1 ∙ ap Err p.2) (here ∙ c.loop-path.invariant.failed told t)
-
