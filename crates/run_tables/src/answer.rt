@@ -1,7 +1,7 @@
 // What came of a row, as lines.
 use crate::marks::add_marks;
 use crate::play::Played;
-use crate::row::took_line;
+use crate::scripted::took_line;
 use crate::spelling::escape;
 use mux_outside::{Opening, WireLog};
 use ssh_fields::{OutOfMemory, Text, Texts};

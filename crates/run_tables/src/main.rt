@@ -9,6 +9,7 @@ mod facts;
 mod marks;
 mod play;
 mod row;
+mod scripted;
 mod spelling;
 mod table;
 mod trouble;

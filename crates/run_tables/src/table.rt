@@ -1,6 +1,7 @@
 // A table of rows, line by line.
 use crate::play::play;
-use crate::row::{Row, bytes_of};
+use crate::row::Row;
+use crate::scripted::bytes_of;
 use crate::trouble::Trouble;
 use mux_outside::{Pair, Pairs};
 use ssh_fields::{Text, Texts};
