@@ -4,6 +4,7 @@ pub mod FirstLemmas
 pub mod FoundLemmas
 pub mod LeftLemmas
 pub mod LineLemmas
+pub mod LookingLemmas
 pub mod NextLemmas
 pub mod OneLemmas
 pub mod OpenLemmas
