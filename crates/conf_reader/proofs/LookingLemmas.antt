@@ -77,6 +77,10 @@ tells-err A B test errors.OutOfMemory before now h = tt
 tells-err A B test (errors.At file number causes.ReadFault) before now h = h
 tells-err A B test (errors.At file number cause) before now h = h
 
+-- nor do steps before it that left the failed paths
+pub tells-on : (A B : Type 0) (test : Test) (e : ResolveError) (before mid now : Option (List Bytes)) → mid ≡ before → TellsFailed {A = A} test (Err e) mid now → TellsFailed {A = B} test (Err e) before now
+tells-on A B test e before mid now same h = subst (λ b. TellsFailed {A = B} test (Err e) b now) same (tells-err A B test e mid now h)
+
 -- what is no fault leaves the failed paths
 pub quiet-tells : (A : Type 0) (test : Test) (e : ResolveError) (before now : Option (List Bytes)) → is_read_fault e ≡ false → now ≡ before → TellsFailed {A = A} test (Err e) before now
 quiet-tells A test errors.OutOfMemory before now h same = tt
