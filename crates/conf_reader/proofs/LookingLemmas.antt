@@ -227,6 +227,22 @@ given-looks test told o (Some f) next said line top s by looks h =
     let g = gone next (include_of said) f in
     changed-passes test told o o.below.items (Some g) f g top refl refl (λ k. said-passes test told (source_of o.system) o f next said line s by looks) h
 
+-- ---- the files that a line includes
+
+pub named-looks : (test : Test) (told : Told) (o n : OpenFiles) (f : OpenFile) (rest : Bytes) (paths : List Bytes) → o.top ≡ Some f → f.include ≡ Some rest → named_by (source_of o.system) told (words_of rest) ≡ Ok paths → n ≡ record o { top = option_map (named_as paths) o.top } → passes test told o ≡ true → passes test told n ≡ true
+named-looks test told o n f rest paths top include named is h =
+    let now : option_map (named_as paths) o.top ≡ Some (named_as paths f) = ap (option_map (named_as paths)) top in
+    let all : passes test told (record o { top = option_map (named_as paths) o.top }) ≡ true =
+    changed-passes test told o o.below.items (option_map (named_as paths) o.top) f (named_as paths f) top now refl (found-passes test told (source_of o.system) f rest paths include named) h in
+    subst (λ (x : OpenFiles). passes test told x ≡ true) (sym is) all
+
+pub include-tells : (A B : Type 0) (test : Test) (told : Told) (o : OpenFiles) (f : OpenFile) (rest given : Bytes) (le : LineError) (e : ResolveError) (before now : Option (List Bytes)) → o.top ≡ Some f → f.include ≡ Some rest → given ≡ rest → Refuses le f.path (f.number - 1) e
+    → LineFails {A = A} (looks_in (source_of o.system) told (words_of given)) (Err le) before now → passes test told o ≡ true → TellsFailed {A = B} test (Err e) before now
+include-tells A B test told o f rest given le e before now top include same r fails h =
+    let source = source_of o.system in
+    let here : LineFails {A = A} (looks_in source told (words_of rest)) (Err le) before now = subst (λ x. LineFails {A = A} (looks_in source told (words_of x)) (Err le) before now) same fails in
+    tells-line B A test f.path (f.number - 1) (looks_in source told (words_of rest)) le e before now r here (include-passes test told source f rest include (top-passes test told o f top h))
+
 -- ---- first files
 
 -- with no file open there is nothing to look at
