@@ -1,6 +1,6 @@
 -- What open files have still to look at, step by step, and where a failed read is told.
 use Rattle.std.proofs.Common.{◌≡◌, ℕ, zero, suc, ◌+◌, ◌-◌, Bool, true, false, List, [], ◌∷◌, ◌++◌, length, drop, Option, Some, None, Result, Ok, Err, refl, sym, ap, subst, ◌∙◌, arith}
-use Rattle.std.specs.Prelude.{flat_map, option_to_list, codes, ◌&&◌, ◌||◌, IfSome, IsSome}
+use Rattle.std.specs.Prelude.{flat_map, option_to_list, codes, ◌&&◌, ◌||◌, IfSome, IsSome, OnOk}
 use Rattle.std.specs.List.{slice_get, list_all, list_any}
 use Rattle.std.specs.Option.{option_map}
 use Rattle.std.specs.Str.{bytes_eq}
@@ -269,3 +269,9 @@ files-pass test told r h = both-left (passes test told r.open_files) (firsts_pas
 pub all-on : (test : Test) (told : Told) (old new : Lines) → new.firsts ≡ old.firsts → passes test told new.open_files ≡ true → all_pass test told old ≡ true → all_pass test told new ≡ true
 all-on test told old new firsts on h =
     both (passes test told new.open_files) (firsts_pass test new.firsts.items) on (ap (λ fs. firsts_pass test fs.items) firsts ∙ both-right (passes test told old.open_files) (firsts_pass test old.firsts.items) h)
+
+-- a step of the open files
+pub all-look : (A : Type 0) (test : Test) (told : Told) (r : Lines) (o : OpenFiles) (result : Result A ResolveError) (before now : Option (List Bytes)) → all_pass test told r ≡ true → TellsFailed test result before now × OnOk result (passes test told o ≡ true)
+    → TellsFailed test result before now × OnOk result (all_pass test told (record r { open_files = o }) ≡ true)
+all-look A test told r o (Ok x) before now h step = (step.0, all-on test told r (record r { open_files = o }) refl step.1 h)
+all-look A test told r o (Err e) before now h step = (step.0, tt)
