@@ -275,3 +275,7 @@ pub all-look : (A : Type 0) (test : Test) (told : Told) (r : Lines) (o : OpenFil
     → TellsFailed test result before now × OnOk result (all_pass test told (record r { open_files = o }) ≡ true)
 all-look A test told r o (Ok x) before now h step = (step.0, all-on test told r (record r { open_files = o }) refl step.1 h)
 all-look A test told r o (Err e) before now h step = (step.0, tt)
+
+-- a line that is read behind a step which left the failed paths
+pub looks-on : (test : Test) (told : Told) (new : Lines) (result : Result (Option ConfLine) ResolveError) (before mid now : Option (List Bytes)) → mid ≡ before → TellsFailed test result mid now × LooksOn test told new result → TellsFailed test result before now × LooksOn test told new result
+looks-on test told new result before mid now same h = (subst (λ b. TellsFailed test result b now) same h.0, h.1)

@@ -40,13 +40,6 @@ returns-in-Ok-true-clause-looks g c = λ told test h.
     let step = c.in-Ok-true.ensures.looks told test before.1 in
     (step.0 ∙ before.0, step.1)
 
-pub returns-in-Ok-false-clause-looks : goal.returns-in-Ok-false-clause-looks
-returns-in-Ok-false-clause-looks g c = λ told test h.
-    let before = c.loop-e.invariant.looks told test h in
-    let step = c.in-Ok-false.ensures.looks told test before.1 in
-    let later = c.in-Ok-false-first.ensures.looks told test step.1 in
-    (later.0 ∙ step.0 ∙ before.0, later.1)
-
 pub returns-in-Err-clause-looks : goal.returns-in-Err-clause-looks
 returns-in-Err-clause-looks g c = λ told test h.
     let before = c.loop-e.invariant.looks told test h in
