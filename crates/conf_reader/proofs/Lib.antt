@@ -11,4 +11,3 @@ pub mod OpenLemmas
 pub mod OrderLemmas
 pub mod PathLemmas
 pub mod TakeLemmas
-pub mod UnreadLemmas

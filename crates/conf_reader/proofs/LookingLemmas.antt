@@ -1,5 +1,5 @@
 -- What open files have still to look at, step by step, and where a failed read is told.
-use Rattle.std.proofs.Common.{◌≡◌, ℕ, zero, suc, ◌+◌, ◌-◌, Bool, true, false, List, [], ◌∷◌, ◌++◌, length, drop, Option, Some, None, Result, Ok, Err, refl, sym, ap, subst, ◌∙◌, arith}
+use Rattle.std.proofs.Common.{◌≡◌, ℕ, zero, suc, ◌+◌, ◌-◌, ◌<◌, Bool, true, false, List, [], ◌∷◌, ◌++◌, length, drop, Option, Some, None, Result, Ok, Err, refl, sym, ap, subst, ◌∙◌, arith}
 use Rattle.std.specs.Prelude.{flat_map, option_to_list, codes, ◌&&◌, ◌||◌, IfSome, IsSome, OnOk}
 use Rattle.std.specs.List.{slice_get, list_all, list_any}
 use Rattle.std.specs.Option.{option_map}
@@ -81,12 +81,6 @@ tells-err A B test (errors.At file number cause) before now h = h
 pub tells-on : (A B : Type 0) (test : Test) (e : ResolveError) (before mid now : Option (List Bytes)) → mid ≡ before → TellsFailed {A = A} test (Err e) mid now → TellsFailed {A = B} test (Err e) before now
 tells-on A B test e before mid now same h = subst (λ b. TellsFailed {A = B} test (Err e) b now) same (tells-err A B test e mid now h)
 
--- what is no fault leaves the failed paths
-pub quiet-tells : (A : Type 0) (test : Test) (e : ResolveError) (before now : Option (List Bytes)) → is_read_fault e ≡ false → now ≡ before → TellsFailed {A = A} test (Err e) before now
-quiet-tells A test errors.OutOfMemory before now h same = tt
-quiet-tells A test (errors.At file number causes.ReadFault) before now h same = absurd cc
-quiet-tells A test (errors.At file number cause) before now h same = same
-
 -- a failed read that is told at a place where its path may be
 pub tells-at : (A : Type 0) (test : Test) (file : Bytes) (number : ℕ) (paths : List Bytes) (e : ResolveError) (before now : Option (List Bytes)) → Refuses (line_errors.Refused causes.ReadFault) file number e → FailsAmong paths before now → list_all (test file number) paths ≡ true
     → TellsFailed {A = A} test (Err e) before now
@@ -132,11 +126,7 @@ path-passes test told source f path include named h =
     let some : list_all p (path ∷ drop (suc f.next) f.named) ≡ true = subst (λ xs. list_all p xs ≡ true) (drop-at f.named f.next path named) all in
     both (p path) true (both-left (p path) (list_all p (drop (suc f.next) f.named)) some) refl
 
--- one that goes behind a comment
-pub comment-passes : (test : Test) (told : Told) (source : Source) (f : OpenFile) (next : ℕ) → IsSettled f → passes_in test told source (gone next None f) ≡ true
-comment-passes test told source f next s = settled-passes test told source (gone next None f) (refl, s.1)
-
--- and behind a line that is given
+-- one that goes behind a line that is given
 pub said-passes : (test : Test) (told : Told) (source : Source) (o : OpenFiles) (f : OpenFile) (next : ℕ) (said : Said) (line : ConfLine) → IsSettled f → GivenBy o f said line → line_passes test told source line ≡ true → passes_in test told source (gone next (include_of said) f) ≡ true
 said-passes test told source o f next said line s g h = by (same_word said.keyword (codes "include")) refl
   where
@@ -216,16 +206,12 @@ top-tells A test told o f path e before now top include named r fails h =
 
 -- ---- a line
 
-pub comment-looks : (test : Test) (told : Told) (o : OpenFiles) (t : Option OpenFile) (next : ℕ) → o.top ≡ t → IfSome t IsSettled → passes test told o ≡ true → list_all (passes_in test told (source_of o.system)) (o.below.items ++ option_to_list (option_map (gone next None) t)) ≡ true
-comment-looks test told o None next top s h = subst (λ t. list_all (passes_in test told (source_of o.system)) (o.below.items ++ option_to_list t) ≡ true) top h
-comment-looks test told o (Some f) next top s h = changed-passes test told o o.below.items (Some (gone next None f)) f (gone next None f) top refl refl (λ k. comment-passes test told (source_of o.system) f next s) h
-
-pub given-looks : (test : Test) (told : Told) (o : OpenFiles) (t : Option OpenFile) (next : ℕ) (said : Said) (line : ConfLine) → o.top ≡ t → IfSome t IsSettled → IfSome t (λ f. GivenBy o f said line) → line_passes test told (source_of o.system) line ≡ true → passes test told o ≡ true
+pub given-looks : (test : Test) (told : Told) (o : OpenFiles) (t : Option OpenFile) (next : ℕ) (said : Said) (line : ConfLine) → o.top ≡ t → IfSome t (λ f. IsSettled f × (f.at < length f.text)) → IfSome t (λ f. GivenBy o f said line) → line_passes test told (source_of o.system) line ≡ true → passes test told o ≡ true
     → list_all (passes_in test told (source_of o.system)) (o.below.items ++ option_to_list (option_map (gone next (include_of said)) t)) ≡ true
-given-looks test told o None next said line top s by looks h = subst (λ t. list_all (passes_in test told (source_of o.system)) (o.below.items ++ option_to_list t) ≡ true) top h
-given-looks test told o (Some f) next said line top s by looks h =
+given-looks test told o None next said line top at by looks h = subst (λ t. list_all (passes_in test told (source_of o.system)) (o.below.items ++ option_to_list t) ≡ true) top h
+given-looks test told o (Some f) next said line top at by looks h =
     let g = gone next (include_of said) f in
-    changed-passes test told o o.below.items (Some g) f g top refl refl (λ k. said-passes test told (source_of o.system) o f next said line s by looks) h
+    changed-passes test told o o.below.items (Some g) f g top refl refl (λ k. said-passes test told (source_of o.system) o f next said line at.0 by looks) h
 
 -- ---- the files that a line includes
 
@@ -244,10 +230,6 @@ include-tells A B test told o f rest given le e before now top include same r fa
     tells-line B A test f.path (f.number - 1) (looks_in source told (words_of rest)) le e before now r here (include-passes test told source f rest include (top-passes test told o f top h))
 
 -- ---- first files
-
--- with no file open there is nothing to look at
-pub none-passes : (test : Test) (told : Told) (o : OpenFiles) → o.top ≡ None → o.below.items ≡ [] → passes test told o ≡ true
-none-passes test told o top below = ap (λ fs. list_all (passes_in test told (source_of o.system)) (fs ++ option_to_list o.top)) below ∙ ap (λ t. list_all (passes_in test told (source_of o.system)) (option_to_list t)) top
 
 pub first-passes : (test : Test) (fs : List FirstFile) (i : ℕ) (f : FirstFile) → slice_get fs i ≡ Some f → firsts_pass test fs ≡ true → test f.path 0 f.path ≡ true
 first-passes test [] i f e h = absurd cc
