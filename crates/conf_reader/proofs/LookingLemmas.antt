@@ -1,6 +1,6 @@
 -- What open files have still to look at, step by step, and where a failed read is told.
 use Rattle.std.proofs.Common.{◌≡◌, ℕ, zero, suc, ◌+◌, ◌-◌, ◌<◌, Bool, true, false, List, [], ◌∷◌, ◌++◌, length, drop, Option, Some, None, Result, Ok, Err, refl, sym, ap, subst, ◌∙◌, arith}
-use Rattle.std.specs.Prelude.{flat_map, option_to_list, codes, ◌&&◌, ◌||◌, IfSome, IsSome, OnOk}
+use Rattle.std.specs.Prelude.{flat_map, option_to_list, codes, ◌&&◌, ◌||◌, IfSome, OnOk}
 use Rattle.std.specs.List.{slice_get, list_all, list_any}
 use Rattle.std.specs.Option.{option_map}
 use Rattle.std.specs.Str.{bytes_eq}
@@ -27,9 +27,9 @@ use Rattle.conf_reader.specs.declared.open_file.Said.{Said}
 use Rattle.conf_reader.specs.declared.reader.FirstFile.{FirstFile}
 use Rattle.conf_reader.specs.declared.reader.Lines.{Lines}
 use Rattle.conf_reader.specs.declared.stack.OpenFiles.{OpenFiles}
-use Rattle.conf_reader.specs.Results.{Refuses, is_read_fault}
+use Rattle.conf_reader.specs.Results.{Refuses}
 use Rattle.conf_reader.specs.Left.{source_of, IsSettled, GivenBy, gone, include_of, named_as, named_by}
-use Rattle.conf_reader.specs.Looking.{FailsAmong, LineFails, Test, to_look, passes_in, passes, firsts_pass, all_pass, line_passes, TellsFailed, LooksOn}
+use Rattle.conf_reader.specs.Looking.{FailsAmong, LineFails, Test, passes_in, passes, firsts_pass, all_pass, line_passes, TellsFailed, LooksOn}
 use Rattle.conf_reader.proofs.OpenLemmas.{drop-at}
 
 -- ---- lists

@@ -1,4 +1,4 @@
-use Rattle.std.proofs.Common.{◌∙◌, ◌+◌, ap, length, Ok, Err, arith}
+use Rattle.std.proofs.Common.{◌∙◌, ◌+◌, ap, length, Ok, arith}
 use Rattle.conf_reader.proofs.NextLemmas.{more, gives, ends, fails}
 use Rattle.conf_reader.specs.declared.line.ConfLine.{ConfLine}
 use Rattle.std.specs.Prelude.{Option}

@@ -1,4 +1,4 @@
-use Rattle.std.proofs.Common.{◌∙◌, Bool, Err, ap}
+use Rattle.std.proofs.Common.{◌∙◌, Bool, ap}
 use Rattle.conf_reader.proofs.OpenLemmas.{moved-before}
 use Rattle.conf_reader.specs.Known.{TellsFiles}
 use Rattle.conf_reader.specs.declared.reader.Lines.{Lines}

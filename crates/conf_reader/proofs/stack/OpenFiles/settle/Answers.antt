@@ -1,4 +1,4 @@
-use Rattle.std.proofs.Common.{◌∙◌, Bool, Err}
+use Rattle.std.proofs.Common.{◌∙◌, Bool}
 use Rattle.conf_reader.proofs.OpenLemmas.{moved-before}
 use Rattle.conf_reader.specs.Left.{open_left}
 use Rattle.conf_reader.specs.declared.stack.Stand.{Stand}
