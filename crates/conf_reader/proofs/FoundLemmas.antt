@@ -18,7 +18,7 @@ use Rattle.conf_reader.proofs.OrderLemmas.{same-sorted}
 
 -- ---- sums
 
-sum-map : (f : Bytes → ℕ) (g : Bytes → Bytes) (xs : List Bytes) → sum_by f (map g xs) ≡ sum_by (λ x. f (g x)) xs
+pub sum-map : (f : Bytes → ℕ) (g : Bytes → Bytes) (xs : List Bytes) → sum_by f (map g xs) ≡ sum_by (λ x. f (g x)) xs
 sum-map f g [] = refl
 sum-map f g (x ∷ xs) = sum_by-cons f (g x) (map g xs) ∙ ap (λ n. f (g x) + n) (sum-map f g xs) ∙ sym (sum_by-cons (λ x. f (g x)) x xs)
 
@@ -48,7 +48,7 @@ pub same-then : (xs ys zs : List Bytes) → SameTexts xs ys → SameTexts ys zs 
 same-then xs ys zs a b f = b f ∙ a f
 
 -- what stands below paths is the same in whatever order they are
-same-flat : (g : Bytes → List Bytes) (xs ys : List Bytes) → SameTexts xs ys → SameTexts (flat_map g xs) (flat_map g ys)
+pub same-flat : (g : Bytes → List Bytes) (xs ys : List Bytes) → SameTexts xs ys → SameTexts (flat_map g xs) (flat_map g ys)
 same-flat g xs ys same f = sum-flat f g ys ∙ same (λ x. sum_by f (g x)) ∙ sym (sum-flat f g xs)
 
 pub same-along : (told : Told) (components : List Bytes) (xs ys : List Bytes) → SameTexts xs ys → SameTexts (along told components xs) (along told components ys)
@@ -151,6 +151,14 @@ parts : (bs : Bytes) → split_at_each 47 bs ≡ pair_of bs (split_at_first 47 b
 unfolding pair_of
 parts [] = refl
 parts (b ∷ bs) = parts_one b bs (eqb b 47) refl (parts bs)
+
+pub parts-some : (left component rest : Bytes) → Some (component, rest) ≡ split_at_first 47 left → split_at_each 47 left ≡ component ∷ split_at_each 47 rest
+unfolding pair_of
+parts-some left component rest e = parts left ∙ ap (pair_of left) (sym e)
+
+pub parts-none : (left : Bytes) → None ≡ split_at_first 47 left → split_at_each 47 left ≡ left ∷ []
+unfolding pair_of
+parts-none left e = parts left ∙ ap (pair_of left) (sym e)
 
 with-first : (told : Told) (component : Bytes) (others bases : List Bytes) (t : Bool) → is_empty component ≡ t
     → along told (filter (λ c. not (is_empty c)) (component ∷ others)) bases ≡ along told (filter (λ c. not (is_empty c)) others) (with_component told component bases)

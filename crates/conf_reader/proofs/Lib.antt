@@ -1,6 +1,7 @@
 pub mod BetweenLemmas
 pub mod ExpandLemmas
 pub mod FirstLemmas
+pub mod FolderLemmas
 pub mod FoundLemmas
 pub mod LeftLemmas
 pub mod LineLemmas

@@ -1,7 +1,11 @@
+use Rattle.std.proofs.Common.{Err, ◌∙◌, ap}
+use Rattle.std.specs.Prelude.{flat_map}
 use Rattle.std.proofs.lemmas.Result.{err_from_is_err_and}
 use Rattle.conf_tokens.specs.Known.{known}
+use Rattle.conf_rules.specs.Looks.{folders_of, looks_of}
 use Rattle.conf_reader.specs.Left.{source_of}
 use Rattle.conf_reader.proofs.PathLemmas.{named-ok, named-err}
+use Rattle.conf_reader.proofs.FolderLemmas.{line-fails, looks-named, folders-looked}
 use Rattle.conf_reader.proofs.paths.named_paths.Goals as goal
 
 pub returns-in_err-paths-clause-found : goal.returns-in_err-paths-clause-found
@@ -12,3 +16,11 @@ returns-in_err-paths-clause-found g c = λ told t f o.
 pub returns-clause-found : goal.returns-clause-found
 returns-clause-found g c = λ told t f o.
     named-ok (source_of c.args.system) told (known c.args.facts.now) c.args.original.now c.args.rest.now c.in-Ok.words c.in_ok-paths.paths c.in_ok-all_globbed.field-0 f o c.in-Ok.ensures.exact c.in_ok-paths.ensures (c.in_ok-all_globbed.ensures.found told t)
+
+pub returns-in_err-all_globbed-clause-failed : goal.returns-in_err-all_globbed-clause-failed
+returns-in_err-all_globbed-clause-failed g c = λ told t f o.
+    let p = err_from_is_err_and c.from_residual-in_err-all_globbed.result c.from_residual-in_err-all_globbed.ensures.1 in
+    let looks = looks-named (source_of c.args.system) told (known c.args.facts.now) c.args.original.now c.args.rest.now c.in-Ok.words c.in_ok-paths.paths f o c.in-Ok.ensures.exact c.in_ok-paths.ensures in
+    rw looks
+    (line-fails (flat_map (folders_of told) c.in_ok-paths.paths) (looks_of told c.in_ok-paths.paths) c.in_err-all_globbed.field-0.0 c.all_globbed.result c.from_residual-in_err-all_globbed.result (g.F.Files.failed c.args.files.now) (g.F.Files.failed c.all_globbed.new.files)
+    c.in_err-all_globbed.was (p.1 ∙ ap Err p.2) (folders-looked told c.in_ok-paths.paths) (c.all_globbed.ensures.failed told t))

@@ -10,5 +10,6 @@ abbrev pub invariant-loop-base : goal.invariant-loop-base
 invariant-loop-base g l = record {
   told : g.F.Files.told l.files ≡ g.F.Files.told l.initial.files;
   faults : g.F.Files.faults l.files ≡ g.F.Files.faults l.initial.files;
+  failed : g.F.Files.failed l.files ≡ g.F.Files.failed l.initial.files;
   found : (told : Told) → TellsFiles (g.F.Files.told l.initial.files) told → SameTexts (flat_map (below told l.component) (take l.base-index l.fn.bases.items)) l.paths.items;
 }
