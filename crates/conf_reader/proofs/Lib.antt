@@ -5,10 +5,10 @@ pub mod FolderLemmas
 pub mod FoundLemmas
 pub mod LeftLemmas
 pub mod LineLemmas
+pub mod LookingLemmas
 pub mod NextLemmas
 pub mod OneLemmas
 pub mod OpenLemmas
 pub mod OrderLemmas
 pub mod PathLemmas
 pub mod TakeLemmas
-pub mod UnreadLemmas

@@ -41,8 +41,9 @@ gives told place blocks old now new given s o count = record {
   is = s.is ∙ ap (λ xs. s.comments ++ xs) o.1.0;
   idle = s.idle;
   is_line = o.1.1.0;
-  within = o.1.1.1;
+  within = o.1.1.1.0;
   count = let c = s.count in omega (arith, c, count);
+  source = o.1.1.1.1;
 }
 
 -- no line behind them
@@ -78,6 +79,7 @@ reads-from told place blocks old mid new (Ok (Some given)) e h = record {
   is_line = h.is_line;
   within = h.within;
   count = h.count;
+  source = h.source;
 }
 reads-from told place blocks old mid new (Err errors.OutOfMemory) e h = tt
 reads-from told place blocks old mid new (Err (errors.At file number cause)) e h = λ fault. subst (λ ls. RefusesNext told place ls file number cause) (sym e) (h fault)

@@ -169,6 +169,7 @@ gives-line told place blocks o f next said given few size top s n by =
         says = n.head ∙ ap (λ k. Ok (Says k said.rest)) (sym by.keyword) ∙ ap (λ r. Ok (Says given.keyword r)) (sym by.rest);
         stands = ap (λ xs. xs ++ own_block (is_opening n.bytes) own) outer-is ∙ ap (λ t. flat_map option_to_list (take given.depth blocks) ++ own_block t own) opening ∙ ap (λ w. flat_map option_to_list (take given.depth blocks) ++ own_block (opens_block given.keyword) w) own-same;
       };
+      source = refl;
     }
 
 -- ---- as the code needs them

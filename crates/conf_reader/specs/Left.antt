@@ -220,6 +220,7 @@ pub record GivesLine (told : Told) (place : ℕ) (blocks : Blocks) (old new : Op
   pub left : open_left told place blocks old ≡ line
       ∷ open_left told (place + 1) (open_behind given place blocks) new
   pub is_line : IsLine given blocks line
+  pub source : line.source ≡ source_of new.system
 
 pub record RefusesHead (left : List Line) (file : Bytes) (number : ℕ) (cause : Cause) : Type 0 where
   pub line : Line

@@ -8,4 +8,3 @@ pub mod Moving
 pub mod Paths
 pub mod Reads
 pub mod Results
-pub mod Unread

@@ -1,5 +1,5 @@
 -- What open files have still to look at, and where a failed read is told.
-use Rattle.std.specs.Prelude.{◌≡◌, ℕ, ◌-◌, Bool, true, ◌&&◌, if◌then◌else◌, List, [], ◌∷◌, ◌++◌, drop, Option, Some, None, Result, Ok, Err, codes}
+use Rattle.std.specs.Prelude.{◌≡◌, ℕ, ◌-◌, Bool, true, ◌&&◌, if◌then◌else◌, List, [], ◌∷◌, ◌++◌, drop, Option, Some, None, Result, Ok, Err, OnOk, codes}
 use Rattle.std.specs.List.{list_all, list_any}
 use Rattle.std.specs.Option.{option_map}
 use Rattle.std.specs.Str.{bytes_eq}
@@ -20,6 +20,8 @@ use Rattle.conf_reader.specs.declared.open_file.OpenFile.{OpenFile}
 use Rattle.conf_reader.specs.declared.stack.OpenFiles.{OpenFiles}
 use Rattle.conf_reader.specs.declared.reader.FirstFile.{FirstFile}
 use Rattle.conf_reader.specs.declared.reader.Lines.{Lines}
+use Rattle.conf_reader.specs.declared.reader.Step.{Step}
+use Rattle.conf_reader.specs.declared.reader.Step.TheVariants as steps
 use Rattle.conf_reader.specs.Known.{TellsFiles}
 use Rattle.conf_reader.specs.Left.{source_of, stack}
 
@@ -99,6 +101,74 @@ LooksOn test told new (Ok (Some line)) =
     line_passes test told (source_of new.open_files.system) line ≡ true
     → passes test told new.open_files ≡ true
 LooksOn test told new result = Unit {0}
+
+-- ---- what steps do
+
+-- what passes goes on passing
+abbrev pub KeepsLooks : OpenFiles → OpenFiles → Type 0
+KeepsLooks old new =
+    (told : Told) (test : Test) → passes test told old ≡ true → passes test told new ≡ true
+
+-- the same of a line that is taken, where what it looks at passes
+abbrev pub TakesLooks : OpenFiles → OpenFiles → Result (Option ConfLine) ResolveError → Type 0
+TakesLooks old new (Ok None) = KeepsLooks old new
+TakesLooks old new (Ok (Some line)) =
+    (told : Told) (test : Test) → passes test told old ≡ true
+    → line_passes test told (source_of new.system) line ≡ true → passes test told new ≡ true
+TakesLooks old new (Err e) = Unit {0}
+
+-- whatever test all passes that is still to be looked at, a failed read passes it where it is told, and so does what is then left
+abbrev pub MovesLooks : {A : Type 0} → Option (List Bytes) → Option (List Bytes)
+    → OpenFiles → OpenFiles → Result A ResolveError → Type 0
+MovesLooks failed now old new result =
+    (told : Told) (test : Test) → passes test told old ≡ true
+    → TellsFailed test result failed now × OnOk result (passes test told new ≡ true)
+
+-- the same of one that looks at the machine too, where files tell
+abbrev pub ExpandsLooks : {A : Type 0} → Option (List Pair) → Facts → Bytes → Option (List Bytes)
+    → Option (List Bytes) → OpenFiles → OpenFiles → Result A ResolveError → Type 0
+ExpandsLooks files facts original failed now old new result =
+    (told : Told) (test : Test) → TellsFiles files told → told.facts ≡ facts
+    → told.asked.original ≡ original → passes test told old ≡ true
+    → TellsFailed test result failed now × OnOk result (passes test told new ≡ true)
+
+-- ---- the same over all files
+
+abbrev pub AllLook : {A : Type 0} → Option (List Bytes) → Option (List Bytes)
+    → Lines → Lines → Result A ResolveError → Type 0
+AllLook failed now old new result =
+    (told : Told) (test : Test) → all_pass test told old ≡ true
+    → TellsFailed test result failed now × OnOk result (all_pass test told new ≡ true)
+
+-- one that looks at the machine too
+abbrev pub AllExpandLooks : {A : Type 0} → Option (List Pair) → Facts → Bytes → Option (List Bytes)
+    → Option (List Bytes) → Lines → Lines → Result A ResolveError → Type 0
+AllExpandLooks files facts original failed now old new result =
+    (told : Told) (test : Test) → TellsFiles files told → told.facts ≡ facts
+    → told.asked.original ≡ original → all_pass test told old ≡ true
+    → TellsFailed test result failed now × OnOk result (all_pass test told new ≡ true)
+
+-- behind one line
+abbrev pub StepsOn : Test → Told → Lines → Result Step ResolveError → Type 0
+StepsOn test told new (Ok steps.Comment) = all_pass test told new ≡ true
+StepsOn test told new (Ok (steps.Given line)) =
+    line_passes test told (source_of new.open_files.system) line ≡ true
+    → passes test told new.open_files ≡ true
+StepsOn test told new result = Unit {0}
+
+-- one line
+abbrev pub StepLooks : Option (List Bytes) → Option (List Bytes)
+    → Lines → Lines → Result Step ResolveError → Type 0
+StepLooks failed now old new result =
+    (told : Told) (test : Test) → all_pass test told old ≡ true
+    → TellsFailed test result failed now × StepsOn test told new result
+
+-- the next line that says something
+abbrev pub LineLooks : Option (List Bytes) → Option (List Bytes)
+    → Lines → Lines → Result (Option ConfLine) ResolveError → Type 0
+LineLooks failed now old new result =
+    (told : Told) (test : Test) → all_pass test told old ≡ true
+    → TellsFailed test result failed now × LooksOn test told new result
 
 -- where files tell, with these facts: whatever test all passes that is still to be looked at, a failed read passes it where it
 -- is told, and so does what is to be looked at behind a line that is given

@@ -82,7 +82,8 @@ OneLine told place blocks old new (Ok steps.Comment) = (line : Line)
     × IsIdle told place line)
 OneLine told place blocks old new (Ok (steps.Given given)) = (line : Line)
     × ((left told place blocks old ≡ line ∷ left told (place + 1) (open_behind given place blocks)
-    new) × (IsLine given blocks line × (is_past_limit told line place ≡ false)))
+    new) × (IsLine given blocks line × ((is_past_limit told line place ≡ false)
+    × (line.source ≡ source_of new.open_files.system))))
 OneLine told place blocks old new (Err OutOfMemory) = Unit {0}
 OneLine told place blocks old new (Err (At file number cause)) =
     (is_fault cause ≡ false → RefusesNext told place (left told place blocks old) file number cause)

@@ -15,7 +15,7 @@ impl OpenFiles {
     ghost use Rattle.conf_reader.specs.Left.{IsReady, IsGiven, named_as};
     ghost use Rattle.conf_reader.specs.Moving.{KeepsBounds, ExpandsOver};
     ghost use Rattle.conf_reader.specs.Results.{Refuses, HasFilesCause};
-    ghost use Rattle.conf_reader.specs.Unread.{unread, unread_last, IsFront, FaultsAmong};
+    ghost use Rattle.conf_reader.specs.Looking.{ExpandsLooks};
 
     /// Notes the paths that the last line names.
     pub fn name(&mut self, paths: Texts)
@@ -68,8 +68,8 @@ impl OpenFiles {
         ensures told { F.told files.new ≡ F.told files.old }
         ensures cause { HasFilesCause result (F.faults files.old) (F.faults files.new) }
         ensures bounded { OnOk result (KeepsBounds self.old self.new) }
-        ensures unread { OnOk result (IsFront (unread self.new) (unread self.old)) }
-        ensures fault { FaultsAmong (unread_last self.old) result }
+        ensures looks { ExpandsLooks (F.told files.old) (known facts.now) original.now
+            (F.failed files.old) (F.failed files.new) self.old self.new result }
     {
         let found = match self.include() {
             None => return Ok(()),

@@ -1,4 +1,4 @@
-ghost use Rattle.std.specs.Prelude.{◌≡◌, ◌≤◌, ◌+◌, ◌++◌, ◌∷◌, [], ℕ, IfOk, IfSome, OnOk, length, codes};
+ghost use Rattle.std.specs.Prelude.{◌≡◌, ◌≤◌, ◌+◌, ◌++◌, ◌∷◌, [], ℕ, IfOk, IfSome, OnOk, codes};
 ghost use Rattle.conf_tokens.specs.Known.{known};
 ghost use Rattle.std.specs.Prelude.{true, false, IfErr};
 ghost use Rattle.std.specs.List.{list_all};

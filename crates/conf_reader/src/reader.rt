@@ -50,7 +50,7 @@ impl Lines {
     ghost use Rattle.conf_reader.specs.Left.{left, IsReady, is_plain_first, BeginsWith, IsLacking};
     ghost use Rattle.conf_reader.specs.Moving.{IsAtLine, Settles, KeepsBounds, AllMove};
     ghost use Rattle.conf_reader.specs.Results.{Refuses, HasFilesCause};
-    ghost use Rattle.conf_reader.specs.Unread.{unread, read_places, IsFront, FaultsAmong};
+    ghost use Rattle.conf_reader.specs.Looking.{KeepsLooks, AllLook};
 
     /// The lines of first files, of which none is opened yet.
     pub fn new(alloc: Global, firsts: Vec<FirstFile>) -> Lines
@@ -88,8 +88,7 @@ impl Lines {
         ensures firsts { self.new.firsts ≡ self.old.firsts }
         ensures next { OnOk result (self.new.next_first ≡ self.old.next_first + 1) }
         ensures bounded { OnOk result (KeepsBounds self.old.open_files self.new.open_files) }
-        ensures unread { OnOk result
-            (IsFront (unread self.new.open_files) (unread self.old.open_files)) }
+        ensures looks { OnOk result (KeepsLooks self.old.open_files self.new.open_files) }
         ensures count { self.new.read ≡ self.old.read }
     {
         let Some(first) = self.next_file() else {
@@ -149,9 +148,7 @@ impl Lines {
         ensures told { F.told files.new ≡ F.told files.old }
         ensures cause { HasFilesCause result (F.faults files.old) (F.faults files.new) }
         ensures bounded { OnOk result (KeepsBounds self.old.open_files self.new.open_files) }
-        ensures unread { OnOk result
-            (IsFront (unread self.new.open_files) (unread self.old.open_files)) }
-        ensures fault { FaultsAmong (read_places self.old) result }
+        ensures looks { AllLook (F.failed files.old) (F.failed files.new) self.old self.new result }
         ensures count { self.new.read ≡ self.old.read }
     {
         let Some(first) = self.next_file() else {
@@ -190,9 +187,7 @@ impl Lines {
         ensures told { F.told files.new ≡ F.told files.old }
         ensures cause { HasFilesCause result (F.faults files.old) (F.faults files.new) }
         ensures bounded { OnOk result (KeepsBounds self.old.open_files self.new.open_files) }
-        ensures unread { OnOk result
-            (IsFront (unread self.new.open_files) (unread self.old.open_files)) }
-        ensures fault { FaultsAmong (read_places self.old) result }
+        ensures looks { AllLook (F.failed files.old) (F.failed files.new) self.old self.new result }
         ensures count { self.new.read ≡ self.old.read }
     {
         loop {
@@ -219,9 +214,7 @@ impl Lines {
         ensures told { F.told files.new ≡ F.told files.old }
         ensures cause { HasFilesCause result (F.faults files.old) (F.faults files.new) }
         ensures bounded { OnOk result (KeepsBounds self.old.open_files self.new.open_files) }
-        ensures unread { OnOk result
-            (IsFront (unread self.new.open_files) (unread self.old.open_files)) }
-        ensures fault { FaultsAmong (read_places self.old) result }
+        ensures looks { AllLook (F.failed files.old) (F.failed files.new) self.old self.new result }
     {
         self.open_files.settle(files)
     }

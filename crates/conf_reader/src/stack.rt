@@ -39,7 +39,7 @@ impl OpenFiles {
     ghost use Rattle.conf_reader.specs.Left.{open_left, IsReady, IsSettled, work, Moves, Names, RefusesTop, RefusesNext, StandOf, IsFound};
     ghost use Rattle.conf_reader.specs.Moving.{NamesPath, Settles, KeepsLeft, KeepsBounds, MovesOver};
     ghost use Rattle.conf_reader.specs.Results.{HasFilesCause, is_read_fault};
-    ghost use Rattle.conf_reader.specs.Unread.{unread, unread_last, IsFront, FaultsAmong};
+    ghost use Rattle.conf_reader.specs.Looking.{KeepsLooks, MovesLooks};
 
     /// No file.
     pub fn new(alloc: Global) -> OpenFiles
@@ -64,7 +64,7 @@ impl OpenFiles {
         ensures ready { IsReady self.new }
         ensures less { work self.new < work self.old }
         ensures bounded { KeepsBounds self.old self.new }
-        ensures unread { unread self.new ≡ unread self.old }
+        ensures looks { KeepsLooks self.old self.new }
     {
         self.top = self.below.pop();
         self.fresh = false;
@@ -81,7 +81,7 @@ impl OpenFiles {
         ensures ready { IsReady self.new }
         ensures less { work self.new < work self.old }
         ensures bounded { KeepsBounds self.old self.new }
-        ensures unread { IsFront (unread self.new) (unread self.old) }
+        ensures looks { KeepsLooks self.old self.new }
     {
         if let Some(top) = &mut self.top {
             top.pass();
@@ -101,7 +101,7 @@ impl OpenFiles {
         ensures ready { OnOk result (IsReady self.new) }
         ensures less { OnOk result (work self.new < work self.old) }
         ensures bounded { OnOk result (KeepsBounds self.old self.new) }
-        ensures unread { OnOk result (IsFront (unread self.new) (unread self.old)) }
+        ensures looks { OnOk result (KeepsLooks self.old self.new) }
     {
         let Some(mut top) = self.top.take() else {
             return Ok(());
@@ -161,7 +161,7 @@ impl OpenFiles {
         ensures ready { OnOk result (IsReady self.new) }
         ensures less { OnOk result (work self.new < work self.old) }
         ensures bounded { OnOk result (KeepsBounds self.old self.new) }
-        ensures unread { OnOk result (IsFront (unread self.new) (unread self.old)) }
+        ensures looks { OnOk result (KeepsLooks self.old self.new) }
         ensures quiet { IfErr result (λ e. is_read_fault e ≡ false) }
     {
         match found {
@@ -198,8 +198,7 @@ impl OpenFiles {
         ensures told { F.told files.new ≡ F.told files.old }
         ensures cause { HasFilesCause result (F.faults files.old) (F.faults files.new) }
         ensures bounded { OnOk result (KeepsBounds self.old self.new) }
-        ensures unread { OnOk result (IsFront (unread self.new) (unread self.old)) }
-        ensures fault { FaultsAmong (unread_last self.old) result }
+        ensures looks { MovesLooks (F.failed files.old) (F.failed files.new) self.old self.new result }
     {
         let Some(top) = &self.top else {
             return Ok(Stand::End);
@@ -232,8 +231,7 @@ impl OpenFiles {
         ensures told { F.told files.new ≡ F.told files.old }
         ensures cause { HasFilesCause result (F.faults files.old) (F.faults files.new) }
         ensures bounded { OnOk result (KeepsBounds self.old self.new) }
-        ensures unread { OnOk result (IsFront (unread self.new) (unread self.old)) }
-        ensures fault { FaultsAmong (unread self.old) result }
+        ensures looks { MovesLooks (F.failed files.old) (F.failed files.new) self.old self.new result }
     {
         loop {
             match self.advance(files) {

@@ -19,7 +19,7 @@ impl Lines {
     ghost use Rattle.conf_reader.specs.Left.{left, IsReady, IsGiven, is_plain_first, Bounded};
     ghost use Rattle.conf_reader.specs.Moving.{KeepsBounds, AllExpand, TakesOne, ReadsOver, ReadsFor};
     ghost use Rattle.conf_reader.specs.Results.{HasFilesCause};
-    ghost use Rattle.conf_reader.specs.Unread.{unread, read_places, IsFront, FaultsAmong, StepsFrom, Follows};
+    ghost use Rattle.conf_reader.specs.Looking.{Test, passes, StepLooks, LineLooks, AllExpandLooks, Looks};
 
     /// Takes one line of all files.
     fn one<F: Files>(&mut self, files: &mut F) -> Result<Step, ResolveError>
@@ -32,9 +32,7 @@ impl Lines {
         ensures firsts { self.new.firsts ≡ self.old.firsts }
         ensures counts { IfOk result (λ step. CountsOne step self.old.read self.new.read) }
         ensures given { IfOk result (λ step. GivenStep step self.old self.new) }
-        ensures unread { IfOk result
-            (StepsFrom (unread self.old.open_files) (unread self.new.open_files)) }
-        ensures fault { FaultsAmong (read_places self.old) result }
+        ensures looks { StepLooks (F.failed files.old) (F.failed files.new) self.old self.new result }
         ensures told { F.told files.new ≡ F.told files.old }
         ensures cause { HasFilesCause result (F.faults files.old) (F.faults files.new) }
     {
@@ -63,9 +61,7 @@ impl Lines {
         requires plain { list_all is_plain_first self.old.firsts.items ≡ true }
         ensures reads { ReadsOver (F.told files.old) self.old self.new result }
         ensures given { IfOk result (λ given. IfSome given (IsGivenFrom self.old self.new)) }
-        ensures unread { IfOk result (λ given.
-            IfSome given (Follows (unread self.old.open_files) (unread self.new.open_files))) }
-        ensures fault { FaultsAmong (read_places self.old) result }
+        ensures looks { LineLooks (F.failed files.old) (F.failed files.new) self.old self.new result }
         ensures firsts { self.new.firsts ≡ self.old.firsts }
         ensures told { F.told files.new ≡ F.told files.old }
         ensures cause { HasFilesCause result (F.faults files.old) (F.faults files.new) }
@@ -95,9 +91,8 @@ impl Lines {
         ensures told { F.told files.new ≡ F.told files.old }
         ensures cause { HasFilesCause result (F.faults files.old) (F.faults files.new) }
         ensures bounded { OnOk result (KeepsBounds self.old.open_files self.new.open_files) }
-        ensures unread { OnOk result
-            (IsFront (unread self.new.open_files) (unread self.old.open_files)) }
-        ensures fault { FaultsAmong (read_places self.old) result }
+        ensures looks { AllExpandLooks (F.told files.old) (known facts.now) original.now
+            (F.failed files.old) (F.failed files.new) self.old self.new result }
     {
         self.open_files.expand(facts, original, files)
     }
@@ -114,9 +109,8 @@ impl Lines {
         ensures reads { ReadsFor (F.told files.old) (known facts.now) original.now self.old
             self.new result }
         ensures given { IfOk result (λ given. IfSome given (IsGivenFrom self.old self.new)) }
-        ensures unread { IfOk result (λ given.
-            IfSome given (Follows (unread self.old.open_files) (unread self.new.open_files))) }
-        ensures fault { FaultsAmong (read_places self.old) result }
+        ensures looks { Looks (F.told files.old) (known facts.now) original.now
+            (F.failed files.old) (F.failed files.new) self.old self.new result }
         ensures firsts { self.new.firsts ≡ self.old.firsts }
         ensures told { F.told files.new ≡ F.told files.old }
         ensures cause { HasFilesCause result (F.faults files.old) (F.faults files.new) }
@@ -134,7 +128,8 @@ impl Lines {
         ensures given { IsGiven self.new.open_files }
         ensures firsts { self.new.firsts ≡ self.old.firsts }
         ensures bounded { Bounded self.new.open_files 0 }
-        ensures unread { unread self.new.open_files ≡ [] }
+        ensures looks { (told : Told) (test : Test)
+            → passes test told self.new.open_files ≡ true }
     {
         self.open_files = OpenFiles::new(self.alloc);
         self.next_first = self.firsts.len();

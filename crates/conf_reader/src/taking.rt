@@ -16,7 +16,7 @@ impl OpenFiles {
     ghost use Rattle.conf_reader.specs.Left.{IsReady, stack, Takes, IsGiven, IsGivenBy, gone, HeadIs};
     ghost use Rattle.conf_reader.specs.Moving.{IsAtLine, KeepsBounds};
     ghost use Rattle.conf_reader.specs.Results.{Refuses, is_read_fault};
-    ghost use Rattle.conf_reader.specs.Unread.{unread, TakenFrom};
+    ghost use Rattle.conf_reader.specs.Looking.{TakesLooks};
 
     /// The line that the last file says, as it is given.
     pub fn given(&self, said: Said) -> Result<ConfLine, OutOfMemory>
@@ -90,7 +90,7 @@ impl OpenFiles {
             IfSome line (λ l. (l.opens ≡ self.old.fresh) × (l.depth ≡ length self.old.below.items)
             × (length (stack self.new) ≡ l.depth + 1))) }
         ensures bounded { result ≡ Ok None → KeepsBounds self.old self.new }
-        ensures unread { IfOk result (TakenFrom (unread self.old) (unread self.new)) }
+        ensures looks { TakesLooks self.old self.new result }
         ensures quiet { IfErr result (λ e. is_read_fault e ≡ false) }
     {
         let Next { next, said } = match self.head() {

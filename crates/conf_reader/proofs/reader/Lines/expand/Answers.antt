@@ -1,9 +1,9 @@
 use Rattle.conf_reader.proofs.FirstLemmas.{lift-moves}
-use Rattle.conf_reader.proofs.UnreadLemmas.{last-fault}
+use Rattle.conf_reader.proofs.LookingLemmas.{all-look, files-pass}
 use Rattle.conf_reader.proofs.reader.Lines.expand.Goals as goal
 
 pub returns-clause-moves : goal.returns-clause-moves
 returns-clause-moves g c = λ told place blocks tells facts original. lift-moves told place blocks c.args.self.now c.expand.new.self c.expand.result (c.expand.ensures.moves told place blocks tells facts original)
 
-pub returns-clause-fault : goal.returns-clause-fault
-returns-clause-fault g c = last-fault _ c.args.self.now c.expand.result c.expand.ensures.fault
+pub returns-clause-looks : goal.returns-clause-looks
+returns-clause-looks g c = λ told test tells facts original h. all-look _ test told c.args.self.now c.expand.new.self c.expand.result _ _ h (c.expand.ensures.looks told test tells facts original (files-pass test told c.args.self.now h))

@@ -1,11 +1,12 @@
-use Rattle.std.proofs.Common.{◌≡◌, Bool, sym, ap, refl, Some, []}
+use Rattle.std.proofs.Common.{◌≡◌, Bool, sym, ap, subst, refl, Some, [], ◌∷◌}
 use Rattle.std.specs.List.{slice_get}
 use Rattle.conf_rules.specs.declared.causes.Cause.TheVariants as causes
 use Rattle.conf_reader.specs.declared.reader.Lines.{Lines}
 use Rattle.conf_reader.specs.Left.{left}
 use Rattle.conf_reader.proofs.OpenLemmas.{moves-refused}
 use Rattle.conf_reader.proofs.FirstLemmas.{lack-refused, size-moves, plain-at, below-end}
-use Rattle.conf_reader.proofs.UnreadLemmas.{first-fault}
+use Rattle.conf_reader.specs.Looking.{FailsAmong}
+use Rattle.conf_reader.proofs.LookingLemmas.{first-tells}
 use Rattle.conf_reader.proofs.reader.Lines.first.Goals as goal
 
 pub returns-then-required-clause-moves : goal.returns-then-required-clause-moves
@@ -36,8 +37,9 @@ returns-in-Ok-TooLarge-clause-moves g c = λ told place blocks tells.
 pub returns-in-Ok-clause-next : goal.returns-in-Ok-clause-next
 returns-in-Ok-clause-next g c = (c.in-Ok.ensures.next, below-end c.args.self.now.firsts.items c.args.self.now.next_first c.in-Some.first.now (sym c.in-Some.ensures))
 
-pub returns-in-Err-Failed-clause-fault : goal.returns-in-Err-Failed-clause-fault
-returns-in-Err-Failed-clause-fault g c =
+pub returns-in-Err-Failed-clause-looks : goal.returns-in-Err-Failed-clause-looks
+returns-in-Err-Failed-clause-looks g c = λ told test h.
     let f = c.in-Some.first.now in
     let named : slice_get c.args.self.now.firsts.items c.args.self.now.next_first ≡ Some f = sym c.in-Some.ensures in
-    first-fault Bool c.args.self.now f c.file_refusal-in-Err-Failed.result named (rw named at c.file_refusal-in-Err-Failed.ensures)
+    let fails : FailsAmong (f.path ∷ []) (g.F.Files.failed c.args.files.now) (g.F.Files.failed c.read_file.new.files) = subst (λ p. FailsAmong (p ∷ []) (g.F.Files.failed c.args.files.now) (g.F.Files.failed c.read_file.new.files)) c.as_bytes.ensures (rw c.in-Err-Failed.field-0-is at c.in-Err-Failed.ensures.failed) in
+    (first-tells Bool test told c.args.self.now f c.file_refusal-in-Err-Failed.result _ _ named (rw named at c.file_refusal-in-Err-Failed.ensures) fails h, tt)

@@ -1,8 +1,9 @@
-use Rattle.std.proofs.Common.{◌∙◌, ◌+◌, ap, length, Ok, Err, arith}
+use Rattle.std.proofs.Common.{◌∙◌, ◌+◌, ap, length, Ok, arith}
 use Rattle.conf_reader.proofs.NextLemmas.{more, gives, ends, fails}
 use Rattle.conf_reader.specs.declared.line.ConfLine.{ConfLine}
 use Rattle.std.specs.Prelude.{Option}
-use Rattle.conf_reader.proofs.UnreadLemmas.{front-of-front, later-fault, follows-on}
+use Rattle.conf_reader.specs.declared.reader.Step.{Step}
+use Rattle.conf_reader.proofs.LookingLemmas.{tells-on}
 use Rattle.conf_reader.proofs.reader.Lines.next_line.Goals as goal
 
 pub returns-in-Ok-End-clause-reads : goal.returns-in-Ok-End-clause-reads
@@ -29,7 +30,10 @@ loop-line-preserved g c = record {
   kept = λ n b. c.in-Ok-Comment.ensures.bounded (ap (λ s. Ok s) c.in-Ok-Comment.field-0-is) n (c.loop-line.invariant.kept n b);
   counted = let counts = rw c.in-Ok-Comment.field-0-is at c.in-Ok-Comment.ensures.counts in omega (arith, counts.0, c.loop-line.invariant.counted);
   firsts = c.one.ensures.firsts ∙ c.loop-line.invariant.firsts;
-  unread = front-of-front _ _ _ (rw c.in-Ok-Comment.field-0-is at c.in-Ok-Comment.ensures.unread) c.loop-line.invariant.unread;
+  looks = λ told test h.
+      let before = c.loop-line.invariant.looks told test h in
+      let step = rw c.in-Ok-Comment.field-0-is at (c.in-Ok-Comment.ensures.looks told test before.1) in
+      (step.0 ∙ before.0, step.1);
   far = λ told place blocks tells at bounded.
       let s = c.loop-line.invariant.far told place blocks tells at bounded in
       let counts = rw c.in-Ok-Comment.field-0-is at c.in-Ok-Comment.ensures.counts in
@@ -46,8 +50,20 @@ returns-in-Ok-Given-clause-given g c =
       further = omega (arith, given.further, c.loop-line.invariant.counted);
     }
 
-pub returns-in-Ok-Given-clause-unread : goal.returns-in-Ok-Given-clause-unread
-returns-in-Ok-Given-clause-unread g c = follows-on _ _ _ c.in-Ok-Given.line c.loop-line.invariant.unread (rw c.in-Ok-Given.field-0-is at c.in-Ok-Given.ensures.unread)
+pub returns-in-Ok-Given-clause-looks : goal.returns-in-Ok-Given-clause-looks
+returns-in-Ok-Given-clause-looks g c = λ told test h.
+    let before = c.loop-line.invariant.looks told test h in
+    let step = rw c.in-Ok-Given.field-0-is at (c.in-Ok-Given.ensures.looks told test before.1) in
+    (step.0 ∙ before.0, step.1)
 
-pub returns-in-Err-clause-fault : goal.returns-in-Err-clause-fault
-returns-in-Err-clause-fault g c = later-fault (Option ConfLine) c.args.self.now c.loop-line.self (Err c.in-Err.e) c.loop-line.invariant.unread c.loop-line.invariant.firsts c.in-Err.ensures.fault
+pub returns-in-Ok-End-clause-looks : goal.returns-in-Ok-End-clause-looks
+returns-in-Ok-End-clause-looks g c = λ told test h.
+    let before = c.loop-line.invariant.looks told test h in
+    let step = c.in-Ok-End.ensures.looks told test before.1 in
+    (step.0 ∙ before.0, tt)
+
+pub returns-in-Err-clause-looks : goal.returns-in-Err-clause-looks
+returns-in-Err-clause-looks g c = λ told test h.
+    let before = c.loop-line.invariant.looks told test h in
+    let step = c.in-Err.ensures.looks told test before.1 in
+    (tells-on Step (Option ConfLine) test c.in-Err.e _ _ _ before.0 step.0, tt)

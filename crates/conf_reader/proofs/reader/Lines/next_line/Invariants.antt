@@ -1,10 +1,10 @@
-use Rattle.std.proofs.Common.{◌≡◌, ◌≤◌, ◌+◌, ◌-◌, ℕ, length}
+use Rattle.std.proofs.Common.{◌≡◌, ◌≤◌, ◌+◌, ◌-◌, ℕ, true, length}
 use Rattle.conf_rules.specs.Told.{Told}
 use Rattle.conf_reader.specs.Known.{TellsFiles}
 use Rattle.conf_reader.specs.Blocks.{Blocks}
 use Rattle.conf_reader.specs.Left.{IsReady, Bounded}
 use Rattle.conf_reader.specs.Reads.{SoFar}
-use Rattle.conf_reader.specs.Unread.{unread, IsFront}
+use Rattle.conf_reader.specs.Looking.{Test, all_pass}
 use Rattle.conf_reader.proofs.reader.Lines.next_line.Given as goal
 
 abbrev pub invariant-loop-line : goal.invariant-loop-line
@@ -14,7 +14,7 @@ invariant-loop-line g l = record {
   faults : g.F.Files.faults l.files ≡ g.F.Files.faults l.initial.files;
   kept : (n : ℕ) → Bounded l.initial.self.open_files n → Bounded l.self.open_files n;
   counted : l.initial.self.read ≤ l.self.read;
-  unread : IsFront (unread l.self.open_files) (unread l.initial.self.open_files);
+  looks : (told : Told) (test : Test) → all_pass test told l.initial.self ≡ true → (g.F.Files.failed l.files ≡ g.F.Files.failed l.initial.files) × (all_pass test told l.self ≡ true);
   firsts : l.self.firsts ≡ l.initial.self.firsts;
   far : (told : Told) (place : ℕ) (blocks : Blocks) → TellsFiles (g.F.Files.told l.initial.files) told → place ≡ length told.asked.lines + l.initial.self.read → Bounded l.initial.self.open_files (length blocks) → SoFar told place blocks l.initial.self l.self;
 }

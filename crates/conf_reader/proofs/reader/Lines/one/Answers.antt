@@ -45,4 +45,4 @@ returns-in-Ok-Some-clause-one g c = λ told place blocks tells at bounded.
     let few = c.in-Ok-true.ensures.bounded (length blocks) bounded in
     let size : length r.open_files.below.items ≤ length blocks = omega (arith, few) in
     let t = rw c.in-Ok-Some.field-0-is at (c.in-Ok-Some.ensures.takes told place blocks size) in
-    (t.line, (same ∙ left-on told place blocks (open_behind c.in-Ok-Some.line place blocks) r new t.line t.left refl refl, (t.is_line, within-limit told t.line place r.read at' c.if-self-ge100000.false)))
+    (t.line, (same ∙ left-on told place blocks (open_behind c.in-Ok-Some.line place blocks) r new t.line t.left refl refl, (t.is_line, (within-limit told t.line place r.read at' c.if-self-ge100000.false, t.source))))

@@ -1,7 +1,9 @@
-use Rattle.std.proofs.Common.{◌<◌, ◌≤◌, length, sym, ap, refl, arith}
+use Rattle.std.proofs.Common.{◌≡◌, ◌<◌, ◌≤◌, [], ◌∷◌, Some, length, sym, ap, subst, refl, arith}
+use Rattle.std.specs.List.{slice_get}
 use Rattle.conf_reader.specs.declared.stack.Stand.{Stand}
 use Rattle.conf_reader.proofs.OpenLemmas.{ready-top, none-left, one-left-path, found-names}
-use Rattle.conf_reader.proofs.UnreadLemmas.{top-fault}
+use Rattle.conf_reader.specs.Looking.{FailsAmong}
+use Rattle.conf_reader.proofs.LookingLemmas.{top-tells}
 use Rattle.conf_reader.proofs.stack.OpenFiles.advance.Goals as goal
 
 pub open-requires-clause-named : goal.open-requires-clause-named
@@ -21,6 +23,9 @@ pub returns-in-Err-clause-moves : goal.returns-in-Err-clause-moves
 returns-in-Err-clause-moves g c = λ told place blocks tells.
     c.in-Err.ensures.moves told place blocks (rw c.in-Some.is (found-names told c.in-Ok.found c.in-Some.top c.in-Some-next_path.path.now (sym c.in-Some-next_path.ensures) (rw c.as_bytes.ensures at (c.in-Ok.ensures.found told tells))))
 
-pub returns-in-Err-Failed-clause-fault : goal.returns-in-Err-Failed-clause-fault
-returns-in-Err-Failed-clause-fault g c =
-    top-fault Stand c.args.self.now c.in-Some.top c.refusal.result c.in-Some.is (one-left-path c.in-Some.top.named c.in-Some.top.next c.in-Some-next_path.path.now c.in-Some-next_path.ensures) (rw c.in-Some.is at c.refusal.ensures)
+pub returns-in-Err-Failed-clause-looks : goal.returns-in-Err-Failed-clause-looks
+returns-in-Err-Failed-clause-looks g c = λ told test h.
+    let f = c.in-Some.top in
+    let named : slice_get f.named f.next ≡ Some c.in-Some-next_path.path.now = sym c.in-Some-next_path.ensures in
+    let fails : FailsAmong (c.in-Some-next_path.path.now ∷ []) (g.F.Files.failed c.args.files.now) (g.F.Files.failed c.read_file.new.files) = subst (λ p. FailsAmong (p ∷ []) (g.F.Files.failed c.args.files.now) (g.F.Files.failed c.read_file.new.files)) c.as_bytes.ensures (rw c.in-Err-Failed.field-0-is at c.in-Err-Failed.ensures.failed) in
+    (top-tells Stand test told c.args.self.now f c.in-Some-next_path.path.now c.refusal.result _ _ c.in-Some.is (ready-top c.args.self.now f c.requires.ready c.in-Some.is) named (rw c.in-Some.is at c.refusal.ensures) fails h, tt)

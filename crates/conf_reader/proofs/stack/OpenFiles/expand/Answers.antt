@@ -1,9 +1,9 @@
-use Rattle.std.proofs.Common.{◌∙◌, sym, ap}
+use Rattle.std.proofs.Common.{◌∙◌, ℕ, List, sym, ap}
 use Rattle.std.specs.Option.{option_map}
 use Rattle.conf_reader.specs.declared.stack.OpenFiles.{OpenFiles}
 use Rattle.conf_reader.specs.Left.{open_left, named_as}
 use Rattle.conf_reader.proofs.ExpandLemmas.{names-left, include-refused, top-include}
-use Rattle.conf_reader.proofs.UnreadLemmas.{named-front, include-fault}
+use Rattle.conf_reader.proofs.LookingLemmas.{named-looks, include-tells}
 use Rattle.conf_reader.proofs.stack.OpenFiles.expand.Goals as goal
 
 pub returns-in-Ok-clause-moves : goal.returns-in-Ok-clause-moves
@@ -19,12 +19,12 @@ returns-in-Err-clause-moves g c = λ told place blocks tells facts original.
     include-refused told place blocks c.args.self.now t.0 c.in-Some.rest.now c.in-Err.e c.include_refusal.result t.1.0 t.1.1
     (rw c.as_bytes.ensures at (c.in-Err.ensures.found told tells facts original)) (rw t.1.0 at c.include_refusal.ensures)
 
-pub returns-in-Ok-clause-unread : goal.returns-in-Ok-clause-unread
-returns-in-Ok-clause-unread g c =
+pub returns-in-Ok-clause-looks : goal.returns-in-Ok-clause-looks
+returns-in-Ok-clause-looks g c = λ told test tells facts original h.
     let t = top-include c.args.self.now.top c.in-Some.rest.now c.in-Some.ensures in
-    named-front c.args.self.now c.name.new.self t.0 c.in-Some.rest.now c.in-Ok.paths t.1.0 t.1.1 c.name.ensures
+    (c.in-Ok.ensures.failed told tells facts original, named-looks test told c.args.self.now c.name.new.self t.0 c.in-Some.rest.now c.in-Ok.paths t.1.0 t.1.1 (rw c.as_bytes.ensures at (c.in-Ok.ensures.found told tells facts original)) c.name.ensures h)
 
-pub returns-in-Err-clause-fault : goal.returns-in-Err-clause-fault
-returns-in-Err-clause-fault g c =
+pub returns-in-Err-clause-looks : goal.returns-in-Err-clause-looks
+returns-in-Err-clause-looks g c = λ told test tells facts original h.
     let t = top-include c.args.self.now.top c.in-Some.rest.now c.in-Some.ensures in
-    include-fault (Unit {0}) c.args.self.now t.0 c.in-Some.rest.now c.in-Err.e c.include_refusal.result t.1.0 t.1.1 (rw t.1.0 at c.include_refusal.ensures)
+    (include-tells (List (List ℕ)) (Unit {0}) test told c.args.self.now t.0 c.in-Some.rest.now c.as_bytes.result.now c.in-Err.e c.include_refusal.result _ _ t.1.0 t.1.1 c.as_bytes.ensures (rw t.1.0 at c.include_refusal.ensures) (c.in-Err.ensures.failed told tells facts original) h, tt)

@@ -1,9 +1,9 @@
-use Rattle.std.proofs.Common.{◌≡◌, ℕ}
+use Rattle.std.proofs.Common.{◌≡◌, ℕ, true}
 use Rattle.conf_rules.specs.Told.{Told}
 use Rattle.conf_reader.specs.Known.{TellsFiles}
 use Rattle.conf_reader.specs.Blocks.{Blocks}
 use Rattle.conf_reader.specs.Left.{open_left, IsReady, work, Bounded}
-use Rattle.conf_reader.specs.Unread.{unread, IsFront}
+use Rattle.conf_reader.specs.Looking.{Test, passes}
 use Rattle.conf_reader.proofs.stack.OpenFiles.settle.Given as goal
 
 abbrev pub invariant-loop-e : goal.invariant-loop-e
@@ -11,7 +11,7 @@ invariant-loop-e g l = record {
   ready : IsReady l.self;
   told : g.F.Files.told l.files ≡ g.F.Files.told l.initial.files;
   faults : g.F.Files.faults l.files ≡ g.F.Files.faults l.initial.files;
-  unread : IsFront (unread l.self) (unread l.initial.self);
+  looks : (told : Told) (test : Test) → passes test told l.initial.self ≡ true → (g.F.Files.failed l.files ≡ g.F.Files.failed l.initial.files) × (passes test told l.self ≡ true);
   bounded : (n : ℕ) → Bounded l.initial.self n → Bounded l.self n;
   left : (told : Told) (place : ℕ) (blocks : Blocks) → TellsFiles (g.F.Files.told l.initial.files) told → open_left told place blocks l.initial.self ≡ open_left told place blocks l.self;
 }

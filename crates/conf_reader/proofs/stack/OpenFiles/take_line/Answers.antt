@@ -1,7 +1,9 @@
-use Rattle.std.proofs.Common.{◌≡◌, ◌∙◌, sym, ap, refl, subst, false}
+use Rattle.std.proofs.Common.{◌≡◌, ◌∙◌, sym, ap, refl, subst, false, Some, Ok}
 use Rattle.std.specs.Option.{option_map}
 use Rattle.conf_reader.specs.declared.stack.OpenFiles.{OpenFiles}
 use Rattle.conf_reader.specs.Left.{PassesComment, GivesLine, gone, include_of}
+use Rattle.conf_reader.specs.Looking.{TakesLooks}
+use Rattle.conf_reader.proofs.LookingLemmas.{given-looks}
 use Rattle.conf_reader.proofs.TakeLemmas.{passes-top, gives-top, refused-top}
 use Rattle.conf_reader.proofs.stack.OpenFiles.take_line.Goals as goal
 
@@ -19,3 +21,9 @@ returns-in_ok-line-in-Some-clause-takes c = λ told place blocks size.
     let include : c.in_ok-include-in-Some.include ≡ include_of c.in-Some.said = let k = c.in_ok-include-in-Some.ensures in cc in
     subst (λ (n : OpenFiles). GivesLine told place blocks c.args.self.now (record n { fresh = false }) c.in_ok-line-in-Some.line) (sym (c.go-in-Some.ensures ∙ ap (λ i. record c.args.self.now { top = option_map (gone c.in-Ok.next.next i) c.args.self.now.top }) include))
     (gives-top told place blocks c.args.self.now c.args.self.now.top c.in-Ok.next c.in-Some.said c.in_ok-line-in-Some.line refl c.requires.some c.requires.ready.few size c.requires.line c.in-Ok.ensures c.in-Some.is c.in_ok-line-in-Some.ensures)
+
+pub returns-in_ok-line-in-Some-clause-looks : goal.returns-in_ok-line-in-Some-clause-looks
+returns-in_ok-line-in-Some-clause-looks c =
+    let include : c.in_ok-include-in-Some.include ≡ include_of c.in-Some.said = let k = c.in_ok-include-in-Some.ensures in cc in
+    subst (λ (n : OpenFiles). TakesLooks c.args.self.now (record n { fresh = false }) (Ok (Some c.in_ok-line-in-Some.line))) (sym (c.go-in-Some.ensures ∙ ap (λ i. record c.args.self.now { top = option_map (gone c.in-Ok.next.next i) c.args.self.now.top }) include))
+    (λ told test h looks. given-looks test told c.args.self.now c.args.self.now.top c.in-Ok.next.next c.in-Some.said c.in_ok-line-in-Some.line refl c.requires.line c.in_ok-line-in-Some.ensures looks h)
