@@ -1,6 +1,7 @@
 -- Where faults are told, pass by pass.
-use Rattle.std.proofs.Common.{◌≡◌, ℕ, ◌+◌, Bool, true, false, List, [], ◌∷◌, ◌++◌, length, Option, None, Result, Err, refl, sym, ap, subst, ◌∙◌, append_assoc, inl, inr}
+use Rattle.std.proofs.Common.{◌≡◌, ℕ, ◌+◌, Bool, true, false, List, [], ◌∷◌, ◌++◌, length, Option, None, Result, Err, refl, sym, ap, subst, ◌∙◌, append_assoc}
 use Rattle.std.specs.Prelude.{IfErr}
+use Rattle.std.specs.Option.{option_map}
 use Rattle.conf_rules.specs.declared.causes.Cause.TheVariants as causes
 use Rattle.conf_rules.specs.declared.causes.ResolveError.{ResolveError}
 use Rattle.conf_rules.specs.declared.causes.ResolveError.TheVariants as errors
@@ -17,15 +18,15 @@ use Rattle.conf_reader.specs.Firsts.{firsts_of}
 use Rattle.conf_reader.specs.Left.{left}
 use Rattle.conf_reader.specs.Reads.{GivesNext}
 use Rattle.conf_reader.specs.Results.{is_run_fault}
-use Rattle.conf_reader.specs.Unread.{IsAmong, FaultsAmong, first_places, read_places, unread}
-use Rattle.conf_reader.proofs.UnreadLemmas.{split}
+use Rattle.conf_reader.specs.Looking.{Test, all_pass, TellsFailed}
 use Rattle.conf_fold.specs.declared.fold.Fold.{Fold}
 use Rattle.conf_fold.specs.Begins.{asked_rows, asked_again, SecondBegins}
 use Rattle.conf_fold.specs.Results.{FailsAt, HasRunCause, is_fault_at}
 use Rattle.conf_fold.specs.Stands.{Stands, IsNext, next_row}
 use Rattle.conf_fold.proofs.OrderLemmas.{from, rows-on, rows-end, row-line, from-front}
 use Rattle.conf_resolve.specs.Passes.{Commands, commands, AreAgain, final_rows, first_rows}
-use Rattle.conf_resolve.specs.Faults.{FaultStands}
+use Rattle.conf_resolve.specs.Faults.{FailedPaths, FaultStands, NoneFails}
+use Rattle.conf_resolve.proofs.IncludeLemmas.{may_tell, told-place, all-told}
 use Rattle.conf_resolve.proofs.PassLemmas.{Underway, idle-many}
 use Rattle.conf_resolve.proofs.ResolveLemmas.{all-front, first-is, twice-all}
 
@@ -45,37 +46,38 @@ row-front told pass rows place line rest = on (is_refused (next_row told pass ro
 -- ---- a pass
 
 -- a failed read
-pub read-stands : (told : Told) (pass : Pass) (fold : Fold) (old : Lines) (final first : List Row) (start now before : Commands) (u : Underway told pass fold old final first start now) (e : ResolveError)
-    → FaultsAmong {A = Option ConfLine} (read_places old) (Err e) → is_run_fault e ≡ false → old.firsts.items ≡ firsts_of told.facts.home told.asked.from → RanAll before start (commands first)
-    → FaultStands told final e before now
-read-stands told pass fold old final first start now before u errors.OutOfMemory among quiet firsts began = tt
-read-stands told pass fold old final first start now before u (errors.At file number causes.RunFault) among quiet firsts began = absurd cc
-read-stands told pass fold old final first start now before u (errors.At file number causes.ReadFault) among quiet firsts began =
+pub read-stands : (told : Told) (pass : Pass) (fold : Fold) (old : Lines) (final first : List Row) (start now before : Commands) (u : Underway told pass fold old final first start now) (e : ResolveError) (failed failed-mid failed-now : FailedPaths) → failed-mid ≡ failed
+    → ((test : Test) → all_pass test told old ≡ true → TellsFailed {A = Option ConfLine} test (Err e) failed-mid failed-now) → is_run_fault e ≡ false → old.firsts.items ≡ firsts_of told.facts.home told.asked.from → RanAll before start (commands first)
+    → FaultStands told final e before now failed failed-now
+read-stands told pass fold old final first start now before u errors.OutOfMemory failed failed-mid failed-now same tells quiet firsts began = tt
+read-stands told pass fold old final first start now before u (errors.At file number causes.RunFault) failed failed-mid failed-now same tells quiet firsts began = absurd cc
+read-stands told pass fold old final first start now before u (errors.At file number causes.ReadFault) failed failed-mid failed-now same tells quiet firsts began =
     let front = from-front told pass (left told u.place u.blocks old) u.rows u.place in
+    let fails = tells (may_tell told u.rows) (all-told told u.rows old firsts u.looks) in
     record {
       rows = u.rows;
       later = front.0;
       parts = sym u.final_is ∙ front.1;
       ran = u.ran before began;
-      place = split _ (file, number) (unread old.open_files) (first_places old.firsts.items) among
-          (λ a. inl (u.included (file, number) a))
-          (λ a. inr (subst (λ fs. IsAmong (file, number) (first_places fs)) firsts a));
+      path = fails.path;
+      is = fails.is ∙ ap (option_map (λ paths. paths ++ fails.path ∷ [])) same;
+      place = told-place told u.rows file number fails.path fails.passes;
     }
-read-stands told pass fold old final first start now before u (errors.At file number cause) among quiet firsts began = tt
+read-stands told pass fold old final first start now before u (errors.At file number cause) failed failed-mid failed-now same tells quiet firsts began = tt
 
 -- a command that could not be run
-pub run-stands : (told : Told) (pass : Pass) (fold : Fold) (old reader : Lines) (final first : List Row) (start now later before : Commands) (u : Underway told pass fold old final first start now) (line : ConfLine) (e : ResolveError) (runner runner' : ℕ)
+pub run-stands : (told : Told) (pass : Pass) (fold : Fold) (old reader : Lines) (final first : List Row) (start now later before : Commands) (u : Underway told pass fold old final first start now) (line : ConfLine) (e : ResolveError) (runner runner' : ℕ) (failed failed-now : FailedPaths)
     → GivesNext told u.place u.blocks old reader line → HasRunCause {A = Unit {0}} (Err e) runner runner'
     → ((rows : List Row) (place : ℕ) (l : Line) → Stands told pass fold rows u.blocks → IsNext told pass rows u.blocks line place l → FailsAt {A = Unit {0}} line.file line.number (Err e) now later (next_row told pass rows place l).ran)
-    → RanAll before start (commands first) → FaultStands told final e before later
-run-stands told pass fold old reader final first start now later before u line errors.OutOfMemory runner runner' gives cause fails began = tt
-run-stands told pass fold old reader final first start now later before u line (errors.At file number causes.ReadFault) runner runner' gives cause fails began = absurd cause
-run-stands told pass fold old reader final first start now later before u line (errors.At file number causes.RunFault) runner runner' gives cause fails began =
+    → RanAll before start (commands first) → FaultStands told final e before later failed failed-now
+run-stands told pass fold old reader final first start now later before u line errors.OutOfMemory runner runner' failed failed-now gives cause fails began = tt
+run-stands told pass fold old reader final first start now later before u line (errors.At file number causes.ReadFault) runner runner' failed failed-now gives cause fails began = absurd cause
+run-stands told pass fold old reader final first start now later before u line (errors.At file number causes.RunFault) runner runner' failed failed-now gives cause fails began =
     let place = u.place + length gives.comments in
     let rest = left told (place + 1) (open_behind line place u.blocks) reader in
     let a = idle-many told pass fold u.blocks gives.comments (gives.line ∷ rest) u.rows final u.place u.stands u.at u.none gives.idle (subst (AreAgain told pass u.place) gives.is u.again) (ap (rows_from told entry_of u.rows (record { pass = pass; line = u.place })) (sym gives.is) ∙ u.final_is) in
     let next : IsNext told pass a.rows u.blocks line place gives.line = record { is_line = gives.is_line; at = a.at; within = gives.within; again = a.again.0 } in
-    let failed = fails a.rows place gives.line a.stands next in
+    let came = fails a.rows place gives.line a.stands next in
     let front = row-front told pass a.rows place gives.line rest in
     let same = row-line told pass a.rows place gives.line in
     record {
@@ -83,34 +85,36 @@ run-stands told pass fold old reader final first start now later before u line (
       row = next_row told pass a.rows place gives.line;
       later = front.0;
       parts = sym a.final_is ∙ front.1;
-      file_is = ap (λ (l : Line). l.file) same ∙ gives.is_line.file ∙ sym failed.0;
-      number_is = ap (λ (l : Line). l.number) same ∙ gives.is_line.number ∙ sym failed.1.0;
+      file_is = ap (λ (l : Line). l.file) same ∙ gives.is_line.file ∙ sym came.0;
+      number_is = ap (λ (l : Line). l.number) same ∙ gives.is_line.number ∙ sym came.1.0;
       reached = now;
       ran = subst (RanAll before now) (sym a.ran) (u.ran before began);
-      fails = failed.1.1;
+      fails = came.1.1;
     }
-run-stands told pass fold old reader final first start now later before u line (errors.At file number cause) runner runner' gives cause' fails began = tt
+run-stands told pass fold old reader final first start now later before u line (errors.At file number cause) runner runner' failed failed-now gives cause' fails began = tt
 
 -- ---- both passes
 
 -- what is no fault is told anywhere
-pub plain-stands : (told : Told) (all : List Row) (e : ResolveError) (before now : Commands) → is_fault_at e ≡ false → FaultStands told all e before now
-plain-stands told all errors.OutOfMemory before now h = tt
-plain-stands told all (errors.At file number causes.ReadFault) before now h = absurd cc
-plain-stands told all (errors.At file number causes.RunFault) before now h = absurd cc
-plain-stands told all (errors.At file number cause) before now h = tt
+pub plain-stands : (told : Told) (all : List Row) (e : ResolveError) (before now : Commands) (failed failed-now : FailedPaths) → is_fault_at e ≡ false → FaultStands told all e before now failed failed-now
+plain-stands told all errors.OutOfMemory before now failed failed-now h = tt
+plain-stands told all (errors.At file number causes.ReadFault) before now failed failed-now h = absurd cc
+plain-stands told all (errors.At file number causes.RunFault) before now failed failed-now h = absurd cc
+plain-stands told all (errors.At file number cause) before now failed failed-now h = tt
 
 -- where more rows come behind
-more-stands : (told : Told) (rows all more : List Row) (e : ResolveError) (before now : Commands) → all ≡ rows ++ more → FaultStands told rows e before now → FaultStands told all e before now
-more-stands told rows all more errors.OutOfMemory before now is f = tt
-more-stands told rows all more (errors.At file number causes.ReadFault) before now is f = record {
+more-stands : (told : Told) (rows all more : List Row) (e : ResolveError) (before now : Commands) (failed failed-now : FailedPaths) → all ≡ rows ++ more → FaultStands told rows e before now failed failed-now → FaultStands told all e before now failed failed-now
+more-stands told rows all more errors.OutOfMemory before now failed failed-now is f = tt
+more-stands told rows all more (errors.At file number causes.ReadFault) before now failed failed-now is f = record {
   rows = f.rows;
   later = f.later ++ more;
   parts = is ∙ ap (λ rs. rs ++ more) f.parts ∙ append_assoc f.rows f.later more;
   ran = f.ran;
+  path = f.path;
+  is = f.is;
   place = f.place;
 }
-more-stands told rows all more (errors.At file number causes.RunFault) before now is f = record {
+more-stands told rows all more (errors.At file number causes.RunFault) before now failed failed-now is f = record {
   rows = f.rows;
   row = f.row;
   later = f.later ++ more;
@@ -121,15 +125,39 @@ more-stands told rows all more (errors.At file number causes.RunFault) before no
   ran = f.ran;
   fails = f.fails;
 }
-more-stands told rows all more (errors.At file number cause) before now is f = tt
+more-stands told rows all more (errors.At file number cause) before now failed failed-now is f = tt
 
 -- a fault of the first pass
-pub first-stands : (told : Told) (e : ResolveError) (before now : Commands) → refusal_in (asked_rows told) ≡ None → FaultStands told (final_rows told First (asked_rows told)) e before now → FaultStands told (all_rows told) e before now
-first-stands told e before now none f =
+pub first-stands : (told : Told) (e : ResolveError) (before now : Commands) (failed failed-now : FailedPaths) → refusal_in (asked_rows told) ≡ None → FaultStands told (final_rows told First (asked_rows told)) e before now failed failed-now → FaultStands told (all_rows told) e before now failed failed-now
+first-stands told e before now failed failed-now none f =
     let front = all-front told in
-    more-stands told (final_rows told First (asked_rows told)) (all_rows told) front.0 e before now (front.1 ∙ ap (λ rs. rs ++ front.0) (sym (first-is told none))) f
+    more-stands told (final_rows told First (asked_rows told)) (all_rows told) front.0 e before now failed failed-now (front.1 ∙ ap (λ rs. rs ++ front.0) (sym (first-is told none))) f
 
--- a fault of the second pass
-pub second-stands : (told : Told) (mid : Fold) (r : Result (Unit {0}) ResolveError) (before now : Commands) → refusal_in (first_rows told) ≡ None → SecondBegins told (first_rows told) mid true
-    → IfErr r (λ e. FaultStands told (final_rows told (Second (first_rows told)) (asked_again told (first_rows told))) e before now) → IfErr r (λ e. FaultStands told (all_rows told) e before now)
-second-stands told mid r before now none b f = subst (λ rs. IfErr r (λ e. FaultStands told rs e before now)) (twice-all told mid none b) f
+-- a fault of the second pass, where no read failed in the first
+pub second-stands : (told : Told) (mid : Fold) (r : Result (Unit {0}) ResolveError) (before now : Commands) (failed failed-mid failed-now : FailedPaths) → refusal_in (first_rows told) ≡ None → SecondBegins told (first_rows told) mid true → failed-mid ≡ failed
+    → IfErr r (λ e. FaultStands told (final_rows told (Second (first_rows told)) (asked_again told (first_rows told))) e before now failed-mid failed-now) → IfErr r (λ e. FaultStands told (all_rows told) e before now failed failed-now)
+second-stands told mid r before now failed failed-mid failed-now none b same f =
+    subst (λ paths. IfErr r (λ e. FaultStands told (all_rows told) e before now paths failed-now)) same (subst (λ rs. IfErr r (λ e. FaultStands told rs e before now failed-mid failed-now)) (twice-all told mid none b) f)
+
+-- ---- where no read failed
+
+pub none-fails : (e : ResolveError) (failed now : FailedPaths) → now ≡ failed → NoneFails {A = Unit {0}} (Err e) failed now
+none-fails errors.OutOfMemory failed now same = tt
+none-fails (errors.At file number causes.ReadFault) failed now same = tt
+none-fails (errors.At file number cause) failed now same = same
+
+-- what the reader tells
+pub none-told : (test : Test) (e : ResolveError) (failed mid now : FailedPaths) → mid ≡ failed → TellsFailed {A = Option ConfLine} test (Err e) mid now → NoneFails {A = Unit {0}} (Err e) failed now
+none-told test errors.OutOfMemory failed mid now same tells = tt
+none-told test (errors.At file number causes.ReadFault) failed mid now same tells = tt
+none-told test (errors.At file number cause) failed mid now same tells = tells ∙ same
+
+-- in the second pass
+pub none-again : (r : Result (Unit {0}) ResolveError) (failed mid now : FailedPaths) → mid ≡ failed → NoneFails r mid now → NoneFails r failed now
+none-again r failed mid now same none = subst (λ paths. NoneFails r paths now) same none
+
+-- the value doesn't matter
+pub none-of-err : (A B : Type 0) (e : ResolveError) (failed now : FailedPaths) → NoneFails {A = A} (Err e) failed now → NoneFails {A = B} (Err e) failed now
+none-of-err A B errors.OutOfMemory failed now none = tt
+none-of-err A B (errors.At file number causes.ReadFault) failed now none = tt
+none-of-err A B (errors.At file number cause) failed now none = none

@@ -1,68 +1,161 @@
--- The rows of Include lines whose files are not all read.
-use Rattle.std.proofs.Common.{◌≡◌, ℕ, Bool, true, false, List, [], ◌∷◌, ◌++◌, length, refl, sym, ap, subst, ◌∙◌, append_assoc}
-use Rattle.std.specs.Prelude.{codes}
-use Rattle.std.proofs.lemmas.Option.{slice_get_within}
-use Rattle.conf_rules.specs.Texts.{same_word}
+-- Where a failed read may be told: at an Include line of rows that looks at its path, or at a file that no line includes.
+use Rattle.std.proofs.Common.{◌≡◌, ℕ, suc, ◌-◌, Bool, true, false, ◌&&◌, ◌||◌, List, [], ◌∷◌, ◌++◌, Some, refl, sym, ap, subst, ◌∙◌, ◌⊎◌, inl, inr}
+use Rattle.std.specs.Prelude.{◌==◌, codes}
+use Rattle.std.specs.List.{list_all, list_any, slice_get}
+use Rattle.std.specs.Str.{bytes_eq}
+use Rattle.std.proofs.Math.Bool.{or-true}
+use Rattle.std.proofs.lemmas.Bool.{eq-eqb, eqb-true}
+use Rattle.std.proofs.lemmas.List.Folds.{list_any-append}
+use Rattle.std.proofs.lemmas.Slice.Eq.{bytes_eq-Decides}
+use Rattle.conf_rules.specs.Texts.{Bytes, same_word}
+use Rattle.conf_rules.specs.Told.{Told}
+use Rattle.conf_rules.specs.Includes.{Source}
+use Rattle.conf_rules.specs.Looks.{looks_at, looked_at}
 use Rattle.conf_rules.specs.Sources.{Line}
 use Rattle.conf_rules.specs.Rows.{Row}
 use Rattle.conf_reader.specs.declared.line.ConfLine.{ConfLine}
+use Rattle.conf_reader.specs.declared.stack.OpenFiles.{OpenFiles}
+use Rattle.conf_reader.specs.declared.reader.FirstFile.{FirstFile}
+use Rattle.conf_reader.specs.declared.reader.Lines.{Lines}
 use Rattle.conf_reader.specs.Blocks.{Blocks, IsLine}
-use Rattle.conf_reader.specs.Unread.{Place, IsAmong, Follows, including}
-use Rattle.conf_reader.proofs.UnreadLemmas.{split, among-all}
-use Rattle.conf_fold.proofs.BlockLemmas.{slice_get-front, slice_get-next}
-use Rattle.conf_resolve.specs.Faults.{Includes, includes_files}
+use Rattle.conf_reader.specs.Firsts.{firsts_of}
+use Rattle.conf_reader.specs.Left.{source_of, stack}
+use Rattle.conf_reader.specs.Looking.{to_look, passes_in, passes, firsts_pass, all_pass, line_passes}
+use Rattle.conf_resolve.specs.Faults.{LooksFrom, IsFirst}
 
--- each of these places is that of an Include line of rows
-abbrev pub AreIncluded : List Row → List Place → Type 0
-AreIncluded rows places = (p : Place) → IsAmong p places → Includes rows p.0 p.1
+-- ---- lists
 
-no-place : (p : Place) (before behind : List Place) → [] ≡ before ++ p ∷ behind → ⊥
-no-place p [] behind e = cc
-no-place p (b ∷ bs) behind e = cc
+pub both : (a b : Bool) → (a && b) ≡ true → (a ≡ true) × (b ≡ true)
+both true b e = (refl, e)
+both false b e = absurd cc
 
-pub none-included : (rows : List Row) (places : List Place) → places ≡ [] → AreIncluded rows places
-none-included rows places e = λ p a. absurd (no-place p a.before a.behind (sym e ∙ a.is))
+either : (a b : Bool) → (a || b) ≡ true → (a ≡ true) ⊎ (b ≡ true)
+either true b e = inl refl
+either false b e = inr e
 
--- behind more rows they stay
-more-rows : (rows more : List Row) (file : List ℕ) (number : ℕ) → Includes rows file number → Includes (rows ++ more) file number
-more-rows rows more file number i = record {
-  at = i.at;
-  row = i.row;
-  is = slice_get-front rows more i.at (slice_get_within rows i.at i.row i.is) ∙ i.is;
-  includes = i.includes;
-  file_is = i.file_is;
-  number_is = i.number_is;
-}
+-- where one test implies another
+all-more : {X : Type 0} (p q : X → Bool) (xs : List X) → ((x : X) → p x ≡ true → q x ≡ true) → list_all p xs ≡ true → list_all q xs ≡ true
+all-more p q [] h e = refl
+all-more p q (x ∷ xs) h e = let k = both (p x) (list_all p xs) e in rw (h x k.0) (all-more p q xs h k.1)
 
--- the row of a line that was given, where it is an Include line
-given-place : (rows : List Row) (row : Row) (blocks : Blocks) (given : ConfLine) (line : Line) (p : Place) → row.line ≡ line → IsLine given blocks line → IsAmong p (including given) → Includes (rows ++ row ∷ []) p.0 p.1
-given-place rows row blocks given line p is l a = on (same_word given.keyword (codes "include")) refl a.before a.is
+-- each of some is among them
+all-among : {X : Type 0} (same : X → X → Bool) (all xs : List X) → ((x : X) → same x x ≡ true) → ((x : X) → list_any (same x) xs ≡ true → list_any (same x) all ≡ true) → list_all (λ x. list_any (same x) all) xs ≡ true
+all-among same all [] self h = refl
+all-among same all (x ∷ xs) self h = rw (h x (rw (self x) refl)) (all-among same all xs self (λ y e. h y (rw e (or-true (same y x)))))
+
+found-next : {X : Type 0} (p : X → Bool) (x : X) (xs : List X) (t : Bool) → p x ≡ t → (p x || list_any p xs) ≡ true → (list_any p xs ≡ true → (at : ℕ) × ((y : X) × ((slice_get xs at ≡ Some y) × (p y ≡ true))))
+    → (at : ℕ) × ((y : X) × ((slice_get (x ∷ xs) at ≡ Some y) × (p y ≡ true)))
+found-next p x xs true h e later = (0, (x, (refl, h)))
+found-next p x xs false h e later = let l = later (rw h at e) in (suc l.0, l.1)
+
+-- the place of one that passes
+found : {X : Type 0} (p : X → Bool) (xs : List X) → list_any p xs ≡ true → (at : ℕ) × ((x : X) × ((slice_get xs at ≡ Some x) × (p x ≡ true)))
+found p [] e = absurd cc
+found p (x ∷ xs) e = found-next p x xs (p x) refl e (λ h. found p xs h)
+
+same-path : (path : Bytes) → bytes_eq path path ≡ true
+same-path path = (bytes_eq-Decides path path).1 refl
+
+-- ---- the test
+
+-- whether a row's line stands there and looks at this path
+abbrev pub looks_from : Told → Bytes → ℕ → Bytes → Row → Bool
+looks_from told file number path row = bytes_eq row.line.file file && ((row.line.number == number) && list_any (bytes_eq path) (looked_at row.line.source told row.line.content))
+
+-- whether line 0 of a first file is meant, and its path
+abbrev pub is_first : Bytes → ℕ → Bytes → FirstFile → Bool
+is_first file number path f = bytes_eq f.path file && (bytes_eq f.path path && (number == 0))
+
+-- whether a failed read of a path may be told there, behind these rows
+pub may_tell : Told → List Row → Bytes → ℕ → Bytes → Bool
+may_tell told rows file number path = list_any (looks_from told file number path) rows || list_any (is_first file number path) (firsts_of told.facts.home told.asked.from)
+
+-- the place where it is told
+pub told-place : (told : Told) (rows : List Row) (file : Bytes) (number : ℕ) (path : Bytes) → may_tell told rows file number path ≡ true → LooksFrom told rows file number path ⊎ IsFirst told file number path
+unfolding may_tell
+told-place told rows file number path e = on (either (list_any (looks_from told file number path) rows) _ e)
   where
-    include : same_word given.keyword (codes "include") ≡ true → includes_files row.line.content ≡ true
-    include e = rw (is, l.spelled, l.says) e
+    on : ((list_any (looks_from told file number path) rows ≡ true) ⊎ (list_any (is_first file number path) (firsts_of told.facts.home told.asked.from) ≡ true)) → LooksFrom told rows file number path ⊎ IsFirst told file number path
+    on (inl h) =
+        let f = found (looks_from told file number path) rows h in
+        let row = f.1.0 in
+        let file-is = both (bytes_eq row.line.file file) _ f.1.1.1 in
+        let number-is = both (row.line.number == number) _ file-is.1 in
+        inl (record { at = f.0; row = row; is = f.1.1.0; looks = number-is.1; file_is = (bytes_eq-Decides row.line.file file).0 file-is.0; number_is = eqb-true row.line.number number number-is.0 })
+    on (inr h) =
+        let f = found (is_first file number path) (firsts_of told.facts.home told.asked.from) h in
+        let first = f.1.0 in
+        let file-is = both (bytes_eq first.path file) _ f.1.1.1 in
+        let path-is = both (bytes_eq first.path path) _ file-is.1 in
+        inr (record { at = f.0; first = first; is = f.1.1.0; path_is = (bytes_eq-Decides first.path path).0 path-is.0; file_is = (bytes_eq-Decides first.path file).0 file-is.0; number_is = eqb-true number 0 path-is.1 })
 
-    same : (before : List Place) → (given.file, given.number) ∷ [] ≡ before ++ p ∷ a.behind → ◌≡◌ {A = Place} p (given.file, given.number)
-    same [] e = cc
-    same (b ∷ []) e = cc
-    same (b ∷ c ∷ cs) e = cc
+-- ---- behind more rows
 
-    on : (t : Bool) → same_word given.keyword (codes "include") ≡ t → (before : List Place) → including given ≡ before ++ p ∷ a.behind → Includes (rows ++ row ∷ []) p.0 p.1
-    on false e before h = absurd (no-place p before a.behind (sym (rw e refl) ∙ h))
-    on true e before h =
-        let one : including given ≡ (given.file, given.number) ∷ [] = rw e refl in
-        let here = same before (sym one ∙ h) in
-        record {
-          at = length rows;
-          row = row;
-          is = slice_get-next rows row [];
-          includes = include e;
-          file_is = ap (λ (x : Line). x.file) is ∙ l.file ∙ sym (ap (λ (q : Place). q.0) here);
-          number_is = ap (λ (x : Line). x.number) is ∙ l.number ∙ sym (ap (λ (q : Place). q.1) here);
-        }
+or-more : (a b c : Bool) → (a || c) ≡ true → ((a || b) || c) ≡ true
+or-more true b c e = refl
+or-more false b c e = rw e (or-true b)
 
--- behind comments and a line that was given
-pub included-behind : (rows more : List Row) (row : Row) (old new : List Place) (blocks : Blocks) (given : ConfLine) (line : Line) → AreIncluded rows old → row.line ≡ line → IsLine given blocks line → Follows old new given → AreIncluded ((rows ++ more) ++ row ∷ []) new
-included-behind rows more row old new blocks given line included is l follows = λ p a.
-    split (Includes ((rows ++ more) ++ row ∷ []) p.0 p.1) p follows.front (including given) (subst (IsAmong p) follows.is a)
-    (λ b. subst (λ rs. Includes rs p.0 p.1) (sym (append_assoc rows more (row ∷ []))) (more-rows rows (more ++ row ∷ []) p.0 p.1 (included p (among-all p follows.front old follows.begins b))))
-    (λ b. given-place (rows ++ more) row blocks given line p is l b)
+more-told : (told : Told) (rows more : List Row) (file : Bytes) (number : ℕ) (path : Bytes) → may_tell told rows file number path ≡ true → may_tell told (rows ++ more) file number path ≡ true
+unfolding may_tell
+more-told told rows more file number path e = rw (list_any-append (looks_from told file number path) rows more) (or-more (list_any (looks_from told file number path) rows) _ _ e)
+
+pub passes-more : (told : Told) (rows more : List Row) (o : OpenFiles) → passes (may_tell told rows) told o ≡ true → passes (may_tell told (rows ++ more)) told o ≡ true
+passes-more told rows more o e =
+    all-more (passes_in (may_tell told rows) told (source_of o.system)) (passes_in (may_tell told (rows ++ more)) told (source_of o.system)) (stack o)
+    (λ f h. all-more (may_tell told rows f.path (f.number - 1)) (may_tell told (rows ++ more) f.path (f.number - 1)) (to_look told (source_of o.system) f) (λ path k. more-told told rows more f.path (f.number - 1) path k) h) e
+
+-- ---- first files
+
+same_first : FirstFile → FirstFile → Bool
+same_first f g = is_first f.path 0 f.path g
+
+first-self : (f : FirstFile) → same_first f f ≡ true
+unfolding same_first
+first-self f = rw (same-path f.path) refl
+
+first-told : (told : Told) (rows : List Row) (f : FirstFile) → list_any (same_first f) (firsts_of told.facts.home told.asked.from) ≡ true → may_tell told rows f.path 0 f.path ≡ true
+unfolding may_tell same_first
+first-told told rows f e = rw e (or-true (list_any (looks_from told f.path 0 f.path) rows))
+
+firsts-told : (told : Told) (rows : List Row) (firsts : List FirstFile) → firsts ≡ firsts_of told.facts.home told.asked.from → firsts_pass (may_tell told rows) firsts ≡ true
+firsts-told told rows firsts e =
+    all-more (λ f. list_any (same_first f) firsts) (λ f. may_tell told rows f.path 0 f.path) firsts (λ f h. first-told told rows f (subst (λ fs. list_any (same_first f) fs ≡ true) e h))
+    (all-among same_first firsts firsts first-self (λ f h. h))
+
+-- all that a reader has still to look at
+pub all-told : (told : Told) (rows : List Row) (r : Lines) → r.firsts.items ≡ firsts_of told.facts.home told.asked.from → passes (may_tell told rows) told r.open_files ≡ true → all_pass (may_tell told rows) told r ≡ true
+all-told told rows r firsts e = rw e (firsts-told told rows r.firsts.items firsts)
+
+-- ---- the row of a line that was given
+
+own-told : (told : Told) (rows : List Row) (row : Row) (file : Bytes) (number : ℕ) (path : Bytes) → row.line.file ≡ file → row.line.number ≡ number → list_any (bytes_eq path) (looked_at row.line.source told row.line.content) ≡ true → may_tell told (rows ++ row ∷ []) file number path ≡ true
+unfolding may_tell
+own-told told rows row file number path f n h =
+    rw (list_any-append (looks_from told file number path) rows (row ∷ []), (bytes_eq-Decides row.line.file file).1 f, eq-eqb row.line.number number n, h, or-true (list_any (looks_from told file number path) rows)) refl
+
+pub line-told : (told : Told) (rows : List Row) (row : Row) (blocks : Blocks) (given : ConfLine) (line : Line) (source : Source) → row.line ≡ line → IsLine given blocks line → line.source ≡ source → line_passes (may_tell told (rows ++ row ∷ [])) told source given ≡ true
+line-told told rows row blocks given line source is l from = on (same_word given.keyword (codes "include")) refl
+  where
+    looked : same_word given.keyword (codes "include") ≡ true → looked_at row.line.source told row.line.content ≡ looks_at source told given.rest
+    looked e = rw (is, l.spelled, l.says, e, from) refl
+
+    on : (t : Bool) → same_word given.keyword (codes "include") ≡ t → line_passes (may_tell told (rows ++ row ∷ [])) told source given ≡ true
+    on false e = rw e refl
+    on true e =
+        rw e (all-more (λ path. list_any (bytes_eq path) (looks_at source told given.rest)) (may_tell told (rows ++ row ∷ []) given.file given.number) (looks_at source told given.rest)
+        (λ path h. own-told told rows row given.file given.number path (ap (λ (x : Line). x.file) is ∙ l.file) (ap (λ (x : Line). x.number) is ∙ l.number) (subst (λ ps. list_any (bytes_eq path) ps ≡ true) (sym (looked e)) h))
+        (all-among bytes_eq (looks_at source told given.rest) (looks_at source told given.rest) same-path (λ path h. h)))
+
+-- ---- where nothing is to be looked at, and where any test passes
+
+pub any_place : Bytes → ℕ → Bytes → Bool
+any_place file number path = true
+
+all-true : {X : Type 0} (p : X → Bool) (xs : List X) → ((x : X) → p x ≡ true) → list_all p xs ≡ true
+all-true p [] h = refl
+all-true p (x ∷ xs) h = rw (h x) (all-true p xs h)
+
+pub any-passes : (told : Told) (r : Lines) → all_pass any_place told r ≡ true
+unfolding any_place
+any-passes told r = rw (all-true (passes_in any_place told (source_of r.open_files.system)) (stack r.open_files) (λ f. all-true (any_place f.path (f.number - 1)) (to_look told (source_of r.open_files.system) f) (λ path. refl)))
+    (all-true (λ (f : FirstFile). any_place f.path 0 f.path) r.firsts.items (λ f. refl))

@@ -17,7 +17,9 @@ use Rattle.conf_rules.specs.Resolution.{start_of, counted, is_active, Effect, ef
 use Rattle.conf_reader.specs.declared.line.ConfLine.{ConfLine}
 use Rattle.conf_reader.specs.declared.reader.Lines.{Lines}
 use Rattle.conf_reader.specs.Blocks.{Blocks, open_behind}
-use Rattle.conf_reader.specs.Left.{left, Bounded}
+use Rattle.conf_reader.specs.Firsts.{firsts_of}
+use Rattle.conf_reader.specs.Left.{left, source_of, Bounded}
+use Rattle.conf_reader.specs.Looking.{Test, passes, all_pass, line_passes}
 use Rattle.conf_reader.specs.Reads.{IsIdle, AreIdle, GivesNext, RefusesNext, Reads}
 use Rattle.conf_match.specs.Evaluated.{RanAll, RanSome}
 use Rattle.conf_fold.specs.declared.fold.Fold.{Fold}
@@ -27,9 +29,8 @@ use Rattle.conf_fold.proofs.BlockLemmas.{marks-kept, each-kept}
 use Rattle.conf_fold.proofs.RowLemmas.{or-false, given-more, wants-more, collected-more, take-next, none-collected}
 use Rattle.conf_fold.proofs.FoldLemmas.{gives-nothing}
 use Rattle.conf_fold.proofs.OrderLemmas.{from, refusal-behind, ok-none, some-refused, rows-on, rows-end, row-line, from-front}
-use Rattle.conf_reader.specs.Unread.{unread, Follows}
 use Rattle.conf_resolve.specs.Passes.{Commands, commands, AreAgain, StandsFor, Passes, final_rows, file_lines}
-use Rattle.conf_resolve.proofs.IncludeLemmas.{AreIncluded, included-behind}
+use Rattle.conf_resolve.proofs.IncludeLemmas.{may_tell, passes-more, all-told, line-told}
 use Rattle.conf_resolve.proofs.CommandLemmas.{commands-more, commands-quiet, idle-commands, refused-ran, ran-on, ran-some, ran-front}
 
 -- ---- lines that say nothing
@@ -142,7 +143,7 @@ pub record Underway (told : Told) (pass : Pass) (fold : Fold) (reader : Lines) (
   pub final_is : rows_from told entry_of rows (record { pass = pass; line = place }) (left told place blocks reader) ≡ final
   pub again : AreAgain told pass place (left told place blocks reader)
   pub ran : (before : Commands) → RanAll before start (commands first) → RanAll before now (commands rows)
-  pub included : AreIncluded rows (unread reader.open_files)
+  pub looks : passes (may_tell told rows) told reader.open_files ≡ true
 
 take-size : (d : ℕ) (bs : Blocks) → d ≤ length bs → length (take d bs) ≡ d
 take-size zero bs h = refl
@@ -156,10 +157,11 @@ behind-length line place bs h = length-append (take line.depth bs) (_ ∷ []) �
 -- a line that was given and taken
 pub goes-on : (told : Told) (pass : Pass) (fold new : Fold) (old reader : Lines) (final : List Row) (first : List Row) (start now : Commands) (u : Underway told pass fold old final first start now) (line : ConfLine) → GivesNext told u.place u.blocks old reader line
     → ((rows : List Row) (place : ℕ) (l : Line) → Stands told pass fold rows u.blocks → IsNext told pass rows u.blocks line place l → Folds told pass rows u.blocks line place l (Ok tt) new)
-    → Bounded reader.open_files (line.depth + 1) → line.depth ≤ length u.blocks → Follows (unread old.open_files) (unread reader.open_files) line → (later : Commands)
+    → Bounded reader.open_files (line.depth + 1) → line.depth ≤ length u.blocks → old.firsts.items ≡ firsts_of told.facts.home told.asked.from
+    → ((test : Test) → all_pass test told old ≡ true → line_passes test told (source_of reader.open_files.system) line ≡ true → passes test told reader.open_files ≡ true) → (later : Commands)
     → ((rows : List Row) (place : ℕ) (l : Line) → Stands told pass fold rows u.blocks → IsNext told pass rows u.blocks line place l → RanAll now later (next_row told pass rows place l).ran)
     → Underway told pass new reader final first start later
-goes-on told pass fold new old reader final first start now u line gives folds bounded deep follows later runs =
+goes-on told pass fold new old reader final first start now u line gives folds bounded deep firsts looks later runs =
     let place = u.place + length gives.comments in
     let rest = left told (place + 1) (open_behind line place u.blocks) reader in
     let a = idle-many told pass fold u.blocks gives.comments (gives.line ∷ rest) u.rows final u.place u.stands u.at u.none gives.idle (subst (AreAgain told pass u.place) gives.is u.again) (ap (rows_from told entry_of u.rows (record { pass = pass; line = u.place })) (sym gives.is) ∙ u.final_is) in
@@ -168,6 +170,7 @@ goes-on told pass fold new old reader final first start now u line gives folds b
     let row = next_row told pass a.rows place gives.line in
     let k : length (a.rows ++ row ∷ []) ≡ length a.rows + 1 = length-append a.rows (row ∷ []) in
     let h = a.at in
+    let behind : u.rows ++ (a.more ++ row ∷ []) ≡ a.rows ++ row ∷ [] = sym (append_assoc u.rows a.more (row ∷ [])) ∙ ap (λ rs. rs ++ row ∷ []) (sym a.begins) in
     record {
       rows = a.rows ++ row ∷ [];
       place = place + 1;
@@ -180,8 +183,9 @@ goes-on told pass fold new old reader final first start now u line gives folds b
       final_is = sym (rows-on told pass a.rows place gives.line rest f.0) ∙ a.final_is;
       again = a.again.1;
       ran = λ before r. subst (RanAll before later) (sym (commands-more a.rows row)) (ran-on before now later (commands a.rows) row.ran (subst (RanAll before now) (sym a.ran) (u.ran before r)) (runs a.rows place gives.line a.stands next));
-      included = subst (λ rs. AreIncluded (rs ++ row ∷ []) (unread reader.open_files)) (sym a.begins)
-          (included-behind u.rows a.more row (unread old.open_files) (unread reader.open_files) u.blocks line gives.line u.included (row-line told pass a.rows place gives.line) gives.is_line follows);
+      looks = looks (may_tell told (a.rows ++ row ∷ []))
+          (all-told told (a.rows ++ row ∷ []) old firsts (subst (λ rs. passes (may_tell told rs) told old.open_files ≡ true) behind (passes-more told u.rows (a.more ++ row ∷ []) old.open_files u.looks)))
+          (line-told told a.rows row u.blocks line gives.line (source_of reader.open_files.system) (row-line told pass a.rows place gives.line) gives.is_line gives.source);
     }
 
 -- a line that was given and refused

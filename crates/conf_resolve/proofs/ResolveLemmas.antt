@@ -16,7 +16,7 @@ use Rattle.conf_options.specs.Kept.{Given, Keeps}
 use Rattle.conf_match.specs.Evaluated.{RanAll, RanSome}
 use Rattle.conf_reader.specs.declared.reader.Lines.{Lines}
 use Rattle.conf_reader.specs.Left.{left, Bounded}
-use Rattle.conf_reader.specs.Unread.{unread}
+use Rattle.conf_reader.specs.Looking.{Test, passes}
 use Rattle.conf_fold.specs.declared.fold.Fold.{Fold}
 use Rattle.conf_fold.specs.Results.{RanUnless, breaks_off}
 use Rattle.conf_fold.specs.Stands.{Stands, next_row}
@@ -26,7 +26,7 @@ use Rattle.conf_fold.proofs.OrderLemmas.{from, none-parts, rows-on, from-front}
 use Rattle.conf_resolve.specs.Passes.{Commands, commands, AreAgain, file_lines, Begins, Passes, StandsFor, final_rows, first_rows, BothPass, Resolved}
 use Rattle.conf_resolve.proofs.PartsLemmas.{none-refused, any-refused, ends-refused, rows-append, rows-stop, rows-length}
 use Rattle.conf_resolve.proofs.CommandLemmas.{asked-quiet, ran-nothing, ran-front, ran-longer}
-use Rattle.conf_resolve.proofs.IncludeLemmas.{none-included}
+use Rattle.conf_resolve.proofs.IncludeLemmas.{may_tell}
 use Rattle.conf_resolve.proofs.PassLemmas.{Underway}
 
 -- ---- the first pass
@@ -47,9 +47,9 @@ first-begins told fold s none = record {
 }
 
 -- where a pass begins
-pub underway : (told : Told) (pass : Pass) (fold : Fold) (reader : Lines) (rows : List Row) (start : Commands) → Begins told pass fold rows → left told (length told.asked.lines) [] reader ≡ file_lines told → reader.read ≡ 0 → Bounded reader.open_files 0 → unread reader.open_files ≡ []
+pub underway : (told : Told) (pass : Pass) (fold : Fold) (reader : Lines) (rows : List Row) (start : Commands) → Begins told pass fold rows → left told (length told.asked.lines) [] reader ≡ file_lines told → reader.read ≡ 0 → Bounded reader.open_files 0 → ((test : Test) (told : Told) → passes test told reader.open_files ≡ true)
     → Underway told pass fold reader (final_rows told pass rows) rows start start
-underway told pass fold reader rows start b is read bounded none = record {
+underway told pass fold reader rows start b is read bounded looks = record {
   rows = rows;
   place = length told.asked.lines;
   blocks = [];
@@ -61,7 +61,7 @@ underway told pass fold reader rows start b is read bounded none = record {
   final_is = ap (rows_from told entry_of rows (record { pass = pass; line = length told.asked.lines })) is;
   again = subst (AreAgain told pass (length told.asked.lines)) (sym is) b.again;
   ran = λ before r. r;
-  included = none-included rows (unread reader.open_files) none;
+  looks = looks (may_tell told rows) told;
 }
 
 -- the rows of all lines in a pass

@@ -1,49 +1,54 @@
 -- Where the faults of a resolution are told.
-use Rattle.std.specs.Prelude.{◌≡◌, ◌⊎◌, ℕ, Bool, true, false, List, ◌∷◌, ◌++◌, Some, Result, Ok, codes}
-use Rattle.std.specs.List.{slice_get}
+use Rattle.std.specs.Prelude.{◌≡◌, ◌⊎◌, ℕ, true, List, [], ◌∷◌, ◌++◌, Option, Some, Result, Err}
+use Rattle.std.specs.List.{slice_get, list_any}
+use Rattle.std.specs.Option.{option_map}
+use Rattle.std.specs.Str.{bytes_eq}
 use Rattle.conf_rules.specs.declared.causes.Cause.TheVariants as causes
-use Rattle.conf_rules.specs.declared.causes.LexError.{LexError}
 use Rattle.conf_rules.specs.declared.causes.ResolveError.{ResolveError}
-use Rattle.conf_rules.specs.declared.causes.ResolveError.TheVariants.{At}
-use Rattle.conf_rules.specs.Texts.{Bytes, same_word}
+use Rattle.conf_rules.specs.declared.causes.ResolveError.TheVariants.{At, OutOfMemory}
+use Rattle.conf_rules.specs.Texts.{Bytes}
 use Rattle.conf_rules.specs.Told.{Told}
-use Rattle.conf_rules.specs.Heads.{Heading, Says, head_of}
-use Rattle.conf_rules.specs.Sources.{Content, Spelled}
+use Rattle.conf_rules.specs.Looks.{looked_at}
 use Rattle.conf_rules.specs.Rows.{Row}
 use Rattle.conf_match.specs.Evaluated.{RanAll, FailsOne}
+use Rattle.conf_reader.specs.declared.reader.FirstFile.{FirstFile}
 use Rattle.conf_reader.specs.Firsts.{firsts_of}
-use Rattle.conf_reader.specs.Unread.{IsAmong, first_places}
 use Rattle.conf_resolve.specs.Passes.{Commands, commands}
 
--- whether a heading includes files
-abbrev pub is_include : Result Heading LexError → Bool
-is_include (Ok (Says keyword rest)) = same_word keyword (codes "include")
-is_include heading = false
+-- the paths of calls that failed, where they are told
+abbrev pub FailedPaths : Type 0
+FailedPaths = Option (List Bytes)
 
--- whether a line includes files
-abbrev pub includes_files : Content → Bool
-includes_files (Spelled bytes) = is_include (head_of bytes)
-includes_files content = false
-
--- an Include line of these rows stands there
-pub record Includes (rows : List Row) (file : Bytes) (number : ℕ) : Type 0 where
+-- an Include line of these rows stands there, and looks at this path
+pub record LooksFrom (told : Told) (rows : List Row) (file : Bytes) (number : ℕ) (path : Bytes) :
+    Type 0 where
   pub at : ℕ
   pub row : Row
   pub is : slice_get rows at ≡ Some row
-  pub includes : includes_files row.line.content ≡ true
+  pub looks : list_any (bytes_eq path) (looked_at row.line.source told row.line.content) ≡ true
   pub file_is : row.line.file ≡ file
   pub number_is : row.line.number ≡ number
 
--- A read failed behind these rows, whose commands were all run. It is told at one of their Include lines, or at line 0 of a file
--- that no line includes.
+-- this path is that of a file that no line includes, and line 0 of it is meant
+pub record IsFirst (told : Told) (file : Bytes) (number : ℕ) (path : Bytes) : Type 0 where
+  pub at : ℕ
+  pub first : FirstFile
+  pub is : slice_get (firsts_of told.facts.home told.asked.from) at ≡ Some first
+  pub path_is : first.path ≡ path
+  pub file_is : first.path ≡ file
+  pub number_is : number ≡ 0
+
+-- A read of a path failed behind these rows, whose commands were all run. It is told at one of their Include lines that looks at
+-- this very path, or at line 0 of this path, a file that no line includes.
 pub record ReadFails (told : Told) (all : List Row) (file : Bytes) (number : ℕ)
-    (before now : Commands) : Type 0 where
+    (before now : Commands) (failed failed_now : FailedPaths) : Type 0 where
   pub rows : List Row
   pub later : List Row
   pub parts : all ≡ rows ++ later
   pub ran : RanAll before now (commands rows)
-  pub place : Includes rows file number
-      ⊎ IsAmong (file, number) (first_places (firsts_of told.facts.home told.asked.from))
+  pub path : Bytes
+  pub is : failed_now ≡ option_map (λ paths. paths ++ path ∷ []) failed
+  pub place : LooksFrom told rows file number path ⊎ IsFirst told file number path
 
 -- A command could not be run, behind rows whose commands were all run. It is told at the line of the row that asks for it, whose
 -- earlier commands were run.
@@ -60,9 +65,16 @@ pub record RunFails (all : List Row) (file : Bytes) (number : ℕ) (before now :
   pub fails : FailsOne reached now row.ran
 
 -- a fault is told where it came up
-abbrev pub FaultStands : Told → List Row → ResolveError → Commands → Commands → Type 0
-FaultStands told all (At file number causes.ReadFault) before now =
-    ReadFails told all file number before now
-FaultStands told all (At file number causes.RunFault) before now =
+abbrev pub FaultStands : Told → List Row → ResolveError → Commands → Commands → FailedPaths
+    → FailedPaths → Type 0
+FaultStands told all (At file number causes.ReadFault) before now failed failed_now =
+    ReadFails told all file number before now failed failed_now
+FaultStands told all (At file number causes.RunFault) before now failed failed_now =
     RunFails all file number before now
-FaultStands told all e before now = Unit {0}
+FaultStands told all e before now failed failed_now = Unit {0}
+
+-- no read failed, unless one is told, or memory was wanting
+abbrev pub NoneFails : {A : Type 0} → Result A ResolveError → FailedPaths → FailedPaths → Type 0
+NoneFails (Err OutOfMemory) failed now = Unit {0}
+NoneFails (Err (At file number causes.ReadFault)) failed now = Unit {0}
+NoneFails result failed now = now ≡ failed

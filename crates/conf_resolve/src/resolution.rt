@@ -8,7 +8,7 @@ ghost use Rattle.conf_fold.specs.Stands.{Stands};
 ghost use Rattle.conf_fold.specs.Begins.{asked_rows};
 ghost use Rattle.conf_resolve.specs.Passes.{Commands, commands, Begins, Passes, final_rows, BothPass, Resolved};
 ghost use Rattle.conf_resolve.specs.Causes.{HasCauses};
-ghost use Rattle.conf_resolve.specs.Faults.{FaultStands};
+ghost use Rattle.conf_resolve.specs.Faults.{FaultStands, NoneFails};
 ghost use Rattle.conf_resolve.specs.Telling.{WhereTold};
 
 use conf_fold::Fold;
@@ -39,7 +39,9 @@ fn pass<F: Files, R: Runner>(
         (λ told. (pass : Pass) (rows : List Row) (before : Commands)
         → Begins told pass fold.old rows → RanAll before (R.ran runner.old) (commands rows)
         → IfErr result (λ e. FaultStands told (final_rows told pass rows) e before
-        (R.ran runner.new))) }
+        (R.ran runner.new) (F.failed files.old) (F.failed files.new))) }
+    ensures failed { WhereTold asked.now (known facts.now) (F.told files.old) (R.told runner.old)
+        (λ told. NoneFails result (F.failed files.old) (F.failed files.new)) }
     ensures cause { HasCauses result (F.faults files.old) (F.faults files.new) (R.faults runner.old)
         (R.faults runner.new) }
     ensures files { F.told files.new ≡ F.told files.old }
@@ -72,7 +74,10 @@ fn passes<F: Files, R: Runner>(
         (λ told. Stands told First fold.old (asked_rows told) []
         → refusal_in (asked_rows told) ≡ None
         → IfErr result (λ e.
-        FaultStands told (all_rows told) e (R.ran runner.old) (R.ran runner.new))) }
+        FaultStands told (all_rows told) e (R.ran runner.old) (R.ran runner.new)
+        (F.failed files.old) (F.failed files.new))) }
+    ensures failed { WhereTold asked.now (known facts.now) (F.told files.old) (R.told runner.old)
+        (λ told. NoneFails result (F.failed files.old) (F.failed files.new)) }
     ensures cause { HasCauses result (F.faults files.old) (F.faults files.new) (R.faults runner.old)
         (R.faults runner.new) }
     ensures files { F.told files.new ≡ F.told files.old }
@@ -88,8 +93,8 @@ fn passes<F: Files, R: Runner>(
 
 /// The settings of the command line and of all files that are asked for, or the first refusal in reading order. Exactly the
 /// commands are run that the criteria of active `Match` lines reach. A fault comes only where the count of faults of `files`
-/// or `runner` rose, and no rise is passed over; it is told at the line that asked for what failed, or at line 0 of a file that
-/// no line includes.
+/// or `runner` rose, and no rise is passed over. A failed read is told at an Include line that looks at the path that failed, or
+/// at line 0 of this path, a file that no line includes; a command that could not be run at the line that asks for it.
 pub fn resolve<F: Files, R: Runner>(
     alloc: Global,
     asked: &Asked,
@@ -103,7 +108,10 @@ pub fn resolve<F: Files, R: Runner>(
         (λ told. RanUnless (breaks_off result) (R.ran runner.old) (R.ran runner.new) (execs told)) }
     ensures fault { WhereTold asked.now (known facts.now) (F.told files.old) (R.told runner.old)
         (λ told. IfErr result (λ e.
-        FaultStands told (all_rows told) e (R.ran runner.old) (R.ran runner.new))) }
+        FaultStands told (all_rows told) e (R.ran runner.old) (R.ran runner.new)
+        (F.failed files.old) (F.failed files.new))) }
+    ensures failed { WhereTold asked.now (known facts.now) (F.told files.old) (R.told runner.old)
+        (λ told. NoneFails result (F.failed files.old) (F.failed files.new)) }
     ensures cause { HasCauses result (F.faults files.old) (F.faults files.new) (R.faults runner.old)
         (R.faults runner.new) }
     ensures files { F.told files.new ≡ F.told files.old }

@@ -7,7 +7,8 @@ use Rattle.conf_resolve.specs.Passes.{final_rows}
 use Rattle.conf_resolve.proofs.DepthLemmas.{depth-low, given-bounded, more-bounded}
 use Rattle.conf_resolve.proofs.PassLemmas.{goes-on, line-fails, reader-fails, all-given, line-ran, reader-ran, all-ran, start-ran, none-given}
 use Rattle.conf_resolve.proofs.ResolveLemmas.{underway}
-use Rattle.conf_resolve.proofs.FaultLemmas.{read-stands, run-stands}
+use Rattle.conf_resolve.proofs.FaultLemmas.{read-stands, run-stands, none-fails, none-told}
+use Rattle.conf_resolve.proofs.IncludeLemmas.{any_place, any-passes}
 use Rattle.conf_resolve.proofs.resolution.pass.Goals as goal
 
 pub returns-in_err-reader-clause-passes : goal.returns-in_err-reader-clause-passes
@@ -31,8 +32,9 @@ loop-reader-init g c = record {
   fits = more-bounded c.in_ok-reader.reader.lines.open_files 0 (length c.args.fold.now.applies) c.in_ok-reader.ensures.none.1 (omega arith);
   underway = λ told pass rows asked facts tells status begins.
       underway told pass c.args.fold.now c.in_ok-reader.reader.lines rows _ begins
-      (c.in_ok-reader.ensures.left told (length told.asked.lines) facts ∙ ap (λ (a : Asked). Rattle.conf_rules.specs.Sources.lines_from told (length told.asked.lines) a.from) (sym asked)) c.in_ok-reader.ensures.read c.in_ok-reader.ensures.none.1 c.in_ok-reader.ensures.unread;
+      (c.in_ok-reader.ensures.left told (length told.asked.lines) facts ∙ ap (λ (a : Asked). Rattle.conf_rules.specs.Sources.lines_from told (length told.asked.lines) a.from) (sym asked)) c.in_ok-reader.ensures.read c.in_ok-reader.ensures.none.1 c.in_ok-reader.ensures.looks;
   firsts = c.in_ok-reader.ensures.firsts;
+  failed = λ told asked facts tells. refl;
 }
 
 pub line-requires-clause-known : goal.line-requires-clause-known
@@ -75,6 +77,9 @@ loop-reader-preserved g c =
       facts = ap Rattle.conf_tokens.specs.Known.known c.next.ensures.facts.0 ∙ c.loop-reader.invariant.facts;
       original = c.next.ensures.facts.1 ∙ c.loop-reader.invariant.original;
       firsts = ap (λ (v : _). v.items) c.next.ensures.firsts ∙ c.loop-reader.invariant.firsts;
+      failed = λ told asked facts tells.
+          (c.in_ok-line.ensures.looks told any_place (rw c.loop-reader.invariant.files tells) (facts ∙ sym c.loop-reader.invariant.facts) (ap (λ (a : Asked). a.original) asked ∙ sym c.loop-reader.invariant.original) (any-passes told c.loop-reader.reader.lines)).0
+          ∙ c.loop-reader.invariant.failed told asked facts tells;
       fits = bounded;
       underway = λ told pass rows asked facts tells status begins.
           let u = c.loop-reader.invariant.underway told pass rows asked facts tells status begins in
@@ -83,7 +88,8 @@ loop-reader-preserved g c =
           (λ rows place l stands next. c.in_ok-line-2.ensures.folds told pass rows u.blocks place l facts (rw c.loop-reader.invariant.runner status) stands next)
           (given-bounded c.loop-reader.reader.lines c.next.new.self.lines c.in-Some.line (length c.loop-reader.fold.applies) (c.in-Some.line.depth + 1) from c.loop-reader.invariant.fits refl)
           (depth-low told pass c.loop-reader.fold u.rows u.blocks c.loop-reader.reader.lines c.next.new.self.lines c.in-Some.line u.stands from c.loop-reader.invariant.fits)
-          (rw c.in-Some.is at c.in_ok-line.ensures.unread)
+          (c.loop-reader.invariant.firsts ∙ ap (λ h. firsts_of h c.args.asked.now.from) (sym (ap (λ (f : Facts). f.home) facts)) ∙ ap (firsts_of told.facts.home) (sym (ap (λ (a : Asked). a.from) asked)))
+          (λ test passes. (rw c.in-Some.is at (c.in_ok-line.ensures.looks told test (rw c.loop-reader.invariant.files tells) (facts ∙ sym c.loop-reader.invariant.facts) (ap (λ (a : Asked). a.original) asked ∙ sym c.loop-reader.invariant.original) passes).1))
           _
           (λ rows place l stands next. c.in_ok-line-2.ensures.ran told pass rows u.blocks place l facts (rw c.loop-reader.invariant.runner status) stands next);
     }
@@ -127,15 +133,40 @@ returns-in_err-line-clause-fault g c = λ told asked facts tells status pass row
     let p = err_from_is_err_and c.from_residual-in_err-line.result c.from_residual-in_err-line.ensures.1 in
     let home = ap (λ (f : Facts). f.home) facts in
     let from = ap (λ (a : Asked). a.from) asked in
-    rw (p.1, p.2) (read-stands told pass c.loop-reader.fold c.loop-reader.reader.lines (final_rows told pass rows) rows _ _ before u _ c.in_err-line.ensures.fault c.in_err-line.ensures.no_run_fault
+    rw (p.1, p.2) (read-stands told pass c.loop-reader.fold c.loop-reader.reader.lines (final_rows told pass rows) rows _ _ before u _ _ _ _ (c.loop-reader.invariant.failed told asked facts tells)
+    (λ test passes. (c.in_err-line.ensures.looks told test (rw c.loop-reader.invariant.files tells) (facts ∙ sym c.loop-reader.invariant.facts) (ap (λ (a : Asked). a.original) asked ∙ sym c.loop-reader.invariant.original) passes).0)
+    c.in_err-line.ensures.no_run_fault
     (c.loop-reader.invariant.firsts ∙ ap (λ h. firsts_of h c.args.asked.now.from) (sym home) ∙ ap (firsts_of told.facts.home) (sym from)) began)
 
 pub returns-in_err-line-2-clause-fault : goal.returns-in_err-line-2-clause-fault
 returns-in_err-line-2-clause-fault g c = λ told asked facts tells status pass rows before begins began.
     let u = c.loop-reader.invariant.underway told pass rows asked facts tells status begins in
     let p = err_from_is_err_and c.from_residual-in_err-line-2.result c.from_residual-in_err-line-2.ensures.1 in
-    rw (p.1, p.2) (run-stands told pass c.loop-reader.fold c.loop-reader.reader.lines c.next.new.self.lines (final_rows told pass rows) rows _ _ _ before u c.in-Some.line _ _ _
+    rw (p.1, p.2) (run-stands told pass c.loop-reader.fold c.loop-reader.reader.lines c.next.new.self.lines (final_rows told pass rows) rows _ _ _ before u c.in-Some.line _ _ _ _ _
     (rw c.in-Some.is at (c.in_ok-line.ensures.reads told u.place u.blocks (rw c.loop-reader.invariant.files tells) (facts ∙ sym c.loop-reader.invariant.facts) (ap (λ (a : Asked). a.original) asked ∙ sym c.loop-reader.invariant.original) u.count u.bounded))
     c.in_err-line-2.ensures.cause
     (λ rows place l stands next. c.in_err-line-2.ensures.failed told pass rows u.blocks place l facts (rw c.loop-reader.invariant.runner status) stands next)
     began)
+
+pub returns-in_err-reader-clause-failed : goal.returns-in_err-reader-clause-failed
+returns-in_err-reader-clause-failed g c = λ told asked facts tells status.
+    let p = err_from_is_err_and c.from_residual.result c.from_residual.ensures.1 in
+    rw (p.1, p.2) tt
+
+pub returns-in_err-line-clause-failed : goal.returns-in_err-line-clause-failed
+returns-in_err-line-clause-failed g c = λ told asked facts tells status.
+    let p = err_from_is_err_and c.from_residual-in_err-line.result c.from_residual-in_err-line.ensures.1 in
+    rw (p.1, p.2) (none-told any_place _ _ _ _ (c.loop-reader.invariant.failed told asked facts tells)
+    (c.in_err-line.ensures.looks told any_place (rw c.loop-reader.invariant.files tells) (facts ∙ sym c.loop-reader.invariant.facts) (ap (λ (a : Asked). a.original) asked ∙ sym c.loop-reader.invariant.original) (any-passes told c.loop-reader.reader.lines)).0)
+
+pub returns-in_err-line-2-clause-failed : goal.returns-in_err-line-2-clause-failed
+returns-in_err-line-2-clause-failed g c = λ told asked facts tells status.
+    let p = err_from_is_err_and c.from_residual-in_err-line-2.result c.from_residual-in_err-line-2.ensures.1 in
+    rw (p.1, p.2) (none-fails _ _ _
+    ((c.in_ok-line.ensures.looks told any_place (rw c.loop-reader.invariant.files tells) (facts ∙ sym c.loop-reader.invariant.facts) (ap (λ (a : Asked). a.original) asked ∙ sym c.loop-reader.invariant.original) (any-passes told c.loop-reader.reader.lines)).0
+    ∙ c.loop-reader.invariant.failed told asked facts tells))
+
+pub returns-clause-failed : goal.returns-clause-failed
+returns-clause-failed g c = λ told asked facts tells status.
+    (c.in_ok-line.ensures.looks told any_place (rw c.loop-reader.invariant.files tells) (facts ∙ sym c.loop-reader.invariant.facts) (ap (λ (a : Asked). a.original) asked ∙ sym c.loop-reader.invariant.original) (any-passes told c.loop-reader.reader.lines)).0
+    ∙ c.loop-reader.invariant.failed told asked facts tells

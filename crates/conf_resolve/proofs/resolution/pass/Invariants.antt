@@ -19,6 +19,7 @@ invariant-loop-reader g l = record {
   facts : known l.reader.facts ≡ known l.facts;
   original : l.reader.original ≡ l.asked.original;
   firsts : l.reader.lines.firsts.items ≡ firsts_of l.facts.home l.asked.from;
+  failed : (told : Told) → told.asked ≡ l.asked → told.facts ≡ known l.facts → TellsFiles (g.F.Files.told l.fn.files) told → g.F.Files.failed l.files ≡ g.F.Files.failed l.fn.files;
   fits : Bounded l.reader.lines.open_files (length l.fold.applies);
   underway : (told : Told) (pass : Pass) (rows : List Row) → told.asked ≡ l.asked → told.facts ≡ known l.facts → TellsFiles (g.F.Files.told l.fn.files) told → TellsStatus (g.R.Runner.told l.fn.runner) told.status
       → Begins told pass l.fn.fold rows → Underway told pass l.fold l.reader.lines (final_rows told pass rows) rows (g.R.Runner.ran l.fn.runner) (g.R.Runner.ran l.runner);

@@ -59,7 +59,7 @@ returns-else-branch-clause-ran g c = λ told asked facts tells status stands non
 pub returns-in_err-pass-clause-fault : goal.returns-in_err-pass-clause-fault
 returns-in_err-pass-clause-fault g c = λ told asked facts tells status stands none.
     let p = err_from_is_err_and c.from_residual.result c.from_residual.ensures.1 in
-    rw (p.1, p.2) (faults.first-stands told _ _ _ none
+    rw (p.1, p.2) (faults.first-stands told _ _ _ _ _ none
     (c.in_err-pass.ensures.fault told asked facts tells status First (asked_rows told) _ (first-begins told c.args.fold.now stands none) (asked-start told _)))
 
 pub returns-in_err-second-clause-fault : goal.returns-in_err-second-clause-fault
@@ -71,6 +71,21 @@ pub returns-then-branch-clause-fault : goal.returns-then-branch-clause-fault
 returns-then-branch-clause-fault g c = λ told asked facts tells status stands none.
     let first = first-stands told c.pass.new.fold none (c.in_ok-pass.ensures.passes told asked facts tells status First (asked_rows told) (first-begins told c.args.fold.now stands none)) in
     let again : SecondBegins told (first_rows told) c.second.new.self true = rw c.if-branch.true at (c.in_ok-second.ensures.second told (first_rows told) first.blocks first.stands (behind-asked told none first.none)) in
-    faults.second-stands told c.second.new.self c.pass-then-branch.result _ _ first.none again
+    faults.second-stands told c.second.new.self c.pass-then-branch.result _ _ _ _ _ first.none again (c.in_ok-pass.ensures.failed told asked facts tells status)
     (c.pass-then-branch.ensures.fault told asked facts (rw c.pass.ensures.files tells) (rw c.pass.ensures.runner status) (Second (first_rows told)) (asked_again told (first_rows told)) _ (second-begins told c.second.new.self none first.none again)
     (second-start told _ _ none (c.in_ok-pass.ensures.ran told asked facts tells status First (asked_rows told) _ (first-begins told c.args.fold.now stands none) (asked-start told _))))
+
+pub returns-in_err-pass-clause-failed : goal.returns-in_err-pass-clause-failed
+returns-in_err-pass-clause-failed g c = λ told asked facts tells status.
+    let p = err_from_is_err_and c.from_residual.result c.from_residual.ensures.1 in
+    rw (p.1, p.2) (c.in_err-pass.ensures.failed told asked facts tells status)
+
+pub returns-in_err-second-clause-failed : goal.returns-in_err-second-clause-failed
+returns-in_err-second-clause-failed g c = λ told asked facts tells status.
+    let p = err_from_is_err_and c.from_residual-in_err-second.result c.from_residual-in_err-second.ensures.1 in
+    rw (p.1, p.2) tt
+
+pub returns-then-branch-clause-failed : goal.returns-then-branch-clause-failed
+returns-then-branch-clause-failed g c = λ told asked facts tells status.
+    faults.none-again c.pass-then-branch.result _ _ _ (c.in_ok-pass.ensures.failed told asked facts tells status)
+    (c.pass-then-branch.ensures.failed told asked facts (rw c.pass.ensures.files tells) (rw c.pass.ensures.runner status))

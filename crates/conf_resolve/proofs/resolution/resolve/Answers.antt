@@ -39,7 +39,7 @@ returns-in_err-passes-clause-ran g c = λ told asked facts tells status.
 pub returns-in_err-fold-clause-fault : goal.returns-in_err-fold-clause-fault
 returns-in_err-fold-clause-fault g c = λ told asked facts tells status.
     let p = err_from_is_err_and c.from_residual.result c.from_residual.ensures.1 in
-    rw (p.1, p.2) (plain-stands told _ _ _ _ c.in_err-fold.ensures.plain)
+    rw (p.1, p.2) (plain-stands told _ _ _ _ _ _ c.in_err-fold.ensures.plain)
 
 pub returns-in_err-passes-clause-fault : goal.returns-in_err-passes-clause-fault
 returns-in_err-passes-clause-fault g c = λ told asked facts tells status.
