@@ -25,7 +25,7 @@ use Rattle.conf_resolve.specs.Faults.{LooksFrom, IsFirst}
 
 -- ---- lists
 
-pub both : (a b : Bool) → (a && b) ≡ true → (a ≡ true) × (b ≡ true)
+both : (a b : Bool) → (a && b) ≡ true → (a ≡ true) × (b ≡ true)
 both true b e = (refl, e)
 both false b e = absurd cc
 
@@ -146,7 +146,7 @@ line-told told rows row blocks given line source is l from = on (same_word given
         (λ path h. own-told told rows row given.file given.number path (ap (λ (x : Line). x.file) is ∙ l.file) (ap (λ (x : Line). x.number) is ∙ l.number) (subst (λ ps. list_any (bytes_eq path) ps ≡ true) (sym (looked e)) h))
         (all-among bytes_eq (looks_at source told given.rest) (looks_at source told given.rest) same-path (λ path h. h)))
 
--- ---- where nothing is to be looked at, and where any test passes
+-- ---- the test that anything passes
 
 pub any_place : Bytes → ℕ → Bytes → Bool
 any_place file number path = true

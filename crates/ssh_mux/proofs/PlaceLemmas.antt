@@ -4,7 +4,7 @@ use Rattle.conf_command.specs.declared.reader.WordsError.{WordsError}
 use Rattle.conf_command.specs.declared.reader.WordsError.TheVariants as words_errors
 use Rattle.conf_match.specs.Evaluated.{TellsStatus}
 use Rattle.conf_reader.specs.Known.{TellsFiles}
-use Rattle.conf_resolve.specs.Faults.{FaultStands}
+use Rattle.conf_resolve.specs.Faults.{FailedPaths, FaultStands}
 use Rattle.conf_rules.specs.declared.asked.Asked.{Asked}
 use Rattle.conf_rules.specs.declared.causes.ListError.{ListError}
 use Rattle.conf_rules.specs.declared.causes.ListError.TheVariants as list_errors
@@ -25,27 +25,27 @@ use Rattle.ssh_mux.specs.Outcomes.{machine}
 use Rattle.ssh_mux.specs.Places.{EndPlace, told_over, told_by, told_for}
 
 -- a resolution that failed
-pub failed-place : (files : Option (List Pair)) (statuses : Option (List CommandStatus)) (facts : Facts) (asked : Asked) (e : ResolveError) (before now : Option (List Bytes))
-    → ((told : Told) → told.asked ≡ asked → told.facts ≡ known facts → TellsFiles files told → TellsStatus statuses told.status → FaultStands told (all_rows told) e before now)
-    → EndPlace (told_over (machine files statuses facts) asked) (shown (refused_as e)) before now
+pub failed-place : (files : Option (List Pair)) (statuses : Option (List CommandStatus)) (facts : Facts) (asked : Asked) (e : ResolveError) (before now : Option (List Bytes)) (failed failed-now : FailedPaths)
+    → ((told : Told) → told.asked ≡ asked → told.facts ≡ known facts → TellsFiles files told → TellsStatus statuses told.status → FaultStands told (all_rows told) e before now failed failed-now)
+    → EndPlace (told_over (machine files statuses facts) asked) (shown (refused_as e)) before now failed failed-now
 unfolding machine
-failed-place None None facts asked e before now f = tt
-failed-place None (Some statuses) facts asked e before now f = tt
-failed-place (Some files) None facts asked e before now f = tt
-failed-place (Some files) (Some statuses) facts asked errors.OutOfMemory before now f = tt
-failed-place (Some files) (Some statuses) facts asked (errors.At file number cause) before now f = f _ refl refl (refl, refl) refl
+failed-place None None facts asked e before now failed failed-now f = tt
+failed-place None (Some statuses) facts asked e before now failed failed-now f = tt
+failed-place (Some files) None facts asked e before now failed failed-now f = tt
+failed-place (Some files) (Some statuses) facts asked errors.OutOfMemory before now failed failed-now f = tt
+failed-place (Some files) (Some statuses) facts asked (errors.At file number cause) before now failed failed-now f = f _ refl refl (refl, refl) refl
 
 -- a listing that failed
-pub unlisted-place : (told : Option Told) (e : ListError) (before now : Option (List Bytes)) → EndPlace told (shown (unlisted_as e)) before now
-unlisted-place None e before now = tt
-unlisted-place (Some told) (list_errors.Token key error) before now = tt
-unlisted-place (Some told) list_errors.OutOfMemory before now = tt
+pub unlisted-place : (told : Option Told) (e : ListError) (before now : Option (List Bytes)) (failed failed-now : FailedPaths) → EndPlace told (shown (unlisted_as e)) before now failed failed-now
+unlisted-place None e before now failed failed-now = tt
+unlisted-place (Some told) (list_errors.Token key error) before now failed failed-now = tt
+unlisted-place (Some told) list_errors.OutOfMemory before now failed failed-now = tt
 
 -- words that have no reading
-pub misread-place : (told : Option Told) (e : WordsError) (before now : Option (List Bytes)) → EndPlace told (shown (misread_as e)) before now
-misread-place None e before now = tt
-misread-place (Some told) (words_errors.Refused e) before now = tt
-misread-place (Some told) words_errors.OutOfMemory before now = tt
+pub misread-place : (told : Option Told) (e : WordsError) (before now : Option (List Bytes)) (failed failed-now : FailedPaths) → EndPlace told (shown (misread_as e)) before now failed failed-now
+misread-place None e before now failed failed-now = tt
+misread-place (Some told) (words_errors.Refused e) before now failed failed-now = tt
+misread-place (Some told) words_errors.OutOfMemory before now failed failed-now = tt
 
 -- what is told of words that ask for a listing, or for a master
 pub list-told : (m : Option Machine) (words : List Bytes) (asked : Asked) → reading words ≡ Ok (commands.List asked) → told_for m words ≡ told_over m asked

@@ -1,5 +1,6 @@
 -- What the standard error has taken.
 use Rattle.std.specs.Prelude.{◌≡◌, ℕ, List, ◌++◌, ◌⊎◌, Option, Some, None}
+use Rattle.conf_resolve.specs.Faults.{FailedPaths}
 use Rattle.conf_rules.specs.Diagnostics.{Ending, line_of, NoMemory}
 use Rattle.conf_rules.specs.Texts.{Bytes}
 use Rattle.conf_rules.specs.Told.{Told}
@@ -42,28 +43,28 @@ Reports result ending before now faults faults' =
     (result ≡ status_of ending) × TookLine (line_of ending) before now faults faults'
 
 -- the run ended by an ending that is due, whose line was handed over, and whose fault, if it is one,
--- raised its count and is told where it came up
+-- raised its count and is told where it came up: a failed read with its path
 pub record EndsBy (known : Known) (told : Option Told) (status : Status)
     (before now : Option (List ℕ)) (faults faults' files files' runner runner' : ℕ)
-    (ran ran' : Option (List Bytes)) : Type 0 where
+    (ran ran' : Option (List Bytes)) (failed failed' : FailedPaths) : Type 0 where
   pub ending : Ending
   pub is_due : IsDue known ending
   pub has_status : status ≡ status_of ending
   pub line : TookLine (line_of ending) before now faults faults'
   pub cause : EndCause ending files files' runner runner'
-  pub place : EndPlace told ending ran ran'
+  pub place : EndPlace told ending ran ran' failed failed'
 
 -- How a run ended: without a word where it went well or `out` failed, with the line of its ending
 -- otherwise; of the line of want of memory some part may be written. `files` and `runner` count
 -- their faults.
 abbrev pub Ended :
     Known → Option Told → Status → Option (List ℕ) → Option (List ℕ) → ℕ → ℕ → ℕ → ℕ → ℕ → ℕ
-    → Option (List Bytes) → Option (List Bytes) → Type 0
-Ended known told Done before now faults faults' files files' runner runner' ran ran' =
+    → Option (List Bytes) → Option (List Bytes) → FailedPaths → FailedPaths → Type 0
+Ended known told Done before now faults faults' files files' runner runner' ran ran' failed failed' =
     IsWell known Done × (now ≡ before)
-Ended known told Write before now faults faults' files files' runner runner' ran ran' =
+Ended known told Write before now faults faults' files files' runner runner' ran ran' failed failed' =
     IsWell known Write × (now ≡ before)
-Ended known told Memory before now faults faults' files files' runner runner' ran ran' =
+Ended known told Memory before now faults faults' files files' runner runner' ran ran' failed failed' =
     TookSome (line_of NoMemory) before now
-Ended known told status before now faults faults' files files' runner runner' ran ran' =
-    EndsBy known told status before now faults faults' files files' runner runner' ran ran'
+Ended known told status before now faults faults' files files' runner runner' ran ran' failed failed' =
+    EndsBy known told status before now faults faults' files files' runner runner' ran ran' failed failed'

@@ -1,6 +1,6 @@
 -- Where the faults of files and commands are told.
 use Rattle.std.specs.Prelude.{List, Option, Some, None, Result, Ok, Err}
-use Rattle.conf_resolve.specs.Faults.{FaultStands}
+use Rattle.conf_resolve.specs.Faults.{FailedPaths, FaultStands}
 use Rattle.conf_rules.specs.CommandLine.{ReadCommand}
 use Rattle.conf_rules.specs.declared.asked.Asked.{Asked}
 use Rattle.conf_rules.specs.declared.command.Command.TheVariants as commands
@@ -27,13 +27,18 @@ told_by m reading = None
 unfoldable pub told_for : Option Machine → List Bytes → Option Told
 told_for m words = told_by m (reading words)
 
--- an ending that tells a fault tells it where it came up, with these commands run
-abbrev pub EndPlace : Option Told → Ending → Option (List Bytes) → Option (List Bytes) → Type 0
-EndPlace (Some told) (BadLine e) before now = FaultStands told (all_rows told) e before now
-EndPlace told ending before now = Unit {0}
+-- an ending that tells a fault tells it where it came up, with these commands run and these paths
+-- failed
+abbrev pub EndPlace : Option Told → Ending → Option (List Bytes) → Option (List Bytes) → FailedPaths
+    → FailedPaths → Type 0
+EndPlace (Some told) (BadLine e) before now failed failed_now =
+    FaultStands told (all_rows told) e before now failed failed_now
+EndPlace told ending before now failed failed_now = Unit {0}
 
 -- the same of a call
 abbrev pub Placed : {A : Type 0} →
-    Option Told → Result A MeantEnding → Option (List Bytes) → Option (List Bytes) → Type 0
-Placed told (Ok x) before now = Unit {0}
-Placed told (Err ending) before now = EndPlace told (shown ending) before now
+    Option Told → Result A MeantEnding → Option (List Bytes) → Option (List Bytes) → FailedPaths
+    → FailedPaths → Type 0
+Placed told (Ok x) before now failed failed_now = Unit {0}
+Placed told (Err ending) before now failed failed_now =
+    EndPlace told (shown ending) before now failed failed_now

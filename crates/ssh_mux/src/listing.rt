@@ -41,7 +41,8 @@ pub fn list<F: Files, R: Runner, S: Sink>(
         (commands.List asked.now)) (so_far result) (R.ran runner.old) (R.ran runner.new) }
     ensures place { Placed
         (told_over (machine (F.told files.old) (R.told runner.old) facts.now) asked.now)
-        result (R.ran runner.old) (R.ran runner.new) }
+        result (R.ran runner.old) (R.ran runner.new)
+        (F.failed files.old) (F.failed files.new) }
     ensures cause { Caused result (F.faults files.old) (F.faults files.new)
         (R.faults runner.old) (R.faults runner.new) }
 {
@@ -64,7 +65,8 @@ fn listing_of<F: Files, R: Runner>(
         (commands.List asked.now)) result (R.ran runner.old) (R.ran runner.new) }
     ensures place { Placed
         (told_over (machine (F.told files.old) (R.told runner.old) facts.now) asked.now)
-        result (R.ran runner.old) (R.ran runner.new) }
+        result (R.ran runner.old) (R.ran runner.new)
+        (F.failed files.old) (F.failed files.new) }
     ensures cause { Caused result (F.faults files.old) (F.faults files.new)
         (R.faults runner.old) (R.faults runner.new) }
 {

@@ -80,7 +80,8 @@ pub fn share<W: Wire, F: Files, R: Runner, H: House>(
         (R.ran runner.old) (R.ran runner.new) }
     ensures place { Placed
         (told_over (machine (F.told files.old) (R.told runner.old) facts.now) asked.now)
-        result (R.ran runner.old) (R.ran runner.new) }
+        result (R.ran runner.old) (R.ran runner.new)
+        (F.failed files.old) (F.failed files.new) }
     ensures cause { Caused result (F.faults files.old) (F.faults files.new)
         (R.faults runner.old) (R.faults runner.new) }
 {
@@ -108,7 +109,8 @@ fn control_of<F: Files, R: Runner>(
         (R.ran runner.old) (R.ran runner.new) }
     ensures place { Placed
         (told_over (machine (F.told files.old) (R.told runner.old) facts.now) asked.now)
-        result (R.ran runner.old) (R.ran runner.new) }
+        result (R.ran runner.old) (R.ran runner.new)
+        (F.failed files.old) (F.failed files.new) }
     ensures cause { Caused result (F.faults files.old) (F.faults files.new)
         (R.faults runner.old) (R.faults runner.new) }
 {

@@ -49,7 +49,7 @@ pub fn run<W: Wire, F: Files, R: Runner, S: Sink, H: House>(
         (told_for (machine (F.told files.old) (R.told runner.old) facts.now) words.now)
         result (S.told err.old) (S.told err.new) (S.faults err.old) (S.faults err.new)
         (F.faults files.old) (F.faults files.new) (R.faults runner.old) (R.faults runner.new)
-        (R.ran runner.old) (R.ran runner.new) }
+        (R.ran runner.old) (R.ran runner.new) (F.failed files.old) (F.failed files.new) }
     ensures fault_cause { FaultCause result (F.faults files.old) (F.faults files.new)
         (R.faults runner.old) (R.faults runner.new) }
     ensures out { OutTakes result
@@ -128,7 +128,8 @@ fn obey<W: Wire, F: Files, R: Runner, S: Sink, H: House>(
         result }
     ensures place { Placed
         (told_for (machine (F.told files.old) (R.told runner.old) facts.now) words.now)
-        result (R.ran runner.old) (R.ran runner.new) }
+        result (R.ran runner.old) (R.ran runner.new)
+        (F.failed files.old) (F.failed files.new) }
     ensures cause { Caused result (F.faults files.old) (F.faults files.new)
         (R.faults runner.old) (R.faults runner.new) }
     ensures out { OutTakes (so_far result)

@@ -31,7 +31,7 @@ pub returns-clause-ran : goal.returns-clause-ran
 returns-clause-ran g c = resolved-runs _ (g.F.Files.told c.args.files.now) (g.R.Runner.told c.args.runner.now) c.args.facts.now c.args.asked.now (commands.List c.args.asked.now) _ _ (λ m. refl) c.in_ok-settings.ensures.ran
 
 pub returns-in_err-settings-clause-place : goal.returns-in_err-settings-clause-place
-returns-in_err-settings-clause-place g c = let p = err_from_is_err_and c.from_residual.result c.from_residual.ensures.1 in rw (p.1, p.2) (failed-place (g.F.Files.told c.args.files.now) (g.R.Runner.told c.args.runner.now) c.args.facts.now c.args.asked.now _ _ _ c.in_err-settings.ensures.fault)
+returns-in_err-settings-clause-place g c = let p = err_from_is_err_and c.from_residual.result c.from_residual.ensures.1 in rw (p.1, p.2) (failed-place (g.F.Files.told c.args.files.now) (g.R.Runner.told c.args.runner.now) c.args.facts.now c.args.asked.now _ _ _ _ _ c.in_err-settings.ensures.fault)
 
 pub returns-in_err-text-clause-place : goal.returns-in_err-text-clause-place
-returns-in_err-text-clause-place g c = let p = err_from_is_err_and c.from_residual-in_err-text.result c.from_residual-in_err-text.ensures.1 in rw (p.1, p.2) (unlisted-place _ _ _ _)
+returns-in_err-text-clause-place g c = let p = err_from_is_err_and c.from_residual-in_err-text.result c.from_residual-in_err-text.ensures.1 in rw (p.1, p.2) (unlisted-place _ _ _ _ _ _)

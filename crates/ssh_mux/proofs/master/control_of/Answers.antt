@@ -37,7 +37,7 @@ pub returns-clause-ran : goal.returns-clause-ran
 returns-clause-ran g c = λ transport os ls. all-ran (tt {0}) _ _ _ _ (resolved-runs (tt {0}) (g.F.Files.told c.args.files.now) (g.R.Runner.told c.args.runner.now) c.args.facts.now c.args.asked.now (commands.Master c.args.asked.now transport os ls) _ _ (λ m. refl) c.in_ok-settings.ensures.ran)
 
 pub returns-in_err-settings-clause-place : goal.returns-in_err-settings-clause-place
-returns-in_err-settings-clause-place g c = let p = err_from_is_err_and c.from_residual.result c.from_residual.ensures.1 in rw (p.1, p.2) (failed-place (g.F.Files.told c.args.files.now) (g.R.Runner.told c.args.runner.now) c.args.facts.now c.args.asked.now _ _ _ c.in_err-settings.ensures.fault)
+returns-in_err-settings-clause-place g c = let p = err_from_is_err_and c.from_residual.result c.from_residual.ensures.1 in rw (p.1, p.2) (failed-place (g.F.Files.told c.args.files.now) (g.R.Runner.told c.args.runner.now) c.args.facts.now c.args.asked.now _ _ _ _ _ c.in_err-settings.ensures.fault)
 
 pub returns-in_err-found-clause-place : goal.returns-in_err-found-clause-place
-returns-in_err-found-clause-place g c = let p = err_from_is_err_and c.from_residual-in_err-found.result c.from_residual-in_err-found.ensures.1 in rw (p.1, p.2) (unlisted-place _ _ _ _)
+returns-in_err-found-clause-place g c = let p = err_from_is_err_and c.from_residual-in_err-found.result c.from_residual-in_err-found.ensures.1 in rw (p.1, p.2) (unlisted-place _ _ _ _ _ _)

@@ -203,7 +203,7 @@ pub returns-in-Drill-clause-waited : goal.returns-in-Drill-clause-waited
 returns-in-Drill-clause-waited g c = on_true _ _ c.drill.ensures.waited
 
 pub returns-in_err-command-clause-place : goal.returns-in_err-command-clause-place
-returns-in_err-command-clause-place g c = let p = err_from_is_err_and c.from_residual.result c.from_residual.ensures.1 in rw (p.1, p.2) (misread-place _ _ _ _)
+returns-in_err-command-clause-place g c = let p = err_from_is_err_and c.from_residual.result c.from_residual.ensures.1 in rw (p.1, p.2) (misread-place _ _ _ _ _ _)
 
 pub returns-in-List-clause-place : goal.returns-in-List-clause-place
 returns-in-List-clause-place g c = rw (list-told _ _ _ (rw c.in-List.is at c.in_ok-command.ensures.exact)) c.list.ensures.place

@@ -3,13 +3,13 @@ use Rattle.ssh_mux.proofs.EndLemmas.{ended, ended-well, well-cause, out_after, u
 use Rattle.ssh_mux.proofs.program.run.Goals as goal
 
 pub returns-in-Ok-clause-ended : goal.returns-in-Ok-clause-ended
-returns-in-Ok-clause-ended g c = ended-well _ _ _ _ _ _ _ _ _ _ _ c.in-Ok.ensures.exact
+returns-in-Ok-clause-ended g c = ended-well _ _ _ _ _ _ _ _ _ _ _ _ _ c.in-Ok.ensures.exact
 
 pub returns-in-Ok-clause-fault_cause : goal.returns-in-Ok-clause-fault_cause
 returns-in-Ok-clause-fault_cause g c = well-cause _ _ _ _ _ _ c.in-Ok.ensures.exact c.in-Ok.ensures.cause
 
 pub returns-in-Err-clause-ended : goal.returns-in-Err-clause-ended
-returns-in-Err-clause-ended g c = ended _ _ _ _ _ _ _ _ _ _ _ _ _ _ c.in-Err.ensures.exact c.in-Err.ensures.cause c.in-Err.ensures.place c.report.ensures
+returns-in-Err-clause-ended g c = ended _ _ _ _ _ _ _ _ _ _ _ _ _ _ _ _ c.in-Err.ensures.exact c.in-Err.ensures.cause c.in-Err.ensures.place c.report.ensures
 
 pub returns-in-Err-clause-fault_cause : goal.returns-in-Err-clause-fault_cause
 returns-in-Err-clause-fault_cause g c = fault_after _ _ _ _ _ _ _ _ _ _ c.report.ensures c.in-Err.ensures.cause
