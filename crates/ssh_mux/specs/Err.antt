@@ -56,15 +56,17 @@ pub record EndsBy (known : Known) (told : Option Told) (status : Status)
 
 -- How a run ended: without a word where it went well or `out` failed, with the line of its ending
 -- otherwise; of the line of want of memory some part may be written. `files` and `runner` count
--- their faults.
+-- their faults; `ran` are the commands that were run, and `failed` the paths that failed.
 abbrev pub Ended :
     Known → Option Told → Status → Option (List ℕ) → Option (List ℕ) → ℕ → ℕ → ℕ → ℕ → ℕ → ℕ
     → Option (List Bytes) → Option (List Bytes) → FailedPaths → FailedPaths → Type 0
-Ended known told Done before now faults faults' files files' runner runner' ran ran' failed failed' =
-    IsWell known Done × (now ≡ before)
-Ended known told Write before now faults faults' files files' runner runner' ran ran' failed failed' =
-    IsWell known Write × (now ≡ before)
-Ended known told Memory before now faults faults' files files' runner runner' ran ran' failed failed' =
-    TookSome (line_of NoMemory) before now
-Ended known told status before now faults faults' files files' runner runner' ran ran' failed failed' =
-    EndsBy known told status before now faults faults' files files' runner runner' ran ran' failed failed'
+Ended known told Done before now faults faults' files files' runner runner'
+    ran ran' failed failed' = IsWell known Done × (now ≡ before)
+Ended known told Write before now faults faults' files files' runner runner'
+    ran ran' failed failed' = IsWell known Write × (now ≡ before)
+Ended known told Memory before now faults faults' files files' runner runner'
+    ran ran' failed failed' = TookSome (line_of NoMemory) before now
+Ended known told status before now faults faults' files files' runner runner'
+    ran ran' failed failed' =
+    EndsBy known told status before now faults faults' files files' runner runner'
+    ran ran' failed failed'
