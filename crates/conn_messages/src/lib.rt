@@ -18,4 +18,3 @@ pub use write::{
     LONGEST_ADDRESS, LONGEST_TEXT, cancel_forward, cancel_path, close, open_failure,
     request_failure,
 };
-

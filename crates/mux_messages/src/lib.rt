@@ -10,4 +10,3 @@ pub use control::Control;
 pub use read::read_control;
 pub use ssh_grammar::BadControl;
 pub use write::{LONGEST_REASON, alive, failure, hello, ok, proxy, remote_port};
-

@@ -17,4 +17,3 @@ pub use out_of_memory::OutOfMemory;
 pub use put::{patch_u32, put_string, put_u32};
 pub use small::Small;
 pub use text::{Text, Texts};
-

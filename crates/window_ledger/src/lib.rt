@@ -10,4 +10,3 @@ mod ledger;
 pub use act::Act;
 pub use ledger::Ledger;
 pub use ssh_grammar::{Breach, Side};
-

@@ -12,7 +12,12 @@ use std::net::Net;
 
 impl<R: Files + Net + Clone + Drop> Sockets<R> {
     /// Goes on with what was ready. `None`: it was not, or not any more.
-    pub(super) fn go_on(&mut self, ready: Ready, client: Option<u64>, into: &mut Piece) -> Option<Found>
+    pub(super) fn go_on(
+        &mut self,
+        ready: Ready,
+        client: Option<u64>,
+        into: &mut Piece,
+    ) -> Option<Found>
         ensures { IfSome result (λ found. FoundFits found client into.new) }
     {
         match ready {
