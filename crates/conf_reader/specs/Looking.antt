@@ -34,15 +34,16 @@ pub record FailsAmong (paths : List Bytes) (before now : Option (List Bytes)) : 
   pub among : list_any (bytes_eq path) paths ≡ true
 
 -- a call failed at one of these paths, or nothing failed
-abbrev pub FileFails :
-    {A : Type 0} → List Bytes → Result A FileError → Option (List Bytes) → Option (List Bytes) → Type 0
+abbrev pub FileFails : {A : Type 0} → List Bytes → Result A FileError → Option (List Bytes)
+    → Option (List Bytes) → Type 0
 FileFails paths (Err file_errors.Failed) before now = FailsAmong paths before now
 FileFails paths answer before now = now ≡ before
 
 -- the same of a line's reading
-abbrev pub LineFails :
-    {A : Type 0} → List Bytes → Result A LineError → Option (List Bytes) → Option (List Bytes) → Type 0
-LineFails paths (Err (line_errors.Refused causes.ReadFault)) before now = FailsAmong paths before now
+abbrev pub LineFails : {A : Type 0} → List Bytes → Result A LineError → Option (List Bytes)
+    → Option (List Bytes) → Type 0
+LineFails paths (Err (line_errors.Refused causes.ReadFault)) before now =
+    FailsAmong paths before now
 LineFails paths result before now = now ≡ before
 
 -- ---- where a failed read is told
@@ -87,8 +88,8 @@ pub record FailsAt (test : Test) (file : Bytes) (number : ℕ) (before now : Opt
   pub passes : test file number path ≡ true
 
 -- a failed read is told where its path may be, and no other answer comes behind one
-abbrev pub TellsFailed :
-    {A : Type 0} → Test → Result A ResolveError → Option (List Bytes) → Option (List Bytes) → Type 0
+abbrev pub TellsFailed : {A : Type 0} → Test → Result A ResolveError → Option (List Bytes)
+    → Option (List Bytes) → Type 0
 TellsFailed test (Ok x) before now = now ≡ before
 TellsFailed test (Err OutOfMemory) before now = Unit {0}
 TellsFailed test (Err (At file number causes.ReadFault)) before now =

@@ -207,8 +207,8 @@ fn with_component<F: Files>(
         → IfOk result (λ paths.
         SameTexts (with_component told component.now bases.items) paths.items) }
     ensures cause { HasCause result (F.faults files.old) (F.faults files.new) }
-    ensures failed { FileFails (if is_glob component.now then map or_root bases.items else []) result
-        (F.failed files.old) (F.failed files.new) }
+    ensures failed { FileFails (if is_glob component.now then map or_root bases.items else [])
+        result (F.failed files.old) (F.failed files.new) }
     ensures told { F.told files.new ≡ F.told files.old }
 {
     if component.is_empty() {

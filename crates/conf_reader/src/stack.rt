@@ -198,7 +198,8 @@ impl OpenFiles {
         ensures told { F.told files.new ≡ F.told files.old }
         ensures cause { HasFilesCause result (F.faults files.old) (F.faults files.new) }
         ensures bounded { OnOk result (KeepsBounds self.old self.new) }
-        ensures looks { MovesLooks (F.failed files.old) (F.failed files.new) self.old self.new result }
+        ensures looks { MovesLooks (F.failed files.old) (F.failed files.new) self.old self.new
+            result }
     {
         let Some(top) = &self.top else {
             return Ok(Stand::End);
@@ -231,7 +232,8 @@ impl OpenFiles {
         ensures told { F.told files.new ≡ F.told files.old }
         ensures cause { HasFilesCause result (F.faults files.old) (F.faults files.new) }
         ensures bounded { OnOk result (KeepsBounds self.old self.new) }
-        ensures looks { MovesLooks (F.failed files.old) (F.failed files.new) self.old self.new result }
+        ensures looks { MovesLooks (F.failed files.old) (F.failed files.new) self.old self.new
+            result }
     {
         loop {
             match self.advance(files) {

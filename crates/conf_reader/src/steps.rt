@@ -32,7 +32,8 @@ impl Lines {
         ensures firsts { self.new.firsts ≡ self.old.firsts }
         ensures counts { IfOk result (λ step. CountsOne step self.old.read self.new.read) }
         ensures given { IfOk result (λ step. GivenStep step self.old self.new) }
-        ensures looks { StepLooks (F.failed files.old) (F.failed files.new) self.old self.new result }
+        ensures looks { StepLooks (F.failed files.old) (F.failed files.new) self.old self.new
+            result }
         ensures told { F.told files.new ≡ F.told files.old }
         ensures cause { HasFilesCause result (F.faults files.old) (F.faults files.new) }
     {
@@ -61,7 +62,8 @@ impl Lines {
         requires plain { list_all is_plain_first self.old.firsts.items ≡ true }
         ensures reads { ReadsOver (F.told files.old) self.old self.new result }
         ensures given { IfOk result (λ given. IfSome given (IsGivenFrom self.old self.new)) }
-        ensures looks { LineLooks (F.failed files.old) (F.failed files.new) self.old self.new result }
+        ensures looks { LineLooks (F.failed files.old) (F.failed files.new) self.old self.new
+            result }
         ensures firsts { self.new.firsts ≡ self.old.firsts }
         ensures told { F.told files.new ≡ F.told files.old }
         ensures cause { HasFilesCause result (F.faults files.old) (F.faults files.new) }
