@@ -26,6 +26,7 @@ use Rattle.mux_history.proofs.Dests.{Asked, dest-err, dest-ok, refuses-asked, su
 use Rattle.mux_history.proofs.LawfulItems.{client-of, treat-item}
 use Rattle.mux_history.proofs.Readings.{reading-ok}
 use Rattle.mux_history.proofs.RightLogs.{LogKnown, by-treat}
+use Rattle.mux_isolation.proofs.Fulls.{all-fit, drops-if-full, no-overflow}
 
 -- ---- each reply reaches its asker
 
@@ -116,19 +117,6 @@ framed-all zero p = refl
 framed-all (suc n) p = ap (λ xs. frame_payload p ∷ xs) (framed-all n p)
 
 -- ---- the row
-
--- where no frame is left out, all are told
-all-fit : (n : ℕ) (fs : List (List ℕ)) → overflow n fs ≡ None → fitting n fs ≡ fs
-all-fit n [] none = refl
-all-fit n (f ∷ fs) none = by_case (nat_le (n + length f) 33554432) refl none (λ h. all-fit (n + length f) fs h)
-  where
-    by_case : (b : Bool) → nat_le (n + length f) 33554432 ≡ b → (elim b as (λ _. Option Why) [ true ↦ overflow (n + length f) fs | false ↦ Some (why.QueueFull n (length f)) ]) ≡ None → (overflow (n + length f) fs ≡ None → fitting (n + length f) fs ≡ fs) → (elim b as (λ _. List (List ℕ)) [ true ↦ f ∷ fitting (n + length f) fs | false ↦ [] ]) ≡ f ∷ fs
-    by_case true e none ih = ap (λ xs. f ∷ xs) (ih none)
-    by_case false e none ih = cc
-
-no-overflow : (o : Option Why) → fate_with Goes o ≡ Goes → o ≡ None
-no-overflow None e = refl
-no-overflow (Some why) e = cc
 
 module _ (before : List Row) (orderly : Orderly before) (k : ℕ) (p : List ℕ) (reply : reading p is_reply false ≡ true) (asked : Asked before k) (alive : is_lost (rows_of k before) ≡ false) where
   abbrev mute_row : Row
@@ -224,4 +212,4 @@ tells-treat policy pid pick before item orderly p is reply on alive = by_item it
     by_item i e on alive = cc
 
 pub askers-served : (policy : Policy) (pid : ℕ) (rows : List Row) → LogKnown policy pid rows → ForEach Asker rows
-askers-served policy pid rows known = by-treat Asker policy pid (λ pick before item good orderly may makes. record { reaches = serves policy pid pick before item; tells = tells-treat policy pid pick before item orderly }) (λ before stream size. record { reaches = λ p is. cc; tells = λ p is. cc }) rows known.each
+askers-served policy pid rows known = by-treat Asker policy pid (λ pick before item good orderly may makes. record { reaches = serves policy pid pick before item; tells = tells-treat policy pid pick before item orderly; full = drops-if-full policy pid pick before item }) (λ before stream size. record { reaches = λ p is. cc; tells = λ p is. cc; full = λ p is. cc }) rows known.each
