@@ -5,7 +5,7 @@ use Rattle.std.proofs.Math.Seq.{drop-append_seam}
 use Rattle.std.proofs.lemmas.List.{append-nil}
 use Rattle.mux_history.specs.Channels.{Channel, channels_of, held_of, holder, live_in, own_of, with_own}
 use Rattle.mux_history.specs.Forwardings.{Forwarding, current, live_at}
-use Rattle.mux_history.specs.Gist.{Act, Confirmation, Fails, Gist, Open, Refuses, Requests, Succeeds, Transport, Within, read_gist, reading, recipient_of, sender_of}
+use Rattle.mux_history.specs.Gist.{Act, Confirmation, Fails, Gist, Open, Requests, Within, read_gist, reading, recipient_of, sender_of}
 use Rattle.mux_history.specs.Heard.{Breaks, Dest, Disconnects, ToClient, ToMaster, dest, dest_confirmation, dest_gist, dest_open, dest_within, for_client, for_lost, heard_for, heard_gist, pending_open, renamed}
 use Rattle.mux_history.specs.Kept.{Delivers, FailsOpen, ForEach, GoesUp, MustAsk, MustGoUp, MustOpen, Passes, Reaches, ReachesChannel, ReachesForwarding}
 use Rattle.mux_history.specs.Keys.{is_askable}
@@ -14,7 +14,7 @@ use Rattle.mux_history.specs.Log.{all_told, bare, fate_with, fitting, goes, hear
 use Rattle.mux_history.specs.Pending.{waiting_down}
 use Rattle.mux_history.specs.Policy.{Policy, permits}
 use Rattle.mux_history.specs.Requests.{answers, answers_to, is_reply, replies, reply_in, wanted}
-use Rattle.mux_history.specs.Rows.{Fate, Goes, Heard, Item, Row, Says, is_end, is_lost, rows_of}
+use Rattle.mux_history.specs.Rows.{Goes, Heard, Item, Row, Says, is_end, is_lost, rows_of}
 use Rattle.mux_history.specs.Said.{Outcome, drops, fails_open, is_full_of_asks, on_breach, on_confirmed, on_unused, on_waiting, said_gist, said_open, said_payload, said_request, sends, sends_as, sends_if, sends_open, silent, tells}
 use Rattle.mux_outside.specs.declared.house.HouseReply.{HouseReply}
 use Rattle.ssh_grammar.specs.Frames.{frame_payload}
@@ -23,7 +23,7 @@ use Rattle.ssh_grammar.specs.Said.{Payload}
 use Rattle.ssh_grammar.specs.SpellMessage.{open_failure, with_recipient, with_sender}
 use Rattle.ssh_grammar.specs.declared.fault.Bad.{Bad}
 use Rattle.ssh_grammar.specs.declared.fault.Breach.{Breach}
-use Rattle.ssh_grammar.specs.declared.side.Side.TheVariants.{Down, Up}
+use Rattle.ssh_grammar.specs.declared.side.Side.TheVariants.{Down}
 use Rattle.mux_history.specs.declared.broke.Break.TheVariants as broke
 use Rattle.mux_history.specs.declared.why.Why.TheVariants as why
 use Rattle.mux_history.proofs.Apart.{AreApart}
@@ -32,7 +32,7 @@ use Rattle.mux_history.proofs.KeepsApart.{ok-same}
 use Rattle.mux_history.proofs.LawfulItems.{client-of, treat-item}
 use Rattle.mux_history.proofs.Readings.{reading-err, reading-ok}
 use Rattle.mux_history.proofs.RightLogs.{LogKnown, by-treat}
-use Rattle.mux_history.proofs.Sends.{Sent, as_row, sent-by}
+use Rattle.mux_history.proofs.Sends.{Sent, sent-by}
 use Rattle.mux_isolation.proofs.Fulls.{all-fit, drops-if-full, heard-goes, no-overflow, row-whole}
 use Rattle.mux_isolation.proofs.Named.{Met, holder-local, met, number-met}
 

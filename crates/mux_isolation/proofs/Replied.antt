@@ -1,6 +1,6 @@
 -- What a reply tells its asker: the reply, and the refusals that waited behind it.
 use Rattle.std.proofs.Common.{◌≡◌, ℕ, zero, suc, ◌+◌, ◌<◌, List, [], ◌∷◌, ◌++◌, length, true, false, Bool, refl, ◌∙◌, ap, arith, map, sym, Option, Some, None, subst, Ok, Err, drop, length-append}
-use Rattle.std.specs.Prelude.{option_map, ◌&&◌, not, Result, replicate, nat_le}
+use Rattle.std.specs.Prelude.{option_map, ◌&&◌, not, Result, replicate}
 use Rattle.std.proofs.Math.Seq.{drop-append_seam}
 use Rattle.std.proofs.lemmas.List.{append-nil}
 use Rattle.std.proofs.lemmas.Option.{slice_get_within}
@@ -14,13 +14,11 @@ use Rattle.mux_history.specs.Policy.{Policy}
 use Rattle.mux_history.specs.Requests.{Ask, answers, answers_to, asker, asks, asks_of, is_reply, is_sent, replies, reply_in, sent_flags, wanted, wanted_by}
 use Rattle.mux_history.specs.Rows.{Goes, Heard, Item, Row, is_end, is_lost, loses, rows_of}
 use Rattle.mux_history.specs.Said.{Outcome, silent}
-use Rattle.mux_history.specs.declared.why.Why.{Why}
 use Rattle.ssh_grammar.specs.Frames.{frame_payload}
 use Rattle.ssh_grammar.specs.Messages.{Global}
 use Rattle.ssh_grammar.specs.Said.{heard}
 use Rattle.ssh_grammar.specs.SpellMessage.{request_failure}
 use Rattle.ssh_grammar.specs.declared.fault.Bad.{Bad}
-use Rattle.mux_history.specs.declared.why.Why.TheVariants as why
 use Rattle.mux_history.proofs.Askers.{Orderly, asker-local, master-asker, success-never}
 use Rattle.mux_history.proofs.Dests.{Asked, dest-err, dest-ok, refuses-asked, succeeds-asked}
 use Rattle.mux_history.proofs.LawfulItems.{client-of, treat-item}

@@ -5,7 +5,7 @@ use Rattle.std.proofs.lemmas.Grind.{reverse_onto}
 use Rattle.std.proofs.lemmas.List.{append-nil}
 use Rattle.std.proofs.lemmas.List.Concat.{flat_map-append}
 use Rattle.mux_history.specs.Kept.{sent_for}
-use Rattle.mux_history.specs.Rows.{Row, rows_of, sent_by}
+use Rattle.mux_history.specs.Rows.{Row, sent_by}
 use Rattle.mux_history.specs.Solo.{seen}
 use Rattle.mux_history.proofs.OwnRows.{AllOf, rows-all}
 use Rattle.mux_isolation.proofs.Solos.{alone, alone_row}
