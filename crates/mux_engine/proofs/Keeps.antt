@@ -11,10 +11,12 @@ use Rattle.mux_history.specs.Right.{AreFresh, IsRight}
 use Rattle.mux_history.specs.Journal.{bytes_of}
 use Rattle.mux_history.specs.Promises.{Throughout, WaitsAt}
 use Rattle.mux_history.proofs.Journals.{logs-right}
+use Rattle.mux_history.proofs.Picks.{picks-taken}
 use Rattle.mux_history.proofs.RightLogs.{right-known, numbers-apart}
-use Rattle.mux_isolation.proofs.AllRuns.{isolation, gives-alone}
+use Rattle.mux_isolation.proofs.AllRuns.{isolation, gives-alone, sends-alone}
 use Rattle.mux_isolation.proofs.Allowed.{ups-allowed}
 use Rattle.mux_isolation.proofs.Bounded.{queues-bounded}
+use Rattle.mux_isolation.proofs.Delivered.{delivered, passed}
 use Rattle.mux_isolation.proofs.Mays.{permissions, windows}
 use Rattle.mux_isolation.proofs.OwnSayings.{own-words}
 use Rattle.mux_isolation.proofs.Replied.{askers-served}
@@ -42,10 +44,14 @@ module _ (policy : Policy) (pid : ℕ) (picks : List ℕ) (given : List HouseRep
           window = windows policy rows (ups-allowed policy pid rows known) (downs-allowed policy pid rows known);
           permission = permissions policy rows (ups-allowed policy pid rows known) (downs-allowed policy pid rows known);
           asker = askers-served policy pid rows known;
+          delivers = delivered policy pid rows known;
+          passes = passed policy pid rows known;
           apart = numbers-apart policy pid picks given journal left rows wire.lawful right;
           unshared = isolation policy pid picks given journal left rows wire.lawful right;
         };
         gives = gives-alone policy pid picks given journal left rows wire.lawful right;
+        sends = sends-alone policy pid picks given journal left rows wire.lawful right;
+        picks = picks-taken policy pid picks given journal left rows wire.lawful right;
         own_words = own-words policy pid rows known;
         channels = channels-bounded policy pid rows known;
         forwardings = forwardings-bounded policy pid rows known;

@@ -13,12 +13,12 @@ use Rattle.mux_history.specs.Pending.{given_to}
 use Rattle.mux_history.specs.Log.{Setting}
 use Rattle.mux_history.specs.Settings.{by_lists}
 use Rattle.mux_history.specs.Solo.{solo}
-use Rattle.mux_history.specs.Right.{AreFresh, IsAdmitted}
+use Rattle.mux_history.specs.Right.{AreFresh, IsAdmitted, TakesPick}
 use Rattle.mux_history.specs.Journal.{IsLawful, Tells, bytes_of, log_of_journal, taken_by}
 use Rattle.mux_history.specs.Kept.{AtEach, ForEach, Kept, OwnWords}
 use Rattle.mux_history.specs.Promises.{ConnectionEnds, IsFront, MayGive, OpenStreams, Settled, Throughout, Written, waits_in}
 use Rattle.mux_history.specs.Wires.{ReadsWhenAsked}
-use Rattle.mux_isolation.specs.Bytes.{GivesAlike}
+use Rattle.mux_isolation.specs.Bytes.{GivesAlike, SendsAlike}
 use Rattle.mux_isolation.specs.Laws.{WaitsBounded}
 use Rattle.mux_bounds.specs.Bounds.{IsLog, RestsShort, StaysBelow}
 use Rattle.mux_bounds.specs.Few.{ChannelsBounded, ForwardingsBounded, HasNothing, MattersBounded, RequestsBounded}
@@ -46,11 +46,15 @@ abbrev pub LeavesNothing : List Row → Type 0
 LeavesNothing rows = (k : ℕ) → IsAdmitted k rows → has_open_matters (rows_of k rows) ≡ false
     → HasNothing (rows_of k rows)
 
--- what is promised of rows: windows, permissions, askers, numbers and the unshared connection of each admitted client; byte
--- for byte it is given what that connection gives; the master's own words; the limits; and what waits for a client and for the server
+-- what is promised of rows: windows, permissions, askers, what is delivered and what goes up, numbers and the unshared
+-- connection of each admitted client; byte for byte it is given what that connection gives, and payload by payload that
+-- is sent for it which that sends, under the numbers that were picked; the master's own words; the limits; and what
+-- waits for a client and for the server
 pub record KeepsRows (setting : Setting) (rows : List Row) : Type 0 where
   pub kept : Kept setting rows
   pub gives : GivesAlike setting rows
+  pub sends : SendsAlike setting rows
+  pub picks : ForEach (TakesPick setting.choices) rows
   pub own_words : ForEach OwnWords rows
   pub channels : AtEach ChannelsBounded rows
   pub forwardings : AtEach ForwardingsBounded rows

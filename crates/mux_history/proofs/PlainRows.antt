@@ -11,7 +11,12 @@ use Rattle.mux_history.specs.Requests.{asks, asks_of, wanted, wanted_by, is_sent
 use Rattle.mux_history.specs.Forwardings.{Forwarding, forwardings_of, forwarded, dropped, of_client}
 use Rattle.mux_history.specs.Farewell.{farewell, leave_channel, leave_forwarding}
 use Rattle.mux_history.specs.Log.{new_answers}
-use Rattle.mux_history.specs.PlainRows.{IsPlainItem, ArePlain}
+use Rattle.mux_history.specs.PlainRows.{IsPlain, IsPlainItem}
+
+-- rows that all are plain
+abbrev pub ArePlain : List Row → Type 0
+ArePlain [] = Unit {0}
+ArePlain (row ∷ before) = IsPlain row × ArePlain before
 
 pub plain_of : (k : ℕ) (rows : List Row) → ArePlain rows → ArePlain (rows_of k rows)
 plain_of k [] p = tt

@@ -1,8 +1,8 @@
 -- Payloads that bring no number: all but a confirmation.
 use Rattle.std.proofs.Common.{◌≡◌, ℕ, List, Ok}
 use Rattle.mux_history.specs.Gist.{Confirmation, Gist, read_gist}
-use Rattle.mux_history.specs.Kept.{Every, IsMasters}
-use Rattle.mux_history.proofs.Harmless.{Harmless, every-of}
+use Rattle.mux_history.specs.Kept.{Every}
+use Rattle.mux_history.proofs.Harmless.{Harmless, IsHarmless, every-of}
 
 abbrev pub IsQuiet : Gist → Type 0
 IsQuiet (Confirmation s n w m) = ⊥
@@ -14,7 +14,7 @@ Quiet q = (m : Gist) → read_gist q ≡ Ok m → IsQuiet m
 pub quiet-of : (q : List ℕ) → Harmless q → Quiet q
 quiet-of q harmless m reads = by_message m (harmless m reads)
   where
-    by_message : (m : Gist) → IsMasters m → IsQuiet m
+    by_message : (m : Gist) → IsHarmless m → IsQuiet m
     by_message (Confirmation s n w m) h = absurd h
     by_message m h = tt
 

@@ -7,7 +7,7 @@ use Rattle.mux_history.specs.Channels.{Channel, after_farewell, after_item, any_
 use Rattle.mux_history.specs.Controls.{greeted, said_body}
 use Rattle.mux_history.specs.Gist.{Act, Answers, Asks, Carries, Closes, Confirmation, Confirms, Ends, Fails, Gist, Grants, Open, Refuses, Requests, Succeeds, Transport, Within, read_gist, reading}
 use Rattle.mux_history.specs.Heard.{Breaks, Dest, Disconnects, ToClient, ToMaster, dest, dest_within, heard_for, heard_master}
-use Rattle.mux_history.specs.Kept.{AtEach, Every, ForEach, IsMasters}
+use Rattle.mux_history.specs.Kept.{AtEach, Every, ForEach}
 use Rattle.mux_history.specs.Laws.{IsAccounted, IsWithin, RoomsHold, kept, with_act}
 use Rattle.mux_history.specs.Ledger.{answered, asked, breach, carried, other_side, room, sum_of, unanswered}
 use Rattle.mux_history.specs.Log.{admits, all_told, bare, heard_row, queued, row_of, treat}
@@ -27,7 +27,7 @@ use Rattle.mux_history.specs.declared.why.Why.TheVariants as why
 use Rattle.mux_history.proofs.Apart.{AllApart, ApartFrom, AreApart, Sound, each-both}
 use Rattle.mux_history.proofs.Dests.{Legal, dest-ok, is_plain, within-legal}
 use Rattle.mux_history.proofs.Finds.{Each, filter-no, filter-yes, find-no, find-yes}
-use Rattle.mux_history.proofs.Harmless.{Harmless, harmless-heard}
+use Rattle.mux_history.proofs.Harmless.{Harmless, IsHarmless, harmless-each, harmless-heard}
 use Rattle.mux_history.proofs.Indexed.{looks-up}
 use Rattle.mux_history.proofs.KeepsApart.{LawfulItem}
 use Rattle.mux_history.proofs.Legal.{fits-of}
@@ -162,7 +162,7 @@ accounted-reading p f x known each = by_case (read_gist p) refl
     by_case (Err e) reads = known
     by_case (Ok m) reads = each m reads
 
-safe-harmless : (m : Gist) (x : Channel) → IsMasters m → SafeUp m x
+safe-harmless : (m : Gist) (x : Channel) → IsHarmless m → SafeUp m x
 safe-harmless (Within s Closes) x h = λ a b. tt
 safe-harmless (Within s Fails) x h = λ a b. tt
 safe-harmless (Within s act) x h = absurd h
@@ -419,7 +419,7 @@ master-item before row good none harmless = λ known. by-each (channels_of befor
 
 -- a row by its parts
 row-any : (P : Row → Type 0) (item : Item) (k : ℕ) (o : Outcome) (own : List Row) → ((fw : List (List ℕ)) → Every Harmless fw → (down : List (List ℕ)) (fate : Fate) → P (as_row item k o.sent fw down fate)) → P (row_of item k o own)
-row-any P item k o own each = row-split P item k o own (λ fw parting fate. each fw parting (queued (all_told (bare item k o) own) (bare item k o) own).down fate)
+row-any P item k o own each = row-split P item k o own (λ fw parting fate. each fw (harmless-each fw parting) (queued (all_told (bare item k o) own) (bare item k o) own).down fate)
 
 none-harmless : (ups : List (List ℕ)) → ups ≡ [] → Every Harmless ups
 none-harmless ups none = subst (Every Harmless) (sym none) tt

@@ -7,7 +7,7 @@ use Rattle.mux_history.specs.Farewell.{farewell}
 use Rattle.mux_history.specs.Forwardings.{current, is_free_at}
 use Rattle.mux_history.specs.Gist.{Confirmation, Gist, Open, Refuses, Requests, Succeeds, Transport, Within, read_gist, reading, sender_of}
 use Rattle.mux_history.specs.Heard.{heard_for, heard_master}
-use Rattle.mux_history.specs.Kept.{Every}
+use Rattle.mux_history.specs.Kept.{Every, IsMasters}
 use Rattle.mux_history.specs.Keys.{is_askable}
 use Rattle.mux_history.specs.Ledger.{breach}
 use Rattle.mux_history.specs.Log.{admits, all_told, bare, open_matters, queued, row_of}
@@ -28,13 +28,13 @@ use Rattle.ssh_grammar.specs.declared.side.Side.TheVariants.{Down, Up}
 use Rattle.mux_history.specs.declared.why.Why.TheVariants as why
 use Rattle.ssh_grammar.specs.declared.fault.BadControl.TheVariants as bad_control
 use Rattle.mux_history.proofs.Apart.{DownStep, Ids, UpStep, brought_down, brought_up, ids-self, ids-then}
-use Rattle.mux_history.proofs.Harmless.{Harmless, harmless-farewell, harmless-heard, harmless-master}
+use Rattle.mux_history.proofs.Harmless.{harmless-each, harmless-heard, harmless-master, masters-farewell}
 use Rattle.mux_history.proofs.Quiets.{IsQuiet, Quiet, quiet-each}
 
 -- ---- payloads that bring no number
 
 pub quiet-farewell : (row : Row) (own : List Row) → Every Quiet (farewell row own)
-quiet-farewell row own = quiet-each (farewell row own) (harmless-farewell row own)
+quiet-farewell row own = quiet-each (farewell row own) (harmless-each (farewell row own) (masters-farewell row own))
 
 pub quiet-heard : (own : List Row) (p : List ℕ) → Every Quiet (heard_for own p).sent
 quiet-heard own p = quiet-each (heard_for own p).sent (harmless-heard own p)
@@ -149,11 +149,11 @@ abbrev pub as_row : Item → ℕ → List (List ℕ) → List (List ℕ) → Lis
 as_row item k up fw down fate = record { item = item; client = k; up = up; farewell = fw; down = down; fate = fate }
 
 -- with all that the row tells
-pub row-split : (P : Row → Type 0) (item : Item) (k : ℕ) (o : Outcome) (own : List Row) → ((fw : List (List ℕ)) → Every Harmless fw → (fate : Fate) → P (as_row item k o.sent fw (queued (all_told (bare item k o) own) (bare item k o) own).down fate)) → P (row_of item k o own)
+pub row-split : (P : Row → Type 0) (item : Item) (k : ℕ) (o : Outcome) (own : List Row) → ((fw : List (List ℕ)) → Every IsMasters fw → (fate : Fate) → P (as_row item k o.sent fw (queued (all_told (bare item k o) own) (bare item k o) own).down fate)) → P (row_of item k o own)
 row-split P item k o own each = by_case (loses (queued (all_told (bare item k o) own) (bare item k o) own))
   where
     by_case : (b : Bool) → P (elim b as (λ _. Row) [ true ↦ record (queued (all_told (bare item k o) own) (bare item k o) own) { farewell = farewell (queued (all_told (bare item k o) own) (bare item k o) own) own } | false ↦ queued (all_told (bare item k o) own) (bare item k o) own ])
-    by_case true = each (farewell (queued (all_told (bare item k o) own) (bare item k o) own) own) (harmless-farewell (queued (all_told (bare item k o) own) (bare item k o) own) own) _
+    by_case true = each (farewell (queued (all_told (bare item k o) own) (bare item k o) own) own) (masters-farewell (queued (all_told (bare item k o) own) (bare item k o) own) own) _
     by_case false = each [] tt _
 
 pub row-parts : (P : Row → Type 0) (item : Item) (k : ℕ) (o : Outcome) (own : List Row) → ((fw : List (List ℕ)) → Every Quiet fw → (down : List (List ℕ)) (fate : Fate) → P (as_row item k o.sent fw down fate)) → P (row_of item k o own)

@@ -1,24 +1,32 @@
--- What a run promises of each row: windows, permissions, askers, numbers, and the unshared connection.
-use Rattle.std.specs.Prelude.{ℕ, ◌≡◌, ◌≤◌, ◌<◌, List, [], ◌∷◌, ◌++◌, Option, Some, None, Ok, true, false, length, filter, drop, option_map, replicate, flat_map, reverse}
+-- What a run promises of each row: windows, permissions, askers, what is delivered, numbers, and the unshared connection.
+use Rattle.std.specs.Prelude.{ℕ, ◌≡◌, ◌≤◌, ◌<◌, ◌+◌, ◌⊎◌, List, [], ◌∷◌, ◌++◌, Option, Some, None, Ok, Bool, MatchBool, true, false, length, filter, drop, nat_lt, option_map, replicate, flat_map, reverse}
+use Rattle.mux_outside.specs.declared.house.HouseReply.{HouseReply}
 use Rattle.ssh_grammar.specs.declared.side.Side.{Side}
 use Rattle.ssh_grammar.specs.declared.side.Side.TheVariants.{Up, Down}
-use Rattle.ssh_grammar.specs.Messages.{Direct, Forwarded, Forward, Cancel}
-use Rattle.ssh_grammar.specs.SpellMessage.{request_failure}
+use Rattle.ssh_grammar.specs.declared.numbers.TheConstants.{ADMINISTRATIVELY_PROHIBITED, CONNECT_FAILED, RESOURCE_SHORTAGE}
+use Rattle.ssh_grammar.specs.Messages.{Key, Session, Direct, Forwarded, Forward, Cancel, KeepAlive}
+use Rattle.ssh_grammar.specs.Said.{Payload}
+use Rattle.ssh_grammar.specs.SpellMessage.{cancel_forward, client_is_gone, close, not_permitted, open_failure, request_failure, too_many_channels, with_recipient, with_sender}
 use Rattle.ssh_grammar.specs.Frames.{frame_payload}
-use Rattle.mux_history.specs.Gist.{Carries, Closes, Fails, Gist, Open, Refuses, Requests, Within, read_gist, reading}
-use Rattle.mux_history.specs.Rows.{Row, rows_of, sent_by, is_lost, is_end, Heard, Goes}
-use Rattle.mux_history.specs.Channels.{Channel, held_of, is_number, with_own}
-use Rattle.mux_history.specs.Ledger.{room, maximum_of}
+use Rattle.mux_history.specs.declared.limits.TheConstants.{MAX_CHANNELS, MAX_FORWARDINGS, MAX_QUEUE}
+use Rattle.mux_history.specs.declared.why.Why.{Why}
+use Rattle.mux_history.specs.declared.why.Why.TheVariants.{QueueFull}
+use Rattle.mux_history.specs.Gist.{Carries, Confirmation, Fails, Gist, Open, Requests, Within, read_gist, reading}
+use Rattle.mux_history.specs.Rows.{Row, rows_of, any_of, sent_by, is_lost, is_end, Heard, Says, Fate, Goes, Refused, Drop, End}
+use Rattle.mux_history.specs.Channels.{Channel, held_of, holder, is_number, own_of, with_own}
+use Rattle.mux_history.specs.Ledger.{breach, room, maximum_of}
+use Rattle.mux_history.specs.Pending.{joined, waiting_down}
 use Rattle.mux_history.specs.Requests.{answers, asker, is_reply}
 use Rattle.mux_history.specs.Controls.{is_says}
+use Rattle.mux_history.specs.Keys.{is_askable}
 use Rattle.mux_history.specs.Policy.{Policy, permits}
-use Rattle.mux_history.specs.Forwardings.{live_at}
-use Rattle.mux_history.specs.Said.{confirmed_at}
+use Rattle.mux_history.specs.Forwardings.{Forwarding, current, is_free_at, live_at}
+use Rattle.mux_history.specs.Said.{confirmed_at, is_full_of_asks, waiting_at}
 use Rattle.mux_history.specs.Log.{Setting}
 use Rattle.mux_history.specs.Solo.{IsUnshared}
 use Rattle.mux_history.specs.Right.{IsAdmitted}
 
--- a fact of the log up to each row, and a fact of each row and the rows before it
+-- a fact of the log up to each row
 abbrev pub AtEach : (List Row → Type 0) → List Row → Type 0
 AtEach P [] = P []
 AtEach P (row ∷ before) = P (row ∷ before) × AtEach P before
@@ -88,6 +96,27 @@ pub record Permission (policy : Policy) (before : List Row) (row : Row) : Type 0
   pub up : EachSays (IsPermitted policy) (sent_by row)
   pub down : EachTells (MeetsLive before row.client) row.down
 
+-- ---- a full queue: the one cause for which what the server says drops a client
+
+-- the next frame does not fit behind what waited and what was told: the bytes that wait then, and its length
+abbrev pub IsFull : ℕ → List (List ℕ) → Why → Type 0
+IsFull waited told (QueueFull have want) =
+    (have ≡ waited + length (joined told)) × (MAX_QUEUE < have + want)
+IsFull waited told _ = ⊥
+
+-- else the client goes on, and so does the run unless it ends
+abbrev pub GoesUnlessFull : ℕ → List (List ℕ) → Fate → Type 0
+GoesUnlessFull waited told Goes = Unit {0}
+GoesUnlessFull waited told Refused = ⊥
+GoesUnlessFull waited told (Drop cause) = IsFull waited told cause
+GoesUnlessFull waited told (End cause) = Unit {0}
+
+-- of a row of what the server says
+abbrev pub DropsIfFull : List Row → Row → Type 0
+DropsIfFull before row =
+    (p : List ℕ) → row.item ≡ Heard p
+    → GoesUnlessFull (waiting_down (rows_of row.client before)) row.down row.fate
+
 -- ---- Asker: each global reply that does not break the run reaches its asker
 
 -- it is a row of the client that asked
@@ -103,7 +132,7 @@ pub record TellsNext (own : List Row) (row : Row) (p : List ℕ) : Type 0 where
   pub told : row.down ≡ frame_payload p ∷ replicate refusals (frame_payload request_failure)
   pub in_order : answers (row ∷ own) ≡ answers own ++ (p ∷ replicate refusals request_failure)
 
--- unless the client was lost before or is dropped by this row
+-- unless the client was lost before, or is dropped by this row since its queue is full
 abbrev pub TellsReply : List Row → Row → Type 0
 TellsReply before row =
     (p : List ℕ) → row.item ≡ Heard p → reading p is_reply false ≡ true → row.fate ≡ Goes
@@ -113,22 +142,130 @@ TellsReply before row =
 pub record Asker (before : List Row) (row : Row) : Type 0 where
   pub reaches : ReachesAsker before row
   pub tells : TellsReply before row
+  pub full : DropsIfFull before row
 
--- ---- The master's own words: all that it sends that no client said carries no data and brings no number
+-- ---- Delivers: what the server says to a channel or a forwarding reaches its client
 
--- a refused request, a failed open, a close, or a cancel
-abbrev pub IsMasters : Gist → Type 0
-IsMasters (Within s Closes) = Unit {0}
-IsMasters (Within s Fails) = Unit {0}
-IsMasters (Requests (Cancel key) wants) = Unit {0}
-IsMasters Refuses = Unit {0}
-IsMasters m = ⊥
+-- a message to the number of a channel is its client's: it is told as it came, but with the client's own number at the
+-- recipient's place
+pub record ReachesChannel (before : List Row) (row : Row) (p : List ℕ) (n : ℕ) : Type 0 where
+  pub channel : Channel
+  pub held : holder before n ≡ Some channel
+  pub client : row.client ≡ channel.client
+  pub number : ℕ
+  pub named : channel.own ≡ Some number
+  pub told : is_lost (rows_of row.client before) ≡ false → row.fate ≡ Goes
+      → row.down ≡ frame_payload (with_recipient p number) ∷ []
+
+-- where the client has 256 channels, a server's open fails in place of being told
+pub record FailsOpen (row : Row) (s : ℕ) : Type 0 where
+  pub told : row.down ≡ []
+  pub sent : row.up ≡ open_failure s RESOURCE_SHORTAGE too_many_channels ∷ []
+
+-- an open for a forwarding that is live is its client's: it is told as it came, or fails there
+pub record ReachesForwarding (before : List Row) (row : Row) (p : List ℕ) (s : ℕ)
+    (forwarding : Forwarding) : Type 0 where
+  pub client : row.client ≡ forwarding.client
+  pub told : is_lost (rows_of row.client before) ≡ false → row.fate ≡ Goes
+      → MatchBool (nat_lt (length (held_of (rows_of row.client before))) MAX_CHANNELS)
+      (row.down ≡ frame_payload p ∷ []) (FailsOpen row s)
+
+-- by what the payload says
+abbrev pub Reaches : List Row → Row → List ℕ → Gist → Type 0
+Reaches before row p (Open (Forwarded key) s window maximum) =
+    (f : Forwarding) → live_at before key ≡ Some f → ReachesForwarding before row p s f
+Reaches before row p (Confirmation n s window maximum) = ReachesChannel before row p n
+Reaches before row p (Within n act) = ReachesChannel before row p n
+Reaches before row p m = Unit {0}
+
+-- unless the run ends; and nothing that the server says drops a client but a full queue
+pub record Delivers (before : List Row) (row : Row) : Type 0 where
+  pub reaches : (p : List ℕ) (m : Gist) → row.item ≡ Heard p → read_gist p ≡ Ok m
+      → is_end row.fate ≡ false → Reaches before row p m
+  pub full : DropsIfFull before row
+
+-- ---- Passes: what a client says goes up where it may
+
+-- with another number at the sender's place
+abbrev pub GoesUpNumbered : List (List ℕ) → List ℕ → Type 0
+GoesUpNumbered ups p = (number : ℕ) × (ups ≡ with_sender p number ∷ [])
+
+-- what is said goes up as it was said, or not at all; where it brings a number of the client's own, another one stands
+-- at the sender's place
+abbrev pub GoesUp : List (List ℕ) → List ℕ → Option ℕ → Type 0
+GoesUp ups p None = (ups ≡ []) ⊎ (ups ≡ p ∷ [])
+GoesUp ups p (Some own) = (ups ≡ []) ⊎ GoesUpNumbered ups p
+
+-- the client opens a channel under a number that it does not use, and has fewer than 256
+abbrev pub MustOpen : List Row → List (List ℕ) → List ℕ → ℕ → Type 0
+MustOpen own ups p c =
+    with_own own c ≡ None → nat_lt (length (held_of own)) MAX_CHANNELS ≡ true → GoesUpNumbered ups p
+
+-- its global request is within the limit of those without an answer
+abbrev pub MustAsk : List Row → List (List ℕ) → List ℕ → Bool → Type 0
+MustAsk own ups p wants = is_full_of_asks wants own ≡ false → ups ≡ p ∷ []
+
+-- a session, and a direct channel that is permitted; a forwarding that is permitted, where fewer than 64 are asked or
+-- live; a cancel of one that is live, and a keepalive; a confirmation or failure of a server's open that waits for it;
+-- and every other message to a confirmed channel whose account allows it
+abbrev pub MustGoUp : Policy → ℕ → List Row → List (List ℕ) → List ℕ → Gist → Type 0
+MustGoUp policy k own ups p (Open Session c window maximum) = MustOpen own ups p c
+MustGoUp policy k own ups p (Open (Direct key) c window maximum) =
+    permits policy.opens key ≡ true → MustOpen own ups p c
+MustGoUp policy k own ups p (Requests (Forward key) true) =
+    is_askable key ≡ true → permits policy.listens key ≡ true
+    → nat_lt (length (current own)) MAX_FORWARDINGS ≡ true → MustAsk own ups p true
+MustGoUp policy k own ups p (Requests (Cancel key) wants) =
+    any_of (is_free_at k key) (current own) ≡ true → MustAsk own ups p wants
+MustGoUp policy k own ups p (Requests KeepAlive wants) = MustAsk own ups p wants
+MustGoUp policy k own ups p (Confirmation s c window maximum) =
+    (x : Channel) → waiting_at own s ≡ Some x → with_own own c ≡ None → GoesUpNumbered ups p
+MustGoUp policy k own ups p (Within s Fails) =
+    (x : Channel) → waiting_at own s ≡ Some x → ups ≡ p ∷ []
+MustGoUp policy k own ups p (Within s act) =
+    (x : Channel) → confirmed_at own s ≡ Some x → breach Up act x ≡ None → ups ≡ p ∷ []
+MustGoUp policy k own ups p m = Unit {0}
+
+-- of a row of what a client in proxy mode says, which is its own
+pub record Passes (policy : Policy) (before : List Row) (row : Row) : Type 0 where
+  pub client : (k : ℕ) (p : List ℕ) (given : Option HouseReply)
+      → row.item ≡ Says k (Payload p) given → row.client ≡ k
+  pub unchanged : (k : ℕ) (p : List ℕ) (given : Option HouseReply)
+      → row.item ≡ Says k (Payload p) given → GoesUp row.up p (own_of row.item)
+  pub must : (k : ℕ) (p : List ℕ) (given : Option HouseReply) (m : Gist)
+      → row.item ≡ Says k (Payload p) given → read_gist p ≡ Ok m
+      → MustGoUp policy k (rows_of k before) row.up p m
+
+-- ---- The master's own words: all that it sends that no client said
+
+-- a refused request; a CLOSE; a failed open, of what is not permitted, of a channel too many, or of a client that is
+-- gone; and a cancel
+pub data OwnWord : Type 0 where
+  Refusal : OwnWord
+  Closing : (channel : ℕ) → OwnWord
+  NotPermitted : (channel : ℕ) → OwnWord
+  TooManyChannels : (channel : ℕ) → OwnWord
+  ClientIsGone : (channel : ℕ) → OwnWord
+  Cancelling : (key : Key) → OwnWord
+
+-- its payload: a cancel wants no reply
+abbrev pub spelled_word : OwnWord → List ℕ
+spelled_word Refusal = request_failure
+spelled_word (Closing s) = close s
+spelled_word (NotPermitted s) = open_failure s ADMINISTRATIVELY_PROHIBITED not_permitted
+spelled_word (TooManyChannels s) = open_failure s RESOURCE_SHORTAGE too_many_channels
+spelled_word (ClientIsGone s) = open_failure s CONNECT_FAILED client_is_gone
+spelled_word (Cancelling key) = cancel_forward key
+
+-- the payload is one of them, byte for byte
+abbrev pub IsMasters : List ℕ → Type 0
+IsMasters p = (word : OwnWord) × (p ≡ spelled_word word)
 
 -- the farewell of a row, what a row of nobody sends, and what a row sends in which its client says nothing
 pub record OwnWords (before : List Row) (row : Row) : Type 0 where
-  pub farewell : EachSays IsMasters row.farewell
-  pub up : row.client ≡ 0 → EachSays IsMasters row.up
-  pub unsaid : is_says row.item ≡ false → EachSays IsMasters row.up
+  pub farewell : Every IsMasters row.farewell
+  pub up : row.client ≡ 0 → Every IsMasters row.up
+  pub unsaid : is_says row.item ≡ false → Every IsMasters row.up
 
 -- ---- Numbers: none is held by two channels, and none of the server's is live in two
 
@@ -154,5 +291,7 @@ pub record Kept (setting : Setting) (rows : List Row) : Type 0 where
   pub window : ForEach Window rows
   pub permission : ForEach (Permission setting.policy) rows
   pub asker : ForEach Asker rows
+  pub delivers : ForEach Delivers rows
+  pub passes : ForEach (Passes setting.policy) rows
   pub apart : AtEach NumbersApart rows
   pub unshared : Unshared setting rows

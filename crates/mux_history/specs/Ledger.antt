@@ -54,14 +54,14 @@ sum_of count way (a ∷ acts) = elim (same_side a.0 way) [
   | false ↦ sum_of count way acts
 ]
 
--- the window that the receiver of a direction gave at first
+-- the window that the receiver of a direction gave at first: a channel is confirmed once, so the sum is that one's
 abbrev pub initial : Side → Channel → ℕ
 initial way x = elim (same_side x.by way) [
   | true ↦ sum_of first_window (other_side way) x.acts
   | false ↦ x.window
 ]
 
--- the longest data that the receiver of a direction takes at once
+-- the longest data that the receiver of a direction takes at once: of a confirmation by the same sum
 abbrev pub maximum_of : Side → Channel → ℕ
 maximum_of way x = elim (same_side x.by way) [
   | true ↦ sum_of packet (other_side way) x.acts

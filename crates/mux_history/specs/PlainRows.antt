@@ -1,5 +1,5 @@
 -- Rows that say nothing to the server and hear nothing of it.
-use Rattle.std.specs.Prelude.{◌≡◌, List, [], ◌∷◌}
+use Rattle.std.specs.Prelude.{◌≡◌, []}
 use Rattle.ssh_grammar.specs.Said.{Payload}
 use Rattle.mux_history.specs.Rows.{Row, Item, Says, Heard}
 
@@ -14,8 +14,3 @@ pub record IsPlain (row : Row) : Type 0 where
   pub item : IsPlainItem row.item
   pub up : row.up ≡ []
   pub farewell : row.farewell ≡ []
-
--- each of them
-abbrev pub ArePlain : List Row → Type 0
-ArePlain [] = Unit {0}
-ArePlain (row ∷ before) = IsPlain row × ArePlain before

@@ -22,8 +22,7 @@ AreFresh (row ∷ before) =
     MatchBool (takes_number row) ((carried_number row.up < NUMBERS_END)
     × (holder before (carried_number row.up) ≡ None)) (Unit {0}) × AreFresh before
 
--- a right log for these marks, without the newest items that are left out: none, or after want of memory some of the
--- last event
+-- a right log for these marks without so many of the newest items
 pub record IsRight (setting : Setting) (marks : List Mark) (left : ℕ) (rows : List Row) :
     Type 0 where
   pub determined : rows ≡ log_of setting (drop left (items marks))

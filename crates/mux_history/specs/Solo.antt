@@ -32,9 +32,13 @@ run_end rows = elim (end_of rows) [ None ↦ [] | Some cause ↦ RunEnd cause �
 abbrev pub items_concerning : ℕ → List Row → List Item
 items_concerning k rows = run_end rows ++ items_for (rows_of k rows)
 
--- the unshared connection: the log of these items, where each number is the one that the client says itself
+-- a client alone takes the numbers that it says itself
+abbrev pub alone_setting : Setting → Setting
+alone_setting setting = record setting { choices = TheirOwn }
+
+-- the unshared connection: the log of these items
 abbrev pub solo : Setting → ℕ → List Row → List Row
-solo setting k rows = log_of (record setting { choices = TheirOwn }) (items_concerning k rows)
+solo setting k rows = log_of (alone_setting setting) (items_concerning k rows)
 
 -- ---- agreement up to channel numbers
 

@@ -1,7 +1,7 @@
 -- Isolation over all runs.
 use Rattle.std.proofs.Common.{◌≡◌, ℕ, ◌<◌, List, ◌∙◌, ap, arith, sym, subst, drop}
 use Rattle.mux_history.specs.Journal.{IsLawful, items}
-use Rattle.mux_history.specs.Kept.{AtEach, ForEach, Unshared}
+use Rattle.mux_history.specs.Kept.{AtEach, ForEach, Unshared, sent_for}
 use Rattle.mux_history.specs.Policy.{Policy}
 use Rattle.mux_history.specs.Right.{AreFresh, IsAdmitted, IsRight}
 use Rattle.mux_history.specs.Rows.{Row, rows_of}
@@ -12,11 +12,12 @@ use Rattle.mux_outside.specs.declared.house.HouseReply.{HouseReply}
 use Rattle.mux_outside.specs.declared.mark.Mark.{Mark}
 use Rattle.mux_history.proofs.Marks.{left-lawful}
 use Rattle.mux_history.proofs.OwnRows.{all-of}
-use Rattle.mux_isolation.specs.Bytes.{GivesAlike}
+use Rattle.mux_isolation.specs.Bytes.{GivesAlike, SendsAlike}
 use Rattle.mux_isolation.specs.Renaming.{RowIsRenamed, ViewIsRenamed}
 use Rattle.mux_isolation.proofs.Bytes.{given-alone, given-own}
 use Rattle.mux_isolation.proofs.Logs.{LogFacts, admitted-all, isolated, log-facts, run-end-same}
 use Rattle.mux_isolation.proofs.Renamed.{rows-renamed, views-renamed}
+use Rattle.mux_isolation.proofs.Sendings.{sent-alone}
 use Rattle.mux_isolation.proofs.Unshared.{AllOwn, solo-alone}
 
 positive : (k : ℕ) → 0 < k → k ≡ 0 → ⊥
@@ -48,3 +49,10 @@ module _ (policy : Policy) (pid : ℕ) (picks : List ℕ) (replies : List HouseR
       ∙ (sym (given-alone k lt (rows_of k rows))
       ∙ (sym (ap (given_to k) (solo-alone policy pid (rows_of k rows) (own-known k lt admitted)))
       ∙ sym (ap (given_to k) (run-end-same (by_own policy pid) rows (items_for (rows_of k rows))))))
+
+  -- and what is sent for it
+  pub sends-alone : SendsAlike (by_lists policy pid picks replies) rows
+  sends-alone k lt admitted =
+      sent-alone k (rows_of k rows) (all-of k rows)
+      ∙ (sym (ap (sent_for k) (solo-alone policy pid (rows_of k rows) (own-known k lt admitted)))
+      ∙ sym (ap (sent_for k) (run-end-same (by_own policy pid) rows (items_for (rows_of k rows)))))

@@ -6,7 +6,7 @@ use Rattle.mux_history.specs.Controls.{greeted, said_body}
 use Rattle.mux_history.specs.Forwardings.{current, is_free_at}
 use Rattle.mux_history.specs.Gist.{Act, Carries, Closes, Confirmation, Fails, Gist, Open, Refuses, Requests, Succeeds, Transport, Within, read_gist}
 use Rattle.mux_history.specs.Heard.{Breaks, Dest, Disconnects, ToClient, ToMaster, dest, heard_for, heard_master}
-use Rattle.mux_history.specs.Kept.{Every, Fits, ForEach, IsMasters}
+use Rattle.mux_history.specs.Kept.{Every, Fits, ForEach}
 use Rattle.mux_history.specs.Keys.{is_askable}
 use Rattle.mux_history.specs.Ledger.{breach}
 use Rattle.mux_history.specs.Log.{admits, bare, heard_row, row_of, treat}
@@ -21,7 +21,7 @@ use Rattle.ssh_grammar.specs.declared.fault.Bad.{Bad}
 use Rattle.ssh_grammar.specs.declared.fault.Breach.{Breach}
 use Rattle.ssh_grammar.specs.declared.side.Side.TheVariants.{Up}
 use Rattle.mux_history.specs.declared.why.Why.TheVariants as why
-use Rattle.mux_history.proofs.Harmless.{Harmless, every-append, every-of, harmless-heard, harmless-master}
+use Rattle.mux_history.proofs.Harmless.{Harmless, IsHarmless, every-append, every-of, harmless-each, harmless-heard, harmless-master}
 use Rattle.mux_history.proofs.KeepsApart.{LawfulItem, ok-same}
 use Rattle.mux_history.proofs.Legal.{fits-of}
 use Rattle.mux_history.proofs.Renumbered.{reads-sent, sender-in, word}
@@ -34,7 +34,7 @@ use Rattle.mux_isolation.proofs.Mays.{MaySend, SendsAllowed}
 abbrev SendOk : Policy → List Row → List ℕ → Type 0
 SendOk policy own q = (m : Gist) → read_gist q ≡ Ok m → MaySend policy own m
 
-harmless-may : (policy : Policy) (own : List Row) (m : Gist) → IsMasters m → MaySend policy own m
+harmless-may : (policy : Policy) (own : List Row) (m : Gist) → IsHarmless m → MaySend policy own m
 harmless-may policy own (Within s Closes) h = tt
 harmless-may policy own (Within s Fails) h = tt
 harmless-may policy own (Requests (Cancel key) wants) h = tt
@@ -145,7 +145,7 @@ up-payload policy k own pick p bytes = by_case (read_gist p) refl
     by_case (Ok m) reads = up-said policy k own pick p m bytes reads
 
 up-row : (policy : Policy) (before : List Row) (item : Item) (k : ℕ) (o : Outcome) → Every (SendOk policy (rows_of k before)) o.sent → SendsAllowed policy before (row_of item k o (rows_of k before))
-up-row policy before item k o sent = row-split (SendsAllowed policy before) item k o (rows_of k before) (λ fw parting fate. every-append (SendOk policy (rows_of k before)) o.sent fw sent (all-may policy (rows_of k before) fw parting))
+up-row policy before item k o sent = row-split (SendsAllowed policy before) item k o (rows_of k before) (λ fw parting fate. every-append (SendOk policy (rows_of k before)) o.sent fw sent (all-may policy (rows_of k before) fw (harmless-each fw parting)))
 
 up-bare : (policy : Policy) (before : List Row) (item : Item) (k : ℕ) (o : Outcome) → Every Harmless o.sent → SendsAllowed policy before (bare item k o)
 up-bare policy before item k o sent = every-append (SendOk policy (rows_of k before)) o.sent [] (all-may policy (rows_of k before) o.sent sent) tt

@@ -4,6 +4,8 @@ pub mod Allowed
 pub mod Alone
 pub mod Bounded
 pub mod Bytes
+pub mod Delivered
+pub mod Fulls
 pub mod Heard
 pub mod HeardAlone
 pub mod Logs
@@ -15,6 +17,7 @@ pub mod OwnSayings
 pub mod Renamed
 pub mod Replied
 pub mod Rows
+pub mod Sendings
 pub mod Solos
 pub mod Told
 pub mod Treats

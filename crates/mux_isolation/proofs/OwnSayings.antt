@@ -2,25 +2,25 @@
 use Rattle.std.proofs.Common.{◌≡◌, ℕ, List, [], true, false, sym, subst}
 use Rattle.mux_history.specs.Controls.{is_says}
 use Rattle.mux_history.specs.Heard.{Breaks, Dest, Disconnects, ToClient, ToMaster, dest, heard_for}
-use Rattle.mux_history.specs.Kept.{Every, ForEach, OwnWords}
+use Rattle.mux_history.specs.Kept.{Every, ForEach, IsMasters, OwnWords}
 use Rattle.mux_history.specs.Log.{admits, heard_row, row_of, said_by_client, treat}
 use Rattle.mux_history.specs.Policy.{Policy}
 use Rattle.mux_history.specs.Rows.{Admit, Gone, Heard, Item, Row, Says, rows_of}
 use Rattle.mux_history.specs.Said.{Outcome, silent}
-use Rattle.mux_history.proofs.Harmless.{Harmless, harmless-heard, harmless-master}
+use Rattle.mux_history.proofs.Harmless.{masters-heard, masters-master}
 use Rattle.mux_history.proofs.KeepsApart.{LawfulItem}
 use Rattle.mux_history.proofs.RightLogs.{LogKnown, by-treat}
 use Rattle.mux_history.proofs.Sends.{admits-sent, row-split}
 
-split : (before : List Row) (item : Item) (k : ℕ) (o : Outcome) → (k ≡ 0 → Every Harmless o.sent) → (is_says item ≡ false → Every Harmless o.sent) → OwnWords before (row_of item k o (rows_of k before))
+split : (before : List Row) (item : Item) (k : ℕ) (o : Outcome) → (k ≡ 0 → Every IsMasters o.sent) → (is_says item ≡ false → Every IsMasters o.sent) → OwnWords before (row_of item k o (rows_of k before))
 split before item k o nobody unsaid = row-split (OwnWords before) item k o (rows_of k before) (λ fw parting fate. record { farewell = parting; up = nobody; unsaid = unsaid })
 
-none-sent : (ups : List (List ℕ)) → ups ≡ [] → Every Harmless ups
-none-sent ups none = subst (Every Harmless) (sym none) tt
+none-sent : (ups : List (List ℕ)) → ups ≡ [] → Every IsMasters ups
+none-sent ups none = subst (Every IsMasters) (sym none) tt
 
 heard-own : (before : List Row) (p : List ℕ) (d : Dest) → OwnWords before (heard_row before p d)
-heard-own before p ToMaster = record { farewell = tt; up = λ none. harmless-master p; unsaid = λ none. harmless-master p }
-heard-own before p (ToClient k) = split before (Heard p) k (heard_for (rows_of k before) p) (λ none. harmless-heard (rows_of k before) p) (λ none. harmless-heard (rows_of k before) p)
+heard-own before p ToMaster = record { farewell = tt; up = λ none. masters-master p; unsaid = λ none. masters-master p }
+heard-own before p (ToClient k) = split before (Heard p) k (heard_for (rows_of k before) p) (λ none. masters-heard (rows_of k before) p) (λ none. masters-heard (rows_of k before) p)
 heard-own before p Disconnects = record { farewell = tt; up = λ none. tt; unsaid = λ none. tt }
 heard-own before p (Breaks cause) = record { farewell = tt; up = λ none. tt; unsaid = λ none. tt }
 

@@ -1,6 +1,6 @@
 -- What a reply tells its asker: the reply, and the refusals that waited behind it.
 use Rattle.std.proofs.Common.{◌≡◌, ℕ, zero, suc, ◌+◌, ◌<◌, List, [], ◌∷◌, ◌++◌, length, true, false, Bool, refl, ◌∙◌, ap, arith, map, sym, Option, Some, None, subst, Ok, Err, drop, length-append}
-use Rattle.std.specs.Prelude.{option_map, ◌&&◌, not, Result, replicate, nat_le}
+use Rattle.std.specs.Prelude.{option_map, ◌&&◌, not, Result, replicate}
 use Rattle.std.proofs.Math.Seq.{drop-append_seam}
 use Rattle.std.proofs.lemmas.List.{append-nil}
 use Rattle.std.proofs.lemmas.Option.{slice_get_within}
@@ -14,18 +14,17 @@ use Rattle.mux_history.specs.Policy.{Policy}
 use Rattle.mux_history.specs.Requests.{Ask, answers, answers_to, asker, asks, asks_of, is_reply, is_sent, replies, reply_in, sent_flags, wanted, wanted_by}
 use Rattle.mux_history.specs.Rows.{Goes, Heard, Item, Row, is_end, is_lost, loses, rows_of}
 use Rattle.mux_history.specs.Said.{Outcome, silent}
-use Rattle.mux_history.specs.declared.why.Why.{Why}
 use Rattle.ssh_grammar.specs.Frames.{frame_payload}
 use Rattle.ssh_grammar.specs.Messages.{Global}
 use Rattle.ssh_grammar.specs.Said.{heard}
 use Rattle.ssh_grammar.specs.SpellMessage.{request_failure}
 use Rattle.ssh_grammar.specs.declared.fault.Bad.{Bad}
-use Rattle.mux_history.specs.declared.why.Why.TheVariants as why
 use Rattle.mux_history.proofs.Askers.{Orderly, asker-local, master-asker, success-never}
 use Rattle.mux_history.proofs.Dests.{Asked, dest-err, dest-ok, refuses-asked, succeeds-asked}
 use Rattle.mux_history.proofs.LawfulItems.{client-of, treat-item}
 use Rattle.mux_history.proofs.Readings.{reading-ok}
 use Rattle.mux_history.proofs.RightLogs.{LogKnown, by-treat}
+use Rattle.mux_isolation.proofs.Fulls.{all-fit, drops-if-full, no-overflow}
 
 -- ---- each reply reaches its asker
 
@@ -116,19 +115,6 @@ framed-all zero p = refl
 framed-all (suc n) p = ap (λ xs. frame_payload p ∷ xs) (framed-all n p)
 
 -- ---- the row
-
--- where no frame is left out, all are told
-all-fit : (n : ℕ) (fs : List (List ℕ)) → overflow n fs ≡ None → fitting n fs ≡ fs
-all-fit n [] none = refl
-all-fit n (f ∷ fs) none = by_case (nat_le (n + length f) 33554432) refl none (λ h. all-fit (n + length f) fs h)
-  where
-    by_case : (b : Bool) → nat_le (n + length f) 33554432 ≡ b → (elim b as (λ _. Option Why) [ true ↦ overflow (n + length f) fs | false ↦ Some (why.QueueFull n (length f)) ]) ≡ None → (overflow (n + length f) fs ≡ None → fitting (n + length f) fs ≡ fs) → (elim b as (λ _. List (List ℕ)) [ true ↦ f ∷ fitting (n + length f) fs | false ↦ [] ]) ≡ f ∷ fs
-    by_case true e none ih = ap (λ xs. f ∷ xs) (ih none)
-    by_case false e none ih = cc
-
-no-overflow : (o : Option Why) → fate_with Goes o ≡ Goes → o ≡ None
-no-overflow None e = refl
-no-overflow (Some why) e = cc
 
 module _ (before : List Row) (orderly : Orderly before) (k : ℕ) (p : List ℕ) (reply : reading p is_reply false ≡ true) (asked : Asked before k) (alive : is_lost (rows_of k before) ≡ false) where
   abbrev mute_row : Row
@@ -224,4 +210,4 @@ tells-treat policy pid pick before item orderly p is reply on alive = by_item it
     by_item i e on alive = cc
 
 pub askers-served : (policy : Policy) (pid : ℕ) (rows : List Row) → LogKnown policy pid rows → ForEach Asker rows
-askers-served policy pid rows known = by-treat Asker policy pid (λ pick before item good orderly may makes. record { reaches = serves policy pid pick before item; tells = tells-treat policy pid pick before item orderly }) (λ before stream size. record { reaches = λ p is. cc; tells = λ p is. cc }) rows known.each
+askers-served policy pid rows known = by-treat Asker policy pid (λ pick before item good orderly may makes. record { reaches = serves policy pid pick before item; tells = tells-treat policy pid pick before item orderly; full = drops-if-full policy pid pick before item }) (λ before stream size. record { reaches = λ p is. cc; tells = λ p is. cc; full = λ p is. cc }) rows known.each

@@ -6,7 +6,7 @@ use Rattle.mux_history.specs.Controls.{answers_ask, greeted, house_answer, said_
 use Rattle.mux_history.specs.Forwardings.{Forwarding, current, is_free_at}
 use Rattle.mux_history.specs.Gist.{Act, Carries, Closes, Confirmation, Fails, Gist, Open, Refuses, Requests, Succeeds, Transport, Within, read_gist, reading, recipient_of}
 use Rattle.mux_history.specs.Heard.{Breaks, Dest, Disconnects, ToClient, ToMaster, dest, dest_gist, for_client, for_lost, for_master, heard_for, heard_gist, heard_master, renamed}
-use Rattle.mux_history.specs.Kept.{Every, Fits, ForEach, IsMasters}
+use Rattle.mux_history.specs.Kept.{Every, Fits, ForEach}
 use Rattle.mux_history.specs.Keys.{is_askable}
 use Rattle.mux_history.specs.Ledger.{breach}
 use Rattle.mux_history.specs.Log.{admits, all_told, bare, fitting, goes, heard_row, new_answers, open_matters, row_of, treat}
@@ -32,7 +32,7 @@ use Rattle.ssh_grammar.specs.declared.fault.BadControl.TheVariants as bad_contro
 use Rattle.mux_history.proofs.Apart.{AreApart}
 use Rattle.mux_history.proofs.Dests.{Legal, Offered, dest-ok, offered, reached, within-legal}
 use Rattle.mux_history.proofs.Finds.{Each, filter-no, filter-yes, find-no, find-yes}
-use Rattle.mux_history.proofs.Harmless.{every-append, harmless-failure}
+use Rattle.mux_history.proofs.Harmless.{IsHarmless, every-append, harmless-failure}
 use Rattle.mux_history.proofs.KeepsApart.{ok-same}
 use Rattle.mux_history.proofs.Legal.{fits-of}
 use Rattle.mux_history.proofs.Renumbered.{read-renamed, readdressed}
@@ -46,7 +46,7 @@ abbrev pub TellOk : List Row → ℕ → List ℕ → Type 0
 TellOk before k frame = (m : Gist) → read_gist (drop 5 frame) ≡ Ok m → MayTell before k m
 
 module _ (before : List Row) (k : ℕ) where
-  harmless-tell : (m : Gist) → IsMasters m → MayTell before k m
+  harmless-tell : (m : Gist) → IsHarmless m → MayTell before k m
   harmless-tell (Within s Closes) h = tt
   harmless-tell (Within s Fails) h = tt
   harmless-tell (Within s act) h = absurd h

@@ -11,7 +11,7 @@ use Rattle.mux_history.specs.Ledger.{room, unanswered}
 use Rattle.mux_history.specs.Farewell.{has_open_matters}
 use Rattle.mux_history.specs.Heard.{ToClient, dest}
 use Rattle.mux_history.specs.Log.{admits, makes_row, treat}
-use Rattle.mux_history.specs.Kept.{AtEach, ForEach, Window, Permission, Asker, OwnWords, Unshared, Kept}
+use Rattle.mux_history.specs.Kept.{AtEach, ForEach, Window, Permission, Asker, Delivers, Passes, OwnWords, Unshared, Kept}
 use Rattle.mux_history.specs.Laws.{IsOf, OverRight}
 use Rattle.mux_isolation.specs.View.{room_in, unanswered_in, view_of, way_of}
 
@@ -31,7 +31,15 @@ PermissionsAreKept = OverRight (λ setting rows. ForEach (Permission setting.pol
 abbrev pub AskersAreServed : Type 0
 AskersAreServed = OverRight (λ setting rows. ForEach Asker rows)
 
--- what the master sends of its own carries no client's data
+-- what the server says to a client's channel or forwarding reaches that client, unless the run ends or its queue is full
+abbrev pub MessagesAreDelivered : Type 0
+MessagesAreDelivered = OverRight (λ setting rows. ForEach Delivers rows)
+
+-- what a client says goes up as it was said, but for a number of its own, and wherever it may
+abbrev pub MessagesAreSent : Type 0
+MessagesAreSent = OverRight (λ setting rows. ForEach (Passes setting.policy) rows)
+
+-- what the master sends of its own is, byte for byte, one of its few words: no client's data
 abbrev pub MasterSaysLittle : Type 0
 MasterSaysLittle = OverRight (λ setting rows. ForEach OwnWords rows)
 

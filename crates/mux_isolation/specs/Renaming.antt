@@ -2,19 +2,14 @@
 use Rattle.std.specs.Prelude.{ℕ, ◌≡◌, ◌<◌, List, ◌∷◌, ◌++◌, length, map}
 use Rattle.mux_history.specs.Rows.{Row, Item, rows_of}
 use Rattle.mux_history.specs.Channels.{own_of}
-use Rattle.mux_history.specs.Choices.{TheirOwn}
 use Rattle.mux_history.specs.Log.{Setting, log_of, more_of}
 use Rattle.mux_history.specs.Right.{IsAdmitted}
-use Rattle.mux_history.specs.Solo.{item_for, items_for, own_ups}
+use Rattle.mux_history.specs.Solo.{alone_setting, item_for, items_for, own_ups}
 use Rattle.mux_history.specs.Kept.{AtEach, ForEach}
 use Rattle.mux_history.specs.Laws.{OverRight}
 use Rattle.mux_isolation.specs.View.{ChannelView, View, view_of}
 
--- a client alone takes the numbers that it says itself
-abbrev pub alone_setting : Setting → Setting
-alone_setting setting = record setting { choices = TheirOwn }
-
--- its log as far as these rows of it go
+-- the log of a client alone, as far as these rows of it go
 abbrev pub log_alone : Setting → List Row → List Row
 log_alone setting own = log_of (alone_setting setting) (items_for own)
 

@@ -1,7 +1,7 @@
-ghost use Rattle.mux_isolation.specs.Laws.{Isolation, WindowsAreKept, PermissionsAreKept, AskersAreServed, MasterSaysLittle, AllIsKept};
+ghost use Rattle.mux_isolation.specs.Laws.{Isolation, WindowsAreKept, PermissionsAreKept, AskersAreServed, MessagesAreDelivered, MessagesAreSent, MasterSaysLittle, AllIsKept};
 ghost use Rattle.mux_isolation.specs.Laws.{QueuesAreBounded, ViewsShowRooms, IdleRowsLeaveViews, CutsKeepViews, RowsFollowViews};
 ghost use Rattle.mux_isolation.specs.Renaming.{RowsAreRenamed, ViewsAreRenamed, CutsCutItems};
-ghost use Rattle.mux_isolation.specs.Bytes.{BytesAreUnshared, TakesAreUnshared};
+ghost use Rattle.mux_isolation.specs.Bytes.{BytesAreUnshared, TakesAreUnshared, SendsAreUnshared};
 
 /// What an admitted client is told and what is sent for it is what an unshared connection gives from its
 /// own bytes and the server's messages for its channels, up to the numbers that stand for its own.
@@ -18,6 +18,12 @@ pub fn bytes_are_unshared()
 /// the front of what waited.
 pub fn takes_are_unshared()
     ensures { TakesAreUnshared }
+{}
+
+/// Payload by payload, what is sent for an admitted client is what its unshared connection sends, but for the
+/// numbers that stand for its own.
+pub fn sends_are_unshared()
+    ensures { SendsAreUnshared }
 {}
 
 /// Row by row: what a client's next item does in its unshared connection is what it does among others, but
@@ -48,13 +54,25 @@ pub fn permissions_are_kept()
 {}
 
 /// Each reply that doesn't break the run is a row of the client that asked first, and stands next among
-/// that client's answers.
+/// that client's answers, unless the client was lost before or its queue is full.
 pub fn askers_are_served()
     ensures { AskersAreServed }
 {}
 
-/// What the master sends that no client said, for nobody, in farewells and in answer to the server, is a
-/// refused request, a failed open, a close or a cancel.
+/// What the server says to a channel, and each open for a live forwarding, is told its client with nothing
+/// changed but the recipient; and nothing that the server says drops a client but a full queue.
+pub fn messages_are_delivered()
+    ensures { MessagesAreDelivered }
+{}
+
+/// What a client says goes up with nothing changed but a number of its own, or not at all; and it goes up
+/// where it is of a known kind, permitted, within the limits and allowed by its channel's account.
+pub fn messages_are_sent()
+    ensures { MessagesAreSent }
+{}
+
+/// What the master sends that no client said, for nobody, in farewells and in answer to the server, is, byte
+/// for byte, a refused request, a failed open with a text of its own, a close, or a cancel without reply.
 pub fn master_says_little()
     ensures { MasterSaysLittle }
 {}
@@ -64,8 +82,8 @@ pub fn queues_are_bounded()
     ensures { QueuesAreBounded }
 {}
 
-/// Every right log keeps all that a run promises of its rows: windows, permissions, askers, numbers apart,
-/// and the unshared connection of each admitted client.
+/// Every right log keeps all that a run promises of its rows: windows, permissions, askers, what is delivered
+/// and what goes up, numbers apart, and the unshared connection of each admitted client.
 pub fn all_is_kept()
     ensures { AllIsKept }
 {}

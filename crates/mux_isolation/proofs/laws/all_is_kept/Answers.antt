@@ -2,6 +2,7 @@
 use Rattle.mux_history.proofs.RightLogs.{right-known, numbers-apart}
 use Rattle.mux_isolation.proofs.AllRuns.{isolation}
 use Rattle.mux_isolation.proofs.Allowed.{ups-allowed}
+use Rattle.mux_isolation.proofs.Delivered.{delivered, passed}
 use Rattle.mux_isolation.proofs.Told.{downs-allowed}
 use Rattle.mux_isolation.proofs.Mays.{permissions, windows}
 use Rattle.mux_isolation.proofs.Replied.{askers-served}
@@ -14,6 +15,8 @@ returns c = λ policy pid picks given marks left rows lawful right.
       window = windows policy rows (ups-allowed policy pid rows known) (downs-allowed policy pid rows known);
       permission = permissions policy rows (ups-allowed policy pid rows known) (downs-allowed policy pid rows known);
       asker = askers-served policy pid rows known;
+      delivers = delivered policy pid rows known;
+      passes = passed policy pid rows known;
       apart = numbers-apart policy pid picks given marks left rows lawful right;
       unshared = isolation policy pid picks given marks left rows lawful right;
     }

@@ -1,0 +1,286 @@
+-- What the server says to a client's channel or forwarding is told as it came; what a client says goes up as it was said.
+use Rattle.std.proofs.Common.{◌≡◌, ℕ, List, [], ◌∷◌, ◌++◌, length, true, false, Bool, refl, ◌∙◌, ap, map, sym, Option, Some, None, subst, Ok, Err, drop, inl, inr}
+use Rattle.std.specs.Prelude.{MatchBool, Result, not, ◌&&◌, nat_lt, codes}
+use Rattle.std.proofs.Math.Seq.{drop-append_seam}
+use Rattle.std.proofs.lemmas.List.{append-nil}
+use Rattle.mux_history.specs.Channels.{Channel, channels_of, held_of, holder, live_in, own_of, with_own}
+use Rattle.mux_history.specs.Forwardings.{Forwarding, current, live_at}
+use Rattle.mux_history.specs.Gist.{Act, Confirmation, Fails, Gist, Open, Requests, Within, read_gist, reading, recipient_of, sender_of}
+use Rattle.mux_history.specs.Heard.{Breaks, Dest, Disconnects, ToClient, ToMaster, dest, dest_confirmation, dest_gist, dest_open, dest_within, for_client, for_lost, heard_for, heard_gist, pending_open, renamed}
+use Rattle.mux_history.specs.Kept.{Delivers, FailsOpen, ForEach, GoesUp, MustAsk, MustGoUp, MustOpen, Passes, Reaches, ReachesChannel, ReachesForwarding}
+use Rattle.mux_history.specs.Keys.{is_askable}
+use Rattle.mux_history.specs.Ledger.{breach}
+use Rattle.mux_history.specs.Log.{all_told, bare, fate_with, fitting, goes, heard_row, new_answers, overflow, row_of, treat}
+use Rattle.mux_history.specs.Pending.{waiting_down}
+use Rattle.mux_history.specs.Policy.{Policy, permits}
+use Rattle.mux_history.specs.Requests.{answers, answers_to, is_reply, replies, reply_in, wanted}
+use Rattle.mux_history.specs.Rows.{Goes, Heard, Item, Row, Says, is_end, is_lost, rows_of}
+use Rattle.mux_history.specs.Said.{Outcome, drops, fails_open, is_full_of_asks, on_breach, on_confirmed, on_unused, on_waiting, said_gist, said_open, said_payload, said_request, sends, sends_as, sends_if, sends_open, silent, tells}
+use Rattle.mux_outside.specs.declared.house.HouseReply.{HouseReply}
+use Rattle.ssh_grammar.specs.Frames.{frame_payload}
+use Rattle.ssh_grammar.specs.Messages.{Cancel, Direct, Forward, Forwarded, Global, KeepAlive, Key, Session}
+use Rattle.ssh_grammar.specs.Said.{Payload}
+use Rattle.ssh_grammar.specs.SpellMessage.{open_failure, with_recipient, with_sender}
+use Rattle.ssh_grammar.specs.declared.fault.Bad.{Bad}
+use Rattle.ssh_grammar.specs.declared.fault.Breach.{Breach}
+use Rattle.ssh_grammar.specs.declared.side.Side.TheVariants.{Down}
+use Rattle.mux_history.specs.declared.broke.Break.TheVariants as broke
+use Rattle.mux_history.specs.declared.why.Why.TheVariants as why
+use Rattle.mux_history.proofs.Apart.{AreApart}
+use Rattle.mux_history.proofs.Dests.{Offered, Reached, dest-ok, offered, reached}
+use Rattle.mux_history.proofs.KeepsApart.{ok-same}
+use Rattle.mux_history.proofs.LawfulItems.{client-of, treat-item}
+use Rattle.mux_history.proofs.Readings.{reading-err, reading-ok}
+use Rattle.mux_history.proofs.RightLogs.{LogKnown, by-treat}
+use Rattle.mux_history.proofs.Sends.{Sent, sent-by}
+use Rattle.mux_isolation.proofs.Fulls.{all-fit, drops-if-full, heard-goes, no-overflow, row-whole}
+use Rattle.mux_isolation.proofs.Named.{Met, holder-local, met, number-met}
+
+-- ---- what a row of the server's payload tells
+
+-- no answer comes with it, unless it is a reply
+none-new : (k : ℕ) (p : List ℕ) (o : Outcome) (own : List Row) → reading p is_reply false ≡ false → new_answers (bare (Heard p) k o) own ≡ []
+none-new k p o own other =
+    ap (λ a. map frame_payload (drop (length (answers own)) a)) (same ∙ sym (append-nil (answers own)))
+    ∙ ap (map frame_payload) (drop-append_seam (answers own) [])
+  where
+    none_in : reply_in (Heard p) ≡ []
+    none_in = ap (λ b. elim b as (λ _. List (List ℕ)) [ true ↦ p ∷ [] | false ↦ [] ]) other
+
+    same : answers (bare (Heard p) k o ∷ own) ≡ answers own
+    same =
+        ap (λ w. answers_to w (replies own ++ reply_in (Heard p))) (append-nil (wanted own))
+        ∙ (ap (λ r. answers_to (wanted own) (replies own ++ r)) none_in
+        ∙ ap (answers_to (wanted own)) (append-nil (replies own)))
+
+-- what the message does is told, where the row goes on
+heard-told : (k : ℕ) (p : List ℕ) (own : List Row) → reading p is_reply false ≡ false → (row_of (Heard p) k (heard_for own p) own).fate ≡ Goes → (row_of (Heard p) k (heard_for own p) own).down ≡ (heard_for own p).told
+heard-told k p own other = row-whole (λ row. row.fate ≡ Goes → row.down ≡ (heard_for own p).told) (Heard p) k (heard_for own p) own fits
+  where
+    no_more : (b : Bool) → (elim b as (λ _. List (List ℕ)) [ true ↦ (heard_for own p).told ++ new_answers (bare (Heard p) k (heard_for own p)) own | false ↦ (heard_for own p).told ]) ≡ (heard_for own p).told
+    no_more true = ap (λ fs. (heard_for own p).told ++ fs) (none-new k p (heard_for own p) own other) ∙ append-nil (heard_for own p).told
+    no_more false = refl
+
+    fits : (fw : List (List ℕ)) → fate_with (heard_for own p).ends (overflow (waiting_down own) (all_told (bare (Heard p) k (heard_for own p)) own)) ≡ Goes → fitting (waiting_down own) (all_told (bare (Heard p) k (heard_for own p)) own) ≡ (heard_for own p).told
+    fits fw going =
+        all-fit (waiting_down own) (all_told (bare (Heard p) k (heard_for own p)) own) (no-overflow (overflow (waiting_down own) (all_told (bare (Heard p) k (heard_for own p)) own)) (sym (ap (λ fate. fate_with fate (overflow (waiting_down own) (all_told (bare (Heard p) k (heard_for own p)) own))) (heard-goes own p)) ∙ going))
+        ∙ no_more (goes (heard_for own p).ends && not (is_lost own))
+
+-- of a client that is not lost
+alive-does : (own : List Row) (p : List ℕ) (m : Gist) → read_gist p ≡ Ok m → is_lost own ≡ false → heard_for own p ≡ for_client own p m
+alive-does own p m reads alive =
+    ap (λ r. elim r as (λ _. Outcome) [ Err bad ↦ silent | Ok m ↦ heard_gist own p m ]) reads
+    ∙ ap (λ b. elim b as (λ _. Outcome) [ true ↦ for_lost own m | false ↦ for_client own p m ]) alive
+
+sent-up : (k : ℕ) (p : List ℕ) (own : List Row) → (row_of (Heard p) k (heard_for own p) own).up ≡ (heard_for own p).sent
+sent-up k p own = row-whole (λ row. row.up ≡ (heard_for own p).sent) (Heard p) k (heard_for own p) own (λ fw. refl)
+
+-- ---- to a client
+
+some-same : {X : Type 0} (x y : X) → Some x ≡ Some y → x ≡ y
+some-same x y e = cc
+
+module _ (before : List Row) (good : AreApart (channels_of before)) (p : List ℕ) (k : ℕ) where
+  mine : (row_of (Heard p) k (heard_for (rows_of k before) p) (rows_of k before)).client ≡ k
+  mine = client-of (Heard p) k (heard_for (rows_of k before) p) (rows_of k before)
+
+  other-reads : (m : Gist) → read_gist p ≡ Ok m → is_reply m ≡ false → reading p is_reply false ≡ false
+  other-reads m reads other = reading-ok p m is_reply false reads ∙ other
+
+  channel-reached : (m : Gist) (n : ℕ) → read_gist p ≡ Ok m → recipient_of m ≡ Some n → is_reply m ≡ false → for_client (rows_of k before) p m ≡ tells (frame_payload (renamed (rows_of k before) p (Some n))) → dest before p ≡ ToClient k → ReachesChannel before (heard_row before p (ToClient k)) p n
+  channel-reached m n reads some other does to = record {
+    channel = at.channel;
+    held = at.is;
+    client = mine ∙ sym at.client;
+    number = own.c;
+    named = ap (λ (x : Channel). x.own) (some-same at.channel own.channel (sym (holder-local before good k n at.channel at.is at.client) ∙ own.is)) ∙ own.owns;
+    told = λ alive going.
+        let here : is_lost (rows_of k before) ≡ false = subst (λ (j : ℕ). is_lost (rows_of j before) ≡ false) mine alive in
+        heard-told k p (rows_of k before) (other-reads m reads other) going
+        ∙ (ap (λ (o : Outcome). o.told) (alive-does (rows_of k before) p m reads here ∙ does)
+        ∙ ap (λ c. frame_payload (with_recipient p c) ∷ []) (number-met before good k n own));
+  }
+    where
+      at : Reached before n k
+      at = reached before m n k some (sym (dest-ok before p m reads) ∙ to)
+
+      own : Met (rows_of k before) n
+      own = met before good k n at
+
+  open-reached : (key : Key) (s w max : ℕ) (f : Forwarding) → read_gist p ≡ Ok (Open (Forwarded key) s w max) → dest before p ≡ ToClient k → live_at before key ≡ Some f → ReachesForwarding before (heard_row before p (ToClient k)) p s f
+  open-reached key s w max f reads to live = record {
+    client = mine ∙ (sym offer.client ∙ ap (λ (x : Forwarding). x.client) same);
+    told = λ alive going. subst (λ (j : ℕ). MatchBool (nat_lt (length (held_of (rows_of j before))) 256) ((heard_row before p (ToClient k)).down ≡ frame_payload p ∷ []) (FailsOpen (heard_row before p (ToClient k)) s)) (sym mine)
+        (by_room (subst (λ (j : ℕ). is_lost (rows_of j before) ≡ false) mine alive) going (nat_lt (length (held_of (rows_of k before))) 256) refl);
+  }
+    where
+      offer : Offered before s (Forwarded key) k
+      offer = offered before s (Forwarded key) k (sym (dest-ok before p (Open (Forwarded key) s w max) reads) ∙ to)
+
+      same_key : key ≡ offer.key
+      same_key = let e : Forwarded key ≡ Forwarded offer.key = offer.is in cc
+
+      same : offer.forwarding ≡ f
+      same = some-same offer.forwarding f (sym offer.live ∙ (ap (live_at before) (sym same_key) ∙ live))
+
+      by_room : is_lost (rows_of k before) ≡ false → (heard_row before p (ToClient k)).fate ≡ Goes → (b : Bool) → nat_lt (length (held_of (rows_of k before))) 256 ≡ b → MatchBool b ((heard_row before p (ToClient k)).down ≡ frame_payload p ∷ []) (FailsOpen (heard_row before p (ToClient k)) s)
+      by_room alive going true e = tells_it ∙ ap (λ (o : Outcome). o.told) (does true e)
+        where
+          tells_it : (heard_row before p (ToClient k)).down ≡ (heard_for (rows_of k before) p).told
+          tells_it = heard-told k p (rows_of k before) (other-reads (Open (Forwarded key) s w max) reads refl) going
+
+          does : (b : Bool) → nat_lt (length (held_of (rows_of k before))) 256 ≡ b → heard_for (rows_of k before) p ≡ (elim b as (λ _. Outcome) [ true ↦ tells (frame_payload p) | false ↦ sends (open_failure s 4 (codes "too many channels")) ])
+          does b e = alive-does (rows_of k before) p (Open (Forwarded key) s w max) reads alive ∙ ap (λ b. elim b as (λ _. Outcome) [ true ↦ tells (frame_payload p) | false ↦ sends (open_failure s 4 (codes "too many channels")) ]) e
+      by_room alive going false e = record { told = tells_it ∙ ap (λ (o : Outcome). o.told) does; sent = sent-up k p (rows_of k before) ∙ ap (λ (o : Outcome). o.sent) does }
+        where
+          tells_it : (heard_row before p (ToClient k)).down ≡ (heard_for (rows_of k before) p).told
+          tells_it = heard-told k p (rows_of k before) (other-reads (Open (Forwarded key) s w max) reads refl) going
+
+          does : heard_for (rows_of k before) p ≡ sends (open_failure s 4 (codes "too many channels"))
+          does = alive-does (rows_of k before) p (Open (Forwarded key) s w max) reads alive ∙ ap (λ b. elim b as (λ _. Outcome) [ true ↦ tells (frame_payload p) | false ↦ sends (open_failure s 4 (codes "too many channels")) ]) e
+
+  client-reached : (m : Gist) → read_gist p ≡ Ok m → dest before p ≡ ToClient k → Reaches before (heard_row before p (ToClient k)) p m
+  client-reached (Open (Forwarded key) s w max) reads to = λ f live. open-reached key s w max f reads to live
+  client-reached (Confirmation n s w max) reads to = channel-reached (Confirmation n s w max) n reads refl refl refl to
+  client-reached (Within n act) reads to = channel-reached (Within n act) n reads refl refl refl to
+  client-reached m reads to = tt
+
+-- ---- to the master goes no message of a channel, and no open for a forwarding that is live
+
+awaited-never : (before : List Row) (n : ℕ) (d : Channel → Dest) → ((x : Channel) → d x ≡ ToMaster → ⊥) → (o : Option Channel) → (elim o as (λ _. Dest) [ None ↦ Breaks (broke.NotPending n) | Some x ↦ d x ]) ≡ ToMaster → ⊥
+awaited-never before n d never None e = cc
+awaited-never before n d never (Some x) e = never x e
+
+confirmation-never : (before : List Row) (n s : ℕ) → dest_confirmation before n s ≡ ToMaster → ⊥
+confirmation-never before n s = awaited-never before n (λ x. elim (live_in before s) as (λ _. Dest) [ Some y ↦ Breaks (broke.NumberInUse s) | None ↦ ToClient x.client ]) (λ x e. by_live x (live_in before s) e) (pending_open before n)
+  where
+    by_live : (x : Channel) (o : Option Channel) → (elim o as (λ _. Dest) [ Some y ↦ Breaks (broke.NumberInUse s) | None ↦ ToClient x.client ]) ≡ ToMaster → ⊥
+    by_live x (Some y) e = cc
+    by_live x None e = cc
+
+within-never : (before : List Row) (n : ℕ) (act : Act) → dest_within before n act ≡ ToMaster → ⊥
+within-never before n Fails = awaited-never before n (λ x. ToClient x.client) (λ x e. to_client x e) (pending_open before n)
+  where
+    to_client : (x : Channel) → ToClient x.client ≡ ToMaster → ⊥
+    to_client x e = cc
+within-never before n act = by_holder (holder before n)
+  where
+    by_breach : (x : Channel) (o : Option Breach) → (elim o as (λ _. Dest) [ Some b ↦ Breaks (broke.Channel n b) | None ↦ ToClient x.client ]) ≡ ToMaster → ⊥
+    by_breach x (Some b) e = cc
+    by_breach x None e = cc
+
+    by_holder : (o : Option Channel) → (elim o as (λ _. Dest) [ None ↦ Breaks (broke.NoChannel n) | Some x ↦ elim (breach Down act x) as (λ _. Dest) [ Some b ↦ Breaks (broke.Channel n b) | None ↦ ToClient x.client ] ]) ≡ ToMaster → ⊥
+    by_holder None e = cc
+    by_holder (Some x) e = by_breach x (breach Down act x) e
+
+open-never : (before : List Row) (s : ℕ) (key : Key) (f : Forwarding) → live_at before key ≡ Some f → dest_open before s (Forwarded key) ≡ ToMaster → ⊥
+open-never before s key f live = by_live (live_in before s)
+  where
+    by_at : (o : Option Forwarding) → live_at before key ≡ o → (elim o as (λ _. Dest) [ Some g ↦ ToClient g.client | None ↦ ToMaster ]) ≡ ToMaster → ⊥
+    by_at (Some g) at e = cc
+    by_at None at e = let bad : Some f ≡ None = sym live ∙ at in absurd (let h = bad in cc)
+
+    by_live : (o : Option Channel) → (elim o as (λ _. Dest) [ Some x ↦ Breaks (broke.NumberInUse s) | None ↦ elim (live_at before key) as (λ _. Dest) [ Some g ↦ ToClient g.client | None ↦ ToMaster ] ]) ≡ ToMaster → ⊥
+    by_live (Some x) e = cc
+    by_live None e = by_at (live_at before key) refl e
+
+master-reached : (before : List Row) (row : Row) (p : List ℕ) (m : Gist) → dest_gist before m ≡ ToMaster → Reaches before row p m
+master-reached before row p (Open (Forwarded key) s w max) to = λ f live. absurd (open-never before s key f live to)
+master-reached before row p (Confirmation n s w max) to = absurd (confirmation-never before n s to)
+master-reached before row p (Within n act) to = absurd (within-never before n act to)
+master-reached before row p m to = tt
+
+ended-never : true ≡ false → ⊥
+ended-never e = cc
+
+heard-reached : (before : List Row) → AreApart (channels_of before) → (p : List ℕ) (m : Gist) → read_gist p ≡ Ok m → (d : Dest) → dest before p ≡ d → is_end (heard_row before p d).fate ≡ false → Reaches before (heard_row before p d) p m
+heard-reached before good p m reads ToMaster to on = master-reached before (heard_row before p ToMaster) p m (sym (dest-ok before p m reads) ∙ to)
+heard-reached before good p m reads (ToClient k) to on = client-reached before good p k m reads to
+heard-reached before good p m reads Disconnects to on = absurd (ended-never on)
+heard-reached before good p m reads (Breaks cause) to on = absurd (ended-never on)
+
+reaches-treat : (policy : Policy) (pid pick : ℕ) (before : List Row) (item : Item) → AreApart (channels_of before) → (p : List ℕ) (m : Gist) → (treat policy pid pick before item).item ≡ Heard p → read_gist p ≡ Ok m → is_end (treat policy pid pick before item).fate ≡ false → Reaches before (treat policy pid pick before item) p m
+reaches-treat policy pid pick before item good p m is reads on = by_item item (sym (treat-item policy pid pick before item) ∙ is) on
+  where
+    by_item : (i : Item) → i ≡ Heard p → is_end (treat policy pid pick before i).fate ≡ false → Reaches before (treat policy pid pick before i) p m
+    by_item (Heard q) e on = let same : p ≡ q = cc in subst (λ (r : List ℕ). is_end (heard_row before r (dest before r)).fate ≡ false → Reaches before (heard_row before r (dest before r)) p m) same (heard-reached before good p m reads (dest before p) refl) on
+    by_item i e on = absurd (let h = e in cc)
+
+pub delivered : (policy : Policy) (pid : ℕ) (rows : List Row) → LogKnown policy pid rows → ForEach Delivers rows
+delivered policy pid rows known = by-treat Delivers policy pid (λ pick before item good orderly lawful makes. record { reaches = reaches-treat policy pid pick before item good; full = drops-if-full policy pid pick before item }) (λ before stream size. record { reaches = λ p m is. cc; full = λ p is. cc }) rows known.each
+
+-- ---- what a client says
+
+goes-up : (p : List ℕ) (own : List Row) (pick : ℕ) (m : Gist) (ups : List (List ℕ)) → Sent own pick p m ups → GoesUp ups p (sender_of m)
+goes-up p own pick m ups (inl none) = by_own (sender_of m)
+  where
+    by_own : (o : Option ℕ) → GoesUp ups p o
+    by_own None = inl none
+    by_own (Some c) = inl none
+goes-up p own pick m ups (inr (inl plain)) = subst (GoesUp ups p) (sym plain.unowned) (inr plain.up)
+goes-up p own pick m ups (inr (inr new)) = subst (GoesUp ups p) (sym new.owned) (inr (pick, new.up))
+
+-- a channel is opened
+must-open : (own : List Row) (pick : ℕ) (p : List ℕ) (c : ℕ) (o : Outcome) → (nat_lt (length (held_of own)) 256 ≡ true → o.sent ≡ with_sender p pick ∷ []) → MustOpen own (on_unused c o (with_own own c)).sent p c
+must-open own pick p c o opens unused few = (pick, ap (λ x. (on_unused c o x).sent) unused ∙ opens few)
+
+room-left : (own : List Row) (pick : ℕ) (p : List ℕ) (c : ℕ) → nat_lt (length (held_of own)) 256 ≡ true → (sends_open own pick p c).sent ≡ with_sender p pick ∷ []
+room-left own pick p c few = ap (λ b. (elim b as (λ _. Outcome) [ true ↦ sends_as pick p | false ↦ fails_open c 4 (codes "too many channels") ]).sent) few
+
+-- a request is asked
+must-ask : (policy : Policy) (k : ℕ) (own : List Row) (p : List ℕ) (what : Global) (wants : Bool) → (said_request policy k own p what wants).sent ≡ p ∷ [] → MustAsk own (elim (is_full_of_asks wants own) as (λ _. Outcome) [ true ↦ drops (why.TooManyAsks 1024) | false ↦ said_request policy k own p what wants ]).sent p wants
+must-ask policy k own p what wants asked full = ap (λ b. (elim b as (λ _. Outcome) [ true ↦ drops (why.TooManyAsks 1024) | false ↦ said_request policy k own p what wants ]).sent) full ∙ asked
+
+all-three : (a b c : Bool) → a ≡ true → b ≡ true → c ≡ true → (a && (b && c)) ≡ true
+all-three true true true e f g = refl
+all-three false b c e f g = cc
+all-three true false c e f g = cc
+all-three true true false e f g = cc
+
+must-go : (policy : Policy) (k : ℕ) (own : List Row) (pick : ℕ) (p : List ℕ) (m : Gist) → MustGoUp policy k own (said_gist policy k own pick p m).sent p m
+must-go policy k own pick p (Open Session c w max) = must-open own pick p c (sends_open own pick p c) (room-left own pick p c)
+must-go policy k own pick p (Open (Direct key) c w max) = λ permitted. must-open own pick p c (said_open policy own pick p c (Direct key)) (λ few. ap (λ b. (elim b as (λ _. Outcome) [ true ↦ sends_open own pick p c | false ↦ fails_open c 1 (codes "not permitted") ]).sent) permitted ∙ room-left own pick p c few)
+must-go policy k own pick p (Requests (Forward key) true) = λ askable permitted few. must-ask policy k own p (Forward key) true (ap (λ b. (sends_if b p).sent) (all-three (is_askable key) (permits policy.listens key) (nat_lt (length (current own)) 64) askable permitted few))
+must-go policy k own pick p (Requests (Cancel key) wants) = λ free. must-ask policy k own p (Cancel key) wants (ap (λ b. (sends_if b p).sent) free)
+must-go policy k own pick p (Requests KeepAlive wants) = must-ask policy k own p KeepAlive wants refl
+must-go policy k own pick p (Confirmation s c w max) = λ x waits unused. (pick, ap (λ o. (on_waiting s (on_unused c (sends_as pick p) (with_own own c)) o).sent) waits ∙ ap (λ o. (on_unused c (sends_as pick p) o).sent) unused)
+must-go policy k own pick p (Within s Fails) = λ x waits. ap (λ o. (on_waiting s (sends p) o).sent) waits
+must-go policy k own pick p (Within s act) = λ x confirmed fine. ap (λ o. (on_confirmed p s act o).sent) confirmed ∙ ap (λ o. (on_breach p s o).sent) fine
+must-go policy k own pick p m = tt
+
+-- of a payload
+record SaidUp (policy : Policy) (k : ℕ) (own : List Row) (p : List ℕ) (client : ℕ) (ups : List (List ℕ)) : Type 0 where
+  mine : client ≡ k
+  unchanged : GoesUp ups p (reading p sender_of None)
+  must : (m : Gist) → read_gist p ≡ Ok m → MustGoUp policy k own ups p m
+
+payload-up : (policy : Policy) (k : ℕ) (own : List Row) (pick : ℕ) (p : List ℕ) → SaidUp policy k own p k (said_payload policy k own pick p).sent
+payload-up policy k own pick p = by_case (read_gist p) refl
+  where
+    never : (r : Result Gist Bad) (bad : Bad) (m : Gist) → r ≡ Err bad → r ≡ Ok m → ⊥
+    never r bad m e f = cc
+
+    by_case : (r : Result Gist Bad) → read_gist p ≡ r → SaidUp policy k own p k (elim r as (λ _. Outcome) [ Err bad ↦ drops (why.BadMessage bad) | Ok m ↦ said_gist policy k own pick p m ]).sent
+    by_case (Err bad) reads = record {
+      mine = refl;
+      unchanged = subst (GoesUp [] p) (sym (reading-err p bad sender_of None reads)) (inl refl);
+      must = λ m reads'. absurd (never (read_gist p) bad m reads reads');
+    }
+    by_case (Ok m) reads = record {
+      mine = refl;
+      unchanged = subst (GoesUp (said_gist policy k own pick p m).sent p) (sym (reading-ok p m sender_of None reads)) (goes-up p own pick m (said_gist policy k own pick p m).sent (sent-by policy k own pick p m));
+      must = λ m' reads'. subst (MustGoUp policy k own (said_gist policy k own pick p m).sent p) (ok-same p m m' reads reads') (must-go policy k own pick p m);
+    }
+
+passes-treat : (policy : Policy) (pid pick : ℕ) (before : List Row) (item : Item) (k : ℕ) (p : List ℕ) (given : Option HouseReply) → (treat policy pid pick before item).item ≡ Says k (Payload p) given → SaidUp policy k (rows_of k before) p (treat policy pid pick before item).client (treat policy pid pick before item).up
+passes-treat policy pid pick before item k p given is = subst (λ (i : Item). SaidUp policy k (rows_of k before) p (treat policy pid pick before i).client (treat policy pid pick before i).up) (sym (sym (treat-item policy pid pick before item) ∙ is)) (row-whole (λ row. SaidUp policy k (rows_of k before) p row.client row.up) (Says k (Payload p) given) k (said_payload policy k (rows_of k before) pick p) (rows_of k before) (λ fw. payload-up policy k (rows_of k before) pick p))
+
+passes-row : (policy : Policy) (pid pick : ℕ) (before : List Row) (item : Item) → Passes policy before (treat policy pid pick before item)
+passes-row policy pid pick before item = record {
+  client = λ k p given is. (passes-treat policy pid pick before item k p given is).mine;
+  unchanged = λ k p given is. subst (GoesUp (treat policy pid pick before item).up p) (sym (ap own_of is)) (passes-treat policy pid pick before item k p given is).unchanged;
+  must = λ k p given m is reads. (passes-treat policy pid pick before item k p given is).must m reads;
+}
+
+pub passed : (policy : Policy) (pid : ℕ) (rows : List Row) → LogKnown policy pid rows → ForEach (Passes policy) rows
+passed policy pid rows known = by-treat (Passes policy) policy pid (λ pick before item good orderly lawful makes. passes-row policy pid pick before item) (λ before stream size. record { client = λ k p given is. cc; unchanged = λ k p given is. cc; must = λ k p given m is. cc }) rows known.each
