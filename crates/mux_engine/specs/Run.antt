@@ -47,9 +47,9 @@ LeavesNothing rows = (k : ℕ) → IsAdmitted k rows → has_open_matters (rows_
     → HasNothing (rows_of k rows)
 
 -- what is promised of rows: windows, permissions, askers, what is delivered and what goes up, numbers and the unshared
--- connection of each admitted client; byte for byte it is given what that connection gives, and payload by payload that
--- is sent for it which that sends, under the numbers that were picked; the master's own words; the limits; and what
--- waits for a client and for the server
+-- connection of each admitted client; byte for byte it is given what that connection gives, and what is sent for it is,
+-- payload by payload, what that sends; the numbers that were picked; the master's own words; the limits; and what waits
+-- for a client and for the server
 pub record KeepsRows (setting : Setting) (rows : List Row) : Type 0 where
   pub kept : Kept setting rows
   pub gives : GivesAlike setting rows

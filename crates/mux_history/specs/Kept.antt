@@ -1,5 +1,5 @@
 -- What a run promises of each row: windows, permissions, askers, what is delivered, numbers, and the unshared connection.
-use Rattle.std.specs.Prelude.{ℕ, ◌≡◌, ◌≤◌, ◌<◌, ◌+◌, ◌⊎◌, List, [], ◌∷◌, ◌++◌, Option, Some, None, Ok, Bool, MatchBool, true, false, length, filter, drop, nat_lt, option_map, replicate, flat_map, reverse}
+use Rattle.std.specs.Prelude.{ℕ, ◌≡◌, ◌≢◌, ◌≤◌, ◌<◌, ◌+◌, ◌⊎◌, List, [], ◌∷◌, ◌++◌, Option, Some, None, Ok, Bool, MatchBool, true, false, length, filter, drop, nat_lt, option_map, replicate, flat_map, reverse}
 use Rattle.mux_outside.specs.declared.house.HouseReply.{HouseReply}
 use Rattle.ssh_grammar.specs.declared.side.Side.{Side}
 use Rattle.ssh_grammar.specs.declared.side.Side.TheVariants.{Up, Down}
@@ -20,6 +20,7 @@ use Rattle.mux_history.specs.Requests.{answers, asker, is_reply}
 use Rattle.mux_history.specs.Controls.{is_says}
 use Rattle.mux_history.specs.Keys.{is_askable}
 use Rattle.mux_history.specs.Policy.{Policy, permits}
+use Rattle.mux_history.specs.Farewell.{late}
 use Rattle.mux_history.specs.Forwardings.{Forwarding, current, is_free_at, live_at}
 use Rattle.mux_history.specs.Said.{confirmed_at, is_full_of_asks, waiting_at}
 use Rattle.mux_history.specs.Log.{Setting}
@@ -104,7 +105,7 @@ IsFull waited told (QueueFull have want) =
     (have ≡ waited + length (joined told)) × (MAX_QUEUE < have + want)
 IsFull waited told _ = ⊥
 
--- else the client goes on, and so does the run unless it ends
+-- the client and the run go on; or the run ends; or the client is dropped since its queue is full
 abbrev pub GoesUnlessFull : ℕ → List (List ℕ) → Fate → Type 0
 GoesUnlessFull waited told Goes = Unit {0}
 GoesUnlessFull waited told Refused = ⊥
@@ -178,10 +179,17 @@ Reaches before row p (Confirmation n s window maximum) = ReachesChannel before r
 Reaches before row p (Within n act) = ReachesChannel before row p n
 Reaches before row p m = Unit {0}
 
+-- a client that was lost before is told nothing; what goes up then undoes what the server confirms or replies
+pub record LeavesLate (own : List Row) (row : Row) (m : Gist) : Type 0 where
+  pub told : row.down ≡ []
+  pub sent : row.up ≡ late m own
+
 -- unless the run ends; and nothing that the server says drops a client but a full queue
 pub record Delivers (before : List Row) (row : Row) : Type 0 where
   pub reaches : (p : List ℕ) (m : Gist) → row.item ≡ Heard p → read_gist p ≡ Ok m
       → is_end row.fate ≡ false → Reaches before row p m
+  pub lost : (p : List ℕ) (m : Gist) → row.item ≡ Heard p → read_gist p ≡ Ok m → row.client ≢ 0
+      → is_lost (rows_of row.client before) ≡ true → LeavesLate (rows_of row.client before) row m
   pub full : DropsIfFull before row
 
 -- ---- Passes: what a client says goes up where it may

@@ -61,7 +61,7 @@ initial way x = elim (same_side x.by way) [
   | false ↦ x.window
 ]
 
--- the longest data that the receiver of a direction takes at once: of a confirmation by the same sum
+-- the longest data that the receiver of a direction takes at once: that sum too is the one confirmation's
 abbrev pub maximum_of : Side → Channel → ℕ
 maximum_of way x = elim (same_side x.by way) [
   | true ↦ sum_of packet (other_side way) x.acts

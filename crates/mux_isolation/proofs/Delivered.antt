@@ -7,7 +7,7 @@ use Rattle.mux_history.specs.Channels.{Channel, channels_of, held_of, holder, li
 use Rattle.mux_history.specs.Forwardings.{Forwarding, current, live_at}
 use Rattle.mux_history.specs.Gist.{Act, Confirmation, Fails, Gist, Open, Requests, Within, read_gist, reading, recipient_of, sender_of}
 use Rattle.mux_history.specs.Heard.{Breaks, Dest, Disconnects, ToClient, ToMaster, dest, dest_confirmation, dest_gist, dest_open, dest_within, for_client, for_lost, heard_for, heard_gist, pending_open, renamed}
-use Rattle.mux_history.specs.Kept.{Delivers, FailsOpen, ForEach, GoesUp, MustAsk, MustGoUp, MustOpen, Passes, Reaches, ReachesChannel, ReachesForwarding}
+use Rattle.mux_history.specs.Kept.{Delivers, FailsOpen, ForEach, GoesUp, LeavesLate, MustAsk, MustGoUp, MustOpen, Passes, Reaches, ReachesChannel, ReachesForwarding}
 use Rattle.mux_history.specs.Keys.{is_askable}
 use Rattle.mux_history.specs.Ledger.{breach}
 use Rattle.mux_history.specs.Log.{all_told, bare, fate_with, fitting, goes, heard_row, new_answers, overflow, row_of, treat}
@@ -206,8 +206,33 @@ reaches-treat policy pid pick before item good p m is reads on = by_item item (s
     by_item (Heard q) e on = let same : p ≡ q = cc in subst (λ (r : List ℕ). is_end (heard_row before r (dest before r)).fate ≡ false → Reaches before (heard_row before r (dest before r)) p m) same (heard-reached before good p m reads (dest before p) refl) on
     by_item i e on = absurd (let h = e in cc)
 
+-- ---- a client that was lost before
+
+lost-does : (own : List Row) (p : List ℕ) (m : Gist) → read_gist p ≡ Ok m → is_lost own ≡ true → heard_for own p ≡ for_lost own m
+lost-does own p m reads lost =
+    ap (λ r. elim r as (λ _. Outcome) [ Err bad ↦ silent | Ok m ↦ heard_gist own p m ]) reads
+    ∙ ap (λ b. elim b as (λ _. Outcome) [ true ↦ for_lost own m | false ↦ for_client own p m ]) lost
+
+late-row : (k : ℕ) (p : List ℕ) (m : Gist) (own : List Row) → read_gist p ≡ Ok m → is_lost own ≡ true → LeavesLate own (row_of (Heard p) k (heard_for own p) own) m
+late-row k p m own reads lost = subst (λ (o : Outcome). LeavesLate own (row_of (Heard p) k o own) m) (sym (lost-does own p m reads lost)) (row-whole (λ row. LeavesLate own row m) (Heard p) k (for_lost own m) own (λ fw. record { told = ap (fitting (waiting_down own)) nothing; sent = refl }))
+  where
+    nothing : all_told (bare (Heard p) k (for_lost own m)) own ≡ []
+    nothing = ap (λ b. elim (true && not b) as (λ _. List (List ℕ)) [ true ↦ [] ++ new_answers (bare (Heard p) k (for_lost own m)) own | false ↦ [] ]) lost
+
+late-heard : (before : List Row) (p : List ℕ) (m : Gist) → read_gist p ≡ Ok m → (d : Dest) → ((heard_row before p d).client ≡ 0 → ⊥) → is_lost (rows_of (heard_row before p d).client before) ≡ true → LeavesLate (rows_of (heard_row before p d).client before) (heard_row before p d) m
+late-heard before p m reads ToMaster real lost = absurd (real refl)
+late-heard before p m reads (ToClient k) real lost =
+    subst (λ (j : ℕ). is_lost (rows_of j before) ≡ true → LeavesLate (rows_of j before) (heard_row before p (ToClient k)) m)
+    (sym (client-of (Heard p) k (heard_for (rows_of k before) p) (rows_of k before)))
+    (λ here. late-row k p m (rows_of k before) reads here) lost
+late-heard before p m reads Disconnects real lost = absurd (real refl)
+late-heard before p m reads (Breaks cause) real lost = absurd (real refl)
+
+late-treat : (policy : Policy) (pid pick : ℕ) (before : List Row) (item : Item) (p : List ℕ) (m : Gist) → (treat policy pid pick before item).item ≡ Heard p → read_gist p ≡ Ok m → ((treat policy pid pick before item).client ≡ 0 → ⊥) → is_lost (rows_of (treat policy pid pick before item).client before) ≡ true → LeavesLate (rows_of (treat policy pid pick before item).client before) (treat policy pid pick before item) m
+late-treat policy pid pick before item p m is reads = subst (λ (i : Item). ((treat policy pid pick before i).client ≡ 0 → ⊥) → is_lost (rows_of (treat policy pid pick before i).client before) ≡ true → LeavesLate (rows_of (treat policy pid pick before i).client before) (treat policy pid pick before i) m) (sym (sym (treat-item policy pid pick before item) ∙ is)) (late-heard before p m reads (dest before p))
+
 pub delivered : (policy : Policy) (pid : ℕ) (rows : List Row) → LogKnown policy pid rows → ForEach Delivers rows
-delivered policy pid rows known = by-treat Delivers policy pid (λ pick before item good orderly lawful makes. record { reaches = reaches-treat policy pid pick before item good; full = drops-if-full policy pid pick before item }) (λ before stream size. record { reaches = λ p m is. cc; full = λ p is. cc }) rows known.each
+delivered policy pid rows known = by-treat Delivers policy pid (λ pick before item good orderly lawful makes. record { reaches = reaches-treat policy pid pick before item good; lost = late-treat policy pid pick before item; full = drops-if-full policy pid pick before item }) (λ before stream size. record { reaches = λ p m is. cc; lost = λ p m is. cc; full = λ p is. cc }) rows known.each
 
 -- ---- what a client says
 

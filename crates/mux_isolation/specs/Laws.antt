@@ -31,7 +31,8 @@ PermissionsAreKept = OverRight (λ setting rows. ForEach (Permission setting.pol
 abbrev pub AskersAreServed : Type 0
 AskersAreServed = OverRight (λ setting rows. ForEach Asker rows)
 
--- what the server says to a client's channel or forwarding reaches that client, unless the run ends or its queue is full
+-- what the server says to a client's channel or forwarding reaches that client, unless the run ends, the client was lost
+-- before, or its queue is full
 abbrev pub MessagesAreDelivered : Type 0
 MessagesAreDelivered = OverRight (λ setting rows. ForEach Delivers rows)
 

@@ -60,7 +60,8 @@ pub fn askers_are_served()
 {}
 
 /// What the server says to a channel, and each open for a live forwarding, is told its client with nothing
-/// changed but the recipient; and nothing that the server says drops a client but a full queue.
+/// changed but the recipient; a client that was lost before is told nothing, and what goes up undoes what the
+/// server confirms or replies; and nothing that the server says drops a client but a full queue.
 pub fn messages_are_delivered()
     ensures { MessagesAreDelivered }
 {}
