@@ -14,7 +14,7 @@ use Rattle.mux_outside.specs.Wire.{WroteFits, blocked_after_write, write_marks}
 use Rattle.mux_outside.specs.declared.turn.Wrote.{Wrote}
 use Rattle.mux_outside.specs.declared.turn.Wrote.TheVariants as wrote
 use Rattle.mux_history.specs.Policy.{Policy}
-use Rattle.mux_history.specs.Rows.{Row, rows_of, is_out, is_ended, Fate, Goes, Refused, Drop, End}
+use Rattle.mux_history.specs.Rows.{Row, rows_of, is_out, is_ended}
 use Rattle.mux_history.specs.Pending.{pending}
 use Rattle.mux_history.specs.Solo.{end_of}
 use Rattle.mux_history.specs.Log.{Setting}
@@ -25,6 +25,7 @@ use Rattle.mux_history.proofs.Wires.{wire-keeps}
 use Rattle.mux_machine.specs.State.{State}
 use Rattle.mux_machine.specs.Events.{here}
 use Rattle.mux_machine.specs.Stands.{GoesBy, Stands, StandsFor, log}
+use Rattle.mux_machine.proofs.Over.{some-end}
 use Rattle.mux_clients.specs.Asked.{TellsAsks}
 use Rattle.mux_engine.specs.Run.{IsOfWire}
 use Rattle.mux_engine.specs.Serving.{IsSound, IsUnseen, Promised, Serving, is_open}
@@ -155,16 +156,6 @@ next-holds {May} {before} {now} {policy} {pid} {start} {seen} {held} {given} {to
 
 -- ---- a stream that failed
 
-end-is : (f : Fate) (row : Row) (rows : List Row) → row.fate ≡ f → is_some (end_of rows) ≡ is_ended rows → is_some (end_of (row ∷ rows)) ≡ is_ended (row ∷ rows)
-end-is Goes row rows e ih = rw e ih
-end-is Refused row rows e ih = rw e ih
-end-is (Drop why) row rows e ih = rw e ih
-end-is (End cause) row rows e ih = rw e refl
-
-pub some-end : (rows : List Row) → is_some (end_of rows) ≡ is_ended rows
-some-end [] = refl
-some-end (row ∷ rows) = end-is row.fate row rows refl (some-end rows)
-
 -- of the server that is the end; a client's farewell is left to the server's stream
 pub next-fails : {May : HouseReply → Type 0} {before now now' : Option (List Asked)} {policy : Policy} {pid : ℕ} {start : Option (List Mark)} {seen : Seen} {held : List ℕ} {given : ℕ} {todo : List ℕ} {s s' : State} (v : Serving May before now policy pid start seen held given todo s) (k : ℕ) (bytes : List ℕ) (g : GoesBy May now now' v.picked v.replies s s' (WriteFails k) v.journal v.closed)
     → is_open s k ≡ true → AreBytes bytes → 0 < length bytes → among 0 (k ∷ todo) ≡ true → s'.core.policy ≡ s.core.policy → s'.pid ≡ s.pid → here s' ≡ here s → (s'.ended ≡ None → s.ended ≡ None) → (k ≡ 0 → s'.ended ≢ None)
@@ -239,11 +230,13 @@ cut-starved {now = now} {seen = seen} {given = given} v seen' k bytes e =
 
 -- ---- a stream for which nothing is to be written now
 
--- other streams are to be offered what waits for them, where those that are not were so before or are settled
-pub serve-todo : {May : HouseReply → Type 0} {before now : Option (List Asked)} {policy : Policy} {pid : ℕ} {start : Option (List Mark)} {seen : Seen} {held : List ℕ} {given : ℕ} {todo : List ℕ} {s : State} (v : Serving May before now policy pid start seen held given todo s) (todo' : List ℕ)
+-- clients may be accepted no more where the engine wants none; and other streams are to be offered what waits for them, where
+-- those that are not were so before or are settled
+pub serve-with : {May : HouseReply → Type 0} {before now : Option (List Asked)} {policy : Policy} {pid : ℕ} {start : Option (List Mark)} {seen : Seen} {held : List ℕ} {given : ℕ} {todo : List ℕ} {s : State} (v : Serving May before now policy pid start seen held given todo s) (listens : Bool) (todo' : List ℕ)
+    → (s.listening ≡ true → listens ≡ true)
     → ((t : ℕ) → among t todo' ≡ false → (among t todo ≡ false) ⊎ ((picks : List ℕ) (later : List HouseReply) → IsSettled (by_lists policy pid (v.picked ++ picks) (v.replies ++ later)) v.journal t))
-    → Serving May before now policy pid start seen held given todo' s
-serve-todo {May} {before} {now} {policy} {pid} {start} {seen} {held} {given} {todo} {s} v todo' h = record {
+    → Serving May before now policy pid start (record seen { listens = listens }) held given todo' s
+serve-with {May} {before} {now} {policy} {pid} {start} {seen} {held} {given} {todo} {s} v listens todo' hears h = record {
   journal = v.journal;
   closed = v.closed;
   picked = v.picked;
@@ -260,10 +253,15 @@ serve-todo {May} {before} {now} {policy} {pid} {start} {seen} {held} {given} {to
   held_is = v.held_is;
   blocked_is = v.blocked_is;
   unseen = v.unseen;
-  hears = v.hears;
+  hears = hears;
   sound = λ picks later. let old : IsSound (by_lists policy pid (v.picked ++ picks) (v.replies ++ later)) v.journal todo s = v.sound picks later in
       record { kept = old.kept; failed_out = old.failed_out; settled = λ t a. elim (h t a) [ inl b ↦ old.settled t b | inr d ↦ d picks later ] };
 }
+
+pub serve-todo : {May : HouseReply → Type 0} {before now : Option (List Asked)} {policy : Policy} {pid : ℕ} {start : Option (List Mark)} {seen : Seen} {held : List ℕ} {given : ℕ} {todo : List ℕ} {s : State} (v : Serving May before now policy pid start seen held given todo s) (todo' : List ℕ)
+    → ((t : ℕ) → among t todo' ≡ false → (among t todo ≡ false) ⊎ ((picks : List ℕ) (later : List HouseReply) → IsSettled (by_lists policy pid (v.picked ++ picks) (v.replies ++ later)) v.journal t))
+    → Serving May before now policy pid start seen held given todo' s
+serve-todo {seen = seen} v todo' h = serve-with v seen.listens todo' v.hears h
 
 -- nothing waits for it
 pub nothing-left : {May : HouseReply → Type 0} {before now : Option (List Asked)} {policy : Policy} {pid : ℕ} {start : Option (List Mark)} {seen : Seen} {held : List ℕ} {given : ℕ} {todo : List ℕ} {s : State} (v : Serving May before now policy pid start seen held given todo s) (k : ℕ) (bytes : List ℕ)

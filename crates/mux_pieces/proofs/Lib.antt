@@ -1,1 +1,3 @@
+mod Orders
 mod Pieces
+mod Sayings

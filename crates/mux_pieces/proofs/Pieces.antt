@@ -22,22 +22,22 @@ drop-front (x ∷ xs) ys = drop-front xs ys
 drop-two : (xs ys zs : List Saying) → drop (length xs) ((xs ++ ys) ++ zs) ≡ ys ++ zs
 drop-two xs ys zs = ap (drop (length xs)) (append_assoc xs ys zs) ∙ drop-front xs (ys ++ zs)
 
-map-append : (f : Saying → Item) (xs ys : List Saying) → map f (xs ++ ys) ≡ map f xs ++ map f ys
+pub map-append : (f : Saying → Item) (xs ys : List Saying) → map f (xs ++ ys) ≡ map f xs ++ map f ys
 map-append f [] ys = refl
 map-append f (x ∷ xs) ys = ap (λ l. f x ∷ l) (map-append f xs ys)
 
 -- what is said from a mode on
-abbrev says : Mode → List ℕ → List Saying
+abbrev pub says : Mode → List ℕ → List Saying
 says mode bytes = (parse mode bytes).says
 
 -- what more bytes say
-abbrev more : Mode → List ℕ → List ℕ → List Saying
+abbrev pub more : Mode → List ℕ → List ℕ → List Saying
 more mode a b = (parse (parse mode a).mode ((parse mode a).rest ++ b)).says
 
-says-more : (mode : Mode) (a b : List ℕ) → says mode (a ++ b) ≡ says mode a ++ more mode a b
+pub says-more : (mode : Mode) (a b : List ℕ) → says mode (a ++ b) ≡ says mode a ++ more mode a b
 says-more mode a b = ap (λ (p : Parsed). p.says) (parse-append mode a b)
 
-new-is : (mode : Mode) (x a : List ℕ) → drop (length (says mode x)) (says mode (x ++ a)) ≡ more mode x a
+pub new-is : (mode : Mode) (x a : List ℕ) → drop (length (says mode x)) (says mode (x ++ a)) ≡ more mode x a
 new-is mode x a = ap (drop (length (says mode x))) (says-more mode x a) ∙ drop-front (says mode x) (more mode x a)
 
 -- the new sayings of a whole are those of its parts

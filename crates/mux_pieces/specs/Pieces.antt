@@ -1,11 +1,13 @@
 -- How the bytes of a stream are cut doesn't matter.
-use Rattle.std.specs.Prelude.{◌≡◌, ℕ, Bool, List, ◌∷◌, ◌++◌}
+use Rattle.std.specs.Prelude.{◌≡◌, ◌<◌, ◌==◌, ℕ, Bool, true, false, List, [], ◌∷◌, ◌++◌, None, filter, map, reverse}
 use Rattle.mux_outside.specs.declared.house.HouseReply.{HouseReply}
 use Rattle.mux_outside.specs.declared.mark.Mark.{Mark}
 use Rattle.mux_outside.specs.declared.mark.Mark.TheVariants.{Waits, Gets}
 use Rattle.mux_outside.specs.declared.turn.Want.{Want}
-use Rattle.mux_history.specs.Journal.{bytes_of, items, log_of_journal}
+use Rattle.ssh_grammar.specs.Said.{Body, heard, said}
+use Rattle.mux_history.specs.Journal.{bytes_of, heard_item, items, log_of_journal, said_item}
 use Rattle.mux_history.specs.Policy.{Policy}
+use Rattle.mux_history.specs.Rows.{BadServer, Heard, Item, Says}
 use Rattle.mux_history.specs.Settings.{by_lists}
 
 -- the same bytes came of each stream, and they completed the same items in the same order
@@ -34,3 +36,48 @@ ItemsMakeRows =
     (marks others : List Mark) → items marks ≡ items others
     → log_of_journal (by_lists policy pid picks replies) marks
     ≡ log_of_journal (by_lists policy pid picks replies) others
+
+-- ---- what is said is said by all bytes of a stream
+
+-- an item that this client says
+abbrev pub is_said_by : ℕ → Item → Bool
+is_said_by k (Says j saying given) = j == k
+is_said_by k item = false
+
+-- an item that the server says
+abbrev pub is_by_server : Item → Bool
+is_by_server (Heard p) = true
+is_by_server (BadServer fault) = true
+is_by_server item = false
+
+-- what the items of a client say, the oldest first, is what all its bytes say, however these came
+abbrev pub SayingsAreOfBytes : Type 0
+SayingsAreOfBytes =
+    (marks : List Mark) (k : ℕ) → 0 < k
+    → filter (is_said_by k) (reverse (items marks)) ≡ map (said_item k) (said (bytes_of k marks))
+
+-- the same of the server
+abbrev pub HeardIsOfBytes : Type 0
+HeardIsOfBytes =
+    (marks : List Mark)
+    → filter is_by_server (reverse (items marks)) ≡ map heard_item (heard (bytes_of 0 marks))
+
+-- ---- the bytes of each stream and the order in which they complete make the items
+
+-- an item without its words: who says something, or else what happens
+abbrev pub without_words : Item → Item
+without_words (Says k saying given) = Says k (Body []) None
+without_words (Heard p) = Heard []
+without_words (BadServer fault) = Heard []
+without_words item = item
+
+-- in which order it is said and happens, the oldest first
+abbrev pub order_of : List Mark → List Item
+order_of marks = map without_words (reverse (items marks))
+
+-- where the same bytes came of each stream, cut in any way, and completed in the same order, they
+-- completed the same items
+abbrev pub BytesMakeItems : Type 0
+BytesMakeItems =
+    (marks others : List Mark) → ((t : ℕ) → bytes_of t marks ≡ bytes_of t others)
+    → order_of marks ≡ order_of others → items marks ≡ items others

@@ -1,12 +1,12 @@
-ghost use Rattle.mux_pieces.specs.Pieces.{PartsGiveAlike, JournalsGoOnAlike, ItemsMakeRows};
+ghost use Rattle.mux_pieces.specs.Pieces.{PartsGiveAlike, JournalsGoOnAlike, ItemsMakeRows, SayingsAreOfBytes, HeardIsOfBytes, BytesMakeItems};
 
 /// A piece that comes in two parts, with a wait between, gives the items that it gives as a whole.
 pub fn parts_give_alike()
     ensures { PartsGiveAlike }
 {}
 
-/// Journals in which the same bytes came of each stream, with the same items, stay so behind the same
-/// mark.
+/// Journals in which the same bytes came of each stream, with the same items, stay so behind the
+/// same mark.
 pub fn journals_go_on_alike()
     ensures { JournalsGoOnAlike }
 {}
@@ -14,4 +14,16 @@ pub fn journals_go_on_alike()
 /// The same items make the same rows, with the same picks and replies.
 pub fn items_make_rows()
     ensures { ItemsMakeRows }
+{}
+
+/// Whatever pieces bytes came in, the items of each client say what all its bytes say, in that
+/// order, and so do those of the server.
+pub fn sayings_are_of_bytes()
+    ensures clients { SayingsAreOfBytes }
+    ensures server { HeardIsOfBytes }
+{}
+
+/// The same bytes of each stream, cut in any way and completing in the same order, make the same items.
+pub fn bytes_make_items()
+    ensures { BytesMakeItems }
 {}

@@ -4,4 +4,6 @@
 
 mod laws;
 
-pub use laws::{items_make_rows, journals_go_on_alike, parts_give_alike};
+pub use laws::{
+    bytes_make_items, items_make_rows, journals_go_on_alike, parts_give_alike, sayings_are_of_bytes,
+};

@@ -1,0 +1,185 @@
+-- What the items of a stream say is what all its bytes say.
+use Rattle.std.proofs.Common.{◌≡◌, ◌∙◌, refl, ap, sym, ℕ, Bool, true, false, List, [], ◌∷◌, ◌++◌, drop, length, map, ◌==◌, ◌<◌, arith}
+use Rattle.std.specs.Prelude.{filter, reverse}
+use Rattle.std.proofs.lemmas.Bool.Decides.{nat_tests}
+use Rattle.std.proofs.lemmas.List.{append-nil, reverse-append, reverse-reverse}
+use Rattle.std.proofs.lemmas.List.Elements.{filter-append}
+use Rattle.ssh_grammar.specs.Said.{BadFraming, Body, InControl, InProxy, Mode, Payload, Saying, parse}
+use Rattle.mux_outside.specs.declared.mark.Mark.{Mark}
+use Rattle.mux_outside.specs.declared.mark.Mark.TheVariants as wire
+use Rattle.mux_history.specs.Journal.{bytes_in, bytes_of, heard_item, items, items_in, new_heard, new_sayings, said_item, server_end}
+use Rattle.mux_history.specs.Rows.{Gone, Item, ServerFailed}
+use Rattle.mux_history.proofs.Bools.{same-number, self}
+use Rattle.mux_history.proofs.Finds.{filter-no, filter-yes}
+use Rattle.mux_pieces.specs.Pieces.{is_by_server, is_said_by}
+use Rattle.mux_pieces.proofs.Pieces.{map-append, more, new-is, says, says-more}
+
+-- what comes next of a journal stands behind what came
+items-next : (before : List Mark) (mark : Mark) → reverse (items (mark ∷ before)) ≡ reverse (items before) ++ items_in before mark
+items-next before mark = reverse-append (reverse (items_in before mark)) (items before) ∙ ap (λ l. reverse (items before) ++ l) (reverse-reverse (items_in before mark))
+
+-- those that pass, of one mark more
+passes-next : (test : Item → Bool) (before : List Mark) (mark : Mark) → filter test (reverse (items (mark ∷ before))) ≡ filter test (reverse (items before)) ++ filter test (items_in before mark)
+passes-next test before mark = ap (filter test) (items-next before mark) ∙ filter-append test (reverse (items before)) (items_in before mark)
+
+-- all pass, or none does
+all-pass : (test : Item → Bool) (f : Saying → Item) → ((s : Saying) → test (f s) ≡ true) → (ss : List Saying) → filter test (map f ss) ≡ map f ss
+all-pass test f passes [] = refl
+all-pass test f passes (s ∷ ss) = filter-yes test (f s) (map f ss) (passes s) ∙ ap (λ l. f s ∷ l) (all-pass test f passes ss)
+
+none-pass : (test : Item → Bool) (f : Saying → Item) → ((s : Saying) → test (f s) ≡ false) → (ss : List Saying) → filter test (map f ss) ≡ []
+none-pass test f passes [] = refl
+none-pass test f passes (s ∷ ss) = filter-no test (f s) (map f ss) (passes s) ∙ none-pass test f passes ss
+
+heard-passes : (s : Saying) → is_by_server (heard_item s) ≡ true
+heard-passes (Body body) = refl
+heard-passes (Payload p) = refl
+heard-passes (BadFraming fault) = refl
+
+heard-silent : (k : ℕ) (s : Saying) → is_said_by k (heard_item s) ≡ false
+heard-silent k (Body body) = refl
+heard-silent k (Payload p) = refl
+heard-silent k (BadFraming fault) = refl
+
+-- ---- a stream, and the items that are its own
+
+-- what a stream's items say by all its bytes
+abbrev Told : (Item → Bool) → (Saying → Item) → Mode → ℕ → List Mark → Type 0
+Told test f mode t marks = filter test (reverse (items marks)) ≡ map f (says mode (bytes_of t marks))
+
+-- a mark that says nothing of it, and gives it no byte
+told-still : (test : Item → Bool) (f : Saying → Item) (mode : Mode) (t : ℕ) (before : List Mark) (mark : Mark)
+    → filter test (items_in before mark) ≡ [] → bytes_in t mark ≡ [] → Told test f mode t before → Told test f mode t (mark ∷ before)
+told-still test f mode t before mark none quiet told =
+    passes-next test before mark
+    ∙ (ap (λ l. filter test (reverse (items before)) ++ l) none
+    ∙ (append-nil (filter test (reverse (items before)))
+    ∙ (told ∙ ap (λ b. map f (says mode b)) (sym (ap (λ b. bytes_of t before ++ b) quiet ∙ append-nil (bytes_of t before))))))
+
+-- its own bytes
+told-more : (test : Item → Bool) (f : Saying → Item) (mode : Mode) (t : ℕ) (before : List Mark) (mark : Mark) (bytes : List ℕ)
+    → filter test (items_in before mark) ≡ map f (more mode (bytes_of t before) bytes) → bytes_in t mark ≡ bytes → Told test f mode t before → Told test f mode t (mark ∷ before)
+told-more test f mode t before mark bytes new gives told =
+    passes-next test before mark
+    ∙ (ap (λ l. filter test (reverse (items before)) ++ l) new
+    ∙ (ap (λ l. l ++ map f (more mode (bytes_of t before) bytes)) told
+    ∙ (sym (map-append f (says mode (bytes_of t before)) (more mode (bytes_of t before) bytes))
+    ∙ (ap (map f) (sym (says-more mode (bytes_of t before) bytes))
+    ∙ ap (λ b. map f (says mode (bytes_of t before ++ b))) (sym gives)))))
+
+-- ---- ends and failures say nothing
+
+gone-still : (test : Item → Bool) (t : ℕ) (item : Item) → test item ≡ false → ((k : ℕ) → test (Gone k) ≡ false) → filter test (elim (t == 0) as (λ _. List Item) [ true ↦ item ∷ [] | false ↦ Gone t ∷ [] ]) ≡ []
+gone-still test t item quiet gone = elim (t == 0) as (λ b. filter test (elim b as (λ _. List Item) [ true ↦ item ∷ [] | false ↦ Gone t ∷ [] ]) ≡ []) [ true ↦ filter-no test item [] quiet | false ↦ filter-no test (Gone t) [] (gone t) ]
+
+end-silent : (k : ℕ) (rest : List ℕ) → is_said_by k (server_end rest) ≡ false
+end-silent k [] = refl
+end-silent k (b ∷ rest) = refl
+
+end-unheard : (rest : List ℕ) → is_by_server (server_end rest) ≡ false
+end-unheard [] = refl
+end-unheard (b ∷ rest) = refl
+
+-- ---- pieces
+
+-- the items of a piece, by whether it is the server's
+abbrev of_piece : Bool → List Mark → ℕ → List ℕ → List Item
+of_piece b before stream bytes = elim b as (λ _. List Item) [ true ↦ new_heard (bytes_of 0 before) (bytes_of 0 before ++ bytes) | false ↦ new_sayings stream (bytes_of stream before) (bytes_of stream before ++ bytes) ]
+
+-- what new bytes say
+abbrev new_says : Mode → List ℕ → List ℕ → List Saying
+new_says mode x a = drop (length (says mode x)) (says mode (x ++ a))
+
+abbrev gives : Bool → List ℕ → List ℕ
+gives b bytes = elim b as (λ _. List ℕ) [ true ↦ bytes | false ↦ [] ]
+
+differ : (a b : ℕ) → a ≡ b → 0 < b → (a == 0) ≡ false
+differ a b e pos = grind (arith, nat_tests)
+
+module _ (before : List Mark) (stream : ℕ) (bytes : List ℕ) where
+  abbrev piece : Mark
+  piece = wire.Gets stream bytes
+
+  said-piece : (k : ℕ) → 0 < k → Told (is_said_by k) (said_item k) InControl k before → Told (is_said_by k) (said_item k) InControl k (piece ∷ before)
+  said-piece k pos told = by_own (stream == k) refl
+    where
+      by_server : (b : Bool) → (stream == 0) ≡ b → (stream == k) ≡ false → filter (is_said_by k) (items_in before piece) ≡ []
+      by_server true e other = ap (λ c. filter (is_said_by k) (of_piece c before stream bytes)) e ∙ none-pass (is_said_by k) heard_item (heard-silent k) (new_says InProxy (bytes_of 0 before) bytes)
+      by_server false e other = ap (λ c. filter (is_said_by k) (of_piece c before stream bytes)) e ∙ none-pass (is_said_by k) (said_item stream) (λ s. other) (new_says InControl (bytes_of stream before) bytes)
+
+      own-items : stream ≡ k → filter (is_said_by k) (items_in before piece) ≡ map (said_item k) (more InControl (bytes_of k before) bytes)
+      own-items same =
+          ap (λ c. filter (is_said_by k) (of_piece c before stream bytes)) (differ stream k same pos)
+          ∙ (ap (λ j. filter (is_said_by k) (new_sayings j (bytes_of j before) (bytes_of j before ++ bytes))) same
+          ∙ (all-pass (is_said_by k) (said_item k) (λ s. self k) (new_says InControl (bytes_of k before) bytes)
+          ∙ ap (map (said_item k)) (new-is InControl (bytes_of k before) bytes)))
+
+      by_own : (b : Bool) → (stream == k) ≡ b → Told (is_said_by k) (said_item k) InControl k (piece ∷ before)
+      by_own true e = told-more (is_said_by k) (said_item k) InControl k before piece bytes (own-items (same-number stream k e)) (ap (λ b. gives b bytes) e) told
+      by_own false e = told-still (is_said_by k) (said_item k) InControl k before piece (by_server (stream == 0) refl e) (ap (λ b. gives b bytes) e) told
+
+  heard-piece : Told is_by_server heard_item InProxy 0 before → Told is_by_server heard_item InProxy 0 (piece ∷ before)
+  heard-piece told = by_server (stream == 0) refl
+    where
+      items-are : (b : Bool) → (stream == 0) ≡ b → filter is_by_server (items_in before piece) ≡ filter is_by_server (of_piece b before stream bytes)
+      items-are b e = ap (λ c. filter is_by_server (of_piece c before stream bytes)) e
+
+      by_server : (b : Bool) → (stream == 0) ≡ b → Told is_by_server heard_item InProxy 0 (piece ∷ before)
+      by_server true e = told-more is_by_server heard_item InProxy 0 before piece bytes
+          (items-are true e ∙ (all-pass is_by_server heard_item heard-passes (new_says InProxy (bytes_of 0 before) bytes) ∙ ap (map heard_item) (new-is InProxy (bytes_of 0 before) bytes))) (ap (λ b. gives b bytes) e) told
+      by_server false e = told-still is_by_server heard_item InProxy 0 before piece
+          (items-are false e ∙ none-pass is_by_server (said_item stream) (λ s. refl) (new_says InControl (bytes_of stream before) bytes)) (ap (λ b. gives b bytes) e) told
+
+-- ---- all marks
+
+pub sayings-are : (marks : List Mark) (k : ℕ) → 0 < k → Told (is_said_by k) (said_item k) InControl k marks
+sayings-are [] k pos = refl
+sayings-are (mark ∷ before) k pos = by_mark mark (sayings-are before k pos)
+  where
+    still : (m : Mark) → filter (is_said_by k) (items_in before m) ≡ [] → bytes_in k m ≡ [] → Told (is_said_by k) (said_item k) InControl k before → Told (is_said_by k) (said_item k) InControl k (m ∷ before)
+    still m none quiet told = told-still (is_said_by k) (said_item k) InControl k before m none quiet told
+
+    by_mark : (m : Mark) → Told (is_said_by k) (said_item k) InControl k before → Told (is_said_by k) (said_item k) InControl k (m ∷ before)
+    by_mark (wire.Gets stream bytes) told = said-piece before stream bytes k pos told
+    by_mark (wire.Ends t) told = still (wire.Ends t) (gone-still (is_said_by k) t (server_end (parse InProxy (bytes_of 0 before)).rest) (end-silent k (parse InProxy (bytes_of 0 before)).rest) (λ j. refl)) refl told
+    by_mark (wire.Fails t) told = still (wire.Fails t) (gone-still (is_said_by k) t ServerFailed refl (λ j. refl)) refl told
+    by_mark (wire.WriteFails t) told = still (wire.WriteFails t) (gone-still (is_said_by k) t ServerFailed refl (λ j. refl)) refl told
+    by_mark m told = still m refl refl told
+
+pub heard-are : (marks : List Mark) → Told is_by_server heard_item InProxy 0 marks
+heard-are [] = refl
+heard-are (mark ∷ before) = by_mark mark (heard-are before)
+  where
+    still : (m : Mark) → filter is_by_server (items_in before m) ≡ [] → bytes_in 0 m ≡ [] → Told is_by_server heard_item InProxy 0 before → Told is_by_server heard_item InProxy 0 (m ∷ before)
+    still m none quiet told = told-still is_by_server heard_item InProxy 0 before m none quiet told
+
+    by_mark : (m : Mark) → Told is_by_server heard_item InProxy 0 before → Told is_by_server heard_item InProxy 0 (m ∷ before)
+    by_mark (wire.Gets stream bytes) told = heard-piece before stream bytes told
+    by_mark (wire.Ends t) told = still (wire.Ends t) (gone-still is_by_server t (server_end (parse InProxy (bytes_of 0 before)).rest) (end-unheard (parse InProxy (bytes_of 0 before)).rest) (λ j. refl)) refl told
+    by_mark (wire.Fails t) told = still (wire.Fails t) (gone-still is_by_server t ServerFailed refl (λ j. refl)) refl told
+    by_mark (wire.WriteFails t) told = still (wire.WriteFails t) (gone-still is_by_server t ServerFailed refl (λ j. refl)) refl told
+    by_mark m told = still m refl refl told
+
+-- ---- nobody is client 0
+
+-- a mark that none says anything in
+none-more : (test : Item → Bool) (before : List Mark) (mark : Mark) → filter test (items_in before mark) ≡ [] → filter test (reverse (items before)) ≡ [] → filter test (reverse (items (mark ∷ before))) ≡ []
+none-more test before mark none told = passes-next test before mark ∙ (ap (λ l. l ++ filter test (items_in before mark)) told ∙ none)
+
+other : (stream k : ℕ) → k ≡ 0 → (stream == 0) ≡ false → (stream == k) ≡ false
+other stream k zero real = grind (arith, nat_tests)
+
+pub none-said : (k : ℕ) → k ≡ 0 → (marks : List Mark) → filter (is_said_by k) (reverse (items marks)) ≡ []
+none-said k zero [] = refl
+none-said k zero (mark ∷ before) = by_mark mark (none-said k zero before)
+  where
+    by_piece : (stream : ℕ) (bytes : List ℕ) (b : Bool) → (stream == 0) ≡ b → filter (is_said_by k) (of_piece b before stream bytes) ≡ []
+    by_piece stream bytes true e = none-pass (is_said_by k) heard_item (heard-silent k) (new_says InProxy (bytes_of 0 before) bytes)
+    by_piece stream bytes false e = none-pass (is_said_by k) (said_item stream) (λ s. other stream k zero e) (new_says InControl (bytes_of stream before) bytes)
+
+    by_mark : (m : Mark) → filter (is_said_by k) (reverse (items before)) ≡ [] → filter (is_said_by k) (reverse (items (m ∷ before))) ≡ []
+    by_mark (wire.Gets stream bytes) told = none-more (is_said_by k) before (wire.Gets stream bytes) (by_piece stream bytes (stream == 0) refl) told
+    by_mark (wire.Ends t) told = none-more (is_said_by k) before (wire.Ends t) (gone-still (is_said_by k) t (server_end (parse InProxy (bytes_of 0 before)).rest) (end-silent k (parse InProxy (bytes_of 0 before)).rest) (λ j. refl)) told
+    by_mark (wire.Fails t) told = none-more (is_said_by k) before (wire.Fails t) (gone-still (is_said_by k) t ServerFailed refl (λ j. refl)) told
+    by_mark (wire.WriteFails t) told = none-more (is_said_by k) before (wire.WriteFails t) (gone-still (is_said_by k) t ServerFailed refl (λ j. refl)) told
+    by_mark m told = none-more (is_said_by k) before m refl told
