@@ -2,7 +2,7 @@
 //
 //	mkdir client && cp client.go client && cd client
 //	go mod init client && go get golang.org/x/crypto/ssh
-//	go run . ~/shared/control 'echo up; exit 7'
+//	go run . ~/.ssh/shared/control 'echo up; exit 7'
 //
 // It was not run with a release of golang.org/x/crypto that has NewControlClientConn, since none was
 // at hand. It was run with an older one (0.4.0, Go 1.19), to which a function of that name was added
