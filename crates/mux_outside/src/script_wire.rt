@@ -1,4 +1,4 @@
-ghost use Rattle.std.specs.Prelude.{◌≡◌, ◌≢◌, ◌<◌, ◌++◌, false, Some, IsTrue, All, IfOk, length};
+ghost use Rattle.std.specs.Prelude.{◌≡◌, ◌≢◌, ◌<◌, ◌≤◌, ◌++◌, ℕ, List, false, Some, IsTrue, All, IfSome, length, unwrap_or};
 ghost use Rattle.std.specs.Option.{option_map};
 ghost use Rattle.mux_outside.specs.Streams.{among};
 ghost use Rattle.mux_outside.specs.Tally.{no_tally};
@@ -6,17 +6,19 @@ ghost use Rattle.mux_outside.specs.declared.turn.Want.TheVariants.{WriteOnly};
 ghost use Rattle.mux_outside.specs.declared.turn.Turn.TheVariants.{NoMemory};
 ghost use Rattle.mux_outside.specs.declared.turn.Wrote.TheVariants.{NoMemory as NoMemoryToWrite};
 ghost use Rattle.mux_outside.specs.Wire.{openings_of, OpenFaults, TurnFits, TurnFaults, WroteFits, WroteFaults};
-ghost use Rattle.mux_outside.specs.Seen.{seen_after_open, seen_after_turn, seen_after_write, calls_after_wait, calls_after_write};
+ghost use Rattle.mux_outside.specs.Script.{bytes_in};
+ghost use Rattle.mux_outside.specs.Seen.{seen_after_close, seen_after_open, seen_after_turn, seen_after_write};
+ghost use Rattle.mux_outside.specs.Seen.{calls_after_wait, calls_after_write};
 ghost use Rattle.mux_outside.specs.ScriptWire.{GivesAt, GivesNext, FollowsEntry, OpensByNumber, Starts};
 ghost use Rattle.mux_outside.specs.WireLog.{seen_in};
-ghost use Rattle.mux_outside.specs.ScriptWire.{KeepsSteps, KeepsWrites, KeepsOpens};
+ghost use Rattle.mux_outside.specs.ScriptWire.{KeepsSteps, KeepsWrites, KeepsOpens, SameScript};
 
 use crate::calls::Calls;
 use crate::counts::counted;
 use crate::file_error::FileError;
-use crate::piece::Piece;
+use crate::piece::{LONGEST_PIECE, Piece};
 use crate::plan::{Given, Place, State, answer_at, find, give};
-use crate::script::{Steps, Writes};
+use crate::script::{Step, Steps, Writes};
 use crate::streams::Streams;
 use crate::turn::{Tally, Turn, Want, Wrote};
 use crate::wire::Wire;
@@ -63,36 +65,40 @@ impl ScriptWire {
     }
 }
 
-impl ScriptWire {
-    // The turn of a wait, and the place in the script after it.
-    fn given(&self, waiting: &Streams, want: Want, into: &mut Piece) -> Given
-        requires waiting_blocked { All (λ t. IsTrue (among t self.now.log.blocked)) waiting.now }
-        requires waiting_open { All (λ t. IsTrue (among t self.now.log.streams)) waiting.now }
-        requires server { IsTrue (among 0 self.now.log.streams) }
-        requires some { want ≡ WriteOnly → 0 < length waiting.now }
-        ensures turn { TurnFits result.turn want self.now.log.listens self.now.log.last
-            self.now.log.streams
-            self.now.log.blocked into.new }
-        ensures script { GivesAt want waiting.now self.now result.place result.turn
-            into.old into.new }
-    {
-        match want {
-            Want::Read => {
-                let state = State {
-                    listening: self.log.is_listening(),
-                    last: self.log.last(),
-                    streams: self.log.streams(),
-                    blocked: self.log.blocked(),
-                };
-                let steps = self.steps.as_slice();
-                let place = find(steps, self.place, state);
-                give(steps, place, self.log.last(), into)
-            }
-            Want::WriteOnly => Given {
-                turn: Turn::Writable(waiting.as_slice()[0]),
-                place: self.place,
-            },
+// The turn of a wait, the bytes that it gives, if any, and the place in the script after it.
+fn given<'a>(
+    steps: &'a [Step],
+    place: Place,
+    log: &WireLog,
+    waiting: &Streams,
+    want: Want,
+) -> Given<'a>
+    requires waiting_blocked { All (λ t. IsTrue (among t log.now.blocked)) waiting.now }
+    requires waiting_open { All (λ t. IsTrue (among t log.now.streams)) waiting.now }
+    requires server { IsTrue (among 0 log.now.streams) }
+    requires some { want ≡ WriteOnly → 0 < length waiting.now }
+    ensures turn { (piece : List ℕ) → TurnFits result.turn want log.now.listens log.now.last
+        log.now.streams log.now.blocked (unwrap_or (bytes_in result) piece) }
+    ensures short { IfSome (bytes_in result) (λ bytes. length bytes ≤ LONGEST_PIECE) }
+    ensures script { (piece : List ℕ) → GivesAt want waiting.now log.now steps.now place
+        result.place result.turn piece (unwrap_or (bytes_in result) piece) }
+{
+    match want {
+        Want::Read => {
+            let state = State {
+                listening: log.is_listening(),
+                last: log.last(),
+                streams: log.streams(),
+                blocked: log.blocked(),
+            };
+            let place = find(steps, place, state);
+            give(steps, place, log.last())
         }
+        Want::WriteOnly => Given {
+            turn: Turn::Writable(waiting.as_slice()[0]),
+            bytes: None,
+            place,
+        },
     }
 }
 
@@ -147,16 +153,16 @@ impl Wire for ScriptWire {
         ensures script { result ≢ NoMemory
             → GivesNext want waiting.now self.old self.new result into.old into.new }
         ensures err { result ≡ NoMemory → KeepsSteps self.old self.new }
+        ensures kept { result ≡ NoMemory → into.new ≡ into.old }
         ensures others { KeepsWrites self.old self.new × KeepsOpens self.old self.new }
     {
-        let given = self.given(waiting, want, into);
-        if self
-            .log
-            .waited(given.turn, waiting, want, into.as_bytes())
-            .is_err()
-        {
+        let steps = self.steps.as_slice();
+        let given = given(steps, self.place, &self.log, waiting, want);
+        let bytes = into.filled(given.bytes);
+        if self.log.waited(given.turn, waiting, want, bytes).is_err() {
             return Turn::NoMemory;
         }
+        into.fill(given.bytes);
         self.place = given.place;
         given.turn
     }
@@ -186,11 +192,25 @@ impl Wire for ScriptWire {
         wrote
     }
 
-    fn stop_listening(&mut self) {
+    fn stop_listening(&mut self)
+        ensures openings { Some self.new.log.openings ≡ Some self.old.log.openings }
+        ensures seen { seen_in self.new.log ≡ record (seen_in self.old.log) { listens = false } }
+        ensures calls { self.new.log.calls ≡ self.old.log.calls }
+        ensures server { self.new.log.server_faults ≡ self.old.log.server_faults }
+        ensures client { self.new.log.client_faults ≡ self.old.log.client_faults }
+        ensures same { SameScript self.old self.new }
+    {
         self.log.stop_listening();
     }
 
-    fn close(&mut self, stream: u64) {
+    fn close(&mut self, stream: u64)
+        ensures openings { Some self.new.log.openings ≡ Some self.old.log.openings }
+        ensures seen { seen_in self.new.log ≡ seen_after_close stream (seen_in self.old.log) }
+        ensures calls { self.new.log.calls ≡ self.old.log.calls }
+        ensures server { self.new.log.server_faults ≡ self.old.log.server_faults }
+        ensures client { self.new.log.client_faults ≡ self.old.log.client_faults }
+        ensures same { SameScript self.old self.new }
+    {
         self.log.close(stream);
     }
 
