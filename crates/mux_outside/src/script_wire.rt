@@ -10,7 +10,7 @@ ghost use Rattle.mux_outside.specs.Script.{bytes_in};
 ghost use Rattle.mux_outside.specs.Seen.{seen_after_close, seen_after_open, seen_after_turn, seen_after_write};
 ghost use Rattle.mux_outside.specs.Seen.{calls_after_wait, calls_after_write};
 ghost use Rattle.mux_outside.specs.ScriptWire.{GivesAt, GivesNext, FollowsEntry, OpensByNumber, Starts};
-ghost use Rattle.mux_outside.specs.WireLog.{seen_in};
+ghost use Rattle.mux_outside.specs.WireLog.{seen_in, LogsOpening, LogsTurn, LogsWrite, LogsClose};
 ghost use Rattle.mux_outside.specs.ScriptWire.{KeepsSteps, KeepsWrites, KeepsOpens, SameScript};
 
 use crate::calls::Calls;
@@ -116,13 +116,7 @@ impl Wire for ScriptWire {
     ghost tally = { λ _. no_tally };
 
     fn open(&mut self, control: &[u8], transport: &[u8]) -> Result<(), FileError>
-        ensures openings { Some self.new.log.openings
-            ≡ option_map (λ os. os ++ openings_of result control.now transport.now)
-            (Some self.old.log.openings) }
-        ensures seen { seen_in self.new.log ≡ seen_after_open result (seen_in self.old.log) }
-        ensures calls { self.new.log.calls ≡ self.old.log.calls }
-        ensures cause { OpenFaults result self.old.log.server_faults self.new.log.server_faults
-            self.old.log.client_faults self.new.log.client_faults }
+        ensures logs { LogsOpening result control.now transport.now self.old.log self.new.log }
         ensures exact { OpensByNumber result self.old self.new }
         ensures script { KeepsSteps self.old self.new × KeepsWrites self.old self.new }
     {
@@ -144,12 +138,7 @@ impl Wire for ScriptWire {
         ensures turn { TurnFits result want self.old.log.listens self.old.log.last
             self.old.log.streams
             self.old.log.blocked into.new }
-        ensures openings { Some self.new.log.openings ≡ Some self.old.log.openings }
-        ensures seen { seen_in self.new.log ≡ seen_after_turn result waiting.now want into.new
-            (seen_in self.old.log) }
-        ensures calls { self.new.log.calls ≡ calls_after_wait result self.old.log.calls }
-        ensures cause { TurnFaults result self.old.log.server_faults self.new.log.server_faults
-            self.old.log.client_faults self.new.log.client_faults }
+        ensures logs { LogsTurn result waiting.now want into.new self.old.log self.new.log }
         ensures script { result ≢ NoMemory
             → GivesNext want waiting.now self.old self.new result into.old into.new }
         ensures err { result ≡ NoMemory → KeepsSteps self.old self.new }
@@ -172,13 +161,7 @@ impl Wire for ScriptWire {
         requires not_blocked { among stream self.old.log.blocked ≡ false }
         requires some { 0 < length bytes.now }
         ensures wrote { WroteFits result (length bytes.now) }
-        ensures openings { Some self.new.log.openings ≡ Some self.old.log.openings }
-        ensures seen { seen_in self.new.log
-            ≡ seen_after_write result stream bytes.now (seen_in self.old.log) }
-        ensures calls { self.new.log.calls ≡ calls_after_write result self.old.log.calls }
-        ensures cause { WroteFaults result stream self.old.log.server_faults
-            self.new.log.server_faults
-            self.old.log.client_faults self.new.log.client_faults }
+        ensures logs { LogsWrite result stream bytes.now self.old.log self.new.log }
         ensures script { result ≢ NoMemoryToWrite
             → FollowsEntry (length bytes.now) self.old self.new result }
         ensures err { result ≡ NoMemoryToWrite → KeepsWrites self.old self.new }
@@ -193,22 +176,14 @@ impl Wire for ScriptWire {
     }
 
     fn stop_listening(&mut self)
-        ensures openings { Some self.new.log.openings ≡ Some self.old.log.openings }
-        ensures seen { seen_in self.new.log ≡ record (seen_in self.old.log) { listens = false } }
-        ensures calls { self.new.log.calls ≡ self.old.log.calls }
-        ensures server { self.new.log.server_faults ≡ self.old.log.server_faults }
-        ensures client { self.new.log.client_faults ≡ self.old.log.client_faults }
+        ensures logs { self.new.log ≡ record self.old.log { listens = false } }
         ensures same { SameScript self.old self.new }
     {
         self.log.stop_listening();
     }
 
     fn close(&mut self, stream: u64)
-        ensures openings { Some self.new.log.openings ≡ Some self.old.log.openings }
-        ensures seen { seen_in self.new.log ≡ seen_after_close stream (seen_in self.old.log) }
-        ensures calls { self.new.log.calls ≡ self.old.log.calls }
-        ensures server { self.new.log.server_faults ≡ self.old.log.server_faults }
-        ensures client { self.new.log.client_faults ≡ self.old.log.client_faults }
+        ensures logs { LogsClose stream self.old.log self.new.log }
         ensures same { SameScript self.old self.new }
     {
         self.log.close(stream);
