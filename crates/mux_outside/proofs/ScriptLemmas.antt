@@ -5,6 +5,7 @@ use Rattle.std.proofs.lemmas.List.{drop_more, drop_min, drop-drop, take_rest}
 use Rattle.mux_outside.specs.Script.{is_given, cut_step, cut_first, from_first, FirstGives, turn_of, piece_of}
 use Rattle.mux_outside.specs.Streams.{among}
 use Rattle.mux_outside.specs.Wire.{TurnFits}
+use Rattle.mux_outside.specs.declared.piece.TheConstants.{LONGEST_PIECE}
 use Rattle.mux_outside.specs.declared.script.Step.{Step}
 use Rattle.mux_outside.specs.declared.script.Step.TheVariants.{Accept, Bytes, End, Fail, Writable}
 use Rattle.mux_outside.specs.declared.turn.Turn.{Turn}
@@ -80,7 +81,7 @@ first_fits listens last streams blocked [] piece server p = (refl, server)
 first_fits listens last streams blocked (Accept ∷ steps) piece server p = (refl, (both listens _ p).0, refl)
 first_fits listens last streams blocked (Bytes t text ∷ steps) piece server p =
     let parts = both (among t streams) (not (length text == 0)) p in
-    let bounds = piece_fits 65536 text (lit< tt) parts.1 in
+    let bounds = piece_fits LONGEST_PIECE text (lit< tt) parts.1 in
     (refl, parts.0, bounds.0, bounds.1)
 first_fits listens last streams blocked (End t ∷ steps) piece server p = (refl, p)
 first_fits listens last streams blocked (Fail t ∷ steps) piece server p = p

@@ -29,8 +29,8 @@ inside dir path =
     if bytes_eq dir slash then behind slash path
     else option_and_then (behind slash) (behind dir path)
 
--- whether a path names a directory: the root, or a prefix of a path that isn't empty and that a slash
--- follows
+-- whether a path names a directory: the root, or a prefix of a path that isn't empty and that a
+-- slash follows
 abbrev pub is_directory : List Pair → List ℕ → Bool
 is_directory files dir =
     bytes_eq dir slash

@@ -1,8 +1,9 @@
 -- A buffer of at most 65,536 bytes.
 use Rattle.std.specs.Prelude.{ℕ, ◌≤◌, vec_len, vec_capacity}
 use Rattle.std.specs.Global.{Vec}
+use Rattle.mux_outside.specs.declared.piece.TheConstants.{LONGEST_PIECE}
 
--- the buffer has room for 65,536 bytes, and no more stand in it
+-- the buffer has room for a longest piece, and no more stands in it
 pub record IsPiece (bytes : Vec ℕ) : Type 0 where
-  pub room : 65536 ≤ vec_capacity bytes
-  pub at_most : vec_len bytes ≤ 65536
+  pub room : LONGEST_PIECE ≤ vec_capacity bytes
+  pub at_most : vec_len bytes ≤ LONGEST_PIECE

@@ -1,6 +1,9 @@
 -- What a script gives: the turns of its steps, and the answers to writes by its entries.
-use Rattle.std.specs.Prelude.{◌<◌, ℕ, ◌+◌, ◌-◌, ◌^◌, Bool, not, ◌&&◌, if◌then◌else◌, ◌==◌, nat_lt, List, [], ◌∷◌, length, take, drop, min, max, unwrap_or, slice_get}
+use Rattle.std.specs.Prelude.{◌<◌, ℕ, ◌+◌, ◌-◌, ◌^◌, Bool, not, ◌&&◌, if◌then◌else◌, ◌==◌, nat_lt, List, [], ◌∷◌, length, take, drop, min, max, Option, Some, None, unwrap_or, slice_get}
+use Rattle.std.specs.Option.{option_map}
 use Rattle.mux_outside.specs.Streams.{among}
+use Rattle.mux_outside.specs.declared.piece.TheConstants.{LONGEST_PIECE}
+use Rattle.mux_outside.specs.declared.plan.Given.{Given}
 use Rattle.mux_outside.specs.declared.plan.Place.{Place}
 use Rattle.mux_outside.specs.declared.plan.State.{State}
 use Rattle.mux_outside.specs.declared.script.Step.{Step}
@@ -52,20 +55,28 @@ turn_of last (End t ∷ steps) = Ended t
 turn_of last (Fail t ∷ steps) = Failed t
 turn_of last (Writable t ∷ steps) = IsWritable t
 
--- the buffer after that turn: bytes come in pieces of at most 65,536
+-- the bytes that it gives, if any: they come in pieces
+abbrev pub bytes_of : List Step → Option (List ℕ)
+bytes_of [] = None
+bytes_of (Accept ∷ steps) = None
+bytes_of (Bytes t text ∷ steps) = Some (take LONGEST_PIECE text)
+bytes_of (End t ∷ steps) = None
+bytes_of (Fail t ∷ steps) = None
+bytes_of (Writable t ∷ steps) = None
+
+-- the buffer after that turn
 abbrev pub piece_of : List Step → List ℕ → List ℕ
-piece_of [] piece = piece
-piece_of (Accept ∷ steps) piece = piece
-piece_of (Bytes t text ∷ steps) piece = take 65536 text
-piece_of (End t ∷ steps) piece = piece
-piece_of (Fail t ∷ steps) piece = piece
-piece_of (Writable t ∷ steps) piece = piece
+piece_of steps piece = unwrap_or (bytes_of steps) piece
+
+-- the bytes of a turn that is given
+abbrev pub bytes_in : Given → Option (List ℕ)
+bytes_in given = option_map (λ bytes. bytes.now) given.bytes
 
 -- the steps after that turn: a step of bytes stays with those that it hasn't given
 abbrev pub steps_after : List Step → List Step
 steps_after [] = []
 steps_after (Accept ∷ steps) = steps
-steps_after (Bytes t text ∷ steps) = Bytes t (drop 65536 text) ∷ steps
+steps_after (Bytes t text ∷ steps) = Bytes t (drop LONGEST_PIECE text) ∷ steps
 steps_after (End t ∷ steps) = steps
 steps_after (Fail t ∷ steps) = steps
 steps_after (Writable t ∷ steps) = steps

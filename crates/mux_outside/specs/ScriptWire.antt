@@ -4,7 +4,7 @@ use Rattle.mux_outside.specs.Streams.{among}
 use Rattle.mux_outside.specs.declared.file_error.FileError.{FileError}
 use Rattle.mux_outside.specs.declared.file_error.FileError.TheVariants.{Failed, OutOfMemory}
 use Rattle.mux_outside.specs.Counts.{counted}
-use Rattle.mux_outside.specs.WireLog.{nothing_logged}
+use Rattle.mux_outside.specs.WireLog.{Logged, nothing_logged}
 use Rattle.mux_outside.specs.Script.{is_given, from_first, turn_of, piece_of, steps_after, steps_from, entry_at, answer_of}
 use Rattle.mux_outside.specs.declared.script.Step.{Step}
 use Rattle.mux_outside.specs.declared.script.WriteEntry.{WriteEntry}
@@ -16,32 +16,32 @@ use Rattle.mux_outside.specs.declared.turn.Wrote.{Wrote}
 use Rattle.mux_outside.specs.declared.plan.Place.{Place}
 use Rattle.mux_outside.specs.declared.script_wire.ScriptWire.{ScriptWire}
 
--- the steps that are left
-abbrev pub steps_left : ScriptWire → List Step
-steps_left w = steps_from w.steps w.place
-
--- the steps that are left without those that are skipped now
-abbrev pub steps_ahead : ScriptWire → List Step
-steps_ahead w = from_first (is_given w.log.listens w.log.last w.log.streams w.log.blocked)
-    (steps_left w)
+-- the steps from a place on without those that are skipped now
+abbrev pub steps_ahead : Logged → List Step → Place → List Step
+steps_ahead log steps place = from_first (is_given log.listens log.last log.streams log.blocked)
+    (steps_from steps place)
 
 -- a turn is that of the next step that isn't skipped, and the place after it leaves those behind it
-pub record GivesStep (old : ScriptWire) (place : Place) (turn : Turn) (before after : List ℕ)
-    : Type 0 where
-  pub turn_is : turn ≡ turn_of old.log.last (steps_ahead old)
-  pub piece_is : after ≡ piece_of (steps_ahead old) before
-  pub left_are : steps_from old.steps place ≡ steps_after (steps_ahead old)
+pub record GivesStep (log : Logged) (steps : List Step) (old new : Place) (turn : Turn)
+    (before after : List ℕ) : Type 0 where
+  pub turn_is : turn ≡ turn_of log.last (steps_ahead log steps old)
+  pub piece_is : after ≡ piece_of (steps_ahead log steps old) before
+  pub left_are : steps_from steps new ≡ steps_after (steps_ahead log steps old)
 
 -- a turn is that the first waiting stream takes bytes again, and no step was given
-pub record FreesFirst (waiting : List ℕ) (old : ScriptWire) (place : Place) (turn : Turn)
+pub record FreesFirst (waiting : List ℕ) (old new : Place) (turn : Turn) (before after : List ℕ)
     : Type 0 where
   pub turn_is : turn ≡ Writable (slice_index waiting 0)
-  pub left_are : place ≡ old.place
+  pub piece_is : after ≡ before
+  pub left_are : new ≡ old
 
--- the turn of a wait, and the place after it
-abbrev pub GivesAt : Want → List ℕ → ScriptWire → Place → Turn → List ℕ → List ℕ → Type 0
-GivesAt Read waiting old place turn before after = GivesStep old place turn before after
-GivesAt WriteOnly waiting old place turn before after = FreesFirst waiting old place turn
+-- the turn of a wait, the buffer and the place after it
+abbrev pub GivesAt : Want → List ℕ → Logged → List Step → Place → Place → Turn → List ℕ → List ℕ
+    → Type 0
+GivesAt Read waiting log steps old new turn before after =
+    GivesStep log steps old new turn before after
+GivesAt WriteOnly waiting log steps old new turn before after =
+    FreesFirst waiting old new turn before after
 
 -- the steps that are left stay
 pub record KeepsSteps (old new : ScriptWire) : Type 0 where
@@ -58,10 +58,16 @@ pub record KeepsOpens (old new : ScriptWire) : Type 0 where
   pub fails_kept : new.fails ≡ old.fails
   pub opens_kept : new.opens ≡ old.opens
 
+-- the script stays
+pub record SameScript (old new : ScriptWire) : Type 0 where
+  pub steps_kept : KeepsSteps old new
+  pub writes_kept : KeepsWrites old new
+  pub opens_kept : KeepsOpens old new
+
 -- what a wait gives
 pub record GivesNext (want : Want) (waiting : List ℕ) (old new : ScriptWire) (turn : Turn)
     (before after : List ℕ) : Type 0 where
-  pub gives : GivesAt want waiting old new.place turn before after
+  pub gives : GivesAt want waiting old.log old.steps old.place new.place turn before after
   pub steps_kept : new.steps ≡ old.steps
 
 -- a write followed its entry
@@ -76,8 +82,8 @@ pub record CountsOpen (fails : Bool) (old new : ScriptWire) : Type 0 where
   pub opens_are : new.opens ≡ counted old.opens
   pub fails_kept : new.fails ≡ old.fails
 
--- a call of open fails exactly where its number is among those that fail, and isn't counted for want
--- of memory
+-- a call of open fails exactly where its number is among those that fail, and isn't counted for
+-- want of memory
 abbrev pub OpensByNumber : Result (Unit {0}) FileError → ScriptWire → ScriptWire → Type 0
 OpensByNumber (Ok x) old new = CountsOpen false old new
 OpensByNumber (Err Failed) old new = CountsOpen true old new

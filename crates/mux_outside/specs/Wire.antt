@@ -5,6 +5,7 @@ use Rattle.mux_outside.specs.Counts.{Rose}
 use Rattle.mux_outside.specs.Streams.{among, without}
 use Rattle.mux_outside.specs.declared.file_error.FileError.{FileError}
 use Rattle.mux_outside.specs.declared.file_error.FileError.TheVariants.{Failed as FailedFile, OutOfMemory}
+use Rattle.mux_outside.specs.declared.piece.TheConstants.{LONGEST_PIECE}
 use Rattle.mux_outside.specs.declared.turn.Want.{Want}
 use Rattle.mux_outside.specs.declared.turn.Want.TheVariants.{Read}
 use Rattle.mux_outside.specs.declared.turn.Turn.{Turn}
@@ -55,7 +56,7 @@ abbrev pub TurnFits : Turn → Want → Bool → ℕ → List ℕ → List ℕ �
 TurnFits (Accepted k) want listens last streams blocked bytes =
     (want ≡ Read) × (listens ≡ true) × (k ≡ last + 1)
 TurnFits (Got t) want listens last streams blocked bytes =
-    (want ≡ Read) × IsTrue (among t streams) × (0 < length bytes) × (length bytes ≤ 65536)
+    (want ≡ Read) × IsTrue (among t streams) × (0 < length bytes) × (length bytes ≤ LONGEST_PIECE)
 TurnFits (End t) want listens last streams blocked bytes = (want ≡ Read) × IsTrue (among t streams)
 TurnFits (Writable t) want listens last streams blocked bytes =
     IsTrue (among t streams) × IsTrue (among t blocked)

@@ -1,11 +1,14 @@
 -- What a wire in memory keeps of its calls.
-use Rattle.std.specs.Prelude.{◌≡◌, ℕ, Bool, true, false, List, [], Some, Result, Ok, Err}
-use Rattle.mux_outside.specs.Seen.{Calls, Seen, no_calls}
+use Rattle.std.specs.Prelude.{◌≡◌, ℕ, Bool, true, false, List, [], ◌++◌, Some, Result, Ok, Err}
+use Rattle.mux_outside.specs.Seen.{Calls, Seen, no_calls, calls_after_wait, calls_after_write}
+use Rattle.mux_outside.specs.Seen.{seen_after_open, seen_after_turn, seen_after_write, seen_after_close}
+use Rattle.mux_outside.specs.Wire.{openings_of, OpenFaults, TurnFaults, WroteFaults}
 use Rattle.mux_outside.specs.declared.file_error.FileError.{FileError}
 use Rattle.mux_outside.specs.declared.file_error.FileError.TheVariants.{Failed, OutOfMemory as NoMemory}
 use Rattle.mux_outside.specs.declared.mark.Mark.{Mark}
 use Rattle.mux_outside.specs.declared.mark.Opening.{Opening}
 use Rattle.mux_outside.specs.declared.turn.Turn.{Turn}
+use Rattle.mux_outside.specs.declared.turn.Want.{Want}
 use Rattle.mux_outside.specs.declared.turn.Turn.TheVariants.{NoMemory as NoMemoryToWait}
 use Rattle.mux_outside.specs.declared.turn.Wrote.{Wrote}
 use Rattle.mux_outside.specs.declared.turn.Wrote.TheVariants.{NoMemory as NoMemoryToWrite}
@@ -46,6 +49,41 @@ seen_in log = record {
   listens = log.listens;
   last = log.last;
 }
+
+-- after a call of open with this answer
+pub record LogsOpening (answer : Result (Unit {0}) FileError) (control transport : List ℕ)
+    (old new : Logged) : Type 0 where
+  pub openings : new.openings ≡ old.openings ++ openings_of answer control transport
+  pub seen : seen_in new ≡ seen_after_open answer (seen_in old)
+  pub calls : new.calls ≡ old.calls
+  pub cause : OpenFaults answer old.server_faults new.server_faults
+      old.client_faults new.client_faults
+
+-- after a wait that gave this turn
+pub record LogsTurn (turn : Turn) (waiting : List ℕ) (want : Want) (bytes : List ℕ)
+    (old new : Logged) : Type 0 where
+  pub openings : new.openings ≡ old.openings
+  pub seen : seen_in new ≡ seen_after_turn turn waiting want bytes (seen_in old)
+  pub calls : new.calls ≡ calls_after_wait turn old.calls
+  pub cause : TurnFaults turn old.server_faults new.server_faults
+      old.client_faults new.client_faults
+
+-- after a write that had this answer
+pub record LogsWrite (wrote : Wrote) (stream : ℕ) (bytes : List ℕ) (old new : Logged)
+    : Type 0 where
+  pub openings : new.openings ≡ old.openings
+  pub seen : seen_in new ≡ seen_after_write wrote stream bytes (seen_in old)
+  pub calls : new.calls ≡ calls_after_write wrote old.calls
+  pub cause : WroteFaults wrote stream old.server_faults new.server_faults
+      old.client_faults new.client_faults
+
+-- after a stream was closed
+pub record LogsClose (stream : ℕ) (old new : Logged) : Type 0 where
+  pub openings : new.openings ≡ old.openings
+  pub seen : seen_in new ≡ seen_after_close stream (seen_in old)
+  pub calls : new.calls ≡ old.calls
+  pub server : new.server_faults ≡ old.server_faults
+  pub client : new.client_faults ≡ old.client_faults
 
 -- the turn that a wait gives: there may be no memory to keep it
 abbrev pub turn_kept : {E : Type 0} → Result (Unit {0}) E → Turn → Turn

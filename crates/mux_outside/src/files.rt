@@ -6,7 +6,7 @@ ghost use Rattle.mux_outside.specs.Files.{Reads, Lists, NotesFailed};
 use crate::file_error::FileError;
 use ssh_fields::{Text, Texts};
 
-/// Files and directories, which don't change during a run.
+/// Files and directories. What is told of them no call changes.
 pub trait Files {
     /// The paths and contents of all files, where they are told.
     ghost told: { Self → Option (List ThePair) };

@@ -40,7 +40,7 @@ pub use map_files::MapFiles;
 pub use map_runner::MapRunner;
 pub use mark::{Mark, Opening, bytes_taken};
 pub use pairs::{Pair, Pairs};
-pub use piece::Piece;
+pub use piece::{LONGEST_PIECE, Piece};
 pub use runner::Runner;
 pub use script::{Step, Steps, WriteEntry, Writes};
 pub use script_wire::ScriptWire;

@@ -27,7 +27,8 @@ pub struct MapFiles {
 }
 
 impl MapFiles {
-    /// These files. The calls that fail are counted over reads and listings, and their paths are kept.
+    /// These files. The calls that fail are counted over reads and listings, and their paths are
+    /// kept.
     pub fn new(alloc: Global, files: Pairs, fails: Calls) -> MapFiles
         ensures files { result.files ≡ files }
         ensures fails { result.fails ≡ fails }

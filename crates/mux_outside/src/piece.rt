@@ -1,8 +1,12 @@
-ghost use Rattle.std.specs.Prelude.{◌≡◌, ◌≤◌, [], length, IfOk};
+ghost use Rattle.std.specs.Prelude.{◌≡◌, ◌≤◌, [], length, IfOk, IfSome, unwrap_or};
+ghost use Rattle.std.specs.Option.{option_map};
 
 use ssh_fields::OutOfMemory;
 use std::alloc::Global;
 use std::marker::Model;
+
+/// The most bytes that a turn gives.
+pub const LONGEST_PIECE: usize = 65_536;
 
 /// A buffer for the bytes of one turn, with room for 65,536 and never more in it.
 #[derive(Debug, Drop)]
@@ -26,13 +30,13 @@ impl Piece {
     pub fn new(alloc: Global) -> Result<Piece, OutOfMemory>
         ensures { IfOk result (λ piece. piece ≡ []) }
     {
-        let bytes = Vec::with_capacity(alloc, 65536)?;
+        let bytes = Vec::with_capacity(alloc, LONGEST_PIECE)?;
         Ok(Piece { bytes })
     }
 
     /// Puts these bytes in place of those before.
     pub fn set(&mut self, bytes: &[u8])
-        requires { length bytes.now ≤ 65536 }
+        requires { length bytes.now ≤ LONGEST_PIECE }
         ensures { self.new ≡ bytes.now }
     {
         self.bytes.clear();
@@ -41,9 +45,29 @@ impl Piece {
         }
     }
 
+    // What it holds once these bytes are put in, where there are some.
+    pub(crate) fn filled<'a>(&'a self, bytes: Option<&'a [u8]>) -> &'a [u8]
+        ensures { result.now ≡ unwrap_or (option_map (λ b. b.now) bytes.entry) self.now }
+    {
+        match bytes {
+            Some(bytes) => bytes,
+            None => self.as_bytes(),
+        }
+    }
+
+    // Puts these bytes in place of those before, where there are some.
+    pub(crate) fn fill(&mut self, bytes: Option<&[u8]>)
+        requires { IfSome (option_map (λ b. b.now) bytes) (λ b. length b ≤ LONGEST_PIECE) }
+        ensures { self.new ≡ unwrap_or (option_map (λ b. b.now) bytes.entry) self.old }
+    {
+        if let Some(bytes) = bytes {
+            self.set(bytes);
+        }
+    }
+
     pub fn as_bytes(&self) -> &[u8]
         ensures bytes { result.now ≡ self.now }
-        ensures room { length result.now ≤ 65536 }
+        ensures room { length result.now ≤ LONGEST_PIECE }
     {
         self.bytes.as_slice()
     }

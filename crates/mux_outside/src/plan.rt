@@ -1,17 +1,14 @@
 // What a script gives next.
-ghost use Rattle.std.specs.Prelude.{◌≡◌, ◌≤◌, ◌++◌, drop, take, length};
+ghost use Rattle.std.specs.Prelude.{◌≡◌, ◌≤◌, drop, take, length, IfSome};
 ghost use Rattle.mux_outside.specs.declared.turn.Want.TheVariants.{Read};
 ghost use Rattle.mux_outside.specs.Streams.{among};
-ghost use Rattle.mux_outside.specs.Script.{is_given_in, cut_step, steps_from, from_first, FirstGives, turn_of, piece_of, steps_after, entry_at, answer_of};
+ghost use Rattle.mux_outside.specs.Script.{is_given_in, cut_step, steps_from, from_first, FirstGives, turn_of, bytes_of, bytes_in, steps_after, entry_at, answer_of};
 ghost use Rattle.mux_outside.specs.Wire.{TurnFits};
 
-use crate::piece::Piece;
+use crate::piece::LONGEST_PIECE;
 use crate::script::{Step, WriteEntry};
 use crate::streams::Streams;
 use crate::turn::{Turn, Wrote};
-
-// The most bytes that a turn gives.
-const PIECE: usize = 65536;
 
 /// A place in a script: a step, and how many of its bytes were given.
 #[derive(Clone, Copy, Debug, PartialEq, Eq)]
@@ -20,10 +17,11 @@ pub struct Place {
     pub offset: usize,
 }
 
-/// A turn, and the place after it.
-#[derive(Clone, Copy, Debug)]
-pub struct Given {
+/// A turn, the bytes that it gives, if any, and the place after it.
+#[derive(Clone, Copy)]
+pub struct Given<'a> {
     pub turn: Turn,
+    pub bytes: Option<&'a [u8]>,
     pub place: Place,
 }
 
@@ -71,16 +69,18 @@ pub fn find(steps: &[Step], place: Place, state: State<'_>) -> Place
     }
 }
 
-/// The turn at a place, and the place after it.
-pub fn give(steps: &[Step], place: Place, last: u64, into: &mut Piece) -> Given
+/// The turn at a place, the bytes that it gives, and the place after it.
+pub fn give<'a>(steps: &'a [Step], place: Place, last: u64) -> Given<'a>
     requires { FirstGives last (steps_from steps.now place) }
     ensures turn { result.turn ≡ turn_of last (steps_from steps.now place) }
-    ensures piece { into.new ≡ piece_of (steps_from steps.now place) into.old }
+    ensures bytes { bytes_in result ≡ bytes_of (steps_from steps.now place) }
+    ensures short { IfSome (bytes_in result) (λ bytes. length bytes ≤ LONGEST_PIECE) }
     ensures place { steps_from steps.now result.place ≡ steps_after (steps_from steps.now place) }
 {
     let Some(step) = steps.get(place.step) else {
         return Given {
             turn: Turn::End(0),
+            bytes: None,
             place,
         };
     };
@@ -91,40 +91,48 @@ pub fn give(steps: &[Step], place: Place, last: u64, into: &mut Piece) -> Given
     match step {
         Step::Accept => Given {
             turn: Turn::Accepted(last + 1),
+            bytes: None,
             place: behind,
         },
-        Step::Bytes(stream, text) => Given {
-            turn: Turn::Got(*stream),
-            place: Place {
-                step: place.step,
-                offset: give_bytes(text.as_bytes(), place.offset, into),
-            },
-        },
+        Step::Bytes(stream, text) => {
+            let (bytes, offset) = next_piece(text.as_bytes(), place.offset);
+            Given {
+                turn: Turn::Got(*stream),
+                bytes: Some(bytes),
+                place: Place {
+                    step: place.step,
+                    offset,
+                },
+            }
+        }
         Step::End(stream) => Given {
             turn: Turn::End(*stream),
+            bytes: None,
             place: behind,
         },
         Step::Fail(stream) => Given {
             turn: Turn::Failed(*stream),
+            bytes: None,
             place: behind,
         },
         Step::Writable(stream) => Given {
             turn: Turn::Writable(*stream),
+            bytes: None,
             place: behind,
         },
     }
 }
 
-// Gives at most 65,536 bytes behind those that were given, and says how many were given then.
-fn give_bytes(text: &[u8], offset: usize, into: &mut Piece) -> usize
-    ensures piece { into.new ≡ take 65536 (drop offset text.now) }
-    ensures rest { drop result text.now ≡ drop 65536 (drop offset text.now) }
+// The next piece behind the bytes that were given, and how many were given with it.
+fn next_piece(text: &[u8], offset: usize) -> (&[u8], usize)
+    ensures piece { result.0.now ≡ take LONGEST_PIECE (drop offset text.now) }
+    ensures short { length result.0.now ≤ LONGEST_PIECE }
+    ensures rest { drop result.1 text.now ≡ drop LONGEST_PIECE (drop offset text.now) }
 {
     let start = offset.min(text.len());
     let rest = &text[start..];
-    let count = PIECE.min(rest.len());
-    into.set(&rest[..count]);
-    start + count
+    let count = LONGEST_PIECE.min(rest.len());
+    (&rest[..count], start + count)
 }
 
 /// The answer to a write of so many bytes after so many others.

@@ -1,4 +1,4 @@
-ghost use Rattle.std.specs.Prelude.{◌≡◌, ◌≢◌, ◌<◌, ◌++◌, false, Some, IsTrue, All, IfOk, length};
+ghost use Rattle.std.specs.Prelude.{◌≡◌, ◌≢◌, ◌<◌, ◌≤◌, ◌++◌, ℕ, List, false, Some, IsTrue, All, IfSome, length, unwrap_or};
 ghost use Rattle.std.specs.Option.{option_map};
 ghost use Rattle.mux_outside.specs.Streams.{among};
 ghost use Rattle.mux_outside.specs.Tally.{no_tally};
@@ -6,17 +6,19 @@ ghost use Rattle.mux_outside.specs.declared.turn.Want.TheVariants.{WriteOnly};
 ghost use Rattle.mux_outside.specs.declared.turn.Turn.TheVariants.{NoMemory};
 ghost use Rattle.mux_outside.specs.declared.turn.Wrote.TheVariants.{NoMemory as NoMemoryToWrite};
 ghost use Rattle.mux_outside.specs.Wire.{openings_of, OpenFaults, TurnFits, TurnFaults, WroteFits, WroteFaults};
-ghost use Rattle.mux_outside.specs.Seen.{seen_after_open, seen_after_turn, seen_after_write, calls_after_wait, calls_after_write};
+ghost use Rattle.mux_outside.specs.Script.{bytes_in};
+ghost use Rattle.mux_outside.specs.Seen.{seen_after_close, seen_after_open, seen_after_turn, seen_after_write};
+ghost use Rattle.mux_outside.specs.Seen.{calls_after_wait, calls_after_write};
 ghost use Rattle.mux_outside.specs.ScriptWire.{GivesAt, GivesNext, FollowsEntry, OpensByNumber, Starts};
-ghost use Rattle.mux_outside.specs.WireLog.{seen_in};
-ghost use Rattle.mux_outside.specs.ScriptWire.{KeepsSteps, KeepsWrites, KeepsOpens};
+ghost use Rattle.mux_outside.specs.WireLog.{seen_in, LogsOpening, LogsTurn, LogsWrite, LogsClose};
+ghost use Rattle.mux_outside.specs.ScriptWire.{KeepsSteps, KeepsWrites, KeepsOpens, SameScript};
 
 use crate::calls::Calls;
 use crate::counts::counted;
 use crate::file_error::FileError;
-use crate::piece::Piece;
+use crate::piece::{LONGEST_PIECE, Piece};
 use crate::plan::{Given, Place, State, answer_at, find, give};
-use crate::script::{Steps, Writes};
+use crate::script::{Step, Steps, Writes};
 use crate::streams::Streams;
 use crate::turn::{Tally, Turn, Want, Wrote};
 use crate::wire::Wire;
@@ -63,36 +65,40 @@ impl ScriptWire {
     }
 }
 
-impl ScriptWire {
-    // The turn of a wait, and the place in the script after it.
-    fn given(&self, waiting: &Streams, want: Want, into: &mut Piece) -> Given
-        requires waiting_blocked { All (λ t. IsTrue (among t self.now.log.blocked)) waiting.now }
-        requires waiting_open { All (λ t. IsTrue (among t self.now.log.streams)) waiting.now }
-        requires server { IsTrue (among 0 self.now.log.streams) }
-        requires some { want ≡ WriteOnly → 0 < length waiting.now }
-        ensures turn { TurnFits result.turn want self.now.log.listens self.now.log.last
-            self.now.log.streams
-            self.now.log.blocked into.new }
-        ensures script { GivesAt want waiting.now self.now result.place result.turn
-            into.old into.new }
-    {
-        match want {
-            Want::Read => {
-                let state = State {
-                    listening: self.log.is_listening(),
-                    last: self.log.last(),
-                    streams: self.log.streams(),
-                    blocked: self.log.blocked(),
-                };
-                let steps = self.steps.as_slice();
-                let place = find(steps, self.place, state);
-                give(steps, place, self.log.last(), into)
-            }
-            Want::WriteOnly => Given {
-                turn: Turn::Writable(waiting.as_slice()[0]),
-                place: self.place,
-            },
+// The turn of a wait, the bytes that it gives, if any, and the place in the script after it.
+fn given<'a>(
+    steps: &'a [Step],
+    place: Place,
+    log: &WireLog,
+    waiting: &Streams,
+    want: Want,
+) -> Given<'a>
+    requires waiting_blocked { All (λ t. IsTrue (among t log.now.blocked)) waiting.now }
+    requires waiting_open { All (λ t. IsTrue (among t log.now.streams)) waiting.now }
+    requires server { IsTrue (among 0 log.now.streams) }
+    requires some { want ≡ WriteOnly → 0 < length waiting.now }
+    ensures turn { (piece : List ℕ) → TurnFits result.turn want log.now.listens log.now.last
+        log.now.streams log.now.blocked (unwrap_or (bytes_in result) piece) }
+    ensures short { IfSome (bytes_in result) (λ bytes. length bytes ≤ LONGEST_PIECE) }
+    ensures script { (piece : List ℕ) → GivesAt want waiting.now log.now steps.now place
+        result.place result.turn piece (unwrap_or (bytes_in result) piece) }
+{
+    match want {
+        Want::Read => {
+            let state = State {
+                listening: log.is_listening(),
+                last: log.last(),
+                streams: log.streams(),
+                blocked: log.blocked(),
+            };
+            let place = find(steps, place, state);
+            give(steps, place, log.last())
         }
+        Want::WriteOnly => Given {
+            turn: Turn::Writable(waiting.as_slice()[0]),
+            bytes: None,
+            place,
+        },
     }
 }
 
@@ -110,13 +116,7 @@ impl Wire for ScriptWire {
     ghost tally = { λ _. no_tally };
 
     fn open(&mut self, control: &[u8], transport: &[u8]) -> Result<(), FileError>
-        ensures openings { Some self.new.log.openings
-            ≡ option_map (λ os. os ++ openings_of result control.now transport.now)
-            (Some self.old.log.openings) }
-        ensures seen { seen_in self.new.log ≡ seen_after_open result (seen_in self.old.log) }
-        ensures calls { self.new.log.calls ≡ self.old.log.calls }
-        ensures cause { OpenFaults result self.old.log.server_faults self.new.log.server_faults
-            self.old.log.client_faults self.new.log.client_faults }
+        ensures logs { LogsOpening result control.now transport.now self.old.log self.new.log }
         ensures exact { OpensByNumber result self.old self.new }
         ensures script { KeepsSteps self.old self.new × KeepsWrites self.old self.new }
     {
@@ -138,25 +138,20 @@ impl Wire for ScriptWire {
         ensures turn { TurnFits result want self.old.log.listens self.old.log.last
             self.old.log.streams
             self.old.log.blocked into.new }
-        ensures openings { Some self.new.log.openings ≡ Some self.old.log.openings }
-        ensures seen { seen_in self.new.log ≡ seen_after_turn result waiting.now want into.new
-            (seen_in self.old.log) }
-        ensures calls { self.new.log.calls ≡ calls_after_wait result self.old.log.calls }
-        ensures cause { TurnFaults result self.old.log.server_faults self.new.log.server_faults
-            self.old.log.client_faults self.new.log.client_faults }
+        ensures logs { LogsTurn result waiting.now want into.new self.old.log self.new.log }
         ensures script { result ≢ NoMemory
             → GivesNext want waiting.now self.old self.new result into.old into.new }
         ensures err { result ≡ NoMemory → KeepsSteps self.old self.new }
+        ensures kept { result ≡ NoMemory → into.new ≡ into.old }
         ensures others { KeepsWrites self.old self.new × KeepsOpens self.old self.new }
     {
-        let given = self.given(waiting, want, into);
-        if self
-            .log
-            .waited(given.turn, waiting, want, into.as_bytes())
-            .is_err()
-        {
+        let steps = self.steps.as_slice();
+        let given = given(steps, self.place, &self.log, waiting, want);
+        let bytes = into.filled(given.bytes);
+        if self.log.waited(given.turn, waiting, want, bytes).is_err() {
             return Turn::NoMemory;
         }
+        into.fill(given.bytes);
         self.place = given.place;
         given.turn
     }
@@ -166,13 +161,7 @@ impl Wire for ScriptWire {
         requires not_blocked { among stream self.old.log.blocked ≡ false }
         requires some { 0 < length bytes.now }
         ensures wrote { WroteFits result (length bytes.now) }
-        ensures openings { Some self.new.log.openings ≡ Some self.old.log.openings }
-        ensures seen { seen_in self.new.log
-            ≡ seen_after_write result stream bytes.now (seen_in self.old.log) }
-        ensures calls { self.new.log.calls ≡ calls_after_write result self.old.log.calls }
-        ensures cause { WroteFaults result stream self.old.log.server_faults
-            self.new.log.server_faults
-            self.old.log.client_faults self.new.log.client_faults }
+        ensures logs { LogsWrite result stream bytes.now self.old.log self.new.log }
         ensures script { result ≢ NoMemoryToWrite
             → FollowsEntry (length bytes.now) self.old self.new result }
         ensures err { result ≡ NoMemoryToWrite → KeepsWrites self.old self.new }
@@ -186,11 +175,17 @@ impl Wire for ScriptWire {
         wrote
     }
 
-    fn stop_listening(&mut self) {
+    fn stop_listening(&mut self)
+        ensures logs { self.new.log ≡ record self.old.log { listens = false } }
+        ensures same { SameScript self.old self.new }
+    {
         self.log.stop_listening();
     }
 
-    fn close(&mut self, stream: u64) {
+    fn close(&mut self, stream: u64)
+        ensures logs { LogsClose stream self.old.log self.new.log }
+        ensures same { SameScript self.old self.new }
+    {
         self.log.close(stream);
     }
 

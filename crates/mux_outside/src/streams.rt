@@ -62,8 +62,8 @@ impl Streams {
         self.numbers.clear();
     }
 
-    /// Puts these streams in place of those before. It takes no memory where there is room for them.
-    /// After an `Err` there is none.
+    /// Puts these streams in place of those before. It takes no memory where there is room for
+    /// them. After an `Err` there is none.
     pub fn refill(&mut self, numbers: &[u64]) -> Result<(), OutOfMemory>
         ensures ok { OnOk result (self.new ≡ numbers.now) }
         ensures err { OnErr result (self.new ≡ []) }

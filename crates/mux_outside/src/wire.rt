@@ -61,7 +61,8 @@ pub trait Wire {
         ensures calls { calls self.new ≡ calls_after_wait result (calls self.old) }
         ensures cause { TurnFaults result (server_faults self.old) (server_faults self.new)
             (client_faults self.old) (client_faults self.new) }
-        ensures err { result ≡ NoMemory → tally self.new ≡ tally self.old };
+        ensures err { result ≡ NoMemory → tally self.new ≡ tally self.old }
+        ensures kept { result ≡ NoMemory → into.new ≡ into.old };
 
     /// Hands bytes to a stream, which takes one of them at least, or none for now.
     fn write(&mut self, stream: u64, bytes: &[u8]) -> Wrote
@@ -82,7 +83,8 @@ pub trait Wire {
         ensures seen { seen self.new ≡ record (seen self.old) { listens = false } }
         ensures calls { calls self.new ≡ calls self.old }
         ensures server { server_faults self.new ≡ server_faults self.old }
-        ensures client { client_faults self.new ≡ client_faults self.old };
+        ensures client { client_faults self.new ≡ client_faults self.old }
+        ensures tally { tally self.new ≡ tally self.old };
 
     /// Closes a stream.
     fn close(&mut self, stream: u64)
@@ -90,7 +92,8 @@ pub trait Wire {
         ensures seen { seen self.new ≡ seen_after_close stream (seen self.old) }
         ensures calls { calls self.new ≡ calls self.old }
         ensures server { server_faults self.new ≡ server_faults self.old }
-        ensures client { client_faults self.new ≡ client_faults self.old };
+        ensures client { client_faults self.new ≡ client_faults self.old }
+        ensures tally { tally self.new ≡ tally self.old };
 
     /// What was counted so far.
     fn tally(&self) -> Tally

@@ -1,10 +1,9 @@
 // What a wire in memory keeps of its calls.
 ghost use Rattle.std.specs.Prelude.{◌≡◌, ◌++◌, IfOk, false, length};
 ghost use Rattle.mux_outside.specs.Marks.{bytes_taken as all_taken};
-ghost use Rattle.mux_outside.specs.Seen.{calls_after_wait, calls_after_write};
-ghost use Rattle.mux_outside.specs.Seen.{seen_after_close, seen_after_open, seen_after_turn, seen_after_write};
-ghost use Rattle.mux_outside.specs.Wire.{openings_of, OpenFaults, TurnFaults, WroteFaults, WroteFits};
-ghost use Rattle.mux_outside.specs.WireLog.{nothing_logged, seen_in, turn_kept, answer_kept, OpensAs};
+ghost use Rattle.mux_outside.specs.Wire.{WroteFits};
+ghost use Rattle.mux_outside.specs.WireLog.{nothing_logged, turn_kept, answer_kept, OpensAs};
+ghost use Rattle.mux_outside.specs.WireLog.{LogsOpening, LogsTurn, LogsWrite, LogsClose};
 
 use crate::call_counts::CallCounts;
 use crate::counts::{count_fault, raised};
@@ -122,12 +121,7 @@ impl WireLog {
     /// server's stream alone is open, and clients are accepted; a failure counts as the server's.
     pub fn opened(&mut self, control: &[u8], transport: &[u8], opens: bool) -> Result<(), FileError>
         ensures opens { OpensAs opens result }
-        ensures openings { self.new.openings
-            ≡ self.old.openings ++ openings_of result control.now transport.now }
-        ensures seen { seen_in self.new ≡ seen_after_open result (seen_in self.old) }
-        ensures calls { self.new.calls ≡ self.old.calls }
-        ensures cause { OpenFaults result self.old.server_faults self.new.server_faults
-            self.old.client_faults self.new.client_faults }
+        ensures logs { LogsOpening result control.now transport.now self.old self.new }
     {
         let opening = Opening {
             control: Text::copy(self.alloc, control)?,
@@ -157,13 +151,8 @@ impl WireLog {
         want: Want,
         bytes: &[u8],
     ) -> Result<(), OutOfMemory>
-        ensures openings { self.new.openings ≡ self.old.openings }
-        ensures seen { seen_in self.new
-            ≡ seen_after_turn (turn_kept result turn) waiting.now want bytes.now
-            (seen_in self.old) }
-        ensures calls { self.new.calls ≡ calls_after_wait (turn_kept result turn) self.old.calls }
-        ensures cause { TurnFaults (turn_kept result turn) self.old.server_faults
-            self.new.server_faults self.old.client_faults self.new.client_faults }
+        ensures logs { LogsTurn (turn_kept result turn) waiting.now want bytes.now
+            self.old self.new }
     {
         if record_wait(
             self.alloc,
@@ -198,13 +187,7 @@ impl WireLog {
     /// counted as one that found none.
     pub fn wrote(&mut self, wrote: Wrote, stream: u64, bytes: &[u8]) -> Result<(), OutOfMemory>
         requires { WroteFits wrote (length bytes.now) }
-        ensures openings { self.new.openings ≡ self.old.openings }
-        ensures seen { seen_in self.new
-            ≡ seen_after_write (answer_kept result wrote) stream bytes.now (seen_in self.old) }
-        ensures calls { self.new.calls ≡ calls_after_write (answer_kept result wrote)
-            self.old.calls }
-        ensures cause { WroteFaults (answer_kept result wrote) stream self.old.server_faults
-            self.new.server_faults self.old.client_faults self.new.client_faults }
+        ensures logs { LogsWrite (answer_kept result wrote) stream bytes.now self.old self.new }
     {
         if record_write(
             self.alloc,
@@ -235,11 +218,7 @@ impl WireLog {
 
     /// Keeps that a stream was closed.
     pub fn close(&mut self, stream: u64)
-        ensures seen { seen_in self.new ≡ seen_after_close stream (seen_in self.old) }
-        ensures openings { self.new.openings ≡ self.old.openings }
-        ensures calls { self.new.calls ≡ self.old.calls }
-        ensures server { self.new.server_faults ≡ self.old.server_faults }
-        ensures client { self.new.client_faults ≡ self.old.client_faults }
+        ensures { LogsClose stream self.old self.new }
     {
         self.streams.remove(stream);
         self.blocked.remove(stream);

@@ -67,8 +67,8 @@ pub fn listen_beside<R: Files + Net + Clone + Drop>(
     alloc: Global,
     path: &str,
 ) -> io::Result<Unnamed<R>> {
-    // A name that is too long or taken is refused before anything is done. `publish` refuses a taken
-    // one too.
+    // A name that is too long or taken is refused before anything is done. `publish` refuses a
+    // taken one too.
     let _ = SocketAddr::from_pathname(path)?;
     if fs::symlink_metadata(rt, path).is_ok() {
         return Err(io::Error::from(io::ErrorKind::AlreadyExists));

@@ -1,11 +1,11 @@
-ghost use Rattle.std.specs.Prelude.{◌≡◌, ◌≤◌, ◌↔◌, ◌⊎◌, length, take, None, Err, IfOk, IfSome, IsTrue, IsUtf8};
+ghost use Rattle.std.specs.Prelude.{◌≡◌, ◌≤◌, ◌↔◌, ◌⊎◌, ◌++◌, ◌∷◌, [], length, take, None, Err, IfOk, IfSome, IsTrue, IsUtf8, OnOk};
 ghost use Rattle.mux_outside.specs.Counts.{HasCause};
 ghost use Rattle.std.specs.IoError.{error_kind};
 
 use crate::faults::{count_failed, file_error};
 use mux_outside::{FileError, Files};
-use ssh_fields::{Text, Texts};
-use std::alloc::Global;
+use ssh_fields::{OutOfMemory, Text, Texts};
+use std::alloc::{AllocError, Global};
 use std::fs::OpenFile;
 use std::io::{ErrorKind, Read};
 use std::rt::Files as System;
@@ -85,28 +85,35 @@ fn read_file<R: System>(
     let Ok(path) = str::from_utf8(path) else {
         return Err(FileError::Failed);
     };
+    read_at(rt, alloc, path, most).map_err(|e| file_error(&e))
+}
+
+// The same, at a path that is text.
+fn read_at<R: System>(rt: &R, alloc: Global, path: &str, most: usize) -> io::Result<Option<Text>>
+    ensures at_most { IfOk result (λ found. IfSome found (λ text. length text ≤ most)) }
+{
     let file = match fs::open(rt, path) {
         Ok(file) => file,
         Err(e) if is_missing(&e) => return Ok(None),
-        Err(e) => return Err(file_error(&e)),
+        Err(e) => return Err(e),
     };
-    if file.metadata().map_err(|e| file_error(&e))?.is_dir() {
+    if file.metadata()?.is_dir() {
         return Ok(None);
     }
     Ok(Some(read_first(file, alloc, most)?))
 }
 
 // The first bytes that a reader gives.
-fn read_first<F: Read + Drop>(file: F, alloc: Global, most: usize) -> Result<Text, FileError>
+fn read_first<F: Read + Drop>(file: F, alloc: Global, most: usize) -> io::Result<Text>
     ensures at_most { IfOk result (λ text. length text ≤ most) }
     ensures first { IfOk result (λ text.
         IfSome (F.remaining file) (λ left. text ≡ take most left)) }
 {
     let mut bytes = Vec::new(alloc);
     let mut front = file.take(most as u64);
-    let _ = front.read_to_end(&mut bytes).map_err(|e| file_error(&e))?;
+    let _ = front.read_to_end(&mut bytes)?;
     let count = bytes.len().min(most);
-    Ok(Text::copy(alloc, &bytes[..count])?)
+    Ok(Text::copy(alloc, &bytes[..count]).map_err(|_| AllocError)?)
 }
 
 // The names in a directory.
@@ -121,18 +128,36 @@ fn list_names<R: System + AllocGlobal + Clone + Drop>(
     let Ok(dir) = str::from_utf8(dir) else {
         return Err(FileError::Failed);
     };
+    list_at(rt, alloc, dir).map_err(|e| file_error(&e))
+}
+
+// The same, at a path that is text.
+fn list_at<R: System + AllocGlobal + Clone + Drop>(
+    rt: &R,
+    alloc: Global,
+    dir: &str,
+) -> io::Result<Option<Texts>>
+    ensures at_most { IfOk result (λ found. IfSome found (λ names. length names ≤ NAMES)) }
+{
     let entries = match fs::read_dir(rt, dir) {
         Ok(entries) => entries,
         Err(e) if is_missing(&e) => return Ok(None),
-        Err(e) => return Err(file_error(&e)),
+        Err(e) => return Err(e),
     };
     let mut names = Texts::new(alloc);
     for entry in entries {
-        let entry = entry.map_err(|e| file_error(&e))?;
+        let entry = entry?;
         if names.len() == NAMES {
-            return Err(FileError::Failed);
+            return Err(io::Error::from(ErrorKind::Other));
         }
-        names.push(Text::copy(alloc, entry.file_name().as_bytes())?)?;
+        add_name(alloc, &mut names, entry.file_name().as_bytes()).map_err(|_| AllocError)?;
     }
     Ok(Some(names))
+}
+
+// Adds a name at the end.
+fn add_name(alloc: Global, names: &mut Texts, name: &[u8]) -> Result<(), OutOfMemory>
+    ensures { OnOk result (names.new ≡ names.old ++ name.now ∷ []) }
+{
+    names.push(Text::copy(alloc, name)?)
 }

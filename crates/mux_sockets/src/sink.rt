@@ -16,7 +16,8 @@ pub struct RealSink<W: Write + Drop> {
 impl<W: Write + Drop> RealSink<W> {
     /// The writer, of which no call has failed.
     pub fn new(out: W) -> RealSink<W>
-        ensures { result.faults ≡ 0 }
+        ensures out { result.out ≡ out }
+        ensures faults { result.faults ≡ 0 }
     {
         RealSink { out, faults: 0 }
     }

@@ -1,17 +1,17 @@
 // The sockets of a run, and which of them are ready, in the order in which they became so.
-ghost use Rattle.std.specs.Prelude.{◌≡◌, ◌≢◌, ◌≤◌, ◌<◌, length, ℕ, List, Option, IfSome, Some, Err, IsUtf8};
+ghost use Rattle.std.specs.Prelude.{◌≡◌, ◌≢◌, ℕ, List, Option, Err, IsUtf8};
 ghost use Rattle.std.specs.IoError.{error_kind};
-ghost use Rattle.mux_sockets.specs.Sockets.{SentFits, FoundFits};
+ghost use Rattle.mux_sockets.specs.Sockets.{FoundFits};
 
 mod served;
 
-use crate::control::{Control, listen_beside};
+use crate::control::{Control, Unnamed, listen_beside};
 use crate::stream::Stream;
 use crate::transport::connect;
 use mio::event::Event;
 use mio::net::UnixListener;
 use mio::{Events, Interest, Poll, Token};
-use mux_outside::{Piece, Want};
+use mux_outside::{LONGEST_PIECE, Piece, Turn, Want};
 use slab::Slab;
 use std::alloc::{AllocError, Global};
 use std::fs::Files;
@@ -26,25 +26,6 @@ pub enum Fault {
     Control,
     Transport,
     Memory,
-}
-
-/// What happened next.
-#[derive(Clone, Copy)]
-pub enum Found {
-    Client(u64),
-    Bytes(u64),
-    End(u64),
-    Writable(u64),
-    Failed(u64),
-    NoMemory,
-}
-
-/// How a write went.
-#[derive(Clone, Copy)]
-pub enum Sent {
-    Took(usize),
-    Later,
-    Failed,
 }
 
 #[derive(Drop)]
@@ -66,8 +47,8 @@ enum Ready {
 
 #[derive(Drop)]
 struct Listening<R: Files + Drop> {
-    // the name, which goes away with the listening, and first: as long as the listener stands, no other
-    // file has the same number
+    // the name, which goes away with the listening, and first: as long as the listener stands, no
+    // other file has the same number
     control: Control<R>,
     listener: UnixListener,
 }
@@ -87,8 +68,6 @@ pub struct Sockets<R: Files + Drop> {
 
 const LISTENER: Token = Token(usize::MAX);
 
-const PIECE: usize = 65536;
-
 // How many events one look takes.
 const EVENTS: usize = 64;
 
@@ -107,18 +86,27 @@ impl<R: Files + Net + Clone + Drop> Sockets<R> {
         let Ok(path) = str::from_utf8(control) else {
             return Err(Fault::Control);
         };
+        Sockets::open_at(rt, alloc, path, transport)
+    }
+
+    // The same, at a path that is text.
+    fn open_at(rt: &R, alloc: Global, path: &str, transport: &[u8]) -> Result<Sockets<R>, Fault> {
         let unnamed = listen_beside(rt, alloc, path).map_err(|e| fault_of(&e, Fault::Control))?;
-        let stream = connect(rt, alloc, transport).map_err(|e| fault_of(&e, Fault::Transport))?;
-        let mut sockets = Sockets::new(rt, alloc).map_err(|e| fault_of(&e, Fault::Transport))?;
+        let mut sockets = Sockets::connected(rt, alloc, transport).map_err(|e| fault_of(
+            &e,
+            Fault::Transport,
+        ))?;
         sockets
-            .add(0, stream)
-            .map_err(|e| fault_of(&e, Fault::Transport))?;
-        let (listener, control) = unnamed
-            .publish(rt, alloc, path)
+            .publish(rt, alloc, path, unnamed)
             .map_err(|e| fault_of(&e, Fault::Control))?;
-        sockets
-            .listen(listener, control)
-            .map_err(|e| fault_of(&e, Fault::Control))?;
+        Ok(sockets)
+    }
+
+    // The server's stream alone.
+    fn connected(rt: &R, alloc: Global, transport: &[u8]) -> io::Result<Sockets<R>> {
+        let stream = connect(rt, alloc, transport)?;
+        let mut sockets = Sockets::new(rt, alloc)?;
+        sockets.add(0, stream)?;
         Ok(sockets)
     }
 
@@ -130,11 +118,19 @@ impl<R: Files + Net + Clone + Drop> Sockets<R> {
             listening: None,
             pauses: false,
             ready: Vec::new(alloc),
-            buf: Vec::from_elem(alloc, 0, PIECE)?,
+            buf: Vec::from_elem(alloc, 0, LONGEST_PIECE)?,
         })
     }
 
-    fn listen(&mut self, mut listener: UnixListener, control: Control<R>) -> io::Result<()> {
+    // Gives the control socket its name, and takes it in.
+    fn publish(
+        &mut self,
+        rt: &R,
+        alloc: Global,
+        path: &str,
+        unnamed: Unnamed<R>,
+    ) -> io::Result<()> {
+        let (mut listener, control) = unnamed.publish(rt, alloc, path)?;
         self.poll
             .registry()
             .register(&mut listener, LISTENER, Interest::READABLE)?;
@@ -143,24 +139,19 @@ impl<R: Files + Net + Clone + Drop> Sockets<R> {
     }
 
     // Takes a stream in, with room for all that can be ready.
-    fn add(&mut self, number: u64, stream: Stream) -> io::Result<()> {
+    fn add(&mut self, number: u64, mut stream: Stream) -> io::Result<()> {
         let entries = self.entries.len().saturating_add(1);
         self.ready
             .reserve(entries.saturating_mul(2).saturating_add(1))?;
-        let entry = Entry {
+        self.entries.reserve(1)?;
+        let key = self.entries.vacant_key();
+        stream.register(self.poll.registry(), Token(key))?;
+        let _ = self.entries.insert_reserved(Entry {
             number,
             stream,
             ended: false,
             blocked: false,
-        };
-        let key = self.entries.insert(entry).map_err(|_| AllocError)?;
-        let Some(entry) = self.entries.get_mut(key) else {
-            return Ok(());
-        };
-        if let Err(e) = entry.stream.register(self.poll.registry(), Token(key)) {
-            let _ = self.entries.try_remove(key);
-            return Err(e);
-        }
+        });
         Ok(())
     }
 
@@ -206,8 +197,8 @@ impl<R: Files + Net + Clone + Drop> Sockets<R> {
         want: Want,
         client: Option<u64>,
         into: &mut Piece,
-    ) -> Found
-        ensures { FoundFits result client into.new }
+    ) -> Turn
+        ensures { FoundFits result client into.old into.new }
     {
         for _ in 0..u64::MAX {
             // What became ready meanwhile goes behind what was ready before, so nobody starves.
@@ -218,11 +209,11 @@ impl<R: Files + Net + Clone + Drop> Sockets<R> {
             let Some(ready) = self.take_first(waiting, want, client) else {
                 continue;
             };
-            if let Some(found) = self.go_on(ready, client, into) {
-                return found;
+            if let Some(turn) = self.go_on(ready, client, into) {
+                return turn;
             }
         }
-        Found::Failed(0)
+        Turn::Failed(0)
     }
 
     // Notes what became ready, and waits for it where nothing is.
@@ -305,13 +296,13 @@ fn fault_of(e: &io::Error, other: Fault) -> Fault
     }
 }
 
-fn failure_of(e: &io::Error) -> Found
-    ensures memory { error_kind e.now ≡ ErrorKind.OutOfMemory → result ≡ Found.NoMemory }
-    ensures other { error_kind e.now ≢ ErrorKind.OutOfMemory → result ≡ Found.Failed 0 }
-    ensures fits { (client : Option ℕ) (bytes : List ℕ) → FoundFits result client bytes }
+fn failure_of(e: &io::Error) -> Turn
+    ensures memory { error_kind e.now ≡ ErrorKind.OutOfMemory → result ≡ Turn.NoMemory }
+    ensures other { error_kind e.now ≢ ErrorKind.OutOfMemory → result ≡ Turn.Failed 0 }
+    ensures fits { (client : Option ℕ) (piece : List ℕ) → FoundFits result client piece piece }
 {
     match e.kind() {
-        ErrorKind::OutOfMemory => Found::NoMemory,
-        _ => Found::Failed(0),
+        ErrorKind::OutOfMemory => Turn::NoMemory,
+        _ => Turn::Failed(0),
     }
 }

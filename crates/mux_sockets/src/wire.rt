@@ -1,13 +1,15 @@
-ghost use Rattle.std.specs.Prelude.{◌≡◌, ◌<◌, ◌+◌, ℕ, List, [], length, false, true, IfSome, IsTrue, None};
-ghost use Rattle.mux_outside.specs.Seen.{no_calls};
+ghost use Rattle.std.specs.Prelude.{◌≡◌, ◌<◌, ◌+◌, ◌++◌, ℕ, List, [], length, false, true, IfSome, IsErr, IsTrue, IsUtf8, None};
+ghost use Rattle.mux_outside.specs.Seen.{no_calls, seen_after_open};
 ghost use Rattle.mux_outside.specs.Streams.{among};
 ghost use Rattle.mux_outside.specs.Tally.{no_tally};
-ghost use Rattle.mux_outside.specs.Wire.{TurnFits, TurnFaults, open_after, blocked_after, last_after};
+ghost use Rattle.mux_outside.specs.Wire.{OpenFaults, TurnFits, TurnFaults, open_after, blocked_after, last_after};
 ghost use Rattle.mux_outside.specs.Wire.{WroteFits, WroteFaults, blocked_after_write};
 ghost use Rattle.mux_outside.specs.declared.turn.Want.TheVariants.{Read as WantsAll};
+ghost use Rattle.mux_outside.specs.declared.turn.Turn.TheVariants.{NoMemory};
 ghost use Rattle.mux_sockets.specs.Sockets.{FoundFits};
+ghost use Rattle.mux_sockets.specs.Untold.{untold};
 
-use crate::sockets::{Fault, Found, Sent, Sockets};
+use crate::sockets::{Fault, Sockets};
 use mux_outside::{
     CallCounts, FileError, Piece, Streams, Tally, Turn, Want, Wire, Wrote, count_fault, raised,
 };
@@ -57,20 +59,6 @@ impl<R: Files + Net + Clone + Drop> RealWire<R> {
         }
     }
 
-    /// The open streams, in the order in which they were opened.
-    pub fn streams(&self) -> &Streams
-        ensures { result.now ≡ self.now.streams }
-    {
-        &self.streams
-    }
-
-    /// The streams that take no bytes for now.
-    pub fn blocked(&self) -> &Streams
-        ensures { result.now ≡ self.now.blocked }
-    {
-        &self.blocked
-    }
-
     // The number of the client that may come now.
     fn next_client(&self, want: Want) -> Option<u64>
         ensures { IfSome result (λ k.
@@ -86,12 +74,15 @@ impl<R: Files + Net + Clone + Drop> RealWire<R> {
 
 impl<R: Files + Net + Clone + Drop> RealWire<R> {
     // The turn of what the sockets found. What they may not find is a fault of the server's stream.
-    fn turn_of(&mut self, found: Found, want: Want, client: Option<u64>) -> Turn
+    fn turn_of(&mut self, found: Turn, want: Want, client: Option<u64>) -> Turn
         requires next { IfSome client (λ k.
             (want ≡ WantsAll) × (self.old.listening ≡ true) × (k ≡ self.old.last + 1)) }
         requires server { IsTrue (among 0 self.old.streams) }
-        ensures turn { (bytes : List ℕ) → FoundFits found client bytes → TurnFits result want
-            self.old.listening self.old.last self.old.streams self.old.blocked bytes }
+        ensures turn { (before now : List ℕ) → FoundFits found client before now
+            → TurnFits result want self.old.listening self.old.last self.old.streams
+            self.old.blocked now }
+        ensures kept { (before now : List ℕ) → FoundFits found client before now
+            → result ≡ NoMemory → now ≡ before }
         ensures streams { self.new.streams ≡ open_after result self.old.streams }
         ensures blocked { self.new.blocked ≡ blocked_after result self.old.blocked }
         ensures listens { self.new.listening ≡ self.old.listening }
@@ -101,7 +92,7 @@ impl<R: Files + Net + Clone + Drop> RealWire<R> {
             self.old.client_faults self.new.client_faults }
     {
         match found {
-            Found::Client(number) if client == Some(number) => {
+            Turn::Accepted(number) if client == Some(number) => {
                 if self.streams.push(number).is_err() {
                     drop_socket(&mut self.sockets, number);
                     return Turn::NoMemory;
@@ -109,17 +100,17 @@ impl<R: Files + Net + Clone + Drop> RealWire<R> {
                 self.last = number;
                 Turn::Accepted(number)
             }
-            Found::Bytes(t) if want == Want::Read && self.streams.contains(t) => Turn::Got(t),
-            Found::End(t) if want == Want::Read && self.streams.contains(t) => Turn::End(t),
-            Found::Writable(t) if self.streams.contains(t) && self.blocked.contains(t) => {
+            Turn::Got(t) if want == Want::Read && self.streams.contains(t) => Turn::Got(t),
+            Turn::End(t) if want == Want::Read && self.streams.contains(t) => Turn::End(t),
+            Turn::Writable(t) if self.streams.contains(t) && self.blocked.contains(t) => {
                 self.blocked.remove(t);
                 Turn::Writable(t)
             }
-            Found::Failed(t) if self.streams.contains(t) => {
+            Turn::Failed(t) if self.streams.contains(t) => {
                 count_fault(t, &mut self.server_faults, &mut self.client_faults);
                 Turn::Failed(t)
             }
-            Found::NoMemory => Turn::NoMemory,
+            Turn::NoMemory => Turn::NoMemory,
             _ => {
                 self.server_faults = raised(self.server_faults);
                 Turn::Failed(0)
@@ -143,20 +134,24 @@ impl<R: Files + Net + Clone + Drop> RealWire<R> {
         if self.blocked.push(stream).is_err() {
             return Wrote::NoMemory;
         }
-        let sent = match &mut self.sockets {
+        let wrote = match &mut self.sockets {
             Some(sockets) => sockets.write(stream, bytes),
-            None => Sent::Failed,
+            None => Wrote::Failed,
         };
-        match sent {
-            Sent::Later => Wrote::Later,
-            Sent::Took(count) => {
+        match wrote {
+            Wrote::Later => Wrote::Later,
+            Wrote::Took(count) => {
                 let _ = self.blocked.pop();
                 Wrote::Took(count)
             }
-            Sent::Failed => {
+            Wrote::Failed => {
                 let _ = self.blocked.pop();
                 count_fault(stream, &mut self.server_faults, &mut self.client_faults);
                 Wrote::Failed
+            }
+            Wrote::NoMemory => {
+                let _ = self.blocked.pop();
+                Wrote::NoMemory
             }
         }
     }
@@ -165,13 +160,7 @@ impl<R: Files + Net + Clone + Drop> RealWire<R> {
 impl<R: Files + Net + Clone + Drop> Wire for RealWire<R> {
     ghost openings = { λ _. None };
 
-    ghost seen = { λ w. record {
-      told = None;
-      streams = w.streams;
-      blocked = w.blocked;
-      listens = w.listening;
-      last = w.last;
-    } };
+    ghost seen = { λ w. untold w.streams w.blocked w.listening w.last };
 
     ghost calls = { λ w. w.calls };
 
@@ -181,7 +170,15 @@ impl<R: Files + Net + Clone + Drop> Wire for RealWire<R> {
 
     ghost tally = { λ _. no_tally };
 
-    fn open(&mut self, control: &[u8], transport: &[u8]) -> Result<(), FileError> {
+    fn open(&mut self, control: &[u8], transport: &[u8]) -> Result<(), FileError>
+        ensures not_text { ¬ (IsUtf8 control.now) → IsErr result }
+        ensures seen { untold self.new.streams self.new.blocked self.new.listening self.new.last
+            ≡ seen_after_open result
+            (untold self.old.streams self.old.blocked self.old.listening self.old.last) }
+        ensures calls { self.new.calls ≡ self.old.calls }
+        ensures cause { OpenFaults result self.old.server_faults self.new.server_faults
+            self.old.client_faults self.new.client_faults }
+    {
         let mut streams = Streams::new(self.alloc);
         streams.push(0)?;
         match Sockets::open(&self.rt, self.alloc, control, transport) {
@@ -206,10 +203,7 @@ impl<R: Files + Net + Clone + Drop> Wire for RealWire<R> {
 
     fn wait(&mut self, waiting: &Streams, want: Want, into: &mut Piece) -> Turn {
         let client = self.next_client(want);
-        let found = match &mut self.sockets {
-            Some(sockets) => sockets.next(waiting.as_slice(), want, client, into),
-            None => Found::Failed(0),
-        };
+        let found = found_next(&mut self.sockets, waiting, want, client, into);
         let turn = self.turn_of(found, want, client);
         self.calls.waited(turn);
         turn
@@ -236,6 +230,22 @@ impl<R: Files + Net + Clone + Drop> Wire for RealWire<R> {
 
     fn tally(&self) -> Tally {
         Tally::zero()
+    }
+}
+
+// What the sockets find next.
+fn found_next<R: Files + Net + Clone + Drop>(
+    sockets: &mut Option<Sockets<R>>,
+    waiting: &Streams,
+    want: Want,
+    client: Option<u64>,
+    into: &mut Piece,
+) -> Turn
+    ensures { FoundFits result client into.old into.new }
+{
+    match sockets {
+        Some(sockets) => sockets.next(waiting.as_slice(), want, client, into),
+        None => Turn::Failed(0),
     }
 }
 

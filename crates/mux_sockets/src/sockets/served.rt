@@ -1,10 +1,11 @@
 // What is done with a socket that is ready, and the write to one.
-ghost use Rattle.std.specs.Prelude.{◌<◌, length, ℕ, List, Option, IfSome, Some};
-ghost use Rattle.mux_sockets.specs.Sockets.{SentFits, FoundFits};
+ghost use Rattle.std.specs.Prelude.{◌≡◌, ◌<◌, length, ℕ, Option, IfSome, IfNone};
+ghost use Rattle.mux_outside.specs.Wire.{WroteFits};
+ghost use Rattle.mux_sockets.specs.Sockets.{FoundFits};
 
-use super::{Found, PIECE, Ready, Sent, Sockets, note};
+use super::{Ready, Sockets, note};
 use crate::stream::Stream;
-use mux_outside::Piece;
+use mux_outside::{LONGEST_PIECE, Piece, Turn, Wrote};
 use std::fs::Files;
 use std::io;
 use std::io::ErrorKind;
@@ -17,8 +18,9 @@ impl<R: Files + Net + Clone + Drop> Sockets<R> {
         ready: Ready,
         client: Option<u64>,
         into: &mut Piece,
-    ) -> Option<Found>
-        ensures { IfSome result (λ found. FoundFits found client into.new) }
+    ) -> Option<Turn>
+        ensures fits { IfSome result (λ turn. FoundFits turn client into.old into.new) }
+        ensures kept { IfNone result (into.new ≡ into.old) }
     {
         match ready {
             Ready::Accept => self.accept(client?),
@@ -26,65 +28,62 @@ impl<R: Files + Net + Clone + Drop> Sockets<R> {
             Ready::Write(key) => {
                 let entry = self.entries.get_mut(key)?;
                 entry.blocked = false;
-                Some(Found::Writable(entry.number))
+                Some(Turn::Writable(entry.number))
             }
         }
     }
 
     // Accepts a client under this number.
-    fn accept(&mut self, number: u64) -> Option<Found>
-        ensures { IfSome result (λ found. (bytes : List ℕ) → FoundFits found (Some number) bytes) }
+    fn accept(&mut self, number: u64) -> Option<Turn>
+        ensures { IfSome result (λ turn. turn ≡ Turn.Accepted number) }
     {
         let listening = self.listening.as_ref()?;
         match listening.listener.accept() {
             Ok((stream, _)) => {
                 if let Err(e) = self.add(number, Stream::Unix(stream)) {
-                    return self.not_accepted(&e);
+                    self.not_accepted(&e);
+                    return None;
                 }
                 // More clients may wait.
                 let _ = note(&mut self.ready, Ready::Accept);
-                Some(Found::Client(number))
+                Some(Turn::Accepted(number))
             }
-            Err(e) => self.not_accepted(&e),
+            Err(e) => {
+                self.not_accepted(&e);
+                None
+            }
         }
     }
 
     // A client that could not be accepted is no fault of the run.
-    fn not_accepted(&mut self, e: &io::Error) -> Option<Found>
-        ensures { IfSome result (λ found.
-            (client : Option ℕ) (bytes : List ℕ) → FoundFits found client bytes) }
-    {
+    fn not_accepted(&mut self, e: &io::Error) {
         match e.kind() {
-            ErrorKind::WouldBlock => None,
-            ErrorKind::Interrupted | ErrorKind::ConnectionAborted => {
-                self.resume();
-                None
-            }
-            _ => {
-                self.pauses = true;
-                None
-            }
+            ErrorKind::WouldBlock => {}
+            ErrorKind::Interrupted | ErrorKind::ConnectionAborted => self.resume(),
+            _ => self.pauses = true,
         }
     }
 
-    fn read(&mut self, key: usize, into: &mut Piece) -> Option<Found>
-        ensures { IfSome result (λ found. (client : Option ℕ) → FoundFits found client into.new) }
+    fn read(&mut self, key: usize, into: &mut Piece) -> Option<Turn>
+        ensures fits { IfSome result (λ turn.
+            (client : Option ℕ) → FoundFits turn client into.old into.new) }
+        ensures kept { IfNone result (into.new ≡ into.old) }
     {
         let entry = self.entries.get_mut(key)?;
         let number = entry.number;
         match entry.stream.read(&mut self.buf) {
             Ok(0) => {
                 entry.ended = true;
-                Some(Found::End(number))
+                Some(Turn::End(number))
             }
             Ok(count) => {
                 // More bytes may wait: the system tells only once that some came.
                 let _ = note(&mut self.ready, Ready::Read(key));
-                let Some(bytes) = self.buf.get(..count.min(PIECE)) else {
-                    return Some(Found::Failed(number));
+                let Some(bytes) = self.buf.get(..count.min(LONGEST_PIECE)) else {
+                    return Some(Turn::Failed(number));
                 };
                 into.set(bytes);
-                Some(Found::Bytes(number))
+                Some(Turn::Got(number))
             }
             Err(e) => match e.kind() {
                 ErrorKind::WouldBlock => None,
@@ -94,36 +93,36 @@ impl<R: Files + Net + Clone + Drop> Sockets<R> {
                 }
                 _ => {
                     entry.ended = true;
-                    Some(Found::Failed(number))
+                    Some(Turn::Failed(number))
                 }
             },
         }
     }
 
-    pub fn write(&mut self, number: u64, bytes: &[u8]) -> Sent
+    pub fn write(&mut self, number: u64, bytes: &[u8]) -> Wrote
         requires { 0 < length bytes.now }
-        ensures { SentFits result (length bytes.now) }
+        ensures { WroteFits result (length bytes.now) }
     {
         let Some(key) = self.key_of(number) else {
-            return Sent::Failed;
+            return Wrote::Failed;
         };
         let Some(entry) = self.entries.get_mut(key) else {
-            return Sent::Failed;
+            return Wrote::Failed;
         };
         match entry.stream.write(bytes) {
-            Ok(0) => Sent::Failed,
-            Ok(count) => Sent::Took(count),
+            Ok(0) => Wrote::Failed,
+            Ok(count) => Wrote::Took(count),
             Err(e) => match e.kind() {
                 ErrorKind::WouldBlock => {
                     entry.blocked = true;
-                    Sent::Later
+                    Wrote::Later
                 }
                 ErrorKind::Interrupted => {
                     entry.blocked = true;
                     let _ = note(&mut self.ready, Ready::Write(key));
-                    Sent::Later
+                    Wrote::Later
                 }
-                _ => Sent::Failed,
+                _ => Wrote::Failed,
             },
         }
     }

@@ -1,0 +1,6 @@
+-- Nothing has filled the piece so far.
+use Rattle.std.proofs.Common.{◌≡◌}
+use Rattle.mux_sockets.proofs.sockets.Sockets.next.Given as goal
+
+abbrev pub invariant-loop : goal.invariant-loop
+invariant-loop g l = l.into ≡ l.initial.into
