@@ -3,7 +3,6 @@ ghost use Rattle.channel_table.specs.declared.channel.Refused.TheVariants as ref
 
 use ssh_fields::OutOfMemory;
 use ssh_grammar::Side;
-use std::alloc::AllocFailed;
 use thiserror::Error;
 
 /// A channel as its look-ups show it: its client, and the numbers that the two sides gave it (RFC 4254, section 5.1).
@@ -39,14 +38,6 @@ impl From<OutOfMemory> for Refused {
     ghost from_gives = { λ _ e. e ≡ refused.OutOfMemory };
 
     fn from(_e: OutOfMemory) -> Refused {
-        Refused::OutOfMemory
-    }
-}
-
-impl<T: Drop> From<AllocFailed<T>> for Refused {
-    ghost from_gives = { λ _ e. e ≡ refused.OutOfMemory };
-
-    fn from(_e: AllocFailed<T>) -> Refused {
         Refused::OutOfMemory
     }
 }

@@ -1,10 +1,9 @@
-ghost use Rattle.std.specs.Prelude.{◌≡◌, ◌<◌, ℕ, Bool, [], ◌∷◌, ◌++◌, length, IsSome, Some, None, OnOk, IfOk, OnErr, IfErr, nat_eq, not, filter, ◌==◌, if◌then◌else◌};
+ghost use Rattle.std.specs.Prelude.{◌≡◌, ◌<◌, ℕ, Bool, [], ◌∷◌, ◌++◌, length, IsSome, Some, None, OnOk, IfOk, OnErr, nat_eq, not, filter, ◌==◌, if◌then◌else◌};
 ghost use Rattle.indexmap.specs.IndexMap.{get};
 ghost use Rattle.channel_table.specs.Entries.{IsFree};
 ghost use Rattle.channel_table.specs.Slots.{IsReady};
 ghost use Rattle.channel_table.specs.Indices.{pair_eq, paired, is_key, listed};
 
-use crate::channel::Refused;
 use crate::numbers::Numbers;
 use crate::slots::Slots;
 use indexmap::IndexMap;
@@ -56,14 +55,13 @@ pub fn make_room(
     slots: &mut Slots,
     clients: &mut IndexMap<u64, Numbers>,
     client: u64,
-) -> Result<u32, Refused>
+) -> Result<u32, OutOfMemory>
     ensures front { IfOk result (λ number. slots.new.front ≡ Some number) }
     ensures ready { OnOk result (IsReady slots.new) }
     ensures fresh { IfOk result (λ number. IsFree slots.old.entries number) }
     ensures entries { slots.new.entries ≡ slots.old.entries }
     ensures there { OnOk result (IsSome (get nat_eq clients.new client)) }
     ensures same { (k : ℕ) → listed (get nat_eq clients.new k) ≡ listed (get nat_eq clients.old k) }
-    ensures err { IfErr result (λ refused. refused ≡ Refused.OutOfMemory) }
 {
     slots.make_room()?;
     make_list(clients, client)?;
@@ -76,12 +74,11 @@ pub fn insert_own(
     client: u64,
     own: u32,
     number: u32,
-) -> Result<(), Refused>
+) -> Result<(), OutOfMemory>
     ensures ok { OnOk result ((k c : ℕ) → get pair_eq index.new (k, c)
         ≡ (if pair_eq (client, own) (k, c) then Some number else get pair_eq index.old (k, c))) }
     ensures unchanged { OnErr result ((k c : ℕ) → get pair_eq index.new (k, c)
         ≡ get pair_eq index.old (k, c)) }
-    ensures err { IfErr result (λ refused. refused ≡ Refused.OutOfMemory) }
 {
     index.insert((client, own), number)?;
     Ok(())
@@ -92,11 +89,10 @@ pub fn insert_remote(
     index: &mut IndexMap<u32, u32>,
     remote: u32,
     number: u32,
-) -> Result<(), Refused>
+) -> Result<(), OutOfMemory>
     ensures ok { OnOk result ((s : ℕ) → get nat_eq index.new s
         ≡ (if nat_eq remote s then Some number else get nat_eq index.old s)) }
     ensures unchanged { OnErr result ((s : ℕ) → get nat_eq index.new s ≡ get nat_eq index.old s) }
-    ensures err { IfErr result (λ refused. refused ≡ Refused.OutOfMemory) }
 {
     index.insert(remote, number)?;
     Ok(())

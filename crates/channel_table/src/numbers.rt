@@ -24,6 +24,7 @@ impl Model for Numbers {
 }
 
 impl Numbers {
+    /// None, with room for all.
     pub fn new(alloc: Global) -> Result<Numbers, OutOfMemory>
         ensures { IfOk result (λ a. a ≡ []) }
     {
@@ -32,24 +33,28 @@ impl Numbers {
         })
     }
 
+    /// How many there are.
     pub fn len(&self) -> u32
         ensures { result ≡ length self.now }
     {
         self.numbers.len() as u32
     }
 
+    /// Whether there is none.
     pub fn is_empty(&self) -> bool
         ensures { result ≡ (length self.now == 0) }
     {
         self.numbers.is_empty()
     }
 
+    /// The one at a place.
     pub fn get(&self, i: u32) -> Option<u32>
         ensures { result ≡ slice_get self.now i }
     {
         self.numbers.get(i as usize).copied()
     }
 
+    /// Adds one behind the others, in room that is there.
     pub fn push(&mut self, number: u32)
         requires { length self.old < MAX_CHANNELS }
         ensures { self.new ≡ self.old ++ number ∷ [] }
@@ -57,6 +62,7 @@ impl Numbers {
         self.numbers.push_reserved(number);
     }
 
+    /// Takes one out.
     pub fn remove(&mut self, number: u32)
         ensures { self.new ≡ filter (λ x. not (x == number)) self.old }
     {

@@ -52,6 +52,7 @@ impl Slots {
     ghost use Rattle.channel_table.specs.Entries.{IsFree, changed_at, entry_at, freed};
     ghost use Rattle.channel_table.specs.Slots.{IsReady, ranked};
 
+    /// No slots, which take no memory.
     pub fn new(alloc: Global) -> Slots
         ensures { result.entries ≡ [] }
     {

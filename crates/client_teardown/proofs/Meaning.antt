@@ -15,7 +15,8 @@ use Rattle.mux_history.proofs.Finds.{filter-no, filter-yes}
 use Rattle.window_ledger.specs.declared.ledger.Ledger.{Ledger}
 use Rattle.window_ledger.specs.Leaving as account
 use Rattle.window_ledger.specs.Stands.{both_closed, confirmed}
-use Rattle.window_ledger.proofs.Leaves.{confirmed-is, left-answered, left-now, left-opened, left-said, over-is, said-is}
+use Rattle.window_ledger.proofs.Named.{confirmed-is}
+use Rattle.window_ledger.proofs.Leaves.{left-answered, left-now, left-opened, left-said, over-is, said-is}
 use Rattle.channel_table.specs.Entries.{Entry, is_of}
 use Rattle.channel_table.specs.Stands.{ChannelsFit, Fits}
 use Rattle.channel_table.proofs.Fits.{Goes, changed-fit}
@@ -27,7 +28,7 @@ use Rattle.client_teardown.specs.Laws.{channels_of, forwardings_of, left, left_b
 use Rattle.client_teardown.specs.Leaving.{cancel_of, channel_farewells, closing, farewell_of, forward_farewells, is_open, left_entries, left_entry, stays}
 
 so-confirmed : (e : Entry) (x : Channel) → Fits e x → confirmed e.ledger ≡ is_confirmed x
-so-confirmed e x fits = confirmed-is e.ledger.state x fits.ledger
+so-confirmed e x fits = confirmed-is e.ledger x fits.ledger
 
 -- ---- what is sent for a channel
 
@@ -43,7 +44,7 @@ same-farewell e x fits = by_case (confirmed e.ledger) refl
     by_case : (b : Bool) → confirmed e.ledger ≡ b → sent_for (confirmed e.ledger) (account.said_close e.ledger) (is_up e.channel.by) e.channel.remote ≡ sent_for (is_confirmed x) (any_by Up is_closes x.acts) (is_up x.by) x.remote
     by_case true h =
         ap (λ b. sent_for b (account.said_close e.ledger) (is_up e.channel.by) e.channel.remote) h
-        ∙ (ap (λ c. sent_for true c (is_up e.channel.by) e.channel.remote) (said-is e.ledger.state x fits.ledger h)
+        ∙ (ap (λ c. sent_for true c (is_up e.channel.by) e.channel.remote) (said-is e.ledger.state x fits.ledger)
         ∙ (ap (λ o. sent_for true (any_by Up is_closes x.acts) (is_up x.by) o) fits.remote
         ∙ ap (λ b. sent_for b (any_by Up is_closes x.acts) (is_up x.by) x.remote) (sym h ∙ so-confirmed e x fits)))
     by_case false h =

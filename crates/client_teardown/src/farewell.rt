@@ -4,7 +4,7 @@ ghost use Rattle.forward_rules.specs.Step.{without_client};
 ghost use Rattle.client_teardown.specs.Leaving.{Sends, channel_farewells, farewell_for, forward_farewells, is_open_in, left_entries};
 ghost use Rattle.client_teardown.specs.Steps.{farewell_at, left_at, listed, stays_at};
 
-use crate::cancel::{cancel, lent};
+use crate::cancelling::cancel;
 use channel_table::{Channel, Ledger, Side, Table};
 use conn_messages::{close, open_failure};
 use forward_rules::Forwards;
@@ -113,7 +113,7 @@ fn leave_forwards(forwards: &mut Forwards, client: u64, up: &mut Queue)
             break;
         };
         if !is_leaving {
-            up.push_reserved(cancel(lent(&key)).as_bytes());
+            up.push_reserved(cancel(key.as_key()).as_bytes());
         }
     }
 }

@@ -2,7 +2,7 @@ ghost use Rattle.std.specs.Prelude.{◌≡◌, ◌≤◌, ◌+◌, [], ◌∷◌
 ghost use Rattle.channel_table.specs.Entries.{changed_at};
 ghost use Rattle.client_teardown.specs.Leaving.{IsShortLate, Sends, closing, late_entries, late_payload};
 
-use crate::cancel::cancel;
+use crate::cancelling::cancel;
 use crate::message::Late;
 use channel_table::Table;
 use conn_messages::close;

@@ -1,15 +1,17 @@
 //! What the master sends for a client that is lost. Three parties may still wait for it: the server for the answer
 //! to an open or for the CLOSE of a channel, and the forwardings that listen for it. So a farewell ends at once all
-//! that can be ended, and what the server confirms later is ended when it comes. No call takes memory: a client must
-//! be let go where none is left, so the room for what is sent is reserved before.
+//! that can be ended, and what the server confirms later is ended when it comes. `tear_down` and `late` take no memory:
+//! a client must be let go where none is left, so the room for what is sent is reserved before. `late` is for callers
+//! that want none later either; a core, which may end for want of memory then, queues the same payloads itself.
 #![tactic(auto)]
 
-mod cancel;
+mod cancelling;
 mod farewell;
 mod later;
 pub mod laws;
 mod message;
 
+pub use cancelling::cancel;
 pub use farewell::{FAREWELL_ROOM, tear_down};
 pub use later::{LATE_ROOM, late};
 pub use message::Late;

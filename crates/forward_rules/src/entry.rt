@@ -31,6 +31,7 @@ pub enum Entry {
 }
 
 impl Entry {
+    /// A copy of what was read.
     pub fn copy(alloc: Global, parts: Parts<'_>) -> Result<Entry, OutOfMemory>
         ensures { IfOk result (λ e. entry_of e ≡ parts_of parts.entry) }
     {

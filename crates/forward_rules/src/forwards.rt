@@ -168,21 +168,21 @@ impl Forwards {
         self.listed.retain(|f| f.client != client);
     }
 
-    /// What the client's cancel with so many before it means is over.
+    /// What the client's unanswered cancel of this rank means is over.
     fn end(&mut self, client: u64, rank: usize)
         ensures { self.new ≡ filter (λ f. not (is_cancelled_at client rank f)) self.old }
     {
         self.listed.retain(|f| !f.is_cancelled_by(client, rank));
     }
 
-    /// The client's cancel with so many before it is none any more.
+    /// The client's cancel of this rank is answered: the later ones move up.
     fn settle(&mut self, client: u64, rank: usize)
         ensures { self.new ≡ map (without_cancel_of client rank) self.old }
     {
         settle_in(&mut self.listed, client, rank);
     }
 
-    /// What this cancel meant is taken out, where there is one.
+    /// What the client's cancel of this rank meant was taken out, if one meant it: the later ones move up.
     fn close_up(&mut self, client: u64, cancel: Option<usize>)
         ensures { self.new ≡ closed_up client cancel self.old }
     {
@@ -222,6 +222,7 @@ fn live_of(listed: &[Listed], client: u64) -> Option<usize>
     listed.iter().position(|f| f.client == client && f.live)
 }
 
+/// How many are a client's.
 fn count_in(listed: &[Listed], client: u64) -> usize
     ensures { result ≡ count_of (map forward_of listed.now) client }
 {
@@ -234,7 +235,7 @@ fn count_in(listed: &[Listed], client: u64) -> usize
     count
 }
 
-/// How many cancels of a client have no reply.
+/// How many cancels of a client have no reply: the rank of its next one.
 fn cancels_in(listed: &[Listed], client: u64) -> usize
     ensures { result ≡ cancels client (map forward_of listed.now) }
 {
@@ -247,7 +248,7 @@ fn cancels_in(listed: &[Listed], client: u64) -> usize
     count
 }
 
-/// How many cancels of the client were sent before the first of this key that has no reply.
+/// The rank of the client's first unanswered cancel of this key.
 fn first_cancel_in(listed: &[Listed], client: u64, key: Key<'_>) -> Option<usize>
     ensures { result ≡ first_cancel (is_leaving_at client (key_of key.entry))
         (map forward_of listed.now) }
@@ -261,6 +262,7 @@ fn first_cancel_in(listed: &[Listed], client: u64, key: Key<'_>) -> Option<usize
     first
 }
 
+/// The lower of two ranks.
 fn earlier(a: Option<usize>, b: Option<usize>) -> Option<usize>
     ensures { result ≡ earlier a b }
 {
@@ -271,7 +273,7 @@ fn earlier(a: Option<usize>, b: Option<usize>) -> Option<usize>
     }
 }
 
-/// The client's cancel with so many before it is none any more.
+/// The client's cancel of this rank is answered: the later ones move up.
 fn settle_in(listed: &mut [Listed], client: u64, rank: usize)
     ensures { map forward_of listed.new
         ≡ map (without_cancel_of client rank) (map forward_of listed.old) }
@@ -281,7 +283,7 @@ fn settle_in(listed: &mut [Listed], client: u64, rank: usize)
     }
 }
 
-/// One cancel of the client fewer was sent before those that came after this one.
+/// The client's cancels behind this rank move up by one.
 fn move_up_in(listed: &mut [Listed], client: u64, rank: usize)
     ensures { map forward_of listed.new
         ≡ map (moved_up_of client rank) (map forward_of listed.old) }

@@ -1,8 +1,9 @@
-ghost use Rattle.std.specs.Prelude.{◌≡◌};
-ghost use Rattle.mux_history.specs.Keys.{is_key};
+ghost use Rattle.std.specs.Prelude.{◌≡◌, true};
+ghost use Rattle.mux_history.specs.Keys.{is_askable, is_key};
 ghost use Rattle.forward_rules.specs.Keys.{key_of, own_key_of, IsShort};
 ghost use Rattle.forward_rules.specs.Step.{with_port};
 
+use mux_history::limits::MAX_ADDRESS;
 use ssh_fields::Small;
 
 /// What is listened on: an address with a port (RFC 4254, section 7.1), or the path of a Unix socket (OpenSSH's
@@ -20,6 +21,32 @@ pub enum OwnKey {
     Path(Small),
 }
 
+impl<'a> Key<'a> {
+    /// Whether it may be asked for: its address or path has at most 255 bytes, and a path isn't empty.
+    pub fn is_askable(self) -> bool
+        ensures exact { result ≡ is_askable (key_of self.entry) }
+        ensures short { result ≡ true → IsShort (key_of self.entry) }
+    {
+        match self {
+            Key::Tcp { address, .. } => address.len() <= MAX_ADDRESS,
+            Key::Path(path) => !path.is_empty() && path.len() <= MAX_ADDRESS,
+        }
+    }
+
+    /// The key that is listened on: where port 0 was asked, with the port that the server chose.
+    pub fn with_port(self, chosen: u32) -> Key<'a>
+        ensures { key_of result ≡ with_port chosen (key_of self.entry) }
+    {
+        match self {
+            Key::Tcp { address, port: 0 } => Key::Tcp {
+                address,
+                port: chosen,
+            },
+            Key::Tcp { .. } | Key::Path(_) => self,
+        }
+    }
+}
+
 impl OwnKey {
     /// A copy of a key whose address or path has at most 255 bytes.
     pub fn copy(key: Key<'_>) -> OwnKey
@@ -32,6 +59,19 @@ impl OwnKey {
                 port,
             },
             Key::Path(path) => OwnKey::Path(Small::copy(path)),
+        }
+    }
+
+    /// The same key, lent.
+    pub fn as_key(&self) -> Key<'_>
+        ensures { key_of result ≡ own_key_of self.now }
+    {
+        match self {
+            OwnKey::Tcp { address, port } => Key::Tcp {
+                address: address.as_bytes(),
+                port: *port,
+            },
+            OwnKey::Path(path) => Key::Path(path.as_bytes()),
         }
     }
 

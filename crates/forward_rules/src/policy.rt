@@ -2,6 +2,7 @@ ghost use Rattle.std.specs.Prelude.{◌≡◌};
 ghost use Rattle.ssh_grammar.specs.Messages as grammar;
 ghost use Rattle.mux_history.specs.Policy.{permits};
 ghost use Rattle.forward_rules.specs.Allows.{error_in, read_policy, ReadsAs};
+ghost use Rattle.forward_rules.specs.Keys.{key_of};
 
 use crate::entry::Allowed;
 use crate::key::Key;
@@ -65,11 +66,25 @@ impl Policy {
         Ok(Policy { opens, listens })
     }
 
+    /// Whether a channel may be opened to this key.
+    pub fn permits_open_to(&self, key: Key<'_>) -> bool
+        ensures { result ≡ permits self.now.opens (key_of key.entry) }
+    {
+        self.opens.permits(key)
+    }
+
+    /// Whether this key may be listened on.
+    pub fn permits_listen_on(&self, key: Key<'_>) -> bool
+        ensures { result ≡ permits self.now.listens (key_of key.entry) }
+    {
+        self.listens.permits(key)
+    }
+
     /// Whether a channel may be opened to this host and port (`direct-tcpip`).
     pub fn permits_open(&self, host: &[u8], port: u32) -> bool
         ensures { result ≡ permits self.now.opens (grammar.Tcp host.now port) }
     {
-        self.opens.permits(Key::Tcp {
+        self.permits_open_to(Key::Tcp {
             address: host,
             port,
         })
@@ -79,20 +94,20 @@ impl Policy {
     pub fn permits_open_path(&self, path: &[u8]) -> bool
         ensures { result ≡ permits self.now.opens (grammar.Path path.now) }
     {
-        self.opens.permits(Key::Path(path))
+        self.permits_open_to(Key::Path(path))
     }
 
     /// Whether this address and port may be listened on (`tcpip-forward`).
     pub fn permits_listen(&self, address: &[u8], port: u32) -> bool
         ensures { result ≡ permits self.now.listens (grammar.Tcp address.now port) }
     {
-        self.listens.permits(Key::Tcp { address, port })
+        self.permits_listen_on(Key::Tcp { address, port })
     }
 
     /// Whether this path may be listened on (`streamlocal-forward@openssh.com`).
     pub fn permits_listen_path(&self, path: &[u8]) -> bool
         ensures { result ≡ permits self.now.listens (grammar.Path path.now) }
     {
-        self.listens.permits(Key::Path(path))
+        self.permits_listen_on(Key::Path(path))
     }
 }

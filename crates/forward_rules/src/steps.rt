@@ -36,7 +36,7 @@ impl Listed {
         self.client == client && self.cancel.is_some() && self.is_live(key)
     }
 
-    /// Whether the client's cancel with so many before it means it.
+    /// Whether the client's unanswered cancel of this rank means it.
     pub fn is_cancelled_by(&self, client: u64, rank: usize) -> bool
         ensures { result ≡ is_cancelled_at client rank (forward_of self.now) }
     {
@@ -54,7 +54,7 @@ impl Listed {
         self.live = true;
     }
 
-    /// One cancel of the client fewer was sent before the one that means it, if that came after this one.
+    /// The client's cancel of this rank is no longer among the unanswered ones: a later one that means it moves up.
     pub fn move_up(&mut self, client: u64, rank: usize)
         ensures { forward_of self.new ≡ moved_up_of client rank (forward_of self.old) }
     {
@@ -67,7 +67,7 @@ impl Listed {
         };
     }
 
-    /// The client's cancel with so many before it is none any more.
+    /// The client's cancel of this rank is answered.
     pub fn settle(&mut self, client: u64, rank: usize)
         ensures { forward_of self.new ≡ without_cancel_of client rank (forward_of self.old) }
     {

@@ -2,12 +2,10 @@ ghost use Rattle.std.specs.Prelude.{◌≡◌, ◌++◌, [], ◌∷◌, ◌≤�
 ghost use Rattle.global_replies.specs.Replies.{is_none_left, or_behind, refusals_behind, after_reply, leading, without_leading};
 ghost use Rattle.global_replies.specs.Stands.{AnswerGoesOn, LeavesUnanswered, RefusalGoesOn, SentGoesOn};
 
+use crate::ask::MOST_WAITING;
 use ssh_fields::OutOfMemory;
 use std::alloc::Global;
 use std::marker::Model;
-
-/// The most requests that wait.
-const MOST: usize = 4_294_967_295;
 
 /// What a client is still to be answered, in the order of its wanted requests: from the first on that was sent and
 /// has no reply, whether each was sent, or else refused.
@@ -18,12 +16,13 @@ pub struct ClientAnswers {
 
 impl Model for ClientAnswers {
     ghost use Rattle.std.specs.Prelude.{List, Bool, length, ◌≤◌};
+    ghost use Rattle.global_replies.specs.declared.ask.TheConstants.{MOST_WAITING};
 
     ghost Value = { List Bool };
 
     ghost view = { λ a. a.waiting.items };
 
-    ghost invariant = { λ a. length a.waiting.items ≤ 4294967295 };
+    ghost invariant = { λ a. length a.waiting.items ≤ MOST_WAITING };
 }
 
 /// How many refusals stand in front.
@@ -58,7 +57,7 @@ impl ClientAnswers {
         ensures ok { OnOk result (self.new ≡ self.old ++ true ∷ []) }
         ensures unchanged { OnErr result (self.new ≡ self.old) }
     {
-        if self.waiting.len() >= MOST {
+        if self.waiting.len() >= MOST_WAITING {
             return Err(OutOfMemory);
         }
         self.waiting.push(true)?;
@@ -76,7 +75,7 @@ impl ClientAnswers {
         if self.waiting.is_empty() {
             return Ok(true);
         }
-        if self.waiting.len() >= MOST {
+        if self.waiting.len() >= MOST_WAITING {
             return Err(OutOfMemory);
         }
         self.waiting.push(false)?;

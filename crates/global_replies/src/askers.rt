@@ -3,14 +3,11 @@ ghost use Rattle.global_replies.specs.Asks.{IsShort};
 ghost use Rattle.global_replies.specs.Replies.{asked_of, request_of, FirstAsked, rest_of, is_of};
 ghost use Rattle.global_replies.specs.Stands.{AskGoesOn, ReplyGoesOn};
 
-use crate::ask::{Ask, Asked};
+use crate::ask::{Ask, Asked, MOST_WAITING};
 use ssh_fields::OutOfMemory;
 use std::alloc::Global;
 use std::collections::VecDeque;
 use std::marker::Model;
-
-/// The most requests that wait.
-const MOST: usize = 4_294_967_295;
 
 /// The requests of all clients that were sent and have no reply, in the order in which they were sent.
 #[derive(Drop)]
@@ -22,12 +19,13 @@ impl Model for Askers {
     ghost use Rattle.std.specs.Prelude.{List, map, length, ◌≤◌};
     ghost use Rattle.mux_history.specs.Requests.{Ask};
     ghost use Rattle.global_replies.specs.Replies.{asked_of};
+    ghost use Rattle.global_replies.specs.declared.ask.TheConstants.{MOST_WAITING};
 
     ghost Value = { List Ask };
 
     ghost view = { λ a. map asked_of a.waiting.items };
 
-    ghost invariant = { λ a. length a.waiting.items ≤ 4294967295 };
+    ghost invariant = { λ a. length a.waiting.items ≤ MOST_WAITING };
 }
 
 impl Askers {
@@ -48,7 +46,7 @@ impl Askers {
         ensures ok { OnOk result (self.new ≡ self.old ++ request_of client what ∷ []) }
         ensures unchanged { OnErr result (self.new ≡ self.old) }
     {
-        if self.waiting.len() >= MOST {
+        if self.waiting.len() >= MOST_WAITING {
             return Err(OutOfMemory);
         }
         self.waiting.push_back(Asked { client, what })?;
@@ -76,7 +74,7 @@ impl Askers {
 }
 
 fn count_in(waiting: &[Asked], client: u64) -> u32
-    requires { length waiting.now ≤ 4294967295 }
+    requires { length waiting.now ≤ MOST_WAITING }
     ensures exact { result ≡ length (filter (is_of client) (map asked_of waiting.now)) }
     ensures few { result ≤ length waiting.now }
 {

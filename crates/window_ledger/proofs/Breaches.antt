@@ -5,6 +5,7 @@ use Rattle.ssh_grammar.specs.declared.side.Side.{Side}
 use Rattle.ssh_grammar.specs.declared.side.Side.TheVariants.{Up, Down}
 use Rattle.ssh_grammar.specs.declared.fault.Breach.{Breach}
 use Rattle.ssh_grammar.specs.declared.fault.Breach.TheVariants.{AfterClose, AfterEof, NotOpen, Overflow, TooManyAsks, Unasked}
+use Rattle.mux_history.specs.declared.limits.TheConstants.{MAX_CHANNEL_REQUESTS, MAX_WINDOW}
 use Rattle.mux_history.specs.Channels.{Channel, any_act, any_by, is_closes, is_confirms, is_ends}
 use Rattle.mux_history.specs.Ledger.{act_breach, breach, maximum_of, other_side, packet_breach, room, unanswered}
 use Rattle.window_ledger.specs.Act.{act_of}
@@ -46,10 +47,10 @@ other-case false false b = refl
 between-is : (way : Side) (act : Act) (x : Channel) → between act (account_of way x) (account_of (other_side way) x) ≡ unless_closed (any_by way is_closes x.acts) (act_breach way (act_of act) x)
 between-is way (Data size) x = data-case (any_by way is_closes x.acts) (any_by way is_ends x.acts) (packet_breach (maximum_of way x) (room way x) size)
 between-is way Eof x = data-case (any_by way is_closes x.acts) (any_by way is_ends x.acts) None
-between-is way (Request true) x = plain-case (any_by way is_closes x.acts) (any_by way is_ends x.acts) (elim (nat_lt (unanswered way x) 1024) as (λ _. Option Breach) [ true ↦ None | false ↦ Some (TooManyAsks (unanswered way x)) ])
+between-is way (Request true) x = plain-case (any_by way is_closes x.acts) (any_by way is_ends x.acts) (elim (nat_lt (unanswered way x) MAX_CHANNEL_REQUESTS) as (λ _. Option Breach) [ true ↦ None | false ↦ Some (TooManyAsks (unanswered way x)) ])
 between-is way (Request false) x = plain-case (any_by way is_closes x.acts) (any_by way is_ends x.acts) None
 between-is way Close x = plain-case (any_by way is_closes x.acts) (any_by way is_ends x.acts) None
-between-is way (Grant add) x = other-case (any_by way is_closes x.acts) (any_by way is_ends x.acts) (elim (nat_lt 4294967295 (room (other_side way) x + add)) as (λ _. Option Breach) [ true ↦ Some (Overflow (room (other_side way) x) add) | false ↦ None ])
+between-is way (Grant add) x = other-case (any_by way is_closes x.acts) (any_by way is_ends x.acts) (elim (nat_lt MAX_WINDOW (room (other_side way) x + add)) as (λ _. Option Breach) [ true ↦ Some (Overflow (room (other_side way) x) add) | false ↦ None ])
 between-is way Reply x = other-case (any_by way is_closes x.acts) (any_by way is_ends x.acts) (elim (unanswered (other_side way) x == 0) as (λ _. Option Breach) [ true ↦ Some Unasked | false ↦ None ])
 
 abbrev if_confirmed : Bool → Option Breach → Option Breach

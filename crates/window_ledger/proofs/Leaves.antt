@@ -6,7 +6,7 @@ use Rattle.ssh_grammar.specs.declared.side.Side.TheVariants.{Up, Down}
 use Rattle.ssh_grammar.specs.declared.fault.Breach.{Breach}
 use Rattle.ssh_grammar.specs.declared.fault.Breach.TheVariants.{AfterClose, NotOpen}
 use Rattle.mux_history.specs.Gist.{Closes}
-use Rattle.mux_history.specs.Channels.{Channel, any_act, any_by, is_closes, is_confirmed, is_confirms, is_ends}
+use Rattle.mux_history.specs.Channels.{Channel, any_by, is_closes, is_confirmed, is_ends}
 use Rattle.mux_history.specs.Ledger.{breach}
 use Rattle.mux_history.specs.Laws.{with_act}
 use Rattle.mux_history.proofs.Rooms.{accounted-act, may-of}
@@ -28,9 +28,9 @@ speech-closed way x = by_case (any_by way is_closes x.acts) (any_by way is_ends 
     by_case false true = refl
     by_case false false = refl
 
-pub said-is : (state : State) (x : Channel) → IsStateOf state x → is_answered state ≡ true → said_close_in state ≡ any_by Up is_closes x.acts
-said-is (Opened by window maximum) x is h = absurd (cc)
-said-is (Confirmed up down) x is h = ap (λ (a : Account). is_closed a.speech) is.upward ∙ speech-closed Up x
+pub said-is : (state : State) (x : Channel) → IsStateOf state x → said_close_in state ≡ any_by Up is_closes x.acts
+said-is (Opened by window maximum) x is = ap (any_by Up is_closes) (sym is.fresh)
+said-is (Confirmed up down) x is = ap (λ (a : Account). is_closed a.speech) is.upward ∙ speech-closed Up x
 
 pub over-is : (state : State) (x : Channel) → IsStateOf state x → is_over_in state ≡ both_closed x
 over-is (Opened by window maximum) x is = ap (λ acts. any_by Up is_closes acts && any_by Down is_closes acts) (sym is.fresh)
@@ -71,8 +71,3 @@ left-answered (Confirmed up down) = refl
 pub left-opened : (state : State) → is_answered state ≡ false → left_state state ≡ state
 left-opened (Opened by window maximum) h = refl
 left-opened (Confirmed up down) h = absurd (cc)
-
--- its open was confirmed exactly where the channel's was
-pub confirmed-is : (state : State) (x : Channel) → IsStateOf state x → is_answered state ≡ is_confirmed x
-confirmed-is (Opened by window maximum) x is = sym (ap (any_act is_confirms) is.fresh)
-confirmed-is (Confirmed up down) x is = sym is.answered

@@ -4,6 +4,7 @@ use Rattle.ssh_grammar.specs.declared.side.Side.{Side}
 use Rattle.ssh_grammar.specs.declared.side.Side.TheVariants.{Up, Down}
 use Rattle.ssh_grammar.specs.declared.fault.Breach.{Breach}
 use Rattle.ssh_grammar.specs.declared.fault.Breach.TheVariants.{NotOpen, AfterClose, AfterEof, Overflow, Unasked, TooManyAsks}
+use Rattle.mux_history.specs.declared.limits.TheConstants.{MAX_CHANNEL_REQUESTS, MAX_WINDOW}
 use Rattle.mux_history.specs.Ledger.{packet_breach}
 use Rattle.window_ledger.specs.declared.account.Account.{Account}
 use Rattle.window_ledger.specs.declared.account.Speech.{Speech}
@@ -35,7 +36,7 @@ abbrev pub own_act_breach : Act → Account → Option Breach
 own_act_breach (Data size) own = while_speaking own.speech (packet_breach own.maximum own.room size)
 own_act_breach Eof own = while_speaking own.speech None
 own_act_breach (Request true) own =
-    elim (nat_lt own.unanswered 1024) [ true ↦ None | false ↦ Some (TooManyAsks own.unanswered) ]
+    elim (nat_lt own.unanswered MAX_CHANNEL_REQUESTS) [ true ↦ None | false ↦ Some (TooManyAsks own.unanswered) ]
 own_act_breach _ own = None
 
 abbrev pub own_breach : Act → Account → Option Breach
@@ -44,7 +45,7 @@ own_breach act own = while_open own.speech (own_act_breach act own)
 -- and in that of the other direction
 abbrev pub other_breach : Act → Account → Option Breach
 other_breach (Grant add) other =
-    elim (nat_lt 4294967295 (other.room + add)) [
+    elim (nat_lt MAX_WINDOW (other.room + add)) [
       | true ↦ Some (Overflow other.room add)
       | false ↦ None
     ]

@@ -5,10 +5,8 @@ ghost use Rattle.window_ledger.specs.declared.act.Act.TheVariants.{Data, Grant, 
 ghost use Rattle.window_ledger.specs.declared.account.Speech.TheVariants.{Speaking};
 
 use crate::act::Act;
+use mux_history::limits::MAX_CHANNEL_REQUESTS;
 use ssh_grammar::Breach;
-
-/// How many requests of one direction may be unanswered.
-const MOST_ASKS: u32 = 1024;
 
 /// What the sender of a direction may still send.
 #[derive(Clone, Copy, Debug, PartialEq, Eq)]
@@ -141,7 +139,7 @@ impl Account {
         ensures { result ≡ judged (own_act_breach (Request true) self)
             (own_after (Request true) self) }
     {
-        if self.unanswered >= MOST_ASKS {
+        if self.unanswered >= MAX_CHANNEL_REQUESTS {
             return Err(Breach::TooManyAsks {
                 have: self.unanswered,
             });

@@ -1,7 +1,9 @@
 ghost use Rattle.std.specs.Prelude.{◌≡◌, true, false, OnOk, OnErr};
 ghost use Rattle.mux_history.specs.Gist.{Grants, Carries, Ends, Closes, Asks, Answers};
-ghost use Rattle.mux_history.specs.Channels.{Channel, is_confirmed};
+ghost use Rattle.mux_history.specs.Channels.{Channel, any_by, is_closes, is_confirmed};
 ghost use Rattle.mux_history.specs.Ledger.{room};
+ghost use Rattle.mux_history.specs.Laws.{with_act};
+ghost use Rattle.ssh_grammar.specs.declared.side.Side.TheVariants.{Up};
 ghost use Rattle.window_ledger.specs.Act.{act_of};
 ghost use Rattle.window_ledger.specs.Leaving.{is_over, left, left_state, said_close};
 ghost use Rattle.window_ledger.specs.Stands.{Stands, IsBegun, Judges, GoesOn, IsConfirmed, AddsUp, both_closed, confirmed};
@@ -207,7 +209,8 @@ impl Ledger {
 
     /// Whether the client has sent CLOSE.
     pub fn said_close(&self) -> bool
-        ensures { result ≡ said_close self.now }
+        ensures test { result ≡ said_close self.now }
+        ensures exact { (x : Channel) → Stands self.now x → result ≡ any_by Up is_closes x.acts }
     {
         match self.state {
             State::Opened { .. } => false,
@@ -217,7 +220,12 @@ impl Ledger {
 
     /// What a client that is lost leaves: in a channel that is confirmed its CLOSE.
     pub fn left(self) -> Ledger
-        ensures { result ≡ left self }
+        ensures value { result ≡ left self }
+        ensures closes { (x : Channel) → Stands self x → confirmed self ≡ true
+            → any_by Up is_closes x.acts ≡ false → Stands result (with_act Up Closes x) }
+        ensures again { (x : Channel) → Stands self x → any_by Up is_closes x.acts ≡ true
+            → Stands result x }
+        ensures opened { confirmed self ≡ false → result ≡ self }
     {
         Ledger {
             state: left(self.state),

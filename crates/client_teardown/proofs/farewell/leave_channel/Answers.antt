@@ -7,4 +7,4 @@ returns-in_default-clause-entries c = none-left_at c.args.table.now c.args.numbe
 
 pub returns-then-held-clause-entries : goal.returns-then-held-clause-entries
 returns-then-held-clause-entries c =
-    c.set_ledger.ensures ∙ held-left_at c.args.table.now c.args.number c.in-Some.channel c.in-Some-ledger_of.ledger c.left-left.result c.admitted.ensures.sound.apart c.in-Some.ensures.channel c.in-Some-ledger_of.ensures.ledger c.left-left.ensures c.if-held.ensures
+    c.set_ledger.ensures ∙ held-left_at c.args.table.now c.args.number c.in-Some.channel c.in-Some-ledger_of.ledger c.left-left.result c.admitted.ensures.sound.apart c.in-Some.ensures.channel c.in-Some-ledger_of.ensures.ledger c.left-left.ensures.value c.if-held.ensures

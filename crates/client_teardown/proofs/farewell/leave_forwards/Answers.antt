@@ -30,7 +30,7 @@ loop-preserved c =
     let done : IsSent t u v =
     elim c.if-not-is_leaving.branch [
       | then-not-is_leaving w ↦
-          (let payload : w.as_bytes.result.now ≡ cancel_forward (own_key_of c.in-Some.key) = w.as_bytes.ensures.value ∙ (w.cancel.ensures.spelled ∙ ap cancel_forward w.lent.ensures) in
+          (let payload : w.as_bytes.result.now ≡ cancel_forward (own_key_of c.in-Some.key) = w.as_bytes.ensures.value ∙ (w.cancel.ensures.spelled ∙ ap cancel_forward w.as_key.ensures) in
           let size : length w.as_bytes.result.now ≡ length w.cancel.result = ap length w.as_bytes.ensures.value in
           sent-one (own_key_of c.in-Some.key) c.in-Some.is_leaving w.as_bytes.result.now u v w.if-not-is_leaving.true payload (omega (arith, size, w.cancel.ensures.most)) (w.up-is ∙ w.push_reserved.ensures))
       | else-not-is_leaving w ↦ sent-none (own_key_of c.in-Some.key) c.in-Some.is_leaving u v w.if-not-is_leaving.false w.up-is
