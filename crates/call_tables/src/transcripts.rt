@@ -19,7 +19,7 @@
 
 ghost use Rattle.std.specs.Prelude.{◌≤◌, vec_len};
 
-mod limits;
+mod breaches;
 
 use client_teardown::FAREWELL_ROOM;
 use forward_rules::Policy;
@@ -39,6 +39,15 @@ struct Bench {
 /// Plays a script to a core that permits everything.
 fn plays(alloc: Global, script: &str) -> Result<(), Fail> {
     fresh(alloc)?.follow(script)
+}
+
+/// Plays each step of a script to a core of its own, behind the same beginning.
+fn plays_each(alloc: Global, beginning: &str, script: &str) -> Result<(), Fail> {
+    for step in script.split(';') {
+        let steps = format!(in alloc; "{beginning};{step}")?;
+        plays(alloc, steps.as_str())?;
+    }
+    Ok(())
 }
 
 fn fresh(alloc: Global) -> Result<Bench, Fail> {

@@ -22,12 +22,14 @@ use Rattle.window_ledger.specs.declared.ledger.Ledger.{Ledger}
 use Rattle.channel_table.specs.declared.channel.Channel as table
 use Rattle.channel_table.specs.Entries.{Entry}
 use Rattle.channel_table.specs.Entries.{freed, shown_at}
+use Rattle.mux_core.specs.declared.heard.Heard as told
 use Rattle.mux_core.specs.declared.heard.Heard.TheVariants as heard
 use Rattle.mux_core.specs.State.{CoreState, is_served}
 use Rattle.mux_core.specs.Stands.{Stands, TableFits, is_known, look}
 use Rattle.mux_core.specs.Lookups.{channel_for, waits}
 use Rattle.mux_core.specs.Settling.{is_lost_in, settled}
 use Rattle.mux_core.specs.Calls.{HearsAs, HearsClient}
+use Rattle.mux_core.specs.Delivering.{DeliversAs}
 use Rattle.mux_core.proofs.Apart.{all-filter, alone}
 use Rattle.mux_core.proofs.Bare.{down_act}
 use Rattle.mux_core.proofs.Failing.{free-table}
@@ -158,3 +160,14 @@ failure-lost s new n p p' up c l rows st looks lost pend after e =
     (failure-table s n p sh.entry (for_lost (rows_of sh.entry.channel.client rows) (Within n Fails)) rows st sh.found refl e)
     (freed-known s sh.entry.number st.known.channels)
     (after ∙ (ap (λ (i : ℕ). settled (record s { channels = freed i s.channels }) c.client) (sym sh.number) ∙ ap (λ (d : table.Channel). settled (record s { channels = freed sh.entry.number s.channels }) d.client) (sym sh.channel))))
+
+pub failure-delivered : (s mid new : CoreState) (n : ℕ) (p p' : List ℕ) (up : QueueState) (c : table.Channel) (l : Ledger) (h : told.Heard) (rows : List Row) → Stands s rows → channel_for s.channels n ≡ Some (c, l) → waits c l ≡ true → mid ≡ record s { channels = freed n s.channels } → DeliversAs (is_lost_in mid.clients c.client) mid new c p p' h → read_gist p ≡ Ok (Within n Fails) → HearsAs new p p' up up h rows (dest rows p)
+failure-delivered s mid new n p p' up c l h rows st looks pend is goes e =
+    by_case (is_lost_in s.clients c.client) refl (subst (λ (u : CoreState). DeliversAs (is_lost_in u.clients c.client) u new c p p' h) is goes)
+  where
+    by_case : (b : Bool) → is_lost_in s.clients c.client ≡ b → DeliversAs b (record s { channels = freed n s.channels }) new c p p' h → HearsAs new p p' up up h rows (dest rows p)
+    by_case true lost goes =
+        subst (λ g. HearsAs new p p' up up g rows (dest rows p)) (sym goes.1) (failure-lost s new n p p' up c l rows st looks lost pend goes.0 e)
+    by_case false here goes =
+        subst (λ g. HearsAs new p p' up up g rows (dest rows p)) (sym goes.1)
+        (subst (λ q. HearsAs new p q up up (heard.Client c.client 0) rows (dest rows p)) (sym goes.2) (failure-given s new n p up c l rows st looks here pend goes.0 e))

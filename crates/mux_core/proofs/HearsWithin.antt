@@ -31,6 +31,7 @@ use Rattle.channel_table.specs.declared.channel.Channel as table
 use Rattle.channel_table.specs.Entries.{Entry}
 use Rattle.channel_table.specs.Entries.{AreApart, at_number, changed_at, is_at, is_of, is_shown, ledger_at, shown_at, with_ledger}
 use Rattle.channel_table.specs.Stands.{Fits, shown_number}
+use Rattle.mux_core.specs.declared.heard.Heard as told
 use Rattle.mux_core.specs.declared.heard.Heard.TheVariants as heard
 use Rattle.mux_core.specs.State.{ClientState, CoreState, is_served}
 use Rattle.mux_core.specs.Stands.{Stands, TableFits, is_known, look}
@@ -38,6 +39,7 @@ use Rattle.mux_core.specs.Lookups.{acted, both, channel_for, stays_in}
 use Rattle.mux_core.specs.Settling.{is_lost_in, settled}
 use Rattle.mux_core.proofs.Settles.{lost-stands, lost-there}
 use Rattle.mux_core.specs.Calls.{HearsAs, HearsClient}
+use Rattle.mux_core.specs.Delivering.{DeliversAs}
 use Rattle.mux_core.proofs.Acts.{ActsOn, DoesAct, acts-on}
 use Rattle.mux_core.proofs.Apart.{Sole, all-filter, all-map, alone, found-of, passes}
 use Rattle.mux_core.proofs.Bare.{after-heard, down_act, held-bare}
@@ -376,3 +378,14 @@ passes-for s new n a p p' up c l l' over rows st looks lost fine acts plain afte
     let sh = shown-entry s.channels n c l st.channels.apart looks in
     subst (λ (d : table.Channel). HearsAs new p p' up up (heard.Lost d.client) rows (dest rows p)) sh.channel
     (passes-by s new n a p p' up sh.entry l' over rows st (subst (λ (d : table.Channel). is_lost_in s.clients d.client ≡ true) (sym sh.channel) lost) sh.found (subst (λ m. (x : Channel) → ledger.Stands m x → breach Down a x ≡ None) (sym sh.ledger) fine) (subst (λ m. ActsOn Down a m l' over) (sym sh.ledger) acts) plain (after ∙ (ap (λ (i : ℕ). settled (record s { channels = acted i l' over s.channels }) c.client) (sym sh.number) ∙ ap (λ (d : table.Channel). settled (record s { channels = acted sh.entry.number l' over s.channels }) d.client) (sym sh.channel))) e)
+
+pub within-delivered : (s mid new : CoreState) (n : ℕ) (a : Act) (p p' : List ℕ) (up : QueueState) (c : table.Channel) (l l' : Ledger) (over : Bool) (h : told.Heard) (rows : List Row) → Stands s rows → channel_for s.channels n ≡ Some (c, l) → ((x : Channel) → ledger.Stands l x → breach Down a x ≡ None) → ActsOn Down a l l' over → is_failing a ≡ false → mid ≡ record s { channels = acted n l' over s.channels } → DeliversAs (is_lost_in mid.clients c.client) mid new c p p' h → read_gist p ≡ Ok (Within n a) → HearsAs new p p' up up h rows (dest rows p)
+within-delivered s mid new n a p p' up c l l' over h rows st looks fine acts plain is goes e =
+    by_case (is_lost_in s.clients c.client) refl (subst (λ (u : CoreState). DeliversAs (is_lost_in u.clients c.client) u new c p p' h) is goes)
+  where
+    by_case : (b : Bool) → is_lost_in s.clients c.client ≡ b → DeliversAs b (record s { channels = acted n l' over s.channels }) new c p p' h → HearsAs new p p' up up h rows (dest rows p)
+    by_case true lost goes =
+        subst (λ g. HearsAs new p p' up up g rows (dest rows p)) (sym goes.1) (passes-for s new n a p p' up c l l' over rows st looks lost fine acts plain goes.0 e)
+    by_case false here goes =
+        subst (λ g. HearsAs new p p' up up g rows (dest rows p)) (sym goes.1)
+        (subst (λ q. HearsAs new p q up up (heard.Client c.client 0) rows (dest rows p)) (sym goes.2) (delivers-for s new n a p up c l l' over rows st looks here fine acts plain goes.0 e))

@@ -7,6 +7,7 @@ pub mod Opening
 pub mod Settling
 pub mod Entering
 pub mod Calls
+pub mod Delivering
 pub mod Laws
 pub mod Losing
 pub mod Requesting

@@ -12,11 +12,6 @@ abbrev pub misses_port : Global → List ℕ → Bool
 misses_port (Forward key) rest = learns_port key && not (length rest == 4)
 misses_port what rest = false
 
--- a payload, where there is one
-abbrev pub listed : Option (List ℕ) → List (List ℕ)
-listed None = []
-listed (Some p) = p ∷ []
-
 -- its key isn't too long to be said in a cancel
 abbrev pub MayBeCancelled : Global → Type 0
 MayBeCancelled (Forward key) = IsShort key

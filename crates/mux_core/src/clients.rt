@@ -143,6 +143,7 @@ fn forget_in(clients: &mut Vec<Client>, client: u64)
 }
 
 impl Clients {
+    /// Nobody is there.
     pub fn new(alloc: Global) -> Clients
         ensures { result ≡ [] }
     {
@@ -176,12 +177,14 @@ impl Clients {
         Ok(true)
     }
 
+    /// Whether a client is there and lost.
     pub fn is_lost(&self, client: u64) -> bool
         ensures { result ≡ is_lost_in self.now client }
     {
         lost_in(&self.listed, client)
     }
 
+    /// A client is lost from now on.
     pub fn lose(&mut self, client: u64)
         ensures { self.new ≡ lost_clients client self.old }
     {

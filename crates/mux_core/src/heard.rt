@@ -2,23 +2,22 @@ ghost use Rattle.std.specs.Prelude.{◌≡◌, ◌≤◌, length, IfOk, IfSome, 
 ghost use Rattle.ssh_fields.specs.Fields.{u32_at};
 ghost use Rattle.ssh_grammar.specs.declared.framing.Framing.TheVariants.{Proxy};
 ghost use Rattle.ssh_grammar.specs.IsFrame.{IsContent};
-ghost use Rattle.ssh_grammar.specs.SpellMessage as spelling;
 ghost use Rattle.mux_history.specs.Gist.{Refuses, Requests, Succeeds};
 ghost use Rattle.mux_history.specs.Farewell.{late_refusal, late_success};
 ghost use Rattle.global_replies.specs.Replies.{after_reply, refusals_behind};
-ghost use Rattle.forward_rules.specs.Keys.{IsShort, key_of};
-ghost use Rattle.forward_rules.specs.Step.{with_port};
 ghost use Rattle.client_teardown.specs.Leaving.{with_payloads};
 ghost use Rattle.mux_core.specs.Calls.{HearsOn, HearsWith};
 ghost use Rattle.mux_core.specs.Gists.{request_of};
-ghost use Rattle.mux_core.specs.Replying.{MayBeCancelled, after_failure, after_success, listed, misses_port};
+ghost use Rattle.client_teardown.specs.Steps.{listed};
+ghost use Rattle.mux_core.specs.Replying.{MayBeCancelled, after_failure, after_success, misses_port};
 ghost use Rattle.mux_core.specs.Requesting.{waiting_of, with_waiting};
 ghost use Rattle.mux_core.specs.Settling.{settled};
 ghost use Rattle.mux_core.specs.declared.heard.Heard.TheVariants.{Client, Lost};
 
 use crate::reading::{Gist, Request, asked, read_gist};
 use crate::state::{Core, waits};
-use conn_messages::{cancel_forward, cancel_path, request_failure};
+use client_teardown::cancel;
+use conn_messages::request_failure;
 use forward_rules::Key;
 use mux_history::Break;
 use proxy_frames::Queue;
@@ -57,31 +56,6 @@ fn told_port(rest: &[u8]) -> u32
     Cursor::new(rest).take_u32().unwrap_or(0)
 }
 
-// The key that is listened on: the one asked, with the port that the server chose where it was asked for any.
-fn bound(key: Key<'_>, chosen: u32) -> Key<'_>
-    ensures { key_of result ≡ with_port chosen (key_of key.entry) }
-{
-    match key {
-        Key::Tcp { address, port: 0 } => Key::Tcp {
-            address,
-            port: chosen,
-        },
-        Key::Tcp { .. } | Key::Path(_) => key,
-    }
-}
-
-// A cancel without reply.
-fn cancel(key: Key<'_>) -> Small
-    requires { IsShort (key_of key) }
-    ensures exact { result ≡ spelling.cancel_forward (key_of key.entry) }
-    ensures fits { IsContent Proxy result }
-{
-    match key {
-        Key::Tcp { address, port } => cancel_forward(address, port),
-        Key::Path(path) => cancel_path(path),
-    }
-}
-
 // What follows for a client that is lost where its request succeeds: what it asked for is cancelled.
 fn late_success(request: Request<'_>, rest: &[u8]) -> Option<Small>
     requires { MayBeCancelled (request_of request) }
@@ -89,7 +63,7 @@ fn late_success(request: Request<'_>, rest: &[u8]) -> Option<Small>
     ensures fits { IfSome result (IsContent Proxy) }
 {
     match request {
-        Request::Forward(key) => Some(cancel(bound(key, told_port(rest)))),
+        Request::Forward(key) => Some(cancel(key.with_port(told_port(rest)))),
         Request::Cancel(_) | Request::KeepAlive | Request::Other => None,
     }
 }
@@ -273,8 +247,4 @@ impl Core {
             Request::KeepAlive | Request::Other => {}
         }
     }
-
-    // ---- opens
-
-    // ---- channels
 }

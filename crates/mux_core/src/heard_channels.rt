@@ -4,13 +4,15 @@ ghost use Rattle.std.specs.Prelude.{◌≡◌, IfOk, OnErr};
 ghost use Rattle.mux_history.specs.Gist.{Confirmation, Fails, Open, Within};
 ghost use Rattle.window_ledger.specs.Act.{act_of};
 ghost use Rattle.mux_core.specs.Calls.{HearsGist, HearsWith};
+ghost use Rattle.mux_core.specs.Delivering.{DeliversAs};
 ghost use Rattle.mux_core.specs.Gists.{opening_of};
 ghost use Rattle.mux_core.specs.Opening.{owner_for};
+ghost use Rattle.mux_core.specs.Settling.{is_lost_in};
 
 use crate::heard::Heard;
 use crate::reading::Opening;
 use crate::state::{Core, confirmed_ledger, put_recipient, waits};
-use channel_table::Refused;
+use channel_table::{Channel, Refused};
 use conn_messages::{close, open_failure};
 use mux_history::Break;
 use proxy_frames::Queue;
@@ -47,18 +49,14 @@ impl Core {
         };
         let ledger = Ledger::opened(Side::Down, window, maximum);
         match self.add_remote(client, sender, ledger) {
-            Ok(number) => {
-                let _ = number;
+            Ok(_) => {
                 return Ok(Heard::Client {
                     client,
                     refusals: 0,
                 });
             }
             Err(Refused::OutOfMemory) => return Err(OutOfMemory),
-            Err(Refused::OwnInUse) => {
-                return Ok(Heard::Broke(Break::NumberInUse { number: sender }));
-            }
-            Err(Refused::RemoteInUse { .. }) => {
+            Err(Refused::OwnInUse | Refused::RemoteInUse { .. }) => {
                 return Ok(Heard::Broke(Break::NumberInUse { number: sender }));
             }
             Err(Refused::Full { .. }) => {}
@@ -133,16 +131,7 @@ impl Core {
             return Heard::Broke(Break::NotPending { number });
         }
         self.free(number);
-        let client = channel.client;
-        if self.is_lost(client) {
-            self.settle(client);
-            return Heard::Lost { client };
-        }
-        put_recipient(payload, channel.own.unwrap_or(0));
-        Heard::Client {
-            client,
-            refusals: 0,
-        }
+        self.deliver(&channel, payload)
     }
 
     // What the server says in a channel that both sides have confirmed.
@@ -158,6 +147,15 @@ impl Core {
             return Heard::Broke(Break::Channel { number, why });
         }
         self.put(number, ledger);
+        self.deliver(&channel, payload)
+    }
+
+    // What the server says in a channel goes to its client. One that is lost is forgotten, where nothing of it is left.
+    fn deliver(&mut self, channel: &Channel, payload: &mut [u8]) -> Heard
+        ensures goes { DeliversAs (is_lost_in self.old.clients channel.now.client)
+            self.old self.new channel.now payload.old payload.new result }
+        ensures policy { self.new.policy ≡ self.old.policy }
+    {
         let client = channel.client;
         if self.is_lost(client) {
             self.settle(client);

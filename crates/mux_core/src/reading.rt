@@ -1,7 +1,8 @@
 ghost use Rattle.std.specs.Prelude.{◌≡◌, Ok, Err, MatchResult};
 ghost use Rattle.ssh_grammar.specs.IsMessage.{IsMessage};
 ghost use Rattle.conn_messages.specs.Message.{message_of};
-ghost use Rattle.mux_history.specs.Gist.{gist, read_gist};
+ghost use Rattle.mux_history.specs.Gist.{Within, gist, read_gist};
+ghost use Rattle.window_ledger.specs.Act.{act_of};
 ghost use Rattle.conn_messages.specs.Message.{global_of, opens_of};
 ghost use Rattle.global_replies.specs.Asks.{what_of};
 ghost use Rattle.global_replies.specs.Asks as asks;
@@ -117,6 +118,13 @@ pub fn asked(ask: &Ask) -> Request<'_>
     }
 }
 
+// An act in a channel that both sides have confirmed.
+fn act_in<'a>(recipient: u32, act: Act) -> Gist<'a>
+    ensures { gist_of result ≡ Within recipient (act_of act) }
+{
+    Gist::Within { recipient, act }
+}
+
 fn shorten<'a>(message: Message<'a>) -> Gist<'a>
     requires { IsMessage (message_of message) }
     ensures { gist_of result ≡ gist (message_of message.entry) }
@@ -154,42 +162,23 @@ fn shorten<'a>(message: Message<'a>) -> Gist<'a>
             maximum,
         },
         Message::OpenFailure { recipient, .. } => Gist::Fails { recipient },
-        Message::Adjust { recipient, add } => Gist::Within {
-            recipient,
-            act: Act::Grant(add),
-        },
-        Message::Data { recipient, bytes } => Gist::Within {
-            recipient,
-            act: Act::Data(bytes.len() as u32),
-        },
-        Message::Extended {
+        Message::Adjust { recipient, add } => act_in(recipient, Act::Grant(add)),
+        Message::Data { recipient, bytes }
+        | Message::Extended {
             recipient,
             bytes,
             ..
-        } => Gist::Within {
-            recipient,
-            act: Act::Data(bytes.len() as u32),
-        },
-        Message::Eof { recipient } => Gist::Within {
-            recipient,
-            act: Act::Eof,
-        },
-        Message::Close { recipient } => Gist::Within {
-            recipient,
-            act: Act::Close,
-        },
+        } => { act_in(recipient, Act::Data(bytes.len() as u32)) }
+        Message::Eof { recipient } => act_in(recipient, Act::Eof),
+        Message::Close { recipient } => act_in(recipient, Act::Close),
         Message::Request {
             recipient,
             want,
             ..
-        } => Gist::Within {
-            recipient,
-            act: Act::Request(want),
-        },
-        Message::Success { recipient } | Message::Failure { recipient } => Gist::Within {
-            recipient,
-            act: Act::Reply,
-        },
+        } => act_in(recipient, Act::Request(want)),
+        Message::Success { recipient } | Message::Failure { recipient } => {
+            act_in(recipient, Act::Reply)
+        }
     }
 }
 

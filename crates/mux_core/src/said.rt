@@ -151,8 +151,7 @@ impl Core {
             Err(Refused::Full { .. }) => {
                 return Ok(refuse(sender, RESOURCE_SHORTAGE, b"too many channels"));
             }
-            Err(Refused::OwnInUse) => return Ok(Verdict::Drop(Why::OwnInUse { number: sender })),
-            Err(Refused::RemoteInUse { .. }) => {
+            Err(Refused::OwnInUse | Refused::RemoteInUse { .. }) => {
                 return Ok(Verdict::Drop(Why::OwnInUse { number: sender }));
             }
         };
@@ -249,6 +248,4 @@ impl Core {
         self.put(number, ledger);
         Ok(Verdict::Sent)
     }
-
-    // ---- global requests
 }

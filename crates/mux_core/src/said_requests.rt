@@ -5,7 +5,6 @@ ghost use Rattle.ssh_grammar.specs.declared.framing.Framing.TheVariants.{Proxy};
 ghost use Rattle.ssh_grammar.specs.IsFrame.{IsContent};
 ghost use Rattle.ssh_grammar.specs.Messages.{Cancel, Forward, KeepAlive};
 ghost use Rattle.mux_history.specs.Gist.{Requests};
-ghost use Rattle.mux_history.specs.Keys.{is_askable};
 ghost use Rattle.forward_rules.specs.Keys.{IsShort, key_of};
 ghost use Rattle.global_replies.specs.Asks.{what_of};
 ghost use Rattle.global_replies.specs.Asks as asks;
@@ -20,21 +19,10 @@ use conn_messages::request_failure;
 use forward_rules::{ForwardRefused, Key};
 use global_replies::Ask;
 use mux_history::Why;
-use mux_history::limits::{MAX_ADDRESS, MAX_GLOBAL_REQUESTS};
+use mux_history::limits::MAX_GLOBAL_REQUESTS;
 use proxy_frames::Queue;
 use ssh_fields::{OutOfMemory, Small};
 use ssh_grammar::numbers::*;
-
-// An address or a path that isn't too long; a path isn't empty.
-fn is_askable(key: Key<'_>) -> bool
-    ensures exact { result ≡ is_askable (key_of key.entry) }
-    ensures short { result ≡ true → IsShort (key_of key.entry) }
-{
-    match key {
-        Key::Tcp { address, .. } => address.len() <= MAX_ADDRESS,
-        Key::Path(path) => !path.is_empty() && path.len() <= MAX_ADDRESS,
-    }
-}
 
 // A request for a forwarding.
 fn ask_forward(key: Key<'_>) -> Ask
@@ -114,7 +102,7 @@ impl Core {
         ensures exact { result ≡ may_ask self.now.policy (key_of key.entry) want }
         ensures short { result ≡ true → IsShort (key_of key.entry) }
     {
-        want && is_askable(key) && self.permits_listen(key)
+        want && key.is_askable() && self.permits_listen(key)
     }
 
     // A request that isn't sent.

@@ -159,26 +159,14 @@ impl Core {
     pub(crate) fn permits_open(&self, key: Key<'_>) -> bool
         ensures { result ≡ permits self.now.policy.opens (key_of key.entry) }
     {
-        match key {
-            Key::Tcp { address, port } => self.policy.permits_open(address, port),
-            Key::Path(path) => self.policy.permits_open_path(path),
-        }
+        self.policy.permits_open_to(key)
     }
 
     pub(crate) fn permits_listen(&self, key: Key<'_>) -> bool
         ensures { result ≡ permits self.now.policy.listens (key_of key.entry) }
     {
-        match key {
-            Key::Tcp { address, port } => self.policy.permits_listen(address, port),
-            Key::Path(path) => self.policy.permits_listen_path(path),
-        }
+        self.policy.permits_listen_on(key)
     }
-
-    // ---- channels
-
-    // ---- global requests
-
-    // ---- forwardings
 
     // ---- clients
 

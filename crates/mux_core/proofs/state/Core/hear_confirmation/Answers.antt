@@ -39,7 +39,7 @@ returns-then-is_lost-clause-stands c = λ rows st e.
     ap (λ (q : QueueState). q.waiting) c.in_ok-push_payload.ensures.ok ∙ ap (λ p. c.args.up.now.waiting ++ frame_payload p) payload in
     let given : IsConfirmed c.in-Some.ledger c.confirmed_ledger-given.result c.args.window c.args.maximum = c.confirmed_ledger-given.ensures.stands (idle-ledger c.in-Some.channel c.in-Some.ledger pend) in
     let set : c.set_ledger.new.self ≡ record c.name_remote.new.self { channels = changed_at c.args.number (with_ledger (left c.confirmed_ledger-given.result)) c.name_remote.new.self.channels } =
-    c.set_ledger.ensures ∙ ap (λ l. let u : CoreState = record c.name_remote.new.self { channels = changed_at c.args.number (with_ledger l) c.name_remote.new.self.channels } in u) c.left.ensures in
+    c.set_ledger.ensures ∙ ap (λ l. let u : CoreState = record c.name_remote.new.self { channels = changed_at c.args.number (with_ledger l) c.name_remote.new.self.channels } in u) c.left.ensures.value in
     let named = remote-named c.args.self.now c.name_remote.new.self c.set_ledger.new.self c.in_ok-name_remote.field-0 c.args.number c.args.remote (left c.confirmed_ledger-given.result) c.if-not-branch.false c.in_ok-name_remote.ensures.ok set in
     let after : c.settle.new.self ≡ settled (record c.args.self.now { channels = changed_at c.args.number (confirm_remote c.args.remote (left c.confirmed_ledger-given.result)) c.args.self.now.channels }) c.in-Some.channel.client =
     c.settle.ensures ∙ ap (λ (s : CoreState). settled s c.in-Some.channel.client) named in

@@ -30,7 +30,7 @@ returns-in-Ok-clause-stands c = λ rows st e.
     let free : is_some (number_of_remote c.args.self.now.channels c.args.sender) ≡ false = search rules in
     let owner : owner_for (opening_of c.args.what.now) c.args.self.now.forwards ≡ Some c.in-Some.client = search rules in
     let room = remote-room c.args.self.now.channels c.in-Some.client c.args.sender free c.in-Ok.ensures.exact in
-    open-given c.args.self.now c.add_remote.new.self c.in-Some.client c.in-Ok.number c.args.sender c.args.window c.args.maximum (opening_of c.args.what.now) c.args.payload.now c.opened-ledger.result c.args.up.now rows st free owner room small c.in-Ok.ensures.fresh c.opened-ledger.ensures.confirmed c.opened-ledger.ensures.stands c.in-Ok.ensures.ok e
+    open-given c.args.self.now c.add_remote.new.self c.in-Some.client c.in-Ok.field-0 c.args.sender c.args.window c.args.maximum (opening_of c.args.what.now) c.args.payload.now c.opened-ledger.result c.args.up.now rows st free owner room small c.in-Ok.ensures.fresh c.opened-ledger.ensures.confirmed c.opened-ledger.ensures.stands c.in-Ok.ensures.ok e
 
 pub returns-clause-stands : goal.returns-clause-stands
 returns-clause-stands c = λ rows st e.
