@@ -5,6 +5,7 @@ use Rattle.conf_rules.specs.Texts.{is_empty}
 use Rattle.mux_outside.specs.Streams.{among}
 use Rattle.mux_outside.specs.Wire.{TurnFits}
 use Rattle.mux_outside.specs.WireLog.{Logged}
+use Rattle.mux_outside.specs.declared.piece.TheConstants.{LONGEST_PIECE}
 use Rattle.mux_outside.specs.declared.turn.Turn.{Turn}
 use Rattle.mux_outside.specs.declared.turn.Turn.TheVariants.{Accepted, Got, End, Writable, Failed, NoMemory}
 use Rattle.mux_outside.specs.declared.turn.Want.TheVariants.{Read}
@@ -73,9 +74,9 @@ pub piece_fits : (n : ℕ) (bytes : List ℕ) → 0 < n → 0 < length bytes
     → (0 < length (take n bytes)) × (length (take n bytes) ≤ n)
 piece_fits n bytes low some = (omega (arith, length-take n bytes), omega (arith, length-take n bytes))
 
--- at most 65,536 of them
+-- at most the longest of a wire
 pub piece_short : (bytes : List ℕ) → 0 < length bytes
-    → (0 < length (take 37 bytes)) × (length (take 37 bytes) ≤ 65536)
+    → (0 < length (take 37 bytes)) × (length (take 37 bytes) ≤ LONGEST_PIECE)
 piece_short bytes some =
     let bounds = piece_fits 37 bytes (lit< tt) some in
     (bounds.0, omega (arith, bounds.1))

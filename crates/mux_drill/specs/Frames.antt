@@ -39,7 +39,7 @@ unfoldable pub welcome : ℕ → List ℕ
 welcome number = (frame_answer (Greets 4) ++ frame_answer (Proxies 0))
     ++ confirmation_frame 0 number
 
--- the sender's number in an open of a session, which stands behind its length, its padding length, its
--- number and its type
+-- the sender's number in an open of a session, which stands behind its length, its padding length,
+-- its number and its type
 unfoldable pub opener_in : List ℕ → ℕ
 opener_in bytes = u32_at 17 bytes

@@ -25,8 +25,8 @@ use Rattle.mux_drill.specs.declared.play.Change.TheVariants.{Nothing, GoesOn, Ta
 abbrev pub speaks : Said → Bool
 speaks said = not (is_empty said.rest)
 
--- whether what is outside lets a turn happen: a client comes where it listens, an open stream speaks or
--- ends, and the server ends where all was read
+-- whether what is outside lets a turn happen: a client comes where it listens, an open stream
+-- speaks or ends, and the server ends where all was read
 abbrev pub may_happen : Turn → Logged → List (List ℕ) → Bool
 may_happen (Accepted c) log unread = log.listens && (nat_lt 0 c && (c - 1 == log.last))
 may_happen (Got t) log unread = among t log.streams
@@ -97,11 +97,17 @@ next_change play log =
     let begins = if is_met step log play.unread then Takes step else Nothing in
     if speaks play.said then goes_on else begins
 
+-- the bytes that the turn of a change gives, if it gives any
+abbrev pub piece_of : Change → Play → List ℕ
+piece_of Nothing play = []
+piece_of GoesOn play = take 37 play.said.rest
+piece_of (Takes step) play = take 37 step.says
+
 -- a turn, its bytes and what it leaves are the next ones
-pub record GivesNext (play : Play) (log : Logged) (given : Given) (bytes : List ℕ) : Type 0 where
+pub record GivesNext (play : Play) (log : Logged) (given : Given) : Type 0 where
   pub turn_is : given.turn ≡ next_turn play log
   pub change_is : given.change ≡ next_change play log
-  pub piece_is : (t : ℕ) → given.turn ≡ Got t → bytes ≡ next_piece play
+  pub piece_is : (t : ℕ) → given.turn ≡ Got t → piece_of given.change play ≡ next_piece play
 
 -- the play after the next turn
 abbrev pub next_play : Play → Logged → Play

@@ -24,8 +24,8 @@ message_at plan i = message_of plan.clients (drawn plan.seed (suc i)) i
 abbrev pub message_before : Plan → ℕ → Message
 message_before plan i = message_of plan.clients (drawn plan.seed i) (i - 1)
 
--- before message i is sent, or the first CLOSE, the adjustment of the message before has to be written to
--- the server
+-- before message i is sent, or the first CLOSE, the adjustment of the message before has to be
+-- written to the server
 abbrev pub settled_up : Message → ℕ → List ℕ
 settled_up before i = if i == 0 then [] else adjust_frame (before.client - 1) before.len
 
@@ -89,8 +89,8 @@ closing clients messages before client = record {
 
 -- ---- the steps
 
--- the step of a stage, by the numbers that the master picked for the clients and the bytes that wait for
--- the server
+-- the step of a stage, by the numbers that the master picked for the clients and the bytes that
+-- wait for the server
 abbrev pub step_at : List ℕ → List ℕ → Plan → Stage → Step
 step_at picks waiting plan Unopened = bare (Failed 0)
 step_at picks waiting plan (Accepting c) = bare (Accepted c)

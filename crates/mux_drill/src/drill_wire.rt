@@ -6,12 +6,12 @@ ghost use Rattle.mux_outside.specs.declared.turn.Turn.TheVariants.{End, NoMemory
 ghost use Rattle.mux_outside.specs.declared.turn.Wrote.TheVariants.{Took, NoMemory as NoMemoryToWrite};
 ghost use Rattle.mux_outside.specs.Wire.{openings_of, OpenFaults, TurnFits, TurnFaults, WroteFits, WroteFaults};
 ghost use Rattle.mux_outside.specs.Seen.{seen_after_open, seen_after_turn, seen_after_write, seen_after_close, calls_after_wait, calls_after_write};
-ghost use Rattle.mux_outside.specs.WireLog.{seen_in};
+ghost use Rattle.mux_outside.specs.WireLog.{seen_in, LogsOpening, LogsTurn, LogsWrite, LogsClose};
 ghost use Rattle.mux_drill.specs.Course.{full_tally};
 ghost use Rattle.mux_drill.specs.DrillWire.{tally_of, IsOver, IsNew, SamePlay, Opens, PlaysNext, TakesAll};
 ghost use Rattle.mux_drill.specs.Plan.{plan_of};
 ghost use Rattle.mux_drill.specs.declared.stage.Stage.TheVariants.{Ending};
-ghost use Rattle.mux_drill.specs.Play.{GivesNext};
+ghost use Rattle.mux_drill.specs.Play.{GivesNext, piece_of};
 ghost use Rattle.mux_drill.specs.declared.play.Change.TheVariants.{Nothing};
 
 use crate::plan::Plan;
@@ -61,13 +61,7 @@ impl Wire for DrillWire {
     ghost tally = { λ w. tally_of w };
 
     fn open(&mut self, control: &[u8], transport: &[u8]) -> Result<(), FileError>
-        ensures openings { Some self.new.log.openings
-            ≡ option_map (λ os. os ++ openings_of result control.now transport.now)
-            (Some self.old.log.openings) }
-        ensures seen { seen_in self.new.log ≡ seen_after_open result (seen_in self.old.log) }
-        ensures calls { self.new.log.calls ≡ self.old.log.calls }
-        ensures cause { OpenFaults result self.old.log.server_faults self.new.log.server_faults
-            self.old.log.client_faults self.new.log.client_faults }
+        ensures logs { LogsOpening result control.now transport.now self.old.log self.new.log }
         ensures exact { Opens result (plan_of transport.now) self.old self.new }
     {
         let Some(plan) = Plan::read(self.alloc, transport)? else {
@@ -87,12 +81,7 @@ impl Wire for DrillWire {
         ensures turn { TurnFits result want self.old.log.listens self.old.log.last
             self.old.log.streams
             self.old.log.blocked into.new }
-        ensures openings { Some self.new.log.openings ≡ Some self.old.log.openings }
-        ensures seen { seen_in self.new.log ≡ seen_after_turn result waiting.now want into.new
-            (seen_in self.old.log) }
-        ensures calls { self.new.log.calls ≡ calls_after_wait result self.old.log.calls }
-        ensures cause { TurnFaults result self.old.log.server_faults self.new.log.server_faults
-            self.old.log.client_faults self.new.log.client_faults }
+        ensures logs { LogsTurn result waiting.now want into.new self.old.log self.new.log }
         ensures drilled { result ≡ End 0
             → tally_of self.new ≡ full_tally self.old.play.course.plan }
         ensures ends { result ≡ End 0 → IsOver self.new }
@@ -100,15 +89,14 @@ impl Wire for DrillWire {
         ensures given { want ≡ Read → result ≢ NoMemory
             → PlaysNext self.old self.new result into.new }
         ensures err { result ≡ NoMemory → SamePlay self.old self.new }
+        ensures kept { result ≡ NoMemory → into.new ≡ into.old }
     {
-        let given = self.given(waiting, want, into);
-        if self
-            .log
-            .waited(given.turn, waiting, want, into.as_bytes())
-            .is_err()
-        {
+        let given = self.given(waiting, want);
+        let bytes = self.play.piece(&given.change);
+        if self.log.waited(given.turn, waiting, want, bytes).is_err() {
             return Turn::NoMemory;
         }
+        into.set(bytes);
         self.play.keep(given.change);
         given.turn
     }
@@ -118,13 +106,7 @@ impl Wire for DrillWire {
         requires not_blocked { among stream self.old.log.blocked ≡ false }
         requires some { 0 < length bytes.now }
         ensures wrote { WroteFits result (length bytes.now) }
-        ensures openings { Some self.new.log.openings ≡ Some self.old.log.openings }
-        ensures seen { seen_in self.new.log
-            ≡ seen_after_write result stream bytes.now (seen_in self.old.log) }
-        ensures calls { self.new.log.calls ≡ calls_after_write result self.old.log.calls }
-        ensures cause { WroteFaults result stream self.old.log.server_faults
-            self.new.log.server_faults
-            self.old.log.client_faults self.new.log.client_faults }
+        ensures logs { LogsWrite result stream bytes.now self.old.log self.new.log }
         ensures all { result ≢ NoMemoryToWrite
             → TakesAll stream bytes.now self.old self.new result }
         ensures over { tally_of self.new ≡ tally_of self.old }
@@ -143,22 +125,14 @@ impl Wire for DrillWire {
     }
 
     fn stop_listening(&mut self)
-        ensures openings { Some self.new.log.openings ≡ Some self.old.log.openings }
-        ensures seen { seen_in self.new.log ≡ record (seen_in self.old.log) { listens = false } }
-        ensures calls { self.new.log.calls ≡ self.old.log.calls }
-        ensures server { self.new.log.server_faults ≡ self.old.log.server_faults }
-        ensures client { self.new.log.client_faults ≡ self.old.log.client_faults }
+        ensures logs { self.new.log ≡ record self.old.log { listens = false } }
         ensures same { SamePlay self.old self.new }
     {
         self.log.stop_listening();
     }
 
     fn close(&mut self, stream: u64)
-        ensures openings { Some self.new.log.openings ≡ Some self.old.log.openings }
-        ensures seen { seen_in self.new.log ≡ seen_after_close stream (seen_in self.old.log) }
-        ensures calls { self.new.log.calls ≡ self.old.log.calls }
-        ensures server { self.new.log.server_faults ≡ self.old.log.server_faults }
-        ensures client { self.new.log.client_faults ≡ self.old.log.client_faults }
+        ensures logs { LogsClose stream self.old.log self.new.log }
         ensures same { SamePlay self.old self.new }
     {
         self.log.close(stream);
@@ -173,22 +147,22 @@ impl Wire for DrillWire {
 
 impl DrillWire {
     // The turn of a wait, and what it leaves.
-    fn given(&self, waiting: &Streams, want: Want, into: &mut Piece) -> Given
+    fn given(&self, waiting: &Streams, want: Want) -> Given
         requires waiting_blocked { All (λ t. IsTrue (among t self.now.log.blocked)) waiting.now }
         requires waiting_open { All (λ t. IsTrue (among t self.now.log.streams)) waiting.now }
         requires server { IsTrue (among 0 self.now.log.streams) }
         requires some { want ≡ WriteOnly → 0 < length waiting.now }
         ensures turn { TurnFits result.turn want self.now.log.listens self.now.log.last
             self.now.log.streams
-            self.now.log.blocked into.new }
+            self.now.log.blocked (piece_of result.change self.now.play) }
         ensures gives { want ≡ Read → result.turn ≢ NoMemory
-            → GivesNext self.now.play self.now.log result into.new }
+            → GivesNext self.now.play self.now.log result }
         ensures starved { result.turn ≡ NoMemory → result.change ≡ Nothing }
         ensures ends { result.turn ≡ End 0 → self.now.play.course.stage ≡ Ending }
         ensures frees { want ≡ WriteOnly → result.change ≡ Nothing }
     {
         match want {
-            Want::Read => self.play.next(&self.log, into),
+            Want::Read => self.play.next(&self.log),
             Want::WriteOnly => Given {
                 turn: Turn::Writable(waiting.as_slice()[0]),
                 change: Change::Nothing,

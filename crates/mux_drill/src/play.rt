@@ -1,12 +1,12 @@
 // How a drill is played, turn by turn.
-ghost use Rattle.std.specs.Prelude.{◌≡◌, ◌≢◌, IsTrue, IfOk, true, false};
+ghost use Rattle.std.specs.Prelude.{◌≡◌, ◌≢◌, ◌≤◌, length, IsTrue, IfOk, true, false};
 ghost use Rattle.mux_outside.specs.Streams.{among};
 ghost use Rattle.mux_outside.specs.Wire.{TurnFits};
 ghost use Rattle.mux_outside.specs.declared.turn.Want.TheVariants.{Read};
 ghost use Rattle.mux_outside.specs.declared.turn.Turn.TheVariants.{End, NoMemory};
 ghost use Rattle.mux_drill.specs.declared.stage.Stage.TheVariants.{Unopened, Ending};
 ghost use Rattle.mux_drill.specs.Plan.{IsPlan};
-ghost use Rattle.mux_drill.specs.Play.{speaks, may_happen, is_met, next_step, next_turn, next_piece, next_change, changed, begun, speaker_of, picks_after, Starts, GivesNext};
+ghost use Rattle.mux_drill.specs.Play.{speaks, may_happen, is_met, next_step, next_turn, next_piece, next_change, piece_of, changed, begun, speaker_of, picks_after, Starts, GivesNext};
 ghost use Rattle.mux_drill.specs.declared.play.Change.TheVariants.{Nothing};
 
 use crate::course::Course;
@@ -14,10 +14,10 @@ use crate::frames::opener_in;
 use crate::inboxes::Inboxes;
 use crate::picks::Picks;
 use crate::plan::Plan;
-use crate::saying::{Saying, give};
+use crate::saying::{Saying, first_piece};
 use crate::stage::Stage;
 use crate::step::Step;
-use mux_outside::{Piece, Turn, WireLog};
+use mux_outside::{Turn, WireLog};
 use ssh_fields::OutOfMemory;
 use std::alloc::Global;
 
@@ -116,28 +116,28 @@ impl Play {
     }
 
     /// The next turn.
-    pub fn next(&self, log: &WireLog, into: &mut Piece) -> Given
+    pub fn next(&self, log: &WireLog) -> Given
         requires { IsTrue (among 0 log.now.streams) }
         ensures fits { TurnFits result.turn Read log.now.listens log.now.last log.now.streams
-            log.now.blocked into.new }
-        ensures gives { result.turn ≢ NoMemory → GivesNext self.now log.now result into.new }
+            log.now.blocked (piece_of result.change self.now) }
+        ensures gives { result.turn ≢ NoMemory → GivesNext self.now log.now result }
         ensures starved { result.turn ≡ NoMemory → result.change ≡ Nothing }
         ensures ends { result.turn ≡ End 0 → self.now.course.stage ≡ Ending }
     {
         if self.said.rest().is_empty() {
-            self.begin(log, into)
+            self.begin(log)
         } else {
-            self.go_on(log, into)
+            self.go_on(log)
         }
     }
 
     // The next piece of what is being said.
-    fn go_on(&self, log: &WireLog, into: &mut Piece) -> Given
+    fn go_on(&self, log: &WireLog) -> Given
         requires server { IsTrue (among 0 log.now.streams) }
         requires speaks { speaks self.now.said ≡ true }
         ensures fits { TurnFits result.turn Read log.now.listens log.now.last log.now.streams
-            log.now.blocked into.new }
-        ensures gives { result.turn ≢ NoMemory → GivesNext self.now log.now result into.new }
+            log.now.blocked (piece_of result.change self.now) }
+        ensures gives { result.turn ≢ NoMemory → GivesNext self.now log.now result }
         ensures starved { result.turn ≢ NoMemory }
         ensures ends { result.turn ≢ End 0 }
     {
@@ -147,7 +147,6 @@ impl Play {
                 change: Change::Nothing,
             };
         }
-        give(self.said.rest(), into);
         Given {
             turn: Turn::Got(self.said.stream()),
             change: Change::GoesOn,
@@ -155,12 +154,12 @@ impl Play {
     }
 
     // The next step, where what it needs was written.
-    fn begin(&self, log: &WireLog, into: &mut Piece) -> Given
+    fn begin(&self, log: &WireLog) -> Given
         requires server { IsTrue (among 0 log.now.streams) }
         requires silent { speaks self.now.said ≡ false }
         ensures fits { TurnFits result.turn Read log.now.listens log.now.last log.now.streams
-            log.now.blocked into.new }
-        ensures gives { result.turn ≢ NoMemory → GivesNext self.now log.now result into.new }
+            log.now.blocked (piece_of result.change self.now) }
+        ensures gives { result.turn ≢ NoMemory → GivesNext self.now log.now result }
         ensures starved { result.turn ≡ NoMemory → result.change ≡ Nothing }
         ensures ends { result.turn ≡ End 0 → self.now.course.stage ≡ Ending }
     {
@@ -176,10 +175,21 @@ impl Play {
                 change: Change::Nothing,
             };
         }
-        give(step.says.as_bytes(), into);
         Given {
             turn: step.turn,
             change: Change::Takes(step),
+        }
+    }
+
+    /// The bytes that the turn of this change gives, if it gives any.
+    pub fn piece<'a>(&'a self, change: &'a Change) -> &'a [u8]
+        ensures piece { result.now ≡ piece_of change.now self.now }
+        ensures short { length result.now ≤ 37 }
+    {
+        match change {
+            Change::Nothing => &[],
+            Change::GoesOn => first_piece(self.said.rest()),
+            Change::Takes(step) => first_piece(step.says.as_bytes()),
         }
     }
 

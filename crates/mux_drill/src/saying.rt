@@ -1,6 +1,5 @@
-ghost use Rattle.std.specs.Prelude.{◌≡◌, ◌≤◌, [], take, drop};
+ghost use Rattle.std.specs.Prelude.{◌≡◌, ◌≤◌, [], take, drop, length};
 
-use mux_outside::Piece;
 use ssh_fields::Text;
 use std::alloc::Global;
 use std::marker::Model;
@@ -70,9 +69,10 @@ impl Saying {
     }
 }
 
-/// Gives the first piece of some bytes.
-pub fn give(bytes: &[u8], into: &mut Piece)
-    ensures { into.new ≡ take 37 bytes.now }
+/// The first piece of some bytes.
+pub fn first_piece(bytes: &[u8]) -> &[u8]
+    ensures piece { result.now ≡ take 37 bytes.now }
+    ensures short { length result.now ≤ 37 }
 {
-    into.set(&bytes[..PIECE.min(bytes.len())]);
+    &bytes[..PIECE.min(bytes.len())]
 }

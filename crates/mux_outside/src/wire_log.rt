@@ -1,6 +1,7 @@
 // What a wire in memory keeps of its calls.
-ghost use Rattle.std.specs.Prelude.{◌≡◌, ◌++◌, IfOk, false, length};
+ghost use Rattle.std.specs.Prelude.{◌≡◌, ◌≢◌, ◌++◌, IfOk, OnOk, false, length};
 ghost use Rattle.mux_outside.specs.Marks.{bytes_taken as all_taken};
+ghost use Rattle.mux_outside.specs.declared.turn.Turn.TheVariants.{NoMemory};
 ghost use Rattle.mux_outside.specs.Wire.{WroteFits};
 ghost use Rattle.mux_outside.specs.WireLog.{nothing_logged, turn_kept, answer_kept, OpensAs};
 ghost use Rattle.mux_outside.specs.WireLog.{LogsOpening, LogsTurn, LogsWrite, LogsClose};
@@ -153,6 +154,7 @@ impl WireLog {
     ) -> Result<(), OutOfMemory>
         ensures logs { LogsTurn (turn_kept result turn) waiting.now want bytes.now
             self.old self.new }
+        ensures memory { OnOk result (turn ≢ NoMemory) }
     {
         if record_wait(
             self.alloc,

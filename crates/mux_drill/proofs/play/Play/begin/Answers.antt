@@ -1,4 +1,4 @@
-use Rattle.std.proofs.Common.{◌≡◌, ◌∙◌, ap, ℕ, List, true, take, arith}
+use Rattle.std.proofs.Common.{◌≡◌, refl, true, arith}
 use Rattle.std.proofs.lemmas.Grind.{common_steps}
 use Rattle.mux_drill.specs.Play.{is_met}
 use Rattle.mux_drill.proofs.StepLemmas.{begin_fits}
@@ -9,4 +9,4 @@ returns-clause-fits c =
     let play = c.args.self.now in
     let met : c.is_met.result ≡ true = grind (arith, common_steps) in
     let is : is_met c.in-Ok.step c.args.log.now play.unread ≡ true = cc (met, c.is_met.ensures) in
-    begin_fits c.in-Ok.step c.args.log.now play.unread play.picks c.at.result.now play.course.plan play.course.stage c.give.new.into c.in-Ok.ensures.exact is (c.give.ensures ∙ ap (λ (b : List ℕ). take 37 b) c.as_bytes.ensures)
+    begin_fits c.in-Ok.step c.args.log.now play.unread play.picks c.at.result.now play.course.plan play.course.stage _ c.in-Ok.ensures.exact is refl

@@ -1,4 +1,4 @@
-use Rattle.std.proofs.Common.{◌≡◌, ◌∙◌, refl, ap, ℕ, List, true, take, arith}
+use Rattle.std.proofs.Common.{◌≡◌, refl, true, arith}
 use Rattle.std.proofs.lemmas.Grind.{common_steps}
 use Rattle.mux_outside.specs.Streams.{among}
 use Rattle.mux_drill.proofs.StepLemmas.{piece_short, speaks_some}
@@ -8,6 +8,5 @@ pub returns-clause-fits : goal.returns-clause-fits
 returns-clause-fits c =
     let rest = c.args.self.now.said.rest in
     let bounds = piece_short rest (speaks_some rest c.requires.speaks) in
-    let piece : c.give.new.into ≡ take 37 rest = c.give.ensures ∙ ap (λ (b : List ℕ). take 37 b) c.rest.ensures in
     let opened : among c.stream-2.result c.args.log.now.streams ≡ true = grind (arith, common_steps) in
-    (refl, opened, rw piece bounds.0, rw piece bounds.1)
+    (refl, opened, bounds.0, bounds.1)
