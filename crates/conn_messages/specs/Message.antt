@@ -1,5 +1,5 @@
 -- A message as the grammar sees it: its strings and data as lists of bytes.
-use Rattle.std.specs.Prelude.{ℕ, Result, false}
+use Rattle.std.specs.Prelude.{ℕ, Result}
 use Rattle.conn_messages.specs.declared.message.Global.{Global}
 use Rattle.conn_messages.specs.declared.message.Global.TheVariants as global
 use Rattle.conn_messages.specs.declared.message.Opens.{Opens}
@@ -9,7 +9,6 @@ use Rattle.conn_messages.specs.declared.message.Message.TheVariants as message
 use Rattle.ssh_grammar.specs.declared.fault.Bad.{Bad}
 use Rattle.ssh_grammar.specs.Gives.{Gives}
 use Rattle.ssh_grammar.specs.Messages as grammar
-use Rattle.ssh_grammar.specs.SpellMessage.{spell_key}
 use Rattle.ssh_grammar.specs.ReadMessage.{with_reading, Form, OfNone, forms}
 use Rattle.ssh_grammar.specs.Tables.{by_number}
 
@@ -64,9 +63,3 @@ GivesTo recipient result reading =
 -- how the bytes after this number are read
 abbrev pub form_of : ℕ → Form
 form_of number = by_number (forms number) number OfNone
-
--- a cancel that wants no reply
-abbrev pub cancel_of : grammar.Key → grammar.Message
-cancel_of key =
-    grammar.Plain (grammar.GlobalRequest (grammar.cancel_name_of key) false (spell_key key)
-    (grammar.Cancel key))

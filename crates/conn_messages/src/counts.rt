@@ -5,8 +5,8 @@ ghost use Rattle.conn_messages.specs.Counts.{data_length, wants_in_channel};
 
 use crate::message::Message;
 
-/// How many bytes of data a message carries into its channel's window (RFC 4254, section 5.2); None exactly
-/// where it is neither DATA nor EXTENDED_DATA.
+/// How many bytes of data a message carries into its channel's window (RFC 4254, section 5.2); None
+/// exactly where it is neither DATA nor EXTENDED_DATA.
 pub fn data_len(message: &Message<'_>) -> Option<u32>
     ensures exact { IsMessage (message_of message.now)
         → result ≡ data_length (message_of message.now) }

@@ -10,11 +10,11 @@ use ssh_grammar::Bad;
 
 const FORWARD: &[u8] = b"tcpip-forward";
 
-const CANCEL: &[u8] = b"cancel-tcpip-forward";
+pub(crate) const CANCEL: &[u8] = b"cancel-tcpip-forward";
 
 const FORWARD_PATH: &[u8] = b"streamlocal-forward@openssh.com";
 
-const CANCEL_PATH: &[u8] = b"cancel-streamlocal-forward@openssh.com";
+pub(crate) const CANCEL_PATH: &[u8] = b"cancel-streamlocal-forward@openssh.com";
 
 const KEEP_ALIVE: &[u8] = b"keepalive@openssh.com";
 

@@ -1,5 +1,5 @@
-//! The messages of the connection protocol (RFC 4254): read in place, with no memory taken, and those
-//! that the master writes of its own.
+//! The messages of the connection protocol (RFC 4254): read in place, with no memory taken, and
+//! those that the master writes of its own.
 #![tactic(auto)]
 
 mod counts;

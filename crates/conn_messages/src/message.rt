@@ -1,5 +1,5 @@
-/// What a global request is about: its data, read further for these names alone (RFC 4254, sections 4
-/// and 7.1; OpenSSH's PROTOCOL, section 2.4).
+/// What a global request is about: its data, read further for these names alone (RFC 4254, sections
+/// 4 and 7.1; OpenSSH's PROTOCOL, section 2.4).
 #[derive(Clone, Copy, Debug)]
 pub enum Global<'a> {
     /// `tcpip-forward`

@@ -37,8 +37,8 @@ fn sender_place(message: &Message<'_>) -> Option<usize>
     }
 }
 
-/// Where the recipient's four bytes stand in a payload; None exactly where it doesn't read, or has no
-/// recipient.
+/// Where the recipient's four bytes stand in a payload; None exactly where it doesn't read, or has
+/// no recipient.
 pub fn recipient_at(payload: &[u8]) -> Option<usize>
     ensures place { result ≡ recipient_at payload.now }
     ensures within { IfSome result (λ at. at + 4 ≤ length payload.now) }

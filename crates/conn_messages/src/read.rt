@@ -182,8 +182,8 @@ fn message<'a>(payload: &'a [u8]) -> Result<Message<'a>, Bad>
     }
 }
 
-/// The message that a payload is, all of the payload; or its first fault from left to right, and the
-/// fault's place.
+/// The message that a payload is, all of the payload; or its first fault from left to right, and
+/// the fault's place.
 pub fn read_message(payload: &[u8]) -> Result<Message<'_>, Bad>
     // What is read is spelled so.
     ensures spelled { IfOk result (λ m. Spells (message_of m) payload.now) }

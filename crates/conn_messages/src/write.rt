@@ -2,8 +2,8 @@ ghost use Rattle.std.specs.Prelude.{◌≡◌, ◌≤◌, [], length, Ok};
 ghost use Rattle.ssh_grammar.specs.Messages as grammar;
 ghost use Rattle.ssh_grammar.specs.ReadMessage.{read_message as reading};
 ghost use Rattle.ssh_grammar.specs.SpellMessage as spelling;
-ghost use Rattle.conn_messages.specs.Message.{cancel_of};
 
+use crate::further::{CANCEL, CANCEL_PATH};
 use ssh_fields::Small;
 use ssh_grammar::numbers::*;
 
@@ -53,24 +53,25 @@ pub fn request_failure() -> Small
 pub fn cancel_forward(address: &[u8], port: u32) -> Small
     requires { length address.now ≤ LONGEST_ADDRESS }
     ensures spelled { result ≡ spelling.cancel_forward (grammar.Tcp address.now port) }
-    ensures read_back { reading result ≡ Ok (cancel_of (grammar.Tcp address.now port)) }
+    ensures read_back { reading result ≡ Ok (spelling.cancel_of (grammar.Tcp address.now port)) }
 {
     let mut payload = Small::copy(&[GLOBAL_REQUEST]);
-    payload.push_string(b"cancel-tcpip-forward");
+    payload.push_string(CANCEL);
     payload.push(NO_REPLY);
     payload.push_string(address);
     payload.push_u32(port);
     payload
 }
 
-/// A `cancel-streamlocal-forward@openssh.com` that wants no reply (OpenSSH's PROTOCOL, section 2.4).
+/// A `cancel-streamlocal-forward@openssh.com` that wants no reply (OpenSSH's PROTOCOL, section
+/// 2.4).
 pub fn cancel_path(path: &[u8]) -> Small
     requires { length path.now ≤ LONGEST_ADDRESS }
     ensures spelled { result ≡ spelling.cancel_forward (grammar.Path path.now) }
-    ensures read_back { reading result ≡ Ok (cancel_of (grammar.Path path.now)) }
+    ensures read_back { reading result ≡ Ok (spelling.cancel_of (grammar.Path path.now)) }
 {
     let mut payload = Small::copy(&[GLOBAL_REQUEST]);
-    payload.push_string(b"cancel-streamlocal-forward@openssh.com");
+    payload.push_string(CANCEL_PATH);
     payload.push(NO_REPLY);
     payload.push_string(path);
     payload

@@ -27,7 +27,8 @@ length-take_str bytes s rest e = by_case (take_u32 bytes) refl e
         let parts : (p.1 ≡ s ++ rest) × (length s ≡ p.0) = split_at-is p.0 p.1 s rest e in
         omega (arith, length-take_u32 bytes p.0 p.1 t, ap length parts.0, length-append s rest)
 
--- reading pairs has come from some bytes to others: the pairs that follow are given on with those before them
+-- reading pairs has come from some bytes to others: the pairs that follow are given on with those
+-- before them
 pub record Skipping (first : List ℕ) (first_at : ℕ) (rest : List ℕ) (at : ℕ) : Type 0 where
   pub left : ℕ
   pub enough : length rest ≤ left

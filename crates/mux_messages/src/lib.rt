@@ -1,5 +1,5 @@
-//! The control messages of PROTOCOL.mux version 4: what clients ask, read in place with no memory taken,
-//! and the frames in which the master answers.
+//! The control messages of PROTOCOL.mux version 4: what clients ask, read in place with no memory
+//! taken, and the frames in which the master answers.
 #![tactic(auto)]
 
 mod control;

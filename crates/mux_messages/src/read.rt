@@ -138,8 +138,8 @@ fn control(body: &[u8]) -> Result<Control<'_>, BadControl>
     by_type(kind, &mut fields)
 }
 
-/// The control message that a body is, all of the body; or its first fault from left to right, and the
-/// fault's place.
+/// The control message that a body is, all of the body; or its first fault from left to right, and
+/// the fault's place.
 pub fn read_control(body: &[u8]) -> Result<Control<'_>, BadControl>
     // What is read is spelled so.
     ensures spelled { IfOk result (λ c. (skipped : Skipped)

@@ -10,8 +10,8 @@ use ssh_grammar::numbers::*;
 /// The longest reason of a failure.
 pub const LONGEST_REASON: usize = 64;
 
-/// The length of a body and its type.
-fn begun(length: u32, kind: u32) -> Small
+/// A frame's length field and the type of its body.
+fn header(length: u32, kind: u32) -> Small
     ensures { result ≡ u32 length ++ u32 kind }
 {
     let mut frame = Small::copy(&length.to_be_bytes());
@@ -24,7 +24,7 @@ pub fn hello() -> Small
     ensures spelled { result ≡ frame_answer (grammar.Greets VERSION) }
     ensures read_back { Says result (grammar.Greets VERSION) }
 {
-    let mut frame = begun(8, HELLO);
+    let mut frame = header(8, HELLO);
     frame.push_u32(VERSION);
     frame
 }
@@ -34,7 +34,7 @@ pub fn ok(id: u32) -> Small
     ensures spelled { result ≡ frame_answer (grammar.Okay id) }
     ensures read_back { Says result (grammar.Okay id) }
 {
-    let mut frame = begun(8, S_OK);
+    let mut frame = header(8, S_OK);
     frame.push_u32(id);
     frame
 }
@@ -44,7 +44,7 @@ pub fn proxy(id: u32) -> Small
     ensures spelled { result ≡ frame_answer (grammar.Proxies id) }
     ensures read_back { Says result (grammar.Proxies id) }
 {
-    let mut frame = begun(8, S_PROXY);
+    let mut frame = header(8, S_PROXY);
     frame.push_u32(id);
     frame
 }
@@ -54,7 +54,7 @@ pub fn alive(id: u32, pid: u32) -> Small
     ensures spelled { result ≡ frame_answer (grammar.Alive id pid) }
     ensures read_back { Says result (grammar.Alive id pid) }
 {
-    let mut frame = begun(12, S_ALIVE);
+    let mut frame = header(12, S_ALIVE);
     frame.push_u32(id);
     frame.push_u32(pid);
     frame
@@ -65,7 +65,7 @@ pub fn remote_port(id: u32, port: u32) -> Small
     ensures spelled { result ≡ frame_answer (grammar.RemotePort id port) }
     ensures read_back { Says result (grammar.RemotePort id port) }
 {
-    let mut frame = begun(12, S_REMOTE_PORT);
+    let mut frame = header(12, S_REMOTE_PORT);
     frame.push_u32(id);
     frame.push_u32(port);
     frame
@@ -77,7 +77,7 @@ pub fn failure(id: u32, reason: &[u8]) -> Small
     ensures spelled { result ≡ frame_answer (grammar.Failed id reason.now) }
     ensures read_back { Says result (grammar.Failed id reason.now) }
 {
-    let mut frame = begun(12 + reason.len() as u32, S_FAILURE);
+    let mut frame = header(12 + reason.len() as u32, S_FAILURE);
     frame.push_u32(id);
     frame.push_string(reason);
     frame

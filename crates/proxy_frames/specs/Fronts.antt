@@ -1,4 +1,5 @@
--- What can stand at the front of bytes that are cut into frames (PROTOCOL.mux): less than a whole frame, or a fault.
+-- What can stand at the front of bytes that are cut into frames (PROTOCOL.mux): less than a whole
+-- frame, or a fault.
 use Rattle.std.specs.Prelude.{◌≡◌, ◌≢◌, ◌⊎◌, ⊤, ℕ, ◌+◌, ◌^◌, ◌≤◌, ◌<◌, List, [], ◌∷◌, ◌++◌, length, take, drop, Some, None}
 use Rattle.ssh_fields.specs.Fields.{take_u32}
 use Rattle.ssh_grammar.specs.declared.fault.BadFrame.{BadFrame}
@@ -7,8 +8,8 @@ use Rattle.ssh_grammar.specs.declared.framing.Framing.{Framing}
 use Rattle.ssh_grammar.specs.declared.framing.Framing.TheVariants.{Control, Proxy}
 use Rattle.ssh_grammar.specs.declared.numbers.TheConstants.{LONGEST_FRAME}
 use Rattle.ssh_grammar.specs.Frames.{Front, Frame, More, Faulty, shortest, frame}
-use Rattle.proxy_frames.specs.declared.next.Piece.{Piece}
-use Rattle.proxy_frames.specs.declared.next.Piece.TheVariants as piece
+use Rattle.proxy_frames.specs.declared.next.Front.{Front as Found}
+use Rattle.proxy_frames.specs.declared.next.Front.TheVariants as found
 use Rattle.proxy_frames.specs.State.{FramerState}
 
 -- a length field that is in range, and the bytes behind it
@@ -30,7 +31,8 @@ pub record IsUnfinished (framing : Framing) (bytes : List ℕ) (n : ℕ) (behind
   pub padding : HasNoPadding framing behind
   pub short : length behind < n
 
--- less than a whole frame: less than a length field, or a whole one and less than the rest of its frame
+-- less than a whole frame: less than a length field, or a whole one and less than the rest of its
+-- frame
 abbrev pub IsPartial : Framing → List ℕ → Type 0
 IsPartial framing bytes = (length bytes < 4)
     ⊎ ((n : ℕ) × (behind : List ℕ) × IsUnfinished framing bytes n behind)
@@ -66,9 +68,9 @@ HasFault f fault = (f.fault ≡ Some fault) ⊎ ((f.fault ≡ None) × IsFault f
 -- ---- the front, found in place
 
 -- so many bytes of header and so many of content, less than a frame, or a fault
-abbrev pub IsPiece : List ℕ → Piece → Front → Type 0
-IsPiece bytes (piece.Frame header n) front =
+abbrev pub IsFront : List ℕ → Found → Front → Type 0
+IsFront bytes (found.Frame header n) front =
     (header + n ≤ length bytes)
     × (front ≡ Frame (take n (drop header bytes)) (drop n (drop header bytes)))
-IsPiece bytes piece.More front = front ≡ More
-IsPiece bytes (piece.Bad fault) front = front ≡ Faulty fault
+IsFront bytes found.More front = front ≡ More
+IsFront bytes (found.Bad fault) front = front ≡ Faulty fault

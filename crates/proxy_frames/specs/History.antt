@@ -10,8 +10,8 @@ use Rattle.proxy_frames.specs.declared.next.Next.TheVariants as next
 use Rattle.proxy_frames.specs.State.{FramerState}
 use Rattle.proxy_frames.specs.Steps.{once_told}
 
--- since a framer began, or was switched: how it cuts, the bytes that came, first those that the switch
--- left, the frames that were given, and the fault, once one was told
+-- since a framer began, or was switched: how it cuts, the bytes that came, first those that the
+-- switch left, the frames that were given, and the fault, once one was told
 pub record History : Type 0 where
   pub framing : Framing
   pub bytes : List ℕ
@@ -93,14 +93,14 @@ and_next h = once_told h.told (λ _. h) (and_next_in (to_come h) (cut_of h).faul
 abbrev pub behind : List (List ℕ) → Cut → Cut
 behind given c = record { frames = given ++ c.frames; rest = c.rest; fault = c.fault }
 
--- while no fault was told the framer cuts as the history does; one that was told stands at the front of
--- its rest
+-- while no fault was told the framer cuts as the history does; one that was told stands at the
+-- front of its rest
 abbrev pub HasTold : Option BadFrame → History → FramerState → Type 0
 HasTold None h f = f.framing ≡ h.framing
 HasTold (Some fault) h f = first_frame h.framing f.rest ≡ Faulty fault
 
--- the frames that were given are the first ones of all the bytes that came; the others, the bytes after the
--- last one and the fault are those of the framer's rest
+-- the frames that were given are the first ones of all the bytes that came; the others, the bytes
+-- after the last one and the fault are those of the framer's rest
 pub record StandsFor (h : History) (f : FramerState) : Type 0 where
   pub valid : AllByRecursion (IsContent h.framing) h.given
   pub filled : h.bytes ≡ joined h.framing h.given ++ f.rest
@@ -108,7 +108,8 @@ pub record StandsFor (h : History) (f : FramerState) : Type 0 where
   pub fault : f.fault ≡ h.told
   pub told : HasTold h.told h f
 
--- of each history that it stood for before a call, a framer stands afterwards for what the history became
+-- of each history that it stood for before a call, a framer stands afterwards for what the history
+-- became
 abbrev pub GoesOn : FramerState → FramerState → (History → History) → Type 0
 GoesOn old new event = (h : History) → StandsFor h old → StandsFor (event h) new
 

@@ -17,7 +17,8 @@ use Rattle.proxy_frames.specs.Runs.{taken_of, cut_taken, stream_of}
 
 -- ---- in any pieces
 
--- where all frames are taken as they come, these, the rest and the fault are those of the whole stream
+-- where all frames are taken as they come, these, the rest and the fault are those of the whole
+-- stream
 abbrev pub PiecesGiveTheCut : Type 0
 PiecesGiveTheCut =
     (framing : Framing) (pieces : List (List ℕ))
@@ -36,8 +37,8 @@ pub record AreAlike (h i : History) (f g : FramerState) : Type 0 where
   pub rest : (cut h.framing f.rest).rest ≡ (cut i.framing g.rest).rest
   pub fault : (cut h.framing f.rest).fault ≡ (cut i.framing g.rest).fault
 
--- of two framers that cut alike and to which the same bytes came, in whatever pieces and with whatever frames taken
--- between them, these are the same
+-- of two framers that cut alike and to which the same bytes came, in whatever pieces and with
+-- whatever frames taken between them, these are the same
 abbrev pub AnyTimeGivesTheSame : Type 0
 AnyTimeGivesTheSame =
     (h i : History) (f g : FramerState) → StandsFor h f → StandsFor i g
@@ -50,8 +51,8 @@ abbrev pub NothingIsLost : Type 0
 NothingIsLost =
     (h : History) (f : FramerState) → StandsFor h f → h.bytes ≡ joined h.framing h.given ++ left h
 
--- where the last control message given begins the proxy, all bytes say the messages given, and then the payloads and
--- the fault of what is left and of what comes after the switch
+-- where the last control message given begins the proxy, all bytes say the messages given, and then
+-- the payloads and the fault of what is left and of what comes after the switch
 abbrev pub SwitchedIsSaid : Type 0
 SwitchedIsSaid =
     (h : History) (f : FramerState) (bodies : List (List ℕ)) (last more : List ℕ) → StandsFor h f

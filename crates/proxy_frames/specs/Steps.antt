@@ -24,7 +24,8 @@ abbrev pub once_told : {A : Type 0} → Option BadFrame → (BadFrame → A) →
 once_told (Some fault) after before = after fault
 once_told None after before = before
 
--- what comes next: the fault, once one was told, and before that what stands at the front of the rest
+-- what comes next: the fault, once one was told, and before that what stands at the front of the
+-- rest
 abbrev pub front_of : FramerState → Front
 front_of f = once_told f.fault Faulty (first_frame f.framing f.rest)
 
@@ -50,8 +51,8 @@ over written bytes = take (length bytes) (written ++ drop (length written) bytes
 abbrev pub frame_of : FramerState → List ℕ
 frame_of f = elim f.current [ None ↦ [] | Some content ↦ content ]
 
--- after a write over the current frame. As many bytes as it has are the frame then, and nothing else
--- changes
+-- after a write over the current frame. As many bytes as it has are the frame then, and nothing
+-- else changes
 abbrev pub with_written : FramerState → List ℕ → FramerState
 with_written f written =
     let all = over written (frame_of f ++ f.rest) in

@@ -6,15 +6,15 @@ ghost use Rattle.proxy_frames.specs.Steps.{new_framer, pushed, switched, front_o
 ghost use Rattle.proxy_frames.specs.Fronts.{WantsMore, HasFault};
 ghost use Rattle.proxy_frames.specs.History.{StandsFor, GoesOn, IsNext, new_history, and_bytes, and_switch, and_next};
 
-use crate::next::{Next, Piece, front};
+use crate::next::{Front, Next, first_frame};
 use ssh_fields::OutOfMemory;
 use ssh_grammar::numbers::LONGEST_FRAME;
 use ssh_grammar::{BadFrame, Framing};
 use std::alloc::Global;
 use std::marker::Model;
 
-/// A stream that comes in pieces and is cut into frames. Each frame is given once, and lent where it
-/// lies.
+/// A stream that comes in pieces and is cut into frames. Each frame is given once, and lent where
+/// it lies.
 #[derive(Drop)]
 pub struct Framer {
     framing: Framing,
@@ -69,8 +69,8 @@ impl Framer {
         Ok(())
     }
 
-    /// Cuts the next frame, which is the current one then. Where a fault is answered, nothing else is
-    /// from then on.
+    /// Cuts the next frame, which is the current one then. Where a fault is answered, nothing else
+    /// is from then on.
     pub fn next(&mut self) -> Next
         ensures answer { result ≡ answer_to (front_of self.old) }
         ensures exact { self.new ≡ after_front (front_of self.old) self.old }
@@ -89,13 +89,13 @@ impl Framer {
         if let Some(fault) = self.fault {
             return Next::Bad(fault);
         }
-        match front(self.framing, &self.bytes[self.at..]) {
-            Piece::More => Next::More,
-            Piece::Bad(fault) => {
+        match first_frame(self.framing, &self.bytes[self.at..]) {
+            Front::More => Next::More,
+            Front::Bad(fault) => {
                 self.fault = Some(fault);
                 Next::Bad(fault)
             }
-            Piece::Frame(header, length) => {
+            Front::Frame { header, length } => {
                 self.current = Some(self.at + header);
                 self.at += header + length;
                 Next::Frame

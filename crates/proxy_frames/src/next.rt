@@ -1,7 +1,7 @@
 ghost use Rattle.std.specs.Prelude.{◌≡◌, ◌≤◌, length, drop};
 ghost use Rattle.ssh_fields.specs.Fields.{AreBytes};
 ghost use Rattle.ssh_grammar.specs.Frames.{first_frame, cut_content, shortest};
-ghost use Rattle.proxy_frames.specs.Fronts.{IsPiece};
+ghost use Rattle.proxy_frames.specs.Fronts.{IsFront};
 
 use ssh_fields::Cursor;
 use ssh_grammar::numbers::LONGEST_FRAME;
@@ -20,9 +20,9 @@ pub enum Next {
 
 /// The front of some bytes.
 #[derive(Clone, Copy)]
-pub enum Piece {
-    /// So many bytes of header, and so many of content.
-    Frame(usize, usize),
+pub enum Front {
+    /// A frame: so many bytes of header, and so many of content.
+    Frame { header: usize, length: usize },
     More,
     Bad(BadFrame),
 }
@@ -44,38 +44,41 @@ fn least(framing: Framing) -> u32
 }
 
 /// So many bytes behind a header, as soon as they are there.
-fn content(header: usize, size: usize, bytes: &[u8]) -> Piece
+fn content(header: usize, size: usize, bytes: &[u8]) -> Front
     requires { header ≤ length bytes.now }
-    ensures { IsPiece bytes.now result (cut_content size (drop header bytes.now)) }
+    ensures { IsFront bytes.now result (cut_content size (drop header bytes.now)) }
 {
     if size <= bytes.len() - header {
-        Piece::Frame(header, size)
+        Front::Frame {
+            header,
+            length: size,
+        }
     } else {
-        Piece::More
+        Front::More
     }
 }
 
 /// The front of some bytes, by their length field.
-pub fn front(framing: Framing, bytes: &[u8]) -> Piece
-    ensures piece { IsPiece bytes.now result (first_frame framing bytes.now) }
+pub fn first_frame(framing: Framing, bytes: &[u8]) -> Front
+    ensures front { IsFront bytes.now result (first_frame framing bytes.now) }
     ensures bytes { AreBytes bytes.now }
 {
     let mut fields = Cursor::new(bytes);
     let Some(length) = fields.take_u32() else {
-        return Piece::More;
+        return Front::More;
     };
     if length < least(framing) {
-        return Piece::Bad(BadFrame::Short { length });
+        return Front::Bad(BadFrame::Short { length });
     }
     if LONGEST_FRAME < length {
-        return Piece::Bad(BadFrame::Long { length });
+        return Front::Bad(BadFrame::Long { length });
     }
     match framing {
         Framing::Control => content(LENGTH, length as usize, bytes),
         Framing::Proxy => match fields.take_u8() {
-            None => Piece::More,
+            None => Front::More,
             Some(0) => content(LENGTH_AND_PADDING, length as usize - 1, bytes),
-            Some(byte) => Piece::Bad(BadFrame::Padding { byte }),
+            Some(byte) => Front::Bad(BadFrame::Padding { byte }),
         },
     }
 }

@@ -43,13 +43,13 @@ impl Queue {
     }
 
     /// Adds bytes at the end. The room that lasts stays. An `Err` changes nothing.
-    pub fn push_bytes(&mut self, b: &[u8]) -> Result<(), OutOfMemory>
-        ensures ok { OnOk result (self.new ≡ with_bytes b.now self.old) }
+    pub fn push_bytes(&mut self, bytes: &[u8]) -> Result<(), OutOfMemory>
+        ensures ok { OnOk result (self.new ≡ with_bytes bytes.now self.old) }
         ensures unchanged { OnErr result (self.new ≡ self.old) }
     {
-        let room = b.len().checked_add(self.spare).ok_or(OutOfMemory)?;
+        let room = bytes.len().checked_add(self.spare).ok_or(OutOfMemory)?;
         self.bytes.reserve(room)?;
-        self.bytes.extend_reserved(b);
+        self.bytes.extend_reserved(bytes);
         Ok(())
     }
 

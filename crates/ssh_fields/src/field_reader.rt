@@ -16,8 +16,8 @@ pub enum FieldFault {
     Extra { at: usize },
 }
 
-/// The fields of a message from some place on, read in order. A field that doesn't fit is named by its
-/// place, and isn't taken.
+/// The fields of a message from some place on, read in order. A field that doesn't fit is named by
+/// its place, and isn't taken.
 #[derive(Drop)]
 pub struct FieldReader<'a> {
     /// The bytes that are left.
@@ -94,7 +94,7 @@ impl<'a> FieldReader<'a> {
         Ok(s)
     }
 
-    /// That nothing is left over.
+    /// Checks that nothing is left over.
     pub fn end(&self) -> Result<(), FieldFault>
         ensures ok { OnOk result (self.now.cursor ≡ []) }
         ensures err { IfErr result (λ e. e ≡ Extra self.now.at) }

@@ -5,7 +5,7 @@ use crate::out_of_memory::OutOfMemory;
 use std::alloc::Global;
 use std::marker::Model;
 
-/// Things in order.
+/// A list that contracts see as its items.
 #[derive(Debug, Drop)]
 pub struct ListOf<T> {
     items: Vec<T>,

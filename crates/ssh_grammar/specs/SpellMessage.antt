@@ -1,5 +1,5 @@
--- How a message is written as a payload (RFC 4254), where its channel numbers stand, and what the master writes
--- of its own.
+-- How a message is written as a payload (RFC 4254), where its channel numbers stand, and what the
+-- master writes of its own.
 use Rattle.std.specs.Prelude.{ℕ, ◌+◌, List, [], ◌∷◌, ◌++◌, length, Option, Some, None, Ok, Err, Bool, true, false, codes}
 use Rattle.ssh_fields.specs.Fields.{u32, str, with_u32}
 use Rattle.ssh_grammar.specs.declared.numbers.TheConstants as number
@@ -45,7 +45,8 @@ fields_of flag (Request kind want rest) = str kind ++ (flag ∷ rest)
 fields_of flag Success = []
 fields_of flag Failure = []
 
--- the payload of a message; its boolean, if it has one, is spelled by the byte `flag`, since each byte but 0 is true
+-- the payload of a message; its boolean, if it has one, is spelled by the byte `flag`, since each
+-- byte but 0 is true
 abbrev pub spell_with : ℕ → Message → List ℕ
 spell_with flag (Plain m) = spell_plain flag m
 spell_with flag (To recipient m) = number_of m ∷ (u32 recipient ++ fields_of flag m)
@@ -83,7 +84,8 @@ abbrev pub recipient_place : Message → Option ℕ
 recipient_place (Plain m) = None
 recipient_place (To recipient m) = Some 1
 
--- where the four bytes of the sender stand: after the type in an open, after the recipient in a confirmation
+-- where the four bytes of the sender stand: after the type in an open, after the recipient in a
+-- confirmation
 abbrev pub sender_place : Message → Option ℕ
 sender_place (Plain (Open kind sender window maximum rest what)) = Some (5 + length kind)
 sender_place (To recipient (Confirmation sender window maximum rest)) = Some 5
@@ -133,10 +135,13 @@ abbrev pub spell_key : Key → List ℕ
 spell_key (Tcp address port) = str address ++ u32 port
 spell_key (Path path) = str path
 
--- a forwarding is cancelled, without reply (section 7.1)
+-- a cancel of a forwarding that wants no reply (section 7.1)
+abbrev pub cancel_of : Key → Message
+cancel_of key = Plain (GlobalRequest (cancel_name_of key) false (spell_key key) (Cancel key))
+
+-- a forwarding is cancelled, without reply
 abbrev pub cancel_forward : Key → List ℕ
-cancel_forward key = spell
-    (Plain (GlobalRequest (cancel_name_of key) false (spell_key key) (Cancel key)))
+cancel_forward key = spell (cancel_of key)
 
 -- the texts that go with the reasons of a failed open
 abbrev pub not_permitted : List ℕ

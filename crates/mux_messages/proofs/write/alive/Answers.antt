@@ -4,4 +4,4 @@ use Rattle.mux_messages.proofs.Answers.{says}
 use Rattle.mux_messages.proofs.write.alive.Goals as goal
 
 pub returns-clause-read_back : goal.returns-clause-read_back
-returns-clause-read_back c = says _ (Alive c.args.id c.args.pid) (c.ranges.id.fits, c.ranges.pid.fits) (omega arith, omega arith) (rw (c.push_u32-2.ensures, c.push_u32.ensures, c.begun-frame.ensures) refl)
+returns-clause-read_back c = says _ (Alive c.args.id c.args.pid) (c.ranges.id.fits, c.ranges.pid.fits) (omega arith, omega arith) (rw (c.push_u32-2.ensures, c.push_u32.ensures, c.header-frame.ensures) refl)

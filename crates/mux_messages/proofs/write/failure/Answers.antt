@@ -9,4 +9,4 @@ pub returns-clause-read_back : goal.returns-clause-read_back
 returns-clause-read_back c =
     let size : 12 + length c.args.reason.now ≡ length (spell_answer (Failed c.args.id c.args.reason.now)) = omega arith in
     says _ (Failed c.args.id c.args.reason.now) (c.ranges.id.fits, omega arith) (omega arith, omega arith)
-    (rw (c.push_string.ensures, c.push_u32.ensures, c.begun-frame.ensures) (ap (λ n. u32 n ++ spell_answer (Failed c.args.id c.args.reason.now)) size))
+    (rw (c.push_string.ensures, c.push_u32.ensures, c.header-frame.ensures) (ap (λ n. u32 n ++ spell_answer (Failed c.args.id c.args.reason.now)) size))

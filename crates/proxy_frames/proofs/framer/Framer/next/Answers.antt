@@ -7,7 +7,7 @@ use Rattle.proxy_frames.proofs.framer.Framer.next.Goals as goal
 
 pub returns-in-Frame-clause-stands : goal.returns-in-Frame-clause-stands
 returns-in-Frame-clause-stands c =
-    next-stands c.args.self.now _ (rest-bytes c.self.inside.bytes.items c.deref.result.now c.self.inside.at c.args.self.now (ap (λ (f : FramerState). f.rest) c.self.view_is) c.deref.ensures.value c.front.ensures.bytes) (grind (arith, common_steps))
+    next-stands c.args.self.now _ (rest-bytes c.self.inside.bytes.items c.deref.result.now c.self.inside.at c.args.self.now (ap (λ (f : FramerState). f.rest) c.self.view_is) c.deref.ensures.value c.first_frame.ensures.bytes) (grind (arith, common_steps))
 
 pub returns-in-More-clause-more : goal.returns-in-More-clause-more
 returns-in-More-clause-more c = more-wanted c.args.self.now _ (grind (arith, common_steps))
