@@ -1,4 +1,4 @@
-ghost use Rattle.std.specs.Prelude.{◌≡◌, [], ◌∷◌, ◌++◌, length, OnOk, OnErr, slice_get};
+ghost use Rattle.std.specs.Prelude.{◌≡◌, [], ◌∷◌, ◌++◌, length, take, OnOk, OnErr, slice_get};
 ghost use Rattle.std.specs.Option.{option_copied};
 
 use crate::out_of_memory::OutOfMemory;
@@ -36,6 +36,13 @@ impl<T: Drop> ListOf<T> {
     {
         self.items.push(item)?;
         Ok(())
+    }
+
+    /// Keeps so many from the front on.
+    pub fn truncate(&mut self, len: usize)
+        ensures { self.new ≡ take len self.old }
+    {
+        self.items.truncate(len);
     }
 
     /// How many there are.
