@@ -31,21 +31,6 @@ pub name-same : (told : Told) (pass : Pass) (fold : Fold) (rows : List Row) (blo
 name-same told First fold rows blocks s = rw (s.in_pass.name) s.original
 name-same told (Second before) fold rows blocks s = rw (s.in_pass.name) refl
 
--- a view of these parts
-unfoldable pub view_with : Told → Bool → Bytes → Bytes → (Key → Option Value) → View
-view_with told last host name v = record {
-  original = told.asked.original;
-  host = host;
-  jump = or_text [] (Rattle.conf_rules.specs.Rows.but_none (word_in (v keys.ProxyJump)));
-  tag = or_text [] (word_in (v keys.Tag));
-  port = Rattle.conf_rules.specs.Rows.number_in 22 (v keys.Port);
-  user = word_in (v keys.User);
-  «alias» = word_in (v keys.HostKeyAlias);
-  facts = told.facts;
-  last = last;
-  name = name;
-}
-
 -- what tokens and criteria see
 pub view-same : (told : Told) (pass : Pass) (fold : Fold) (rows : List Row) (blocks : Blocks) → Stands told pass fold rows blocks → view_of fold told.facts ≡ seen_at told pass rows
 unfolding view_at

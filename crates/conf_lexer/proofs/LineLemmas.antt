@@ -17,7 +17,7 @@ one_more false b bs m first others e f o =
     let j : suc m + 1 ≡ suc (m + 1) = omega arith in
     rw (e, k, j, f, o) refl
 
-first_line : (b : ℕ) (bs : List ℕ) → lines_of (b ∷ bs) ≡ take (to_feed (b ∷ bs)) (b ∷ bs) ∷ lines_of (drop (to_feed (b ∷ bs) + 1) (b ∷ bs))
+pub first_line : (b : ℕ) (bs : List ℕ) → lines_of (b ∷ bs) ≡ take (to_feed (b ∷ bs)) (b ∷ bs) ∷ lines_of (drop (to_feed (b ∷ bs) + 1) (b ∷ bs))
 unfolding lines_of
 first_line b [] = elim (eqb b 10) as (λ t. cond t ([] ∷ []) (onto_first b []) ≡ take (cond (not t) (1 + 0) 0) (b ∷ []) ∷ lines_of (drop (cond (not t) (1 + 0) 0 + 1) (b ∷ []))) [ true ↦ refl | false ↦ refl ]
 first_line b (c ∷ cs) = one_more (eqb b 10) b (c ∷ cs) (to_feed (c ∷ cs)) (take (to_feed (c ∷ cs)) (c ∷ cs)) (lines_of (drop (to_feed (c ∷ cs) + 1) (c ∷ cs))) (first_line c cs) refl refl

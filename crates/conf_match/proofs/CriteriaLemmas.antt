@@ -18,49 +18,7 @@ pub is_true : (b : Bool) → not b ≡ false → b ≡ true
 is_true true e = refl
 is_true false e = absurd cc
 
--- a criterion that was added stands in front of what comes then
-onto_with : (old : List Criterion) (c : Criterion) (later : ReadCriteria) → onto old (with_criterion c.negated c.kind c.value later) ≡ onto (old ++ c ∷ []) later
-onto_with old c (Err e) = refl
-onto_with old c (Ok cs) = rw append_assoc refl
-
-pub goes_with : (old new : List Criterion) (words : List Bytes) (at next : ℕ) (may negated : Bool) (kind : Kind) (value : Bytes) → new ≡ old ++ record { negated = negated; kind = kind; value = value } ∷ [] → at < next → next ≤ length words
-    → Goes old new words at (record { word = next; may = may }) (with_criterion negated kind value (criteria_from next may (drop next words)))
-goes_with old new words at next may negated kind value added further within = record {
-  read = onto_with old (record { negated = negated; kind = kind; value = value }) (criteria_from next may (drop next words)) ∙ ap (λ cs. onto cs (criteria_from next may (drop next words))) (sym added);
-  further = further;
-  within = within;
-}
-
 -- ---- criteria without a value
-
-pub plain_is : (at : ℕ) (may negated : Bool) (kind : Kind) (words : List Bytes) (later : ReadCriteria) → (kind ≡ kinds.All → ⊥) → plain_criterion at may negated kind words later ≡ with_criterion negated kind [] later
-plain_is at may true kinds.All words later h = absurd (h refl)
-plain_is at may false kinds.All words later h = absurd (h refl)
-plain_is at may true kinds.Canonical words later h = refl
-plain_is at may true kinds.Final words later h = refl
-plain_is at may true kinds.Exec words later h = refl
-plain_is at may true kinds.Host words later h = refl
-plain_is at may true kinds.OriginalHost words later h = refl
-plain_is at may true kinds.Tagged words later h = refl
-plain_is at may true kinds.User words later h = refl
-plain_is at may true kinds.LocalUser words later h = refl
-plain_is at may false kinds.Canonical words later h = refl
-plain_is at may false kinds.Final words later h = refl
-plain_is at may false kinds.Exec words later h = refl
-plain_is at may false kinds.Host words later h = refl
-plain_is at may false kinds.OriginalHost words later h = refl
-plain_is at may false kinds.Tagged words later h = refl
-plain_is at may false kinds.User words later h = refl
-plain_is at may false kinds.LocalUser words later h = refl
-
-pub all_is : (at : ℕ) (may negated : Bool) (words : List Bytes) (later : ReadCriteria) → plain_criterion at may negated kinds.All words later ≡ every at may negated words
-all_is at may true words later = refl
-all_is at may false words later = refl
-
-pub not_first : (at : ℕ) (may negated : Bool) (words : List Bytes) → negated ≡ false → may ≡ false → every at may negated words ≡ Err AllNotAlone
-not_first at true negated words n m = absurd cc
-not_first at false true words n m = absurd cc
-not_first at false false words n m = refl
 
 more_words : (may : Bool) (words : List Bytes) → 0 < length words → all_alone may words ≡ Err AllNotAlone
 more_words true [] h = absurd (omega (arith, h))
@@ -114,21 +72,9 @@ of_no_name at may word (next ∷ words) e = rw (e, criteria_from) refl
 
 -- ---- the loop
 
--- a refusal at one word is the refusal of all
-pub refused : (old : List Criterion) (reading total : ReadCriteria) (e : MatchError) → Fails match_wants_memory e reading → onto old reading ≡ total → Fails match_wants_memory e total
-refused old reading total e h so_far = of (match_wants_memory e) h
-  where
-    of : (t : Bool) → OnFalse t (reading ≡ Err e) → OnFalse t (total ≡ Err e)
-    of true h = tt
-    of false h = sym so_far ∙ ap (onto old) h
-
 pub done : (criteria : List Criterion) (at : ℕ) (may : Bool) (left : List Bytes) (total : ReadCriteria) → left ≡ [] → onto criteria (criteria_from at may left) ≡ total → total ≡ Ok criteria
 unfolding criteria_from
 done criteria at may left total e so_far = sym so_far ∙ rw (e, append-nil) refl
-
-pub whole : (r : ReadCriteria) → onto [] r ≡ r
-whole (Ok cs) = refl
-whole (Err e) = refl
 
 -- ---- one word, by what was read of it
 

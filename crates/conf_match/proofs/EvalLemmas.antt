@@ -11,10 +11,6 @@ use Rattle.conf_match.specs.Evaluated.{Evaluated, RanAll, RanSome, FailsOne, Fai
 
 -- ---- what was run
 
-pub nothing_ran : (old : Option (List Bytes)) (commands : List Bytes) → commands ≡ [] → RanAll old old commands
-nothing_ran None commands e = refl
-nothing_ran (Some cs) commands e = rw (e, append-nil) refl
-
 both_ran : (old now new : Option (List Bytes)) (a b : List Bytes) → RanAll old now a → RanAll now new b → RanAll old new (a ++ b)
 both_ran None now new a b h k = k ∙ rw h refl
 both_ran (Some cs) now new a b h k = k ∙ rw (h, append_assoc) refl
@@ -45,9 +41,6 @@ pub record Held (status : Bytes → ℕ) (view : View) (all left : List Criterio
   pub commands : List Bytes
   pub ran : RanAll old now commands
   pub rest : verdict status view all ≡ behind commands (verdict status view left)
-
-pub begins : (status : Bytes → ℕ) (view : View) (all : List Criterion) (old : Option (List Bytes)) → Held status view all all old old
-begins status view all old = record { commands = []; ran = nothing_ran old [] refl; rest = refl }
 
 at_first : (status : Bytes → ℕ) (view : View) (all left : List Criterion) (commands : List Bytes) (v : Verdict) → verdict status view all ≡ behind commands (verdict status view left) → verdict status view left ≡ v → verdict status view all ≡ behind commands v
 at_first status view all left commands v e h = e ∙ ap (behind commands) h

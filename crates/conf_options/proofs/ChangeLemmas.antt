@@ -1,18 +1,21 @@
 -- Where an offered value changes what is kept.
-use Rattle.std.proofs.Common.{◌≡◌, ◌≢◌, ℕ, zero, suc, ◌+◌, ◌<◌, Bool, true, false, cond, ◌&&◌, List, [], ◌∷◌, ◌++◌, length, get_or, take, drop, set, Some, refl, sym, ap, ◌∙◌, arith, length-append}
-use Rattle.std.specs.Prelude.{bytes_eq}
-use Rattle.std.specs.List.{slice_get}
-use Rattle.std.proofs.lemmas.Bool.{eq-eqb}
+use Rattle.std.proofs.Common.{◌≡◌, ◌≢◌, ℕ, zero, suc, ◌+◌, ◌<◌, Bool, true, false, not, cond, eqb, subst, ◌&&◌, ◌||◌, Option, None, List, [], ◌∷◌, ◌++◌, length, get_or, take, drop, set, Some, refl, sym, ap, ◌∙◌, arith, append-nil, append_assoc, length-append}
+use Rattle.std.specs.Prelude.{◌↔◌, bytes_eq, filter, is_some, Result, Ok, Err, IfOk, OnOk, IsTrue}
+use Rattle.std.specs.List.{list_all, list_any, slice_get}
+use Rattle.std.proofs.lemmas.Bool.{eqb-true}
 use Rattle.std.proofs.lemmas.Slice.Eq.{bytes_eq-Decides}
 use Rattle.conf_rules.specs.declared.key.Key.{Key}
 use Rattle.conf_rules.specs.declared.value.Value.{Value}
 use Rattle.conf_rules.specs.declared.value.Value.TheVariants.{Names}
-use Rattle.conf_rules.specs.Texts.{Bytes}
+use Rattle.conf_rules.specs.declared.key.Key.TheVariants.{SendEnv}
+use Rattle.conf_rules.specs.Texts.{Bytes, behind}
+use Rattle.conf_rules.specs.Patterns.{matches}
 use Rattle.conf_rules.specs.Keys.{same_key, place}
-use Rattle.conf_rules.specs.Rows.{values_among, with_patterns, patterns_in}
-use Rattle.conf_options.specs.Kept.{Given, behind_all, replaced, with_more, same_texts}
-use Rattle.conf_rules.proofs.SameKeys.{same-key}
-use Rattle.conf_options.proofs.OfferLemmas.{among-replaced}
+use Rattle.conf_rules.specs.Kinds.{Patterns, keeping}
+use Rattle.conf_rules.specs.Rows.{values_among, with_pattern, with_patterns, patterns_in}
+use Rattle.conf_rules.specs.Fits.{fits}
+use Rattle.conf_options.specs.Kept.{Given, StandsAt, keeps_every, fits_single, removes, replaced, with_more, same_texts}
+use Rattle.conf_rules.proofs.SameKeys.{same-key, same-key-refl, same-place}
 
 both : (a b : Bool) → (a && b) ≡ true → (a ≡ true) × (b ≡ true)
 both true b e = (refl, e)
@@ -41,65 +44,141 @@ pub same_texts-refl : (a : List Bytes) → same_texts a a ≡ true
 same_texts-refl [] = refl
 same_texts-refl (x ∷ xs) = rw ((bytes_eq-Decides x x).1 refl) (same_texts-refl xs)
 
-pub behind-differs : (all : List Given) (key : Key) (v : Value) → behind_all all key v ≢ all
-behind-differs all key v e = let n : length all + 1 ≡ length all = sym (length-append all ((key, v) ∷ [])) ∙ ap length e in absurd (omega (arith, n))
+pub other-texts : (a b : List Bytes) → same_texts a b ≡ false → b ≢ a
+other-texts a b s e = let t : same_texts a b ≡ true = rw e (same_texts-refl a) in absurd cc
 
-first-is : (vs : List Value) (v : Value) → slice_get vs 0 ≡ Some v → vs ≡ v ∷ drop 1 vs
-first-is [] v e = absurd cc
-first-is (w ∷ ws) v e = let k : w ≡ v = cc in ap (λ x. x ∷ ws) k
+-- ---- patterns of which none begins with a dash
 
--- the same value again changes nothing
-replaced-same : (key : Key) (v : Value) (vs : List Value) (all : List Given) → values_among key all ≡ v ∷ vs → replaced key v all ≡ all
-replaced-same key v vs [] e = refl
-replaced-same key v vs (g ∷ gs) e = on (same_key key g.0) refl (replaced-same key v vs gs) e
+neither : (a b : Bool) → (a || b) ≡ false → (a ≡ false) × (b ≡ false)
+neither true b e = absurd cc
+neither false b e = (refl, e)
+
+one-plain : (before : List Bytes) (pattern : Bytes) → removes pattern ≡ false → with_pattern before pattern ≡ before ++ pattern ∷ []
+one-plain before pattern e = on (behind (45 ∷ []) pattern) e
   where
-    on : (t : Bool) → same_key key g.0 ≡ t → (values_among key gs ≡ v ∷ vs → replaced key v gs ≡ gs) → cond t (g.1 ∷ values_among key gs) (values_among key gs) ≡ v ∷ vs → cond t ((key, v) ∷ gs) (g ∷ replaced key v gs) ≡ g ∷ gs
-    on true s later f = let one : key ≡ g.0 = same-key key g.0 s in let two : v ≡ g.1 = cc in ap (λ x. x ∷ gs) (ap (λ k. (k, v)) one ∙ ap (λ w. (g.0, w)) two)
-    on false s later f = ap (λ l. g ∷ l) (later f)
+    on : (o : Option Bytes) → is_some o ≡ false → (elim o [ Some removing ↦ filter (λ k. not (matches removing k)) before | None ↦ before ++ pattern ∷ [] ]) ≡ before ++ pattern ∷ []
+    on None e = refl
+    on (Some removing) e = absurd cc
 
-pub same-patterns : (key : Key) (all : List Given) (value : Value) (before names patterns : List Bytes)
-    → slice_get (values_among key all) 0 ≡ Some (Names before) → names ≡ patterns_in value → patterns ≡ with_patterns before names → same_texts before patterns ≡ true
-    → all ≡ with_more (values_among key all) key value all
-same-patterns key all value before names patterns first n p s =
-    let vs = first-is (values_among key all) (Names before) first in
-    let one = same_texts-true before patterns s in
-    rw (vs, ← n, ← p, ← one) (sym (replaced-same key (Names before) (drop 1 (values_among key all)) all vs))
+pub all-plain : (before patterns : List Bytes) → list_any removes patterns ≡ false → with_patterns before patterns ≡ before ++ patterns
+all-plain before [] e = sym (append-nil before)
+all-plain before (pattern ∷ patterns) e =
+    let h = neither (removes pattern) (list_any removes patterns) e in
+    ap (λ l. with_patterns l patterns) (one-plain before pattern h.0) ∙ (all-plain (before ++ pattern ∷ []) patterns h.1 ∙ append_assoc before (pattern ∷ []) patterns)
 
-pub replaced-differs : (key : Key) (all : List Given) (v w : Value) → slice_get (values_among key all) 0 ≡ Some v → (w ≢ v) → replaced key w all ≢ all
-replaced-differs key all v w first n e =
-    let vs = first-is (values_among key all) v first in
-    let new = among-replaced key w v (drop 1 (values_among key all)) all vs in
-    let lists : w ∷ drop 1 (values_among key all) ≡ v ∷ drop 1 (values_among key all) = sym new ∙ (ap (values_among key) e ∙ vs) in
-    n cc
+pub some-more : (before : List Bytes) (pattern : Bytes) (patterns : List Bytes) → before ++ pattern ∷ patterns ≢ before
+some-more before pattern patterns e = let n : length before + suc (length patterns) ≡ length before = sym (length-append before (pattern ∷ patterns)) ∙ ap length e in absurd (omega (arith, n))
 
-pub other-patterns : (before patterns : List Bytes) → same_texts before patterns ≡ false → Names patterns ≢ Names before
-other-patterns before patterns s e = let k : before ≡ patterns = cc in let t : same_texts before patterns ≡ true = rw k (same_texts-refl patterns) in absurd cc
+pub more-texts : (before patterns new : List Bytes) (empty : Bool) → new ≡ before ++ patterns → empty ≡ eqb (length patterns) 0 → IsTrue (not empty) ↔ (new ≢ before)
+more-texts before [] new empty e h = let k : not empty ≡ false = ap not h in (λ t f. let g : not empty ≡ true = t in absurd cc, λ n. absurd (n (e ∙ append-nil before)))
+more-texts before (p ∷ ps) new empty e h = on (eqb (suc (length ps)) 0) refl
+  where
+    on : (t : Bool) → eqb (suc (length ps)) 0 ≡ t → IsTrue (not empty) ↔ (new ≢ before)
+    on true k = let n : suc (length ps) ≡ 0 = eqb-true (suc (length ps)) 0 k in absurd (omega (arith, n))
+    on false k = (λ t f. some-more before p ps (sym e ∙ f), λ n. ap not (h ∙ k))
+
+-- what is kept of patterns changed exactly where their value did
+pub names-changed : {E : Type 0} (r : Result Bool E) (new old : List Bytes) (v : Value) → v ≡ Names old → IfOk r (λ changed. IsTrue changed ↔ (new ≢ old)) → IfOk r (λ changed. IsTrue changed ↔ (Names new ≢ v))
+names-changed (Ok b) new old v is h = (λ t e. h.0 t (let k : Names new ≡ Names old = e ∙ is in cc), λ n. h.1 (λ e. n (ap (λ l. Names l) e ∙ sym is)))
+names-changed (Err e) new old v is h = tt
 
 -- ---- the place of a key
 
-replaced-step : (all : List Given) (i : ℕ) (key : Key) (v : Value) (g : Given) → i < length all → get_or all i g ≡ g → same_key key g.0 ≡ false
-    → take i all ++ replaced key v (drop i all) ≡ take (suc i) all ++ replaced key v (drop (suc i) all)
-replaced-step [] i key v g h e n = absurd (omega (arith, h))
-replaced-step (x ∷ xs) zero key v g h e n = rw (e, n) refl
-replaced-step (x ∷ xs) (suc i) key v g h e n = ap (λ l. x ∷ l) (replaced-step xs i key v g (omega (arith, h)) e n)
+at : (all : List Given) (i : ℕ) (g : Given) → i < length all → get_or all i g ≡ g → slice_get all i ≡ Some g
+at [] i g low e = absurd (omega (arith, low))
+at (x ∷ xs) zero g low e = ap (λ y. Some y) e
+at (x ∷ xs) (suc i) g low e = at xs i g (omega (arith, low)) e
 
-replaced-here : (all : List Given) (i : ℕ) (key : Key) (v : Value) (g : Given) → i < length all → get_or all i g ≡ g → same_key key g.0 ≡ true
-    → take i all ++ replaced key v (drop i all) ≡ set all i (key, v)
-replaced-here [] i key v g h e n = absurd (omega (arith, h))
-replaced-here (x ∷ xs) zero key v g h e n = rw (e, n) refl
-replaced-here (x ∷ xs) (suc i) key v g h e n = ap (λ l. x ∷ l) (replaced-here xs i key v g (omega (arith, h)) e n)
+pub stands : (all : List Given) (i : ℕ) (key : Key) (g : Given) → i < length all → get_or all i g ≡ g → place key ≡ place g.0 → values_among key (take i all) ≡ [] → StandsAt key all i
+stands all i key g low e p before = record { value = g.1; is = at all i g low e ∙ ap (λ k. Some (k, g.1)) (sym (same-place key g.0 p)); before = before }
 
-pub replaced-found : (all now : List Given) (i : ℕ) (key : Key) (v : Value) (g : Given) → now ≡ all → i < length now → get_or now i g ≡ g → place key ≡ place g.0
-    → take i now ++ replaced key v (drop i now) ≡ replaced key v now → set now i (key, v) ≡ replaced key v all
-replaced-found all now i key v g s h e n before = sym (replaced-here now i key v g h e (eq-eqb (place key) (place g.0) n)) ∙ (before ∙ ap (replaced key v) s)
+pub more-before : (all : List Given) (i : ℕ) (key : Key) (g : Given) → i < length all → get_or all i g ≡ g → place key ≢ place g.0 → values_among key (take i all) ≡ [] → values_among key (take (i + 1) all) ≡ []
+more-before [] i key g low e n before = absurd (omega (arith, low))
+more-before (x ∷ xs) zero key g low e n before = on (same_key key x.0) refl
+  where
+    on : (t : Bool) → same_key key x.0 ≡ t → cond t (x.1 ∷ []) [] ≡ []
+    on true s = absurd (n (ap place (same-key key x.0 s) ∙ ap (λ (y : Given). place y.0) e))
+    on false s = refl
+more-before (x ∷ xs) (suc i) key g low e n before =
+    let more : suc i + 1 ≡ suc (i + 1) = omega arith in
+    rw more (on (same_key key x.0) before (more-before xs i key g (omega (arith, low)) e n))
+  where
+    on : (t : Bool) → cond t (x.1 ∷ values_among key (take i xs)) (values_among key (take i xs)) ≡ []
+        → (values_among key (take i xs) ≡ [] → values_among key (take (i + 1) xs) ≡ [])
+        → cond t (x.1 ∷ values_among key (take (i + 1) xs)) (values_among key (take (i + 1) xs)) ≡ []
+    on true b later = absurd cc
+    on false b later = later b
 
--- the value at hand, where none of several is there yet
-pub first-patterns : (key : Key) (all new : List Given) (value v : Value) (names patterns : List Bytes)
-    → slice_get (values_among key all) 0 ≡ Some v → names ≡ patterns_in value → patterns ≡ with_patterns (patterns_in v) names → new ≡ replaced key (Names patterns) all
-    → new ≡ with_more (values_among key all) key value all
-first-patterns key all new value v names patterns first n p e = rw (first-is (values_among key all) v first, ← n, ← p) e
+pub stands-values : (all : List Given) (place : ℕ) (key : Key) (v : Value) → slice_get all place ≡ Some (key, v) → values_among key (take place all) ≡ [] → values_among key all ≡ v ∷ values_among key (drop (suc place) all)
+stands-values [] place key v e n = absurd cc
+stands-values (g ∷ gs) zero key v e n = let is : g ≡ (key, v) = cc in rw (is, same-key-refl key) refl
+stands-values (g ∷ gs) (suc place) key v e n = on (same_key key g.0) n (stands-values gs place key v e)
+  where
+    on : (t : Bool) → cond t (g.1 ∷ values_among key (take place gs)) (values_among key (take place gs)) ≡ []
+        → (values_among key (take place gs) ≡ [] → values_among key gs ≡ v ∷ values_among key (drop (suc place) gs))
+        → cond t (g.1 ∷ values_among key gs) (values_among key gs) ≡ v ∷ values_among key (drop (suc place) gs)
+    on true n later = absurd cc
+    on false n later = later n
 
--- no other value has patterns
-pub no-names : (v : Value) → ((names : List Bytes) → v ≡ Names names → ⊥) → patterns_in v ≡ []
-no-names (Names names) n = absurd (n names refl)
-no-names v n = refl
+pub stands-replaced : (all : List Given) (place : ℕ) (key : Key) (v w : Value) → slice_get all place ≡ Some (key, v) → values_among key (take place all) ≡ [] → replaced key w all ≡ set all place (key, w)
+stands-replaced [] place key v w e n = absurd cc
+stands-replaced (g ∷ gs) zero key v w e n = let is : g ≡ (key, v) = cc in rw (is, same-key-refl key) refl
+stands-replaced (g ∷ gs) (suc place) key v w e n = on (same_key key g.0) n (stands-replaced gs place key v w e)
+  where
+    on : (t : Bool) → cond t (g.1 ∷ values_among key (take place gs)) (values_among key (take place gs)) ≡ []
+        → (values_among key (take place gs) ≡ [] → replaced key w gs ≡ set gs place (key, w))
+        → cond t ((key, w) ∷ gs) (g ∷ replaced key w gs) ≡ g ∷ set gs place (key, w)
+    on true n later = absurd cc
+    on false n later = ap (λ l. g ∷ l) (later n)
+
+-- a value of a key of patterns is one of several names
+pub names-of : (key : Key) (v : Value) → keeping key ≡ Patterns → fits key v ≡ true → Names (patterns_in v) ≡ v
+unfolding fits
+names-of SendEnv (Names names) e f = refl
+names-of SendEnv v e f = absurd cc
+names-of key v e f = absurd cc
+
+-- ---- patterns that are changed where they stand
+
+fits-at : (all : List Given) (place : ℕ) (x : Given) → list_all fits_single all ≡ true → slice_get all place ≡ Some x → fits_single x ≡ true
+fits-at [] place x h e = absurd cc
+fits-at (y ∷ ys) zero x h e = let k : y ≡ x = cc in ap fits_single (sym k) ∙ (both (fits_single y) (list_all fits_single ys) h).0
+fits-at (y ∷ ys) (suc place) x h e = fits-at ys place x (both (fits_single y) (list_all fits_single ys) h).1 e
+
+pub names-at : (all : List Given) (place : ℕ) (key : Key) (g : Given) (s : StandsAt key all place) → g ≡ (key, s.value) → keeping key ≡ Patterns → list_all fits_single all ≡ true → Names (patterns_in g.1) ≡ g.1
+names-at all place key g s e how h =
+    let f = (both (not (keeps_every key)) (fits key s.value) (fits-at all place (key, s.value) h s.is)).1 in
+    subst (λ (x : Given). Names (patterns_in x.1) ≡ x.1) (sym e) (names-of key s.value how f)
+
+pub more-becomes : {A E : Type 0} (r : Result A E) (all : List Given) (place : ℕ) (key : Key) (value : Value) (g : Given) (new : Value) (names : List Bytes) (s : StandsAt key all place) → g ≡ (key, s.value) → names ≡ patterns_in value
+    → OnOk r (new ≡ Names (with_patterns (patterns_in g.1) names)) → OnOk r (set all place (g.0, new) ≡ with_more (values_among key all) key value all)
+more-becomes (Ok x) all place key value g new names s e n ok =
+    let is : new ≡ Names (with_patterns (patterns_in s.value) (patterns_in value)) = ok ∙ (ap (λ (y : Given). Names (with_patterns (patterns_in y.1) names)) e ∙ ap (λ l. Names (with_patterns (patterns_in s.value) l)) n) in
+    ap (λ (y : Given). set all place (y.0, new)) e
+    ∙ (ap (λ v. set all place (key, v)) is
+    ∙ (sym (stands-replaced all place key s.value (Names (with_patterns (patterns_in s.value) (patterns_in value))) s.is s.before)
+    ∙ sym (ap (λ vs. with_more vs key value all) (stands-values all place key s.value s.is s.before))))
+more-becomes (Err y) all place key value g new names s e n ok = tt
+
+set-at : (all : List Given) (place : ℕ) (x y : Given) → slice_get all place ≡ Some y → slice_get (set all place x) place ≡ Some x
+set-at [] place x y e = absurd cc
+set-at (z ∷ zs) zero x y e = refl
+set-at (z ∷ zs) (suc place) x y e = set-at zs place x y e
+
+set-same : (all : List Given) (place : ℕ) (x : Given) → slice_get all place ≡ Some x → set all place x ≡ all
+set-same [] place x e = absurd cc
+set-same (z ∷ zs) zero x e = let k : x ≡ z = cc in ap (λ y. y ∷ zs) k
+set-same (z ∷ zs) (suc place) x e = ap (λ l. z ∷ l) (set-same zs place x e)
+
+pub more-changed : {E : Type 0} (r : Result Bool E) (all : List Given) (place : ℕ) (key : Key) (g : Given) (new : Value) (s : StandsAt key all place) → g ≡ (key, s.value)
+    → IfOk r (λ changed. IsTrue changed ↔ (new ≢ g.1)) → IfOk r (λ changed. IsTrue changed ↔ (set all place (g.0, new) ≢ all))
+more-changed (Ok b) all place key g new s e h =
+    (λ t f. h.0 t (ap (λ (y : Given). y.1) (some-same (g.0, new) g (sym (set-at all place (g.0, new) (key, s.value) s.is) ∙ (ap (λ l. slice_get l place) f ∙ here)))),
+     λ n. h.1 (λ f. n (ap (λ v. set all place (g.0, v)) f ∙ set-same all place g here)))
+  where
+    here : slice_get all place ≡ Some g
+    here = s.is ∙ ap (λ y. Some y) (sym e)
+
+    some-same : (x y : Given) → Some x ≡ Some y → x ≡ y
+    some-same x y k = cc
+more-changed (Err y) all place key g new s e h = tt

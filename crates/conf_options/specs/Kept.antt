@@ -1,13 +1,15 @@
 -- What settings keep of all values that were given.
-use Rattle.std.specs.Prelude.{◌≡◌, Bool, true, false, ◌&&◌, if◌then◌else◌, List, [], ◌∷◌, ◌++◌, bytes_eq}
+use Rattle.std.specs.Prelude.{◌≡◌, ℕ, Bool, true, false, not, ◌&&◌, is_some, if◌then◌else◌, List, [], ◌∷◌, ◌++◌, take, bytes_eq, Some}
+use Rattle.std.specs.List.{slice_get}
 use Rattle.conf_rules.specs.declared.key.Key.{Key}
 use Rattle.conf_rules.specs.declared.key.Key.TheVariants.{ProxyCommand, ProxyJump}
 use Rattle.conf_rules.specs.declared.value.Value.{Value}
 use Rattle.conf_rules.specs.declared.value.Value.TheVariants.{Names}
-use Rattle.conf_rules.specs.Texts.{Bytes, is_empty}
+use Rattle.conf_rules.specs.Texts.{Bytes, is_empty, behind}
 use Rattle.conf_rules.specs.Keys.{same_key}
 use Rattle.conf_rules.specs.Kinds.{Keeping, TheFirst, Every, Patterns, Shared, keeping}
 use Rattle.conf_rules.specs.Rows.{values_among, kept, with_patterns, patterns_in}
+use Rattle.conf_rules.specs.Fits.{fitting}
 
 -- a key with a value
 abbrev pub Given : Type 0
@@ -16,6 +18,18 @@ Given = Key × Value
 -- settings keep of each key what counts of all that was given
 pub record Keeps (settings given : List Given) : Type 0 where
   pub each : (key : Key) → values_among key settings ≡ kept (keeping key) key given
+
+-- whether all values of a key are kept
+abbrev pub keeps_every : Key → Bool
+keeps_every key = elim (keeping key) [ Every ↦ true | _ ↦ false ]
+
+-- whether a value is one of its key, of which one value counts
+abbrev pub fits_single : Given → Bool
+fits_single given = not (keeps_every given.0) && fitting given
+
+-- whether a value is one of its key, of which all values count
+abbrev pub fits_every : Given → Bool
+fits_every given = keeps_every given.0 && fitting given
 
 -- a value behind the others
 abbrev pub behind_all : List Given → Key → Value → List Given
@@ -31,6 +45,12 @@ replaced key value [] = []
 replaced key value (g ∷ gs) = let later = g ∷ replaced key value gs in if same_key key g.0
     then (key, value) ∷ gs else later
 
+-- the first value of a key stands at a place
+pub record StandsAt (key : Key) (all : List Given) (place : ℕ) : Type 0 where
+  pub value : Value
+  pub is : slice_get all place ≡ Some (key, value)
+  pub before : values_among key (take place all) ≡ []
+
 -- a value with more patterns, if there is one
 abbrev pub with_more : List Value → Key → Value → List Given → List Given
 with_more [] key value all = behind_all all key (Names (with_patterns [] (patterns_in value)))
@@ -44,6 +64,10 @@ offered Every all key value = behind_all all key value
 offered Patterns all key value = with_more (values_among key all) key value all
 offered Shared all key value = if is_unset ProxyCommand all && is_unset ProxyJump all
     then behind_all all key value else all
+
+-- whether a pattern removes others: it begins with a dash
+abbrev pub removes : Bytes → Bool
+removes pattern = is_some (behind (45 ∷ []) pattern)
 
 -- whether two lists of texts are one
 abbrev pub same_texts : List Bytes → List Bytes → Bool

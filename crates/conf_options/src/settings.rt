@@ -1,13 +1,14 @@
-ghost use Rattle.std.specs.Prelude.{◌≡◌, ◌≢◌, ◌↔◌, ◌<◌, ℕ, List, [], ◌∷◌, ◌++◌, Bool, true, not, length, IsTrue, IfOk, OnOk, OnErr, MatchOption, slice_get};
+ghost use Rattle.std.specs.Prelude.{◌≡◌, ◌≢◌, ◌↔◌, ◌<◌, ℕ, List, [], ◌∷◌, ◌++◌, Bool, true, false, not, ◌&&◌, length, IsTrue, IfOk, IfNone, IfSome, OnOk, OnErr, slice_get};
 ghost use Rattle.std.specs.Option.{option_copied};
 ghost use Rattle.std.specs.List.{list_all};
 ghost use Rattle.conf_rules.specs.declared.key.Key.TheVariants as keys;
+ghost use Rattle.conf_rules.specs.declared.value.Value.TheVariants as values;
 ghost use Rattle.conf_rules.specs.Kinds.{TheFirst, Every, Patterns, Shared, keeping};
-ghost use Rattle.conf_rules.specs.Rows.{values_among, patterns_in, number_in};
+ghost use Rattle.conf_rules.specs.Rows.{values_among, patterns_in, number_in, with_patterns};
 ghost use Rattle.conf_rules.specs.Fits.{fits, fitting};
-ghost use Rattle.conf_options.specs.Kept.{Given, Keeps, behind_all, is_unset, replaced, offered};
+ghost use Rattle.conf_options.specs.Kept.{Given, Keeps, StandsAt, behind_all, is_unset, keeps_every, fits_single, offered};
 
-use crate::patterns::{same_texts, with_patterns};
+use crate::patterns::{take_patterns, with_patterns};
 use conf_rules::{Key, Value};
 use ssh_fields::{OutOfMemory, Text};
 use std::alloc::Global;
@@ -17,20 +18,37 @@ use std::marker::Model;
 #[derive(Drop)]
 pub struct Settings {
     alloc: Global,
-    all: Vec<(Key, Value)>,
+    // Of keys of which one value counts, or one list of patterns: no more than there are keys.
+    singles: Vec<(Key, Value)>,
+    // Of keys of which all values count.
+    collected: Vec<(Key, Value)>,
 }
 
 impl Model for Settings {
-    ghost use Rattle.std.specs.Prelude.{◌≡◌, List, true};
+    ghost use Rattle.std.specs.Prelude.{◌≡◌, ◌++◌, List, true};
     ghost use Rattle.std.specs.List.{list_all};
-    ghost use Rattle.conf_rules.specs.Fits.{fitting};
-    ghost use Rattle.conf_options.specs.Kept.{Given};
+    ghost use Rattle.conf_options.specs.Kept.{Given, fits_single, fits_every};
 
     ghost Value = { List Given };
 
-    ghost view = { λ s. s.all.items };
+    ghost view = { λ s. s.singles.items ++ s.collected.items };
 
-    ghost invariant = { λ s. list_all fitting s.all.items ≡ true };
+    ghost invariant = { λ s. (list_all fits_single s.singles.items ≡ true)
+        × (list_all fits_every s.collected.items ≡ true) };
+}
+
+/// Whether all values of a key are kept.
+fn keeps_every(key: Key) -> bool
+    ensures { result ≡ keeps_every key }
+{
+    matches!(
+        key,
+        Key::CertificateFile
+            | Key::DynamicForward
+            | Key::IdentityFile
+            | Key::LocalForward
+            | Key::RemoteForward
+    )
 }
 
 /// The first value of a key.
@@ -46,11 +64,11 @@ fn first_of(all: &[(Key, Value)], key: Key) -> Option<&Value>
 }
 
 /// The port, or 22.
-fn port_of(all: &[(Key, Value)]) -> u16
-    requires { list_all fitting all.now ≡ true }
-    ensures { result ≡ number_in 22 (slice_get (values_among keys.Port all.now) 0) }
+fn port_of(singles: &[(Key, Value)]) -> u16
+    requires { list_all fits_single singles.now ≡ true }
+    ensures { result ≡ number_in 22 (slice_get (values_among keys.Port singles.now) 0) }
 {
-    match first_of(all, Key::Port) {
+    match first_of(singles, Key::Port) {
         Some(Value::Number(n)) => *n as u16,
         _ => 22,
     }
@@ -73,16 +91,17 @@ fn names_in(value: &Value) -> &[Text]
     }
 }
 
-/// Takes another first value of a key.
-fn replace(all: &mut Vec<(Key, Value)>, key: Key, value: Value)
-    ensures { all.new.items ≡ replaced key value all.old.items }
+/// Where the first value of a key stands.
+fn place_of(all: &[(Key, Value)], key: Key) -> Option<usize>
+    ensures none { IfNone result (values_among key all.now ≡ []) }
+    ensures found { IfSome result (StandsAt key all.now) }
 {
     for i in 0..all.len() {
         if key.place() == all[i].0.place() {
-            all[i] = (key, value);
-            return;
+            return Some(i);
         }
     }
+    None
 }
 
 /// Takes a value behind the others.
@@ -95,69 +114,75 @@ fn add(all: &mut Vec<(Key, Value)>, key: Key, value: Value) -> Result<bool, OutO
     Ok(true)
 }
 
-/// Takes patterns.
-fn add_patterns(
-    alloc: Global,
-    all: &mut Vec<(Key, Value)>,
-    key: Key,
-    value: &Value,
-) -> Result<bool, OutOfMemory>
-    ensures becomes { OnOk result (all.new.items ≡ offered Patterns all.old.items key value.now) }
-    ensures changed { IfOk result (λ changed. IsTrue changed ↔ (all.new.items ≢ all.old.items)) }
-    ensures err { OnErr result (all.new.items ≡ all.old.items) }
+/// Takes patterns behind those of a value.
+fn more_patterns(alloc: Global, kept: &mut Value, patterns: &[Text]) -> Result<bool, OutOfMemory>
+    requires names { values.Names (patterns_in kept.old) ≡ kept.old }
+    ensures becomes { OnOk result
+        (kept.new ≡ values.Names (with_patterns (patterns_in kept.old) patterns.now)) }
+    ensures changed { IfOk result (λ changed. IsTrue changed ↔ (kept.new ≢ kept.old)) }
+    ensures err { OnErr result (kept.new ≡ kept.old) }
 {
-    let names = names_in(value);
-    match first_of(all, key) {
-        None => {
-            let patterns = with_patterns(alloc, &[], names)?;
-            add(all, key, Value::Names(patterns))
-        }
-        Some(before) => match before {
-            Value::Names(before) => {
-                let patterns = with_patterns(alloc, before.as_slice(), names)?;
-                if same_texts(before.as_slice(), patterns.as_slice()) {
-                    return Ok(false);
-                }
-                replace(all, key, Value::Names(patterns));
-                Ok(true)
-            }
-            _ => {
-                let patterns = with_patterns(alloc, &[], names)?;
-                replace(all, key, Value::Names(patterns));
-                Ok(true)
-            }
-        },
+    match kept {
+        Value::Names(names) => take_patterns(alloc, names, patterns),
+        _ => unreachable!(),
     }
 }
 
-/// Takes a value, where it counts.
+/// Takes patterns.
+fn add_patterns(
+    alloc: Global,
+    singles: &mut Vec<(Key, Value)>,
+    key: Key,
+    value: &Value,
+) -> Result<bool, OutOfMemory>
+    requires patterns { keeping key ≡ Patterns }
+    requires fit { list_all fits_single singles.old.items ≡ true }
+    ensures becomes { OnOk result
+        (singles.new.items ≡ offered Patterns singles.old.items key value.now) }
+    ensures changed { IfOk result
+        (λ changed. IsTrue changed ↔ (singles.new.items ≢ singles.old.items)) }
+    ensures err { OnErr result (singles.new.items ≡ singles.old.items) }
+{
+    let names = names_in(value);
+    match place_of(singles, key) {
+        None => {
+            let patterns = with_patterns(alloc, &[], names)?;
+            add(singles, key, Value::Names(patterns))
+        }
+        Some(place) => {
+            let given = &mut singles[place];
+            more_patterns(alloc, &mut given.1, names)
+        }
+    }
+}
+
+/// Takes a value of a key of which one value counts, where it does, or patterns.
 fn take(
     alloc: Global,
-    all: &mut Vec<(Key, Value)>,
+    singles: &mut Vec<(Key, Value)>,
     key: Key,
     value: Value,
 ) -> Result<bool, OutOfMemory>
-    ensures becomes { OnOk result (all.new.items ≡ offered (keeping key) all.old.items key value) }
-    ensures changed { IfOk result (λ changed. IsTrue changed ↔ (all.new.items ≢ all.old.items)) }
-    ensures err { OnErr result (all.new.items ≡ all.old.items) }
+    requires single { keeps_every key ≡ false }
+    requires fit { list_all fits_single singles.old.items ≡ true }
+    ensures becomes { OnOk result
+        (singles.new.items ≡ offered (keeping key) singles.old.items key value) }
+    ensures changed { IfOk result
+        (λ changed. IsTrue changed ↔ (singles.new.items ≢ singles.old.items)) }
+    ensures err { OnErr result (singles.new.items ≡ singles.old.items) }
 {
     match key {
-        Key::SendEnv => add_patterns(alloc, all, key, &value),
-        Key::CertificateFile
-        | Key::DynamicForward
-        | Key::IdentityFile
-        | Key::LocalForward
-        | Key::RemoteForward => add(all, key, value),
+        Key::SendEnv => add_patterns(alloc, singles, key, &value),
         Key::ProxyCommand | Key::ProxyJump => {
-            if is_unset(all, Key::ProxyCommand) && is_unset(all, Key::ProxyJump) {
-                add(all, key, value)
+            if is_unset(singles, Key::ProxyCommand) && is_unset(singles, Key::ProxyJump) {
+                add(singles, key, value)
             } else {
                 Ok(false)
             }
         }
         _ => {
-            if is_unset(all, key) {
-                add(all, key, value)
+            if is_unset(singles, key) {
+                add(singles, key, value)
             } else {
                 Ok(false)
             }
@@ -172,7 +197,8 @@ impl Settings {
     {
         Settings {
             alloc,
-            all: Vec::new(alloc),
+            singles: Vec::new(alloc),
+            collected: Vec::new(alloc),
         }
     }
 
@@ -180,21 +206,25 @@ impl Settings {
     pub fn first(&self, key: Key) -> Option<&Value>
         ensures { option_copied result ≡ slice_get (values_among key self.now) 0 }
     {
-        first_of(self.all.as_slice(), key)
+        first_of(self.among(key), key)
     }
 
-    /// All values that are kept, each behind its key, in the order in which they came.
-    pub fn as_slice(&self) -> &[(Key, Value)]
-        ensures { result.now ≡ self.now }
+    /// Values that are kept, each behind its key, in the order in which they came: all of a key, and maybe some of others.
+    pub fn among(&self, key: Key) -> &[(Key, Value)]
+        ensures { values_among key result.now ≡ values_among key self.now }
     {
-        self.all.as_slice()
+        if keeps_every(key) {
+            self.collected.as_slice()
+        } else {
+            self.singles.as_slice()
+        }
     }
 
     /// The first Port, or 22.
     pub fn port(&self) -> u16
         ensures { result ≡ number_in 22 (slice_get (values_among keys.Port self.now) 0) }
     {
-        port_of(self.all.as_slice())
+        port_of(self.singles.as_slice())
     }
 
     /// Takes a value, where it counts: the first of its key, or of both proxy keys; each one of a key that collects; patterns of
@@ -207,6 +237,10 @@ impl Settings {
         ensures changed { IfOk result (λ changed. IsTrue changed ↔ (self.new ≢ self.old)) }
         ensures err { OnErr result (self.new ≡ self.old) }
     {
-        take(self.alloc, &mut self.all, key, value)
+        if keeps_every(key) {
+            add(&mut self.collected, key, value)
+        } else {
+            take(self.alloc, &mut self.singles, key, value)
+        }
     }
 }

@@ -63,7 +63,7 @@ fn put_values(
 ) -> Result<(), OutOfMemory>
     ensures { OnOk result (out.new ≡ out.old ++ lines key (value_texts settings.now key)) }
 {
-    let given = settings.as_slice();
+    let given = settings.among(key);
     for (other, value) in given {
         if key.place() == other.place() {
             put_value(alloc, out, key.keyword(), value)?;

@@ -94,12 +94,3 @@ include-refused told place blocks o f rest (line_errors.Refused cause) d top inc
 pub top-include : (t : Option OpenFile) (rest : Bytes) → Some rest ≡ option_and_then (λ f. f.include) t → (f : OpenFile) × ((t ≡ Some f) × (f.include ≡ Some rest))
 top-include None rest e = absurd cc
 top-include (Some f) rest e = (f, (refl, sym e))
-
-pub no-include : (t : Option OpenFile) (f : OpenFile) → None ≡ option_and_then (λ f. f.include) t → t ≡ Some f → f.include ≡ None
-no-include None f e h = absurd cc
-no-include (Some g) f e h = let k : g ≡ f = cc in ap (λ (x : OpenFile). x.include) (sym k) ∙ sym e
-
--- where no paths are to be found, all are expanded
-pub expanded-more : (fs : List OpenFile) (t : Option OpenFile) → list_all is_expanded fs ≡ true → (((f : OpenFile) → t ≡ Some f → is_expanded f ≡ true)) → list_all is_expanded (fs ++ option_to_list t) ≡ true
-expanded-more fs None e h = list_all-append is_expanded fs [] ∙ rw e refl
-expanded-more fs (Some f) e h = list_all-append is_expanded fs (f ∷ []) ∙ rw (e, h f refl) refl

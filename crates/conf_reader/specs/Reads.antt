@@ -4,6 +4,7 @@ use Rattle.conf_rules.specs.declared.causes.Cause.{Cause}
 use Rattle.conf_rules.specs.declared.causes.ResolveError.{ResolveError}
 use Rattle.conf_rules.specs.declared.causes.ResolveError.TheVariants.{At, OutOfMemory}
 use Rattle.conf_rules.specs.declared.entry.Entry.TheVariants.{Nothing}
+use Rattle.conf_rules.specs.declared.maxima.TheConstants.{MAX_LINES}
 use Rattle.conf_rules.specs.Told.{Told}
 use Rattle.conf_rules.specs.Diagnostics.{is_fault}
 use Rattle.conf_rules.specs.Sources.{Line}
@@ -91,7 +92,7 @@ OneLine told place blocks old new (Err (At file number cause)) =
 -- how many lines a step counts
 abbrev pub CountsOne : Step → ℕ → ℕ → Type 0
 CountsOne steps.End old new = Unit {0}
-CountsOne step old new = (new ≡ old + 1) × (old < 100000)
+CountsOne step old new = (new ≡ old + 1) × (old < MAX_LINES)
 
 -- comments so far
 pub record SoFar (told : Told) (place : ℕ) (blocks : Blocks) (old now : Lines) : Type 0 where
@@ -107,7 +108,7 @@ pub record SoFar (told : Told) (place : ℕ) (blocks : Blocks) (old now : Lines)
 pub record IsGivenFrom (old new : Lines) (line : ConfLine) : Type 0 where
   pub state : IsGiven new.open_files
   pub lies : (n : ℕ) → Bounded old.open_files n → LiesAt n (open_count new) line
-  pub further : 100000 - new.read < 100000 - old.read
+  pub further : MAX_LINES - new.read < MAX_LINES - old.read
 
 abbrev pub GivenStep : Step → Lines → Lines → Type 0
 GivenStep (steps.Given line) old new = IsGivenFrom old new line

@@ -6,6 +6,7 @@ ghost use Rattle.conf_reader.specs.Known.{TellsFiles};
 ghost use Rattle.conf_reader.specs.Left.{IsFound};
 ghost use Rattle.conf_reader.specs.Looking.{FileFails};
 
+use conf_rules::MAX_FILE;
 use mux_outside::{FileError, Files};
 use ssh_fields::Text;
 
@@ -17,16 +18,8 @@ pub enum Found {
     Holds(Text),
 }
 
-/// How many bytes a file may have.
-#[tactic(auto, unfolding(conf_rules::specs::Sources::size_limit))]
-fn size_limit() -> usize
-    ensures limit { result ≡ size_limit }
-    ensures small { result < 2 ^ 32 }
-{
-    1_048_576
-}
-
 /// What a path holds.
+#[tactic(auto, unfolding(conf_rules::specs::Sources::size_limit))]
 pub fn read_file<F: Files>(path: &[u8], files: &mut F) -> Result<Found, FileError>
     ensures found { (told : Told) → TellsFiles (F.told files.old) told
         → IfOk result (λ found. IsFound found (told.content path.now)) }
@@ -34,11 +27,11 @@ pub fn read_file<F: Files>(path: &[u8], files: &mut F) -> Result<Found, FileErro
     ensures failed { FileFails (path.now ∷ []) result (F.failed files.old) (F.failed files.new) }
     ensures told { F.told files.new ≡ F.told files.old }
 {
-    let text = match files.read(path, size_limit() + 1)? {
+    let text = match files.read(path, MAX_FILE + 1)? {
         None => return Ok(Found::Nothing),
         Some(text) => text,
     };
-    if text.as_bytes().len() > size_limit() {
+    if text.as_bytes().len() > MAX_FILE {
         return Ok(Found::TooLarge);
     }
     Ok(Found::Holds(text))

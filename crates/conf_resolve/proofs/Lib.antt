@@ -1,4 +1,3 @@
-pub mod CauseLemmas
 pub mod CommandLemmas
 pub mod DepthLemmas
 pub mod FaultLemmas

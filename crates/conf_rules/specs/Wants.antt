@@ -8,8 +8,6 @@ use Rattle.conf_rules.specs.declared.causes.MatchError.{MatchError}
 use Rattle.conf_rules.specs.declared.causes.MatchError.TheVariants as match_errors
 use Rattle.conf_rules.specs.declared.causes.TokenError.{TokenError}
 use Rattle.conf_rules.specs.declared.causes.TokenError.TheVariants as token_errors
-use Rattle.conf_rules.specs.declared.causes.ResolveError.{ResolveError}
-use Rattle.conf_rules.specs.declared.causes.ResolveError.TheVariants as resolve_errors
 use Rattle.conf_rules.specs.declared.causes.ListError.{ListError}
 use Rattle.conf_rules.specs.declared.causes.ListError.TheVariants as list_errors
 
@@ -32,11 +30,6 @@ match_wants_memory e = false
 abbrev pub token_wants_memory : TokenError → Bool
 token_wants_memory token_errors.OutOfMemory = true
 token_wants_memory e = false
-
--- whether a resolution's error is want of memory
-abbrev pub resolve_wants_memory : ResolveError → Bool
-resolve_wants_memory resolve_errors.OutOfMemory = true
-resolve_wants_memory e = false
 
 -- whether a listing's error is want of memory
 abbrev pub list_wants_memory : ListError → Bool
