@@ -93,7 +93,7 @@ asks-few k false (Some what) = omega arith
 asks-few k true None = omega arith
 asks-few k false None = omega arith
 
-abbrev flag : List (List ℕ) → Bool
+abbrev pub flag : List (List ℕ) → Bool
 flag up = elim up [ [] ↦ false | p ∷ ps ↦ true ]
 
 said-fits : (policy : Policy) (before : List Row) (k pick : ℕ) (p : List ℕ) (reply : Option HouseReply) (fw down : List (List ℕ)) (fate : Fate) → Fits before (as_row (Says k (Payload p) reply) k (said_payload policy k (rows_of k before) pick p).sent fw down fate)

@@ -6,14 +6,14 @@ use Rattle.mux_history.specs.Channels.{Channel, channels_of, held_of, is_held, i
 use Rattle.mux_history.specs.Farewell.{has_open_matters}
 use Rattle.mux_history.specs.Forwardings.{Forwarding, forwarded, forwardings_of, is_request, of_client, replied}
 use Rattle.mux_history.specs.Gist.{Gist, Refuses, Succeeds, read_gist}
-use Rattle.mux_history.specs.Kept.{ForEach}
+use Rattle.mux_history.specs.Kept.{AtEach, ForEach}
 use Rattle.mux_history.specs.Keys.{bound}
 use Rattle.mux_history.specs.Log.{makes_row, said_by_client, treat}
 use Rattle.mux_history.specs.Policy.{Policy}
 use Rattle.mux_history.specs.Requests.{asks, replies}
 use Rattle.mux_history.specs.Right.{IsAdmitted}
 use Rattle.mux_history.specs.Rows.{Heard, Item, Row, Says, Took, any_of, is_admit, is_lost, is_out, is_refusal, loses, rows_of}
-use Rattle.mux_bounds.specs.Few.{HasNothing}
+use Rattle.mux_bounds.specs.Few.{HasNothing, LeavesNothing}
 use Rattle.ssh_grammar.specs.declared.fault.Bad.{Bad}
 use Rattle.mux_history.proofs.Bools.{or-left, or-right}
 use Rattle.mux_history.proofs.Finds.{filter-no, filter-yes}
@@ -143,3 +143,8 @@ nothing-left policy pid rows known k admitted closed =
       requests = not-less (length (replies (rows_of k rows))) (length (asks (rows_of k rows))) (or-right (any_of is_held (held_of (rows_of k rows))) (nat_lt (length (replies (rows_of k rows))) (length (asks (rows_of k rows)))) rest);
       forwardings = none-current (forwardings_of (rows_of k rows)) (lost-done policy pid k rows known.each lost);
     }
+
+-- at every row
+pub leaves-nothing : (policy : Policy) (pid : ℕ) (rows : List Row) → LogKnown policy pid rows → AtEach LeavesNothing rows
+leaves-nothing policy pid [] known = nothing-left policy pid [] known
+leaves-nothing policy pid (row ∷ before) known = (nothing-left policy pid (row ∷ before) known, leaves-nothing policy pid before (record { each = known.each.1; good = known.each.0.good; orderly = known.each.0.orderly }))

@@ -24,6 +24,7 @@ pub mod ServerQueue
 pub mod Shorts
 pub mod Sizes
 pub mod Totals
+pub mod Unanswered
 pub mod Ups
 pub mod Weights
 pub mod WireRuns

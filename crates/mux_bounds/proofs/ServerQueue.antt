@@ -5,6 +5,7 @@ use Rattle.mux_outside.specs.declared.house.HouseReply.{HouseReply}
 use Rattle.mux_outside.specs.declared.mark.Mark.{Mark}
 use Rattle.mux_outside.specs.declared.mark.Mark.TheVariants as wire
 use Rattle.ssh_grammar.specs.Said.{InControl, InProxy, parse}
+use Rattle.mux_history.specs.Kept.{AtEach}
 use Rattle.mux_history.specs.Journal.{IsLawful, LawfulMark, bytes_of, items_in, log_of_journal, new_heard, new_sayings, server_end}
 use Rattle.mux_history.specs.Log.{bare, is_took, makes_next, makes_row, more_all, more_of}
 use Rattle.mux_history.specs.Pending.{pending_up}
@@ -265,9 +266,38 @@ module _ (policy : Policy) (pid : ℕ) (picks : List ℕ) (given : List HouseRep
   below : (rows : List Row) → Bound rows → StaysBelow rows
   below rows bound = let b = bound.waits in record { within = omega (arith, b); below = omega (arith, b) }
 
-  pub stays-below : (marks : List Mark) (rows : List Row) → IsLawful marks → IsLog (setting policy pid picks given) marks rows → AreFresh rows → Throughout (ReadsWithRoom (setting policy pid picks given)) marks → StaysBelow rows
-  stays-below [] rows lawful is fresh rooms = subst StaysBelow (sym (nothing-yet rows is)) (record { within = omega arith; below = omega arith })
+  -- ---- at each row
+
+  -- what holds at each row, and of the log behind each of some items, holds at each row behind them
+  each-row : (P : List Row → Type 0) (rows : List Row) (n : ℕ) (xs : List Item) → ((m : ℕ) → P (more_all (setting policy pid picks given) rows (take m xs))) → AtEach P rows → AtEach P (more_all (setting policy pid picks given) rows (take n xs))
+  each-row P rows zero xs all each = each
+  each-row P rows (suc n) [] all each = each
+  each-row P rows (suc n) (item ∷ xs) all each =
+      each-row P (more_of (setting policy pid picks given) rows item) n xs (λ m. all (suc m))
+      (by-more policy pid picks given (λ rs. P rs → AtEach P rs) rows item (λ stays p. each) (λ makes p. (p, each)) (all (suc zero)))
+
+  -- where its numbers are fresh
+  abbrev Low : List Row → Type 0
+  Low rows = AreFresh rows → StaysBelow rows
+
+  each-fresh : (rows : List Row) → AreFresh rows → AtEach Low rows → AtEach StaysBelow rows
+  each-fresh [] fresh each = each fresh
+  each-fresh (row ∷ before) fresh each = (each.0 fresh, each-fresh before fresh.1 each.1)
+
+  each-cut : (before : List Mark) (mark : Mark) (n : ℕ) → IsLawful (mark ∷ before) → Throughout (ReadsWithRoom (setting policy pid picks given)) (mark ∷ before) → AtEach Low (log before) → AtEach Low (cut before mark n)
+  each-cut before mark n lawful rooms = each-row Low (log before) n (items_in before mark) (λ m fresh.
+      let known : KnownCut before mark m = record { lawful = lawful; fresh = fresh } in
+      below (cut before mark m) (bound-next before mark m known rooms.0 (bounds before (known-before before mark m known) rooms.1)))
+
+  none-below : StaysBelow []
+  none-below = record { within = omega arith; below = omega arith }
+
+  each-log : (marks : List Mark) → IsLawful marks → Throughout (ReadsWithRoom (setting policy pid picks given)) marks → AtEach Low (log marks)
+  each-log [] lawful rooms = λ fresh. none-below
+  each-log (mark ∷ before) lawful rooms = subst (AtEach Low) (all-of-mark before mark) (each-cut before mark (length (items_in before mark)) lawful rooms (each-log before lawful.1 rooms.1))
+
+  pub stays-below : (marks : List Mark) (rows : List Row) → IsLawful marks → IsLog (setting policy pid picks given) marks rows → AreFresh rows → Throughout (ReadsWithRoom (setting policy pid picks given)) marks → AtEach StaysBelow rows
+  stays-below [] rows lawful is fresh rooms = subst (AtEach StaysBelow) (sym (nothing-yet rows is)) none-below
   stays-below (mark ∷ before) rows lawful is fresh rooms =
       let c = cut-of before mark rows is in
-      let known : KnownCut before mark c.0 = record { lawful = lawful; fresh = subst AreFresh c.1 fresh } in
-      subst StaysBelow (sym c.1) (below (cut before mark c.0) (bound-next before mark c.0 known rooms.0 (bounds before (known-before before mark c.0 known) rooms.1)))
+      each-fresh rows fresh (subst (AtEach Low) (sym c.1) (each-cut before mark c.0 lawful rooms (each-log before lawful.1 rooms.1)))

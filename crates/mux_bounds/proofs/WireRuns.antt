@@ -6,6 +6,7 @@ use Rattle.mux_outside.specs.declared.mark.Mark.{Mark}
 use Rattle.mux_outside.specs.declared.mark.Mark.TheVariants as wire
 use Rattle.mux_outside.specs.declared.turn.Want.TheVariants as want
 use Rattle.mux_history.specs.Journal.{IsLawful}
+use Rattle.mux_history.specs.Kept.{AtEach}
 use Rattle.mux_history.specs.Log.{Setting}
 use Rattle.mux_history.specs.Policy.{Policy}
 use Rattle.mux_history.specs.Promises.{Throughout, WaitsAt}
@@ -36,5 +37,13 @@ module _ (policy : Policy) (pid : ℕ) (picks : List ℕ) (given : List HouseRep
   rooms [] asked waits = tt
   rooms (mark ∷ before) asked waits = (λ reading. room-after before (asked.0 reading) waits.1, rooms before asked.1 waits.1)
 
+  pub runs-below : (marks : List Mark) (rows : List Row) → IsLawful marks → IsLog setting marks rows → AreFresh rows → Throughout ReadsWhenAsked marks → Throughout (WaitsAt setting) marks → AtEach StaysBelow rows
+  runs-below marks rows lawful is fresh asked waits = stays-below policy pid picks given marks rows lawful is fresh (rooms marks asked waits)
+
+  newest : (P : List Row → Type 0) (rows : List Row) → AtEach P rows → P rows
+  newest P [] each = each
+  newest P (row ∷ before) each = each.0
+
+  -- so at the newest row
   pub runs-bounded : (marks : List Mark) (rows : List Row) → IsLawful marks → IsLog setting marks rows → AreFresh rows → Throughout ReadsWhenAsked marks → Throughout (WaitsAt setting) marks → StaysBelow rows
-  runs-bounded marks rows lawful is fresh asked waits = stays-below policy pid picks given marks rows lawful is fresh (rooms marks asked waits)
+  runs-bounded marks rows lawful is fresh asked waits = newest StaysBelow rows (runs-below marks rows lawful is fresh asked waits)

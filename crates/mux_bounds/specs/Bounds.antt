@@ -18,7 +18,7 @@ use Rattle.mux_history.specs.Promises.{IsCut, Throughout, WaitsAt}
 use Rattle.mux_history.specs.Wires.{ReadsWhenAsked, reads}
 use Rattle.mux_history.specs.Right.{AreFresh}
 use Rattle.mux_history.specs.Settings.{by_lists}
-use Rattle.mux_history.specs.Kept.{ForEach}
+use Rattle.mux_history.specs.Kept.{AtEach, ForEach}
 use Rattle.mux_history.specs.Laws.{OverRight}
 
 -- how many bytes payloads are as frames
@@ -117,23 +117,25 @@ ReadsWithRoom setting before mark = reads mark ≡ true → waiting_up setting b
 abbrev pub longest_server_queue : ℕ
 longest_server_queue = 8388608
 
--- then less than that wait for it ever: no more than where reading stops, and one mark
+-- less than that wait for it: no more than where reading stops, and one mark
 pub record StaysBelow (rows : List Row) : Type 0 where
   pub within : length (pending 0 rows) ≤ READING_STOPS_AT + longest_mark
   pub below : length (pending 0 rows) < longest_server_queue
 
+-- then so much waits for it at no row, so neither at any mark, whose log is that up to some row
 abbrev pub ServerQueueIsBounded : Type 0
 ServerQueueIsBounded =
-    OverJournals (λ setting marks rows. Throughout (ReadsWithRoom setting) marks → StaysBelow rows)
+    OverJournals (λ setting marks rows. Throughout (ReadsWithRoom setting) marks
+    → AtEach StaysBelow rows)
 
 -- ---- all marks of a wire
 
 -- where what is read and accepted comes right behind a wait for it, as every wire keeps it, and where each wait keeps
--- what a run promises of it, so much waits for the server at no mark
+-- what a run promises of it, so much waits for the server at no row
 abbrev pub RunsAreBounded : Type 0
 RunsAreBounded =
     OverJournals (λ setting marks rows. Throughout ReadsWhenAsked marks
-    → Throughout (WaitsAt setting) marks → StaysBelow rows)
+    → Throughout (WaitsAt setting) marks → AtEach StaysBelow rows)
 
 -- ---- bytes that are not cut yet
 

@@ -2,9 +2,9 @@
 -- wire, whatever numbers are picked and whatever the house replies.
 use Rattle.std.specs.Prelude.{ℕ, ◌+◌, ◌≡◌, ◌≤◌, List, [], false, length}
 use Rattle.mux_history.specs.declared.limits.TheConstants.{MAX_CHANNELS, MAX_CLIENTS, MAX_FORWARDINGS, MAX_GLOBAL_REQUESTS}
-use Rattle.mux_history.specs.Rows.{Row, rows_of}
+use Rattle.mux_history.specs.Rows.{Row, rows_of, is_lost}
 use Rattle.mux_history.specs.Channels.{held_of}
-use Rattle.mux_history.specs.Requests.{asks, replies}
+use Rattle.mux_history.specs.Requests.{asks, replies, unanswered_asks}
 use Rattle.mux_history.specs.Forwardings.{current}
 use Rattle.mux_history.specs.Farewell.{has_open_matters}
 use Rattle.mux_history.specs.Log.{open_matters}
@@ -18,11 +18,13 @@ pub record HasNothing (own : List Row) : Type 0 where
   pub requests : length (asks own) ≤ length (replies own)
   pub forwardings : current own ≡ []
 
--- an admitted client whose matters are closed has nothing left
+-- nothing is left of an admitted client whose matters are closed
+abbrev pub LeavesNothing : List Row → Type 0
+LeavesNothing rows = (k : ℕ) → IsAdmitted k rows → has_open_matters (rows_of k rows) ≡ false
+    → HasNothing (rows_of k rows)
+
 abbrev pub NothingIsLeft : Type 0
-NothingIsLeft =
-    OverRight (λ setting rows. (k : ℕ) → IsAdmitted k rows → has_open_matters (rows_of k rows)
-    ≡ false → HasNothing (rows_of k rows))
+NothingIsLeft = OverRight (λ setting rows. AtEach LeavesNothing rows)
 
 -- a client holds at most 256 channels
 abbrev pub ChannelsBounded : List Row → Type 0
@@ -45,6 +47,15 @@ RequestsBounded rows = (k : ℕ)
 
 abbrev pub RequestsAreFew : Type 0
 RequestsAreFew = OverRight (λ setting rows. AtEach RequestsBounded rows)
+
+-- at most 1,024 global requests of a client that is not lost have no answer, those among them that
+-- were refused and wait behind one that was sent
+abbrev pub UnansweredBounded : List Row → Type 0
+UnansweredBounded rows = (k : ℕ) → is_lost (rows_of k rows) ≡ false
+    → unanswered_asks (rows_of k rows) ≤ MAX_GLOBAL_REQUESTS
+
+abbrev pub UnansweredAreFew : Type 0
+UnansweredAreFew = OverRight (λ setting rows. AtEach UnansweredBounded rows)
 
 -- at most 64 clients have open matters
 abbrev pub MattersBounded : List Row → Type 0

@@ -1,10 +1,11 @@
 ghost use Rattle.std.specs.Prelude.{◌≡◌};
 ghost use Rattle.mux_bounds.specs.Awaited.{RepliesAreAwaited};
-ghost use Rattle.mux_bounds.specs.Few.{NothingIsLeft, ChannelsAreFew, ForwardingsAreFew, RequestsAreFew, ClientsAreFew};
+ghost use Rattle.mux_bounds.specs.Few.{NothingIsLeft, ChannelsAreFew, ForwardingsAreFew, RequestsAreFew, UnansweredAreFew, ClientsAreFew};
 ghost use Rattle.mux_bounds.specs.Bounds.{CancelsAreShort, FarewellsAreShort, longest_cancel, longest_farewell, longest_farewells};
 ghost use Rattle.mux_bounds.specs.Bounds.{RowsAddLittle, MarksAddLittle, ServerQueueIsBounded, RunsAreBounded, RestsAreShort};
 
-/// A client whose matters are closed has no channel, no request without a reply and no forwarding left.
+/// At no row has a client whose matters are closed a channel, a request without a reply or a
+/// forwarding.
 pub fn nothing_is_left()
     ensures { NothingIsLeft }
 {}
@@ -24,6 +25,12 @@ pub fn requests_are_few()
     ensures { RequestsAreFew }
 {}
 
+/// At no row have more than 1,024 global requests of a client that is not lost no answer, those
+/// among them that were refused and wait behind one that was sent.
+pub fn unanswered_are_few()
+    ensures { UnansweredAreFew }
+{}
+
 /// At no row do more than 64 clients have open matters.
 pub fn clients_are_few()
     ensures { ClientsAreFew }
@@ -35,8 +42,8 @@ pub fn replies_are_awaited()
     ensures { RepliesAreAwaited }
 {}
 
-/// A cancel of a key that may be asked for is at most 308 bytes as a frame, a farewell 28,928, and those of
-/// all clients 1,851,392.
+/// A cancel of a key that may be asked for is at most 308 bytes as a frame, a farewell 28,928, and
+/// those of all clients 1,851,392.
 pub fn farewells_are_short()
     ensures cancel { CancelsAreShort }
     ensures of_a_cancel { longest_cancel ≡ 308 }
@@ -56,14 +63,14 @@ pub fn marks_add_little()
     ensures { MarksAddLittle }
 {}
 
-/// Where bytes are read and clients accepted only while less than 4,194,304 bytes wait for the server,
-/// less than 8,388,608 bytes wait for it ever.
+/// Where bytes are read and clients accepted only while less than 4,194,304 bytes wait for the
+/// server, less than 8,388,608 bytes wait for it at every row.
 pub fn server_queue_is_bounded()
     ensures { ServerQueueIsBounded }
 {}
 
-/// Over any wire, which reads and accepts only right behind a wait for that, and where each wait keeps
-/// what a run promises of it, less than 8,388,608 bytes wait for the server ever.
+/// Over any wire, which reads and accepts only right behind a wait for that, and where each wait
+/// keeps what a run promises of it, less than 8,388,608 bytes wait for the server at every row.
 pub fn runs_are_bounded()
     ensures { RunsAreBounded }
 {}

@@ -8,5 +8,5 @@ mod laws;
 pub use laws::{
     channels_are_few, clients_are_few, farewells_are_short, forwardings_are_few, marks_add_little,
     nothing_is_left, replies_are_awaited, requests_are_few, rests_are_short, rows_add_little,
-    runs_are_bounded, server_queue_is_bounded,
+    runs_are_bounded, server_queue_is_bounded, unanswered_are_few,
 };

@@ -1,6 +1,6 @@
 -- Runs over any wire are bounded.
-use Rattle.mux_bounds.proofs.WireRuns.{runs-bounded}
+use Rattle.mux_bounds.proofs.WireRuns.{runs-below}
 use Rattle.mux_bounds.proofs.laws.runs_are_bounded.Goals as goal
 
 pub returns : goal.returns
-returns c = runs-bounded
+returns c = runs-below
