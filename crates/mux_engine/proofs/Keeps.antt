@@ -21,12 +21,13 @@ use Rattle.mux_isolation.proofs.Replied.{askers-served}
 use Rattle.mux_isolation.proofs.Told.{downs-allowed}
 use Rattle.mux_bounds.specs.Bounds.{IsLog, RestsShort}
 use Rattle.mux_bounds.proofs.Asked.{requests-bounded}
-use Rattle.mux_bounds.proofs.Closed.{nothing-left}
+use Rattle.mux_bounds.proofs.Closed.{leaves-nothing}
 use Rattle.mux_bounds.proofs.Few.{channels-bounded}
 use Rattle.mux_bounds.proofs.Lengths.{rest-few}
 use Rattle.mux_bounds.proofs.Matters.{matters-bounded}
 use Rattle.mux_bounds.proofs.Offers.{forwardings-bounded}
-use Rattle.mux_bounds.proofs.WireRuns.{runs-bounded}
+use Rattle.mux_bounds.proofs.Unanswered.{unanswered-bounded}
+use Rattle.mux_bounds.proofs.WireRuns.{runs-below}
 use Rattle.mux_engine.specs.Run.{IsOfWire, KeepsRows}
 
 module _ (policy : Policy) (pid : ℕ) (picks : List ℕ) (given : List HouseReply) where
@@ -50,10 +51,11 @@ module _ (policy : Policy) (pid : ℕ) (picks : List ℕ) (given : List HouseRep
         channels = channels-bounded policy pid rows known;
         forwardings = forwardings-bounded policy pid rows known;
         requests = requests-bounded policy pid rows known;
+        unanswered = unanswered-bounded policy pid rows known;
         clients = matters-bounded policy pid rows known;
-        nothing_left = nothing-left policy pid rows known;
+        nothing_left = leaves-nothing policy pid rows known;
         client_queues = queues-bounded policy pid rows known;
-        server_queue = runs-bounded policy pid picks given journal rows wire.lawful is right.fresh wire.asked waits;
+        server_queue = runs-below policy pid picks given journal rows wire.lawful is right.fresh wire.asked waits;
       }
 
   -- the log of a journal, whole or cut

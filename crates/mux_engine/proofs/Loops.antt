@@ -28,7 +28,7 @@ use Rattle.mux_engine.specs.Serving.{IsSound, IsUnseen, Serving, is_open}
 use Rattle.mux_engine.proofs.Lists.{among-here, among-less, among-open, apart-or-left, either, here-open, none-without, or-true, test-other, true-false, without-other}
 use Rattle.mux_engine.proofs.Logs.{out-more}
 use Rattle.mux_engine.proofs.Marks.{log-is}
-use Rattle.mux_engine.proofs.Offers.{AtStream, at-stream, narrower, serve-todo}
+use Rattle.mux_engine.proofs.Offers.{AtStream, at-stream, narrower, serve-todo, serve-with}
 use Rattle.mux_engine.proofs.Taken.{here-less}
 
 -- ---- offers of one stream
@@ -245,28 +245,9 @@ first-none (l ∷ ls) e = absurd (cc)
 
 -- ---- clients are accepted no more
 
-unfoldable pub serve-hushed : {May : HouseReply → Type 0} {before now : Option (List Asked)} {policy : Policy} {pid : ℕ} {start : Option (List Mark)} {seen : Seen} {held : List ℕ} {given : ℕ} {todo : List ℕ} {s : State} (v : Serving May before now policy pid start seen held given todo s)
+pub serve-hushed : {May : HouseReply → Type 0} {before now : Option (List Asked)} {policy : Policy} {pid : ℕ} {start : Option (List Mark)} {seen : Seen} {held : List ℕ} {given : ℕ} {todo : List ℕ} {s : State} (v : Serving May before now policy pid start seen held given todo s)
     → s.listening ≡ false → Serving May before now policy pid start (record seen { listens = false }) held given todo s
-serve-hushed v none = record {
-  journal = v.journal;
-  closed = v.closed;
-  picked = v.picked;
-  replies = v.replies;
-  policy_is = v.policy_is;
-  pid_is = v.pid_is;
-  may = v.may;
-  stands = v.stands;
-  house = v.house;
-  tells = v.tells;
-  of_wire = v.of_wire;
-  waits = v.waits;
-  open_are = v.open_are;
-  held_is = v.held_is;
-  blocked_is = v.blocked_is;
-  unseen = v.unseen;
-  hears = λ l. true-false (sym l ∙ none);
-  sound = v.sound;
-}
+serve-hushed {todo = todo} v none = serve-with v false todo (λ l. true-false (sym l ∙ none)) (λ t a. inl a)
 
 -- ---- where nothing waits
 

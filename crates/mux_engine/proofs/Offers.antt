@@ -239,11 +239,13 @@ cut-starved {now = now} {seen = seen} {given = given} v seen' k bytes e =
 
 -- ---- a stream for which nothing is to be written now
 
--- other streams are to be offered what waits for them, where those that are not were so before or are settled
-pub serve-todo : {May : HouseReply → Type 0} {before now : Option (List Asked)} {policy : Policy} {pid : ℕ} {start : Option (List Mark)} {seen : Seen} {held : List ℕ} {given : ℕ} {todo : List ℕ} {s : State} (v : Serving May before now policy pid start seen held given todo s) (todo' : List ℕ)
+-- clients may be accepted no more where the engine wants none; and other streams are to be offered what waits for them, where
+-- those that are not were so before or are settled
+pub serve-with : {May : HouseReply → Type 0} {before now : Option (List Asked)} {policy : Policy} {pid : ℕ} {start : Option (List Mark)} {seen : Seen} {held : List ℕ} {given : ℕ} {todo : List ℕ} {s : State} (v : Serving May before now policy pid start seen held given todo s) (listens : Bool) (todo' : List ℕ)
+    → (s.listening ≡ true → listens ≡ true)
     → ((t : ℕ) → among t todo' ≡ false → (among t todo ≡ false) ⊎ ((picks : List ℕ) (later : List HouseReply) → IsSettled (by_lists policy pid (v.picked ++ picks) (v.replies ++ later)) v.journal t))
-    → Serving May before now policy pid start seen held given todo' s
-serve-todo {May} {before} {now} {policy} {pid} {start} {seen} {held} {given} {todo} {s} v todo' h = record {
+    → Serving May before now policy pid start (record seen { listens = listens }) held given todo' s
+serve-with {May} {before} {now} {policy} {pid} {start} {seen} {held} {given} {todo} {s} v listens todo' hears h = record {
   journal = v.journal;
   closed = v.closed;
   picked = v.picked;
@@ -260,10 +262,15 @@ serve-todo {May} {before} {now} {policy} {pid} {start} {seen} {held} {given} {to
   held_is = v.held_is;
   blocked_is = v.blocked_is;
   unseen = v.unseen;
-  hears = v.hears;
+  hears = hears;
   sound = λ picks later. let old : IsSound (by_lists policy pid (v.picked ++ picks) (v.replies ++ later)) v.journal todo s = v.sound picks later in
       record { kept = old.kept; failed_out = old.failed_out; settled = λ t a. elim (h t a) [ inl b ↦ old.settled t b | inr d ↦ d picks later ] };
 }
+
+pub serve-todo : {May : HouseReply → Type 0} {before now : Option (List Asked)} {policy : Policy} {pid : ℕ} {start : Option (List Mark)} {seen : Seen} {held : List ℕ} {given : ℕ} {todo : List ℕ} {s : State} (v : Serving May before now policy pid start seen held given todo s) (todo' : List ℕ)
+    → ((t : ℕ) → among t todo' ≡ false → (among t todo ≡ false) ⊎ ((picks : List ℕ) (later : List HouseReply) → IsSettled (by_lists policy pid (v.picked ++ picks) (v.replies ++ later)) v.journal t))
+    → Serving May before now policy pid start seen held given todo' s
+serve-todo {seen = seen} v todo' h = serve-with v seen.listens todo' v.hears h
 
 -- nothing waits for it
 pub nothing-left : {May : HouseReply → Type 0} {before now : Option (List Asked)} {policy : Policy} {pid : ℕ} {start : Option (List Mark)} {seen : Seen} {held : List ℕ} {given : ℕ} {todo : List ℕ} {s : State} (v : Serving May before now policy pid start seen held given todo s) (k : ℕ) (bytes : List ℕ)

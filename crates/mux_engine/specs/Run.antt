@@ -1,14 +1,13 @@
 -- What is promised of a whole run.
-use Rattle.std.specs.Prelude.{◌≡◌, ◌≢◌, ◌≤◌, ◌<◌, ℕ, false, List, ◌++◌, length, Option}
+use Rattle.std.specs.Prelude.{◌≡◌, ◌≢◌, ◌≤◌, ◌<◌, ℕ, List, ◌++◌, length, Option}
 use Rattle.mux_outside.specs.House.{Asked}
 use Rattle.mux_outside.specs.declared.house.HouseReply.{HouseReply}
 use Rattle.mux_outside.specs.declared.mark.Mark.{Mark}
 use Rattle.mux_history.specs.declared.ended.Ended.{Ended}
 use Rattle.mux_history.specs.declared.ended.Ended.TheVariants.{OutOfMemory}
 use Rattle.mux_history.specs.Policy.{Policy}
-use Rattle.mux_history.specs.Rows.{Row, rows_of}
+use Rattle.mux_history.specs.Rows.{Row}
 use Rattle.mux_history.specs.Choices.{numbers_taken, replies_given}
-use Rattle.mux_history.specs.Farewell.{has_open_matters}
 use Rattle.mux_history.specs.Pending.{given_to}
 use Rattle.mux_history.specs.Log.{Setting}
 use Rattle.mux_history.specs.Settings.{by_lists}
@@ -21,7 +20,7 @@ use Rattle.mux_history.specs.Wires.{ReadsWhenAsked}
 use Rattle.mux_isolation.specs.Bytes.{GivesAlike}
 use Rattle.mux_isolation.specs.Laws.{WaitsBounded}
 use Rattle.mux_bounds.specs.Bounds.{IsLog, RestsShort, StaysBelow}
-use Rattle.mux_bounds.specs.Few.{ChannelsBounded, ForwardingsBounded, HasNothing, MattersBounded, RequestsBounded}
+use Rattle.mux_bounds.specs.Few.{ChannelsBounded, ForwardingsBounded, LeavesNothing, MattersBounded, RequestsBounded, UnansweredBounded}
 use Rattle.mux_clients.specs.Asked.{asked_of, TellsAsks}
 
 -- a journal that a wire can give: it is lawful, and the wire read and accepted only right behind a wait for that
@@ -41,13 +40,10 @@ TakesUnshared setting journal rows =
     (k : ℕ) → 0 < k → IsAdmitted k rows
     → IsFront (taken_by k journal) (given_to k (solo setting k rows))
 
--- nothing is left of an admitted client whose matters are closed
-abbrev pub LeavesNothing : List Row → Type 0
-LeavesNothing rows = (k : ℕ) → IsAdmitted k rows → has_open_matters (rows_of k rows) ≡ false
-    → HasNothing (rows_of k rows)
-
--- what is promised of rows: windows, permissions, askers, numbers and the unshared connection of each admitted client; byte
--- for byte it is given what that connection gives; the master's own words; the limits; and what waits for a client and for the server
+-- what is promised of rows: windows, permissions, askers, numbers and the unshared connection of each
+-- admitted client; byte for byte it is given what that connection gives; the master's own words; and at
+-- every row the limits, that nothing is left of a client whose matters are closed, and how much waits
+-- for a client and for the server
 pub record KeepsRows (setting : Setting) (rows : List Row) : Type 0 where
   pub kept : Kept setting rows
   pub gives : GivesAlike setting rows
@@ -55,10 +51,11 @@ pub record KeepsRows (setting : Setting) (rows : List Row) : Type 0 where
   pub channels : AtEach ChannelsBounded rows
   pub forwardings : AtEach ForwardingsBounded rows
   pub requests : AtEach RequestsBounded rows
+  pub unanswered : AtEach UnansweredBounded rows
   pub clients : AtEach MattersBounded rows
-  pub nothing_left : LeavesNothing rows
+  pub nothing_left : AtEach LeavesNothing rows
   pub client_queues : AtEach WaitsBounded rows
-  pub server_queue : StaysBelow rows
+  pub server_queue : AtEach StaysBelow rows
 
 -- The journal is what the wire told in this run, where it tells: one that a wire can give. There are numbers that were picked,
 -- and replies that the house may give, for which all is written and kept open as it must be. The rows are those of the whole

@@ -1,5 +1,5 @@
 -- What holds between an engine and its wire while it is served.
-use Rattle.std.specs.Prelude.{◌≡◌, ◌≤◌, ◌<◌, ◌⊎◌, ◌||◌, ◌==◌, ℕ, Bool, true, false, List, [], ◌∷◌, ◌++◌, length, Option, Some, None}
+use Rattle.std.specs.Prelude.{◌≡◌, ◌≤◌, ◌<◌, ◌⊎◌, ◌||◌, ◌==◌, ℕ, Bool, true, false, List, [], ◌∷◌, ◌++◌, length, Option, Some, None, Result, MatchResult}
 use Rattle.mux_outside.specs.Counts.{Rose}
 use Rattle.mux_outside.specs.House.{Asked}
 use Rattle.mux_outside.specs.Seen.{Seen}
@@ -126,6 +126,21 @@ pub record Promised (May : HouseReply → Type 0) (before now : Option (List Ask
   pub left : (picks : List ℕ) (given_later : List HouseReply)
       → IsLeft (by_lists policy pid (picked ++ picks) (replies ++ given_later)) journal
       (length picked) asks
+
+-- ---- going on
+
+-- whatever came before: a run that was served with `todo` still to be offered is served on with
+-- `rest`, or what was promised is left
+abbrev pub ServesOn :
+    {A E : Type 0} → Result A E → (HouseReply → Type 0) → Option (List Asked)
+    → Option (List Asked) → Seen → Seen → List ℕ → List ℕ → List ℕ → (A → List ℕ) → State → State
+    → Type 0
+ServesOn result May now now' seen seen' held held' todo rest s s' =
+    (before : Option (List Asked)) (policy : Policy) (pid : ℕ) (start : Option (List Mark))
+    (given : ℕ) → Serving May before now policy pid start seen held given todo s
+    → MatchResult result
+    (λ x. Serving May before now' policy pid start seen' held' given (rest x) s')
+    (λ e. Promised May before now' policy pid start seen'.told given)
 
 -- ---- the end
 

@@ -155,10 +155,11 @@ fn serve_new<W: Wire, H: House>(
     run(alloc, &mut engine, wire, house, turns)
 }
 
-/// Serves an open wire until the run ends, for so many turns at most: why it ended. It permits what the policy does, and tells
-/// the process id to clients that check. What the wire tells of this run is written and kept open as it must be, and ends as it
-/// must; the house is told each ask of its clients. It waits once for each turn, and writes nothing before. Behind a call that
-/// wanted memory none is made.
+/// Serves an open wire until the run ends, for so many turns at most: why it ended. It permits what
+/// the policy does, and tells the process id to clients that check. What the wire tells of this run
+/// is written and kept open as it must be, and ends as it must; the house is told each ask of its
+/// clients. It waits once for each turn, and writes nothing before. Behind a call that wanted
+/// memory none is made.
 pub fn serve<W: Wire, H: House>(
     alloc: Global,
     policy: Policy,

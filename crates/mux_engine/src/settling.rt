@@ -1,4 +1,4 @@
-ghost use Rattle.std.specs.Prelude.{[], ◌∷◌, ◌≡◌, ◌≢◌, ◌≤◌, ◌<◌, length, List, ℕ, true, false, OnOk, IfOk, MatchResult, if◌then◌else◌};
+ghost use Rattle.std.specs.Prelude.{[], ◌∷◌, ◌≡◌, ◌≢◌, ◌≤◌, ◌<◌, length, List, ℕ, true, false, OnOk, IfOk, if◌then◌else◌};
 ghost use Rattle.std.specs.declared.option.Option.{Option};
 ghost use Rattle.mux_outside.specs.House.{Asked as TheAsked};
 ghost use Rattle.mux_outside.specs.Streams.{among, without};
@@ -7,15 +7,15 @@ ghost use Rattle.mux_history.specs.Policy.{Policy as ThePolicy};
 ghost use Rattle.mux_machine.specs.Events.{here};
 ghost use Rattle.mux_machine.specs.State.{queue_in};
 ghost use Rattle.mux_engine.specs.Counted.{Counts};
-ghost use Rattle.mux_engine.specs.Serving.{IsServed, IsServedBut, Promised, Serving, StaysOrFails, is_open};
+ghost use Rattle.mux_engine.specs.Serving.{IsServed, IsServedBut, Serving, ServesOn, StaysOrFails, is_open};
 
 use crate::events::event_of_fault;
 use mux_machine::Engine;
 use mux_outside::{House, Streams, Wire, Wrote};
 use ssh_fields::OutOfMemory;
 
-// Offers a stream what waits for it, once: whether it took some and can be offered the rest. A client
-// whose stream fails leaves its farewell to the server, whose stream is offered that later.
+// Offers a stream what waits for it, once: whether it took some and can be offered the rest. A
+// client whose stream fails leaves its farewell to the server, whose stream is offered that later.
 fn offer_once<W: Wire, H: House>(
     engine: &mut Engine,
     wire: &mut W,
@@ -26,16 +26,10 @@ fn offer_once<W: Wire, H: House>(
     requires served { IsServed H.may (H.told house.old) (W.seen wire.old) held.old engine.old }
     requires stream_open { is_open engine.old stream ≡ true }
     requires free { among stream (W.seen wire.old).blocked ≡ false }
-    ensures serving { (before : Option (List TheAsked)) (policy : ThePolicy) (pid : ℕ)
-        (start : Option (List TheMark)) (given : ℕ) (todo : List ℕ) →
-        among 0 (stream ∷ todo) ≡ true →
-        Serving H.may before (H.told house.old) policy pid start (W.seen wire.old) held.old given
-        todo engine.old →
-        MatchResult result
-        (λ more. Serving H.may before (H.told house.new) policy pid start (W.seen wire.new) held.new
-        given (if more then stream ∷ todo else without stream todo) engine.new)
-        (λ e. Promised H.may before (H.told house.new) policy pid start
-        (W.seen wire.new).told given) }
+    ensures serving { (todo : List ℕ) → among 0 (stream ∷ todo) ≡ true →
+        ServesOn result H.may (H.told house.old) (H.told house.new) (W.seen wire.old)
+        (W.seen wire.new) held.old held.new todo
+        (λ more. if more then stream ∷ todo else without stream todo) engine.old engine.new }
     ensures streams { OnOk result (here engine.new ≡ here engine.old) }
     ensures less { IfOk result (λ more. more ≡ true →
         length (queue_in engine.new stream) < length (queue_in engine.old stream)) }
@@ -81,16 +75,9 @@ fn offer<W: Wire, H: House>(
 ) -> Result<(), OutOfMemory>
     requires served { IsServed H.may (H.told house.old) (W.seen wire.old) held.old engine.old }
     requires stream_open { is_open engine.old stream ≡ true }
-    ensures serving { (before : Option (List TheAsked)) (policy : ThePolicy) (pid : ℕ)
-        (start : Option (List TheMark)) (given : ℕ) (todo : List ℕ) →
-        among 0 (stream ∷ todo) ≡ true →
-        Serving H.may before (H.told house.old) policy pid start (W.seen wire.old) held.old given
-        (stream ∷ todo) engine.old →
-        MatchResult result
-        (λ done. Serving H.may before (H.told house.new) policy pid start (W.seen wire.new) held.new
-        given todo engine.new)
-        (λ e. Promised H.may before (H.told house.new) policy pid start
-        (W.seen wire.new).told given) }
+    ensures serving { (todo : List ℕ) → among 0 (stream ∷ todo) ≡ true →
+        ServesOn result H.may (H.told house.old) (H.told house.new) (W.seen wire.old)
+        (W.seen wire.new) held.old held.new (stream ∷ todo) (λ done. todo) engine.old engine.new }
     ensures streams { OnOk result (here engine.new ≡ here engine.old) }
     ensures ended { OnOk result (StaysOrFails engine.old.ended engine.new.ended
         (W.server_faults wire.old) (W.server_faults wire.new)) }
@@ -118,15 +105,9 @@ fn offer_clients<W: Wire, H: House>(
 ) -> Result<(), OutOfMemory>
     requires served { IsServedBut H.may (H.told house.old) (W.seen wire.old) held.old
         (0 ∷ here engine.old) engine.old }
-    ensures serving { (before : Option (List TheAsked)) (policy : ThePolicy) (pid : ℕ)
-        (start : Option (List TheMark)) (given : ℕ) →
-        Serving H.may before (H.told house.old) policy pid start (W.seen wire.old) held.old given
-        (0 ∷ here engine.old) engine.old →
-        MatchResult result
-        (λ done. Serving H.may before (H.told house.new) policy pid start (W.seen wire.new) held.new
-        given (0 ∷ []) engine.new)
-        (λ e. Promised H.may before (H.told house.new) policy pid start
-        (W.seen wire.new).told given) }
+    ensures serving { ServesOn result H.may (H.told house.old) (H.told house.new)
+        (W.seen wire.old) (W.seen wire.new) held.old held.new (0 ∷ here engine.old) (λ done. 0 ∷ [])
+        engine.old engine.new }
     ensures streams { OnOk result (here engine.new ≡ here engine.old) }
     ensures ended { OnOk result (engine.new.ended ≡ engine.old.ended) }
     ensures later { W.server_faults wire.old ≤ W.server_faults wire.new }
@@ -153,15 +134,9 @@ pub fn flush<W: Wire, H: House>(
 ) -> Result<(), OutOfMemory>
     requires served { IsServedBut H.may (H.told house.old) (W.seen wire.old) held.old
         (0 ∷ here engine.old) engine.old }
-    ensures serving { (before : Option (List TheAsked)) (policy : ThePolicy) (pid : ℕ)
-        (start : Option (List TheMark)) (given : ℕ) →
-        Serving H.may before (H.told house.old) policy pid start (W.seen wire.old) held.old given
-        (0 ∷ here engine.old) engine.old →
-        MatchResult result
-        (λ done. Serving H.may before (H.told house.new) policy pid start (W.seen wire.new) held.new
-        given [] engine.new)
-        (λ e. Promised H.may before (H.told house.new) policy pid start
-        (W.seen wire.new).told given) }
+    ensures serving { ServesOn result H.may (H.told house.old) (H.told house.new)
+        (W.seen wire.old) (W.seen wire.new) held.old held.new (0 ∷ here engine.old) (λ done. [])
+        engine.old engine.new }
     ensures streams { OnOk result (here engine.new ≡ here engine.old) }
     ensures ended { OnOk result (StaysOrFails engine.old.ended engine.new.ended
         (W.server_faults wire.old) (W.server_faults wire.new)) }
@@ -212,8 +187,8 @@ fn hush<W: Wire, H: House>(engine: &Engine, wire: &mut W)
     wire.stop_listening();
 }
 
-// Makes the wire ready for a turn: each stream is offered what waits for it, and the streams of lost
-// clients are closed.
+// Makes the wire ready for a turn: each stream is offered what waits for it, and the streams of
+// lost clients are closed.
 pub fn settle<W: Wire, H: House>(
     engine: &mut Engine,
     wire: &mut W,
@@ -223,15 +198,9 @@ pub fn settle<W: Wire, H: House>(
 ) -> Result<(), OutOfMemory>
     requires served { IsServedBut H.may (H.told house.old) (W.seen wire.old) held.old
         (0 ∷ here engine.old) engine.old }
-    ensures serving { (before : Option (List TheAsked)) (policy : ThePolicy) (pid : ℕ)
-        (start : Option (List TheMark)) (given : ℕ) →
-        Serving H.may before (H.told house.old) policy pid start (W.seen wire.old) held.old given
-        (0 ∷ here engine.old) engine.old →
-        MatchResult result
-        (λ done. Serving H.may before (H.told house.new) policy pid start (W.seen wire.new) held.new
-        given [] engine.new)
-        (λ e. Promised H.may before (H.told house.new) policy pid start
-        (W.seen wire.new).told given) }
+    ensures serving { ServesOn result H.may (H.told house.old) (H.told house.new)
+        (W.seen wire.old) (W.seen wire.new) held.old held.new (0 ∷ here engine.old) (λ done. [])
+        engine.old engine.new }
     ensures closed { OnOk result (engine.new.leaving ≡ []) }
     ensures refused { OnOk result (engine.new.refused ≡ []) }
     ensures hears { OnOk result ((W.seen wire.new).listens ≡ engine.new.listening) }

@@ -22,7 +22,7 @@ pub returns-in_err-offer_clients-clause-calls : goal.returns-in_err-offer_client
 returns-in_err-offer_clients-clause-calls g c = counts-err c.from_residual.result 0 _ _ c.from_residual.ensures.0 c.in_err-offer_clients.ensures.calls
 
 pub returns-clause-serving : goal.returns-clause-serving
-returns-clause-serving g c before policy pid start given v = c.offer.ensures.serving before policy pid start given [] refl (c.in_ok-offer_clients.ensures.serving before policy pid start given v)
+returns-clause-serving g c before policy pid start given v = c.offer.ensures.serving [] refl before policy pid start given (c.in_ok-offer_clients.ensures.serving before policy pid start given v)
 
 pub returns-clause-streams : goal.returns-clause-streams
 returns-clause-streams g c = on-ok c.offer.result (λ e. e ∙ c.in_ok-offer_clients.ensures.streams) c.offer.ensures.streams

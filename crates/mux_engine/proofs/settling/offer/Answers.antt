@@ -36,8 +36,8 @@ offer_once-requires-clause-stream_open g c = same-open c.args.engine.now c.loop.
 -- ---- want of memory
 
 pub returns-in_err-offer_once-clause-serving : goal.returns-in_err-offer_once-clause-serving
-returns-in_err-offer_once-clause-serving g c before policy pid start given todo zero v = on-err c.from_residual.result _ _ c.from_residual.ensures.0
-    (c.in_err-offer_once.ensures.serving before policy pid start given (c.args.stream ∷ todo) (twice-among c.args.stream todo zero) (c.loop.invariant.serving before policy pid start given todo zero v))
+returns-in_err-offer_once-clause-serving g c todo zero before policy pid start given v = on-err c.from_residual.result _ _ c.from_residual.ensures.0
+    (c.in_err-offer_once.ensures.serving (c.args.stream ∷ todo) (twice-among c.args.stream todo zero) before policy pid start given (c.loop.invariant.serving before policy pid start given todo zero v))
 
 pub returns-in_err-offer_once-clause-later : goal.returns-in_err-offer_once-clause-later
 returns-in_err-offer_once-clause-later g c = le_trans c.loop.invariant.later c.offer_once.ensures.later
@@ -49,7 +49,7 @@ returns-in_err-offer_once-clause-calls g c = counts-err c.from_residual.result 0
 
 pub loop-preserved : goal.loop-preserved
 loop-preserved g c = record {
-  serving = λ before policy pid start given todo zero v. on-more c.args.stream todo _ c.if-branch.true (c.in_ok-offer_once.ensures.serving before policy pid start given (c.args.stream ∷ todo) (twice-among c.args.stream todo zero) (c.loop.invariant.serving before policy pid start given todo zero v));
+  serving = λ before policy pid start given todo zero v. on-more c.args.stream todo _ c.if-branch.true (c.in_ok-offer_once.ensures.serving (c.args.stream ∷ todo) (twice-among c.args.stream todo zero) before policy pid start given (c.loop.invariant.serving before policy pid start given todo zero v));
   streams = c.in_ok-offer_once.ensures.streams ∙ c.loop.invariant.streams;
   free = c.in_ok-offer_once.ensures.free c.if-branch.true;
   ended = then-stays-or-fails _ _ _ _ _ _ c.loop.invariant.ended c.in_ok-offer_once.ensures.ended;
@@ -63,7 +63,7 @@ loop-preserved g c = record {
 -- ---- the end
 
 pub returns-clause-serving : goal.returns-clause-serving
-returns-clause-serving g c before policy pid start given todo zero v = on-done c.args.stream todo _ c.if-branch.false (c.in_ok-offer_once.ensures.serving before policy pid start given (c.args.stream ∷ todo) (twice-among c.args.stream todo zero) (c.loop.invariant.serving before policy pid start given todo zero v))
+returns-clause-serving g c todo zero before policy pid start given v = on-done c.args.stream todo _ c.if-branch.false (c.in_ok-offer_once.ensures.serving (c.args.stream ∷ todo) (twice-among c.args.stream todo zero) before policy pid start given (c.loop.invariant.serving before policy pid start given todo zero v))
 
 pub returns-clause-ended : goal.returns-clause-ended
 returns-clause-ended g c = then-stays-or-fails _ _ _ _ _ _ c.loop.invariant.ended c.in_ok-offer_once.ensures.ended
@@ -80,7 +80,7 @@ returns-clause-calls g c = well-then _ _ _ c.loop.invariant.calls c.in_ok-offer_
 -- ---- the stream is blocked
 
 pub returns-then-contains-clause-serving : goal.returns-then-contains-clause-serving
-returns-then-contains-clause-serving g c before policy pid start given todo zero v = held-back c.args.stream v c.requires.stream_open (sym c.if-contains.ensures)
+returns-then-contains-clause-serving g c todo zero before policy pid start given v = held-back c.args.stream v c.requires.stream_open (sym c.if-contains.ensures)
 
 pub returns-then-contains-clause-ended : goal.returns-then-contains-clause-ended
 returns-then-contains-clause-ended g c = stays _ _ _ _ refl refl

@@ -47,7 +47,7 @@ pub returns-in_err-offer-clause-serving : goal.returns-in_err-offer-clause-servi
 returns-in_err-offer-clause-serving g c before policy pid start given v =
     let items : List ℕ = c.as_slice-stream-items.result.now in let i : ℕ = c.loop-stream.stream-index in
     on-err c.from_residual-in_err-offer.result _ _ c.from_residual-in_err-offer.ensures.0
-    (c.in_err-offer.ensures.serving before policy pid start given (0 ∷ drop (i + 1) items) (zero-among (get_or items i 0) (drop (i + 1) items))
+    (c.in_err-offer.ensures.serving (0 ∷ drop (i + 1) items) (zero-among (get_or items i 0) (drop (i + 1) items)) before policy pid start given
     (next-first (drop i items) (get_or items i 0) (drop (i + 1) items) (drop-next i items (omega arith)) (c.loop-stream.invariant.serving before policy pid start given v)))
 
 pub returns-in_err-offer-clause-later : goal.returns-in_err-offer-clause-later
@@ -62,7 +62,7 @@ loop-stream-preserved g c =
     let k : ℕ = get_or items i 0 in
     let nz : k ≢ 0 = λ e. true-false (sym (element-among i items (omega arith)) ∙ (ap (λ j. among j items) e ∙ c.loop-stream.invariant.apart)) in
     record {
-      serving = λ before policy pid start given v. c.in_ok-offer.ensures.serving before policy pid start given (0 ∷ drop (i + 1) items) (zero-among k (drop (i + 1) items))
+      serving = λ before policy pid start given v. c.in_ok-offer.ensures.serving (0 ∷ drop (i + 1) items) (zero-among k (drop (i + 1) items)) before policy pid start given
           (next-first (drop i items) k (drop (i + 1) items) (drop-next i items (omega arith)) (c.loop-stream.invariant.serving before policy pid start given v));
       streams = c.in_ok-offer.ensures.streams ∙ c.loop-stream.invariant.streams;
       opened = c.loop-stream.invariant.opened;

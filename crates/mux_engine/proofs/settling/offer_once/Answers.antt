@@ -16,7 +16,7 @@ use Rattle.mux_engine.proofs.settling.offer_once.Given as given_to
 use Rattle.mux_engine.proofs.settling.offer_once.Goals as goal
 
 pub returns-then-is_empty-clause-serving : goal.returns-then-is_empty-clause-serving
-returns-then-is_empty-clause-serving g c before policy pid start given todo zero v =
+returns-then-is_empty-clause-serving g c todo zero before policy pid start given v =
     nothing-left v c.args.stream c.queue_of-bytes.result.now (c.queue_of-bytes.ensures.waits v.picked v.replies v.journal v.closed v.stands (at-stream v.stands c.args.stream c.requires.stream_open).not_closed) (empty-is c.queue_of-bytes.result.now (sym c.if-is_empty.ensures))
 
 pub write-requires-clause-stream_open : goal.write-requires-clause-stream_open
@@ -25,7 +25,7 @@ write-requires-clause-stream_open g c = let w = c.requires.served in stream-open
 -- ---- bytes that were taken
 
 pub returns-in-Took-clause-serving : goal.returns-in-Took-clause-serving
-returns-in-Took-clause-serving g c before policy pid start given todo zero v =
+returns-in-Took-clause-serving g c todo zero before policy pid start given v =
     let s : State = c.args.engine.now in
     let k : ℕ = c.args.stream in
     let n : ℕ = c.in-Took.n in
@@ -68,7 +68,7 @@ returns-in-Took-clause-calls g c = subst (λ (x : Calls). Well 0 (g.W.Wire.calls
 -- ---- a stream that is blocked now
 
 pub returns-in_ok-push-in-Later-clause-serving : goal.returns-in_ok-push-in-Later-clause-serving
-returns-in_ok-push-in-Later-clause-serving g c before policy pid start given todo zero v =
+returns-in_ok-push-in-Later-clause-serving g c todo zero before policy pid start given v =
     let s : State = c.args.engine.now in
     let k : ℕ = c.args.stream in
     let bytes : List ℕ = c.queue_of-bytes.result.now in
@@ -79,7 +79,7 @@ returns-in_ok-push-in-Later-clause-serving g c before policy pid start given tod
     (next-holds v k bytes c.requires.stream_open c.queue_of-bytes.ensures.bytes (some-bytes c.queue_of-bytes.result.now (sym c.if-is_empty.ensures)))))
 
 pub returns-in_err-push-in-Later-clause-serving : goal.returns-in_err-push-in-Later-clause-serving
-returns-in_err-push-in-Later-clause-serving g c before policy pid start given todo zero v = on-err c.from_residual.result _ _ c.from_residual.ensures.0
+returns-in_err-push-in-Later-clause-serving g c todo zero before policy pid start given v = on-err c.from_residual.result _ _ c.from_residual.ensures.0
     (cut-holds v _ c.args.stream c.queue_of-bytes.result.now c.requires.stream_open c.queue_of-bytes.ensures.bytes (some-bytes c.queue_of-bytes.result.now (sym c.if-is_empty.ensures)) c.in-Later.ensures.seen)
 
 -- ---- a stream that failed
@@ -91,7 +91,7 @@ failed g c =
     (c.in_ok-event-in-Failed.ensures.ends (WriteFails c.args.stream) c.event_of_fault.ensures.write w.picked w.replies w.journal w.closed w.stands (at-stream w.stands c.args.stream c.requires.stream_open).accepted)
 
 pub returns-in_ok-event-in-Failed-clause-serving : goal.returns-in_ok-event-in-Failed-clause-serving
-returns-in_ok-event-in-Failed-clause-serving g c before policy pid start given todo zero v =
+returns-in_ok-event-in-Failed-clause-serving g c todo zero before policy pid start given v =
     let s : State = c.args.engine.now in
     let k : ℕ = c.args.stream in
     let bytes : List ℕ = c.queue_of-bytes.result.now in
@@ -103,7 +103,7 @@ returns-in_ok-event-in-Failed-clause-serving g c before policy pid start given t
     (next-fails v k bytes on c.requires.stream_open c.queue_of-bytes.ensures.bytes (some-bytes c.queue_of-bytes.result.now (sym c.if-is_empty.ensures)) zero f.policy f.pid f.streams f.live f.over))
 
 pub returns-in_err-event-in-Failed-clause-serving : goal.returns-in_err-event-in-Failed-clause-serving
-returns-in_err-event-in-Failed-clause-serving g c before policy pid start given todo zero v = on-err c.from_residual-in_err-event-in-Failed.result _ _ c.from_residual-in_err-event-in-Failed.ensures.0
+returns-in_err-event-in-Failed-clause-serving g c todo zero before policy pid start given v = on-err c.from_residual-in_err-event-in-Failed.result _ _ c.from_residual-in_err-event-in-Failed.ensures.0
     (cut-fails v _ _ c.args.stream c.queue_of-bytes.result.now c.requires.stream_open c.queue_of-bytes.ensures.bytes (some-bytes c.queue_of-bytes.result.now (sym c.if-is_empty.ensures)) c.in-Failed.ensures.seen c.event.ensures.asks)
 
 pub returns-in_ok-event-in-Failed-clause-streams : goal.returns-in_ok-event-in-Failed-clause-streams
@@ -127,7 +127,7 @@ returns-in_ok-event-in-Failed-clause-calls g c = subst (λ (x : Calls). Well 0 (
 -- ---- no memory for the write
 
 pub returns-in-NoMemory-clause-serving : goal.returns-in-NoMemory-clause-serving
-returns-in-NoMemory-clause-serving g c before policy pid start given todo zero v = cut-starved v _ c.args.stream c.queue_of-bytes.result.now c.in-NoMemory.ensures.seen
+returns-in-NoMemory-clause-serving g c todo zero before policy pid start given v = cut-starved v _ c.args.stream c.queue_of-bytes.result.now c.in-NoMemory.ensures.seen
 
 -- ---- where nothing waits
 
