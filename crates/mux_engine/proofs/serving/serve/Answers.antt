@@ -2,7 +2,7 @@ use Rattle.std.proofs.Common.{refl}
 use Rattle.mux_engine.proofs.Arms.{on-err}
 use Rattle.mux_engine.proofs.Counting.{cut-none, same-faults, stops-cut}
 use Rattle.mux_engine.proofs.Runs.{ends-starved, starts, starts-starved}
-use Rattle.mux_engine.proofs.serving.serve_new.Goals as goal
+use Rattle.mux_engine.proofs.serving.serve.Goals as goal
 
 pub returns-in_err-engine-clause-kept : goal.returns-in_err-engine-clause-kept
 returns-in_err-engine-clause-kept g c =
