@@ -6,7 +6,7 @@ use Rattle.forward_rules.specs.Allows.{read_policy}
 use Rattle.mux_engine.specs.Run.{IsRun}
 use Rattle.mux_history.specs.declared.ended.Ended.{Ended}
 use Rattle.mux_history.specs.declared.ended.Ended.TheVariants as ends
-use Rattle.mux_history.specs.Policy.{Policy, any_policy}
+use Rattle.mux_history.specs.Policy.{Entries, Policy}
 use Rattle.mux_outside.specs.Counts.{Rose, counted}
 use Rattle.mux_outside.specs.House.{Asked}
 use Rattle.mux_outside.specs.declared.house.HouseReply.{HouseReply}
@@ -61,16 +61,20 @@ OpensOnce known status before now = now ≡ before
 
 -- ---- the run
 
--- the policy of permissions; those of words that were read always have one
+-- nothing is permitted
+abbrev pub no_policy : Policy
+no_policy = record { opens = Entries []; listens = Entries [] }
+
+-- the policy of permissions: one that does not read permits nothing
 abbrev pub policy_of : List Bytes → List Bytes → Policy
 policy_of opens listens =
-    elim (read_policy opens listens) [ Ok policy ↦ policy | Err bad ↦ any_policy ]
+    elim (read_policy opens listens) [ Ok policy ↦ policy | Err bad ↦ no_policy ]
 
--- the policy of a master
+-- the policy of a master: what is none permits nothing
 abbrev pub policy_in : Known → Policy
 policy_in (Certain (Opens control transport opens listens)) = policy_of opens listens
 policy_in (Master transport opens listens) = policy_of opens listens
-policy_in known = any_policy
+policy_in known = no_policy
 
 -- how the end of a run is told
 abbrev pub told_as : Ended → Result Status MeantEnding

@@ -80,7 +80,7 @@ fn match_text(error: MatchError) -> &'static [u8]
     }
 }
 
-//// Why tokens have no expansion.
+/// Why tokens have no expansion.
 pub fn put_token_text(out: &mut Text, error: &TokenError) -> Result<(), OutOfMemory>
     ensures { OnOk result (out.new ≡ out.old ++ token_text error.now) }
 {

@@ -4,8 +4,8 @@ ghost use Rattle.ssh_mux.specs.Status.{code_of};
 /// How a run ended. The program's exit status is its `code`.
 #[derive(Clone, Copy, Debug, PartialEq, Eq)]
 pub enum Status {
-    /// The listing was written, or the server or a client ended the connection, whose summary a drill
-    /// has written.
+    /// The listing, or the summary of a drill, was written, or the server or a client ended the
+    /// connection.
     Done,
     /// The words have no reading.
     Usage,
