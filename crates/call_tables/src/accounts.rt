@@ -9,7 +9,8 @@ const FULL: u32 = 4_294_967_295;
 /// A message and its direction, the breach that it is, and both rooms after it, up and down.
 type Row = (Side, Act, Option<Breach>, u32, u32);
 
-/// After an open by the client of window 2,097,152 and maximum 32,768 that is confirmed with 5 and 32,768.
+/// After an open by the client of window 2,097,152 and maximum 32,768 that is confirmed with 5 and
+/// 32,768.
 const EDGES: [Row; 29] = [
     (Up, Data(5), None, 0, 2_097_152),
     (Up, Data(0), None, 0, 2_097_152),

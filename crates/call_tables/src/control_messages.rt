@@ -1,7 +1,7 @@
 use mux_messages::{BadControl, alive, failure, hello, ok, proxy, read_control, remote_port};
 
-/// A body with one byte too many behind it; the fault where its last byte is missing, and the fault with
-/// the byte too many. Where what follows the id isn't read, that byte is none.
+/// A body with one byte too many behind it; the fault where its last byte is missing, and the fault
+/// with the byte too many. Where what follows the id isn't read, that byte is none.
 const ROWS: [(&[u8], Option<BadControl>, Option<BadControl>); 12] = [
     (
         b"\x00\x00\x00\x01\x00\x00\x00\x04\xff",

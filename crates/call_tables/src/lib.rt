@@ -1,5 +1,6 @@
-//! Tables of single calls of the crates below: what each answers, byte for byte. It holds tests alone, and stands apart from the
-//! crates that it calls, since a crate with tests is proved once more for them.
+//! Tables of single calls of the crates below: what each answers, byte for byte. It holds tests
+//! alone, and stands apart from the crates that it calls, since a crate with tests is proved once
+//! more for them.
 #![tactic(auto)]
 
 #[cfg(test)]

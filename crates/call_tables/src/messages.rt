@@ -3,8 +3,8 @@ use conn_messages::{
     wanted,
 };
 
-/// A payload with one byte too many behind it; the fault where its last byte is missing, and the fault
-/// with the byte too many. Where its last field is data, neither is a fault.
+/// A payload with one byte too many behind it; the fault where its last byte is missing, and the
+/// fault with the byte too many. Where its last field is data, neither is a fault.
 const ROWS: [(&[u8], Option<Bad>, Option<Bad>); 27] = [
     (b"\x01\x00\x00\x00\x0b\xff", None, None),
     (b"\x02\xff", Some(Bad::Empty), None),

@@ -12,10 +12,10 @@
 //! open matters -> 1;
 //! ```
 //!
-//! Numbers before `says` and `is` are clients. Bytes are hexadecimal, or a text in quotes; white space counts nothing.
-//! `up` are the frames that go to the server. The call `256 times 1 says ..` is made so often, with `#` for the two
-//! digits of the count from 0 on, in the answer too. New channels get the numbers from 0 on, and first the one that was
-//! freed last.
+//! Numbers before `says` and `is` are clients. Bytes are hexadecimal, or a text in quotes; white
+//! space counts nothing. `up` are the frames that go to the server. The call `256 times 1 says ..`
+//! is made so often, with `#` for the two digits of the count from 0 on, in the answer too. New
+//! channels get the numbers from 0 on, and first the one that was freed last.
 
 ghost use Rattle.std.specs.Prelude.{◌≤◌, vec_len};
 

@@ -1,4 +1,5 @@
--- The table as one list of channels, in the order in which they began: its look-ups and its changes.
+-- The table as one list of channels, in the order in which they began: its look-ups and its
+-- changes.
 use Rattle.std.specs.Prelude.{◌≡◌, ◌<◌, ◌≤◌, ◌^◌, ℕ, ◌==◌, ◌&&◌, ◌||◌, Bool, true, false, not, nat_lt, List, [], ◌∷◌, length, filter, find, map, slice_get, Option, Some, None, is_some, option_map, Result, Ok, Err}
 use Rattle.std.specs.List.{AllByRecursion}
 use Rattle.ssh_grammar.specs.declared.side.Side.TheVariants.{Up, Down}
@@ -33,7 +34,8 @@ has_own k c e = (e.channel.client == k) && is_number e.channel.own c
 abbrev pub has_remote : (remote : ℕ) → Entry → Bool
 has_remote s e = is_number e.channel.remote s
 
--- its number stands for it towards the server: of a server's open only once the client has confirmed it
+-- its number stands for it towards the server: of a server's open only once the client has
+-- confirmed it
 abbrev pub is_shown : Channel → Bool
 is_shown c = is_up c.by || is_some c.own
 
@@ -193,7 +195,8 @@ pub record HasSmall (e : Entry) : Type 0 where
   pub own : (c : ℕ) → e.channel.own ≡ Some c → c < 2 ^ 32
   pub remote : (s : ℕ) → e.channel.remote ≡ Some s → s < 2 ^ 32
 
--- what holds of every table: no number names two channels, no client has more than 256, and each number is small
+-- what holds of every table: no number names two channels, no client has more than 256, and each
+-- number is small
 pub record AreSound (es : List Entry) : Type 0 where
   pub apart : AreApart es
   pub few : (k : ℕ) → count_of es k ≤ MAX_CHANNELS

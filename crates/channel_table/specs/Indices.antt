@@ -43,11 +43,13 @@ abbrev pub is_key : {Q : Type 0} → (Q → Q → Bool) → Option Q → Q → B
 is_key eq None q = false
 is_key eq (Some p) q = eq p q
 
--- the key (k, c) has the value n exactly where the list has a channel of client k with own number c and number n
+-- the key (k, c) has the value n exactly where the list has a channel of client k with own number c
+-- and number n
 abbrev pub IsOwnIndex : {S : Type 0} → IndexMap (ℕ × ℕ) ℕ S → List Entry → Type 0
 IsOwnIndex m es = (k c n : ℕ) → (get pair_eq m (k, c) ≡ Some n) ↔ (owner_at es n ≡ Some (k, c))
 
--- the key s has the value n exactly where the list has a channel with the server's number s and the number n
+-- the key s has the value n exactly where the list has a channel with the server's number s and the
+-- number n
 abbrev pub IsRemoteIndex : {S : Type 0} → IndexMap ℕ ℕ S → List Entry → Type 0
 IsRemoteIndex m es = (s n : ℕ) → (get nat_eq m s ≡ Some n) ↔ (remote_at es n ≡ Some s)
 
@@ -65,7 +67,8 @@ abbrev pub AreDistinct : List Entry → Type 0
 AreDistinct [] = Unit {0}
 AreDistinct (e ∷ es) = (entry_at es e.number ≡ None) × AreDistinct es
 
--- the indices agree with one list of channels, in which no client has too many and each number is small
+-- the indices agree with one list of channels, in which no client has too many and each number is
+-- small
 pub record Agrees {S T U : Type 0} (own : IndexMap (ℕ × ℕ) ℕ S) (remote : IndexMap ℕ ℕ T)
     (clients : IndexMap ℕ (List ℕ) U) (es : List Entry) : Type 0 where
   pub distinct : AreDistinct es

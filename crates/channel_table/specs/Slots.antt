@@ -1,4 +1,5 @@
--- The slots of a table: which channels they hold, in order of opening, and the links of the free ones.
+-- The slots of a table: which channels they hold, in order of opening, and the links of the free
+-- ones.
 use Rattle.std.specs.Prelude.{ℕ, ◌≡◌, ◌+◌, ◌<◌, ◌≤◌, ◌^◌, nat_lt, suc, zero, if◌then◌else◌, List, [], ◌∷◌, length, map, Option, Some, None, slice_get}
 use Rattle.channel_table.specs.declared.slots.Slot.{Slot}
 use Rattle.channel_table.specs.declared.slots.Slot.TheVariants.{Free, Held}
@@ -6,8 +7,8 @@ use Rattle.channel_table.specs.declared.slots.Opened.{Opened}
 use Rattle.mux_history.specs.declared.limits.TheConstants.{NUMBERS_END}
 use Rattle.channel_table.specs.Entries.{Entry}
 
--- what contracts see of the slots: the channels in order of opening, the front one of the free slots, and how
--- many channels were opened so far
+-- what contracts see of the slots: the channels in order of opening, the front one of the free
+-- slots, and how many channels were opened so far
 pub record SlotsState : Type 0 where
   pub entries : List Entry
   pub front : Option ℕ

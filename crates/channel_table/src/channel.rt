@@ -5,7 +5,8 @@ use ssh_fields::OutOfMemory;
 use ssh_grammar::Side;
 use thiserror::Error;
 
-/// A channel as its look-ups show it: its client, and the numbers that the two sides gave it (RFC 4254, section 5.1).
+/// A channel as its look-ups show it: its client, and the numbers that the two sides gave it (RFC
+/// 4254, section 5.1).
 #[derive(Clone, Copy, Debug, PartialEq, Eq)]
 pub struct Channel {
     pub client: u64,

@@ -5,7 +5,8 @@ use ssh_fields::OutOfMemory;
 use std::alloc::Global;
 use std::marker::Model;
 
-/// The numbers of a client's channels, in the order in which they began, with room for as many as it may have.
+/// The numbers of a client's channels, in the order in which they began, with room for as many as
+/// it may have.
 #[derive(Drop)]
 pub struct Numbers {
     numbers: Vec<u32>,

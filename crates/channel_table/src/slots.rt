@@ -63,7 +63,8 @@ impl Slots {
         }
     }
 
-    /// Makes sure that a slot is free. What the slots hold stays. Where 16,384 slots are held there is no room.
+    /// Makes sure that a slot is free. What the slots hold stays. Where 16,384 slots are held there
+    /// is no room.
     pub fn make_room(&mut self) -> Result<(), OutOfMemory>
         ensures ready { OnOk result (IsReady self.new) }
         ensures entries { self.new.entries ≡ self.old.entries }

@@ -15,7 +15,8 @@ use std::alloc::Global;
 use std::marker::Model;
 use window_ledger::Ledger;
 
-/// The channels of all clients that are held. Contracts see them as one list, in the order in which they began.
+/// The channels of all clients that are held. Contracts see them as one list, in the order in which
+/// they began.
 #[derive(Drop)]
 pub struct Table {
     slots: Slots,
@@ -55,8 +56,8 @@ impl Table {
         })
     }
 
-    /// A client has opened a channel: the number that stands for it from now on. Of two numbers that are free, the
-    /// one that was freed last is taken.
+    /// A client has opened a channel: the number that stands for it from now on. Of two numbers
+    /// that are free, the one that was freed last is taken.
     pub fn admit_own(&mut self, client: u64, own: u32, ledger: Ledger) -> Result<u32, Refused>
         ensures exact { RefusesAs result (own_refusal self.old client own) }
         ensures fresh { IfOk result (λ number. IsFree self.old number) }
@@ -106,8 +107,8 @@ impl Table {
         Ok(number)
     }
 
-    /// Takes in the client's own number, which a server's open lacks until its client confirms it. A number under
-    /// which no channel was admitted changes nothing.
+    /// Takes in the client's own number, which a server's open lacks until its client confirms it.
+    /// A number under which no channel was admitted changes nothing.
     pub fn set_own(&mut self, number: u32, own: u32) -> Result<(), Refused>
         ensures exact { SetsOwn self.old number own result }
         ensures ok { OnOk result (self.new ≡ changed_at number (with_own own) self.old) }
@@ -130,8 +131,8 @@ impl Table {
         Ok(())
     }
 
-    /// Takes in the server's number, which a client's open lacks until the server confirms it. A number under which
-    /// no channel was admitted changes nothing.
+    /// Takes in the server's number, which a client's open lacks until the server confirms it. A
+    /// number under which no channel was admitted changes nothing.
     pub fn set_remote(&mut self, number: u32, remote: u32) -> Result<(), Refused>
         ensures exact { SetsRemote self.old remote result }
         ensures ok { OnOk result (self.new ≡ changed_at number (with_remote remote) self.old) }
@@ -153,8 +154,8 @@ impl Table {
         Ok(())
     }
 
-    /// The channel for which a number stands towards the server. A server's open has none until its client confirms
-    /// it.
+    /// The channel for which a number stands towards the server. A server's open has none until its
+    /// client confirms it.
     pub fn by_number(&self, number: u32) -> Option<Channel>
         ensures channel { result ≡ channel_at self.now number }
         ensures sound { AreSound self.now }

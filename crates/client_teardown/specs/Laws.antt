@@ -27,8 +27,8 @@ channels_of k xs = filter (λ x. x.client == k) xs
 abbrev pub forwardings_of : ℕ → List Forwarding → List Forwarding
 forwardings_of k gs = filter (λ g. g.client == k) gs
 
--- wherever the tables stand for the channels and the forwardings of a history, a client's farewell is what the history
--- says for each of its channels, and then for each of its forwardings
+-- wherever the tables stand for the channels and the forwardings of a history, a client's farewell
+-- is what the history says for each of its channels, and then for each of its forwardings
 abbrev pub FarewellsAreTheHistorys : Type 0
 FarewellsAreTheHistorys =
     (k : ℕ) (es : List Entry) (xs : List Channel) (fs : List Forward) (gs : List Forwarding)
@@ -37,7 +37,8 @@ FarewellsAreTheHistorys =
     ≡ flat_map history.leave_channel (channels_of k xs)
     ++ flat_map history.leave_forwarding (forwardings_of k gs)
 
--- what a farewell makes of a channel: CLOSE is said in one that is confirmed, and a server's open that waits has failed
+-- what a farewell makes of a channel: CLOSE is said in one that is confirmed, and a server's open
+-- that waits has failed
 abbrev pub left : Channel → Channel
 left x = elim (is_confirmed x) [
   | true ↦ elim (any_by Up is_closes x.acts) [ true ↦ x | false ↦ with_act Up Closes x ]

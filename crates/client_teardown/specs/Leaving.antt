@@ -28,8 +28,8 @@ with_payloads payloads q = record q { waiting = q.waiting ++ joined (map frame_p
 abbrev pub Sends : List (List ℕ) → QueueState → QueueState → Type 0
 Sends payloads up up' = up'.waiting ≡ up.waiting ++ joined (map frame_payload payloads)
 
--- in one channel: CLOSE where it is confirmed and the client has not sent it, OPEN_FAILURE on a server's open without an
--- answer
+-- in one channel: CLOSE where it is confirmed and the client has not sent it, OPEN_FAILURE on a
+-- server's open without an answer
 abbrev pub farewell_for : Channel → Ledger → List (List ℕ)
 farewell_for c ledger = elim (confirmed ledger) [
   | true ↦ elim (account.said_close ledger) [ true ↦ [] | false ↦ to_number c.remote close ]
@@ -86,7 +86,8 @@ IsShortLate (Confirmed number remote) = Unit {0}
 IsShortLate (Forwarded key) = IsShort (key_of key)
 IsShortLate (CancelFailed key) = IsShort (key_of key)
 
--- CLOSE after a confirmation, and a cancel without reply after a success or after the failure of a cancel
+-- CLOSE after a confirmation, and a cancel without reply after a success or after the failure of a
+-- cancel
 abbrev pub late_payload : Late → List ℕ
 late_payload (Confirmed number remote) = close remote
 late_payload (Forwarded key) = cancel_forward (key_of key)

@@ -6,7 +6,8 @@ use conn_messages::{cancel_forward, cancel_path};
 use forward_rules::Key;
 use ssh_fields::Small;
 
-/// The payload that cancels a key and wants no reply (RFC 4254, section 7.1; OpenSSH's PROTOCOL, section 2.4).
+/// The payload that cancels a key and wants no reply (RFC 4254, section 7.1; OpenSSH's PROTOCOL,
+/// section 2.4).
 pub fn cancel(key: Key<'_>) -> Small
     requires { IsShort (key_of key) }
     ensures spelled { result ≡ spelling.cancel_forward (key_of key.entry) }

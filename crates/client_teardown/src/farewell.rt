@@ -12,7 +12,8 @@ use proxy_frames::Queue;
 use ssh_fields::Small;
 use ssh_grammar::numbers::CONNECT_FAILED;
 
-/// The room that a farewell needs at most: 256 frames of 36 bytes for channels, and 64 of 308 for forwardings.
+/// The room that a farewell needs at most: 256 frames of 36 bytes for channels, and 64 of 308 for
+/// forwardings.
 pub const FAREWELL_ROOM: usize = 28_928;
 
 // The part of it for channels, and for one of them.
@@ -101,7 +102,8 @@ fn leave_channels(table: &mut Table, client: u64, up: &mut Queue)
     }
 }
 
-// Cancels all live forwardings of a client of which no cancel is unanswered, in order of asking, and takes all out.
+// Cancels all live forwardings of a client of which no cancel is unanswered, in order of asking,
+// and takes all out.
 fn leave_forwards(forwards: &mut Forwards, client: u64, up: &mut Queue)
     requires { FORWARDS_ROOM ≤ up.old.spare }
     ensures sent { Sends (forward_farewells client forwards.old) up.old up.new }
@@ -118,10 +120,11 @@ fn leave_forwards(forwards: &mut Forwards, client: u64, up: &mut Queue)
     }
 }
 
-/// Says farewell for a client that is lost. In the order in which its channels began: CLOSE on each that is confirmed
-/// and on which the client hadn't sent it, and OPEN_FAILURE for each open of the server that it hadn't answered. Then,
-/// in order of asking, a cancel without reply for each live forwarding of which no cancel is unanswered. A channel that
-/// is over then is freed, and all forwardings of the client are out.
+/// Says farewell for a client that is lost. In the order in which its channels began: CLOSE on each
+/// that is confirmed and on which the client hadn't sent it, and OPEN_FAILURE for each open of the
+/// server that it hadn't answered. Then, in order of asking, a cancel without reply for each live
+/// forwarding of which no cancel is unanswered. A channel that is over then is freed, and all
+/// forwardings of the client are out.
 pub fn tear_down(table: &mut Table, forwards: &mut Forwards, client: u64, up: &mut Queue)
     requires { FAREWELL_ROOM ≤ up.old.spare }
     ensures sent { Sends (channel_farewells client table.old

@@ -3,7 +3,8 @@ use forward_rules::Key;
 /// What the server says for a client that is lost already, and that the master has to undo.
 #[derive(Clone, Copy, Debug)]
 pub enum Late<'a> {
-    /// The open of this channel is confirmed under the server's number, which the table has taken in.
+    /// The open of this channel is confirmed under the server's number, which the table has taken
+    /// in.
     Confirmed { number: u32, remote: u32 },
     /// What the client asked for is listened on, under this key.
     Forwarded { key: Key<'a> },

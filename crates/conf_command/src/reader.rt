@@ -41,7 +41,8 @@ fn refused(word: u64, cause: Usage) -> WordsError
     WordsError::Refused(UsageError { word, cause })
 }
 
-/// The master over a transport, which must be named; bad permissions are refused last, the earlier word first.
+/// The master over a transport, which must be named; bad permissions are refused last, the earlier
+/// word first.
 fn master_of(alloc: Global, end: u64, host: &[u8], steps: &[Step]) -> Result<Command, WordsError>
     ensures { (n : ℕ) → end ≡ n + 1
         → Gives result (master_of n host.now steps.now (transport_in None steps.now)) }

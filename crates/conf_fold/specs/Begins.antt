@@ -25,7 +25,8 @@ pub record IsEmpty (original : Bytes) (fold : Fold) : Type 0 where
   pub name : fold.name ≡ None
   pub active : fold.were_active ≡ []
 
--- what a fold of the command line's lines is: it stands for their rows, or the first refused one is told
+-- what a fold of the command line's lines is: it stands for their rows, or the first refused one is
+-- told
 abbrev pub IsBegun : Told → Result Fold ResolveError → Type 0
 IsBegun told (Ok fold) = Stands told First fold (asked_rows told) []
     × (refusal_in (asked_rows told) ≡ None)
@@ -54,7 +55,8 @@ abbrev pub asked_again : Told → List Row → List Row
 asked_again told rows =
     rows_from told entry_of rows (first_place (Second rows)) (map asked_line told.asked.lines)
 
--- whether a second pass begins: where a line of the first asked for it, behind the lines of the command line
+-- whether a second pass begins: where a line of the first asked for it, behind the lines of the
+-- command line
 abbrev pub SecondBegins : Told → List Row → Fold → Bool → Type 0
 SecondBegins told rows new false = list_any wants_second rows ≡ false
 SecondBegins told rows new true = (list_any wants_second rows ≡ true)

@@ -115,8 +115,8 @@ HasLineCause (Err (line_errors.Refused causes.RunFault)) before now = Rose befor
 HasLineCause (Err (line_errors.Refused causes.ReadFault)) before now = ⊥
 HasLineCause result before now = now ≡ before
 
--- The runner's fault comes only where its count rose, and no fault of files comes. Every other answer leaves the count, but want
--- of memory, before which the runner may have failed.
+-- The runner's fault comes only where its count rose, and no fault of files comes. Every other
+-- answer leaves the count, but want of memory, before which the runner may have failed.
 abbrev pub HasRunCause : {A : Type 0} → Result A ResolveError → ℕ → ℕ → Type 0
 HasRunCause (Ok x) before now = now ≡ before
 HasRunCause (Err OutOfMemory) before now = before ≤ now

@@ -30,7 +30,8 @@ use Rattle.conf_fold.specs.declared.errors.LineError.TheVariants as line_errors
 
 -- ---- what a fold stands for
 
--- whether the block that was opened at a line of a pass applies; where none is open, nothing stands in the way
+-- whether the block that was opened at a line of a pass applies; where none is open, nothing stands
+-- in the way
 abbrev pub open_applies : List Row → Pass → Option ℕ → Bool
 open_applies rows pass None = true
 open_applies rows pass (Some line) = applies_at rows pass line
@@ -173,7 +174,8 @@ unfoldable pub entry_so_far : Fold → ConfLine → Result Entry Cause
 entry_so_far fold line = headed_entry (word_in (setting keys.IgnoreUnknown fold)) UserFile
     (Says line.keyword line.rest)
 
--- whether a value of an active line counts: one to collect only where the same line was not active in the first pass
+-- whether a value of an active line counts: one to collect only where the same line was not active
+-- in the first pass
 abbrev pub does_count : Key → Bool → Fold → Bool
 does_count key active fold = if is_collected key then (elim fold.name [
   | None ↦ active

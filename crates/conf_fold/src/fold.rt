@@ -129,8 +129,9 @@ impl Fold {
         Ok(())
     }
 
-    /// Begins the second pass, where some Match line asked for it: `true`. The lines of the command line, which gave all that
-    /// they give in the first pass, aren't given again; those of the files are.
+    /// Begins the second pass, where some Match line asked for it: `true`. The lines of the command
+    /// line, which gave all that they give in the first pass, aren't given again; those of the
+    /// files are.
     pub fn second(&mut self) -> Result<bool, OutOfMemory>
         ensures second { IfOk result (λ again. (told : Told) (rows : List Row) (blocks : Blocks)
             → Stands told First self.old rows blocks → Behind told rows

@@ -1,4 +1,5 @@
--- What was read of the words so far, joined with what is still to be read, and the byte that a backslash stands for.
+-- What was read of the words so far, joined with what is still to be read, and the byte that a
+-- backslash stands for.
 use Rattle.std.specs.Prelude.{ℕ, ◌&&◌, ◌==◌, if◌then◌else◌, List, [], ◌∷◌, ◌++◌, Option, Some, None, Ok}
 use Rattle.conf_rules.specs.declared.quoting.Quoting.{Quoting}
 use Rattle.conf_rules.specs.Results.{◌>>=◌}
@@ -9,7 +10,8 @@ use Rattle.conf_rules.specs.Words.{ReadWords, onto_word, is_escapable}
 abbrev pub joined : List Bytes → Bytes → ReadWords → ReadWords
 joined words word later = later >>= λ ws. Ok (words ++ onto_word word ws)
 
--- the byte for which a backslash and that byte stand, and what follows it, where `b` was read and these bytes follow
+-- the byte for which a backslash and that byte stand, and what follows it, where `b` was read and
+-- these bytes follow
 unfoldable pub escaped : Quoting → ℕ → Bytes → Option (ℕ × Bytes)
 escaped quoting b [] = None
 escaped quoting b (c ∷ bs) = if (b == 92) && is_escapable quoting c then Some (c, bs) else None

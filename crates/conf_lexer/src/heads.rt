@@ -106,8 +106,9 @@ fn uncommented(text: &[u8], at: usize) -> Result<Head<'_>, LexError>
     }
 }
 
-/// A line's keyword and what follows it (ssh_config(5)): blanks around them and line endings are dropped, and one equals sign
-/// may stand between them. `at` of a refusal is a byte's place in `line`. It takes no memory.
+/// A line's keyword and what follows it (ssh_config(5)): blanks around them and line endings are
+/// dropped, and one equals sign may stand between them. `at` of a refusal is a byte's place in
+/// `line`. It takes no memory.
 #[tactic(auto, unfolding(conf_rules::specs::Heads::head_of))]
 pub fn split_head(line: &[u8]) -> Result<Head<'_>, LexError>
     ensures exact { Shows heading result (head_of line.now) }

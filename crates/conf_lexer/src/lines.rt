@@ -10,8 +10,8 @@ fn line_len(bytes: &[u8]) -> usize
     bytes.iter().take_while(|b| !(**b == b'\n')).count()
 }
 
-/// The line of a text that begins at a place: where it ends, without its line feed, and where the next one begins. It takes no
-/// memory.
+/// The line of a text that begins at a place: where it ends, without its line feed, and where the
+/// next one begins. It takes no memory.
 pub fn next_line(text: &[u8], at: usize) -> Option<(usize, usize)>
     requires { at ≤ length text.now }
     ensures none { IsNone result ↔ (at ≡ length text.now) }

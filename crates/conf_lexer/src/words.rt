@@ -101,8 +101,9 @@ fn all_words(alloc: Global, rest: &[u8]) -> Result<Texts, LexError>
     }
 }
 
-/// The words of a rest (ssh_config(5)): blanks part them, quotes enclose blanks, a backslash stands for a quote, a backslash
-/// or a space, and a number sign at a word's start ends them. `at` of a refusal is a byte's place in `rest`.
+/// The words of a rest (ssh_config(5)): blanks part them, quotes enclose blanks, a backslash stands
+/// for a quote, a backslash or a space, and a number sign at a word's start ends them. `at` of a
+/// refusal is a byte's place in `rest`.
 pub fn split_words(alloc: Global, rest: &[u8]) -> Result<Texts, LexError>
     ensures exact { Gives lex_wants_memory result (words_of rest.now) }
 {

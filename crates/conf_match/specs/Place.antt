@@ -22,7 +22,8 @@ valued at negated kind None [] = Err (NoValue at)
 valued at negated kind None (next ∷ words) =
     with_criterion negated kind next (criteria_from (at + 2) false words)
 
--- what a step took: the criteria with what is read from the new place on are those with what was to be read
+-- what a step took: the criteria with what is read from the new place on are those with what was to
+-- be read
 pub record Goes (old new : List Criterion) (words : List Bytes) (at : ℕ) (place : Place)
     (reading : ReadCriteria) : Type 0 where
   pub read : onto old reading

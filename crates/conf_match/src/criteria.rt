@@ -157,8 +157,9 @@ fn take(
     }
 }
 
-/// The criteria that the words of `Match` spell, or the first refusal from the left: a word that names none, that isn't
-/// supported, whose value is missing, or an `all` that doesn't stand alone or right behind `canonical` or `final`.
+/// The criteria that the words of `Match` spell, or the first refusal from the left: a word that
+/// names none, that isn't supported, whose value is missing, or an `all` that doesn't stand alone
+/// or right behind `canonical` or `final`.
 pub fn read_criteria(alloc: Global, words: &Texts) -> Result<Criteria, MatchError>
     ensures { Gives match_wants_memory result (read_criteria words.now) }
 {

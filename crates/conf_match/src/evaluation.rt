@@ -154,8 +154,8 @@ fn one<R: Runner>(
     Ok(if criterion.negated { !holds } else { holds })
 }
 
-/// Whether criteria hold, tried from the left to the first one that doesn't; only so far are commands run. The runner's fault
-/// comes only where its count rose.
+/// Whether criteria hold, tried from the left to the first one that doesn't; only so far are
+/// commands run. The runner's fault comes only where its count rose.
 pub fn eval<R: Runner>(
     alloc: Global,
     criteria: &Criteria,

@@ -72,8 +72,8 @@ fn tail_of(pattern: &[u8]) -> usize
     pattern.len()
 }
 
-/// The members of a class behind its bracket, and how many bytes it takes. Where a class isn't closed it is not looked for: no
-/// closing bracket stands among the last `tail` bytes.
+/// The members of a class behind its bracket, and how many bytes it takes. Where a class isn't
+/// closed it is not looked for: no closing bracket stands among the last `tail` bytes.
 fn class_of(bytes: &[u8], tail: usize) -> Option<(&[u8], usize)>
     requires { NoneInLast tail bytes.now }
     ensures class { option_map (λ x. (x.0.now, x.1)) result ≡ class_of bytes.now }
@@ -247,9 +247,10 @@ fn is_dotted(text: &[u8]) -> bool
     }
 }
 
-/// Whether a component of a path takes a name (glob(7)): one with a leading dot only where the component begins with a dot
-/// itself. It takes no memory, and at most about the product of both lengths in steps: no star is tried again once a later one is
-/// reached, and no class is looked for that isn't closed.
+/// Whether a component of a path takes a name (glob(7)): one with a leading dot only where the
+/// component begins with a dot itself. It takes no memory, and at most about the product of both
+/// lengths in steps: no star is tried again once a later one is reached, and no class is looked for
+/// that isn't closed.
 #[tactic(auto, unfolding(conf_rules::specs::Globs::component_takes))]
 pub fn glob_component(pattern: &[u8], name: &[u8]) -> bool
     ensures { result ≡ component_takes pattern.now name.now }

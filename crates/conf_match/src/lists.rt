@@ -42,8 +42,8 @@ fn either(first: ListAnswer, second: ListAnswer) -> ListAnswer
     }
 }
 
-/// What a list of patterns, which commas part, says of a name: denied where a negated one matches, else yes where a plain one
-/// does. It takes no memory.
+/// What a list of patterns, which commas part, says of a name: denied where a negated one matches,
+/// else yes where a plain one does. It takes no memory.
 pub fn matches_list(list: &[u8], text: &[u8]) -> ListAnswer
     ensures { result ≡ answer_of (split_at_each 44 list.now) text.now }
 {

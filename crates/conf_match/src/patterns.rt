@@ -70,7 +70,8 @@ fn some_suffix(pattern: &[u8], text: &[u8]) -> bool
     }
 }
 
-/// Whether a pattern matches a text (ssh_config(5), PATTERNS): a star is any bytes, a question mark one byte. It takes no memory.
+/// Whether a pattern matches a text (ssh_config(5), PATTERNS): a star is any bytes, a question mark
+/// one byte. It takes no memory.
 pub fn matches_pattern(pattern: &[u8], text: &[u8]) -> bool
     ensures { result ≡ matches pattern.now text.now }
 {

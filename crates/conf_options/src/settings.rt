@@ -14,7 +14,8 @@ use ssh_fields::{OutOfMemory, Text};
 use std::alloc::Global;
 use std::marker::Model;
 
-/// Values of keys in the order in which they came, of which those are kept that count. Each value is one of its key.
+/// Values of keys in the order in which they came, of which those are kept that count. Each value
+/// is one of its key.
 #[derive(Drop)]
 pub struct Settings {
     alloc: Global,
@@ -209,7 +210,8 @@ impl Settings {
         first_of(self.among(key), key)
     }
 
-    /// Values that are kept, each behind its key, in the order in which they came: all of a key, and maybe some of others.
+    /// Values that are kept, each behind its key, in the order in which they came: all of a key,
+    /// and maybe some of others.
     pub fn among(&self, key: Key) -> &[(Key, Value)]
         ensures { values_among key result.now ≡ values_among key self.now }
     {
@@ -227,9 +229,9 @@ impl Settings {
         port_of(self.singles.as_slice())
     }
 
-    /// Takes a value, where it counts: the first of its key, or of both proxy keys; each one of a key that collects; patterns of
-    /// `SendEnv`, of which those behind a dash remove earlier ones. `true` exactly where what is kept changed. An `Err` changes
-    /// nothing.
+    /// Takes a value, where it counts: the first of its key, or of both proxy keys; each one of a
+    /// key that collects; patterns of `SendEnv`, of which those behind a dash remove earlier ones.
+    /// `true` exactly where what is kept changed. An `Err` changes nothing.
     pub fn offer(&mut self, key: Key, value: Value) -> Result<bool, OutOfMemory>
         requires { fits key value ≡ true }
         ensures keeps { OnOk result ((given : List Given) → Keeps self.old given

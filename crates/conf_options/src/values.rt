@@ -143,8 +143,9 @@ fn words_value(alloc: Global, form: Form, words: &[Text]) -> Result<Value, Value
     }
 }
 
-/// What a line says for its key: the rest as it stands, or its words. Too few or too many words are refused before their form;
-/// the form's refusal is its kind's: flag, number, time, choice, forwarding or tokens of a Hostname.
+/// What a line says for its key: the rest as it stands, or its words. Too few or too many words are
+/// refused before their form; the form's refusal is its kind's: flag, number, time, choice,
+/// forwarding or tokens of a Hostname.
 pub fn read_value(alloc: Global, key: Key, rest: &[u8], words: &Texts) -> Result<Value, ValueError>
     ensures read { Gives value_wants_memory result (value_for key rest.now words.now) }
     ensures fits { IfOk result (λ value. fits key value ≡ true) }

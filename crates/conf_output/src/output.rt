@@ -31,10 +31,11 @@ fn list(
     Ok(out)
 }
 
-/// The settings behind all lines as `-G` lists them for the host `original` of the command line: that host, then a line of each
-/// value of each key, or of its default. Hostname, ControlPath and RemoteCommand are listed with their tokens expanded; a proxy
-/// that is `none` and forwardings that are cleared aren't listed (ssh_config(5)). `Token` names the first key in the order of
-/// the listing whose tokens can't be expanded, or `User` where no user is known.
+/// The settings behind all lines as `-G` lists them for the host `original` of the command line:
+/// that host, then a line of each value of each key, or of its default. Hostname, ControlPath and
+/// RemoteCommand are listed with their tokens expanded; a proxy that is `none` and forwardings that
+/// are cleared aren't listed (ssh_config(5)). `Token` names the first key in the order of the
+/// listing whose tokens can't be expanded, or `User` where no user is known.
 pub fn listing(
     alloc: Global,
     settings: &Settings,
@@ -66,8 +67,8 @@ fn path(
     }
 }
 
-/// ControlPath behind all lines, with its home, tokens and variables expanded (ssh_config(5), ControlPath). None where it isn't
-/// set or is `none` in any case.
+/// ControlPath behind all lines, with its home, tokens and variables expanded (ssh_config(5),
+/// ControlPath). None where it isn't set or is `none` in any case.
 pub fn control_path(
     alloc: Global,
     settings: &Settings,

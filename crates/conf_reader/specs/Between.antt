@@ -5,8 +5,8 @@ use Rattle.conf_rules.specs.Texts.{is_empty}
 use Rattle.conf_reader.specs.declared.stack.OpenFiles.{OpenFiles}
 use Rattle.conf_reader.specs.Left.{stack, is_expanded, is_counted}
 
--- Whether files are open as they are between two calls: at most 17, of which each gave a line, and of which at most the last one
--- still has paths to find.
+-- Whether files are open as they are between two calls: at most 17, of which each gave a line, and
+-- of which at most the last one still has paths to find.
 abbrev pub is_between : OpenFiles → Bool
 is_between o =
     nat_le (length o.below.items) 16

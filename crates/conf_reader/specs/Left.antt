@@ -201,7 +201,8 @@ HeadIs f (Err line_errors.OutOfMemory) = Unit {0}
 HeadIs f (Err (line_errors.Refused cause)) = (next : ℕ)
     × ((e : LexError) × ((cause ≡ causes.Lex e) × NextLine f next (Err e)))
 
--- what a reader may say of the line that comes next: it is a comment, or this line is given, or it is refused
+-- what a reader may say of the line that comes next: it is a comment, or this line is given, or it
+-- is refused
 pub record IsComment (line : Line) : Type 0 where
   pub bytes : Bytes
   pub spelled : line.content ≡ Spelled bytes
@@ -283,7 +284,8 @@ named_as paths f = record f { include = None; named = paths; next = 0 }
 
 -- ---- first files
 
--- the lines of a first file at a place: one that is required must be there, and another is skipped where it isn't
+-- the lines of a first file at a place: one that is required must be there, and another is skipped
+-- where it isn't
 abbrev pub first_left : Told → ℕ → FirstFile → List Line
 first_left told place f = if f.required then named_lines told place f.path (told.content f.path)
     else each_file (first_file (source_of f.system) told) place (file_at told f.path)

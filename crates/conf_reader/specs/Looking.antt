@@ -118,7 +118,8 @@ TakesLooks old new (Ok (Some line)) =
     → line_passes test told (source_of new.system) line ≡ true → passes test told new ≡ true
 TakesLooks old new (Err e) = Unit {0}
 
--- whatever test all passes that is still to be looked at, a failed read passes it where it is told, and so does what is then left
+-- whatever test all passes that is still to be looked at, a failed read passes it where it is told,
+-- and so does what is then left
 abbrev pub MovesLooks : {A : Type 0} → Option (List Bytes) → Option (List Bytes)
     → OpenFiles → OpenFiles → Result A ResolveError → Type 0
 MovesLooks failed now old new result =
@@ -171,8 +172,9 @@ LineLooks failed now old new result =
     (told : Told) (test : Test) → all_pass test told old ≡ true
     → TellsFailed test result failed now × LooksOn test told new result
 
--- where files tell, with these facts: whatever test all passes that is still to be looked at, a failed read passes it where it
--- is told, and so does what is to be looked at behind a line that is given
+-- where files tell, with these facts: whatever test all passes that is still to be looked at, a
+-- failed read passes it where it is told, and so does what is to be looked at behind a line that is
+-- given
 abbrev pub Looks : Option (List Pair) → Facts → Bytes → Option (List Bytes) → Option (List Bytes)
     → Lines → Lines → Result (Option ConfLine) ResolveError → Type 0
 Looks files facts original failed now old new result =

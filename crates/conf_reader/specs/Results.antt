@@ -37,7 +37,8 @@ abbrev pub is_line_fault : LineError → Bool
 is_line_fault line_errors.OutOfMemory = false
 is_line_fault (line_errors.Refused cause) = is_fault cause
 
--- a fault is one of reading, and comes only where the files' count rose; every other cause leaves it
+-- a fault is one of reading, and comes only where the files' count rose; every other cause leaves
+-- it
 abbrev pub IsFilesCause : Cause → ℕ → ℕ → Type 0
 IsFilesCause cause before now = MatchBool (is_fault cause) ((cause ≡ causes.ReadFault)
     × Rose before now) (now ≡ before)
@@ -54,8 +55,8 @@ Refuses line_errors.OutOfMemory file line error = error ≡ OutOfMemory
 Refuses (line_errors.Refused cause) file line OutOfMemory = Unit {0}
 Refuses (line_errors.Refused cause) file line (At f l c) = At f l c ≡ At file line cause
 
--- A read fault comes only where the count of faults rose, and every other answer leaves it, but want of memory, before which a
--- read may have failed.
+-- A read fault comes only where the count of faults rose, and every other answer leaves it, but
+-- want of memory, before which a read may have failed.
 abbrev pub HasReadCause : {A : Type 0} → Result A ResolveError → ℕ → ℕ → Type 0
 HasReadCause (Ok x) before now = now ≡ before
 HasReadCause (Err OutOfMemory) before now = before ≤ now

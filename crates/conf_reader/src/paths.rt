@@ -302,8 +302,9 @@ fn all_globbed<F: Files>(alloc: Global, paths: &Texts, files: &mut F) -> Result<
     Ok(all)
 }
 
-/// The paths that the rest of an Include line names, in reading order. All tokens are expanded before a directory is listed. A
-/// rest whose words have no reading names none, since its line is refused.
+/// The paths that the rest of an Include line names, in reading order. All tokens are expanded
+/// before a directory is listed. A rest whose words have no reading names none, since its line is
+/// refused.
 pub fn named_paths<F: Files>(
     alloc: Global,
     facts: &Facts,

@@ -1,4 +1,5 @@
--- Where a failed read may be told: at an Include line of rows that looks at its path, or at a file that no line includes.
+-- Where a failed read may be told: at an Include line of rows that looks at its path, or at a file
+-- that no line includes.
 use Rattle.std.proofs.Common.{◌≡◌, ℕ, suc, ◌-◌, Bool, true, false, ◌&&◌, ◌||◌, List, [], ◌∷◌, ◌++◌, Some, refl, sym, ap, subst, ◌∙◌, ◌⊎◌, inl, inr}
 use Rattle.std.specs.Prelude.{◌==◌, codes}
 use Rattle.std.specs.List.{list_all, list_any, slice_get}

@@ -38,8 +38,9 @@ pub record IsFirst (told : Told) (file : Bytes) (number : ℕ) (path : Bytes) : 
   pub file_is : first.path ≡ file
   pub number_is : number ≡ 0
 
--- A read of a path failed behind these rows, whose commands were all run. It is told at one of their Include lines that looks at
--- this very path, or at line 0 of this path, a file that no line includes.
+-- A read of a path failed behind these rows, whose commands were all run. It is told at one of
+-- their Include lines that looks at this very path, or at line 0 of this path, a file that no line
+-- includes.
 pub record ReadFails (told : Told) (all : List Row) (file : Bytes) (number : ℕ)
     (before now : Commands) (failed failed_now : FailedPaths) : Type 0 where
   pub rows : List Row
@@ -50,8 +51,8 @@ pub record ReadFails (told : Told) (all : List Row) (file : Bytes) (number : ℕ
   pub is : failed_now ≡ option_map (λ paths. paths ++ path ∷ []) failed
   pub place : LooksFrom told rows file number path ⊎ IsFirst told file number path
 
--- A command could not be run, behind rows whose commands were all run. It is told at the line of the row that asks for it, whose
--- earlier commands were run.
+-- A command could not be run, behind rows whose commands were all run. It is told at the line of
+-- the row that asks for it, whose earlier commands were run.
 pub record RunFails (all : List Row) (file : Bytes) (number : ℕ) (before now : Commands) :
     Type 0 where
   pub rows : List Row

@@ -29,7 +29,8 @@ named name =
     else (if same_word name (codes "localuser") then Valued LocalUser
     else (if list_any (same_word name) not_supported then NotSupported else NoName)))))))))
 
--- a criterion's own word: whether it is negated, its name, and the text behind its first equals sign
+-- a criterion's own word: whether it is negated, its name, and the text behind its first equals
+-- sign
 pub record Spelled : Type 0 where
   pub negated : Bool
   pub name : Named
@@ -80,7 +81,8 @@ abbrev pub unvalued : ℕ → Option Bytes → ReadCriteria → ReadCriteria
 unvalued at None criteria = criteria
 unvalued at (Some value) criteria = Err (Unknown at)
 
--- the criteria from the word at a place on; `may` says whether `all` may stand here. A value is the text behind the equals sign, or the next word
+-- the criteria from the word at a place on; `may` says whether `all` may stand here. A value is the
+-- text behind the equals sign, or the next word
 unfoldable pub criteria_from : ℕ → Bool → List Bytes → ReadCriteria
 criteria_from at may [] = Ok []
 criteria_from at may (word ∷ []) = let s = spelled word in elim s.name [

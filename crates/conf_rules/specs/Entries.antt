@@ -1,4 +1,5 @@
--- What a line says, or its first refusal: of form, keyword, words, and value or criteria, in this order.
+-- What a line says, or its first refusal: of form, keyword, words, and value or criteria, in this
+-- order.
 use Rattle.std.specs.Prelude.{Bool, true, false, List, [], Option, Some, None, Result, Ok, Err}
 use Rattle.conf_rules.specs.declared.key.Key.{Key}
 use Rattle.conf_rules.specs.declared.key.Key.TheVariants.{IgnoreUnknown}
@@ -70,8 +71,8 @@ abbrev pub in_file : Source → ReadEntry → ReadEntry
 in_file CommandLine entry = Err causes.NotOnCommandLine
 in_file source entry = entry
 
--- What a keyword with a rest, or with its words, says where these patterns are ignored; what an Include line names stands behind
--- it.
+-- What a keyword with a rest, or with its words, says where these patterns are ignored; what an
+-- Include line names stands behind it.
 abbrev pub keyword_entry : Option Bytes → Source → Bytes → Bytes → SplitWords → KeyKind → ReadEntry
 keyword_entry ignored source keyword rest words (kinds.Key key) = key_entry key rest words
 keyword_entry ignored source keyword rest words kinds.Host = in_file source (block_entry words)
@@ -95,6 +96,7 @@ content_entry ignored source (Parts keyword words) =
     keyword_entry ignored source keyword [] (Ok words) (meaning_of keyword)
 content_entry ignored source (Refused cause) = Err cause
 
--- what a line says behind rows: an unknown keyword that IgnoreUnknown, set earlier, takes is ignored
+-- what a line says behind rows: an unknown keyword that IgnoreUnknown, set earlier, takes is
+-- ignored
 unfoldable pub entry_of : List Row → Line → ReadEntry
 entry_of rows line = content_entry (word_in (value IgnoreUnknown rows)) line.source line.content

@@ -79,8 +79,8 @@ components_of path = filter (λ component. not (is_empty component)) (split_at_e
 abbrev pub ends_with_slash : Bytes → Bool
 ends_with_slash path = elim (split_last path) [ None ↦ false | Some p ↦ p.1 == 47 ]
 
--- The paths that an absolute path stands for; of one with globs those in the order of their bytes, but none where a slash at its
--- end asks for directories alone.
+-- The paths that an absolute path stands for; of one with globs those in the order of their bytes,
+-- but none where a slash at its end asks for directories alone.
 unfoldable pub globbed : Told → Bytes → List Bytes
 globbed told path =
     let found = sorted (along told (components_of path) ([] ∷ [])) in

@@ -1,4 +1,5 @@
--- What an Include line looks at: the directories whose names its patterns ask for, and the files that it names.
+-- What an Include line looks at: the directories whose names its patterns ask for, and the files
+-- that it names.
 use Rattle.std.specs.Prelude.{if◌then◌else◌, List, [], ◌∷◌, ◌++◌, map, flat_map, Result, Ok, Err, codes}
 use Rattle.conf_rules.specs.declared.causes.LexError.{LexError}
 use Rattle.conf_rules.specs.declared.causes.TokenError.{TokenError}

@@ -12,7 +12,8 @@ pub fn a_listing_in_full()
     ensures { written (outcome full_machine (codes "-G" ∷ codes "db.example" ∷ [])) ≡ full_listing }
 {}
 
-/// A negated pattern alone applies to nothing; criteria see the host name set so far; a last line may lack its line feed.
+/// A negated pattern alone applies to nothing; criteria see the host name set so far; a last line
+/// may lack its line feed.
 pub fn blocks_and_ends()
     ensures denied { listed_values (codes "port")
         (outcome (with_f (codes "Host !a" ∷ codes "Port 5" ∷ []))
@@ -205,7 +206,8 @@ pub fn refused_words()
         ≡ says (codes "word 3: only one destination is taken") }
 {}
 
-/// Included files are read in the order of their paths; a name with a leading dot isn't matched by a star.
+/// Included files are read in the order of their paths; a name with a leading dot isn't matched by
+/// a star.
 pub fn included_in_order()
     ensures sorted { listed_values (codes "identityfile")
         (outcome (with_root_f (codes "Include /d/*.c" ∷ [])
@@ -242,7 +244,8 @@ pub fn directories_alone()
         (list_file (codes "/f") (codes "x"))) ≡ codes "b" ∷ [] }
 {}
 
-/// A second pass, where a Match line asks for it: its blocks see the host name behind the first pass.
+/// A second pass, where a Match line asks for it: its blocks see the host name behind the first
+/// pass.
 pub fn second_pass()
     ensures late { listed_values (codes "user")
         (outcome (with_f (codes "Host 10.*" ∷ codes "Port 9" ∷ codes "Host db"

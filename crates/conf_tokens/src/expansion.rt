@@ -38,9 +38,10 @@ fn expand_onto(
     Ok(out)
 }
 
-/// A text with those tokens, and variables, expanded that the set has; a percent or dollar sign that stands for itself stays.
-/// Refused are a token that the set doesn't have and a brace that isn't closed, with their place in `text`; a percent sign at
-/// the end; and a fact or a variable that isn't known, by its token's byte or its name.
+/// A text with those tokens, and variables, expanded that the set has; a percent or dollar sign
+/// that stands for itself stays. Refused are a token that the set doesn't have and a brace that
+/// isn't closed, with their place in `text`; a percent sign at the end; and a fact or a variable
+/// that isn't known, by its token's byte or its name.
 pub fn expand(
     alloc: Global,
     text: &[u8],
@@ -61,8 +62,8 @@ fn with_home(alloc: Global, rest: &[u8], set: TokenSet, view: &View<'_>) -> Resu
     expand_onto(alloc, Text::copy(alloc, home)?, 1, rest, set, view)
 }
 
-/// A path with its tokens expanded. A leading tilde before a slash becomes the home, as does a lone one where `lone` says so;
-/// a home that isn't known is refused first, as `%d` is.
+/// A path with its tokens expanded. A leading tilde before a slash becomes the home, as does a lone
+/// one where `lone` says so; a home that isn't known is refused first, as `%d` is.
 pub fn expand_path(
     alloc: Global,
     lone: bool,
@@ -88,7 +89,8 @@ fn stands_for_home(lone: bool, rest: &[u8]) -> bool
     }
 }
 
-/// A Hostname with its tokens expanded, which were checked as it was read: `%h` gives the host of the command line.
+/// A Hostname with its tokens expanded, which were checked as it was read: `%h` gives the host of
+/// the command line.
 pub fn expand_name(alloc: Global, original: &[u8], text: &[u8]) -> Result<Text, OutOfMemory>
     ensures { OnOk result (result ≡ Ok (name_expanded original.now text.now)) }
 {

@@ -1,6 +1,6 @@
 //! Tokens and variables of a text, expanded as ssh_config(5) says (TOKENS, ENVIRONMENT VARIABLES).
-//! `expand` takes one scan from the left: what is put in isn't scanned again, and the first place that is refused decides.
-//! `View` is what tokens, and the criteria of `Match`, see at a line.
+//! `expand` takes one scan from the left: what is put in isn't scanned again, and the first place
+//! that is refused decides. `View` is what tokens, and the criteria of `Match`, see at a line.
 #![tactic(auto)]
 
 mod expansion;

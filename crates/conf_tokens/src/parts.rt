@@ -42,7 +42,8 @@ fn has_vars(set: TokenSet) -> bool
     }
 }
 
-/// Adds what a percent sign at a place and the byte behind it give. The result says how many bytes behind it are used up.
+/// Adds what a percent sign at a place and the byte behind it give. The result says how many bytes
+/// behind it are used up.
 fn put_percent(
     alloc: Global,
     out: &mut Text,

@@ -1,6 +1,7 @@
 use mux_outside::Facts;
 
-/// What tokens and criteria see at a line: the values set on the lines before it, and what is known of the machine.
+/// What tokens and criteria see at a line: the values set on the lines before it, and what is known
+/// of the machine.
 #[derive(Clone, Copy)]
 pub struct View<'a> {
     /// The host of the command line.

@@ -1,4 +1,5 @@
--- A reply to a forwarding's request: the first that is asked with its key is the one whose request is answered.
+-- A reply to a forwarding's request: the first that is asked with its key is the one whose request
+-- is answered.
 use Rattle.std.proofs.Common.{◌≡◌, ◌≤◌, ◌<◌, ℕ, List, [], ◌∷◌, length, map, true, false, Bool, refl, ◌∙◌, ap, sym, subst, Option, Some, None, arith, suc}
 use Rattle.std.specs.Prelude.{filter, find, ◌==◌, ◌&&◌, not, is_some, is_none, slice_get, unwrap_or}
 use Rattle.std.specs.List.{AllByRecursion}

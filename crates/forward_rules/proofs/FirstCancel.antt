@@ -1,4 +1,5 @@
--- A reply to a cancel: of its client's cancels with its key, the one that was sent first is the one that is answered.
+-- A reply to a cancel: of its client's cancels with its key, the one that was sent first is the one
+-- that is answered.
 use Rattle.std.proofs.Common.{◌≡◌, ◌≤◌, ◌<◌, ◌+◌, ◌-◌, ◌⊎◌, inl, inr, ℕ, List, [], ◌∷◌, length, map, true, false, Bool, refl, ◌∙◌, ap, sym, subst, Option, Some, None, arith, min}
 use Rattle.std.specs.Prelude.{filter, find, ◌==◌, ◌&&◌, not, is_some, nat_lt, slice_get, unwrap_or}
 use Rattle.std.specs.List.{AllByRecursion}

@@ -1,4 +1,5 @@
--- Taking out tells a client's live forwardings one after the other, and then nothing of the client is left.
+-- Taking out tells a client's live forwardings one after the other, and then nothing of the client
+-- is left.
 use Rattle.std.proofs.Common.{◌≡◌, ℕ, List, [], ◌∷◌, map, true, false, Bool, Option, Some, None, refl, ◌∙◌, ap, sym}
 use Rattle.std.specs.Prelude.{is_some, not, nat_lt, ◌-◌, ◌==◌, ◌&&◌}
 use Rattle.mux_history.proofs.Finds.{filter-no, filter-yes, find-no, find-yes}

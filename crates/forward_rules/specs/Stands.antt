@@ -52,8 +52,8 @@ pub record Places : Type 0 where
 abbrev pub places_of : List Row → Places
 places_of rows = record { asked = asks rows; replied = length (replies rows) }
 
--- what waits for a reply: the request of one that is asked, and the cancel of one that is to end, at places whose replies
--- did not come
+-- what waits for a reply: the request of one that is asked, and the cancel of one that is to end,
+-- at places whose replies did not come
 pub record IsAwaited (own : Places) (g : Forwarding) : Type 0 where
   pub asked : g.live ≡ None → (own.replied ≤ g.request)
       × (slice_get own.asked g.request
@@ -96,7 +96,8 @@ EachHas own gs = (place : ℕ) (a : Ask) → own.replied ≤ place → slice_get
 abbrev pub IsRanked : List Forward → Forward → Type 0
 IsRanked fs f = (r : ℕ) → f.cancel ≡ Some r → r < cancels f.client fs
 
--- the list stands for these forwardings, at most 64 a client, where these are the requests of each client, and these clients are lost
+-- the list stands for these forwardings, at most 64 a client, where these are the requests of each
+-- client, and these clients are lost
 pub record AreFit (fs : List Forward) (gs : List Forwarding) (own : ℕ → Places) (lost : ℕ
     → Bool) : Type 0 where
   pub listed : AreListed fs gs

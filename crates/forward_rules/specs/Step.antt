@@ -68,8 +68,8 @@ is_leaving k f = is_of k f && is_some f.cancel
 abbrev pub cancels : ℕ → List Forward → ℕ
 cancels k fs = length (filter (is_leaving k) fs)
 
--- a cancel means the earliest that is free: one that wants a reply waits for it, behind those that wait, and one that
--- wants none ends the forwarding
+-- a cancel means the earliest that is free: one that wants a reply waits for it, behind those that
+-- wait, and one that wants none ends the forwarding
 abbrev pub cancelled : ℕ → Key → Bool → List Forward → List Forward
 cancelled k key true fs =
     change_first (is_free_at k key) (λ f. record f { cancel = Some (cancels k fs) }) fs

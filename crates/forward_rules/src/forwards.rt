@@ -74,9 +74,10 @@ impl Forwards {
         Ok(())
     }
 
-    /// The server's answer to the client's request for this key; of several the one asked first is meant. With a port it
-    /// is live from now on: where port 0 was asked the server chose that port, and where another port or a path was
-    /// asked it stays what was asked. None takes it out. Where none is asked nothing changes.
+    /// The server's answer to the client's request for this key; of several the one asked first is
+    /// meant. With a port it is live from now on: where port 0 was asked the server chose that
+    /// port, and where another port or a path was asked it stays what was asked. None takes it out.
+    /// Where none is asked nothing changes.
     pub fn answer(&mut self, client: u64, key: Key<'_>, bound: Option<u32>)
         ensures { self.new ≡ answered client (key_of key.entry) bound self.old }
     {
@@ -91,8 +92,8 @@ impl Forwards {
         }
     }
 
-    /// A client cancels its earliest live forwarding of this key that no unanswered cancel means; false where there is
-    /// none. The forwarding is over at once where no reply is wanted.
+    /// A client cancels its earliest live forwarding of this key that no unanswered cancel means;
+    /// false where there is none. The forwarding is over at once where no reply is wanted.
     pub fn cancel(&mut self, client: u64, key: Key<'_>, want: bool) -> bool
         ensures exact { result ≡ some_free client (key_of key.entry) self.old }
         ensures step { self.new ≡ cancelled client (key_of key.entry) want self.old }
@@ -111,8 +112,9 @@ impl Forwards {
         true
     }
 
-    /// The server's answer to the client's cancel of this key; of several the one sent first is meant. Its forwarding
-    /// is over where it is `done`, else live as before. Where none has no reply nothing changes.
+    /// The server's answer to the client's cancel of this key; of several the one sent first is
+    /// meant. Its forwarding is over where it is `done`, else live as before. Where none has no
+    /// reply nothing changes.
     pub fn cancel_answer(&mut self, client: u64, key: Key<'_>, done: bool)
         ensures { self.new ≡ cancel_answered client (key_of key.entry) done self.old }
     {
@@ -141,8 +143,8 @@ impl Forwards {
         count_in(&self.listed, client)
     }
 
-    /// Takes a client's earliest live forwarding out: its key, and whether a cancel of it has no reply. Where it has no
-    /// live one, all that it has asked are taken out, and None is answered.
+    /// Takes a client's earliest live forwarding out: its key, and whether a cancel of it has no
+    /// reply. Where it has no live one, all that it has asked are taken out, and None is answered.
     pub fn take_of(&mut self, client: u64) -> Option<(OwnKey, bool)>
         ensures exact { option_map taken_of result
             ≡ option_map told_of (first_live client self.old) }
@@ -182,7 +184,8 @@ impl Forwards {
         settle_in(&mut self.listed, client, rank);
     }
 
-    /// What the client's cancel of this rank meant was taken out, if one meant it: the later ones move up.
+    /// What the client's cancel of this rank meant was taken out, if one meant it: the later ones
+    /// move up.
     fn close_up(&mut self, client: u64, cancel: Option<usize>)
         ensures { self.new ≡ closed_up client cancel self.old }
     {

@@ -6,8 +6,8 @@ ghost use Rattle.forward_rules.specs.Step.{with_port};
 use mux_history::limits::MAX_ADDRESS;
 use ssh_fields::Small;
 
-/// What is listened on: an address with a port (RFC 4254, section 7.1), or the path of a Unix socket (OpenSSH's
-/// PROTOCOL, section 2.4). The two are never the same.
+/// What is listened on: an address with a port (RFC 4254, section 7.1), or the path of a Unix
+/// socket (OpenSSH's PROTOCOL, section 2.4). The two are never the same.
 #[derive(Clone, Copy, Debug)]
 pub enum Key<'a> {
     Tcp { address: &'a [u8], port: u32 },
@@ -22,7 +22,8 @@ pub enum OwnKey {
 }
 
 impl<'a> Key<'a> {
-    /// Whether it may be asked for: its address or path has at most 255 bytes, and a path isn't empty.
+    /// Whether it may be asked for: its address or path has at most 255 bytes, and a path isn't
+    /// empty.
     pub fn is_askable(self) -> bool
         ensures exact { result ≡ is_askable (key_of self.entry) }
         ensures short { result ≡ true → IsShort (key_of self.entry) }

@@ -1,5 +1,5 @@
-//! Permissions and remote forwardings: what the permission lists let a client open and listen on, and which client a
-//! forwarded connection goes to.
+//! Permissions and remote forwardings: what the permission lists let a client open and listen on,
+//! and which client a forwarded connection goes to.
 #![tactic(auto)]
 
 mod entry;

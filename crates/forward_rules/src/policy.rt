@@ -15,8 +15,8 @@ use thiserror::Error;
 /// Why permission lists are not read.
 #[derive(Clone, Copy, Debug, PartialEq, Eq, Error)]
 pub enum PolicyError {
-    /// The first text that is no entry, those of the list for opens before those of the list for forwardings; `at` is
-    /// its place in its list, counted from 0.
+    /// The first text that is no entry, those of the list for opens before those of the list for
+    /// forwardings; `at` is its place in its list, counted from 0.
     #[error("text {at} of a permission list is no entry, for opens: {for_open}")]
     BadEntry { for_open: bool, at: usize },
     #[error("out of memory")]
@@ -50,8 +50,9 @@ fn bad_in(for_open: bool, fault: ListFault) -> PolicyError
 }
 
 impl Policy {
-    /// Reads the texts of `--permit-open` and of `--permit-listen`: `any`, `none`, or entries `/path`, `host:port`,
-    /// `[address]:port` and `port`, with `*` for host or port. A list without texts permits all.
+    /// Reads the texts of `--permit-open` and of `--permit-listen`: `any`, `none`, or entries
+    /// `/path`, `host:port`, `[address]:port` and `port`, with `*` for host or port. A list without
+    /// texts permits all.
     pub fn read(alloc: Global, opens: &Texts, listens: &Texts) -> Result<Policy, PolicyError>
         ensures { ReadsAs result (read_policy opens.now listens.now) }
     {

@@ -54,7 +54,8 @@ impl Listed {
         self.live = true;
     }
 
-    /// The client's cancel of this rank is no longer among the unanswered ones: a later one that means it moves up.
+    /// The client's cancel of this rank is no longer among the unanswered ones: a later one that
+    /// means it moves up.
     pub fn move_up(&mut self, client: u64, rank: usize)
         ensures { forward_of self.new ≡ moved_up_of client rank (forward_of self.old) }
     {

@@ -33,8 +33,8 @@ ReplyGoesOn old new asker =
 
 -- ---- what a client is answered
 
--- for each wanted request whether it was sent, and the replies so far: what is kept is the part without an answer, and no
--- reply came before its request
+-- for each wanted request whether it was sent, and the replies so far: what is kept is the part
+-- without an answer, and no reply came before its request
 abbrev pub Waits : List Bool → List (List ℕ) → List Bool → Type 0
 Waits [] [] waiting = waiting ≡ []
 Waits [] (p ∷ heard) waiting = ⊥

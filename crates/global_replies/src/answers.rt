@@ -7,8 +7,8 @@ use ssh_fields::OutOfMemory;
 use std::alloc::Global;
 use std::marker::Model;
 
-/// What a client is still to be answered, in the order of its wanted requests: from the first on that was sent and
-/// has no reply, whether each was sent, or else refused.
+/// What a client is still to be answered, in the order of its wanted requests: from the first on
+/// that was sent and has no reply, whether each was sent, or else refused.
 #[derive(Drop)]
 pub struct ClientAnswers {
     waiting: Vec<bool>,
@@ -51,7 +51,8 @@ impl ClientAnswers {
         }
     }
 
-    /// A wanted request of the client is sent: its reply is awaited. An `Err` also comes where 2^32 - 1 requests wait.
+    /// A wanted request of the client is sent: its reply is awaited. An `Err` also comes where
+    /// 2^32 - 1 requests wait.
     pub fn awaited(&mut self) -> Result<(), OutOfMemory>
         ensures stands { OnOk result (SentGoesOn self.old self.new) }
         ensures ok { OnOk result (self.new ≡ self.old ++ true ∷ []) }
@@ -64,8 +65,9 @@ impl ClientAnswers {
         Ok(())
     }
 
-    /// A wanted request of the client is refused: true where nothing waits, so that the refusal goes out now; else it
-    /// waits behind what waits. An `Err` also comes where 2^32 - 1 requests wait.
+    /// A wanted request of the client is refused: true where nothing waits, so that the refusal
+    /// goes out now; else it waits behind what waits. An `Err` also comes where 2^32 - 1 requests
+    /// wait.
     pub fn local(&mut self) -> Result<bool, OutOfMemory>
         ensures stands { IfOk result (RefusalGoesOn self.old self.new) }
         ensures now { IfOk result (λ now. now ≡ is_none_left self.old) }
@@ -82,8 +84,8 @@ impl ClientAnswers {
         Ok(false)
     }
 
-    /// The server's reply to the client's first request came, and is the client's: so many refusals follow it now.
-    /// Where nothing waits nothing follows.
+    /// The server's reply to the client's first request came, and is the client's: so many refusals
+    /// follow it now. Where nothing waits nothing follows.
     pub fn server_answered(&mut self) -> u32
         ensures stands { AnswerGoesOn self.old self.new result }
         ensures refusals { result ≡ refusals_behind self.old }

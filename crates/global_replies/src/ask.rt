@@ -5,7 +5,8 @@ use ssh_fields::Small;
 /// The most requests that wait.
 pub const MOST_WAITING: usize = 4_294_967_295;
 
-/// A global request that was sent and wants a reply (RFC 4254, sections 4 and 7.1; OpenSSH's PROTOCOL, section 2.4).
+/// A global request that was sent and wants a reply (RFC 4254, sections 4 and 7.1; OpenSSH's
+/// PROTOCOL, section 2.4).
 #[derive(Drop)]
 pub enum Ask {
     /// `keepalive@openssh.com`

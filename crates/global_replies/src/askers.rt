@@ -9,7 +9,8 @@ use std::alloc::Global;
 use std::collections::VecDeque;
 use std::marker::Model;
 
-/// The requests of all clients that were sent and have no reply, in the order in which they were sent.
+/// The requests of all clients that were sent and have no reply, in the order in which they were
+/// sent.
 #[derive(Drop)]
 pub struct Askers {
     waiting: VecDeque<Asked>,
@@ -38,8 +39,8 @@ impl Askers {
         }
     }
 
-    /// A request of a client is sent, whose address or path has at most 255 bytes. An `Err` also comes where
-    /// 2^32 - 1 requests wait.
+    /// A request of a client is sent, whose address or path has at most 255 bytes. An `Err` also
+    /// comes where 2^32 - 1 requests wait.
     pub fn ask(&mut self, client: u64, what: Ask) -> Result<(), OutOfMemory>
         requires { IsShort what }
         ensures stands { OnOk result (AskGoesOn self.old self.new (request_of client what)) }
@@ -53,7 +54,8 @@ impl Askers {
         Ok(())
     }
 
-    /// The server's next reply answers the request that waits longest: it is taken out. None where none waits.
+    /// The server's next reply answers the request that waits longest: it is taken out. None where
+    /// none waits.
     pub fn answered(&mut self) -> Option<(u64, Ask)>
         ensures stands { ReplyGoesOn self.old self.new result }
         ensures first { FirstAsked self.old result }

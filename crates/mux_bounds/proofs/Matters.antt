@@ -1,4 +1,5 @@
--- At most 64 clients have open matters: closed ones stay closed, and one more is let in only below the limit.
+-- At most 64 clients have open matters: closed ones stay closed, and one more is let in only below
+-- the limit.
 use Rattle.std.proofs.Common.{◌≡◌, ℕ, ◌+◌, ◌≤◌, List, [], ◌∷◌, ◌++◌, true, false, Bool, refl, ◌∙◌, ap, arith, sym, subst}
 use Rattle.std.specs.Prelude.{◌==◌, ◌||◌, not, nat_lt}
 use Rattle.std.proofs.lemmas.Bool.Decides.{nat_tests}

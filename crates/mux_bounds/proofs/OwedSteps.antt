@@ -39,7 +39,8 @@ use Rattle.mux_bounds.proofs.Weights.{bound-brief, cancel-weight, close-weight, 
 
 -- ---- one payload
 
--- what it sends, and what waits for a reply after it, is at most its frame thrice and what waited before
+-- what it sends, and what waits for a reply after it, is at most its frame thrice and what waited
+-- before
 abbrev Pays : List Row → List ℕ → List (List ℕ) → Type 0
 Pays before p up = weight up + 308 * forwards_in (drop (length (reply_in (Heard p))) (unreplied before)) ≤ 3 * (length p + 5) + 308 * owed before
 

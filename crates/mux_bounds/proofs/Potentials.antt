@@ -1,4 +1,5 @@
--- What waits for the server, with what its clients can still cost, grows by no more than what is read.
+-- What waits for the server, with what its clients can still cost, grows by no more than what is
+-- read.
 use Rattle.std.proofs.Common.{◌≡◌, ℕ, ◌+◌, ◌*◌, ◌≤◌, List, [], ◌∷◌, ◌++◌, map, length, drop, false, refl, ◌∙◌, ap, arith, sym, subst, Option, None}
 use Rattle.std.proofs.lemmas.List.{append-nil}
 use Rattle.mux_outside.specs.declared.house.HouseReply.{HouseReply}

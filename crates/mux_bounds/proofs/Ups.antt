@@ -1,4 +1,5 @@
--- What a row sends for its item: a payload of the client as long as it was said, or one message of the master.
+-- What a row sends for its item: a payload of the client as long as it was said, or one message of
+-- the master.
 use Rattle.std.proofs.Common.{◌≡◌, ℕ, zero, suc, ◌+◌, ◌≤◌, List, [], ◌∷◌, length, true, false, Bool, refl, ap, arith, sym, subst, Option, Some, None, Ok, Err, inl, inr}
 use Rattle.std.specs.Prelude.{filter, nat_lt, slice_get, IfSome, Result}
 use Rattle.ssh_fields.specs.Fields.{AreBytes}

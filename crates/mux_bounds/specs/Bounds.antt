@@ -81,8 +81,9 @@ waiting_up setting marks = length (pending 0 (log_of_journal setting marks))
 abbrev pub longest_piece : ℕ
 longest_piece = 65536
 
--- a mark: for each of 64 clients a farewell, and a cancel for each of 64 requests that are answered late; besides
--- these thrice the bytes that were read, those of a frame that wasn't whole among them: 4,096,009 bytes
+-- a mark: for each of 64 clients a farewell, and a cancel for each of 64 requests that are answered
+-- late; besides these thrice the bytes that were read, those of a frame that wasn't whole among
+-- them: 4,096,009 bytes
 abbrev pub longest_mark : ℕ
 longest_mark = longest_farewells + MAX_CLIENTS * (MAX_FORWARDINGS * longest_cancel) + 3 *
     (LONGEST_FRAME + 3 + longest_piece)
@@ -130,8 +131,8 @@ ServerQueueIsBounded =
 
 -- ---- all marks of a wire
 
--- where what is read and accepted comes right behind a wait for it, as every wire keeps it, and where each wait keeps
--- what a run promises of it, so much waits for the server at no row
+-- where what is read and accepted comes right behind a wait for it, as every wire keeps it, and
+-- where each wait keeps what a run promises of it, so much waits for the server at no row
 abbrev pub RunsAreBounded : Type 0
 RunsAreBounded =
     OverJournals (λ setting marks rows. Throughout ReadsWhenAsked marks

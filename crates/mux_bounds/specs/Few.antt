@@ -1,5 +1,5 @@
--- How many channels, forwardings, requests and clients there are at most: each holds of every right log of a lawful
--- wire, whatever numbers are picked and whatever the house replies.
+-- How many channels, forwardings, requests and clients there are at most: each holds of every right
+-- log of a lawful wire, whatever numbers are picked and whatever the house replies.
 use Rattle.std.specs.Prelude.{ℕ, ◌+◌, ◌≡◌, ◌≤◌, List, [], false, length}
 use Rattle.mux_history.specs.declared.limits.TheConstants.{MAX_CHANNELS, MAX_CLIENTS, MAX_FORWARDINGS, MAX_GLOBAL_REQUESTS}
 use Rattle.mux_history.specs.Rows.{Row, rows_of, is_lost}

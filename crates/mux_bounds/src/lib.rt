@@ -1,6 +1,6 @@
-//! How much there is at most over all runs of a master: channels, forwardings, requests and clients, the
-//! bytes that wait for the server, and no reply that comes before its request. Each function's contract is a
-//! law of the history.
+//! How much there is at most over all runs of a master: channels, forwardings, requests and
+//! clients, the bytes that wait for the server, and no reply that comes before its request. Each
+//! function's contract is a law of the history.
 #![tactic(auto)]
 
 mod laws;

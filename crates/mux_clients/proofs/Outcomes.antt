@@ -1,4 +1,5 @@
--- What the outcome of a payload depends on, what one tells that drops its client, and that none refuses it.
+-- What the outcome of a payload depends on, what one tells that drops its client, and that none
+-- refuses it.
 use Rattle.std.proofs.Common.{◌≡◌, ℕ, List, [], ◌∷◌, true, false, Bool, refl, ◌∙◌, ap, sym, subst, Option, Some, None, Ok, Err, Result, length}
 use Rattle.std.specs.Prelude.{◌&&◌, ◌==◌, is_some, nat_lt}
 use Rattle.ssh_grammar.specs.declared.side.Side.TheVariants.{Up}

@@ -84,8 +84,8 @@ abbrev pub rows_told : Policy → ℕ → List ℕ → List HouseReply → List 
 rows_told policy pid picks given before bytes rows =
     more_all (by_lists policy pid picks given) rows (new_heard before (before ++ bytes))
 
--- how a piece leaves all clients, by these rows: it takes no number and no reply, and stops nobody, and these
--- are the losses by it
+-- how a piece leaves all clients, by these rows: it takes no number and no reply, and stops nobody,
+-- and these are the losses by it
 pub record IsHeardTo (before bytes : List ℕ) (noted : List (ℕ × Option Why)) (rows rows' : List Row)
     (core : CoreState) (cs : List ClientState) (queue : QueueState) (rest : List ℕ) (index : ℕ)
     (ended : Option Ended) : Type 0 where

@@ -48,8 +48,8 @@ fn note_loss(
     }
 }
 
-/// The client of a number hears a payload of the server, and then so many refusals, after the core has heard it. Where it is lost
-/// by that, it is pushed to `leaving`, with the cause.
+/// The client of a number hears a payload of the server, and then so many refusals, after the core
+/// has heard it. Where it is lost by that, it is pushed to `leaving`, with the cause.
 pub fn hear_at(
     clients: &mut [Client],
     number: u64,
@@ -112,7 +112,8 @@ pub fn got_at<H: House>(
     })
 }
 
-/// The stream of the client of a number is gone: what it left open is closed, where it isn't lost already.
+/// The stream of the client of a number is gone: what it left open is closed, where it isn't lost
+/// already.
 pub fn lose_at(clients: &mut [Client], number: u64, core: &mut Core, up: &mut Queue)
     requires room { HasRoom clients.old up.old }
     ensures loses { is_present clients.old number ≡ true

@@ -48,7 +48,8 @@ impl Model for Client {
         → (a.framer.framing ≡ framing_of a.seat.standing) × (a.framer.fault ≡ None) };
 }
 
-/// A client comes: whether it is let in. Then the master's hello waits for it, and its own is awaited.
+/// A client comes: whether it is let in. Then the master's hello waits for it, and its own is
+/// awaited.
 pub fn admit(
     clients: &mut Vec<Client>,
     alloc: Global,
@@ -170,7 +171,8 @@ impl Client {
         self.seat.took(n);
     }
 
-    /// It hears a payload of the server, and then so many refusals, after the core has heard it. One that is lost hears nothing.
+    /// It hears a payload of the server, and then so many refusals, after the core has heard it.
+    /// One that is lost hears nothing.
     pub fn hears(
         &mut self,
         payload: &[u8],

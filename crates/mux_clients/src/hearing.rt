@@ -12,8 +12,8 @@ use mux_history::{Ended, Why};
 use proxy_frames::Queue;
 use ssh_fields::OutOfMemory;
 
-/// The server says a payload, its `index`th: how the run ends by it, if it does. A client that is lost by it is pushed to `leaving`,
-/// with the cause.
+/// The server says a payload, its `index`th: how the run ends by it, if it does. A client that is
+/// lost by it is pushed to `leaving`, with the cause.
 pub fn hear(
     clients: &mut [Client],
     index: u64,

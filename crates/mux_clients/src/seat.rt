@@ -235,7 +235,8 @@ impl Seat {
         }
     }
 
-    // It is told a control frame, where there is one and it fits into the queue; else why it is to be dropped.
+    // It is told a control frame, where there is one and it fits into the queue; else why it is to
+    // be dropped.
     fn tell_frame(&mut self, answer: &Option<Small>) -> Result<Option<Why>, OutOfMemory>
         ensures queue { OnOk result (self.new ≡ told (frames answer.now) self.old) }
         ensures full { IfOk result (λ full. full ≡ full_of (frames answer.now) self.old) }

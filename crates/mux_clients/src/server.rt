@@ -100,8 +100,9 @@ impl Server {
         }
     }
 
-    /// Its stream gave bytes, where it is read: how the run ended by them, if it did. After an end it isn't read again.
-    /// The clients that are lost by it are pushed to `leaving`, in that order, each with the cause.
+    /// Its stream gave bytes, where it is read: how the run ended by them, if it did. After an end
+    /// it isn't read again. The clients that are lost by it are pushed to `leaving`, in that order,
+    /// each with the cause.
     pub fn got(
         &mut self,
         clients: &mut [Client],

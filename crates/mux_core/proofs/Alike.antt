@@ -1,4 +1,5 @@
--- Forwardings of which neither the client nor the cancel changes: their order, and how many there are.
+-- Forwardings of which neither the client nor the cancel changes: their order, and how many there
+-- are.
 use Rattle.std.proofs.Common.{◌≡◌, ◌<◌, ℕ, List, [], ◌∷◌, length, map, true, false, Bool, refl, ◌∙◌, ap, sym, subst, suc}
 use Rattle.std.specs.Prelude.{filter, ◌==◌, ◌&&◌, is_some}
 use Rattle.std.specs.List.{AllByRecursion}

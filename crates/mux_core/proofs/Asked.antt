@@ -1,4 +1,5 @@
--- A request for a forwarding, and one that cancels one, are sent: the list stands for the forwardings after them.
+-- A request for a forwarding, and one that cancels one, are sent: the list stands for the
+-- forwardings after them.
 use Rattle.std.proofs.Common.{◌≡◌, ◌≤◌, ◌<◌, ℕ, List, [], ◌∷◌, ◌++◌, length, true, false, Bool, refl, ◌∙◌, ap, sym, subst, Some, None, arith, suc, zero}
 use Rattle.std.specs.Prelude.{filter, ◌==◌, ◌&&◌, ◌||◌, ◌⊎◌, slice_get}
 use Rattle.std.proofs.Common.{inl, inr}

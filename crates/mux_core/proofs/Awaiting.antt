@@ -1,4 +1,5 @@
--- A server's open that waits for its client's answer: what the core finds is what the history finds.
+-- A server's open that waits for its client's answer: what the core finds is what the history
+-- finds.
 use Rattle.std.proofs.Common.{◌≡◌, ℕ, List, [], ◌∷◌, true, false, Bool, refl, ◌∙◌, ap, sym, subst, Option, Some, None}
 use Rattle.std.specs.Prelude.{find, not, ◌==◌, ◌&&◌, option_map}
 use Rattle.std.specs.List.{AllByRecursion}

@@ -1,4 +1,5 @@
--- The server's success to a forwarding's request: the first that its client has asked with that key is live.
+-- The server's success to a forwarding's request: the first that its client has asked with that key
+-- is live.
 use Rattle.std.proofs.Common.{◌≡◌, ◌≤◌, ◌<◌, ℕ, List, [], ◌∷◌, map, true, false, Bool, refl, ◌∙◌, ap, sym, subst, Option, Some, None, arith}
 use Rattle.std.specs.Prelude.{find, ◌==◌, ◌&&◌, not, is_some, is_none, slice_get, unwrap_or}
 use Rattle.std.specs.List.{AllByRecursion}

@@ -1,4 +1,5 @@
--- What a farewell makes of the channels of its client: each payload is for one of them, and the cancels for none.
+-- What a farewell makes of the channels of its client: each payload is for one of them, and the
+-- cancels for none.
 use Rattle.std.proofs.Common.{◌≡◌, ◌<◌, ℕ, List, [], ◌∷◌, ◌++◌, true, false, Bool, refl, ◌∙◌, ap, sym, Option, Some, None, Ok, Result, Err, arith}
 use Rattle.std.specs.Prelude.{◌&&◌, is_none, flat_map}
 use Rattle.std.specs.List.{AllByRecursion}

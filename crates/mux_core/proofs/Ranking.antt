@@ -1,4 +1,5 @@
--- The cancel that the server's reply answers: of the client's that have none, it was sent first, in the list as in the history.
+-- The cancel that the server's reply answers: of the client's that have none, it was sent first, in
+-- the list as in the history.
 use Rattle.std.proofs.Common.{◌≡◌, ◌≤◌, ℕ, List, [], ◌∷◌, true, false, Bool, refl, ◌∙◌, ap, sym, subst, Option, Some, None, arith}
 use Rattle.std.specs.Prelude.{◌==◌, ◌&&◌, is_some, nat_lt, min, unwrap_or, slice_get}
 use Rattle.std.specs.List.{AllByRecursion}

@@ -26,7 +26,8 @@ use Rattle.mux_core.proofs.Replied.{Replies, awaited-next, each-next, never, num
 abbrev pub released : ℕ → ℕ → Forwarding → Forwarding
 released k place g = elim (leaves_at k place g) [ true ↦ record g { cancel = None } | false ↦ g ]
 
--- what becomes of a pair: it is another client's, the one that is meant, or another one of the client
+-- what becomes of a pair: it is another client's, the one that is meant, or another one of the
+-- client
 pub data Seen (k place rank : ℕ) (f : Forward) (g : Forwarding) : Type 0 where
   Other : (g.client == k) ≡ false → without_cancel_of k rank f ≡ f → released k place g ≡ g → Seen k place rank f g
   Meant : (g.client == k) ≡ true → f.cancel ≡ Some rank → g.cancel ≡ Some place → without_cancel_of k rank f ≡ record f { cancel = None } → released k place g ≡ record g { cancel = None } → Seen k place rank f g

@@ -125,7 +125,8 @@ told_by (heard.Client k refusals) p =
     frame_payload p ∷ replicate refusals (frame_payload request_failure)
 told_by h p = []
 
--- a client that is lost is named so; of one that isn't, an open that is answered for it is the master's
+-- a client that is lost is named so; of one that isn't, an open that is answered for it is the
+-- master's
 abbrev pub GoesTo : ℕ → Bool → declared.Heard → Type 0
 GoesTo k lost heard.Master = lost ≡ false
 GoesTo k lost (heard.Client j refusals) = (lost ≡ false) × (j ≡ k)
@@ -180,7 +181,8 @@ HearsOn old new p p' up up' h = (rows : List Row) → Stands old rows
 
 -- ---- gone
 
--- a row that loses its client and sent nothing: its stream is gone, or it is dropped for what it says
+-- a row that loses its client and sent nothing: its stream is gone, or it is dropped for what it
+-- says
 abbrev pub IsUnsent : Item → ℕ → Type 0
 IsUnsent (Gone j) k = j ≡ k
 IsUnsent (Says j saying given) k = j ≡ k

@@ -7,7 +7,8 @@ use Rattle.mux_core.specs.declared.heard.Heard.TheVariants as heard
 use Rattle.mux_core.specs.State.{CoreState}
 use Rattle.mux_core.specs.Settling.{settled}
 
--- to its client, under the client's own number; one that is lost is forgotten, where nothing of it is left
+-- to its client, under the client's own number; one that is lost is forgotten, where nothing of it
+-- is left
 abbrev pub DeliversAs : Bool → CoreState → CoreState → Channel → List ℕ → List ℕ → declared.Heard
     → Type 0
 DeliversAs true old new c p p' h = (new ≡ settled old c.client) × (h ≡ heard.Lost c.client)

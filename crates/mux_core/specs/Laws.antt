@@ -9,7 +9,8 @@ use Rattle.mux_core.specs.State.{CoreState}
 use Rattle.mux_core.specs.Stands.{Stands}
 use Rattle.mux_core.specs.Calls.{said_row}
 
--- a row of what neither a client in proxy mode nor the server says, which loses nobody and lets nobody in
+-- a row of what neither a client in proxy mode nor the server says, which loses nobody and lets
+-- nobody in
 pub record IsIdle (row : Row) : Type 0 where
   pub plain : IsPlain row
   pub keeps : loses row ≡ false

@@ -35,7 +35,8 @@ with_waiting k change (c ∷ cs) = elim (c.number == k) [
 abbrev pub more_awaited : List Bool → List Bool
 more_awaited w = w ++ true ∷ []
 
--- the verdict on a request that is refused: the refusal goes out at once, or waits; one that wants no reply has none
+-- the verdict on a request that is refused: the refusal goes out at once, or waits; one that wants
+-- no reply has none
 abbrev pub refusal_now : Bool → Verdict
 refusal_now true = verdict.Answer request_failure
 refusal_now false = verdict.Held

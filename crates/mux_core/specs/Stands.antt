@@ -33,7 +33,8 @@ is_whole e = has_numbers (confirmed e.ledger) e.channel.by e.channel.own e.chann
 abbrev pub HasSmall : Entry → Type 0
 HasSmall e = (s : ℕ) → e.channel.remote ≡ Some s → s < 4294967296
 
--- the table stands for the channels that are held; no number names two of them, and no client holds more than 256
+-- the table stands for the channels that are held; no number names two of them, and no client holds
+-- more than 256
 pub record TableFits (es : List Entry) (held : List Channel) : Type 0 where
   pub fit : ChannelsFit es held
   pub apart : AreApart es
@@ -44,8 +45,9 @@ pub record TableFits (es : List Entry) (held : List Channel) : Type 0 where
 
 -- ---- what is looked up besides
 
--- all requests and those of each client, the forwardings that are asked or live, the clients that were let in, and of each
--- client whether it was let in, whether it is lost, and what it is still to be answered
+-- all requests and those of each client, the forwardings that are asked or live, the clients that
+-- were let in, and of each client whether it was let in, whether it is lost, and what it is still
+-- to be answered
 pub record Look : Type 0 where
   pub all : Places
   pub own : ℕ → Places
@@ -72,7 +74,8 @@ look rows = record {
 abbrev pub unreplied_in : Places → List Ask
 unreplied_in places = drop places.replied places.asked
 
--- no reply of a client came before its request, and the requests of it that wait are those among all that wait
+-- no reply of a client came before its request, and the requests of it that wait are those among
+-- all that wait
 pub record OwnRequests (k : ℕ) (all own : Places) : Type 0 where
   pub awaited : own.replied ≤ length own.asked
   pub waiting : unreplied_in own ≡ filter (λ a. a.client == k) (unreplied_in all)
@@ -84,7 +87,8 @@ pub record AsksFit (queue : List Ask) (l : Look) : Type 0 where
 
 -- ---- clients
 
--- a client stands for its rows: while it isn't lost, what it is still to be answered is what they leave unanswered
+-- a client stands for its rows: while it isn't lost, what it is still to be answered is what they
+-- leave unanswered
 pub record ClientFits (l : Look) (c : ClientState) : Type 0 where
   pub nonzero : c.number ≢ 0
   pub admitted : l.admitted c.number ≡ true

@@ -6,15 +6,15 @@ use Rattle.mux_history.specs.Requests.{Ask}
 use Rattle.channel_table.specs.Entries.{Entry}
 use Rattle.forward_rules.specs.State.{Forward}
 
--- a client with open matters: whether it is lost, and what it is still to be answered, for each of its requests from the
--- first on that was sent and has no reply, whether it was sent
+-- a client with open matters: whether it is lost, and what it is still to be answered, for each of
+-- its requests from the first on that was sent and has no reply, whether it was sent
 pub record ClientState : Type 0 where
   pub number : ℕ
   pub lost : Bool
   pub waiting : List Bool
 
--- the channels that are held, the requests without a reply, the clients with open matters, and the forwardings that are
--- asked or live
+-- the channels that are held, the requests without a reply, the clients with open matters, and the
+-- forwardings that are asked or live
 pub record CoreState : Type 0 where
   pub policy : Policy
   pub channels : List Entry

@@ -6,7 +6,8 @@ use client_teardown::FAREWELL_ROOM;
 use proxy_frames::Queue;
 
 impl Core {
-    /// A client is lost: its stream is gone, or it is dropped. The farewell goes up, in the room that is reserved.
+    /// A client is lost: its stream is gone, or it is dropped. The farewell goes up, in the room
+    /// that is reserved.
     pub fn gone(&mut self, client: u64, up: &mut Queue)
         requires { FAREWELL_ROOM ≤ up.old.spare }
         ensures unsent { LeavesUnsent self.old self.new client up.old up.new }

@@ -56,7 +56,8 @@ fn told_port(rest: &[u8]) -> u32
     Cursor::new(rest).take_u32().unwrap_or(0)
 }
 
-// What follows for a client that is lost where its request succeeds: what it asked for is cancelled.
+// What follows for a client that is lost where its request succeeds: what it asked for is
+// cancelled.
 fn late_success(request: Request<'_>, rest: &[u8]) -> Option<Small>
     requires { MayBeCancelled (request_of request) }
     ensures exact { listed result ≡ late_success rest.now (request_of request.entry) }
@@ -81,7 +82,8 @@ fn late_refusal(request: Request<'_>) -> Option<Small>
 }
 
 impl Core {
-    /// The server says a payload. Where it goes to a client it has the client's own number for the channel afterwards.
+    /// The server says a payload. Where it goes to a client it has the client's own number for the
+    /// channel afterwards.
     pub fn heard(&mut self, payload: &mut [u8], up: &mut Queue) -> Result<Heard, OutOfMemory>
         requires { length payload.old ≤ 262143 }
         ensures stands { IfOk result (λ h.
@@ -143,7 +145,8 @@ impl Core {
         Ok(Heard::Master)
     }
 
-    // A success: to the client whose request waits longest, and where that is lost what it asked for is cancelled.
+    // A success: to the client whose request waits longest, and where that is lost what it asked
+    // for is cancelled.
     fn hear_success(
         &mut self,
         payload: &[u8],
@@ -171,7 +174,8 @@ impl Core {
         Ok(self.pass_on(client))
     }
 
-    // A failure: to the client whose request waits longest, and where that is lost its cancel is said again.
+    // A failure: to the client whose request waits longest, and where that is lost its cancel is
+    // said again.
     fn hear_refusal(&mut self, payload: &[u8], up: &mut Queue) -> Result<Heard, OutOfMemory>
         ensures stands { IfOk result (λ h.
             HearsWith self.old self.new payload.now payload.now Refuses up.old up.new h) }

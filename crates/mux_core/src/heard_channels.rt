@@ -76,7 +76,8 @@ impl Core {
         }
     }
 
-    // The server confirms a client's open: the client is told, and for one that is lost the master closes the channel.
+    // The server confirms a client's open: the client is told, and for one that is lost the master
+    // closes the channel.
     pub(crate) fn hear_confirmation(
         &mut self,
         payload: &mut [u8],
@@ -150,7 +151,8 @@ impl Core {
         self.deliver(&channel, payload)
     }
 
-    // What the server says in a channel goes to its client. One that is lost is forgotten, where nothing of it is left.
+    // What the server says in a channel goes to its client. One that is lost is forgotten, where
+    // nothing of it is left.
     fn deliver(&mut self, channel: &Channel, payload: &mut [u8]) -> Heard
         ensures goes { DeliversAs (is_lost_in self.old.clients channel.now.client)
             self.old self.new channel.now payload.old payload.new result }

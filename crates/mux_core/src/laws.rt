@@ -1,4 +1,5 @@
-//! What a caller needs to know of the log that a core stands for: each function's contract is the law.
+//! What a caller needs to know of the log that a core stands for: each function's contract is the
+//! law.
 
 ghost use Rattle.mux_core.specs.Laws.{CarriesPick, DownIsFree, IdleRowsStay};
 

@@ -29,8 +29,8 @@ fn refuse(sender: u32, reason: u32, text: &[u8]) -> Verdict
 }
 
 impl Core {
-    /// A client that is served says a payload. A `Drop` changes nothing: the next call is `gone`, which completes the
-    /// row.
+    /// A client that is served says a payload. A `Drop` changes nothing: the next call is `gone`,
+    /// which completes the row.
     pub fn said(
         &mut self,
         client: u64,

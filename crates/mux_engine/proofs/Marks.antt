@@ -1,4 +1,5 @@
--- One mark more: what holds while a wire is served goes on with it, and is left of it for want of memory.
+-- One mark more: what holds while a wire is served goes on with it, and is left of it for want of
+-- memory.
 use Rattle.std.proofs.Common.{◌≡◌, ◌≤◌, ◌<◌, ℕ, true, false, List, [], ◌∷◌, ◌++◌, length, Option, None, refl, sym, ap, ◌∙◌, subst, inl, inr, arith, append_assoc, append-nil}
 use Rattle.std.specs.Option.{option_map}
 use Rattle.mux_outside.specs.House.{Asked}
@@ -64,7 +65,8 @@ pub record SoundAt (setting : Setting) (journal : List Mark) (mark : Mark) (todo
   pub failed_out : (t : ℕ) → write_failed t (mark ∷ journal) ≡ true → s.ended ≡ None → is_out (rows_of t (log_of_journal setting (mark ∷ journal))) ≡ true
   pub settled : (t : ℕ) → among t todo ≡ false → IsSettled setting (mark ∷ journal) t
 
--- how the wire and the engine, which was `s` and is `s'`, stand behind it, with the numbers and replies of now
+-- how the wire and the engine, which was `s` and is `s'`, stand behind it, with the numbers and
+-- replies of now
 pub record Next (policy : Policy) (pid : ℕ) (picked : List ℕ) (replies : List HouseReply) (s s' : State) (journal : List Mark) (seen seen' : Seen) (held given todo : _) (mark : Mark) : Type 0 where
   pub told : seen'.told ≡ option_map (λ m. m ++ mark ∷ []) seen.told
   pub policy_is : s'.core.policy ≡ s.core.policy

@@ -1,4 +1,5 @@
--- What streams took begins what their unshared connections give, also where want of memory cut the rows.
+-- What streams took begins what their unshared connections give, also where want of memory cut the
+-- rows.
 use Rattle.std.proofs.Common.{◌≡◌, ℕ, Bool, true, false, List, [], ◌∷◌, ◌++◌, refl, sym, ap, ◌∙◌, subst, take, append_assoc, append-nil, inl, inr, arith}
 use Rattle.std.specs.Prelude.{◌==◌}
 use Rattle.std.proofs.lemmas.Bool.Decides.{nat_tests}

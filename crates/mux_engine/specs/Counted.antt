@@ -28,8 +28,9 @@ abbrev pub Counts : {A E : Type 0} → ℕ → Result A E → Calls → Calls �
 Counts waits (Ok x) old new = Well waits old new
 Counts waits (Err e) old new = Cut waits old new
 
--- of a run: with its turns spent it made as many calls of `wait` as it has turns, and no other end but for want of memory
--- comes without one; where a call wanted memory it was the last, and the run ended for want of memory
+-- of a run: with its turns spent it made as many calls of `wait` as it has turns, and no other end
+-- but for want of memory comes without one; where a call wanted memory it was the last, and the run
+-- ended for want of memory
 pub record Stops (turns : ℕ) (answer : Ended) (old new : Calls) : Type 0 where
   pub few : new.waits ≤ old.waits + turns
   pub spent : answer ≡ Spent → old.waits < 2 ^ 64 → new.waits ≡ min (old.waits + turns) (2 ^ 64 - 1)

@@ -23,7 +23,8 @@ use Rattle.mux_bounds.specs.Bounds.{IsLog, RestsShort, StaysBelow}
 use Rattle.mux_bounds.specs.Few.{ChannelsBounded, ForwardingsBounded, LeavesNothing, MattersBounded, RequestsBounded, UnansweredBounded}
 use Rattle.mux_clients.specs.Asked.{asked_of, TellsAsks}
 
--- a journal that a wire can give: it is lawful, and the wire read and accepted only right behind a wait for that
+-- a journal that a wire can give: it is lawful, and the wire read and accepted only right behind a
+-- wait for that
 pub record IsOfWire (journal : List Mark) : Type 0 where
   pub lawful : IsLawful journal
   pub asked : Throughout ReadsWhenAsked journal
@@ -34,17 +35,18 @@ pub record EndsRight (setting : Setting) (turns : ℕ) (journal : List Mark) (an
   pub end : ConnectionEnds setting turns journal answer
   pub settled : Settled setting journal
 
--- what the stream of each admitted client took begins, byte for byte, what its unshared connection gives it
+-- what the stream of each admitted client took begins, byte for byte, what its unshared connection
+-- gives it
 abbrev pub TakesUnshared : Setting → List Mark → List Row → Type 0
 TakesUnshared setting journal rows =
     (k : ℕ) → 0 < k → IsAdmitted k rows
     → IsFront (taken_by k journal) (given_to k (solo setting k rows))
 
--- what is promised of rows: windows, permissions, askers, what is delivered and what goes up, numbers and the
--- unshared connection of each admitted client; byte for byte it is given what that connection gives, and what is
--- sent for it is, payload by payload, what that sends; the numbers that were picked; the master's own words; and at
--- every row the limits, that nothing is left of a client whose matters are closed, and how much waits for a client
--- and for the server
+-- what is promised of rows: windows, permissions, askers, what is delivered and what goes up,
+-- numbers and the unshared connection of each admitted client; byte for byte it is given what that
+-- connection gives, and what is sent for it is, payload by payload, what that sends; the numbers
+-- that were picked; the master's own words; and at every row the limits, that nothing is left of a
+-- client whose matters are closed, and how much waits for a client and for the server
 pub record KeepsRows (setting : Setting) (rows : List Row) : Type 0 where
   pub kept : Kept setting rows
   pub gives : GivesAlike setting rows
@@ -60,12 +62,14 @@ pub record KeepsRows (setting : Setting) (rows : List Row) : Type 0 where
   pub client_queues : AtEach WaitsBounded rows
   pub server_queue : AtEach StaysBelow rows
 
--- The journal is what the wire told in this run, where it tells: one that a wire can give. There are numbers that were picked,
--- and replies that the house may give, for which all is written and kept open as it must be. The rows are those of the whole
--- journal; want of memory may have cut those of its last mark. Each number is fresh at its row, and there is one for each row
--- that takes one, and one reply for each row that asks; the house, which told `before` and tells `now`, was told exactly the
--- asks of these rows with these replies, and where memory was wanting perhaps some more. These rows, and all others that want of memory
--- may have left, keep what is promised of rows; and but for want of memory the run ends right.
+-- The journal is what the wire told in this run, where it tells: one that a wire can give. There
+-- are numbers that were picked, and replies that the house may give, for which all is written and
+-- kept open as it must be. The rows are those of the whole journal; want of memory may have cut
+-- those of its last mark. Each number is fresh at its row, and there is one for each row that takes
+-- one, and one reply for each row that asks; the house, which told `before` and tells `now`, was
+-- told exactly the asks of these rows with these replies, and where memory was wanting perhaps some
+-- more. These rows, and all others that want of memory may have left, keep what is promised of
+-- rows; and but for want of memory the run ends right.
 pub record IsRun (May : HouseReply → Type 0) (policy : Policy) (pid turns : ℕ)
     (before now : Option (List Asked)) (start told : Option (List Mark)) (answer : Ended) :
     Type 0 where

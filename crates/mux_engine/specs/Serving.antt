@@ -33,8 +33,8 @@ pub record Kept (setting : Setting) (journal : List Mark) : Type 0 where
   pub written : Written setting journal
   pub open_streams : OpenStreams setting journal
 
--- all that was promised so far: while the run goes on, a client to whose stream a write failed is out; and the streams that
--- are not in `todo` were offered what waits for them
+-- all that was promised so far: while the run goes on, a client to whose stream a write failed is
+-- out; and the streams that are not in `todo` were offered what waits for them
 pub record IsSound (setting : Setting) (journal : List Mark) (todo : List ℕ) (s : State) :
     Type 0 where
   pub kept : Kept setting journal
@@ -48,10 +48,11 @@ pub record IsUnseen (journal : List Mark) (blocked : List ℕ) (k : ℕ) : Type 
   pub never_blocked : is_blocked k journal ≡ false
   pub not_blocked : among k blocked ≡ false
 
--- with the numbers that were picked and the replies that the house gave, one to each ask that it was told since it told
--- `before`, the engine stands for what the wire told since the start, in which `given` turns were asked for; the journal is
--- one that a wire can give; the streams that are open are the server's and those of the clients that are here; and whatever
--- is picked and replied later, all is sound
+-- with the numbers that were picked and the replies that the house gave, one to each ask that it
+-- was told since it told `before`, the engine stands for what the wire told since the start, in
+-- which `given` turns were asked for; the journal is one that a wire can give; the streams that are
+-- open are the server's and those of the clients that are here; and whatever is picked and replied
+-- later, all is sound
 pub record Serving (May : HouseReply → Type 0) (before now : Option (List Asked)) (policy : Policy)
     (pid : ℕ) (start : Option (List Mark)) (seen : Seen) (held : List ℕ) (given : ℕ) (todo : List ℕ)
     (s : State) : Type 0 where

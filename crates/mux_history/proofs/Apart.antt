@@ -1,4 +1,5 @@
--- The channels of a log stay apart: no two that are not over share a number, a server's number, or a client's own.
+-- The channels of a log stay apart: no two that are not over share a number, a server's number, or
+-- a client's own.
 use Rattle.std.proofs.Common.{◌≡◌, ℕ, ◌<◌, List, [], ◌∷◌, ◌++◌, true, false, Bool, refl, ◌∙◌, ap, arith, map, sym, Option, Some, None, subst, inl, inr}
 use Rattle.std.specs.Prelude.{◌==◌, filter, find, ◌⊎◌}
 use Rattle.std.proofs.lemmas.Bool.Decides.{nat_tests}

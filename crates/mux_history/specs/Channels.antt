@@ -6,8 +6,9 @@ use Rattle.ssh_grammar.specs.Said.{Saying, Body, Payload, BadFraming}
 use Rattle.mux_history.specs.Gist.{Act, Confirms, Fails, Ends, Closes, Gist, Open, Confirmation, Within, reading, sender_of}
 use Rattle.mux_history.specs.Rows.{Row, any_of, Item, Says, Heard}
 
--- a channel: its client, who opened it, the client's own number, the number that stands for it towards the server,
--- the server's number, the opener's window and maximum, and all that was done in it, the newest first
+-- a channel: its client, who opened it, the client's own number, the number that stands for it
+-- towards the server, the server's number, the opener's window and maximum, and all that was done
+-- in it, the newest first
 pub record Channel : Type 0 where
   pub client : ℕ
   pub by : Side
@@ -75,7 +76,8 @@ is_held x = not (is_over x)
 
 -- ---- what one message does to a channel
 
--- what is sent down under the number that stands for the channel; a confirmation brings the server's number
+-- what is sent down under the number that stands for the channel; a confirmation brings the
+-- server's number
 abbrev pub with_down : Gist → Channel → Channel
 with_down (Confirmation n s w m) x = elim (is_number x.number n && is_held x) [
   | true ↦ record x { remote = Some s; acts = (Down, Confirms w m) ∷ x.acts }
@@ -136,7 +138,8 @@ after_farewell row x =
 
 -- ---- the channels of a log
 
--- a client's open that is sent: the number that stands for the channel is the sender in the payload that went up
+-- a client's open that is sent: the number that stands for the channel is the sender in the payload
+-- that went up
 abbrev pub opened_up : ℕ → List (List ℕ) → Gist → List Channel
 opened_up k [] m = []
 opened_up k (p ∷ ps) (Open what c w m) =

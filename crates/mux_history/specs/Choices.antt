@@ -1,4 +1,5 @@
--- The choices of a run: the fresh channel numbers and the replies of the house, each list read by position.
+-- The choices of a run: the fresh channel numbers and the replies of the house, each list read by
+-- position.
 use Rattle.std.specs.Prelude.{ℕ, ◌+◌, List, [], ◌∷◌, Option, Some, None, Bool, true, false, ◌&&◌, is_some, slice_index, slice_get, unwrap_or}
 use Rattle.mux_outside.specs.declared.house.HouseReply.{HouseReply}
 use Rattle.mux_outside.specs.declared.house.HouseReply.TheVariants as reply
@@ -8,7 +9,8 @@ use Rattle.mux_history.specs.Channels.{own_of}
 use Rattle.mux_history.specs.Requests.{is_sent}
 use Rattle.mux_history.specs.Controls.{greeted, body_asks}
 
--- in a run, two lists; for a client alone, the number that it says itself and the reply that its item carries
+-- in a run, two lists; for a client alone, the number that it says itself and the reply that its
+-- item carries
 pub data Choices : Type 0 where
   FromLists : (picks : List ℕ) (replies : List HouseReply) → Choices
   TheirOwn : Choices

@@ -18,7 +18,8 @@ abbrev pub to_number : Option ℕ → (ℕ → List ℕ) → List (List ℕ)
 to_number None f = []
 to_number (Some n) f = f n ∷ []
 
--- CLOSE on a confirmed channel on which the client has not sent it; OPEN_FAILURE for a server's open without an answer
+-- CLOSE on a confirmed channel on which the client has not sent it; OPEN_FAILURE for a server's
+-- open without an answer
 abbrev pub leave_channel : Channel → List (List ℕ)
 leave_channel x = elim (is_confirmed x) [
   | true ↦ elim (any_by Up is_closes x.acts) [ true ↦ [] | false ↦ to_number x.remote close ]
@@ -35,8 +36,9 @@ cancel_live (Some key) = cancel_forward key ∷ []
 abbrev pub leave_forwarding : Forwarding → List (List ℕ)
 leave_forwarding f = elim (is_none f.cancel) [ true ↦ cancel_live f.live | false ↦ [] ]
 
--- for the row that loses the client, with its other outputs, after the client's rows before it: channels in the order in
--- which they began, then forwardings in order of asking; the loss itself has not ended the forwardings here
+-- for the row that loses the client, with its other outputs, after the client's rows before it:
+-- channels in the order in which they began, then forwardings in order of asking; the loss itself
+-- has not ended the forwardings here
 abbrev pub farewell : Row → List Row → List (List ℕ)
 farewell row own =
     flat_map leave_channel (held_of (row ∷ own))
@@ -60,8 +62,9 @@ abbrev pub with_ask : Option Ask → (Global → List (List ℕ)) → List (List
 with_ask None f = []
 with_ask (Some a) f = f a.what
 
--- what a message for a lost client sends up, after the client's rows before it: CLOSE after a confirmation, a cancel
--- without reply after a success of its forwarding request or a failure of its cancel
+-- what a message for a lost client sends up, after the client's rows before it: CLOSE after a
+-- confirmation, a cancel without reply after a success of its forwarding request or a failure of
+-- its cancel
 abbrev pub late : Gist → List Row → List (List ℕ)
 late (Confirmation n s w m) own = close s ∷ []
 late (Succeeds rest) own = with_ask (asker own) (late_success rest)
@@ -70,7 +73,8 @@ late _ own = []
 
 -- ---- open matters
 
--- a client's matters are open while it is admitted and not lost, holds a channel, or has a sent request without reply
+-- a client's matters are open while it is admitted and not lost, holds a channel, or has a sent
+-- request without reply
 abbrev pub has_open_matters : List Row → Bool
 has_open_matters own =
     (any_of is_admit own && not (is_lost own))

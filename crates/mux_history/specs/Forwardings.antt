@@ -1,5 +1,6 @@
--- Remote forwardings of ports (RFC 4254, section 7.1) and of paths (OpenSSH's PROTOCOL, section 2.4), looked up in the
--- rows. A request is known by its place among its client's sent wanted requests.
+-- Remote forwardings of ports (RFC 4254, section 7.1) and of paths (OpenSSH's PROTOCOL, section
+-- 2.4), looked up in the rows. A request is known by its place among its client's sent wanted
+-- requests.
 use Rattle.std.specs.Prelude.{ℕ, ◌==◌, List, [], ◌∷◌, ◌++◌, Option, Some, None, Bool, true, false, not, ◌&&◌, length, map, filter, find, is_none}
 use Rattle.ssh_grammar.specs.Messages.{Key, Forward, Cancel}
 use Rattle.ssh_grammar.specs.Said.{Payload}
@@ -9,8 +10,8 @@ use Rattle.mux_history.specs.Channels.{is_number}
 use Rattle.mux_history.specs.Keys.{has_key, bound}
 use Rattle.mux_history.specs.Requests.{asks, replies, is_sent}
 
--- a forwarding: its client, the key that was asked, the place of its request, its key once the server's success came,
--- and the place of the unanswered cancel that means it
+-- a forwarding: its client, the key that was asked, the place of its request, its key once the
+-- server's success came, and the place of the unanswered cancel that means it
 pub record Forwarding : Type 0 where
   pub client : ℕ
   pub key : Key
@@ -23,8 +24,9 @@ pub record Forwarding : Type 0 where
 abbrev pub is_request : Forwarding → ℕ → Bool
 is_request f place = (f.request == place) && is_none f.live
 
--- the reply to the request at a place: a success makes live what was asked there and ends what was to be cancelled
--- there; a refusal ends what was asked there and leaves what was to be cancelled there
+-- the reply to the request at a place: a success makes live what was asked there and ends what was
+-- to be cancelled there; a refusal ends what was asked there and leaves what was to be cancelled
+-- there
 abbrev pub replied : ℕ → Gist → Forwarding → Forwarding
 replied place (Succeeds rest) f = elim (is_request f place) [
   | true ↦ record f { live = Some (bound f.key rest) }

@@ -5,7 +5,8 @@ use Rattle.ssh_grammar.specs.Messages.{Global, Opens}
 use Rattle.ssh_grammar.specs.Messages as full
 use Rattle.ssh_grammar.specs.ReadMessage.{read_message}
 
--- what a message does in its channel (RFC 4254, section 5), without the numbers that name the channel
+-- what a message does in its channel (RFC 4254, section 5), without the numbers that name the
+-- channel
 pub data Act : Type 0 where
   Confirms : (window maximum : ℕ) → Act
   Fails : Act

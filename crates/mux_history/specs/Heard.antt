@@ -42,7 +42,8 @@ dest_success rest a = elim a.what [
   | _ ↦ ToClient a.client
 ]
 
--- a number of the server that is live may not be used again; a forwarded connection goes to the client of the earliest live forwarding
+-- a number of the server that is live may not be used again; a forwarded connection goes to the
+-- client of the earliest live forwarding
 abbrev pub dest_open : List Row → ℕ → Opens → Dest
 dest_open rows s (Forwarded key) = elim (live_in rows s) [
   | Some x ↦ Breaks (broke.NumberInUse s)
@@ -74,7 +75,8 @@ dest_confirmation rows n s = elim (pending_open rows n) [
   ]
 ]
 
--- a failure to the client that opened; all else to the client whose channel it is, where the account allows it
+-- a failure to the client that opened; all else to the client whose channel it is, where the
+-- account allows it
 abbrev pub dest_within : List Row → ℕ → Act → Dest
 dest_within rows n Fails = elim (pending_open rows n) [
   | None ↦ Breaks (broke.NotPending n)

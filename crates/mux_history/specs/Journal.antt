@@ -95,7 +95,8 @@ log_of_journal setting [] = []
 log_of_journal setting (mark ∷ before) =
     more_all setting (log_of_journal setting before) (items_in before mark)
 
--- what a wire told at first, and what it tells after these marks: a wire's list has the oldest mark first
+-- what a wire told at first, and what it tells after these marks: a wire's list has the oldest mark
+-- first
 abbrev pub Tells : Option (List Mark) → Option (List Mark) → List Mark → Type 0
 Tells start now marks = now ≡ option_map (λ told. told ++ reverse marks) start
 
@@ -117,9 +118,9 @@ is_accepted k (mark ∷ before) = is_accepted k before
 abbrev pub is_known : ℕ → List Mark → Bool
 is_known stream before = (stream == 0) || is_accepted stream before
 
--- each client has a number above the last one's, and every other mark names the server's stream or that of a client that
--- was accepted; what comes are 1 to 65,536 bytes, what is taken is some, and only streams that hold back are freed or
--- waited for
+-- each client has a number above the last one's, and every other mark names the server's stream or
+-- that of a client that was accepted; what comes are 1 to 65,536 bytes, what is taken is some, and
+-- only streams that hold back are freed or waited for
 abbrev pub LawfulMark : List Mark → Mark → Type 0
 LawfulMark before (Accepts k) = last_client before < k
 LawfulMark before (Gets stream bytes) =

@@ -1,4 +1,5 @@
--- What a run promises of each row: windows, permissions, askers, what is delivered, numbers, and the unshared connection.
+-- What a run promises of each row: windows, permissions, askers, what is delivered, numbers, and
+-- the unshared connection.
 use Rattle.std.specs.Prelude.{ℕ, ◌≡◌, ◌≢◌, ◌≤◌, ◌<◌, ◌+◌, ◌⊎◌, List, [], ◌∷◌, ◌++◌, Option, Some, None, Ok, Bool, MatchBool, true, false, length, filter, drop, nat_lt, option_map, replicate, flat_map, reverse}
 use Rattle.mux_outside.specs.declared.house.HouseReply.{HouseReply}
 use Rattle.ssh_grammar.specs.declared.side.Side.{Side}
@@ -80,7 +81,8 @@ pub record Window (before : List Row) (row : Row) : Type 0 where
 
 -- ---- Permission: no forwarding passes its permission list, and each forwarded open meets a live forwarding
 
--- a direct channel and a forwarding that is asked are on their lists, be it by address and port or by path
+-- a direct channel and a forwarding that is asked are on their lists, be it by address and port or
+-- by path
 abbrev pub IsPermitted : Policy → Gist → Type 0
 IsPermitted policy (Open (Direct key) c window maximum) = permits policy.opens key ≡ true
 IsPermitted policy (Requests (Forward key) wants) = permits policy.listens key ≡ true
@@ -99,7 +101,8 @@ pub record Permission (policy : Policy) (before : List Row) (row : Row) : Type 0
 
 -- ---- a full queue: the one cause for which what the server says drops a client
 
--- the next frame does not fit behind what waited and what was told: the bytes that wait then, and its length
+-- the next frame does not fit behind what waited and what was told: the bytes that wait then, and
+-- its length
 abbrev pub IsFull : ℕ → List (List ℕ) → Why → Type 0
 IsFull waited told (QueueFull have want) =
     (have ≡ waited + length (joined told)) × (MAX_QUEUE < have + want)
@@ -126,8 +129,8 @@ ReachesAsker before row =
     (p : List ℕ) → row.item ≡ Heard p → reading p is_reply false ≡ true → is_end row.fate ≡ false
     → option_map (λ a. a.client) (asker before) ≡ Some row.client
 
--- it stands first in what the row tells, before the refusals that waited behind it, and these are the client's next
--- answers, in the order of its requests
+-- it stands first in what the row tells, before the refusals that waited behind it, and these are
+-- the client's next answers, in the order of its requests
 pub record TellsNext (own : List Row) (row : Row) (p : List ℕ) : Type 0 where
   pub refusals : ℕ
   pub told : row.down ≡ frame_payload p ∷ replicate refusals (frame_payload request_failure)
@@ -147,8 +150,8 @@ pub record Asker (before : List Row) (row : Row) : Type 0 where
 
 -- ---- Delivers: what the server says to a channel or a forwarding reaches its client
 
--- a message to the number of a channel is its client's: it is told as it came, but with the client's own number at the
--- recipient's place
+-- a message to the number of a channel is its client's: it is told as it came, but with the
+-- client's own number at the recipient's place
 pub record ReachesChannel (before : List Row) (row : Row) (p : List ℕ) (n : ℕ) : Type 0 where
   pub channel : Channel
   pub held : holder before n ≡ Some channel
@@ -179,7 +182,8 @@ Reaches before row p (Confirmation n s window maximum) = ReachesChannel before r
 Reaches before row p (Within n act) = ReachesChannel before row p n
 Reaches before row p m = Unit {0}
 
--- a client that was lost before is told nothing; what goes up then undoes what the server confirms or replies
+-- a client that was lost before is told nothing; what goes up then undoes what the server confirms
+-- or replies
 pub record LeavesLate (own : List Row) (row : Row) (m : Gist) : Type 0 where
   pub told : row.down ≡ []
   pub sent : row.up ≡ late m own
@@ -198,8 +202,8 @@ pub record Delivers (before : List Row) (row : Row) : Type 0 where
 abbrev pub GoesUpNumbered : List (List ℕ) → List ℕ → Type 0
 GoesUpNumbered ups p = (number : ℕ) × (ups ≡ with_sender p number ∷ [])
 
--- what is said goes up as it was said, or not at all; where it brings a number of the client's own, another one stands
--- at the sender's place
+-- what is said goes up as it was said, or not at all; where it brings a number of the client's own,
+-- another one stands at the sender's place
 abbrev pub GoesUp : List (List ℕ) → List ℕ → Option ℕ → Type 0
 GoesUp ups p None = (ups ≡ []) ⊎ (ups ≡ p ∷ [])
 GoesUp ups p (Some own) = (ups ≡ []) ⊎ GoesUpNumbered ups p
@@ -213,9 +217,10 @@ MustOpen own ups p c =
 abbrev pub MustAsk : List Row → List (List ℕ) → List ℕ → Bool → Type 0
 MustAsk own ups p wants = is_full_of_asks wants own ≡ false → ups ≡ p ∷ []
 
--- a session, and a direct channel that is permitted; a forwarding that is permitted, where fewer than 64 are asked or
--- live; a cancel of one that is live, and a keepalive; a confirmation or failure of a server's open that waits for it;
--- and every other message to a confirmed channel whose account allows it
+-- a session, and a direct channel that is permitted; a forwarding that is permitted, where fewer
+-- than 64 are asked or live; a cancel of one that is live, and a keepalive; a confirmation or
+-- failure of a server's open that waits for it; and every other message to a confirmed channel
+-- whose account allows it
 abbrev pub MustGoUp : Policy → ℕ → List Row → List (List ℕ) → List ℕ → Gist → Type 0
 MustGoUp policy k own ups p (Open Session c window maximum) = MustOpen own ups p c
 MustGoUp policy k own ups p (Open (Direct key) c window maximum) =
@@ -246,8 +251,8 @@ pub record Passes (policy : Policy) (before : List Row) (row : Row) : Type 0 whe
 
 -- ---- The master's own words: all that it sends that no client said
 
--- a refused request; a CLOSE; a failed open, of what is not permitted, of a channel too many, or of a client that is
--- gone; and a cancel
+-- a refused request; a CLOSE; a failed open, of what is not permitted, of a channel too many, or of
+-- a client that is gone; and a cancel
 pub data OwnWord : Type 0 where
   Refusal : OwnWord
   Closing : (channel : ℕ) → OwnWord
@@ -269,7 +274,8 @@ spelled_word (Cancelling key) = cancel_forward key
 abbrev pub IsMasters : List ℕ → Type 0
 IsMasters p = (word : OwnWord) × (p ≡ spelled_word word)
 
--- the farewell of a row, what a row of nobody sends, and what a row sends in which its client says nothing
+-- the farewell of a row, what a row of nobody sends, and what a row sends in which its client says
+-- nothing
 pub record OwnWords (before : List Row) (row : Row) : Type 0 where
   pub farewell : Every IsMasters row.farewell
   pub up : row.client ≡ 0 → Every IsMasters row.up

@@ -23,7 +23,8 @@ use Rattle.mux_history.specs.Settings.{by_lists}
 
 -- ---- rows of others
 
--- a row of another client leaves a client's rows as they were, and with them all that is looked up in them
+-- a row of another client leaves a client's rows as they were, and with them all that is looked up
+-- in them
 abbrev pub OthersStay : Type 0
 OthersStay =
     (k : ℕ) (row : Row) (before : List Row) → (row.client == k) ≡ false
@@ -93,7 +94,8 @@ pub record IsAccounted (way : Side) (x : Channel) : Type 0 where
   pub within : IsWithin way x
   pub answered : sum_of answered (other_side way) x.acts ≤ sum_of asked way x.acts
 
--- data takes its length from the room of its direction and leaves the other; an adjustment adds to the other
+-- data takes its length from the room of its direction and leaves the other; an adjustment adds to
+-- the other
 pub record RoomsGoOn (way : Side) (n : ℕ) (x : Channel) : Type 0 where
   pub carries : room way (with_act way (Carries n) x) ≡ room way x - n
   pub leaves : room (other_side way) (with_act way (Carries n) x) ≡ room (other_side way) x
@@ -163,7 +165,8 @@ abbrev pub kept : (Channel → Bool) → Option Channel → Option Channel
 kept test None = None
 kept test (Some x) = elim (test x) [ true ↦ Some x | false ↦ None ]
 
--- a look-up by the server's number among a client's channels is the one among all, so that one index serves all
+-- a look-up by the server's number among a client's channels is the one among all, so that one
+-- index serves all
 pub record LooksUpAt (rows : List Row) (k s : ℕ) : Type 0 where
   pub confirmed : confirmed_at (rows_of k rows) s ≡ kept (λ x. (x.client == k) && is_confirmed x)
       (live_in rows s)

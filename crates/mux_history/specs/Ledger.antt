@@ -1,5 +1,5 @@
--- The account of one channel (RFC 4254, section 5.2): rooms, unanswered requests and breaches, as sums over all that
--- was done in it.
+-- The account of one channel (RFC 4254, section 5.2): rooms, unanswered requests and breaches, as
+-- sums over all that was done in it.
 use Rattle.std.specs.Prelude.{ℕ, ◌+◌, ◌-◌, ◌==◌, List, [], ◌∷◌, Option, Some, None, true, false, nat_lt}
 use Rattle.ssh_grammar.specs.declared.side.Side.{Side}
 use Rattle.ssh_grammar.specs.declared.side.Side.TheVariants.{Up, Down}
@@ -54,14 +54,16 @@ sum_of count way (a ∷ acts) = elim (same_side a.0 way) [
   | false ↦ sum_of count way acts
 ]
 
--- the window that the receiver of a direction gave at first: a channel is confirmed once, so the sum is that one's
+-- the window that the receiver of a direction gave at first: a channel is confirmed once, so the
+-- sum is that one's
 abbrev pub initial : Side → Channel → ℕ
 initial way x = elim (same_side x.by way) [
   | true ↦ sum_of first_window (other_side way) x.acts
   | false ↦ x.window
 ]
 
--- the longest data that the receiver of a direction takes at once: that sum too is the one confirmation's
+-- the longest data that the receiver of a direction takes at once: that sum too is the one
+-- confirmation's
 abbrev pub maximum_of : Side → Channel → ℕ
 maximum_of way x = elim (same_side x.by way) [
   | true ↦ sum_of packet (other_side way) x.acts

@@ -1,4 +1,5 @@
--- What may be opened and what may be listened on, and how the entries of a permission list are read.
+-- What may be opened and what may be listened on, and how the entries of a permission list are
+-- read.
 use Rattle.std.specs.Prelude.{ℕ, ◌+◌, ◌-◌, ◌*◌, List, [], ◌∷◌, Option, Some, None, Result, Ok, Err, Bool, true, false, ◌&&◌, ◌||◌, ◌==◌, bytes_eq, nat_le, codes}
 use Rattle.ssh_grammar.specs.Messages.{Key, Tcp, Path}
 use Rattle.mux_history.specs.Rows.{any_of}

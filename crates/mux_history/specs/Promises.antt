@@ -63,8 +63,9 @@ IsSettled setting marks t =
 abbrev pub has_output : List Row → ℕ → Bool
 has_output rows t = not (is_empty (pending t rows))
 
--- a call of `wait`: the waiting streams are exactly the open ones with output, each of them blocked; no more is read
--- exactly while 4,194,304 bytes or more wait for the server; and every stream that is not waited for is settled
+-- a call of `wait`: the waiting streams are exactly the open ones with output, each of them
+-- blocked; no more is read exactly while 4,194,304 bytes or more wait for the server; and every
+-- stream that is not waited for is settled
 pub record WaitsRight (setting : Setting) (before : List Mark) (waiting : List ℕ) (want : Want)
     (streams : List ℕ) : Type 0 where
   pub waits_for : waiting ≡ filter (has_output (log_of_journal setting before)) streams
@@ -106,7 +107,8 @@ abbrev pub listens : List Row → Bool
 listens [] = true
 listens (row ∷ before) = not (stops row (rows_of row.client before)) && listens before
 
--- the server's stream, and those of the admitted clients that are not lost, in the order in which they came
+-- the server's stream, and those of the admitted clients that are not lost, in the order in which
+-- they came
 pub record OpenRight (rows : List Row) (streams : List ℕ) (accepts : Bool) : Type 0 where
   pub open_streams : streams ≡ 0 ∷ served rows
   pub listening : accepts ≡ listens rows

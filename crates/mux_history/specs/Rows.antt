@@ -6,9 +6,10 @@ use Rattle.ssh_grammar.specs.Said.{Saying}
 use Rattle.mux_history.specs.declared.why.Why.{Why}
 use Rattle.mux_history.specs.declared.ended.Ended.{Ended}
 
--- what happened at once: a client came in; said something, with the reply of the house where it asks the house;
--- or its stream is gone; the server said a payload, or a frame that is none; its stream ended, ended so many bytes
--- into a frame, or failed; a stream took bytes. RunEnd shows a client alone how the run ended.
+-- what happened at once: a client came in; said something, with the reply of the house where it
+-- asks the house; or its stream is gone; the server said a payload, or a frame that is none; its
+-- stream ended, ended so many bytes into a frame, or failed; a stream took bytes. RunEnd shows a
+-- client alone how the run ended.
 pub data Item : Type 0 where
   Admit : (client : ℕ) → Item
   Says : (client : ℕ) (saying : Saying) (reply : Option HouseReply) → Item
@@ -28,8 +29,9 @@ pub data Fate : Type 0 where
   Drop : (why : Why) → Fate
   End : (cause : Ended) → Fate
 
--- one row: its item, the client that it concerns (0 where it concerns none), the payloads that the item sends to
--- the server, those that are sent after them because the row loses its client, the frames for that client, and the fate
+-- one row: its item, the client that it concerns (0 where it concerns none), the payloads that the
+-- item sends to the server, those that are sent after them because the row loses its client, the
+-- frames for that client, and the fate
 pub record Row : Type 0 where
   pub item : Item
   pub client : ℕ

@@ -1,4 +1,5 @@
--- What becomes of what a client says in proxy mode. `own` are the client's rows so far: nothing else is looked at.
+-- What becomes of what a client says in proxy mode. `own` are the client's rows so far: nothing
+-- else is looked at.
 use Rattle.std.specs.Prelude.{ℕ, ◌==◌, List, [], ◌∷◌, Option, Some, None, Ok, Err, Bool, true, false, not, ◌&&◌, length, find, nat_lt, nat_le}
 use Rattle.ssh_grammar.specs.declared.side.Side.TheVariants.{Up}
 use Rattle.ssh_grammar.specs.declared.fault.Breach.{Breach}
@@ -18,7 +19,8 @@ use Rattle.mux_history.specs.Policy.{Policy, permits}
 use Rattle.mux_history.specs.Keys.{is_askable}
 use Rattle.mux_history.specs.Forwardings.{current, is_free_at}
 
--- what an item does before answers, the queue's bound and the farewell: payloads up, frames down, and a fate
+-- what an item does before answers, the queue's bound and the farewell: payloads up, frames down,
+-- and a fate
 pub record Outcome : Type 0 where
   pub sent : List (List ℕ)
   pub told : List (List ℕ)

@@ -108,7 +108,8 @@ PendingGoesOn =
 abbrev pub take_row : ℕ → ℕ → Row
 take_row stream size = bare (Took stream size) stream silent
 
--- it leaves its stream what waits behind, which is the rest where so much waits, and the others as they were
+-- it leaves its stream what waits behind, which is the rest where so much waits, and the others as
+-- they were
 pub record TakeStep (stream size : ℕ) (before : List Row) : Type 0 where
   pub own : pending stream (take_row stream size ∷ before) ≡ drop size (pending stream before)
   pub rest : size ≤ length (pending stream before)

@@ -48,7 +48,8 @@ all_told row own = elim (goes row.fate && not (is_lost own)) [
   | false ↦ row.down
 ]
 
--- the frames that fit into a queue in which so many bytes wait: the first that does not is left out with all after it
+-- the frames that fit into a queue in which so many bytes wait: the first that does not is left out
+-- with all after it
 abbrev pub fitting : ℕ → List (List ℕ) → List (List ℕ)
 fitting have [] = []
 fitting have (f ∷ fs) = elim (nat_le (have + length f) MAX_QUEUE) [

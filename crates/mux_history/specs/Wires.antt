@@ -1,4 +1,5 @@
--- What any wire does: its marks make a lawful journal, and it reads and accepts only where it was just waited for so.
+-- What any wire does: its marks make a lawful journal, and it reads and accepts only where it was
+-- just waited for so.
 use Rattle.std.specs.Prelude.{ℕ, ◌≡◌, ◌≤◌, ◌<◌, List, [], ◌∷◌, ◌++◌, Bool, true, false, All, IsTrue, length, reverse}
 use Rattle.mux_outside.specs.declared.mark.Mark.{Mark}
 use Rattle.mux_outside.specs.declared.mark.Mark.TheVariants.{Accepts, Gets, Waits}
@@ -27,7 +28,8 @@ FollowsRead marks = ⊥
 abbrev pub ReadsWhenAsked : List Mark → Mark → Type 0
 ReadsWhenAsked before mark = reads mark ≡ true → FollowsRead before
 
--- the marks of a wire of which these streams are open and these hold back, and whose last client has at most this number
+-- the marks of a wire of which these streams are open and these hold back, and whose last client
+-- has at most this number
 pub record OfWire (streams blocked : List ℕ) (last : ℕ) (marks : List Mark) : Type 0 where
   pub lawful : IsLawful marks
   pub asked : Throughout ReadsWhenAsked marks
@@ -35,9 +37,9 @@ pub record OfWire (streams blocked : List ℕ) (last : ℕ) (marks : List Mark) 
   pub holds : (t : ℕ) → IsTrue (among t blocked) → IsTrue (is_blocked t marks)
   pub below : last_client marks ≤ last
 
--- that is what the law of each wire keeps: right after it was opened; at each turn that it may give, where only streams
--- that hold back are waited for; at each answer that it may give to a write of some bytes to a stream that is open; and
--- where a stream is closed
+-- that is what the law of each wire keeps: right after it was opened; at each turn that it may
+-- give, where only streams that hold back are waited for; at each answer that it may give to a
+-- write of some bytes to a stream that is open; and where a stream is closed
 pub record WireKeeps (streams blocked : List ℕ) (last : ℕ) (marks : List Mark) : Type 0 where
   pub none : OfWire (0 ∷ []) [] last []
   pub turn : (given : Turn) (waiting : List ℕ) (want : Want) (listens : Bool) (bytes : List ℕ)

@@ -44,7 +44,8 @@ run_of setting marks = log_of_journal setting (reverse marks)
 abbrev pub run : List Mark → List Row
 run marks = run_of open_setting marks
 
--- all that the server and a client are given; and what a client is given after its hello and the answer to PROXY
+-- all that the server and a client are given; and what a client is given after its hello and the
+-- answer to PROXY
 abbrev pub sent : List Row → List ℕ
 sent rows = given_to 0 rows
 

@@ -6,7 +6,8 @@ use Rattle.mux_history.specs.Worked.{hex, enters, hello}
 use Rattle.mux_history.specs.WorkedProxy.{session}
 use Rattle.mux_history.specs.WorkedForwards.{asks_port, bound_to, success, connects_to}
 
--- a client with a confirmed channel, an open without an answer and a forwarding without an answer ends
+-- a client with a confirmed channel, an open without an answer and a forwarding without an answer
+-- ends
 abbrev pub leaves : List Mark
 leaves =
     enters 1 ++ (Gets 1 (session 0)

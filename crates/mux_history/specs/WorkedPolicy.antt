@@ -6,7 +6,8 @@ use Rattle.mux_history.specs.Policy.{Entry, Ports, Paths, Allow, Entries}
 abbrev pub entry : Option (List ℕ) → Option ℕ → Entry
 entry host port = Ports host port
 
--- a host with its port, a port of each host, an address in brackets, each port of a host, every port, and a path
+-- a host with its port, a port of each host, an address in brackets, each port of a host, every
+-- port, and a path
 abbrev pub texts : List (List ℕ)
 texts = codes "db:5432" ∷ codes "080" ∷ codes "[fe80::1]:22" ∷ codes "web:*" ∷ codes "*"
     ∷ codes "/run/s:80" ∷ []

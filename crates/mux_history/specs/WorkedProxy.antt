@@ -9,7 +9,8 @@ use Rattle.mux_history.specs.Choices.{FromLists}
 use Rattle.mux_history.specs.Log.{Setting}
 use Rattle.mux_history.specs.Worked.{hex, sent, enters}
 
--- an open of a session under the client's number, with a window of 2,097,152 and a maximum of 32,768
+-- an open of a session under the client's number, with a window of 2,097,152 and a maximum of
+-- 32,768
 abbrev pub session : ℕ → List ℕ
 session own =
     hex (codes "00000019 00 5a 00000007")

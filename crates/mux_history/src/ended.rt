@@ -16,7 +16,8 @@ pub enum Ended {
     /// The server's stream failed.
     #[error("the transport failed")]
     ServerFailed,
-    /// The server broke the protocol. Its frames are counted from 1, and the count stays at 2^64 - 1.
+    /// The server broke the protocol. Its frames are counted from 1, and the count stays at 2^64 -
+    /// 1.
     #[error("server message {index}: {why}")]
     Broke { index: u64, why: Break },
     /// All turns were given.

@@ -1,5 +1,5 @@
-//! How look-ups go on by one row, and what holds at every row of a right log: each function's contract is
-//! the law.
+//! How look-ups go on by one row, and what holds at every row of a right log: each function's
+//! contract is the law.
 
 ghost use Rattle.mux_history.specs.Laws.{OthersStay, LookUpsAreLocal, Locality, HeldGoesOn, AnswersOnlyGrow, AccountsGoOn, WrittenAddsUp, JournalsGiveRightLogs, NumbersAreApart, PicksAreTaken, RoomsNeverFall, OneIndexServes};
 ghost use Rattle.mux_history.specs.Keys.{KeysAreToldApart};
@@ -66,8 +66,8 @@ pub fn one_index_serves()
     ensures { OneIndexServes }
 {}
 
-/// The forwardings that are asked or live go on by one row: of the client's rows nothing but the places
-/// of its next request and of its next reply is looked at.
+/// The forwardings that are asked or live go on by one row: of the client's rows nothing but the
+/// places of its next request and of its next reply is looked at.
 pub fn current_goes_on()
     ensures { CurrentGoesOn }
 {}
@@ -78,8 +78,8 @@ pub fn matters_go_on()
     ensures { MattersGoOn }
 {}
 
-/// The requests without a reply go on by one row: one that is sent joins at the end, a reply takes the
-/// first.
+/// The requests without a reply go on by one row: one that is sent joins at the end, a reply takes
+/// the first.
 pub fn askers_go_on()
     ensures { AskersGoOn }
 {}
@@ -99,13 +99,14 @@ pub fn takes_leave_the_rest()
     ensures { TakesLeaveTheRest }
 {}
 
-/// What any wire tells is a lawful journal, in which it reads and accepts only right behind a wait for
-/// that: each turn, each answer to a write and each close that its law allows keeps it so.
+/// What any wire tells is a lawful journal, in which it reads and accepts only right behind a wait
+/// for that: each turn, each answer to a write and each close that its law allows keeps it so.
 pub fn journals_of_wires_are_lawful()
     ensures { WiresKeepTheLaw }
 {}
 
-/// The same key is told by its kind, its bytes and its port; an address and a path never are the same.
+/// The same key is told by its kind, its bytes and its port; an address and a path never are the
+/// same.
 pub fn keys_are_told_apart()
     ensures { KeysAreToldApart }
 {}

@@ -1,4 +1,5 @@
--- What the server says to a client's channel or forwarding is told as it came; what a client says goes up as it was said.
+-- What the server says to a client's channel or forwarding is told as it came; what a client says
+-- goes up as it was said.
 use Rattle.std.proofs.Common.{◌≡◌, ℕ, List, [], ◌∷◌, ◌++◌, length, true, false, Bool, refl, ◌∙◌, ap, map, sym, Option, Some, None, subst, Ok, Err, drop, inl, inr}
 use Rattle.std.specs.Prelude.{MatchBool, Result, not, ◌&&◌, nat_lt, codes}
 use Rattle.std.proofs.Math.Seq.{drop-append_seam}

@@ -1,4 +1,5 @@
--- What is known of each row of a client: its payloads are resent alike, and its numbers name the same channels.
+-- What is known of each row of a client: its payloads are resent alike, and its numbers name the
+-- same channels.
 use Rattle.std.proofs.Common.{◌≡◌, ℕ, ◌<◌, List, [], ◌∷◌, true, false, Bool, refl, ◌∙◌, ap, arith, map, sym, Option, Some, None, subst, inl, inr, Ok, Err}
 use Rattle.std.specs.Prelude.{◌==◌, filter, find, Result}
 use Rattle.std.proofs.lemmas.Bool.Decides.{nat_tests}

@@ -32,7 +32,8 @@ IsSmall before p = (m : Gist) (n : ℕ) → read_gist p ≡ Ok m → recipient_o
 abbrev pub seen_payload : List Row → List ℕ → List ℕ
 seen_payload before p = reading p (λ m. renamed before p (recipient_of m)) p
 
--- what looks at a message but not at its recipient finds the same in the payload that the client sees
+-- what looks at a message but not at its recipient finds the same in the payload that the client
+-- sees
 pub same-use : {A : Type 0} (before : List Row) (p : List ℕ) (f : Gist → A) (other : A) → IsSmall before p → ((m : Gist) (c : ℕ) → f (readdressed c m) ≡ f m) → reading (seen_payload before p) f other ≡ reading p f other
 same-use {A} before p f other small blind = by_case (read_gist p) refl
   where

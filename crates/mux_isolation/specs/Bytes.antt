@@ -1,5 +1,5 @@
--- What an admitted client is given, byte for byte, is what its unshared connection gives it; and what is sent for it is
--- what that connection sends.
+-- What an admitted client is given, byte for byte, is what its unshared connection gives it; and
+-- what is sent for it is what that connection sends.
 use Rattle.std.specs.Prelude.{ℕ, ◌≡◌, ◌<◌, List, flat_map, reverse}
 use Rattle.mux_outside.specs.declared.house.HouseReply.{HouseReply}
 use Rattle.mux_outside.specs.declared.mark.Mark.{Mark}
@@ -40,7 +40,8 @@ TakesAreUnshared =
 
 -- ---- what is sent for a client
 
--- under its own numbers: each number that the client's OPEN or CONFIRMATION carried up replaced by its own
+-- under its own numbers: each number that the client's OPEN or CONFIRMATION carried up replaced by
+-- its own
 abbrev pub sent_as_own : ℕ → List Row → List (List ℕ)
 sent_as_own k rows = flat_map (λ row. (seen row).sent) (reverse (rows_of k rows))
 

@@ -1,5 +1,5 @@
--- Laws over all runs: each holds of every right log of a lawful wire, whatever numbers are picked and whatever the
--- house replies.
+-- Laws over all runs: each holds of every right log of a lawful wire, whatever numbers are picked
+-- and whatever the house replies.
 use Rattle.std.specs.Prelude.{ℕ, ◌==◌, ◌≡◌, ◌≤◌, List, ◌∷◌, false}
 use Rattle.mux_history.specs.declared.limits.TheConstants.{MAX_QUEUE}
 use Rattle.mux_history.specs.Policy.{Policy}
@@ -23,7 +23,8 @@ Isolation = OverRight Unshared
 abbrev pub WindowsAreKept : Type 0
 WindowsAreKept = OverRight (λ setting rows. ForEach Window rows)
 
--- no forwarding passes its permission list, and each forwarded open meets a live forwarding of its client
+-- no forwarding passes its permission list, and each forwarded open meets a live forwarding of its
+-- client
 abbrev pub PermissionsAreKept : Type 0
 PermissionsAreKept = OverRight (λ setting rows. ForEach (Permission setting.policy) rows)
 
@@ -31,8 +32,8 @@ PermissionsAreKept = OverRight (λ setting rows. ForEach (Permission setting.pol
 abbrev pub AskersAreServed : Type 0
 AskersAreServed = OverRight (λ setting rows. ForEach Asker rows)
 
--- what the server says to a client's channel or forwarding reaches that client, unless the run ends, the client was lost
--- before, or its queue is full
+-- what the server says to a client's channel or forwarding reaches that client, unless the run
+-- ends, the client was lost before, or its queue is full
 abbrev pub MessagesAreDelivered : Type 0
 MessagesAreDelivered = OverRight (λ setting rows. ForEach Delivers rows)
 
@@ -81,9 +82,9 @@ pub record SameStep (k : ℕ) (rows others : List Row) (row other : Row) : Type 
   pub gives : row ≡ other
   pub view : view_of k (row ∷ rows) ≡ view_of k (other ∷ others)
 
--- two logs do the same with what concerns the client: with what it says, its end, and what it takes; with a payload
--- that goes to it in both; with its admission, where both let it in or both refuse it. Which of its items make rows,
--- and whether its matters are open, is the same in both
+-- two logs do the same with what concerns the client: with what it says, its end, and what it
+-- takes; with a payload that goes to it in both; with its admission, where both let it in or both
+-- refuse it. Which of its items make rows, and whether its matters are open, is the same in both
 pub record StepsAlike (policy : Policy) (pid pick k : ℕ) (rows others : List Row) : Type 0 where
   pub own : (item : Item) → IsOf k item
       → SameStep k rows others (treat policy pid pick rows item) (treat policy pid pick others item)
@@ -96,8 +97,8 @@ pub record StepsAlike (policy : Policy) (pid pick k : ℕ) (rows others : List R
   pub makes : (item : Item) → IsOf k item → makes_row rows item ≡ makes_row others item
   pub matters : has_open_matters (rows_of k rows) ≡ has_open_matters (rows_of k others)
 
--- where two logs show the same of a client: what its row gives, and its view after it, is known from its item, its
--- pick and its view before it
+-- where two logs show the same of a client: what its row gives, and its view after it, is known
+-- from its item, its pick and its view before it
 abbrev pub RowsFollowViews : Type 0
 RowsFollowViews =
     (policy : Policy) (pid pick k : ℕ) (rows others : List Row) → view_of k rows ≡ view_of k others

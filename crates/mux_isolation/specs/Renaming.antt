@@ -1,4 +1,5 @@
--- The unshared connection row by row: each row of a client, and what is seen of the client, under its own numbers.
+-- The unshared connection row by row: each row of a client, and what is seen of the client, under
+-- its own numbers.
 use Rattle.std.specs.Prelude.{ℕ, ◌≡◌, ◌<◌, List, ◌∷◌, ◌++◌, length, map}
 use Rattle.mux_history.specs.Rows.{Row, Item, rows_of}
 use Rattle.mux_history.specs.Channels.{own_of}
@@ -15,7 +16,8 @@ log_alone setting own = log_of (alone_setting setting) (items_for own)
 
 -- ---- a row
 
--- the row there: the item as the client sees it, and what it sends under the number that the client said
+-- the row there: the item as the client sees it, and what it sends under the number that the client
+-- said
 abbrev pub row_alone : List Row → Row → Row
 row_alone own row = record row {
   item = item_for own row.item;
@@ -23,8 +25,8 @@ row_alone own row = record row {
       own_ups (own_of row.item) row.up;
 }
 
--- the next item of the client makes that row, and no other: what it sends else, its farewell, what it tells and its fate
--- are the same
+-- the next item of the client makes that row, and no other: what it sends else, its farewell, what
+-- it tells and its fate are the same
 abbrev pub RowIsRenamed : Setting → List Row → Row → Type 0
 RowIsRenamed setting own row =
     more_of (alone_setting setting) (log_alone setting own) (item_for own row.item)
@@ -46,8 +48,8 @@ ViewIsRenamed setting k own = view_of k (log_alone setting own) ≡ view_alone (
 
 -- ---- over all runs
 
--- each row of each admitted client is renamed: what it says, what the server says to it, what it takes, the row that
--- loses it, and what comes for it later
+-- each row of each admitted client is renamed: what it says, what the server says to it, what it
+-- takes, the row that loses it, and what comes for it later
 abbrev pub RowsAreRenamed : Type 0
 RowsAreRenamed =
     OverRight (λ setting rows. (k : ℕ) → 0 < k → IsAdmitted k rows
@@ -61,7 +63,8 @@ ViewsAreRenamed =
 
 -- ---- the items
 
--- what a log has of a client's items, a longer one has too, with one more for each row more of the client
+-- what a log has of a client's items, a longer one has too, with one more for each row more of the
+-- client
 pub record MoreItems (k : ℕ) (newer before : List Row) : Type 0 where
   pub more : List Item
   pub one_each : length more ≡ length (rows_of k newer)

@@ -1,4 +1,5 @@
--- The view of a client: all that is looked up of it in the rows, as one record of numbers, flags and short lists.
+-- The view of a client: all that is looked up of it in the rows, as one record of numbers, flags
+-- and short lists.
 use Rattle.std.specs.Prelude.{ℕ, ◌+◌, ◌-◌, ◌==◌, List, [], ◌∷◌, Option, Bool, true, false, length, drop, filter, map}
 use Rattle.ssh_grammar.specs.declared.side.Side.{Side}
 use Rattle.ssh_grammar.specs.declared.side.Side.TheVariants.{Up, Down}
@@ -12,9 +13,9 @@ use Rattle.mux_history.specs.Controls.{greeted}
 
 -- ---- a channel
 
--- one direction of a channel: the window that its receiver gave at first, all adjustments to it, all data that was
--- sent; the longest data that it takes; the requests that want a reply, and their replies; whether EOF and CLOSE
--- were sent
+-- one direction of a channel: the window that its receiver gave at first, all adjustments to it,
+-- all data that was sent; the longest data that it takes; the requests that want a reply, and their
+-- replies; whether EOF and CLOSE were sent
 pub record Way : Type 0 where
   pub window : ℕ
   pub adjustments : ℕ
@@ -46,8 +47,8 @@ room_in way = way.window + way.adjustments - way.sizes
 abbrev pub unanswered_in : Way → ℕ
 unanswered_in way = way.requests - way.replies
 
--- a channel: its client, who opened it, its three numbers, whether its open was confirmed or failed, and both
--- directions
+-- a channel: its client, who opened it, its three numbers, whether its open was confirmed or
+-- failed, and both directions
 pub record ChannelView : Type 0 where
   pub client : ℕ
   pub by : Side
@@ -75,12 +76,14 @@ channel_view x = record {
 
 -- ---- requests that wait for their answer
 
--- for each request in order whether it was sent, or else refused; and replies that came before any request
+-- for each request in order whether it was sent, or else refused; and replies that came before any
+-- request
 pub record Waiting : Type 0 where
   pub requests : List Bool
   pub early : List (List ℕ)
 
--- what is left when all that can be answered is: the requests from the first on that was sent and has no reply
+-- what is left when all that can be answered is: the requests from the first on that was sent and
+-- has no reply
 abbrev pub left_of : List Bool → List (List ℕ) → Waiting
 left_of [] heard = record { requests = []; early = heard }
 left_of (false ∷ flags) heard = left_of flags heard
@@ -89,9 +92,10 @@ left_of (true ∷ flags) (p ∷ heard) = left_of flags heard
 
 -- ---- the client
 
--- it was let in, has greeted, is lost, or is out: lost or refused; its channels that are not over; how many requests
--- were sent for it and how many have a reply, those sent without one, and with the refusals behind them; its
--- forwardings that are asked or live, each with the cancel that means it; and the bytes that wait for it
+-- it was let in, has greeted, is lost, or is out: lost or refused; its channels that are not over;
+-- how many requests were sent for it and how many have a reply, those sent without one, and with
+-- the refusals behind them; its forwardings that are asked or live, each with the cancel that means
+-- it; and the bytes that wait for it
 pub record View : Type 0 where
   pub admitted : Bool
   pub has_greeted : Bool

@@ -3,8 +3,9 @@ ghost use Rattle.mux_isolation.specs.Laws.{QueuesAreBounded, ViewsShowRooms, Idl
 ghost use Rattle.mux_isolation.specs.Renaming.{RowsAreRenamed, ViewsAreRenamed, CutsCutItems};
 ghost use Rattle.mux_isolation.specs.Bytes.{BytesAreUnshared, TakesAreUnshared, SendsAreUnshared};
 
-/// What an admitted client is told and what is sent for it is what an unshared connection gives from its
-/// own bytes and the server's messages for its channels, up to the numbers that stand for its own.
+/// What an admitted client is told and what is sent for it is what an unshared connection gives
+/// from its own bytes and the server's messages for its channels, up to the numbers that stand for
+/// its own.
 pub fn isolation()
     ensures { Isolation }
 {}
@@ -14,31 +15,32 @@ pub fn bytes_are_unshared()
     ensures { BytesAreUnshared }
 {}
 
-/// What an admitted client's stream took begins what its unshared connection gives it, where each take is
-/// the front of what waited.
+/// What an admitted client's stream took begins what its unshared connection gives it, where each
+/// take is the front of what waited.
 pub fn takes_are_unshared()
     ensures { TakesAreUnshared }
 {}
 
-/// Payload by payload, what is sent for an admitted client is what its unshared connection sends, but for the
-/// numbers that stand for its own.
+/// Payload by payload, what is sent for an admitted client is what its unshared connection sends,
+/// but for the numbers that stand for its own.
 pub fn sends_are_unshared()
     ensures { SendsAreUnshared }
 {}
 
-/// Row by row: what a client's next item does in its unshared connection is what it does among others, but
-/// for the numbers that stand for its own.
+/// Row by row: what a client's next item does in its unshared connection is what it does among
+/// others, but for the numbers that stand for its own.
 pub fn rows_are_renamed()
     ensures { RowsAreRenamed }
 {}
 
-/// What is seen of a client at each of its rows is what is seen of it in its unshared connection, but for
-/// those numbers.
+/// What is seen of a client at each of its rows is what is seen of it in its unshared connection,
+/// but for those numbers.
 pub fn views_are_renamed()
     ensures { ViewsAreRenamed }
 {}
 
-/// A log that is cut has the client's items cut: a longer one has one more for each row more of the client.
+/// A log that is cut has the client's items cut: a longer one has one more for each row more of the
+/// client.
 pub fn cuts_cut_items()
     ensures { CutsCutItems }
 {}
@@ -53,27 +55,30 @@ pub fn permissions_are_kept()
     ensures { PermissionsAreKept }
 {}
 
-/// Each reply that doesn't break the run is a row of the client that asked first, and stands next among
-/// that client's answers, unless the client was lost before or its queue is full.
+/// Each reply that doesn't break the run is a row of the client that asked first, and stands next
+/// among that client's answers, unless the client was lost before or its queue is full.
 pub fn askers_are_served()
     ensures { AskersAreServed }
 {}
 
-/// What the server says to a channel, and each open for a live forwarding, is told its client with nothing
-/// changed but the recipient; a client that was lost before is told nothing, and what goes up undoes what the
-/// server confirms or replies; and nothing that the server says drops a client but a full queue.
+/// What the server says to a channel, and each open for a live forwarding, is told its client with
+/// nothing changed but the recipient; a client that was lost before is told nothing, and what goes
+/// up undoes what the server confirms or replies; and nothing that the server says drops a client
+/// but a full queue.
 pub fn messages_are_delivered()
     ensures { MessagesAreDelivered }
 {}
 
-/// What a client says goes up with nothing changed but a number of its own, or not at all; and it goes up
-/// where it is of a known kind, permitted, within the limits and allowed by its channel's account.
+/// What a client says goes up with nothing changed but a number of its own, or not at all; and it
+/// goes up where it is of a known kind, permitted, within the limits and allowed by its channel's
+/// account.
 pub fn messages_are_sent()
     ensures { MessagesAreSent }
 {}
 
-/// What the master sends that no client said, for nobody, in farewells and in answer to the server, is, byte
-/// for byte, a refused request, a failed open with a text of its own, a close, or a cancel without reply.
+/// What the master sends that no client said, for nobody, in farewells and in answer to the server,
+/// is, byte for byte, a refused request, a failed open with a text of its own, a close, or a cancel
+/// without reply.
 pub fn master_says_little()
     ensures { MasterSaysLittle }
 {}
@@ -83,13 +88,14 @@ pub fn queues_are_bounded()
     ensures { QueuesAreBounded }
 {}
 
-/// Every right log keeps all that a run promises of its rows: windows, permissions, askers, what is delivered
-/// and what goes up, numbers apart, and the unshared connection of each admitted client.
+/// Every right log keeps all that a run promises of its rows: windows, permissions, askers, what is
+/// delivered and what goes up, numbers apart, and the unshared connection of each admitted client.
 pub fn all_is_kept()
     ensures { AllIsKept }
 {}
 
-/// What is seen of a channel shows the rooms of both directions and how many requests have no reply.
+/// What is seen of a channel shows the rooms of both directions and how many requests have no
+/// reply.
 pub fn views_show_rooms()
     ensures { ViewsShowRooms }
 {}
@@ -104,8 +110,8 @@ pub fn cuts_keep_views()
     ensures { CutsKeepViews }
 {}
 
-/// What a client's row gives, and what is seen of the client after it, is known from its item, its pick
-/// and what is seen of it before.
+/// What a client's row gives, and what is seen of the client after it, is known from its item, its
+/// pick and what is seen of it before.
 pub fn rows_follow_views()
     ensures { RowsFollowViews }
 {}

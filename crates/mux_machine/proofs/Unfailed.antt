@@ -1,4 +1,5 @@
--- What a client or the server says never ends the run as a failure of the server's stream, nor as one whose turns are spent.
+-- What a client or the server says never ends the run as a failure of the server's stream, nor as
+-- one whose turns are spent.
 use Rattle.std.proofs.Common.{◌≡◌, ◌≢◌, ℕ, Bool, true, false, ◌&&◌, List, [], ◌∷◌, ◌++◌, length, drop, map, Option, Some, None, Result, Ok, Err, refl, sym, ap, ◌∙◌, subst}
 use Rattle.std.specs.Prelude.{◌==◌, nat_lt}
 use Rattle.ssh_grammar.specs.declared.fault.Bad.{Bad}

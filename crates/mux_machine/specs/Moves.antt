@@ -1,4 +1,5 @@
--- What an engine keeps after each thing that happens, and the laws that it then stands for the journal with the mark.
+-- What an engine keeps after each thing that happens, and the laws that it then stands for the
+-- journal with the mark.
 use Rattle.std.specs.Prelude.{◌≡◌, ◌≢◌, ◌==◌, ◌&&◌, ℕ, Bool, true, false, not, List, [], ◌∷◌, ◌++◌, length, Option, Some, None}
 use Rattle.std.specs.List.{AllByRecursion}
 use Rattle.mux_outside.specs.House.{Asked}

@@ -1,4 +1,5 @@
--- An engine stands for a journal, the newest mark first, and for the clients that were closed: one clause a part.
+-- An engine stands for a journal, the newest mark first, and for the clients that were closed: one
+-- clause a part.
 use Rattle.std.specs.Prelude.{◌≡◌, ◌≢◌, ◌<◌, ◌^◌, ◌-◌, min, ℕ, Bool, true, false, not, List, [], ◌∷◌, ◌++◌, length, filter, Option, Some, None}
 use Rattle.ssh_fields.specs.Fields.{AreBytes}
 use Rattle.ssh_grammar.specs.Said.{InControl, InProxy, parse}
@@ -51,8 +52,8 @@ refusal k = bare (Admit k) k (record { sent = []; told = []; ends = Refused })
 abbrev pub place : List Row → ℕ
 place rows = min (next_index rows) (2 ^ 64 - 1)
 
--- with so many numbers taken, and the house asked this: the shared connection, the clients and what waits for the server
--- stand for the rows, and everything else that is kept is what the rows say
+-- with so many numbers taken, and the house asked this: the shared connection, the clients and what
+-- waits for the server stand for the rows, and everything else that is kept is what the rows say
 pub record RowsFit (taken : ℕ) (drawn : List Asked) (s : State) (closed : List ℕ)
     (rows : List Row) : Type 0 where
   pub taken_is : numbers_taken rows ≡ taken
@@ -116,8 +117,8 @@ pub record StandsFor (picks : List ℕ) (replies : List HouseReply) (taken : ℕ
   pub rows : RowsFit taken drawn s closed (log s picks replies marks)
   pub bytes : BytesFit s marks closed (log s picks replies marks)
 
--- these numbers were taken and these replies given so far, one to each ask, and whatever is picked and replied later, the
--- engine stands for the marks and for the clients that were closed
+-- these numbers were taken and these replies given so far, one to each ask, and whatever is picked
+-- and replied later, the engine stands for the marks and for the clients that were closed
 pub record Stands (picked : List ℕ) (given : List HouseReply) (s : State) (marks : List Mark)
     (closed : List ℕ) : Type 0 where
   pub asks : List Asked
@@ -127,7 +128,8 @@ pub record Stands (picked : List ℕ) (given : List HouseReply) (s : State) (mar
 
 -- ---- one step more
 
--- what may come after these marks: a client is accepted once, and other marks name one that was accepted
+-- what may come after these marks: a client is accepted once, and other marks name one that was
+-- accepted
 abbrev pub IsAllowed : State → List Mark → Mark → Type 0
 IsAllowed s marks (Accepts k) = (k ≢ 0) × (is_accepted k marks ≡ false)
 IsAllowed s marks (Gets k bytes) = (k ≢ 0 → is_accepted k marks ≡ true) × AreBytes bytes
@@ -139,9 +141,9 @@ IsAllowed s marks (Frees k) = Unit {0}
 IsAllowed s marks (Holds k) = Unit {0}
 IsAllowed s marks (Waits waiting want streams listens) = Unit {0}
 
--- some numbers more were picked and some replies given, each of which the house may give, and the engine stands for the
--- journal with the mark; the house, which told `before` and tells `now`, was told exactly these asks, which are those that
--- the new rows have
+-- some numbers more were picked and some replies given, each of which the house may give, and the
+-- engine stands for the journal with the mark; the house, which told `before` and tells `now`, was
+-- told exactly these asks, which are those that the new rows have
 pub record GoesBy (May : HouseReply → Type 0) (before now : Option (List Asked)) (picked : List ℕ)
     (given : List HouseReply) (old new : State) (mark : Mark) (marks : List Mark)
     (closed : List ℕ) : Type 0 where

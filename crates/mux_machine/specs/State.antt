@@ -18,8 +18,9 @@ pub use Rattle.mux_clients.specs.Among.{numbers}
 pub use Rattle.mux_clients.specs.Losing.{loss_in, loss_between}
 pub use Rattle.mux_clients.specs.Room.{served_in}
 
--- the shared connection; what the server said that isn't cut yet, and what waits for it; the clients in the order in which
--- they came; those that were refused and not closed; those that are lost or refused and not closed in that order; the streams with something that waits; whether
+-- the shared connection; what the server said that isn't cut yet, and what waits for it; the
+-- clients in the order in which they came; those that were refused and not closed; those that are
+-- lost or refused and not closed in that order; the streams with something that waits; whether
 -- clients are accepted; and how the run ended
 pub record State : Type 0 where
   pub pid : ℕ
@@ -118,7 +119,8 @@ server_cause s = elim s.server.rest [
 
 -- ---- who is here
 
--- the stream of a client is open: the client was let in, or it was refused and its stream is not closed yet
+-- the stream of a client is open: the client was let in, or it was refused and its stream is not
+-- closed yet
 abbrev pub is_here : State → ℕ → Bool
 is_here s k = is_present s.clients k || among k s.refused
 

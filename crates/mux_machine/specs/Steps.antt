@@ -18,7 +18,8 @@ is_served cs k = in_client false (λ c. not_lost c.seat.standing) cs k
 abbrev pub is_heard : List ClientState → ℕ → Bool
 is_heard cs k = in_client false (λ c. is_read c.seat.standing) cs k
 
--- the streams with something that waits: the server's, where bytes wait for it, and those of clients
+-- the streams with something that waits: the server's, where bytes wait for it, and those of
+-- clients
 abbrev pub waiting_of : List ℕ → List ClientState → List ℕ
 waiting_of up cs = if is_empty up then waiting_clients cs else 0 ∷ waiting_clients cs
 

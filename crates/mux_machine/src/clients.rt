@@ -74,8 +74,8 @@ fn count_served(clients: &[Client]) -> usize
     count
 }
 
-// Room for the farewells of as many clients as may have open matters, and of the clients that are not lost and one more
-// where those are more.
+// Room for the farewells of as many clients as may have open matters, and of the clients that are
+// not lost and one more where those are more.
 pub fn reserve_farewells(up: &mut Queue, clients: &[Client]) -> Result<(), OutOfMemory>
     ensures waiting { up.new.waiting ≡ up.old.waiting }
     ensures room { OnOk result (TheMost * TheRoom ≤ up.new.spare) }

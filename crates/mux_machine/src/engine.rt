@@ -94,8 +94,9 @@ fn went_by(ended: Option<Ended>) -> Went
 }
 
 impl Engine {
-    /// An engine that was told nothing yet. It permits what the policy does, and tells the process id to clients that
-    /// check. It has room for the farewells of as many clients as may have open matters.
+    /// An engine that was told nothing yet. It permits what the policy does, and tells the process
+    /// id to clients that check. It has room for the farewells of as many clients as may have open
+    /// matters.
     pub fn new(alloc: Global, policy: Policy, pid: u32) -> Result<Engine, OutOfMemory>
         ensures policy { IfOk result (λ engine. engine.core.policy ≡ policy) }
         ensures pid { IfOk result (λ engine. engine.pid ≡ pid) }
@@ -127,9 +128,9 @@ impl Engine {
         })
     }
 
-    /// Takes in what happened at a stream, and tells the house what the client asks by it. A client is accepted once,
-    /// with a number from 1 on, and all other events of clients name one that was accepted. Once there was no memory
-    /// there is none for any later event.
+    /// Takes in what happened at a stream, and tells the house what the client asks by it. A client
+    /// is accepted once, with a number from 1 on, and all other events of clients name one that was
+    /// accepted. Once there was no memory there is none for any later event.
     pub fn event<H: House>(&mut self, e: Event<'_>, house: &mut H) -> Result<Went, OutOfMemory>
         ensures stands { OnOk result ((mark : TheMark) → Tells e.entry mark
             → GoesOn H.may (H.told house.old) (H.told house.new) self.old self.new mark) }

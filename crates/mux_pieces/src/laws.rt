@@ -23,7 +23,8 @@ pub fn sayings_are_of_bytes()
     ensures server { HeardIsOfBytes }
 {}
 
-/// The same bytes of each stream, cut in any way and completing in the same order, make the same items.
+/// The same bytes of each stream, cut in any way and completing in the same order, make the same
+/// items.
 pub fn bytes_make_items()
     ensures { BytesMakeItems }
 {}

@@ -1,5 +1,5 @@
-//! How the bytes of a stream are cut into pieces doesn't matter: the same bytes, completing in the same
-//! order, make the same rows. Each function's contract is a law of the history.
+//! How the bytes of a stream are cut into pieces doesn't matter: the same bytes, completing in the
+//! same order, make the same rows. Each function's contract is a law of the history.
 #![tactic(auto)]
 
 mod laws;

@@ -7,8 +7,8 @@ use mux_outside::{Opening, WireLog};
 use ssh_fields::{OutOfMemory, Text, Texts};
 use std::alloc::Global;
 
-/// The lines of what came of a row: those of its summary; what each stream took, frame by frame; the
-/// streams that are open at the end; and the marks of the wire, where the row asks for them.
+/// The lines of what came of a row: those of its summary; what each stream took, frame by frame;
+/// the streams that are open at the end; and the marks of the wire, where the row asks for them.
 pub fn lines_of(alloc: Global, played: &Played, log: &WireLog) -> Result<Texts, OutOfMemory> {
     let mut lines = summary_of(alloc, played, log)?;
     add_taken(&mut lines, alloc, log)?;

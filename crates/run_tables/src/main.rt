@@ -1,7 +1,7 @@
-//! Plays rows of tables over memory. Each row has the words of a run, its files, commands and facts,
-//! what the streams of its wire do, and which calls fail; and behind `>` the lines that must come of
-//! it. Rows without such lines are played for what comes, which is printed. A row that says `marks`
-//! has a line for each mark of its wire, too.
+//! Plays rows of tables over memory. Each row has the words of a run, its files, commands and
+//! facts, what the streams of its wire do, and which calls fail; and behind `>` the lines that must
+//! come of it. Rows without such lines are played for what comes, which is printed. A row that says
+//! `marks` has a line for each mark of its wire, too.
 #![tactic(auto)]
 
 mod answer;

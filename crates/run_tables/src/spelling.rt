@@ -75,8 +75,8 @@ pub fn spell_frames(alloc: Global, bytes: &[u8]) -> Result<Text, OutOfMemory> {
     Ok(out)
 }
 
-/// A text with escapes: `\n`, `\t`, `\s` for a space, `\e` for nothing, `\\` and `\xNN`. None where one
-/// isn't whole.
+/// A text with escapes: `\n`, `\t`, `\s` for a space, `\e` for nothing, `\\` and `\xNN`. None where
+/// one isn't whole.
 pub fn unescape(alloc: Global, text: &str) -> Result<Option<Text>, OutOfMemory> {
     let mut out = Text::new(alloc);
     let mut left = text.as_bytes();

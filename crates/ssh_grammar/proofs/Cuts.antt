@@ -1,4 +1,5 @@
--- Frames: what a cut gives is spelled so, frames that are spelled are cut, and bytes that follow change none.
+-- Frames: what a cut gives is spelled so, frames that are spelled are cut, and bytes that follow
+-- change none.
 use Rattle.std.proofs.Common.{◌≡◌, ℕ, zero, suc, ◌-◌, ◌≤◌, List, [], ◌∷◌, ◌++◌, length, true, false, Bool, refl, sym, ◌∙◌, ap, subst, arith, Some, None, take, drop, length-drop, length-append}
 use Rattle.std.specs.Prelude.{nat_le, nat_lt, nat_eq}
 use Rattle.std.proofs.lemmas.List.{take-append-le, drop-append-le}

@@ -1,7 +1,8 @@
 -- The control messages of PROTOCOL.mux version 4 with all their fields.
 use Rattle.std.specs.Prelude.{ℕ, List, codes}
 
--- what a client asks to be forwarded, or no longer (PROTOCOL.mux, port forwards): its kind and both ends
+-- what a client asks to be forwarded, or no longer (PROTOCOL.mux, port forwards): its kind and both
+-- ends
 pub record ForwardAsk : Type 0 where
   pub kind : ℕ
   pub listen_host : List ℕ

@@ -73,7 +73,8 @@ abbrev pub first_frame : Framing → List ℕ → Front
 first_frame framing bytes =
     elim (take_u32 bytes) [ None ↦ More | Some p ↦ cut_length framing p.0 p.1 ]
 
--- all frames of some bytes: what they hold, the bytes after the last one, and the fault of those bytes, if any
+-- all frames of some bytes: what they hold, the bytes after the last one, and the fault of those
+-- bytes, if any
 pub record Cut : Type 0 where
   pub frames : List (List ℕ)
   pub rest : List ℕ

@@ -1,4 +1,5 @@
--- Which bodies are which control messages (PROTOCOL.mux): the type's number and the fields, with nothing left over.
+-- Which bodies are which control messages (PROTOCOL.mux): the type's number and the fields, with
+-- nothing left over.
 use Rattle.std.specs.Prelude.{◌≡◌, ℕ, List}
 use Rattle.std.specs.List.{AllByRecursion}
 use Rattle.ssh_grammar.specs.Control.{ForwardAsk, Control, Hello, NewSession, AliveCheck, Terminate, OpenForward, CloseForward, StdioForward, StopListening, Proxy}

@@ -7,7 +7,8 @@ use Rattle.ssh_grammar.specs.declared.framing.Framing.TheVariants.{Control, Prox
 use Rattle.ssh_grammar.specs.declared.numbers.TheConstants.{LONGEST_FRAME}
 use Rattle.ssh_grammar.specs.Frames.{frame, Front, More, Faulty, first_frame, Cut}
 
--- a control message's body has four bytes at least, a payload has one, and the length field is 262,144 at most
+-- a control message's body has four bytes at least, a payload has one, and the length field is
+-- 262,144 at most
 abbrev pub IsContent : Framing → List ℕ → Type 0
 IsContent Control body = (4 ≤ length body) × (length body ≤ LONGEST_FRAME)
 IsContent Proxy payload = (1 ≤ length payload) × (length payload + 1 ≤ LONGEST_FRAME)
@@ -22,7 +23,8 @@ abbrev pub EndsAt : Option BadFrame → Front → Type 0
 EndsAt None front = front ≡ More
 EndsAt (Some fault) front = front ≡ Faulty fault
 
--- these frames and no more: they are valid, they fill the bytes up to the rest, and no frame stands there
+-- these frames and no more: they are valid, they fill the bytes up to the rest, and no frame stands
+-- there
 pub record Cuts (framing : Framing) (bytes : List ℕ) (c : Cut) : Type 0 where
   pub valid : AllByRecursion (IsContent framing) c.frames
   pub filled : bytes ≡ joined framing c.frames ++ c.rest

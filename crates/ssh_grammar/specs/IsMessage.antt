@@ -1,4 +1,5 @@
--- Which payloads are which messages (RFC 4254): the message's number and fields, with nothing left over.
+-- Which payloads are which messages (RFC 4254): the message's number and fields, with nothing left
+-- over.
 use Rattle.std.specs.Prelude.{◌≡◌, ◌≢◌, ℕ, ◌^◌, ◌<◌, ◌≤◌, List, ◌++◌, length}
 use Rattle.ssh_fields.specs.Fields.{u32, str, is_true}
 use Rattle.ssh_grammar.specs.declared.numbers.TheConstants as number
@@ -89,7 +90,8 @@ abbrev pub IsMessage : Message → Type 0
 IsMessage (Plain m) = IsPlain m
 IsMessage (To recipient m) = IsNumber recipient × IsChannelMessage m
 
--- the payload is the message's: its boolean, if it has one, is spelled by a byte that is true where it is
+-- the payload is the message's: its boolean, if it has one, is spelled by a byte that is true where
+-- it is
 pub record Spells (m : Message) (p : List ℕ) : Type 0 where
   pub is_message : IsMessage m
   pub flag : ℕ

@@ -78,7 +78,8 @@ NoBodyForTwoAnswers = (a b : Answer) → IsAnswer a → IsAnswer b
 
 -- ---- frames
 
--- a cut gives the longest list of valid frames that is a front of the bytes, and no other list is that
+-- a cut gives the longest list of valid frames that is a front of the bytes, and no other list is
+-- that
 abbrev pub CutIsLongest : Type 0
 CutIsLongest = (framing : Framing) (bytes : List ℕ) → AreBytes bytes
     → Cuts framing bytes (cut framing bytes)
@@ -126,7 +127,8 @@ KeepControl bodies = AllByRecursion (λ body. after_body body ≡ InControl) bod
 abbrev pub AreBodies : List (List ℕ) → Type 0
 AreBodies bodies = AllByRecursion (IsContent framing.Control) bodies
 
--- where no control message begins the proxy or ends the reading, all control messages are said, and then the fault
+-- where no control message begins the proxy or ends the reading, all control messages are said, and
+-- then the fault
 abbrev pub ControlIsSaid : Type 0
 ControlIsSaid =
     (bytes : List ℕ) → AreBytes bytes → KeepControl (cut framing.Control bytes).frames

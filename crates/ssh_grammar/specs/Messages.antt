@@ -1,27 +1,31 @@
--- The messages of the connection protocol (RFC 4254) with all their fields, in the order of their numbers.
+-- The messages of the connection protocol (RFC 4254) with all their fields, in the order of their
+-- numbers.
 use Rattle.std.specs.Prelude.{ℕ, List, Bool, codes}
 
--- what is listened on or connected to: an address and a port (RFC 4254, section 7), or the path of a Unix socket
--- (OpenSSH's PROTOCOL, section 2.4)
+-- what is listened on or connected to: an address and a port (RFC 4254, section 7), or the path of
+-- a Unix socket (OpenSSH's PROTOCOL, section 2.4)
 pub data Key : Type 0 where
   Tcp : (address : List ℕ) (port : ℕ) → Key
   Path : (path : List ℕ) → Key
 
--- what a global request is about (RFC 4254, sections 4 and 7.1): its data, read further for these names alone
+-- what a global request is about (RFC 4254, sections 4 and 7.1): its data, read further for these
+-- names alone
 pub data Global : Type 0 where
   Forward : (key : Key) → Global
   Cancel : (key : Key) → Global
   KeepAlive : Global
   OtherName : Global
 
--- what an open is about (RFC 4254, sections 6.1 and 7.2): its data, read further for these types alone
+-- what an open is about (RFC 4254, sections 6.1 and 7.2): its data, read further for these types
+-- alone
 pub data Opens : Type 0 where
   Session : Opens
   Direct : (key : Key) → Opens
   Forwarded : (key : Key) → Opens
   OtherType : Opens
 
--- the messages to no channel that is open yet; `rest` is the data as it came, and `what` that data read further
+-- the messages to no channel that is open yet; `rest` is the data as it came, and `what` that data
+-- read further
 pub data PlainMessage : Type 0 where
   Transport : (number : ℕ) (rest : List ℕ) → PlainMessage
   GlobalRequest : (name : List ℕ) (want : Bool) (rest : List ℕ) (what : Global) → PlainMessage

@@ -1,4 +1,5 @@
--- How a control message's body is read (PROTOCOL.mux): the message, or the first fault and its place.
+-- How a control message's body is read (PROTOCOL.mux): the message, or the first fault and its
+-- place.
 use Rattle.std.specs.Prelude.{ℕ, ◌+◌, List, [], ◌∷◌, length, Some, None, Result, Ok, Err, zero, suc}
 use Rattle.ssh_fields.specs.Fields.{take_u32, take_str}
 use Rattle.ssh_grammar.specs.declared.fault.BadControl.{BadControl}

@@ -1,5 +1,5 @@
--- How a payload is read (RFC 4254): the message, or the first fault and its place. Fields are read in order;
--- each reader goes on with the bytes after its field and with their place in the payload.
+-- How a payload is read (RFC 4254): the message, or the first fault and its place. Fields are read
+-- in order; each reader goes on with the bytes after its field and with their place in the payload.
 use Rattle.std.specs.Prelude.{ℕ, ◌+◌, List, [], ◌∷◌, length, Some, None, Result, Ok, Err, Bool}
 use Rattle.ssh_fields.specs.Fields.{take_bool, take_u32, take_str}
 use Rattle.ssh_grammar.specs.declared.fault.Bad.{Bad}

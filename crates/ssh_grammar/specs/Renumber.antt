@@ -1,4 +1,5 @@
--- A message with another recipient or another sender, and where a payload shows its channel numbers.
+-- A message with another recipient or another sender, and where a payload shows its channel
+-- numbers.
 use Rattle.std.specs.Prelude.{◌≡◌, ℕ, ◌+◌, ◌≤◌, List, length, Option, Some, None}
 use Rattle.ssh_fields.specs.Fields.{u32_at}
 use Rattle.ssh_grammar.specs.Messages.{Open, Confirmation, Message, Plain, To}

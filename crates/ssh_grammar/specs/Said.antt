@@ -1,4 +1,5 @@
--- What a client has said by all its bytes (PROTOCOL.mux): control messages, and after a PROXY payloads.
+-- What a client has said by all its bytes (PROTOCOL.mux): control messages, and after a PROXY
+-- payloads.
 use Rattle.std.specs.Prelude.{ℕ, List, [], ◌∷◌, ◌++◌, length, zero, suc, Ok, Err}
 use Rattle.ssh_grammar.specs.declared.fault.BadFrame.{BadFrame}
 use Rattle.ssh_grammar.specs.declared.framing.Framing.TheVariants as framing
@@ -18,8 +19,8 @@ pub data Saying : Type 0 where
   Payload : (payload : List ℕ) → Saying
   BadFraming : (fault : BadFrame) → Saying
 
--- the mode after a control message: PROXY begins the proxy, and after the two requests that hand descriptors
--- over nothing is read
+-- the mode after a control message: PROXY begins the proxy, and after the two requests that hand
+-- descriptors over nothing is read
 abbrev pub after_control : Control → Mode
 after_control (Proxy id) = InProxy
 after_control (NewSession id rest) = Stopped

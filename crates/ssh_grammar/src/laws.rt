@@ -9,8 +9,8 @@ pub fn messages_and_their_payloads()
     ensures no_two { NoPayloadForTwo }
 {}
 
-/// The channel numbers stand at their places, and with one of them replaced in place a payload reads as
-/// the same message but for that number.
+/// The channel numbers stand at their places, and with one of them replaced in place a payload
+/// reads as the same message but for that number.
 pub fn channel_numbers_in_a_payload()
     ensures stand { NumbersStand }
     ensures recipient { RecipientIsReplaced }
@@ -37,8 +37,8 @@ pub fn frames_of_a_stream()
     ensures join { CutsJoin }
 {}
 
-/// What a client says by pieces is what it says by all its bytes: control messages, and after the one
-/// that begins the proxy payloads.
+/// What a client says by pieces is what it says by all its bytes: control messages, and after the
+/// one that begins the proxy payloads.
 pub fn what_is_said_by_bytes()
     ensures join { ParsesJoin }
     ensures stays { SaidStays }

@@ -1,4 +1,5 @@
--- A text that words may give for a permission is one that a list reads as an entry, and no other is.
+-- A text that words may give for a permission is one that a list reads as an entry, and no other
+-- is.
 use Rattle.std.proofs.Common.{◌≡◌, ℕ, Bool, true, false, [], ◌∷◌, ◌++◌, Option, Some, None, refl, sym, ap, ◌∙◌, append_assoc, arith}
 use Rattle.std.specs.Prelude.{not, ◌&&◌, ◌||◌, ◌==◌, if◌then◌else◌, bytes_eq, codes, is_some}
 use Rattle.std.specs.List.{list_any}

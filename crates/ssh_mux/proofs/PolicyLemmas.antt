@@ -1,4 +1,5 @@
--- The policy of a master that opens its wire is that of its words, and words that were read have one.
+-- The policy of a master that opens its wire is that of its words, and words that were read have
+-- one.
 use Rattle.std.proofs.Common.{◌≡◌, ◌&&◌, Bool, true, false, List, Option, Some, None, Result, Ok, Err, refl, sym, ap, subst}
 use Rattle.std.specs.Prelude.{IsOk, is_ok}
 use Rattle.std.specs.Bool.{OnTrue}

@@ -57,7 +57,8 @@ or-left : (a b : Bool) → a ≡ true → (a || b) ≡ true
 or-left true b e = refl
 or-left false b e = absurd cc
 
--- what stays where nothing may have been opened for a master stays where it was not for a drill either
+-- what stays where nothing may have been opened for a master stays where it was not for a drill
+-- either
 pub untouched : (opened shares drilled : Bool) (P : Type 0) → OnFalse (opened && shares) P → OnFalse (opened && (shares || drilled)) P
 untouched false shares drilled P h = h
 untouched true true drilled P h = tt

@@ -42,8 +42,8 @@ Reports Memory ending before now faults faults' = TookSome (line_of NoMemory) be
 Reports result ending before now faults faults' =
     (result ≡ status_of ending) × TookLine (line_of ending) before now faults faults'
 
--- the run ended by an ending that is due, whose line was handed over, and whose fault, if it is one,
--- raised its count and is told where it came up: a failed read with its path
+-- the run ended by an ending that is due, whose line was handed over, and whose fault, if it is
+-- one, raised its count and is told where it came up: a failed read with its path
 pub record EndsBy (known : Known) (told : Option Told) (status : Status)
     (before now : Option (List ℕ)) (faults faults' files files' runner runner' : ℕ)
     (ran ran' : Option (List Bytes)) (failed failed' : FailedPaths) : Type 0 where

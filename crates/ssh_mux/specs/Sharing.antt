@@ -173,8 +173,8 @@ WaitsFor turns Transport old new = counted old.waits ≤ new.waits
 WaitsFor turns Broke old new = counted old.waits ≤ new.waits
 WaitsFor turns status old new = Unit
 
--- what a run without turns leaves of the counts of faults: both, but where the sockets weren't opened
--- or memory was wanting
+-- what a run without turns leaves of the counts of faults: both, but where the sockets weren't
+-- opened or memory was wanting
 abbrev pub IdleCause : Status → ℕ → ℕ → ℕ → ℕ → Type 0
 IdleCause Open server server' client client' = Unit
 IdleCause Memory server server' client client' = Unit

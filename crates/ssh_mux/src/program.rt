@@ -27,11 +27,11 @@ use std::alloc::Global;
 ///
 /// `words` are the program's words without its name. What they ask for is resolved over `files`,
 /// whose commands `runner` runs. The listing of `-G` goes to `out` in one `put`, once it is
-/// complete. `-M` opens the wire and serves it for at most `turns` turns. `--drill` does so too, for
-/// clients that are permitted anything but forwardings of the master's own, and where its run ends
-/// well the summary of what the wire has counted goes to `out` in one `put`. A status other than
-/// that of success or of a failed `out` has its one line, which goes to `err` in one `put`; where
-/// there is no memory for it the status is that of want of memory.
+/// complete. `-M` opens the wire and serves it for at most `turns` turns. `--drill` does so too,
+/// for clients that are permitted anything but forwardings of the master's own, and where its run
+/// ends well the summary of what the wire has counted goes to `out` in one `put`. A status other
+/// than that of success or of a failed `out` has its one line, which goes to `err` in one `put`;
+/// where there is no memory for it the status is that of want of memory.
 pub fn run<W: Wire, F: Files, R: Runner, S: Sink, H: House>(
     alloc: Global,
     words: &Texts,

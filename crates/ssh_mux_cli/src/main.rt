@@ -51,8 +51,8 @@ fn is_drill(words: &Texts) -> bool {
         .is_some_and(|word| word.as_bytes() == b"--drill".as_slice())
 }
 
-// Runs over this wire, and over the files, commands and outputs of the system, with as many turns as
-// there are.
+// Runs over this wire, and over the files, commands and outputs of the system, with as many turns
+// as there are.
 fn run_over<W: Wire>(
     rt: &HostRuntime,
     words: &Texts,

@@ -1,6 +1,7 @@
-//! How fast the table of channels is: reads lines such as `spread 4096 100 10000000`, and for each admits so many
-//! channels, frees and admits all of them so often again, and looks so many up by the server's numbers. With
-//! `gathered` these are chosen so that the hash of `indexmap`, whose seed is fixed, puts all of them into one place.
+//! How fast the table of channels is: reads lines such as `spread 4096 100 10000000`, and for each
+//! admits so many channels, frees and admits all of them so often again, and looks so many up by
+//! the server's numbers. With `gathered` these are chosen so that the hash of `indexmap`, whose
+//! seed is fixed, puts all of them into one place.
 #![tactic(auto)]
 
 mod collide;

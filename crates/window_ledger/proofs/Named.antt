@@ -1,4 +1,5 @@
--- For the crates above: a ledger looks at no number of its channel, and knows whether it is confirmed.
+-- For the crates above: a ledger looks at no number of its channel, and knows whether it is
+-- confirmed.
 use Rattle.std.proofs.Common.{◌≡◌, ℕ, sym, ap, Option}
 use Rattle.mux_history.specs.Channels.{Channel, any_act, is_confirmed, is_confirms}
 use Rattle.window_ledger.specs.Stands.{IsStateOf, Stands, confirmed, is_answered}

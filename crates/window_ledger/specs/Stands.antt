@@ -36,7 +36,8 @@ pub record IsBegun (by : Side) (window maximum : ℕ) (x : Channel) : Type 0 whe
   pub longest : x.maximum ≡ maximum
   pub fresh : x.acts ≡ []
 
--- the channel is confirmed, these are its accounts, and no more was carried than granted, nor answered than asked
+-- the channel is confirmed, these are its accounts, and no more was carried than granted, nor
+-- answered than asked
 pub record AreAccounts (up down : Account) (x : Channel) : Type 0 where
   pub answered : is_confirmed x ≡ true
   pub upward : up ≡ account_of Up x
@@ -64,11 +65,13 @@ abbrev pub Answers : {A : Type 0} → Result A Breach → Option Breach → Type
 Answers (Ok a) broken = broken ≡ None
 Answers (Err breach) broken = broken ≡ Some breach
 
--- of each channel for which a ledger stands, a call answers with what one more act would break there
+-- of each channel for which a ledger stands, a call answers with what one more act would break
+-- there
 abbrev pub Judges : {A : Type 0} → Ledger → Side → Act → Result A Breach → Type 0
 Judges ledger way act result = (x : Channel) → Stands ledger x → Answers result (breach way act x)
 
--- of each channel for which a ledger stood before, it stands afterwards for the channel with one more act
+-- of each channel for which a ledger stood before, it stands afterwards for the channel with one
+-- more act
 abbrev pub GoesOn : Ledger → Ledger → Side → Act → Type 0
 GoesOn old new way act = (x : Channel) → Stands old x → Stands new (with_act way act x)
 

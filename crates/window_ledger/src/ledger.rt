@@ -232,8 +232,8 @@ impl Ledger {
         }
     }
 
-    /// How many bytes of data the receiver of a direction takes for now. Before the CONFIRMATION that is the
-    /// opener's window towards the opener, and nothing the other way.
+    /// How many bytes of data the receiver of a direction takes for now. Before the CONFIRMATION
+    /// that is the opener's window towards the opener, and nothing the other way.
     pub fn room(&self, way: Side) -> u32
         ensures exact { (x : Channel) → Stands self.now x → result ≡ room way x }
         // No room falls below zero: what is left and what was carried make up all that was granted.

@@ -1,10 +1,12 @@
-//! Each cause for which a core drops a client, and each break of the server that a core tells, with its values.
+//! Each cause for which a core drops a client, and each break of the server that a core tells, with
+//! its values.
 
 use super::{plays, plays_each};
 use std::test::Fail;
 
-// The numbers of client 1's channel are 7 for itself, 0 for the master and 5 for the server. It gives the server a
-// window of 10 bytes with packets of 8, and is given one of 5 with packets of 4. Client 2 waits for a confirmation.
+// The numbers of client 1's channel are 7 for itself, 0 for the master and 5 for the server. It
+// gives the server a window of 10 bytes with packets of 8, and is given one of 5 with packets of 4.
+// Client 2 waits for a confirmation.
 const OPENED: &str = r#"
     admit 1 -> let in;
     admit 2 -> let in;

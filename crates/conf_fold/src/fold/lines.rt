@@ -181,9 +181,10 @@ impl Fold {
         }
     }
 
-    /// Takes one line of a file, behind those taken so far: `opens` where it is the first of its reading of the file, which lies at
-    /// most as deep as files are open. A refusal is that of the line; settings stay. Criteria of an active Match line are
-    /// evaluated here, and the runner's fault comes only where its count rose.
+    /// Takes one line of a file, behind those taken so far: `opens` where it is the first of its
+    /// reading of the file, which lies at most as deep as files are open. A refusal is that of the
+    /// line; settings stay. Criteria of an active Match line are evaluated here, and the runner's
+    /// fault comes only where its count rose.
     pub fn line<R: Runner>(
         &mut self,
         line: &ConfLine,

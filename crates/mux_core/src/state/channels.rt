@@ -24,7 +24,8 @@ impl Core {
         }
     }
 
-    // The number and the account of a server's open that waits for the client's answer, by the server's number.
+    // The number and the account of a server's open that waits for the client's answer, by the
+    // server's number.
     pub(crate) fn waiting_for(&self, client: u64, remote: u32) -> Option<(u32, Ledger)>
         ensures { result ≡ waiting_for self.now.channels client remote }
     {
@@ -94,7 +95,8 @@ impl Core {
         self.table.admit_remote(client, remote, ledger)
     }
 
-    // The client's own number of a channel that the server has opened: whether the client uses it for no other.
+    // The client's own number of a channel that the server has opened: whether the client uses it
+    // for no other.
     pub(crate) fn name_own(&mut self, number: u32, own: u32) -> Result<bool, OutOfMemory>
         ensures exact { IfOk result (λ free. free ≡ not (uses_own self.old.channels number own)) }
         ensures ok { IfOk result (λ free.
@@ -111,7 +113,8 @@ impl Core {
         }
     }
 
-    // The server's number of a channel that a client has opened: whether the server uses it for no other.
+    // The server's number of a channel that a client has opened: whether the server uses it for no
+    // other.
     pub(crate) fn name_remote(&mut self, number: u32, remote: u32) -> Result<bool, OutOfMemory>
         ensures exact { IfOk result (λ free.
             free ≡ not (is_some (number_of_remote self.old.channels remote))) }

@@ -1,4 +1,5 @@
-// Clients alone: each sees what it sees among others, and the premises of the laws hold of worked runs.
+// Clients alone: each sees what it sees among others, and the premises of the laws hold of worked
+// runs.
 
 ghost use Rattle.std.specs.Prelude.{◌≡◌, [], ◌∷◌, IsTrue, false, reverse, true};
 ghost use Rattle.mux_outside.specs.declared.mark.Mark.TheVariants.{Accepts};
@@ -39,8 +40,8 @@ pub fn worked_runs_meet_the_premises()
     ensures admitted { IsAdmitted 2 (run connected) }
 {}
 
-/// A stream is known that is the server's or that of a client that was accepted, and no other, also where
-/// its number lies between those of two clients.
+/// A stream is known that is the server's or that of a client that was accepted, and no other, also
+/// where its number lies between those of two clients.
 pub fn a_client_that_never_came_is_unknown()
     ensures server { is_known 0 [] ≡ true }
     ensures came { is_known 3 (Accepts 3 ∷ Accepts 1 ∷ []) ≡ true }

@@ -17,8 +17,8 @@ pub fn an_open_for_a_path_reaches_its_client()
     ensures down { told_in_proxy 1 (run path_connected) ≡ success ++ connects_to_path }
 {}
 
-/// What a client forwards is cancelled for it when it is lost: at once, when it is granted later, and when
-/// the server refuses its own cancel.
+/// What a client forwards is cancelled for it when it is lost: at once, when it is granted later,
+/// and when the server refuses its own cancel.
 pub fn a_path_of_a_lost_client_is_given_back()
     ensures at_once { sent (run leaves_path) ≡ asks_path ++ cancels_path_at_once }
     ensures granted { sent (run path_granted_late) ≡ asks_path ++ cancels_path_at_once }

@@ -41,7 +41,8 @@ pub fn no_window_grows_past_its_type()
     ensures up { end_of (run overgrown_up) ≡ Some (ended.Broke 3 (broke.Channel 1 (breach.Overflow 4294967295 1))) }
 {}
 
-/// A number that nobody holds is no channel; one that is given again isn't open before it is confirmed.
+/// A number that nobody holds is no channel; one that is given again isn't open before it is
+/// confirmed.
 pub fn a_closed_channel_takes_nothing()
     ensures nobody { end_of (run data_to_nobody) ≡ Some (ended.Broke 3 (broke.NoChannel 1)) }
     ensures again { sent_after_two (run_of again_setting data_too_early) ≡ hex (codes "00000006 00 61 00000005") ++ (hex (codes "00000019 00 5a 00000007") ++ (codes "session" ++ hex (codes "00000001 00200000 00008000"))) }

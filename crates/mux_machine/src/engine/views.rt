@@ -55,7 +55,8 @@ impl Engine {
         }
     }
 
-    /// How many bytes that a stream gave are not cut yet: less than the longest frame has, and none at the end of the run.
+    /// How many bytes that a stream gave are not cut yet: less than the longest frame has, and none
+    /// at the end of the run.
     pub fn rest_of(&self, stream: u64) -> usize
         ensures exact { result ≡ length (rest_in self.now stream) }
         ensures short { (picked : List ℕ) (given : List TheReply) (marks : List TheMark)
@@ -70,7 +71,8 @@ impl Engine {
         rest_at(&self.clients, stream)
     }
 
-    /// The streams for which bytes wait: the server's first, then the clients' in the order in which they came.
+    /// The streams for which bytes wait: the server's first, then the clients' in the order in
+    /// which they came.
     pub fn waiting(&self) -> &Streams
         ensures exact { result.now ≡ self.now.waiting }
         ensures waits { (picked : List ℕ) (given : List TheReply) (marks : List TheMark)
@@ -103,8 +105,8 @@ impl Engine {
         self.ended
     }
 
-    /// How many clients have open matters, while the run goes on: channels, requests without a reply, forwardings, or a
-    /// stream.
+    /// How many clients have open matters, while the run goes on: channels, requests without a
+    /// reply, forwardings, or a stream.
     pub fn open_matters(&self) -> u32
         ensures stands { (picked : List ℕ) (given : List TheReply) (marks : List TheMark)
             (closed : List ℕ) → Stands picked given self.now marks closed → self.now.ended ≡ None
@@ -114,8 +116,8 @@ impl Engine {
         self.core.open_matters()
     }
 
-    /// The client that was lost or refused first of those that were not closed, with the cause for which it was
-    /// dropped, if it was.
+    /// The client that was lost or refused first of those that were not closed, with the cause for
+    /// which it was dropped, if it was.
     pub fn closing(&self) -> Option<(u64, Option<Why>)>
         ensures exact { result ≡ first_of self.now.leaving }
         ensures stands { (picked : List ℕ) (given : List TheReply) (marks : List TheMark)
