@@ -29,7 +29,7 @@ use Rattle.ssh_mux.specs.Places.{EndPlace}
 use Rattle.ssh_mux.specs.Sharing.{CallsEnd, IdleCause, IsServed, IsShared, OpensOnce, Serves, Shares, TellsEnd, WaitsFor, WireCause}
 use Rattle.ssh_mux.specs.Sharing.{told_as}
 use Rattle.ssh_mux.specs.Status.{status_of}
-use Rattle.ssh_mux.proofs.StillLemmas.{loud}
+use Rattle.ssh_mux.proofs.StillLemmas.{loud, not_true}
 use Rattle.ssh_mux.proofs.CauseLemmas.{fault-cause, fault-later, runs-starved}
 
 -- ---- the status of a run whose line was handed over
@@ -66,6 +66,10 @@ pub well-cause : (k : Known) (status : Status) (f f' r r' : ℕ) → IsWell k st
 well-cause k statuses.Done f f' r r' w h = h
 well-cause k statuses.Write f f' r r' w h = h
 well-cause k status f f' r r' w h = absurd w
+
+-- a status with a line says nothing of what takes none
+pub told_after : (P : Type 0) (status : Status) (ending : Ending) (b n : Option (List ℕ)) (f f' : ℕ) → Reports status ending b n f f' → OnTrue (is_silent status) P
+told_after P status ending b n f f' r = carried (λ s. OnTrue (is_silent s) P) status ending (reported status ending b n f f' r) tt (not_true (is_silent (status_of ending)) P (loud ending))
 
 -- ---- what else holds of it
 

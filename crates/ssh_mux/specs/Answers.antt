@@ -1,5 +1,6 @@
 -- Which endings and statuses may come of words.
 use Rattle.std.specs.Prelude.{◌≡◌, ◌⊎◌, ◌&&◌, ◌||◌, Bool, true, false, IsTrue, Result, Ok, Err}
+use Rattle.std.specs.Bool.{OnFalse}
 use Rattle.conf_rules.specs.declared.causes.Cause.TheVariants.{ReadFault, RunFault}
 use Rattle.conf_rules.specs.declared.causes.ResolveError.TheVariants.{At}
 use Rattle.conf_rules.specs.Diagnostics.{Ending, BadLine, BadListing, NoControlPath}
@@ -110,3 +111,17 @@ may_share known status = may_open status && opens known
 -- whether one may have been opened at all: for a master or a drill
 abbrev pub touches : Known → Status → Bool
 touches known status = may_open status && (opens known || drills known)
+
+-- ---- what stays
+
+-- What a run leaves as it was, by facts that say so of what it was handed: what takes the listing,
+-- where nothing is written; files and commands, where no configuration is read; the wire, where it
+-- isn't opened; the house, where no master opens it.
+pub record Leaves (known : Known) (status : Status) (Out Files Runner Wire House : Type 0) :
+    Type 0 where
+  pub unwritten : OnFalse (may_write status) Out
+  pub unlisted : OnFalse (writes_out known) Out
+  pub files : OnFalse (looks known) Files
+  pub runner : OnFalse (looks known) Runner
+  pub wire : OnFalse (touches known status) Wire
+  pub house : OnFalse (may_share known status) House

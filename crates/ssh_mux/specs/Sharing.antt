@@ -1,5 +1,6 @@
 -- What a master opens, and how its run goes.
 use Rattle.std.specs.Prelude.{◌≡◌, ◌≢◌, ◌≤◌, ◌<◌, ◌+◌, ◌-◌, ◌^◌, min, ℕ, ◌⊎◌, List, [], ◌∷◌, ◌++◌, Option, Some, None, option_map, Result, Ok, Err}
+use Rattle.std.specs.Bool.{OnTrue}
 use Rattle.conf_rules.specs.Outcome.{Drills, Opens}
 use Rattle.conf_rules.specs.Texts.{Bytes}
 use Rattle.forward_rules.specs.Allows.{read_policy}
@@ -19,6 +20,7 @@ use Rattle.ssh_mux.specs.declared.ending.Ending.TheVariants as endings
 use Rattle.ssh_mux.specs.declared.status.Status.{Status}
 use Rattle.ssh_mux.specs.declared.status.Status.TheVariants.{Done, Config, Outside, Write}
 use Rattle.ssh_mux.specs.declared.status.Status.TheVariants.{Open, Transport, Broke, Spent, Memory}
+use Rattle.ssh_mux.specs.Answers.{may_share, so_far}
 use Rattle.ssh_mux.specs.Ending.{shown}
 use Rattle.ssh_mux.specs.Err.{Reports}
 use Rattle.ssh_mux.specs.Outcomes.{Known, Certain, Master}
@@ -113,6 +115,14 @@ Shares May policy pid turns before now start told (Err endings.NoMemory) =
 Shares May policy pid turns before now start told result =
     IsShared May policy pid turns before now start told result
 
+-- the same of what comes of words: only a master serves
+abbrev pub SharesFor :
+    (HouseReply → Type 0) → Known → ℕ → ℕ → Option (List Asked) → Option (List Asked)
+    → Option (List Mark) → Option (List Mark) → Result Status MeantEnding → Type 0
+SharesFor May known pid turns before now start told result =
+    OnTrue (may_share known (so_far result))
+    (Shares May (policy_in known) pid turns before now start told result)
+
 -- the line of an end was handed over, if it has one; there may be no memory for it
 abbrev pub TellsEnd :
     Result Status MeantEnding → Status → Option (List ℕ) → Option (List ℕ) → ℕ → ℕ → Type 0
@@ -140,6 +150,15 @@ Serves May policy pid turns before now start told Memory err err' faults faults'
     ⊎ IsServed May policy pid turns before now start told Memory err err' faults faults'
 Serves May policy pid turns before now start told status err err' faults faults' =
     IsServed May policy pid turns before now start told status err err' faults faults'
+
+-- the same of what comes of words
+abbrev pub ServesFor :
+    (HouseReply → Type 0) → Known → ℕ → ℕ → Option (List Asked) → Option (List Asked)
+    → Option (List Mark) → Option (List Mark) → Status → Option (List ℕ) → Option (List ℕ)
+    → ℕ → ℕ → Type 0
+ServesFor May known pid turns before now start told status err err' faults faults' =
+    OnTrue (may_share known status)
+    (Serves May (policy_in known) pid turns before now start told status err err' faults faults')
 
 -- the process id that clients are told: 0 where none is known
 abbrev pub pid_of : Option ℕ → ℕ

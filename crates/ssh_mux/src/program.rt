@@ -1,15 +1,15 @@
 ghost use Rattle.std.specs.Prelude.{◌≡◌};
-ghost use Rattle.std.specs.Bool.{OnFalse, OnTrue};
-ghost use Rattle.ssh_mux.specs.Answers.{Comes, so_far, may_write, may_share, touches};
+ghost use Rattle.std.specs.Bool.{OnTrue};
+ghost use Rattle.ssh_mux.specs.Answers.{Comes, Leaves, is_silent, so_far, may_share, touches};
 ghost use Rattle.ssh_mux.specs.Causes.{Caused, FaultCause, OutCause};
 ghost use Rattle.ssh_mux.specs.Commands.{RunsFor, commands_for};
 ghost use Rattle.ssh_mux.specs.Drill.{DrillGoes, IsDrill};
 ghost use Rattle.ssh_mux.specs.Err.{Ended};
 ghost use Rattle.ssh_mux.specs.Out.{OutTakes};
-ghost use Rattle.ssh_mux.specs.Outcomes.{machine, of_words, drills, looks, writes_out};
+ghost use Rattle.ssh_mux.specs.Outcomes.{machine, known_of, drills};
 ghost use Rattle.ssh_mux.specs.Places.{Placed, told_for};
-ghost use Rattle.ssh_mux.specs.Sharing.{CallsEnd, IdleCause, OpensOnce, Serves, Shares};
-ghost use Rattle.ssh_mux.specs.Sharing.{WaitsFor, WireCause, pid_of, policy_in};
+ghost use Rattle.ssh_mux.specs.Sharing.{CallsEnd, IdleCause, OpensOnce, ServesFor, SharesFor};
+ghost use Rattle.ssh_mux.specs.Sharing.{WaitsFor, WireCause, pid_of};
 
 use crate::drill::drill;
 use crate::ending::Ending;
@@ -45,7 +45,7 @@ pub fn run<W: Wire, F: Files, R: Runner, S: Sink, H: House>(
     turns: u64,
 ) -> Status
     ensures ended { Ended
-        (of_words (machine (F.told files.old) (R.told runner.old) facts.now) words.now)
+        (known_of (F.told files.old) (R.told runner.old) facts.now words.now)
         (told_for (machine (F.told files.old) (R.told runner.old) facts.now) words.now)
         result (S.told err.old) (S.told err.new) (S.faults err.old) (S.faults err.new)
         (F.faults files.old) (F.faults files.new) (R.faults runner.old) (R.faults runner.new)
@@ -53,57 +53,44 @@ pub fn run<W: Wire, F: Files, R: Runner, S: Sink, H: House>(
     ensures fault_cause { FaultCause result (F.faults files.old) (F.faults files.new)
         (R.faults runner.old) (R.faults runner.new) }
     ensures out { OutTakes result
-        (of_words (machine (F.told files.old) (R.told runner.old) facts.now) words.now)
+        (known_of (F.told files.old) (R.told runner.old) facts.now words.now)
         (S.told out.old) (S.told out.new) }
-    ensures unwritten { OnFalse (may_write result) (out.new ≡ out.old) }
-    ensures unlisted { OnFalse
-        (writes_out (of_words (machine (F.told files.old) (R.told runner.old) facts.now) words.now))
-        (out.new ≡ out.old) }
     ensures out_cause { OutCause result (S.faults out.old) (S.faults out.new) }
     ensures ran { RunsFor
         (commands_for (machine (F.told files.old) (R.told runner.old) facts.now) words.now)
         result (R.ran runner.old) (R.ran runner.new) }
-    ensures files { OnFalse
-        (looks (of_words (machine (F.told files.old) (R.told runner.old) facts.now) words.now))
-        (files.new ≡ files.old) }
-    ensures runner { OnFalse
-        (looks (of_words (machine (F.told files.old) (R.told runner.old) facts.now) words.now))
-        (runner.new ≡ runner.old) }
     ensures opened { OpensOnce
-        (of_words (machine (F.told files.old) (R.told runner.old) facts.now) words.now)
+        (known_of (F.told files.old) (R.told runner.old) facts.now words.now)
         result (W.openings wire.old) (W.openings wire.new) }
-    ensures shared { OnTrue (may_share
-        (of_words (machine (F.told files.old) (R.told runner.old) facts.now) words.now)
-        result) (Serves H.may
-        (policy_in (of_words (machine (F.told files.old) (R.told runner.old) facts.now) words.now))
+    ensures shared { ServesFor H.may
+        (known_of (F.told files.old) (R.told runner.old) facts.now words.now)
         (pid_of facts.now.pid) turns (H.told house.old) (H.told house.new)
         (W.seen wire.old).told (W.seen wire.new).told result
-        (S.told err.old) (S.told err.new) (S.faults err.old) (S.faults err.new)) }
+        (S.told err.old) (S.told err.new) (S.faults err.old) (S.faults err.new) }
     ensures wire_cause { OnTrue (may_share
-        (of_words (machine (F.told files.old) (R.told runner.old) facts.now) words.now)
+        (known_of (F.told files.old) (R.told runner.old) facts.now words.now)
         result) (WireCause result (W.server_faults wire.old) (W.server_faults wire.new)
         (W.client_faults wire.old) (W.client_faults wire.new)) }
     ensures calls { CallsEnd turns result (W.calls wire.old) (W.calls wire.new) }
     ensures waited { OnTrue (touches
-        (of_words (machine (F.told files.old) (R.told runner.old) facts.now) words.now)
+        (known_of (F.told files.old) (R.told runner.old) facts.now words.now)
         result) (WaitsFor turns result (W.calls wire.old) (W.calls wire.new)) }
     ensures idle { turns ≡ 0 → IdleCause result
         (W.server_faults wire.old) (W.server_faults wire.new)
         (W.client_faults wire.old) (W.client_faults wire.new) }
     ensures drill { OnTrue
-        (drills (of_words (machine (F.told files.old) (R.told runner.old) facts.now) words.now))
+        (drills (known_of (F.told files.old) (R.told runner.old) facts.now words.now))
         (IsDrill words.now turns result (W.openings wire.old) (W.openings wire.new)
         (W.seen wire.old).told (W.seen wire.new).told (W.tally wire.new)
         (S.told out.old) (S.told out.new) (S.told err.old) (S.told err.new)
         (S.faults err.old) (S.faults err.new)
         (W.server_faults wire.old) (W.server_faults wire.new)
         (W.client_faults wire.old) (W.client_faults wire.new)) }
-    ensures wire { OnFalse (touches
-        (of_words (machine (F.told files.old) (R.told runner.old) facts.now) words.now)
-        result) (wire.new ≡ wire.old) }
-    ensures house { OnFalse (may_share
-        (of_words (machine (F.told files.old) (R.told runner.old) facts.now) words.now)
-        result) (house.new ≡ house.old) }
+    ensures leaves { Leaves
+        (known_of (F.told files.old) (R.told runner.old) facts.now words.now)
+        result (out.new ≡ out.old) (files.new ≡ files.old) (runner.new ≡ runner.old)
+        (wire.new ≡ wire.old) (house.new ≡ house.old) }
+    ensures silent { OnTrue (is_silent result) (err.new ≡ err.old) }
 {
     match obey(alloc, words, facts, wire, files, runner, out, house, turns) {
         Ok(status) => status,
@@ -124,7 +111,7 @@ fn obey<W: Wire, F: Files, R: Runner, S: Sink, H: House>(
     turns: u64,
 ) -> Result<Status, Ending>
     ensures exact { Comes
-        (of_words (machine (F.told files.old) (R.told runner.old) facts.now) words.now)
+        (known_of (F.told files.old) (R.told runner.old) facts.now words.now)
         result }
     ensures place { Placed
         (told_for (machine (F.told files.old) (R.told runner.old) facts.now) words.now)
@@ -133,56 +120,42 @@ fn obey<W: Wire, F: Files, R: Runner, S: Sink, H: House>(
     ensures cause { Caused result (F.faults files.old) (F.faults files.new)
         (R.faults runner.old) (R.faults runner.new) }
     ensures out { OutTakes (so_far result)
-        (of_words (machine (F.told files.old) (R.told runner.old) facts.now) words.now)
+        (known_of (F.told files.old) (R.told runner.old) facts.now words.now)
         (S.told out.old) (S.told out.new) }
-    ensures unwritten { OnFalse (may_write (so_far result)) (out.new ≡ out.old) }
-    ensures unlisted { OnFalse
-        (writes_out (of_words (machine (F.told files.old) (R.told runner.old) facts.now) words.now))
-        (out.new ≡ out.old) }
     ensures out_cause { OutCause (so_far result) (S.faults out.old) (S.faults out.new) }
     ensures ran { RunsFor
         (commands_for (machine (F.told files.old) (R.told runner.old) facts.now) words.now)
         (so_far result) (R.ran runner.old) (R.ran runner.new) }
-    ensures files { OnFalse
-        (looks (of_words (machine (F.told files.old) (R.told runner.old) facts.now) words.now))
-        (files.new ≡ files.old) }
-    ensures runner { OnFalse
-        (looks (of_words (machine (F.told files.old) (R.told runner.old) facts.now) words.now))
-        (runner.new ≡ runner.old) }
     ensures opened { OpensOnce
-        (of_words (machine (F.told files.old) (R.told runner.old) facts.now) words.now)
+        (known_of (F.told files.old) (R.told runner.old) facts.now words.now)
         (so_far result) (W.openings wire.old) (W.openings wire.new) }
-    ensures shared { OnTrue (may_share
-        (of_words (machine (F.told files.old) (R.told runner.old) facts.now) words.now)
-        (so_far result)) (Shares H.may
-        (policy_in (of_words (machine (F.told files.old) (R.told runner.old) facts.now) words.now))
+    ensures shared { SharesFor H.may
+        (known_of (F.told files.old) (R.told runner.old) facts.now words.now)
         (pid_of facts.now.pid) turns (H.told house.old) (H.told house.new)
-        (W.seen wire.old).told (W.seen wire.new).told result) }
+        (W.seen wire.old).told (W.seen wire.new).told result }
     ensures wire_cause { OnTrue (may_share
-        (of_words (machine (F.told files.old) (R.told runner.old) facts.now) words.now)
+        (known_of (F.told files.old) (R.told runner.old) facts.now words.now)
         (so_far result)) (WireCause (so_far result)
         (W.server_faults wire.old) (W.server_faults wire.new)
         (W.client_faults wire.old) (W.client_faults wire.new)) }
     ensures calls { CallsEnd turns (so_far result) (W.calls wire.old) (W.calls wire.new) }
     ensures waited { OnTrue (touches
-        (of_words (machine (F.told files.old) (R.told runner.old) facts.now) words.now)
+        (known_of (F.told files.old) (R.told runner.old) facts.now words.now)
         (so_far result)) (WaitsFor turns (so_far result) (W.calls wire.old) (W.calls wire.new)) }
     ensures idle { turns ≡ 0 → IdleCause (so_far result)
         (W.server_faults wire.old) (W.server_faults wire.new)
         (W.client_faults wire.old) (W.client_faults wire.new) }
     ensures drill { OnTrue
-        (drills (of_words (machine (F.told files.old) (R.told runner.old) facts.now) words.now))
+        (drills (known_of (F.told files.old) (R.told runner.old) facts.now words.now))
         (DrillGoes words.now turns result (W.openings wire.old) (W.openings wire.new)
         (W.seen wire.old).told (W.seen wire.new).told (W.tally wire.new)
         (S.told out.old) (S.told out.new)
         (W.server_faults wire.old) (W.server_faults wire.new)
         (W.client_faults wire.old) (W.client_faults wire.new)) }
-    ensures wire { OnFalse (touches
-        (of_words (machine (F.told files.old) (R.told runner.old) facts.now) words.now)
-        (so_far result)) (wire.new ≡ wire.old) }
-    ensures house { OnFalse (may_share
-        (of_words (machine (F.told files.old) (R.told runner.old) facts.now) words.now)
-        (so_far result)) (house.new ≡ house.old) }
+    ensures leaves { Leaves
+        (known_of (F.told files.old) (R.told runner.old) facts.now words.now)
+        (so_far result) (out.new ≡ out.old) (files.new ≡ files.old) (runner.new ≡ runner.old)
+        (wire.new ≡ wire.old) (house.new ≡ house.old) }
 {
     let command = read_words(alloc, words)?;
     match command {

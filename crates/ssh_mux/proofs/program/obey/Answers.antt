@@ -22,23 +22,11 @@ returns-in_err-command-clause-cause g c = let p = err_from_is_err_and c.from_res
 pub returns-in_err-command-clause-out : goal.returns-in_err-command-clause-out
 returns-in_err-command-clause-out g c = let p = err_from_is_err_and c.from_residual.result c.from_residual.ensures.1 in rw (p.1, p.2) (quiet-out _ _ _ (loud _))
 
-pub returns-in_err-command-clause-unwritten : goal.returns-in_err-command-clause-unwritten
-returns-in_err-command-clause-unwritten g c = on_false _ _
-
-pub returns-in_err-command-clause-unlisted : goal.returns-in_err-command-clause-unlisted
-returns-in_err-command-clause-unlisted g c = on_false _ _
-
 pub returns-in_err-command-clause-out_cause : goal.returns-in_err-command-clause-out_cause
 returns-in_err-command-clause-out_cause g c = let p = err_from_is_err_and c.from_residual.result c.from_residual.ensures.1 in rw (p.1, p.2) (quiet-count _ _ (loud _))
 
 pub returns-in_err-command-clause-ran : goal.returns-in_err-command-clause-ran
 returns-in_err-command-clause-ran g c = let p = err_from_is_err_and c.from_residual.result c.from_residual.ensures.1 in rw (p.1, p.2) (misread-runs _ _ _ _ c.in_err-command.ensures.exact)
-
-pub returns-in_err-command-clause-files : goal.returns-in_err-command-clause-files
-returns-in_err-command-clause-files g c = on_false _ _
-
-pub returns-in_err-command-clause-runner : goal.returns-in_err-command-clause-runner
-returns-in_err-command-clause-runner g c = on_false _ _
 
 pub returns-in_err-command-clause-opened : goal.returns-in_err-command-clause-opened
 returns-in_err-command-clause-opened g c = let p = err_from_is_err_and c.from_residual.result c.from_residual.ensures.1 in rw (p.1, p.2) (still-opened _ _ _ (misread _ _ _ c.in_err-command.ensures.exact))
@@ -49,29 +37,14 @@ returns-in_err-command-clause-shared g c = let p = err_from_is_err_and c.from_re
 pub returns-in_err-command-clause-wire_cause : goal.returns-in_err-command-clause-wire_cause
 returns-in_err-command-clause-wire_cause g c = let p = err_from_is_err_and c.from_residual.result c.from_residual.ensures.1 in rw (p.1, p.2) (still-wire _ _ _ _ _ _ (misread _ _ _ c.in_err-command.ensures.exact))
 
-pub returns-in_err-command-clause-wire : goal.returns-in_err-command-clause-wire
-returns-in_err-command-clause-wire g c = on_false _ _
-
-pub returns-in_err-command-clause-house : goal.returns-in_err-command-clause-house
-returns-in_err-command-clause-house g c = on_false _ _
-
 pub returns-in-List-clause-exact : goal.returns-in-List-clause-exact
 returns-in-List-clause-exact g c = rw (of-read _ _ _ (rw c.in-List.is at c.in_ok-command.ensures.exact)) c.list.ensures.exact
 
 pub returns-in-List-clause-out : goal.returns-in-List-clause-out
 returns-in-List-clause-out g c = rw (of-read _ _ _ (rw c.in-List.is at c.in_ok-command.ensures.exact)) c.list.ensures.out
 
-pub returns-in-List-clause-unlisted : goal.returns-in-List-clause-unlisted
-returns-in-List-clause-unlisted g c = rw (of-read _ _ _ (rw c.in-List.is at c.in_ok-command.ensures.exact)) c.list.ensures.unlisted
-
 pub returns-in-List-clause-ran : goal.returns-in-List-clause-ran
 returns-in-List-clause-ran g c = rw (for-read _ _ _ (rw c.in-List.is at c.in_ok-command.ensures.exact)) c.list.ensures.ran
-
-pub returns-in-List-clause-files : goal.returns-in-List-clause-files
-returns-in-List-clause-files g c = rw (of-read _ _ _ (rw c.in-List.is at c.in_ok-command.ensures.exact)) (not_false _ _ (list-looks _ _))
-
-pub returns-in-List-clause-runner : goal.returns-in-List-clause-runner
-returns-in-List-clause-runner g c = rw (of-read _ _ _ (rw c.in-List.is at c.in_ok-command.ensures.exact)) (not_false _ _ (list-looks _ _))
 
 pub returns-in-List-clause-opened : goal.returns-in-List-clause-opened
 returns-in-List-clause-opened g c = rw (of-read _ _ _ (rw c.in-List.is at c.in_ok-command.ensures.exact)) (none-opened _ _ _ (list-shut _ _))
@@ -82,12 +55,6 @@ returns-in-List-clause-shared g c = rw (of-read _ _ _ (rw c.in-List.is at c.in_o
 pub returns-in-List-clause-wire_cause : goal.returns-in-List-clause-wire_cause
 returns-in-List-clause-wire_cause g c = rw (of-read _ _ _ (rw c.in-List.is at c.in_ok-command.ensures.exact)) (not_true _ _ (shut _ _ (list-shut _ _)))
 
-pub returns-in-List-clause-wire : goal.returns-in-List-clause-wire
-returns-in-List-clause-wire g c = on_false _ _
-
-pub returns-in-List-clause-house : goal.returns-in-List-clause-house
-returns-in-List-clause-house g c = on_false _ _
-
 pub share-requires : goal.share-requires
 share-requires g c = record { permitted = are-permitted _ _ _ _ _ (rw c.in-Master.is at c.in_ok-command.ensures.exact) }
 
@@ -97,23 +64,11 @@ returns-in-Master-clause-exact g c = rw (of-read _ _ _ (rw c.in-Master.is at c.i
 pub returns-in-Master-clause-out : goal.returns-in-Master-clause-out
 returns-in-Master-clause-out g c = rw (of-read _ _ _ (rw c.in-Master.is at c.in_ok-command.ensures.exact)) (none-taken _ _ _ (master-quiet _ _ _ _ _))
 
-pub returns-in-Master-clause-unwritten : goal.returns-in-Master-clause-unwritten
-returns-in-Master-clause-unwritten g c = on_false _ _
-
-pub returns-in-Master-clause-unlisted : goal.returns-in-Master-clause-unlisted
-returns-in-Master-clause-unlisted g c = on_false _ _
-
 pub returns-in-Master-clause-out_cause : goal.returns-in-Master-clause-out_cause
 returns-in-Master-clause-out_cause g c = none-counted _ _ _ (master-quiet _ _ _ _ _) c.share.ensures.exact
 
 pub returns-in-Master-clause-ran : goal.returns-in-Master-clause-ran
 returns-in-Master-clause-ran g c = rw (for-read _ _ _ (rw c.in-Master.is at c.in_ok-command.ensures.exact)) c.share.ensures.ran
-
-pub returns-in-Master-clause-files : goal.returns-in-Master-clause-files
-returns-in-Master-clause-files g c = rw (of-read _ _ _ (rw c.in-Master.is at c.in_ok-command.ensures.exact)) (not_false _ _ (master-looks _ _ _ _ _))
-
-pub returns-in-Master-clause-runner : goal.returns-in-Master-clause-runner
-returns-in-Master-clause-runner g c = rw (of-read _ _ _ (rw c.in-Master.is at c.in_ok-command.ensures.exact)) (not_false _ _ (master-looks _ _ _ _ _))
 
 pub returns-in-Master-clause-opened : goal.returns-in-Master-clause-opened
 returns-in-Master-clause-opened g c = rw (of-read _ _ _ (rw c.in-Master.is at c.in_ok-command.ensures.exact)) c.share.ensures.opened
@@ -123,12 +78,6 @@ returns-in-Master-clause-shared g c = rw (of-read _ _ _ (rw c.in-Master.is at c.
 
 pub returns-in-Master-clause-wire_cause : goal.returns-in-Master-clause-wire_cause
 returns-in-Master-clause-wire_cause g c = rw (of-read _ _ _ (rw c.in-Master.is at c.in_ok-command.ensures.exact)) c.share.ensures.wire_cause
-
-pub returns-in-Master-clause-wire : goal.returns-in-Master-clause-wire
-returns-in-Master-clause-wire g c = rw (of-read _ _ _ (rw c.in-Master.is at c.in_ok-command.ensures.exact)) (untouched (may_open (so_far c.share.result)) (opens (of_command (machine (g.F.Files.told c.args.files.now) (g.R.Runner.told c.args.runner.now) c.args.facts.now) (commands.Master c.in-Master.asked c.in-Master.transport c.in-Master.opens c.in-Master.listens))) (drills (of_command (machine (g.F.Files.told c.args.files.now) (g.R.Runner.told c.args.runner.now) c.args.facts.now) (commands.Master c.in-Master.asked c.in-Master.transport c.in-Master.opens c.in-Master.listens))) (c.share.new.wire ≡ c.args.wire.now) c.share.ensures.wire)
-
-pub returns-in-Master-clause-house : goal.returns-in-Master-clause-house
-returns-in-Master-clause-house g c = rw (of-read _ _ _ (rw c.in-Master.is at c.in_ok-command.ensures.exact)) c.share.ensures.house
 
 pub returns-in_err-command-clause-calls : goal.returns-in_err-command-clause-calls
 returns-in_err-command-clause-calls g c = still-calls _ _ _
@@ -145,17 +94,8 @@ returns-in-Drill-clause-cause g c = drill-cause c.drill.result _ _ c.drill.ensur
 pub returns-in-Drill-clause-out : goal.returns-in-Drill-clause-out
 returns-in-Drill-clause-out g c = rw (of-drill _ _ _ _ _ (rw c.in-Drill.is at c.in_ok-command.ensures.exact)) (drill-takes c.in-Drill.seed c.in-Drill.clients c.in-Drill.messages _ _ _ _ _ _ _ _ _ _ _ _ _ _ c.drill.ensures.goes)
 
-pub returns-in-Drill-clause-unlisted : goal.returns-in-Drill-clause-unlisted
-returns-in-Drill-clause-unlisted g c = rw (of-drill _ _ _ _ _ (rw c.in-Drill.is at c.in_ok-command.ensures.exact)) tt
-
 pub returns-in-Drill-clause-ran : goal.returns-in-Drill-clause-ran
 returns-in-Drill-clause-ran g c = drilled-runs _ _ _ _ _ _ _ (rw c.in-Drill.is at c.in_ok-command.ensures.exact)
-
-pub returns-in-Drill-clause-files : goal.returns-in-Drill-clause-files
-returns-in-Drill-clause-files g c = on_false _ _
-
-pub returns-in-Drill-clause-runner : goal.returns-in-Drill-clause-runner
-returns-in-Drill-clause-runner g c = on_false _ _
 
 pub returns-in-Drill-clause-opened : goal.returns-in-Drill-clause-opened
 returns-in-Drill-clause-opened g c = rw (of-drill _ _ _ _ _ (rw c.in-Drill.is at c.in_ok-command.ensures.exact)) tt
@@ -168,12 +108,6 @@ returns-in-Drill-clause-wire_cause g c = rw (of-drill _ _ _ _ _ (rw c.in-Drill.i
 
 pub returns-in-Drill-clause-drill : goal.returns-in-Drill-clause-drill
 returns-in-Drill-clause-drill g c = rw (of-drill _ _ _ _ _ (rw c.in-Drill.is at c.in_ok-command.ensures.exact)) c.drill.ensures.goes
-
-pub returns-in-Drill-clause-wire : goal.returns-in-Drill-clause-wire
-returns-in-Drill-clause-wire g c = rw (of-drill _ _ _ _ _ (rw c.in-Drill.is at c.in_ok-command.ensures.exact)) (not_false _ _ (drill-touches c.in-Drill.seed c.in-Drill.clients c.in-Drill.messages c.drill.result c.drill.ensures.goes.ends))
-
-pub returns-in-Drill-clause-house : goal.returns-in-Drill-clause-house
-returns-in-Drill-clause-house g c = on_false _ _
 
 pub returns-in_err-command-clause-drill : goal.returns-in_err-command-clause-drill
 returns-in_err-command-clause-drill g c = let p = err_from_is_err_and c.from_residual.result c.from_residual.ensures.1 in rw (p.1, p.2) (still-drill _ _ _ _ _ _ _ _ _ _ (misread _ _ _ c.in_err-command.ensures.exact))
@@ -210,3 +144,43 @@ returns-in-List-clause-place g c = rw (list-told _ _ _ (rw c.in-List.is at c.in_
 
 pub returns-in-Master-clause-place : goal.returns-in-Master-clause-place
 returns-in-Master-clause-place g c = rw (master-told _ _ _ _ _ _ (rw c.in-Master.is at c.in_ok-command.ensures.exact)) c.share.ensures.place
+
+pub returns-in_err-command-clause-leaves : goal.returns-in_err-command-clause-leaves
+returns-in_err-command-clause-leaves g c = record {
+  unwritten = on_false _ _;
+  unlisted = on_false _ _;
+  files = on_false _ _;
+  runner = on_false _ _;
+  wire = on_false _ _;
+  house = on_false _ _;
+}
+
+pub returns-in-List-clause-leaves : goal.returns-in-List-clause-leaves
+returns-in-List-clause-leaves g c = record {
+  unwritten = c.list.ensures.unwritten;
+  unlisted = rw (of-read _ _ _ (rw c.in-List.is at c.in_ok-command.ensures.exact)) c.list.ensures.unlisted;
+  files = rw (of-read _ _ _ (rw c.in-List.is at c.in_ok-command.ensures.exact)) (not_false _ _ (list-looks _ _));
+  runner = rw (of-read _ _ _ (rw c.in-List.is at c.in_ok-command.ensures.exact)) (not_false _ _ (list-looks _ _));
+  wire = on_false _ _;
+  house = on_false _ _;
+}
+
+pub returns-in-Master-clause-leaves : goal.returns-in-Master-clause-leaves
+returns-in-Master-clause-leaves g c = record {
+  unwritten = on_false _ _;
+  unlisted = on_false _ _;
+  files = rw (of-read _ _ _ (rw c.in-Master.is at c.in_ok-command.ensures.exact)) (not_false _ _ (master-looks _ _ _ _ _));
+  runner = rw (of-read _ _ _ (rw c.in-Master.is at c.in_ok-command.ensures.exact)) (not_false _ _ (master-looks _ _ _ _ _));
+  wire = rw (of-read _ _ _ (rw c.in-Master.is at c.in_ok-command.ensures.exact)) (untouched (may_open (so_far c.share.result)) (opens (of_command (machine (g.F.Files.told c.args.files.now) (g.R.Runner.told c.args.runner.now) c.args.facts.now) (commands.Master c.in-Master.asked c.in-Master.transport c.in-Master.opens c.in-Master.listens))) (drills (of_command (machine (g.F.Files.told c.args.files.now) (g.R.Runner.told c.args.runner.now) c.args.facts.now) (commands.Master c.in-Master.asked c.in-Master.transport c.in-Master.opens c.in-Master.listens))) (c.share.new.wire ≡ c.args.wire.now) c.share.ensures.wire);
+  house = rw (of-read _ _ _ (rw c.in-Master.is at c.in_ok-command.ensures.exact)) c.share.ensures.house;
+}
+
+pub returns-in-Drill-clause-leaves : goal.returns-in-Drill-clause-leaves
+returns-in-Drill-clause-leaves g c = record {
+  unwritten = c.drill.ensures.unwritten;
+  unlisted = rw (of-drill _ _ _ _ _ (rw c.in-Drill.is at c.in_ok-command.ensures.exact)) tt;
+  files = on_false _ _;
+  runner = on_false _ _;
+  wire = rw (of-drill _ _ _ _ _ (rw c.in-Drill.is at c.in_ok-command.ensures.exact)) (not_false _ _ (drill-touches c.in-Drill.seed c.in-Drill.clients c.in-Drill.messages c.drill.result c.drill.ensures.goes.ends));
+  house = on_false _ _;
+}

@@ -1,5 +1,7 @@
+use Rattle.std.proofs.Common.{refl}
 use Rattle.ssh_mux.proofs.DrillLemmas.{drill_after, drill_well}
-use Rattle.ssh_mux.proofs.EndLemmas.{ended, ended-well, well-cause, out_after, untouched_after, fault_after, runs_after, sink_after, opened_after, shared_after, shared_well, calls_after, idle_after, waits_after, wire_after, stays_after, same_told}
+use Rattle.ssh_mux.proofs.EndLemmas.{ended, ended-well, well-cause, out_after, untouched_after, fault_after, runs_after, sink_after, opened_after, shared_after, shared_well, calls_after, idle_after, waits_after, wire_after, stays_after, same_told, told_after}
+use Rattle.ssh_mux.proofs.StillLemmas.{on_true}
 use Rattle.ssh_mux.proofs.program.run.Goals as goal
 
 pub returns-in-Ok-clause-ended : goal.returns-in-Ok-clause-ended
@@ -17,9 +19,6 @@ returns-in-Err-clause-fault_cause g c = fault_after _ _ _ _ _ _ _ _ _ _ c.report
 pub returns-in-Err-clause-out : goal.returns-in-Err-clause-out
 returns-in-Err-clause-out g c = out_after _ _ _ _ _ _ _ _ _ c.report.ensures c.in-Err.ensures.out
 
-pub returns-in-Err-clause-unwritten : goal.returns-in-Err-clause-unwritten
-returns-in-Err-clause-unwritten g c = untouched_after _ _ _ _ _ _ _ c.report.ensures c.in-Err.ensures.unwritten
-
 pub returns-in-Err-clause-out_cause : goal.returns-in-Err-clause-out_cause
 returns-in-Err-clause-out_cause g c = sink_after _ _ _ _ _ _ _ _ c.report.ensures c.in-Err.ensures.out_cause
 
@@ -33,19 +32,13 @@ pub returns-in-Ok-clause-shared : goal.returns-in-Ok-clause-shared
 returns-in-Ok-clause-shared g c = shared_well _ _ _ _ _ _ _ _ _ _ _ _ c.in-Ok.ensures.shared
 
 pub returns-in-Err-clause-shared : goal.returns-in-Err-clause-shared
-returns-in-Err-clause-shared g c = shared_after _ _ _ _ _ _ _ _ _ _ _ _ _ _ _ c.report.ensures c.in-Err.ensures.shared (same_told _ (λ w. (g.W.Wire.seen w).told) _ _ c.in-Err.ensures.wire) (same_told _ g.H.House.told _ _ c.in-Err.ensures.house)
+returns-in-Err-clause-shared g c = shared_after _ _ _ _ _ _ _ _ _ _ _ _ _ _ _ c.report.ensures c.in-Err.ensures.shared (same_told _ (λ w. (g.W.Wire.seen w).told) _ _ c.in-Err.ensures.leaves.wire) (same_told _ g.H.House.told _ _ c.in-Err.ensures.leaves.house)
 
 pub returns-in-Err-clause-calls : goal.returns-in-Err-clause-calls
 returns-in-Err-clause-calls g c = calls_after _ _ _ _ _ _ _ _ _ c.report.ensures c.in-Err.ensures.calls
 
 pub returns-in-Err-clause-wire_cause : goal.returns-in-Err-clause-wire_cause
 returns-in-Err-clause-wire_cause g c = wire_after _ _ _ _ _ _ _ _ _ _ _ c.report.ensures c.in-Err.ensures.wire_cause
-
-pub returns-in-Err-clause-wire : goal.returns-in-Err-clause-wire
-returns-in-Err-clause-wire g c = stays_after _ _ _ _ _ _ _ _ c.report.ensures c.in-Err.ensures.wire
-
-pub returns-in-Err-clause-house : goal.returns-in-Err-clause-house
-returns-in-Err-clause-house g c = stays_after _ _ _ _ _ _ _ _ c.report.ensures c.in-Err.ensures.house
 
 pub returns-in-Ok-clause-drill : goal.returns-in-Ok-clause-drill
 returns-in-Ok-clause-drill g c = drill_well _ _ _ _ _ _ _ _ _ _ _ _ _ _ _ _ _ c.in-Ok.ensures.drill
@@ -58,3 +51,19 @@ returns-in-Err-clause-waited g c = waits_after _ _ _ _ _ _ _ _ _ _ c.report.ensu
 
 pub returns-in-Err-clause-idle : goal.returns-in-Err-clause-idle
 returns-in-Err-clause-idle g c = λ z. idle_after _ _ _ _ _ _ _ _ _ _ c.report.ensures (c.in-Err.ensures.idle z)
+
+pub returns-in-Err-clause-leaves : goal.returns-in-Err-clause-leaves
+returns-in-Err-clause-leaves g c = record {
+  unwritten = untouched_after _ _ _ _ _ _ _ c.report.ensures c.in-Err.ensures.leaves.unwritten;
+  unlisted = c.in-Err.ensures.leaves.unlisted;
+  files = c.in-Err.ensures.leaves.files;
+  runner = c.in-Err.ensures.leaves.runner;
+  wire = stays_after _ _ _ _ _ _ _ _ c.report.ensures c.in-Err.ensures.leaves.wire;
+  house = stays_after _ _ _ _ _ _ _ _ c.report.ensures c.in-Err.ensures.leaves.house;
+}
+
+pub returns-in-Ok-clause-silent : goal.returns-in-Ok-clause-silent
+returns-in-Ok-clause-silent g c = on_true _ _ refl
+
+pub returns-in-Err-clause-silent : goal.returns-in-Err-clause-silent
+returns-in-Err-clause-silent g c = told_after _ _ _ _ _ _ _ c.report.ensures
