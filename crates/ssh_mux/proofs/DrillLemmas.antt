@@ -72,7 +72,7 @@ handed-ends text (Err ending) before now h = absurd h
 
 -- ---- what was served, and the summary
 
-module _ (words : List Bytes) (turns : ℕ) (openings openings' : Option (List Opening)) (start told : Option (List Mark)) (tally : Tally) (out out' : Option (List ℕ)) (s s' c c' : ℕ) where
+module _ (words : List Bytes) (turns : ℕ) (openings openings' : Option (List Opening)) (start told : Option (List Mark)) (tally : Tally) (out out' : Option (List ℕ)) where
   abbrev Shared : Result Status Ending → Type 0
   Shared result = Shares RefusesAll any_policy 0 turns None None start told result
 
@@ -98,18 +98,11 @@ module _ (words : List Bytes) (turns : ℕ) (openings openings' : Option (List O
     on (Err endings.NoMemory) d o = inr o
     on (Err ending) d o = absurd d
 
-  summed-cause : (result : Result Status Ending) → HandsOver result (drill_text tally) out out' → WireCause (so_far result) s s' c c'
-  summed-cause (Ok statuses.Done) d = tt
-  summed-cause (Ok statuses.Write) d = tt
-  summed-cause (Ok status) d = absurd d
-  summed-cause (Err endings.NoMemory) d = tt
-  summed-cause (Err ending) d = absurd d
-
-  pub summed-goes : (due : Status) (result : Result Status Ending) → EndsMaster (Ok due) → OpensAt [] (drill_transport words) due openings openings' → Shared (Ok due) → HandsOver result (drill_text tally) out out' → DrillGoes words turns result openings openings' start told tally out out' s s' c c'
-  summed-goes due result is o h d = record { ends = handed-ends (drill_text tally) result out out' d; opened = summed-opened due result is d o; shared = summed-shared due result h d; cause = summed-cause result d }
+  pub summed-goes : (due : Status) (result : Result Status Ending) → EndsMaster (Ok due) → OpensAt [] (drill_transport words) due openings openings' → Shared (Ok due) → HandsOver result (drill_text tally) out out' → DrillGoes words turns result openings openings' start told tally out out'
+  summed-goes due result is o h d = record { ends = handed-ends (drill_text tally) result out out' d; opened = summed-opened due result is d o; shared = summed-shared due result h d }
 
 -- of one that ended badly
-module _ (words : List Bytes) (turns : ℕ) (openings openings' : Option (List Opening)) (start told : Option (List Mark)) (tally : Tally) (out : Option (List ℕ)) (s s' c c' : ℕ) where
+module _ (words : List Bytes) (turns : ℕ) (openings openings' : Option (List Opening)) (start told : Option (List Mark)) (tally : Tally) (out : Option (List ℕ)) where
   unsummed-run : (meant : Ending) → IsShared RefusesAll any_policy 0 turns None None start told (Err meant) → RunsDrill turns start told tally (Err meant) out out
   unsummed-run meant h = record { answer = h.answer; run = h.run; ends = subst (λ e. SumsUp e tally (Err meant) out out) h.is_told (refl, refl) }
 
@@ -119,8 +112,15 @@ module _ (words : List Bytes) (turns : ℕ) (openings openings' : Option (List O
   unsummed-shared endings.NoMemory (inr h) = inr (unsummed-run endings.NoMemory h)
   unsummed-shared meant h = unsummed-run meant h
 
-  pub unsummed-goes : (meant : Ending) → EndsMaster (Err meant) → OpensAt [] (drill_transport words) (status_of (shown meant)) openings openings' → Shares RefusesAll any_policy 0 turns None None start told (Err meant) → WireCause (status_of (shown meant)) s s' c c' → DrillGoes words turns (Err meant) openings openings' start told tally out out s s' c c'
-  unsummed-goes meant e o h w = record { ends = e; opened = o; shared = unsummed-shared meant h; cause = w }
+  pub unsummed-goes : (meant : Ending) → EndsMaster (Err meant) → OpensAt [] (drill_transport words) (status_of (shown meant)) openings openings' → Shares RefusesAll any_policy 0 turns None None start told (Err meant) → DrillGoes words turns (Err meant) openings openings' start told tally out out
+  unsummed-goes meant e o h = record { ends = e; opened = o; shared = unsummed-shared meant h }
+
+pub summed-cause : (text : Bytes) (result : Result Status Ending) (before now : Option (List ℕ)) (s s' c c' : ℕ) → HandsOver result text before now → WireCause (so_far result) s s' c c'
+summed-cause text (Ok statuses.Done) before now s s' c c' d = tt
+summed-cause text (Ok statuses.Write) before now s s' c c' d = tt
+summed-cause text (Ok status) before now s s' c c' d = absurd d
+summed-cause text (Err endings.NoMemory) before now s s' c c' d = tt
+summed-cause text (Err ending) before now s s' c c' d = absurd d
 
 pub summed-calls : (turns : ℕ) (due : Status) (text : Bytes) (result : Result Status Ending) (before now : Option (List ℕ)) (old new : Calls) → EndsMaster (Ok due) → HandsOver result text before now → CallsEnd turns due old new → CallsEnd turns (so_far result) old new
 summed-calls turns due text result before now old new is d h = record { few = h.few; wants = h.wants; starved = λ ne. absurd (unstarved (sym is ∙ h.starved ne)); late = h.late } where
@@ -166,28 +166,28 @@ drill-takes-from seed clients messages turns start told tally (Ok status) out ou
 drill-takes-from seed clients messages turns start told tally (Err meant) out out' e h =
     subst (λ o. OutTakes (status_of (shown meant)) (Certain (Drills seed clients messages)) out o) (sym (unwritten turns start told tally meant out out' h)) (quiet-out (status_of (shown meant)) (Certain (Drills seed clients messages)) out (loud (shown meant)))
 
-pub drill-takes : (seed clients messages : ℕ) (words : List Bytes) (turns : ℕ) (result : Result Status Ending) (openings openings' : Option (List Opening)) (start told : Option (List Mark)) (tally : Tally) (out out' : Option (List ℕ)) (s s' c c' : ℕ) → DrillGoes words turns result openings openings' start told tally out out' s s' c c' → OutTakes (so_far result) (Certain (Drills seed clients messages)) out out'
-drill-takes seed clients messages words turns result openings openings' start told tally out out' s s' c c' h = drill-takes-from seed clients messages turns start told tally result out out' h.ends h.shared
+pub drill-takes : (seed clients messages : ℕ) (words : List Bytes) (turns : ℕ) (result : Result Status Ending) (openings openings' : Option (List Opening)) (start told : Option (List Mark)) (tally : Tally) (out out' : Option (List ℕ)) → DrillGoes words turns result openings openings' start told tally out out' → OutTakes (so_far result) (Certain (Drills seed clients messages)) out out'
+drill-takes seed clients messages words turns result openings openings' start told tally out out' h = drill-takes-from seed clients messages turns start told tally result out out' h.ends h.shared
 
 -- ---- an ending that came before
 
-pub still-drill : (k : Known) (meant : Ending) (words : List Bytes) (turns : ℕ) (openings : Option (List Opening)) (start : Option (List Mark)) (tally : Tally) (out : Option (List ℕ)) (s c : ℕ) → IsRefused k (shown meant) → OnTrue (drills k) (DrillGoes words turns (Err meant) openings openings start start tally out out s s c c)
-still-drill (Certain (Ends due)) meant words turns openings start tally out s c h = tt
-still-drill (Certain (Writes text)) meant words turns openings start tally out s c h = tt
-still-drill (Certain (Opens control transport os ls)) meant words turns openings start tally out s c h = tt
-still-drill Listing meant words turns openings start tally out s c h = tt
-still-drill (Master transport os ls) meant words turns openings start tally out s c h = tt
-still-drill (Certain (Drills seed clients messages)) endings.NoMemory words turns openings start tally out s c h =
-    record { ends = refl; opened = inl refl; shared = inl (record { same_wire = refl; same_house = refl }, refl); cause = tt }
-still-drill (Certain (Drills seed clients messages)) (endings.BadLine file line ReadFault) words turns openings start tally out s c h = absurd cc
-still-drill (Certain (Drills seed clients messages)) (endings.BadLine file line RunFault) words turns openings start tally out s c h = absurd cc
-still-drill (Certain (Drills seed clients messages)) meant words turns openings start tally out s c h = absurd h
+pub still-drill : (k : Known) (meant : Ending) (words : List Bytes) (turns : ℕ) (openings : Option (List Opening)) (start : Option (List Mark)) (tally : Tally) (out : Option (List ℕ)) → IsRefused k (shown meant) → OnTrue (drills k) (DrillGoes words turns (Err meant) openings openings start start tally out out)
+still-drill (Certain (Ends due)) meant words turns openings start tally out h = tt
+still-drill (Certain (Writes text)) meant words turns openings start tally out h = tt
+still-drill (Certain (Opens control transport os ls)) meant words turns openings start tally out h = tt
+still-drill Listing meant words turns openings start tally out h = tt
+still-drill (Master transport os ls) meant words turns openings start tally out h = tt
+still-drill (Certain (Drills seed clients messages)) endings.NoMemory words turns openings start tally out h =
+    record { ends = refl; opened = inl refl; shared = inl (record { same_wire = refl; same_house = refl }, refl) }
+still-drill (Certain (Drills seed clients messages)) (endings.BadLine file line ReadFault) words turns openings start tally out h = absurd cc
+still-drill (Certain (Drills seed clients messages)) (endings.BadLine file line RunFault) words turns openings start tally out h = absurd cc
+still-drill (Certain (Drills seed clients messages)) meant words turns openings start tally out h = absurd h
 
 -- ---- with its line
 
-module _ (words : List Bytes) (turns : ℕ) (openings openings' : Option (List Opening)) (start told : Option (List Mark)) (tally : Tally) (out out' : Option (List ℕ)) (s s' c c' : ℕ) where
+module _ (words : List Bytes) (turns : ℕ) (openings openings' : Option (List Opening)) (start told : Option (List Mark)) (tally : Tally) (out out' : Option (List ℕ)) where
   abbrev Went : Result Status Ending → Type 0
-  Went result = DrillGoes words turns result openings openings' start told tally out out' s s' c c'
+  Went result = DrillGoes words turns result openings openings' start told tally out out'
 
   -- without one
   well-told : (status : Status) (end : Result Status Ending) (err : Option (List ℕ)) (f : ℕ) → SumsUp end tally (Ok status) out out' → DrillTells end tally status out out' err err f f
@@ -213,19 +213,18 @@ module _ (words : List Bytes) (turns : ℕ) (openings openings' : Option (List O
   well-served status err f (inl e) h = subst (λ x. Served x err f) (sym e) (subst (λ x. IsDrilled turns start told tally x out out' err err f f) e h)
   well-served status err f (inr e) h = subst (λ x. Served x err f) (sym e) (subst (λ x. IsDrilled turns start told tally x out out' err err f f) e h)
 
-  well-goes : (status : Status) (err : Option (List ℕ)) (f : ℕ) → Went (Ok status) → IsDrill words turns status openings openings' start told tally out out' err err f f s s' c c'
+  well-goes : (status : Status) (err : Option (List ℕ)) (f : ℕ) → Went (Ok status) → IsDrill words turns status openings openings' start told tally out out' err err f f
   well-goes status err f h = record {
     opened = h.opened;
     served = well-served status err f (silent-end status (told_as h.shared.answer) h.shared.ends) (well-run status err f h.shared);
-    cause = h.cause;
   }
 
-  pub drill_well : (drilled : Bool) (status : Status) (err : Option (List ℕ)) (f : ℕ) → OnTrue drilled (Went (Ok status)) → OnTrue drilled (IsDrill words turns status openings openings' start told tally out out' err err f f s s' c c')
+  pub drill_well : (drilled : Bool) (status : Status) (err : Option (List ℕ)) (f : ℕ) → OnTrue drilled (Went (Ok status)) → OnTrue drilled (IsDrill words turns status openings openings' start told tally out out' err err f f)
   drill_well true status err f h = well-goes status err f h
   drill_well false status err f h = tt
 
 -- with one
-module _ (words : List Bytes) (turns : ℕ) (openings openings' : Option (List Opening)) (start told : Option (List Mark)) (tally : Tally) (out out' : Option (List ℕ)) (s s' c c' : ℕ) (err err' : Option (List ℕ)) (f f' : ℕ) where
+module _ (words : List Bytes) (turns : ℕ) (openings openings' : Option (List Opening)) (start told : Option (List Mark)) (tally : Tally) (out out' : Option (List ℕ)) (err err' : Option (List ℕ)) (f f' : ℕ) where
   abbrev Told : Status → Type 0
   Told status = DrillServes turns start told tally status out out' err err' f f'
 
@@ -256,20 +255,18 @@ module _ (words : List Bytes) (turns : ℕ) (openings openings' : Option (List O
   memory-opened status h = inr h
 
   abbrev Drilled : Status → Type 0
-  Drilled status = IsDrill words turns status openings openings' start told tally out out' err err' f f' s s' c c'
+  Drilled status = IsDrill words turns status openings openings' start told tally out out' err err' f f'
 
-  bad-goes : (meant : Ending) (status : Status) → (status ≡ statuses.Memory) ⊎ (status ≡ status_of (shown meant)) → DrillGoes words turns (Err meant) openings openings' start told tally out out' s s' c c' → Reports status (shown meant) err err' f f' → Drilled status
+  bad-goes : (meant : Ending) (status : Status) → (status ≡ statuses.Memory) ⊎ (status ≡ status_of (shown meant)) → DrillGoes words turns (Err meant) openings openings' start told tally out out' → Reports status (shown meant) err err' f f' → Drilled status
   bad-goes meant status (inl e) h r = subst Drilled (sym e) (record {
     opened = memory-opened (status_of (shown meant)) h.opened;
     served = memory-told meant h.shared (subst (λ x. Reports x (shown meant) err err' f f') e r);
-    cause = tt;
   })
   bad-goes meant status (inr e) h r = subst Drilled (sym e) (record {
     opened = h.opened;
     served = own-told meant h.ends h.shared (subst (λ x. Reports x (shown meant) err err' f f') e r);
-    cause = h.cause;
   })
 
-  pub drill_after : (drilled : Bool) (meant : Ending) (status : Status) → Reports status (shown meant) err err' f f' → OnTrue drilled (DrillGoes words turns (Err meant) openings openings' start told tally out out' s s' c c') → OnTrue drilled (Drilled status)
+  pub drill_after : (drilled : Bool) (meant : Ending) (status : Status) → Reports status (shown meant) err err' f f' → OnTrue drilled (DrillGoes words turns (Err meant) openings openings' start told tally out out') → OnTrue drilled (Drilled status)
   drill_after true meant status r h = bad-goes meant status (reported status (shown meant) err err' f f' r) h r
   drill_after false meant status r h = tt

@@ -207,8 +207,8 @@ on-memory : (b : Bool) → OnTrue b Unit
 on-memory true = tt
 on-memory false = tt
 
-pub wire_after : (k : Known) (status : Status) (ending : Ending) (b n : Option (List ℕ)) (f f' s s' c c' : ℕ) → Reports status ending b n f f' → OnTrue (may_share k (status_of ending)) (WireCause (status_of ending) s s' c c') → OnTrue (may_share k status) (WireCause status s s' c c')
-wire_after k status ending b n f f' s s' c c' r h = carried (λ x. OnTrue (may_share k x) (WireCause x s s' c c')) status ending (reported status ending b n f f' r) (on-memory (opens k)) h
+pub wire_after : (k : Known) (status : Status) (ending : Ending) (b n : Option (List ℕ)) (f f' s s' c c' : ℕ) → Reports status ending b n f f' → OnTrue (touches k (status_of ending)) (WireCause (status_of ending) s s' c c') → OnTrue (touches k status) (WireCause status s s' c c')
+wire_after k status ending b n f f' s s' c c' r h = carried (λ x. OnTrue (touches k x) (WireCause x s s' c c')) status ending (reported status ending b n f f' r) (on-memory (opens k || drills k)) h
 
 pub waits_after : (k : Known) (turns : ℕ) (status : Status) (ending : Ending) (b n : Option (List ℕ)) (f f' : ℕ) (old calls : Calls) → Reports status ending b n f f' → OnTrue (touches k (status_of ending)) (WaitsFor turns (status_of ending) old calls) → OnTrue (touches k status) (WaitsFor turns status old calls)
 waits_after k turns status ending b n f f' old calls r h = carried (λ x. OnTrue (touches k x) (WaitsFor turns x old calls)) status ending (reported status ending b n f f' r) (on-memory (opens k || drills k)) h

@@ -230,6 +230,12 @@ still-waited k ending turns old new h = by_drill (drills k) refl where
   by_drill true e = subst (λ x. OnTrue (touches k x) (WaitsFor turns x old new)) (sym (drill-starved k ending h e)) (on_true (touches k statuses.Memory) (WaitsFor turns statuses.Memory old new) tt)
   by_drill false e = for-master (may_open (status_of ending)) (opens k) (drills k) (WaitsFor turns (status_of ending) old new) e (still-waits k ending turns old new h)
 
+pub still-caused : (k : Known) (ending : Ending) (s s' c c' : ℕ) → IsRefused k ending → OnTrue (touches k (status_of ending)) (WireCause (status_of ending) s s' c c')
+still-caused k ending s s' c c' h = by_drill (drills k) refl where
+  by_drill : (d : Bool) → drills k ≡ d → OnTrue (touches k (status_of ending)) (WireCause (status_of ending) s s' c c')
+  by_drill true e = subst (λ x. OnTrue (touches k x) (WireCause x s s' c c')) (sym (drill-starved k ending h e)) (on_true (touches k statuses.Memory) (WireCause statuses.Memory s s' c c') tt)
+  by_drill false e = for-master (may_open (status_of ending)) (opens k) (drills k) (WireCause (status_of ending) s s' c c') e (still-wire k ending s s' c c' h)
+
 -- what opens nothing
 pub shut-all : (k : Known) (status : Status) → opens k ≡ false → drills k ≡ false → touches k status ≡ false
 shut-all k status e d = rw (e, d) (and-false (may_open status)) where

@@ -22,7 +22,7 @@ use Rattle.ssh_mux.specs.Ending.{shown}
 use Rattle.ssh_mux.specs.Err.{Reports, TookSome}
 use Rattle.ssh_mux.specs.Master.{ends_sharing}
 use Rattle.ssh_mux.specs.Out.{HandsOver}
-use Rattle.ssh_mux.specs.Sharing.{IsUnserved, OpensAt, WireCause, told_as}
+use Rattle.ssh_mux.specs.Sharing.{IsUnserved, OpensAt, told_as}
 
 -- ---- texts
 
@@ -91,14 +91,12 @@ DrillServes turns start told tally status out out' err err' faults faults' =
     IsDrilled turns start told tally status out out' err err' faults faults'
 
 -- A drill: its wire was opened once, with an empty control path and its words for a transport, but
--- for want of memory. It was served, and its end was told. A count of faults is behind what failed.
+-- for want of memory. It was served, and its end was told.
 pub record IsDrill (words : List Bytes) (turns : ℕ) (status : Status)
     (openings openings' : Option (List Opening)) (start told : Option (List Mark)) (tally : Tally)
-    (out out' err err' : Option (List ℕ)) (faults faults' server server' client client' : ℕ) :
-    Type 0 where
+    (out out' err err' : Option (List ℕ)) (faults faults' : ℕ) : Type 0 where
   pub opened : OpensAt [] (drill_transport words) status openings openings'
   pub served : DrillServes turns start told tally status out out' err err' faults faults'
-  pub cause : WireCause status server server' client client'
 
 -- ---- before a line is written
 
@@ -134,8 +132,7 @@ DrillShares turns start told tally result out out' =
 -- how a drill went
 pub record DrillGoes (words : List Bytes) (turns : ℕ) (result : Result Status MeantEnding)
     (openings openings' : Option (List Opening)) (start told : Option (List Mark)) (tally : Tally)
-    (out out' : Option (List ℕ)) (server server' client client' : ℕ) : Type 0 where
+    (out out' : Option (List ℕ)) : Type 0 where
   pub ends : EndsDrill result
   pub opened : OpensAt [] (drill_transport words) (so_far result) openings openings'
   pub shared : DrillShares turns start told tally result out out'
-  pub cause : WireCause (so_far result) server server' client client'

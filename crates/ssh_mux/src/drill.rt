@@ -31,8 +31,8 @@ pub fn drill<W: Wire, S: Sink>(
 ) -> Result<Status, Ending>
     ensures goes { DrillGoes words.now turns result (W.openings wire.old) (W.openings wire.new)
         (W.seen wire.old).told (W.seen wire.new).told (W.tally wire.new)
-        (S.told out.old) (S.told out.new)
-        (W.server_faults wire.old) (W.server_faults wire.new)
+        (S.told out.old) (S.told out.new) }
+    ensures cause { WireCause (so_far result) (W.server_faults wire.old) (W.server_faults wire.new)
         (W.client_faults wire.old) (W.client_faults wire.new) }
     ensures unwritten { OnFalse (may_write (so_far result)) (out.new ≡ out.old) }
     ensures out_cause { OutCause (so_far result) (S.faults out.old) (S.faults out.new) }

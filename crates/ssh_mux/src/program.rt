@@ -1,6 +1,6 @@
 ghost use Rattle.std.specs.Prelude.{◌≡◌};
 ghost use Rattle.std.specs.Bool.{OnTrue};
-ghost use Rattle.ssh_mux.specs.Answers.{Comes, Leaves, is_silent, so_far, may_share, touches};
+ghost use Rattle.ssh_mux.specs.Answers.{Comes, Leaves, is_silent, so_far, touches};
 ghost use Rattle.ssh_mux.specs.Causes.{Caused, FaultCause, OutCause};
 ghost use Rattle.ssh_mux.specs.Commands.{RunsFor, commands_for};
 ghost use Rattle.ssh_mux.specs.Drill.{DrillGoes, IsDrill};
@@ -67,7 +67,7 @@ pub fn run<W: Wire, F: Files, R: Runner, S: Sink, H: House>(
         (pid_of facts.now.pid) turns (H.told house.old) (H.told house.new)
         (W.seen wire.old).told (W.seen wire.new).told result
         (S.told err.old) (S.told err.new) (S.faults err.old) (S.faults err.new) }
-    ensures wire_cause { OnTrue (may_share
+    ensures wire_cause { OnTrue (touches
         (known_of (F.told files.old) (R.told runner.old) facts.now words.now)
         result) (WireCause result (W.server_faults wire.old) (W.server_faults wire.new)
         (W.client_faults wire.old) (W.client_faults wire.new)) }
@@ -83,9 +83,7 @@ pub fn run<W: Wire, F: Files, R: Runner, S: Sink, H: House>(
         (IsDrill words.now turns result (W.openings wire.old) (W.openings wire.new)
         (W.seen wire.old).told (W.seen wire.new).told (W.tally wire.new)
         (S.told out.old) (S.told out.new) (S.told err.old) (S.told err.new)
-        (S.faults err.old) (S.faults err.new)
-        (W.server_faults wire.old) (W.server_faults wire.new)
-        (W.client_faults wire.old) (W.client_faults wire.new)) }
+        (S.faults err.old) (S.faults err.new)) }
     ensures leaves { Leaves
         (known_of (F.told files.old) (R.told runner.old) facts.now words.now)
         result (out.new ≡ out.old) (files.new ≡ files.old) (runner.new ≡ runner.old)
@@ -133,7 +131,7 @@ fn obey<W: Wire, F: Files, R: Runner, S: Sink, H: House>(
         (known_of (F.told files.old) (R.told runner.old) facts.now words.now)
         (pid_of facts.now.pid) turns (H.told house.old) (H.told house.new)
         (W.seen wire.old).told (W.seen wire.new).told result }
-    ensures wire_cause { OnTrue (may_share
+    ensures wire_cause { OnTrue (touches
         (known_of (F.told files.old) (R.told runner.old) facts.now words.now)
         (so_far result)) (WireCause (so_far result)
         (W.server_faults wire.old) (W.server_faults wire.new)
@@ -149,9 +147,7 @@ fn obey<W: Wire, F: Files, R: Runner, S: Sink, H: House>(
         (drills (known_of (F.told files.old) (R.told runner.old) facts.now words.now))
         (DrillGoes words.now turns result (W.openings wire.old) (W.openings wire.new)
         (W.seen wire.old).told (W.seen wire.new).told (W.tally wire.new)
-        (S.told out.old) (S.told out.new)
-        (W.server_faults wire.old) (W.server_faults wire.new)
-        (W.client_faults wire.old) (W.client_faults wire.new)) }
+        (S.told out.old) (S.told out.new)) }
     ensures leaves { Leaves
         (known_of (F.told files.old) (R.told runner.old) facts.now words.now)
         (so_far result) (out.new ≡ out.old) (files.new ≡ files.old) (runner.new ≡ runner.old)

@@ -1,12 +1,12 @@
 use Rattle.std.proofs.lemmas.Result.{err_from_is_err_and}
 use Rattle.ssh_mux.specs.Drill.{drill_text}
-use Rattle.ssh_mux.proofs.DrillLemmas.{summed-calls, summed-goes, summed-idle, summed-waits, unsummed-goes}
+use Rattle.ssh_mux.proofs.DrillLemmas.{summed-calls, summed-cause, summed-goes, summed-idle, summed-waits, unsummed-goes}
 use Rattle.ssh_mux.proofs.ListLemmas.{handed-tried}
 use Rattle.ssh_mux.proofs.StillLemmas.{loud, not_false, on_false, quiet-count}
 use Rattle.ssh_mux.proofs.drill.drill.Goals as goal
 
 pub returns-in_err-serve_drill-clause-goes : goal.returns-in_err-serve_drill-clause-goes
-returns-in_err-serve_drill-clause-goes g c = let p = err_from_is_err_and c.from_residual.result c.from_residual.ensures.1 in rw (p.1, p.2) (unsummed-goes _ _ _ _ _ _ _ _ _ _ _ _ _ c.in_err-serve_drill.ensures.ends c.in_err-serve_drill.ensures.opened c.in_err-serve_drill.ensures.served c.in_err-serve_drill.ensures.cause)
+returns-in_err-serve_drill-clause-goes g c = let p = err_from_is_err_and c.from_residual.result c.from_residual.ensures.1 in rw (p.1, p.2) (unsummed-goes _ _ _ _ _ _ _ _ _ c.in_err-serve_drill.ensures.ends c.in_err-serve_drill.ensures.opened c.in_err-serve_drill.ensures.served)
 
 pub returns-in_err-serve_drill-clause-unwritten : goal.returns-in_err-serve_drill-clause-unwritten
 returns-in_err-serve_drill-clause-unwritten g c = on_false _ _
@@ -23,8 +23,14 @@ returns-in_err-serve_drill-clause-waited g c = let p = err_from_is_err_and c.fro
 pub returns-in_err-serve_drill-clause-idle : goal.returns-in_err-serve_drill-clause-idle
 returns-in_err-serve_drill-clause-idle g c = λ z. let p = err_from_is_err_and c.from_residual.result c.from_residual.ensures.1 in rw (p.1, p.2) (c.in_err-serve_drill.ensures.idle z)
 
+pub returns-in_err-serve_drill-clause-cause : goal.returns-in_err-serve_drill-clause-cause
+returns-in_err-serve_drill-clause-cause g c = let p = err_from_is_err_and c.from_residual.result c.from_residual.ensures.1 in rw (p.1, p.2) c.in_err-serve_drill.ensures.cause
+
+pub returns-clause-cause : goal.returns-clause-cause
+returns-clause-cause g c = summed-cause (drill_text c.tally-tally.result) c.sum_up.result (g.S.Sink.told c.args.out.now) (g.S.Sink.told c.sum_up.new.out) _ _ _ _ c.sum_up.ensures.handed
+
 pub returns-clause-goes : goal.returns-clause-goes
-returns-clause-goes g c = summed-goes _ _ _ _ _ _ _ _ _ _ _ _ _ _ _ c.in_ok-serve_drill.ensures.ends c.in_ok-serve_drill.ensures.opened c.in_ok-serve_drill.ensures.served (rw c.tally-tally.ensures at c.sum_up.ensures.handed)
+returns-clause-goes g c = summed-goes _ _ _ _ _ _ _ _ _ _ _ c.in_ok-serve_drill.ensures.ends c.in_ok-serve_drill.ensures.opened c.in_ok-serve_drill.ensures.served (rw c.tally-tally.ensures at c.sum_up.ensures.handed)
 
 pub returns-clause-unwritten : goal.returns-clause-unwritten
 returns-clause-unwritten g c = not_false _ _ (handed-tried (drill_text c.tally-tally.result) c.sum_up.result (g.S.Sink.told c.args.out.now) (g.S.Sink.told c.sum_up.new.out) c.sum_up.ensures.handed)

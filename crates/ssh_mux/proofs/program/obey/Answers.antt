@@ -4,12 +4,12 @@ use Rattle.conf_rules.specs.declared.command.Command.TheVariants as commands
 use Rattle.ssh_mux.specs.Answers.{may_open, so_far}
 use Rattle.conf_rules.specs.Outcome.{Drills}
 use Rattle.ssh_mux.specs.Outcomes.{Certain, drills, machine, of_command, opens}
-use Rattle.ssh_mux.specs.Sharing.{Shares, WaitsFor, pid_of}
+use Rattle.ssh_mux.specs.Sharing.{Shares, WaitsFor, WireCause, pid_of}
 use Rattle.ssh_mux.proofs.DrillLemmas.{drill-cause, drill-comes, drill-takes, drill-touches, still-drill}
 use Rattle.ssh_mux.proofs.PolicyLemmas.{are-permitted, with-policy}
 use Rattle.ssh_mux.proofs.RefusalLemmas.{list-looks, list-shut, list-undrilled, master-looks, master-quiet, master-undrilled}
 use Rattle.ssh_mux.proofs.SharingLemmas.{none-opened, none-taken, none-counted}
-use Rattle.ssh_mux.proofs.StillLemmas.{on_false, not_false, not_true, shut, loud, quiet-out, quiet-count, still-due, still-opened, still-shared, still-wire, still-calls, still-idle, still-waited, shut-all, for-master, on_true, untouched, of-drill, of-read, for-read, misread, misread-runs, misread-cause, drilled-runs}
+use Rattle.ssh_mux.proofs.StillLemmas.{on_false, not_false, not_true, shut, loud, quiet-out, quiet-count, still-due, still-opened, still-shared, still-caused, still-calls, still-idle, still-waited, shut-all, for-master, on_true, untouched, of-drill, of-read, for-read, misread, misread-runs, misread-cause, drilled-runs}
 use Rattle.ssh_mux.proofs.PlaceLemmas.{misread-place, list-told, master-told}
 use Rattle.ssh_mux.proofs.program.obey.Goals as goal
 
@@ -35,7 +35,7 @@ pub returns-in_err-command-clause-shared : goal.returns-in_err-command-clause-sh
 returns-in_err-command-clause-shared g c = let p = err_from_is_err_and c.from_residual.result c.from_residual.ensures.1 in rw (p.1, p.2) (still-shared _ _ _ _ _ _ _ _ (misread _ _ _ c.in_err-command.ensures.exact))
 
 pub returns-in_err-command-clause-wire_cause : goal.returns-in_err-command-clause-wire_cause
-returns-in_err-command-clause-wire_cause g c = let p = err_from_is_err_and c.from_residual.result c.from_residual.ensures.1 in rw (p.1, p.2) (still-wire _ _ _ _ _ _ (misread _ _ _ c.in_err-command.ensures.exact))
+returns-in_err-command-clause-wire_cause g c = let p = err_from_is_err_and c.from_residual.result c.from_residual.ensures.1 in rw (p.1, p.2) (still-caused _ _ _ _ _ _ (misread _ _ _ c.in_err-command.ensures.exact))
 
 pub returns-in-List-clause-exact : goal.returns-in-List-clause-exact
 returns-in-List-clause-exact g c = rw (of-read _ _ _ (rw c.in-List.is at c.in_ok-command.ensures.exact)) c.list.ensures.exact
@@ -53,7 +53,7 @@ pub returns-in-List-clause-shared : goal.returns-in-List-clause-shared
 returns-in-List-clause-shared g c = rw (of-read _ _ _ (rw c.in-List.is at c.in_ok-command.ensures.exact)) (not_true _ _ (shut _ _ (list-shut _ _)))
 
 pub returns-in-List-clause-wire_cause : goal.returns-in-List-clause-wire_cause
-returns-in-List-clause-wire_cause g c = rw (of-read _ _ _ (rw c.in-List.is at c.in_ok-command.ensures.exact)) (not_true _ _ (shut _ _ (list-shut _ _)))
+returns-in-List-clause-wire_cause g c = rw (of-read _ _ _ (rw c.in-List.is at c.in_ok-command.ensures.exact)) (not_true _ _ (shut-all _ _ (list-shut _ _) (list-undrilled _ _)))
 
 pub share-requires : goal.share-requires
 share-requires g c = record { permitted = are-permitted _ _ _ _ _ (rw c.in-Master.is at c.in_ok-command.ensures.exact) }
@@ -77,7 +77,7 @@ pub returns-in-Master-clause-shared : goal.returns-in-Master-clause-shared
 returns-in-Master-clause-shared g c = rw (of-read _ _ _ (rw c.in-Master.is at c.in_ok-command.ensures.exact)) (with-policy (machine (g.F.Files.told c.args.files.now) (g.R.Runner.told c.args.runner.now) c.args.facts.now) c.in-Master.asked c.in-Master.transport c.in-Master.opens c.in-Master.listens (so_far c.share.result) (λ p. Shares g.H.House.may p (pid_of c.args.facts.now.pid) c.args.turns (g.H.House.told c.args.house.now) (g.H.House.told c.share.new.house) (g.W.Wire.seen c.args.wire.now).told (g.W.Wire.seen c.share.new.wire).told c.share.result) c.share.ensures.served)
 
 pub returns-in-Master-clause-wire_cause : goal.returns-in-Master-clause-wire_cause
-returns-in-Master-clause-wire_cause g c = rw (of-read _ _ _ (rw c.in-Master.is at c.in_ok-command.ensures.exact)) c.share.ensures.wire_cause
+returns-in-Master-clause-wire_cause g c = rw (of-read _ _ _ (rw c.in-Master.is at c.in_ok-command.ensures.exact)) (for-master (may_open (so_far c.share.result)) (opens (of_command (machine (g.F.Files.told c.args.files.now) (g.R.Runner.told c.args.runner.now) c.args.facts.now) (commands.Master c.in-Master.asked c.in-Master.transport c.in-Master.opens c.in-Master.listens))) (drills (of_command (machine (g.F.Files.told c.args.files.now) (g.R.Runner.told c.args.runner.now) c.args.facts.now) (commands.Master c.in-Master.asked c.in-Master.transport c.in-Master.opens c.in-Master.listens))) (WireCause (so_far c.share.result) (g.W.Wire.server_faults c.args.wire.now) (g.W.Wire.server_faults c.share.new.wire) (g.W.Wire.client_faults c.args.wire.now) (g.W.Wire.client_faults c.share.new.wire)) (master-undrilled (machine (g.F.Files.told c.args.files.now) (g.R.Runner.told c.args.runner.now) c.args.facts.now) c.in-Master.asked c.in-Master.transport c.in-Master.opens c.in-Master.listens) c.share.ensures.wire_cause)
 
 pub returns-in_err-command-clause-calls : goal.returns-in_err-command-clause-calls
 returns-in_err-command-clause-calls g c = still-calls _ _ _
@@ -92,7 +92,7 @@ pub returns-in-Drill-clause-cause : goal.returns-in-Drill-clause-cause
 returns-in-Drill-clause-cause g c = drill-cause c.drill.result _ _ c.drill.ensures.goes.ends
 
 pub returns-in-Drill-clause-out : goal.returns-in-Drill-clause-out
-returns-in-Drill-clause-out g c = rw (of-drill _ _ _ _ _ (rw c.in-Drill.is at c.in_ok-command.ensures.exact)) (drill-takes c.in-Drill.seed c.in-Drill.clients c.in-Drill.messages _ _ _ _ _ _ _ _ _ _ _ _ _ _ c.drill.ensures.goes)
+returns-in-Drill-clause-out g c = rw (of-drill _ _ _ _ _ (rw c.in-Drill.is at c.in_ok-command.ensures.exact)) (drill-takes c.in-Drill.seed c.in-Drill.clients c.in-Drill.messages _ _ _ _ _ _ _ _ _ _ c.drill.ensures.goes)
 
 pub returns-in-Drill-clause-ran : goal.returns-in-Drill-clause-ran
 returns-in-Drill-clause-ran g c = drilled-runs _ _ _ _ _ _ _ (rw c.in-Drill.is at c.in_ok-command.ensures.exact)
@@ -104,13 +104,13 @@ pub returns-in-Drill-clause-shared : goal.returns-in-Drill-clause-shared
 returns-in-Drill-clause-shared g c = rw (of-drill _ _ _ _ _ (rw c.in-Drill.is at c.in_ok-command.ensures.exact)) (not_true _ _ (shut (Certain (Drills c.in-Drill.seed c.in-Drill.clients c.in-Drill.messages)) (so_far c.drill.result) refl))
 
 pub returns-in-Drill-clause-wire_cause : goal.returns-in-Drill-clause-wire_cause
-returns-in-Drill-clause-wire_cause g c = rw (of-drill _ _ _ _ _ (rw c.in-Drill.is at c.in_ok-command.ensures.exact)) (not_true _ _ (shut (Certain (Drills c.in-Drill.seed c.in-Drill.clients c.in-Drill.messages)) (so_far c.drill.result) refl))
+returns-in-Drill-clause-wire_cause g c = on_true _ _ c.drill.ensures.cause
 
 pub returns-in-Drill-clause-drill : goal.returns-in-Drill-clause-drill
 returns-in-Drill-clause-drill g c = rw (of-drill _ _ _ _ _ (rw c.in-Drill.is at c.in_ok-command.ensures.exact)) c.drill.ensures.goes
 
 pub returns-in_err-command-clause-drill : goal.returns-in_err-command-clause-drill
-returns-in_err-command-clause-drill g c = let p = err_from_is_err_and c.from_residual.result c.from_residual.ensures.1 in rw (p.1, p.2) (still-drill _ _ _ _ _ _ _ _ _ _ (misread _ _ _ c.in_err-command.ensures.exact))
+returns-in_err-command-clause-drill g c = let p = err_from_is_err_and c.from_residual.result c.from_residual.ensures.1 in rw (p.1, p.2) (still-drill _ _ _ _ _ _ _ _ (misread _ _ _ c.in_err-command.ensures.exact))
 
 pub returns-in-List-clause-drill : goal.returns-in-List-clause-drill
 returns-in-List-clause-drill g c = rw (of-read _ _ _ (rw c.in-List.is at c.in_ok-command.ensures.exact)) (not_true _ _ (list-undrilled _ _))

@@ -41,10 +41,10 @@ pub returns-in-Err-clause-wire_cause : goal.returns-in-Err-clause-wire_cause
 returns-in-Err-clause-wire_cause g c = wire_after _ _ _ _ _ _ _ _ _ _ _ c.report.ensures c.in-Err.ensures.wire_cause
 
 pub returns-in-Ok-clause-drill : goal.returns-in-Ok-clause-drill
-returns-in-Ok-clause-drill g c = drill_well _ _ _ _ _ _ _ _ _ _ _ _ _ _ _ _ _ c.in-Ok.ensures.drill
+returns-in-Ok-clause-drill g c = drill_well _ _ _ _ _ _ _ _ _ _ _ _ _ c.in-Ok.ensures.drill
 
 pub returns-in-Err-clause-drill : goal.returns-in-Err-clause-drill
-returns-in-Err-clause-drill g c = drill_after _ _ _ _ _ _ _ _ _ _ _ _ _ _ _ _ _ _ _ _ c.report.ensures c.in-Err.ensures.drill
+returns-in-Err-clause-drill g c = drill_after _ _ _ _ _ _ _ _ _ _ _ _ _ _ _ _ c.report.ensures c.in-Err.ensures.drill
 
 pub returns-in-Err-clause-waited : goal.returns-in-Err-clause-waited
 returns-in-Err-clause-waited g c = waits_after _ _ _ _ _ _ _ _ _ _ c.report.ensures c.in-Err.ensures.waited
