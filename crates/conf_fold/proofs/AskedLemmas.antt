@@ -28,9 +28,10 @@ use Rattle.conf_rules.specs.Entries.{ReadEntry, SplitWords, split, entry_of, con
 use Rattle.conf_rules.specs.Resolution.{is_active, active_before, Effect, effect_of, no_block, counted, row_of, row_with, rows_from, first_place, is_refused, refusal_at, refusal_in, wants_second, asks_again, is_asked}
 use Rattle.conf_options.specs.Kept.{Given, Keeps}
 use Rattle.conf_fold.specs.declared.fold.Fold.{Fold}
-use Rattle.conf_fold.specs.declared.errors.LineError.{LineError}
-use Rattle.conf_fold.specs.declared.errors.LineError.TheVariants as line_errors
-use Rattle.conf_fold.specs.Results.{FailsLine, Refuses}
+use Rattle.conf_reader.specs.declared.errors.LineError.{LineError}
+use Rattle.conf_reader.specs.declared.errors.LineError.TheVariants as line_errors
+use Rattle.conf_reader.specs.Results.{Refuses}
+use Rattle.conf_fold.specs.Results.{FailsLine}
 use Rattle.conf_fold.specs.Stands.{Stands, next_row, setting, collected}
 use Rattle.conf_fold.specs.Begins.{asked_rows, IsEmpty, IsBegun, asked_row, TakesAsked}
 use Rattle.conf_fold.proofs.SeenLemmas.{setting-value}

@@ -38,7 +38,7 @@ pub enum Stand {
 impl OpenFiles {
     ghost use Rattle.conf_reader.specs.Left.{open_left, IsReady, IsSettled, work, Moves, Names, RefusesTop, RefusesNext, StandOf, IsFound};
     ghost use Rattle.conf_reader.specs.Moving.{NamesPath, Settles, KeepsLeft, KeepsBounds, MovesOver};
-    ghost use Rattle.conf_reader.specs.Results.{HasFilesCause, is_read_fault};
+    ghost use Rattle.conf_reader.specs.Results.{HasFilesCause, is_fault_at};
     ghost use Rattle.conf_reader.specs.Looking.{KeepsLooks, MovesLooks};
 
     /// No file.
@@ -162,7 +162,7 @@ impl OpenFiles {
         ensures less { OnOk result (work self.new < work self.old) }
         ensures bounded { OnOk result (KeepsBounds self.old self.new) }
         ensures looks { OnOk result (KeepsLooks self.old self.new) }
-        ensures quiet { IfErr result (λ e. is_read_fault e ≡ false) }
+        ensures quiet { IfErr result (λ e. is_fault_at e ≡ false) }
     {
         match found {
             Found::Nothing => {

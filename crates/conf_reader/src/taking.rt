@@ -15,7 +15,7 @@ use ssh_fields::{OutOfMemory, Text};
 impl OpenFiles {
     ghost use Rattle.conf_reader.specs.Left.{IsReady, stack, Takes, IsGiven, IsGivenBy, gone, HeadIs};
     ghost use Rattle.conf_reader.specs.Moving.{IsAtLine, KeepsBounds};
-    ghost use Rattle.conf_reader.specs.Results.{Refuses, is_read_fault};
+    ghost use Rattle.conf_reader.specs.Results.{Refuses, is_fault_at};
     ghost use Rattle.conf_reader.specs.Looking.{TakesLooks};
 
     /// The line that the last file says, as it is given.
@@ -91,7 +91,7 @@ impl OpenFiles {
             × (length (stack self.new) ≡ l.depth + 1))) }
         ensures bounded { result ≡ Ok None → KeepsBounds self.old self.new }
         ensures looks { TakesLooks self.old self.new result }
-        ensures quiet { IfErr result (λ e. is_read_fault e ≡ false) }
+        ensures quiet { IfErr result (λ e. is_fault_at e ≡ false) }
     {
         let Next { next, said } = match self.head() {
             Ok(next) => next,

@@ -3,8 +3,8 @@ use Rattle.std.proofs.Common.{◌≡◌, ℕ, false, Result, Err, refl, subst, a
 use Rattle.conf_rules.specs.declared.causes.Cause.TheVariants as causes
 use Rattle.conf_rules.specs.declared.causes.ResolveError.{ResolveError}
 use Rattle.conf_rules.specs.declared.causes.ResolveError.TheVariants as errors
-use Rattle.conf_reader.specs.Results.{HasReadCause, is_run_fault}
-use Rattle.conf_fold.specs.Results.{HasRunCause, is_fault_at}
+use Rattle.conf_reader.specs.Results.{HasReadCause, is_run_fault, is_fault_at}
+use Rattle.conf_fold.specs.Results.{HasRunCause}
 use Rattle.conf_resolve.specs.Causes.{HasCauses}
 
 -- the reader's faults, of which none is a command's
