@@ -157,9 +157,6 @@ asked-taken told fold new rows l e s says keeps others =
       },
     )
 
-refused-effect : (told : Told) (pass : Pass) (rows : List Row) (c : Cause) → (effect_of told pass rows true (Err c)).entry ≡ Err c
-refused-effect told pass rows c = refl
-
 asked-refused-row : (told : Told) (rows : List Row) (l : AskedLine) (c : Cause) → entry_of rows (asked_line l) ≡ Err c → (asked_row told rows (asked_line l)).entry ≡ Err c
 unfolding asked_with
 asked-refused-row told rows l c h = ap (λ (r : Row). r.entry) (asked-row-is told First rows (length rows) l) ∙ ap (λ r. (effect_of told First rows true r).entry) h

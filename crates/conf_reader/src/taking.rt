@@ -2,6 +2,7 @@
 
 ghost use Rattle.std.specs.Prelude.{◌≡◌, ◌<◌, ◌≤◌, ◌+◌, ℕ, IfOk, IfErr, IfSome, IsSome, false, length, None, Ok};
 ghost use Rattle.std.specs.Option.{option_map};
+ghost use Rattle.conf_rules.specs.Sources.{depth_limit};
 ghost use Rattle.conf_rules.specs.Told.{Told};
 ghost use Rattle.conf_reader.specs.Blocks.{Blocks};
 
@@ -21,12 +22,10 @@ impl OpenFiles {
     /// The line that the last file says, as it is given.
     pub fn given(&self, said: Said) -> Result<ConfLine, OutOfMemory>
         requires some { IsSome self.now.top }
-        requires few { length self.now.below.items ≤ 16 }
+        requires few { length self.now.below.items ≤ depth_limit }
         ensures { IfOk result (IsGivenBy self.now said) }
     {
-        let Some(top) = &self.top else {
-            return Err(OutOfMemory);
-        };
+        let Some(top) = &self.top else { unreachable!() };
         let Said { keyword, rest } = said;
         Ok(ConfLine {
             file: Text::copy(self.alloc, top.path.as_bytes())?,
@@ -59,20 +58,17 @@ impl OpenFiles {
         requires line { IsAtLine self.now.top }
         ensures { IfSome self.now.top (λ f. HeadIs f result) }
     {
-        match &self.top {
-            None => Err(LineError::OutOfMemory),
-            Some(top) => top.head(self.alloc),
-        }
+        let Some(top) = &self.top else { unreachable!() };
+        top.head(self.alloc)
     }
 
     /// The refusal of the next line of the last file.
     pub fn line_refusal(&self, error: LineError) -> ResolveError
+        requires some { IsSome self.now.top }
         ensures { IfSome self.now.top (λ f. Refuses error f.path f.number result) }
     {
-        match &self.top {
-            None => ResolveError::OutOfMemory,
-            Some(top) => refuse(self.alloc, top.path.as_bytes(), top.number, error),
-        }
+        let Some(top) = &self.top else { unreachable!() };
+        refuse(self.alloc, top.path.as_bytes(), top.number, error)
     }
 
     /// Takes the next line of the last file; `None` is a comment.
