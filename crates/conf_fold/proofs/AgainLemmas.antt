@@ -1,44 +1,18 @@
 -- A value that is given again changes nothing that is kept, where its key doesn't collect.
-use Rattle.std.proofs.Common.{◌≡◌, Bool, true, false, cond, List, [], ◌∷◌, ◌++◌, Some, refl, sym, ap, ◌∙◌}
+use Rattle.std.proofs.Common.{◌≡◌, Bool, true, false, List, [], ◌∷◌, ◌++◌, Some, refl, sym, ap, ◌∙◌}
 use Rattle.std.specs.List.{list_any, slice_get}
-use Rattle.std.proofs.lemmas.List.{append-nil}
 use Rattle.conf_rules.specs.declared.key.Key.{Key}
 use Rattle.conf_rules.specs.declared.value.Value.{Value}
 use Rattle.conf_rules.specs.Keys.{same_key}
 use Rattle.conf_rules.specs.Kinds.{Keeping, TheFirst, Every, Patterns, Shared, keeping}
-use Rattle.conf_rules.specs.Rows.{values_among, first_of, is_shared, shared_value, one_value, kept, is_collected}
+use Rattle.conf_rules.specs.Rows.{values_among, first_of, is_shared, shared_value, kept, is_collected}
 use Rattle.conf_options.specs.Kept.{Given, Keeps}
 use Rattle.conf_rules.proofs.SameKeys.{same-key}
-use Rattle.conf_options.proofs.OfferLemmas.{among-append}
+use Rattle.conf_options.proofs.OfferLemmas.{among-append, kept-other}
 
 -- whether a key has a value
 abbrev pub has_key : Key → List Given → Bool
 has_key key all = list_any (λ g. same_key key g.0) all
-
--- ---- another key
-
-other-one : (k key : Key) (v : Value) → same_key k key ≡ false → values_among k ((key, v) ∷ []) ≡ []
-other-one k key v e = rw e refl
-
-other-more : (k key : Key) (v : Value) (all : List Given) → same_key k key ≡ false → values_among k (all ++ (key, v) ∷ []) ≡ values_among k all
-other-more k key v all e = among-append k all ((key, v) ∷ []) ∙ ap (λ l. values_among k all ++ l) (other-one k key v e) ∙ append-nil (values_among k all)
-
-shared-other : (k key : Key) (v : Value) (all : List Given) → same_key k key ≡ false → shared_value k (all ++ (key, v) ∷ []) ≡ shared_value k all
-shared-other k key v [] e = rw e (on (is_shared key))
-  where
-    none : List Value
-    none = []
-
-    on : (t : Bool) → cond t none none ≡ none
-    on true = refl
-    on false = refl
-shared-other k key v (g ∷ gs) e = ap (λ l. cond (is_shared g.0) (cond (same_key k g.0) (g.1 ∷ []) []) l) (shared-other k key v gs e)
-
-kept-other : (how : Keeping) (k key : Key) (v : Value) (all : List Given) → same_key k key ≡ false → kept how k (all ++ (key, v) ∷ []) ≡ kept how k all
-kept-other TheFirst k key v all e = ap first_of (other-more k key v all e)
-kept-other Every k key v all e = other-more k key v all e
-kept-other Patterns k key v all e = ap one_value (other-more k key v all e)
-kept-other Shared k key v all e = shared-other k key v all e
 
 -- ---- the key itself
 

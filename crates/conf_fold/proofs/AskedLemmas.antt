@@ -28,9 +28,10 @@ use Rattle.conf_rules.specs.Entries.{ReadEntry, SplitWords, split, entry_of, con
 use Rattle.conf_rules.specs.Resolution.{is_active, active_before, Effect, effect_of, no_block, counted, row_of, row_with, rows_from, first_place, is_refused, refusal_at, refusal_in, wants_second, asks_again, is_asked}
 use Rattle.conf_options.specs.Kept.{Given, Keeps}
 use Rattle.conf_fold.specs.declared.fold.Fold.{Fold}
-use Rattle.conf_fold.specs.declared.errors.LineError.{LineError}
-use Rattle.conf_fold.specs.declared.errors.LineError.TheVariants as line_errors
-use Rattle.conf_fold.specs.Results.{FailsLine, Refuses}
+use Rattle.conf_reader.specs.declared.errors.LineError.{LineError}
+use Rattle.conf_reader.specs.declared.errors.LineError.TheVariants as line_errors
+use Rattle.conf_reader.specs.Results.{Refuses}
+use Rattle.conf_fold.specs.Results.{FailsLine}
 use Rattle.conf_fold.specs.Stands.{Stands, next_row, setting, collected}
 use Rattle.conf_fold.specs.Begins.{asked_rows, IsEmpty, IsBegun, asked_row, TakesAsked}
 use Rattle.conf_fold.proofs.SeenLemmas.{setting-value}
@@ -155,9 +156,6 @@ asked-taken told fold new rows l e s says keeps others =
         };
       },
     )
-
-refused-effect : (told : Told) (pass : Pass) (rows : List Row) (c : Cause) → (effect_of told pass rows true (Err c)).entry ≡ Err c
-refused-effect told pass rows c = refl
 
 asked-refused-row : (told : Told) (rows : List Row) (l : AskedLine) (c : Cause) → entry_of rows (asked_line l) ≡ Err c → (asked_row told rows (asked_line l)).entry ≡ Err c
 unfolding asked_with

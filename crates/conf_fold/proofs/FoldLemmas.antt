@@ -19,8 +19,8 @@ use Rattle.conf_rules.specs.Entries.{entry_of}
 use Rattle.conf_rules.specs.Resolution.{seen_at, name_in_pass, asks_again, is_final, is_active, Effect, effect_of, no_block, is_refused}
 use Rattle.conf_fold.specs.declared.fold.Fold.{Fold}
 use Rattle.conf_reader.specs.declared.line.ConfLine.{ConfLine}
-use Rattle.conf_fold.specs.declared.errors.LineError.{LineError}
-use Rattle.conf_fold.specs.declared.errors.LineError.TheVariants as line_errors
+use Rattle.conf_reader.specs.declared.errors.LineError.{LineError}
+use Rattle.conf_reader.specs.declared.errors.LineError.TheVariants as line_errors
 use Rattle.conf_rules.specs.Diagnostics.{is_fault}
 use Rattle.conf_fold.specs.Results.{Evaluated}
 use Rattle.conf_reader.specs.Blocks.{Blocks, open_behind, IsLine}

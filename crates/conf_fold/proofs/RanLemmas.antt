@@ -23,9 +23,10 @@ use Rattle.conf_match.specs.Evaluated.{RanAll, RanSome, FailsOne}
 use Rattle.conf_reader.specs.declared.line.ConfLine.{ConfLine}
 use Rattle.conf_reader.specs.Blocks.{Blocks}
 use Rattle.conf_fold.specs.declared.fold.Fold.{Fold}
-use Rattle.conf_fold.specs.declared.errors.LineError.{LineError}
-use Rattle.conf_fold.specs.declared.errors.LineError.TheVariants as line_errors
-use Rattle.conf_fold.specs.Results.{Refuses, RanUnless, breaks_line, breaks_off, FailsInLine, FailsAt, HasLineCause, HasRunCause, is_line_fault, FailsLine}
+use Rattle.conf_reader.specs.declared.errors.LineError.{LineError}
+use Rattle.conf_reader.specs.declared.errors.LineError.TheVariants as line_errors
+use Rattle.conf_reader.specs.Results.{Refuses, is_line_fault}
+use Rattle.conf_fold.specs.Results.{RanUnless, breaks_line, breaks_off, FailsInLine, FailsAt, HasLineCause, HasRunCause, FailsLine}
 use Rattle.conf_fold.specs.Stands.{Stands, IsNext, next_row, entry_so_far, view_of}
 use Rattle.conf_fold.proofs.SeenLemmas.{view-same}
 use Rattle.conf_fold.proofs.EntryLemmas.{entry-same}

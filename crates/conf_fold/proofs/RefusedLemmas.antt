@@ -15,8 +15,8 @@ use Rattle.conf_rules.specs.Entries.{entry_of}
 use Rattle.conf_rules.specs.Resolution.{applies_at, start_of, host_from, host_at, view_at, seen_at, name_in_pass, active_before, is_active_row, wants_second, asks_again, is_final, is_asked, is_past_limit, counted, is_active, Effect, effect_of, no_block, tested, row_with, row_of, is_refused}
 use Rattle.conf_fold.specs.declared.fold.Fold.{Fold}
 use Rattle.conf_reader.specs.declared.line.ConfLine.{ConfLine}
-use Rattle.conf_fold.specs.declared.errors.LineError.{LineError}
-use Rattle.conf_fold.specs.declared.errors.LineError.TheVariants as line_errors
+use Rattle.conf_reader.specs.declared.errors.LineError.{LineError}
+use Rattle.conf_reader.specs.declared.errors.LineError.TheVariants as line_errors
 use Rattle.conf_rules.specs.Diagnostics.{is_fault}
 use Rattle.conf_fold.specs.Results.{Evaluated}
 use Rattle.conf_reader.specs.Blocks.{Blocks, IsLine}
@@ -53,7 +53,7 @@ entry-refused told pass fold new rows blocks l place line (line_errors.Refused c
 
 -- a refusal with its file and number
 pub placed-refusal : (told : Told) (pass : Pass) (rows : List Row) (blocks : Blocks) (l : ConfLine) (place : ℕ) (line : Line) (e : LineError) (d : Rattle.conf_rules.specs.declared.causes.ResolveError.ResolveError) (new : Fold)
-    → IsLine l blocks line → Rattle.conf_fold.specs.Results.Refuses e l.file l.number d → FoldsEntry told pass rows blocks l place line (Err e) new → Rattle.conf_fold.specs.Stands.Folds told pass rows blocks l place line (Err d) new
+    → IsLine l blocks line → Rattle.conf_reader.specs.Results.Refuses e l.file l.number d → FoldsEntry told pass rows blocks l place line (Err e) new → Rattle.conf_fold.specs.Stands.Folds told pass rows blocks l place line (Err d) new
 placed-refusal told pass rows blocks l place line e resolve_errors.OutOfMemory new is r f = tt
 placed-refusal told pass rows blocks l place line line_errors.OutOfMemory (resolve_errors.At file number cause) new is r f = absurd cc
 placed-refusal told pass rows blocks l place line (line_errors.Refused c) (resolve_errors.At file number cause) new is r f = λ fault.

@@ -98,10 +98,6 @@ gives-again settings all (Gives key v) has s = on (is_collected key) refl
     on true h = rw (append-nil all) s
     on false h = keeps-again settings all key v h (has key v refl) s
 
-any-or : (a b c : Bool) → c ≡ true → (a || (c || b)) ≡ true
-any-or true b c h = refl
-any-or false b c h = rw h refl
-
 has-behind : (key : Key) (xs ys : List Given) (v : Value) → has_key key (xs ++ (key, v) ∷ ys) ≡ true
 has-behind key [] ys v = rw (same-key-refl key) refl
 has-behind key (x ∷ xs) ys v = rw (has-behind key xs ys v) (or-true (same_key key x.0))
@@ -201,9 +197,6 @@ one-again told rows new done later extra l ok a =
 
 -- ---- all of them
 
-same-front : (rows xs ys zs : List Row) → rows ≡ xs ++ ys → xs ++ ys ≡ zs → rows ≡ zs
-same-front rows xs ys zs h k = h ∙ k
-
 refused-front : (told : Told) (rows done later extra : List Row) (new : Fold) (l : AskedLine) (ls : List AskedLine) → refusal_in rows ≡ None → rows ≡ from told First done (length done) (map asked_line (l ∷ ls)) ++ later
     → is_refused (first_row told done l).entry ≡ false
 refused-front told rows done later extra new l ls none parts = on (is_refused (first_row told done l).entry) refl
@@ -275,6 +268,3 @@ second-begins told old new rows blocks s b asks is =
     let r = all-again told rows new told.asked.lines [] [] rows b.later b.none b.parts start in
     let same : from told (Second rows) (rows ++ []) 0 (map asked_line told.asked.lines) ≡ asked_again told rows = ap (λ rs. from told (Second rows) rs 0 (map asked_line told.asked.lines)) z in
     (sym s.again ∙ asks, (subst (λ rs. Stands told (Second rows) new rs []) same r.0, ap refusal_in (sym same) ∙ r.1))
-
-pub second-none : (told : Told) (old new : Fold) (rows : List Row) (blocks : Blocks) → Stands told First old rows blocks → old.asks_again ≡ false → SecondBegins told rows new false
-second-none told old new rows blocks s h = sym s.again ∙ h

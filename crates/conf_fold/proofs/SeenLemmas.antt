@@ -1,13 +1,10 @@
 -- What a fold shows is what its rows show.
-use Rattle.std.proofs.Common.{◌≡◌, Bool, List, [], Option, refl, ap, ◌∙◌}
+use Rattle.std.proofs.Common.{◌≡◌, List, refl, ap, ◌∙◌}
 use Rattle.std.specs.List.{slice_get}
 use Rattle.conf_rules.specs.declared.key.Key.{Key}
 use Rattle.conf_rules.specs.declared.key.Key.TheVariants as keys
-use Rattle.conf_rules.specs.declared.value.Value.{Value}
-use Rattle.conf_rules.specs.Texts.{Bytes, or_text}
 use Rattle.conf_rules.specs.Told.{Told}
-use Rattle.conf_rules.specs.Tokens.{View}
-use Rattle.conf_rules.specs.Rows.{Row, Pass, First, Second, Place, is_collected, values_among, kept, values, value, given, entry_gives, word_in}
+use Rattle.conf_rules.specs.Rows.{Row, Pass, First, Second, values, value, word_in}
 use Rattle.conf_rules.specs.Resolution.{host_from, host_at, view_at, seen_at, name_in_pass}
 use Rattle.conf_fold.specs.declared.fold.Fold.{Fold}
 use Rattle.conf_reader.specs.Blocks.{Blocks}
@@ -30,21 +27,6 @@ host-same told pass fold rows blocks s =
 pub name-same : (told : Told) (pass : Pass) (fold : Fold) (rows : List Row) (blocks : Blocks) → Stands told pass fold rows blocks → block_name fold ≡ name_in_pass told pass
 name-same told First fold rows blocks s = rw (s.in_pass.name) s.original
 name-same told (Second before) fold rows blocks s = rw (s.in_pass.name) refl
-
--- a view of these parts
-unfoldable pub view_with : Told → Bool → Bytes → Bytes → (Key → Option Value) → View
-view_with told last host name v = record {
-  original = told.asked.original;
-  host = host;
-  jump = or_text [] (Rattle.conf_rules.specs.Rows.but_none (word_in (v keys.ProxyJump)));
-  tag = or_text [] (word_in (v keys.Tag));
-  port = Rattle.conf_rules.specs.Rows.number_in 22 (v keys.Port);
-  user = word_in (v keys.User);
-  «alias» = word_in (v keys.HostKeyAlias);
-  facts = told.facts;
-  last = last;
-  name = name;
-}
 
 -- what tokens and criteria see
 pub view-same : (told : Told) (pass : Pass) (fold : Fold) (rows : List Row) (blocks : Blocks) → Stands told pass fold rows blocks → view_of fold told.facts ≡ seen_at told pass rows

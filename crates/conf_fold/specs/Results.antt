@@ -4,22 +4,14 @@ use Rattle.std.specs.Bool.{MatchBool}
 use Rattle.mux_outside.specs.Counts.{Rose}
 use Rattle.conf_rules.specs.declared.causes.Cause.{Cause}
 use Rattle.conf_rules.specs.declared.causes.Cause.TheVariants as causes
-use Rattle.conf_rules.specs.declared.causes.LexError.{LexError}
-use Rattle.conf_rules.specs.declared.causes.LexError.TheVariants as lex_errors
-use Rattle.conf_rules.specs.declared.causes.ValueError.{ValueError}
-use Rattle.conf_rules.specs.declared.causes.ValueError.TheVariants as value_errors
-use Rattle.conf_rules.specs.declared.causes.MatchError.{MatchError}
-use Rattle.conf_rules.specs.declared.causes.MatchError.TheVariants as match_errors
 use Rattle.conf_rules.specs.declared.causes.TokenError.{TokenError}
 use Rattle.conf_rules.specs.declared.causes.ResolveError.{ResolveError}
 use Rattle.conf_rules.specs.declared.causes.ResolveError.TheVariants.{At, OutOfMemory}
 use Rattle.conf_rules.specs.Diagnostics.{is_fault}
 use Rattle.conf_rules.specs.Texts.{Bytes}
-use Rattle.conf_match.specs.declared.evaluation.EvalError.{EvalError}
-use Rattle.conf_match.specs.declared.evaluation.EvalError.TheVariants as eval_errors
 use Rattle.conf_match.specs.Evaluated.{RanAll, RanSome, FailsOne}
-use Rattle.conf_fold.specs.declared.errors.LineError.{LineError}
-use Rattle.conf_fold.specs.declared.errors.LineError.TheVariants as line_errors
+use Rattle.conf_reader.specs.declared.errors.LineError.{LineError}
+use Rattle.conf_reader.specs.declared.errors.LineError.TheVariants as line_errors
 
 -- an error is the refusal of the reading, but want of memory may come at any time
 abbrev pub FailsLine : {Y : Type 0} → LineError → Result Y Cause → Type 0
@@ -31,49 +23,12 @@ abbrev pub GivesLine : {Y : Type 0} → Result Y LineError → Result Y Cause �
 GivesLine (Ok x) reading = reading ≡ Ok x
 GivesLine (Err e) reading = FailsLine e reading
 
--- a lexer's error as one of a line
-abbrev pub of_lex : LexError → LineError
-of_lex lex_errors.OutOfMemory = line_errors.OutOfMemory
-of_lex e = line_errors.Refused (causes.Lex e)
-
--- a value's error as one of a line
-abbrev pub of_value : ValueError → LineError
-of_value value_errors.OutOfMemory = line_errors.OutOfMemory
-of_value e = line_errors.Refused (causes.Value e)
-
--- a criterion's error as one of a line
-abbrev pub of_match : MatchError → LineError
-of_match match_errors.OutOfMemory = line_errors.OutOfMemory
-of_match e = line_errors.Refused (causes.Match e)
-
--- an evaluation's error as one of a line
-abbrev pub of_eval : EvalError → LineError
-of_eval eval_errors.OutOfMemory = line_errors.OutOfMemory
-of_eval (eval_errors.Token e) = line_errors.Refused (causes.Token e)
-of_eval eval_errors.RunFault = line_errors.Refused causes.RunFault
-
--- whether a line's error is a fault of the outside
-abbrev pub is_line_fault : LineError → Bool
-is_line_fault line_errors.OutOfMemory = false
-is_line_fault (line_errors.Refused cause) = is_fault cause
-
--- whether a refusal is a fault of the outside
-abbrev pub is_fault_at : ResolveError → Bool
-is_fault_at OutOfMemory = false
-is_fault_at (At file line cause) = is_fault cause
-
 -- an evaluation gave what it should, unless memory or the runner failed
 abbrev pub Evaluated : Result Bool LineError → Result Bool TokenError → Type 0
 Evaluated (Ok b) holds = holds ≡ Ok b
 Evaluated (Err line_errors.OutOfMemory) holds = Unit {0}
 Evaluated (Err (line_errors.Refused (causes.Token e))) holds = holds ≡ Err e
 Evaluated (Err (line_errors.Refused cause)) holds = is_fault cause ≡ true
-
--- the refusal of a line of a file, unless memory was wanting
-abbrev pub Refuses : LineError → Bytes → ℕ → ResolveError → Type 0
-Refuses line_errors.OutOfMemory file line error = error ≡ OutOfMemory
-Refuses (line_errors.Refused cause) file line OutOfMemory = Unit {0}
-Refuses (line_errors.Refused cause) file line (At f l c) = At f l c ≡ At file line cause
 
 -- ---- commands
 

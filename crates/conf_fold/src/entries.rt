@@ -10,13 +10,14 @@ ghost use Rattle.conf_rules.specs.Resolution.{is_final};
 ghost use Rattle.conf_rules.specs.Keywords.{meaning_of};
 ghost use Rattle.conf_rules.specs.Sources.{asked_line};
 ghost use Rattle.conf_rules.specs.Entries.{split, block_entry, tests_entry, words_entry, key_entry, takes_keyword, unknown_entry, headed_entry, content_entry, keyword_entry};
-ghost use Rattle.conf_fold.specs.Results.{GivesLine, is_line_fault};
+ghost use Rattle.conf_reader.specs.Results.{is_line_fault};
+ghost use Rattle.conf_fold.specs.Results.{GivesLine};
 ghost use Rattle.conf_fold.specs.Entries.{entry_fits, value_entry, spelled_entry};
 
-use crate::errors::LineError;
 use conf_lexer::{Head, split_head, split_words};
 use conf_match::{matches_list, read_criteria};
 use conf_options::{kind_of, read_value};
+use conf_reader::LineError;
 use conf_rules::{AskedLine, Cause, Criteria, Entry, Key, KeyKind, Kind, ListAnswer};
 use ssh_fields::{OutOfMemory, Text, Texts};
 use std::alloc::Global;

@@ -6,18 +6,18 @@ ghost use Rattle.conf_rules.specs.Fits.{fits};
 ghost use Rattle.conf_rules.specs.Rows.{Row, word_in, entry_gives, First};
 ghost use Rattle.conf_options.specs.Kept.{Given, Keeps};
 ghost use Rattle.conf_reader.specs.Blocks.{Blocks};
+ghost use Rattle.conf_reader.specs.Results.{is_fault_at};
 ghost use Rattle.conf_fold.specs.Begins.{IsEmpty, IsBegun, TakesAsked, Behind, SecondBegins};
 ghost use Rattle.conf_fold.specs.Entries.{entry_fits};
-ghost use Rattle.conf_fold.specs.Results.{is_fault_at};
 ghost use Rattle.conf_fold.specs.Stands.{Stands, setting, host_so_far, block_name};
 
 mod blocks;
 mod lines;
 
 use crate::entries::asked_entry;
-use crate::errors::refuse;
 use crate::marks::Marks;
 use conf_options::Settings;
+use conf_reader::refuse;
 use conf_rules::{Asked, AskedLine, Entry, Key, ResolveError, Value};
 use conf_tokens::expand_name;
 use ssh_fields::{OutOfMemory, Text};

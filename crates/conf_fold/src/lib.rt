@@ -5,7 +5,6 @@
 #![tactic(auto)]
 
 mod entries;
-mod errors;
 mod fold;
 mod marks;
 

@@ -1,10 +1,9 @@
 -- The files that an Include line names.
 use Rattle.std.proofs.Common.{◌≡◌, ℕ, ◌+◌, ◌-◌, Bool, true, false, cond, List, [], ◌∷◌, ◌++◌, length, take, drop, Option, Some, None, Result, Ok, Err, refl, sym, ap, ◌∙◌, arith}
 use Rattle.std.specs.Prelude.{flat_map, option_to_list}
-use Rattle.std.specs.List.{slice_get, list_all}
+use Rattle.std.specs.List.{slice_get}
 use Rattle.std.specs.Option.{option_and_then}
 use Rattle.std.proofs.lemmas.Grind.{flat_map-append}
-use Rattle.std.proofs.lemmas.List.Folds.{list_all-append}
 use Rattle.conf_rules.specs.declared.causes.TokenError.{TokenError}
 use Rattle.conf_rules.specs.declared.causes.LexError.{LexError}
 use Rattle.conf_rules.specs.declared.causes.Cause.{Cause}
@@ -24,7 +23,7 @@ use Rattle.conf_reader.specs.declared.open_file.OpenFile.{OpenFile}
 use Rattle.conf_reader.specs.declared.stack.OpenFiles.{OpenFiles}
 use Rattle.conf_reader.specs.Results.{Refuses}
 use Rattle.conf_reader.specs.Blocks.{Blocks, or_none}
-use Rattle.conf_reader.specs.Left.{source_of, frame_files, frames_left, deeper, cur, open_left, RefusesFirst, named_by, FoundPaths, named_as, is_expanded}
+use Rattle.conf_reader.specs.Left.{source_of, frame_files, frames_left, deeper, cur, open_left, RefusesFirst, named_by, FoundPaths, named_as}
 use Rattle.conf_reader.proofs.LeftLemmas.{top_depth, top_outer, Step, under, stays, Alike, refuses, token-refuses}
 use Rattle.conf_reader.proofs.OpenLemmas.{first-refused, moves-refused, moved}
 
@@ -94,12 +93,3 @@ include-refused told place blocks o f rest (line_errors.Refused cause) d top inc
 pub top-include : (t : Option OpenFile) (rest : Bytes) → Some rest ≡ option_and_then (λ f. f.include) t → (f : OpenFile) × ((t ≡ Some f) × (f.include ≡ Some rest))
 top-include None rest e = absurd cc
 top-include (Some f) rest e = (f, (refl, sym e))
-
-pub no-include : (t : Option OpenFile) (f : OpenFile) → None ≡ option_and_then (λ f. f.include) t → t ≡ Some f → f.include ≡ None
-no-include None f e h = absurd cc
-no-include (Some g) f e h = let k : g ≡ f = cc in ap (λ (x : OpenFile). x.include) (sym k) ∙ sym e
-
--- where no paths are to be found, all are expanded
-pub expanded-more : (fs : List OpenFile) (t : Option OpenFile) → list_all is_expanded fs ≡ true → (((f : OpenFile) → t ≡ Some f → is_expanded f ≡ true)) → list_all is_expanded (fs ++ option_to_list t) ≡ true
-expanded-more fs None e h = list_all-append is_expanded fs [] ∙ rw e refl
-expanded-more fs (Some f) e h = list_all-append is_expanded fs (f ∷ []) ∙ rw (e, h f refl) refl

@@ -23,9 +23,6 @@ use Rattle.conf_reader.specs.declared.errors.LineError.TheVariants as line_error
 use Rattle.conf_reader.specs.declared.files.Found.TheVariants.{TooLarge}
 use Rattle.conf_reader.specs.Results.{Refuses}
 
-and-none : (x : List Line) → x ++ [] ≡ x
-and-none x = append-nil x
-
 -- a file that is there and not too large
 first-text : (told : Told) (place : ℕ) (f : FirstFile) (text : Bytes) (t : Bool) → f.required ≡ t → is_plain_first f ≡ true → told.content f.path ≡ Some text → first_left told place f ≡ first_file (source_of f.system) told place (record { path = f.path; text = text })
 first-text told place f text true required plain content = rw (required, content) (ap (λ s. first_file (source_of s) told place (record { path = f.path; text = text })) (user f.system (rw required at plain)))

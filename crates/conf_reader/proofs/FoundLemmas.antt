@@ -1,10 +1,10 @@
 -- Paths that are found in whatever order have the same texts.
-use Rattle.std.proofs.Common.{◌≡◌, ℕ, zero, suc, ◌+◌, ◌<◌, Bool, true, false, cond, eqb, ◌||◌, not, List, [], ◌∷◌, ◌++◌, length, take, get_or, Option, Some, None, Ok, map, is_some, refl, sym, ap, ◌∙◌, append-nil, append_assoc, Result, Err, arith}
+use Rattle.std.proofs.Common.{◌≡◌, ℕ, ◌+◌, Bool, true, false, cond, eqb, ◌||◌, not, List, [], ◌∷◌, ◌++◌, Option, Some, None, Ok, map, is_some, refl, sym, ap, ◌∙◌, Result, Err, arith}
 use Rattle.std.specs.Prelude.{sum_by, filter, filter_map, flat_map, fold, bytes_eq, IfOk}
 use Rattle.std.specs.List.{list_any}
 use Rattle.std.specs.Option.{option_and_then, option_map}
 use Rattle.std.proofs.lemmas.List.Sorted.{sum_by-IsPermutation}
-use Rattle.std.proofs.lemmas.List.Sums.{sum_by-cons, sum_by-append, sum_by_push}
+use Rattle.std.proofs.lemmas.List.Sums.{sum_by-cons, sum_by-append}
 use Rattle.mux_outside.specs.declared.pairs.Pair.{Pair}
 use Rattle.mux_outside.specs.Files.{inside, is_directory, as_name, name_in, with_name, names_in, Lists}
 use Rattle.conf_rules.specs.Texts.{Bytes, is_empty, split_at_first, split_at_each, with_front, onto_first}
@@ -34,18 +34,11 @@ sum-flat : (f : Bytes → ℕ) (g : Bytes → List Bytes) (xs : List Bytes) → 
 sum-flat f g [] = refl
 sum-flat f g (x ∷ xs) = sum_by-append f (g x) (flat_map g xs) ∙ ap (λ n. sum_by f (g x) + n) (sum-flat f g xs) ∙ sym (sum_by-cons (λ x. sum_by f (g x)) x xs)
 
-flat-append : (g : Bytes → List Bytes) (xs : List Bytes) (y : Bytes) → flat_map g (xs ++ y ∷ []) ≡ flat_map g xs ++ g y
-flat-append g [] y = append-nil (g y)
-flat-append g (x ∷ xs) y = ap (λ zs. g x ++ zs) (flat-append g xs y) ∙ sym (append_assoc (g x) (flat_map g xs) (g y))
-
 pub same-lists : (xs ys : List Bytes) → xs ≡ ys → SameTexts xs ys
 same-lists xs ys e f = ap (sum_by f) (sym e)
 
 pub same-more : (front xs ys : List Bytes) → SameTexts xs ys → SameTexts (front ++ xs) (front ++ ys)
 same-more front xs ys same f = let a = sum_by-append f front xs in let b = sum_by-append f front ys in let s = same f in omega (arith, a, b, s)
-
-pub same-then : (xs ys zs : List Bytes) → SameTexts xs ys → SameTexts ys zs → SameTexts xs zs
-same-then xs ys zs a b f = b f ∙ a f
 
 -- what stands below paths is the same in whatever order they are
 pub same-flat : (g : Bytes → List Bytes) (xs ys : List Bytes) → SameTexts xs ys → SameTexts (flat_map g xs) (flat_map g ys)
@@ -111,26 +104,6 @@ below-some (Some files) told component base (Some ms) ns t h n g =
 
 -- ---- several directories
 
-pub take-more : (xs : List Bytes) (i : ℕ) (x : Bytes) → i < length xs → x ≡ get_or xs i x → take (i + 1) xs ≡ take i xs ++ x ∷ []
-take-more [] i x h e = absurd (omega (arith, h))
-take-more (y ∷ ys) zero x h e = ap (λ z. z ∷ []) (sym e)
-take-more (y ∷ ys) (suc i) x h e =
-    let more : suc i + 1 ≡ suc (i + 1) = omega arith in
-    rw more (ap (λ zs. y ∷ zs) (take-more ys i x (omega (arith, h)) e))
-
-pub one-below : (told : Told) (component : Bytes) (bases : List Bytes) (i : ℕ) (base : Bytes) (old new : List Bytes) → i < length bases → base ≡ get_or bases i base
-    → SameTexts (flat_map (below told component) (take i bases)) old → SameTexts (old ++ below told component base) new → SameTexts (flat_map (below told component) (take (i + 1) bases)) new
-one-below told component bases i base old new h e so_far more f =
-    let g = below told component in
-    let a = sum_by-append f old (g base) in
-    let b = sum-flat f g (take i bases) in
-    let c = sum-flat f g (take (i + 1) bases) in
-    let d = ap (sum_by (λ x. sum_by f (g x))) (take-more bases i base h e) in
-    let k = sum_by_push (λ x. sum_by f (g x)) (take i bases) base in
-    let s = so_far f in
-    let m = more f in
-    omega (arith, a, b, c, d, k, s, m)
-
 -- ---- components
 
 pair_of : Bytes → Option (Bytes × Bytes) → List Bytes
@@ -189,11 +162,3 @@ if-ok P Q (Err e) f h = tt
 pub globbed-is : (told : Told) (path : Bytes) (found all : List Bytes) → is_glob path ≡ true → ends_with_slash path ≡ false → SameTexts (along told (components_of path) ([] ∷ [])) found → all ≡ sorted found → all ≡ globbed told path
 unfolding globbed
 globbed-is told path found all g e same s = s ∙ sym (same-sorted (along told (components_of path) ([] ∷ [])) found same) ∙ rw (g, e) refl
-
-pub more-globbed : (told : Told) (paths : List Bytes) (i : ℕ) (path : Bytes) (old here : List Bytes) → i < length paths → path ≡ get_or paths i path → old ≡ flat_map (globbed told) (take i paths) → here ≡ globbed told path
-    → old ++ here ≡ flat_map (globbed told) (take (i + 1) paths)
-more-globbed told paths i path old here h e so_far k =
-    rw (so_far, k, take-more paths i path h e) (sym (flat_map-push (take i paths)))
-  where
-    flat_map-push : (xs : List Bytes) → flat_map (globbed told) (xs ++ path ∷ []) ≡ flat_map (globbed told) xs ++ globbed told path
-    flat_map-push xs = flat-append (globbed told) xs path

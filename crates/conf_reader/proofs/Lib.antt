@@ -4,7 +4,6 @@ pub mod FirstLemmas
 pub mod FolderLemmas
 pub mod FoundLemmas
 pub mod LeftLemmas
-pub mod LineLemmas
 pub mod LookingLemmas
 pub mod NextLemmas
 pub mod OneLemmas

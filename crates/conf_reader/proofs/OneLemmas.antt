@@ -2,6 +2,7 @@
 use Rattle.std.proofs.Common.{◌≡◌, ℕ, zero, suc, ◌+◌, ◌-◌, ◌<◌, ◌≤◌, Bool, true, false, cond, List, [], ◌∷◌, ◌++◌, length, drop, Option, Some, None, Result, Err, refl, sym, ap, subst, ◌∙◌, arith}
 use Rattle.std.specs.Prelude.{nat_le, IfSome, IsSome}
 use Rattle.std.proofs.lemmas.Bool.{le-leb, lt-leb}
+use Rattle.conf_rules.specs.declared.maxima.TheConstants.{MAX_LINES}
 use Rattle.conf_rules.specs.declared.causes.Cause.{Cause}
 use Rattle.conf_rules.specs.declared.causes.Cause.TheVariants as causes
 use Rattle.std.specs.Prelude.{option_to_list}
@@ -12,7 +13,7 @@ use Rattle.conf_rules.specs.declared.causes.ResolveError.TheVariants as errors
 use Rattle.conf_reader.specs.declared.errors.LineError.TheVariants as line_errors
 use Rattle.conf_reader.specs.declared.open_file.OpenFile.{OpenFile}
 use Rattle.conf_reader.specs.Results.{Refuses}
-use Rattle.conf_reader.proofs.LineLemmas.{first_line}
+use Rattle.conf_lexer.proofs.LineLemmas.{first_line}
 use Rattle.conf_reader.proofs.LeftLemmas.{top_depth, top_outer, file_line, head-left, front}
 use Rattle.conf_reader.proofs.OpenLemmas.{settled-files, moved}
 use Rattle.conf_reader.proofs.TakeLemmas.{file-source}
@@ -28,20 +29,20 @@ use Rattle.conf_reader.specs.Left.{left, open_left, firsts_left, IsComment, Refu
 use Rattle.conf_reader.specs.Reads.{IsIdle, RefusesNext, OneLine}
 
 -- a line of a file within the limit
-pub within-limit : (told : Told) (line : Line) (place read : ℕ) → place ≡ length told.asked.lines + read → read < 100000 → is_past_limit told line place ≡ false
+pub within-limit : (told : Told) (line : Line) (place read : ℕ) → place ≡ length told.asked.lines + read → read < MAX_LINES → is_past_limit told line place ≡ false
 unfolding line_limit
 within-limit told line place read at low = by (is_asked line.source) (Rattle.conf_rules.specs.Resolution.is_refusal line.content)
   where
-    past : nat_le 100000 (place - length told.asked.lines) ≡ false
-    past = lt-leb 100000 (place - length told.asked.lines) (omega (arith, at, low))
+    past : nat_le MAX_LINES (place - length told.asked.lines) ≡ false
+    past = lt-leb MAX_LINES (place - length told.asked.lines) (omega (arith, at, low))
 
-    by : (a r : Bool) → cond a false (cond r false (nat_le 100000 (place - length told.asked.lines))) ≡ false
+    by : (a r : Bool) → cond a false (cond r false (nat_le MAX_LINES (place - length told.asked.lines))) ≡ false
     by true r = refl
     by false true = refl
     by false false = past
 
 -- a comment says nothing, whatever stands before it
-pub comment-idle : (told : Told) (line : Line) (place read : ℕ) → IsComment line → place ≡ length told.asked.lines + read → read < 100000 → IsIdle told place line
+pub comment-idle : (told : Told) (line : Line) (place read : ℕ) → IsComment line → place ≡ length told.asked.lines + read → read < MAX_LINES → IsIdle told place line
 unfolding entry_of
 comment-idle told line place read c at low = λ rows. rw (within-limit told line place read at low, c.spelled, c.head) refl
 
@@ -56,7 +57,7 @@ left-on told place blocks others r n line e firsts next =
     ∙ ap (λ i. line ∷ (open_left told (place + 1) others n.open_files ++ firsts_left told (place + 1 + length (open_left told (place + 1) others n.open_files)) (drop i n.firsts.items))) (sym next)
 
 -- a line whose head is refused
-pub head-refused : (told : Told) (place read : ℕ) (blocks : Blocks) (r : Lines) (file : List ℕ) (number : ℕ) (cause : Cause) → RefusesHead (open_left told place blocks r.open_files) file number cause → place ≡ length told.asked.lines + read → read < 100000
+pub head-refused : (told : Told) (place read : ℕ) (blocks : Blocks) (r : Lines) (file : List ℕ) (number : ℕ) (cause : Cause) → RefusesHead (open_left told place blocks r.open_files) file number cause → place ≡ length told.asked.lines + read → read < MAX_LINES
     → RefusesNext told place (left told place blocks r) file number cause
 unfolding entry_of
 head-refused told place read blocks r file number cause h at low = record {
@@ -109,11 +110,11 @@ drop-some [] i h = absurd (omega (arith, h))
 drop-some (x ∷ xs) zero h = omega arith
 drop-some (x ∷ xs) (suc i) h = drop-some xs i (omega (arith, h))
 
-past-limit : (told : Told) (line : Line) (place read : ℕ) → place ≡ length told.asked.lines + read → 100000 ≤ read → is_asked line.source ≡ false → is_refusal line.content ≡ false → is_past_limit told line place ≡ true
+past-limit : (told : Told) (line : Line) (place read : ℕ) → place ≡ length told.asked.lines + read → MAX_LINES ≤ read → is_asked line.source ≡ false → is_refusal line.content ≡ false → is_past_limit told line place ≡ true
 unfolding line_limit
-past-limit told line place read at many asked refusal = rw (asked, refusal) (le-leb 100000 (place - length told.asked.lines) (omega (arith, at, many)))
+past-limit told line place read at many asked refusal = rw (asked, refusal) (le-leb MAX_LINES (place - length told.asked.lines) (omega (arith, at, many)))
 
-too-many : (told : Told) (place read : ℕ) (blocks : Blocks) (r : Lines) (f : OpenFile) → r.open_files.top ≡ Some f → IsSettled f → f.at < length f.text → place ≡ length told.asked.lines + read → 100000 ≤ read
+too-many : (told : Told) (place read : ℕ) (blocks : Blocks) (r : Lines) (f : OpenFile) → r.open_files.top ≡ Some f → IsSettled f → f.at < length f.text → place ≡ length told.asked.lines + read → MAX_LINES ≤ read
     → RefusesNext told place (left told place blocks r) f.path f.number causes.TooManyLines
 too-many told place read blocks r f top s low at many =
     let o = r.open_files in
@@ -144,11 +145,11 @@ one-refused told place blocks old new file number cause (errors.At f m c) r n = 
     record { comments = n.comments; line = n.line; rest = n.rest; is = n.is; idle = n.idle; file_is = n.file_is ∙ (let k : file ≡ f = cc in k); number_is = n.number_is ∙ (let k : number ≡ m = cc in k); refused = λ rows. n.refused rows ∙ ap (λ x. Err x) (let k : cause ≡ c = cc in k) }
 
 pub limit-reached : (told : Told) (place read : ℕ) (blocks : Blocks) (r new : Lines) (t : Option OpenFile) (e : ResolveError) → r.open_files.top ≡ t → IsSome t → IfSome t (λ f. IsSettled f × (f.at < length f.text)) → IfSome t (λ f. Refuses (line_errors.Refused causes.TooManyLines) f.path f.number e)
-    → place ≡ length told.asked.lines + read → 100000 ≤ read → OneLine told place blocks r new (Err e)
+    → place ≡ length told.asked.lines + read → MAX_LINES ≤ read → OneLine told place blocks r new (Err e)
 limit-reached told place read blocks r new None e top some line refused at many = absurd (let k : false ≡ true = some in cc)
 limit-reached told place read blocks r new (Some f) e top some line refused at many = one-refused told place blocks r new f.path f.number causes.TooManyLines e refused (too-many told place read blocks r f top line.0 line.1 at many)
 
-pub head-failed : (told : Told) (place read : ℕ) (blocks : Blocks) (r new : Lines) (n : OpenFiles) (e : ResolveError) → Takes told place blocks r.open_files n (Err e) → place ≡ length told.asked.lines + read → read < 100000 → OneLine told place blocks r new (Err e)
+pub head-failed : (told : Told) (place read : ℕ) (blocks : Blocks) (r new : Lines) (n : OpenFiles) (e : ResolveError) → Takes told place blocks r.open_files n (Err e) → place ≡ length told.asked.lines + read → read < MAX_LINES → OneLine told place blocks r new (Err e)
 head-failed told place read blocks r new n errors.OutOfMemory t at low = tt
 head-failed told place read blocks r new n (errors.At file number cause) t at low = λ fault. head-refused told place read blocks r file number cause t at low
 

@@ -1,6 +1,5 @@
 -- Paths, their components, and lists of them in whatever order.
-use Rattle.std.proofs.Common.{◌≡◌, ℕ, suc, ◌+◌, ◌<◌, Bool, true, false, eqb, List, [], ◌∷◌, ◌++◌, length, take, drop, get_or, Result, Ok, Err, refl, sym, ap, ◌∙◌, add-one, drop-cons, append_assoc, append-nil}
-use Rattle.std.specs.Bool.{OnFalse}
+use Rattle.std.proofs.Common.{◌≡◌, ℕ, ◌+◌, eqb, List, [], ◌∷◌, ◌++◌, length, take, get_or, Result, Ok, Err, refl, sym, ap, ◌∙◌}
 use Rattle.conf_rules.specs.declared.causes.TokenError.{TokenError}
 use Rattle.conf_rules.specs.declared.causes.TokenError.TheVariants.{Unknown, LoneAtEnd, FactMissing, NoVariable, OpenBrace, OutOfMemory}
 use Rattle.conf_rules.specs.Results.{◌>>=◌, Fails}
@@ -24,37 +23,6 @@ slash-end path n h = sym (ap ends_with_slash (last-split path n h) ∙ rw (ends_
 -- paths in front of those that are read
 abbrev pub onto : List Bytes → Result (List Bytes) TokenError → Result (List Bytes) TokenError
 onto front reading = reading >>= λ paths. Ok (front ++ paths)
-
-pub whole : (r : Result (List Bytes) TokenError) → onto [] r ≡ r
-whole (Ok paths) = refl
-whole (Err e) = refl
-
-regrouped : (front : List Bytes) (path : Bytes) (r : Result (List Bytes) TokenError) → onto front (r >>= λ paths. Ok (path ∷ paths)) ≡ onto (front ++ path ∷ []) r
-regrouped front path (Ok paths) = rw append_assoc refl
-regrouped front path (Err e) = refl
-
-pub one-more : (source : Source) (facts : Facts) (original : Bytes) (front : List Bytes) (left : List Bytes) (word : Bytes) (rest : List Bytes) (path : Bytes) (total : Result (List Bytes) TokenError)
-    → left ≡ word ∷ rest → path_from source facts original word ≡ Ok path → onto front (paths_from source facts original left) ≡ total → onto (front ++ path ∷ []) (paths_from source facts original rest) ≡ total
-one-more source facts original front left word rest path total e p so_far =
-    sym (regrouped front path (paths_from source facts original rest)) ∙ ap (λ (r : Result Bytes TokenError). onto front (r >>= λ path. paths_from source facts original rest >>= λ paths. Ok (path ∷ paths))) (sym p)
-    ∙ ap (λ ws. onto front (paths_from source facts original ws)) (sym e) ∙ so_far
-
-fails-one : (source : Source) (facts : Facts) (original : Bytes) (front : List Bytes) (word : Bytes) (rest : List Bytes) (e : TokenError) → path_from source facts original word ≡ Err e → onto front (paths_from source facts original (word ∷ rest)) ≡ Err e
-fails-one source facts original front word rest e p = ap (λ (r : Result Bytes TokenError). onto front (r >>= λ path. paths_from source facts original rest >>= λ paths. Ok (path ∷ paths))) p
-
-pub fails : (source : Source) (facts : Facts) (original : Bytes) (front : List Bytes) (left : List Bytes) (word : Bytes) (rest : List Bytes) (e : TokenError) (total : Result (List Bytes) TokenError)
-    → left ≡ word ∷ rest → Fails token_wants_memory e (path_from source facts original word) → onto front (paths_from source facts original left) ≡ total → Fails token_wants_memory e total
-fails source facts original front left word rest e total l h so_far = of (token_wants_memory e) h
-  where
-    of : (t : Bool) → OnFalse t (path_from source facts original word ≡ Err e) → OnFalse t (total ≡ Err e)
-    of true h = tt
-    of false h = sym so_far ∙ ap (λ ws. onto front (paths_from source facts original ws)) l ∙ fails-one source facts original front word rest e h
-
-pub done : (source : Source) (facts : Facts) (original : Bytes) (front : List Bytes) (left : List Bytes) (total : Result (List Bytes) TokenError) → left ≡ [] → onto front (paths_from source facts original left) ≡ total → total ≡ Ok front
-done source facts original front left total e so_far = sym so_far ∙ ap (λ ws. onto front (paths_from source facts original ws)) e ∙ ap Ok (append-nil front)
-
-pub next : {A : Type 0} (xs : List A) (i : ℕ) (x : A) → i < length xs → x ≡ get_or xs i x → drop i xs ≡ x ∷ drop (i + 1) xs
-next xs i x h e = rw (add-one, drop-cons xs i x) (ap (λ y. y ∷ drop (suc i) xs) (sym e))
 
 -- where facts are those that are told
 pub told-paths : (source : Source) (told : Told) (words : List Bytes) → paths_of source told words ≡ paths_from source told.facts told.asked.original words

@@ -1,9 +1,10 @@
 -- What a reader of lines gives, call by call.
-use Rattle.std.specs.Prelude.{◌≡◌, ℕ, ◌+◌, ◌-◌, ◌<◌, ◌≤◌, false, true, List, [], ◌∷◌, ◌++◌, length, Option, Some, None, Result, Ok, Err}
+use Rattle.std.specs.Prelude.{◌≡◌, ℕ, ◌+◌, ◌-◌, ◌<◌, ◌≤◌, Bool, false, true, List, [], ◌∷◌, ◌++◌, length, Option, Some, None, Result, Ok, Err}
 use Rattle.conf_rules.specs.declared.causes.Cause.{Cause}
 use Rattle.conf_rules.specs.declared.causes.ResolveError.{ResolveError}
 use Rattle.conf_rules.specs.declared.causes.ResolveError.TheVariants.{At, OutOfMemory}
 use Rattle.conf_rules.specs.declared.entry.Entry.TheVariants.{Nothing}
+use Rattle.conf_rules.specs.declared.maxima.TheConstants.{MAX_LINES}
 use Rattle.conf_rules.specs.Told.{Told}
 use Rattle.conf_rules.specs.Diagnostics.{is_fault}
 use Rattle.conf_rules.specs.Sources.{Line}
@@ -11,6 +12,7 @@ use Rattle.conf_rules.specs.Rows.{Row}
 use Rattle.conf_rules.specs.Entries.{entry_of}
 use Rattle.conf_rules.specs.Resolution.{counted, is_past_limit}
 use Rattle.conf_reader.specs.declared.line.ConfLine.{ConfLine}
+use Rattle.conf_reader.specs.declared.line_reader.LineReader.{LineReader}
 use Rattle.conf_reader.specs.declared.reader.Lines.{Lines}
 use Rattle.conf_reader.specs.declared.reader.Step.{Step}
 use Rattle.conf_reader.specs.declared.reader.Step.TheVariants as steps
@@ -91,7 +93,7 @@ OneLine told place blocks old new (Err (At file number cause)) =
 -- how many lines a step counts
 abbrev pub CountsOne : Step → ℕ → ℕ → Type 0
 CountsOne steps.End old new = Unit {0}
-CountsOne step old new = (new ≡ old + 1) × (old < 100000)
+CountsOne step old new = (new ≡ old + 1) × (old < MAX_LINES)
 
 -- comments so far
 pub record SoFar (told : Told) (place : ℕ) (blocks : Blocks) (old now : Lines) : Type 0 where
@@ -107,7 +109,7 @@ pub record SoFar (told : Told) (place : ℕ) (blocks : Blocks) (old now : Lines)
 pub record IsGivenFrom (old new : Lines) (line : ConfLine) : Type 0 where
   pub state : IsGiven new.open_files
   pub lies : (n : ℕ) → Bounded old.open_files n → LiesAt n (open_count new) line
-  pub further : 100000 - new.read < 100000 - old.read
+  pub further : MAX_LINES - new.read < MAX_LINES - old.read
 
 abbrev pub GivenStep : Step → Lines → Lines → Type 0
 GivenStep (steps.Given line) old new = IsGivenFrom old new line
@@ -118,3 +120,7 @@ abbrev pub IsOver : Result (Option ConfLine) ResolveError → Type 0
 IsOver (Ok None) = Unit {0}
 IsOver (Ok (Some given)) = ⊥
 IsOver (Err e) = Unit {0}
+
+-- whether a reader gives no line any more
+abbrev pub is_spent : LineReader → Bool
+is_spent reader = reader.over

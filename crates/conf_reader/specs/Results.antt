@@ -8,12 +8,18 @@ use Rattle.conf_rules.specs.declared.causes.Cause.{Cause}
 use Rattle.conf_rules.specs.declared.causes.Cause.TheVariants as causes
 use Rattle.conf_rules.specs.declared.causes.LexError.{LexError}
 use Rattle.conf_rules.specs.declared.causes.LexError.TheVariants as lex_errors
+use Rattle.conf_rules.specs.declared.causes.ValueError.{ValueError}
+use Rattle.conf_rules.specs.declared.causes.ValueError.TheVariants as value_errors
+use Rattle.conf_rules.specs.declared.causes.MatchError.{MatchError}
+use Rattle.conf_rules.specs.declared.causes.MatchError.TheVariants as match_errors
 use Rattle.conf_rules.specs.declared.causes.TokenError.{TokenError}
 use Rattle.conf_rules.specs.declared.causes.TokenError.TheVariants as token_errors
 use Rattle.conf_rules.specs.declared.causes.ResolveError.{ResolveError}
 use Rattle.conf_rules.specs.declared.causes.ResolveError.TheVariants.{At, OutOfMemory}
 use Rattle.conf_rules.specs.Diagnostics.{is_fault}
 use Rattle.conf_rules.specs.Texts.{Bytes}
+use Rattle.conf_match.specs.declared.evaluation.EvalError.{EvalError}
+use Rattle.conf_match.specs.declared.evaluation.EvalError.TheVariants as eval_errors
 use Rattle.conf_reader.specs.declared.errors.LineError.{LineError}
 use Rattle.conf_reader.specs.declared.errors.LineError.TheVariants as line_errors
 
@@ -21,6 +27,22 @@ use Rattle.conf_reader.specs.declared.errors.LineError.TheVariants as line_error
 abbrev pub of_lex : LexError → LineError
 of_lex lex_errors.OutOfMemory = line_errors.OutOfMemory
 of_lex e = line_errors.Refused (causes.Lex e)
+
+-- a value's error as one of a line
+abbrev pub of_value : ValueError → LineError
+of_value value_errors.OutOfMemory = line_errors.OutOfMemory
+of_value e = line_errors.Refused (causes.Value e)
+
+-- a criterion's error as one of a line
+abbrev pub of_match : MatchError → LineError
+of_match match_errors.OutOfMemory = line_errors.OutOfMemory
+of_match e = line_errors.Refused (causes.Match e)
+
+-- an evaluation's error as one of a line
+abbrev pub of_eval : EvalError → LineError
+of_eval eval_errors.OutOfMemory = line_errors.OutOfMemory
+of_eval (eval_errors.Token e) = line_errors.Refused (causes.Token e)
+of_eval eval_errors.RunFault = line_errors.Refused causes.RunFault
 
 -- a token's error as one of a line
 abbrev pub of_token : TokenError → LineError
@@ -32,7 +54,7 @@ abbrev pub of_file : FileError → LineError
 of_file file_errors.Failed = line_errors.Refused causes.ReadFault
 of_file file_errors.OutOfMemory = line_errors.OutOfMemory
 
--- whether a line's error is a fault of files
+-- whether a line's error is a fault of the outside
 abbrev pub is_line_fault : LineError → Bool
 is_line_fault line_errors.OutOfMemory = false
 is_line_fault (line_errors.Refused cause) = is_fault cause
@@ -74,7 +96,7 @@ abbrev pub is_run_fault : ResolveError → Bool
 is_run_fault (At file line causes.RunFault) = true
 is_run_fault e = false
 
--- whether a refusal is a fault of files
-abbrev pub is_read_fault : ResolveError → Bool
-is_read_fault OutOfMemory = false
-is_read_fault (At file line cause) = is_fault cause
+-- whether a refusal is a fault of the outside
+abbrev pub is_fault_at : ResolveError → Bool
+is_fault_at OutOfMemory = false
+is_fault_at (At file line cause) = is_fault cause

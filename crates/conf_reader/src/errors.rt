@@ -1,8 +1,9 @@
 ghost use Rattle.std.specs.Prelude.{◌≡◌};
 ghost use Rattle.conf_reader.specs.declared.errors.LineError.TheVariants as line_errors;
-ghost use Rattle.conf_reader.specs.Results.{of_lex, of_token, of_file, Refuses};
+ghost use Rattle.conf_reader.specs.Results.{of_lex, of_value, of_match, of_eval, of_token, of_file, Refuses};
 
-use conf_rules::{Cause, LexError, ResolveError, TokenError};
+use conf_match::EvalError;
+use conf_rules::{Cause, LexError, MatchError, ResolveError, TokenError, ValueError};
 use mux_outside::FileError;
 use ssh_fields::{OutOfMemory, Text};
 use std::alloc::Global;
@@ -21,6 +22,40 @@ impl From<LexError> for LineError {
         match e {
             LexError::OutOfMemory => LineError::OutOfMemory,
             other => LineError::Refused(Cause::Lex(other)),
+        }
+    }
+}
+
+impl From<ValueError> for LineError {
+    ghost from_gives = { λ e d. d ≡ of_value e };
+
+    fn from(e: ValueError) -> LineError {
+        match e {
+            ValueError::OutOfMemory => LineError::OutOfMemory,
+            other => LineError::Refused(Cause::Value(other)),
+        }
+    }
+}
+
+impl From<MatchError> for LineError {
+    ghost from_gives = { λ e d. d ≡ of_match e };
+
+    fn from(e: MatchError) -> LineError {
+        match e {
+            MatchError::OutOfMemory => LineError::OutOfMemory,
+            other => LineError::Refused(Cause::Match(other)),
+        }
+    }
+}
+
+impl From<EvalError> for LineError {
+    ghost from_gives = { λ e d. d ≡ of_eval e };
+
+    fn from(e: EvalError) -> LineError {
+        match e {
+            EvalError::OutOfMemory => LineError::OutOfMemory,
+            EvalError::Token(error) => LineError::Refused(Cause::Token(error)),
+            EvalError::RunFault => LineError::Refused(Cause::RunFault),
         }
     }
 }
@@ -55,7 +90,7 @@ impl From<OutOfMemory> for LineError {
     }
 }
 
-/// The refusal of a line of a file.
+/// The refusal of a line of a file; line 0 is the file itself.
 pub fn refuse(alloc: Global, file: &[u8], line: u64, error: LineError) -> ResolveError
     ensures { Refuses error file.now line result }
 {

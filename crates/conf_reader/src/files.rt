@@ -6,6 +6,7 @@ ghost use Rattle.conf_reader.specs.Known.{TellsFiles};
 ghost use Rattle.conf_reader.specs.Left.{IsFound};
 ghost use Rattle.conf_reader.specs.Looking.{FileFails};
 
+use conf_rules::MAX_FILE;
 use mux_outside::{FileError, Files};
 use ssh_fields::Text;
 
@@ -23,7 +24,7 @@ fn size_limit() -> usize
     ensures limit { result ≡ size_limit }
     ensures small { result < 2 ^ 32 }
 {
-    1_048_576
+    MAX_FILE
 }
 
 /// What a path holds.

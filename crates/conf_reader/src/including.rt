@@ -1,6 +1,6 @@
 // The files that the last line includes.
 
-ghost use Rattle.std.specs.Prelude.{◌≡◌, ◌-◌, IfSome, OnOk};
+ghost use Rattle.std.specs.Prelude.{◌≡◌, ◌-◌, IfSome, IsSome, OnOk};
 ghost use Rattle.std.specs.Option.{option_copied, option_and_then, option_map};
 ghost use Rattle.conf_tokens.specs.Known.{known};
 
@@ -40,17 +40,16 @@ impl OpenFiles {
 
     /// The refusal of the files that the last line names.
     pub fn include_refusal(&self, error: LineError) -> ResolveError
+        requires some { IsSome self.now.top }
         ensures { IfSome self.now.top (λ f. Refuses error f.path (f.number - 1) result) }
     {
-        match &self.top {
-            None => ResolveError::OutOfMemory,
-            Some(top) => refuse(
-                self.alloc,
-                top.path.as_bytes(),
-                top.number.saturating_sub(1),
-                error,
-            ),
-        }
+        let Some(top) = &self.top else { unreachable!() };
+        refuse(
+            self.alloc,
+            top.path.as_bytes(),
+            top.number.saturating_sub(1),
+            error,
+        )
     }
 
     /// Finds the files that the last line includes.

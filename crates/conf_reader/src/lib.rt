@@ -15,5 +15,6 @@ mod stack;
 mod steps;
 mod taking;
 
+pub use errors::{LineError, refuse};
 pub use line::ConfLine;
 pub use line_reader::LineReader;

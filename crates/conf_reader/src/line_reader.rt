@@ -1,10 +1,10 @@
-ghost use Rattle.std.specs.Prelude.{◌≡◌, ◌≤◌, ◌+◌, ◌++◌, ◌∷◌, [], ℕ, IfOk, IfSome, OnOk, codes};
+ghost use Rattle.std.specs.Prelude.{◌≡◌, ◌≤◌, ◌+◌, ◌++◌, ◌∷◌, [], ℕ, IfOk, IfSome, OnOk, Ok, None, codes};
 ghost use Rattle.conf_tokens.specs.Known.{known};
 ghost use Rattle.std.specs.Prelude.{true, false, IfErr};
 ghost use Rattle.std.specs.List.{list_all};
 ghost use Rattle.conf_reader.specs.Firsts.{firsts_of};
 ghost use Rattle.conf_reader.specs.Left.{is_plain_first};
-ghost use Rattle.conf_reader.specs.Between.{is_between};
+ghost use Rattle.conf_reader.specs.Between.{is_between, ends_where};
 
 use crate::line::ConfLine;
 use crate::reader::{FirstFile, Lines};
@@ -107,14 +107,17 @@ fn first_files(
 
 /// Gives the lines of all files that are asked for one by one, without comments and empty lines.
 /// The files that an Include line names are opened by the call behind the one that gives it. Behind
-/// a refusal, and at the end, it gives no line.
+/// a refusal, a fault and want of memory, and at the end, it gives no line.
 #[derive(Drop)]
 pub struct LineReader {
     lines: Lines,
     facts: Facts,
     original: Text,
+    // Whether no line comes any more.
+    over: bool,
     ghost between: { is_between lines.open_files ≡ true },
     ghost plain: { list_all is_plain_first lines.firsts.items ≡ true },
+    ghost ended: { ends_where over lines ≡ true },
 }
 
 impl LineReader {
@@ -123,7 +126,7 @@ impl LineReader {
     ghost use Rattle.conf_reader.specs.Blocks.{Blocks};
     ghost use Rattle.conf_reader.specs.Left.{left, Bounded};
     ghost use Rattle.conf_reader.specs.Moving.{ReadsFor};
-    ghost use Rattle.conf_reader.specs.Reads.{IsGivenFrom, IsOver, open_count};
+    ghost use Rattle.conf_reader.specs.Reads.{IsGivenFrom, IsOver, open_count, is_spent};
     ghost use Rattle.conf_reader.specs.Results.{HasReadCause, is_run_fault};
     ghost use Rattle.conf_reader.specs.Looking.{Test, passes, Looks};
 
@@ -141,16 +144,18 @@ impl LineReader {
         ensures looks { IfOk result (λ reader. (test : Test) (told : Told)
             → passes test told reader.lines.open_files ≡ true) }
         ensures read { IfOk result (λ reader. reader.lines.read ≡ 0) }
+        ensures fresh { IfOk result (λ reader. is_spent reader ≡ false) }
     {
         let firsts = first_files(alloc, &asked.from, &facts.home)?;
         Ok(LineReader {
             lines: Lines::new(alloc, firsts),
             facts: copied_facts(alloc, facts)?,
             original: Text::copy(alloc, asked.original.as_bytes())?,
+            over: false,
         })
     }
 
-    /// The next line of the files that says something; `None` at the end, and behind a refusal.
+    /// The next line of the files that says something; `None` at the end, and behind every `Err`.
     /// Refused are files, line counts, zero bytes, forms of lines, and what an Include line names,
     /// each at its line; a fault is one of reading, comes only where that of `files` rose, and is
     /// told at the Include line that names what is read, or, for a file that no line includes, at
@@ -162,6 +167,8 @@ impl LineReader {
             IfSome given (IsGivenFrom self.old.lines self.new.lines)) }
         ensures ended { IsOver result → (told : Told) (place : ℕ) (blocks : Blocks)
             → left told place blocks self.new.lines ≡ [] }
+        ensures over { is_spent self.old ≡ true → result ≡ Ok None }
+        ensures spent { IsOver result → is_spent self.new ≡ true }
         ensures facts { (self.new.facts ≡ self.old.facts)
             × (self.new.original ≡ self.old.original) }
         ensures told { F.told files.new ≡ F.told files.old }
@@ -171,11 +178,15 @@ impl LineReader {
             (F.failed files.old) (F.failed files.new) self.old.lines self.new.lines result }
         ensures firsts { self.new.lines.firsts ≡ self.old.lines.firsts }
     {
+        if self.over {
+            return Ok(None);
+        }
         let given = self
             .lines
             .next(&self.facts, self.original.as_bytes(), files);
         if !matches!(given, Ok(Some(_))) {
             self.lines.end();
+            self.over = true;
         }
         given
     }

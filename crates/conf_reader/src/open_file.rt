@@ -49,7 +49,7 @@ impl OpenFile {
     {
         let text = self.text.as_bytes();
         let Some((end, next)) = next_line(text, self.at) else {
-            return Err(LineError::OutOfMemory);
+            unreachable!()
         };
         match split_head(&text[self.at..end]) {
             Err(e) => Err(LineError::Refused(Cause::Lex(e))),

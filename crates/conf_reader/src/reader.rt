@@ -92,7 +92,7 @@ impl Lines {
         ensures count { self.new.read ≡ self.old.read }
     {
         let Some(first) = self.next_file() else {
-            return Ok(());
+            unreachable!()
         };
         let path = Text::copy(self.alloc, first.path.as_bytes())?;
         let system = first.system;
@@ -119,18 +119,19 @@ impl Lines {
 
     /// The refusal of the first file that is opened next.
     fn file_refusal(&self, cause: Cause) -> ResolveError
+        requires { self.now.next_first < length self.now.firsts.items }
         ensures { IfSome (slice_get self.now.firsts.items self.now.next_first) (λ f.
             Refuses (line_errors.Refused cause) f.path 0 result) }
     {
-        match self.next_file() {
-            None => ResolveError::OutOfMemory,
-            Some(first) => refuse(
-                self.alloc,
-                first.path.as_bytes(),
-                0,
-                LineError::Refused(cause),
-            ),
-        }
+        let Some(first) = self.next_file() else {
+            unreachable!()
+        };
+        refuse(
+            self.alloc,
+            first.path.as_bytes(),
+            0,
+            LineError::Refused(cause),
+        )
     }
 
     /// Opens the next first file; `false` where there is none.

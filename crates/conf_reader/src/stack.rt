@@ -1,13 +1,13 @@
 ghost use Rattle.std.specs.Prelude.{◌≡◌, ◌<◌, ◌≤◌, ℕ, IfOk, IfErr, IfSome, OnOk, IsSome, nat_lt, false, length, Some, None, []};
 ghost use Rattle.conf_rules.specs.declared.causes.Cause.TheVariants as causes;
-ghost use Rattle.conf_rules.specs.Sources.{size_limit};
+ghost use Rattle.conf_rules.specs.Sources.{depth_limit, size_limit};
 ghost use Rattle.conf_rules.specs.Told.{Told};
 ghost use Rattle.conf_reader.specs.Blocks.{Blocks};
 
 use crate::errors::{LineError, refuse};
 use crate::files::{Found, read_file};
 use crate::open_file::OpenFile;
-use conf_rules::{Cause, ResolveError};
+use conf_rules::{Cause, MAX_DEPTH, ResolveError};
 use mux_outside::{FileError, Files};
 use ssh_fields::{OutOfMemory, Text};
 use std::alloc::Global;
@@ -38,7 +38,7 @@ pub enum Stand {
 impl OpenFiles {
     ghost use Rattle.conf_reader.specs.Left.{open_left, IsReady, IsSettled, work, Moves, Names, RefusesTop, RefusesNext, StandOf, IsFound};
     ghost use Rattle.conf_reader.specs.Moving.{NamesPath, Settles, KeepsLeft, KeepsBounds, MovesOver};
-    ghost use Rattle.conf_reader.specs.Results.{HasFilesCause, is_read_fault};
+    ghost use Rattle.conf_reader.specs.Results.{HasFilesCause, is_fault_at};
     ghost use Rattle.conf_reader.specs.Looking.{KeepsLooks, MovesLooks};
 
     /// No file.
@@ -93,7 +93,7 @@ impl OpenFiles {
         requires ready { IsReady self.old }
         requires named { NamesPath self.old.top }
         requires some { IsSome self.old.top }
-        requires deep { length self.old.below.items < 16 }
+        requires deep { length self.old.below.items < depth_limit }
         ensures left { OnOk result ((told : Told) (place : ℕ) (blocks : Blocks)
             → Names self.old.top (λ path. told.content path ≡ Some text)
             → nat_lt size_limit (length text) ≡ false → open_left told place blocks self.old
@@ -104,12 +104,12 @@ impl OpenFiles {
         ensures looks { OnOk result (KeepsLooks self.old self.new) }
     {
         let Some(mut top) = self.top.take() else {
-            return Ok(());
+            unreachable!()
         };
-        let path = match top.next_path() {
-            None => return Ok(()),
-            Some(path) => Text::copy(self.alloc, path.as_bytes())?,
+        let Some(path) = top.next_path() else {
+            unreachable!()
         };
+        let path = Text::copy(self.alloc, path.as_bytes())?;
         top.pass();
         self.below.push(top)?;
         self.top = Some(OpenFile::begin(self.alloc, path, text));
@@ -122,31 +122,31 @@ impl OpenFiles {
         requires some { IsSome self.now.top }
         ensures { RefusesTop self.now.top cause result }
     {
-        match &self.top {
-            None => ResolveError::OutOfMemory,
-            Some(top) => refuse(
-                self.alloc,
-                top.path.as_bytes(),
-                top.number.saturating_sub(1),
-                LineError::Refused(cause),
-            ),
-        }
+        let Some(top) = &self.top else { unreachable!() };
+        refuse(
+            self.alloc,
+            top.path.as_bytes(),
+            top.number.saturating_sub(1),
+            LineError::Refused(cause),
+        )
     }
 
     /// The refusal of the file that is opened next.
     pub fn too_large(&self) -> ResolveError
         requires some { IsSome self.now.top }
+        requires named { NamesPath self.now.top }
         ensures { RefusesNext self.now.top causes.TooLarge result }
     {
-        match self.top.as_ref().and_then(|top| top.next_path()) {
-            None => ResolveError::OutOfMemory,
-            Some(path) => refuse(
-                self.alloc,
-                path.as_bytes(),
-                0,
-                LineError::Refused(Cause::TooLarge),
-            ),
-        }
+        let Some(top) = &self.top else { unreachable!() };
+        let Some(path) = top.next_path() else {
+            unreachable!()
+        };
+        refuse(
+            self.alloc,
+            path.as_bytes(),
+            0,
+            LineError::Refused(Cause::TooLarge),
+        )
     }
 
     /// Opens what the path holds that is opened next.
@@ -162,7 +162,7 @@ impl OpenFiles {
         ensures less { OnOk result (work self.new < work self.old) }
         ensures bounded { OnOk result (KeepsBounds self.old self.new) }
         ensures looks { OnOk result (KeepsLooks self.old self.new) }
-        ensures quiet { IfErr result (λ e. is_read_fault e ≡ false) }
+        ensures quiet { IfErr result (λ e. is_fault_at e ≡ false) }
     {
         match found {
             Found::Nothing => {
@@ -170,14 +170,14 @@ impl OpenFiles {
                 Ok(())
             }
             Found::TooLarge => {
-                if self.below.len() < 16 {
+                if self.below.len() < MAX_DEPTH {
                     Err(self.too_large())
                 } else {
                     Err(self.refusal(Cause::TooDeep))
                 }
             }
             Found::Holds(text) => {
-                if self.below.len() < 16 {
+                if self.below.len() < MAX_DEPTH {
                     match self.enter(text) {
                         Ok(()) => Ok(()),
                         Err(_) => Err(ResolveError::OutOfMemory),

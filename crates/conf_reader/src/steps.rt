@@ -10,7 +10,7 @@ use crate::errors::LineError;
 use crate::line::ConfLine;
 use crate::reader::{Lines, Step};
 use crate::stack::OpenFiles;
-use conf_rules::{Cause, ResolveError};
+use conf_rules::{Cause, MAX_LINES, ResolveError};
 use mux_outside::{Facts, Files};
 
 impl Lines {
@@ -19,6 +19,7 @@ impl Lines {
     ghost use Rattle.conf_reader.specs.Left.{left, IsReady, IsGiven, is_plain_first, Bounded};
     ghost use Rattle.conf_reader.specs.Moving.{KeepsBounds, AllExpand, TakesOne, ReadsOver, ReadsFor};
     ghost use Rattle.conf_reader.specs.Results.{HasFilesCause};
+    ghost use Rattle.conf_reader.specs.Between.{is_ended};
     ghost use Rattle.conf_reader.specs.Looking.{Test, passes, StepLooks, LineLooks, AllExpandLooks, Looks};
 
     /// Takes one line of all files.
@@ -42,7 +43,7 @@ impl Lines {
             Ok(false) => return Ok(Step::End),
             Ok(true) => {}
         }
-        if self.read >= 100_000 {
+        if self.read >= MAX_LINES {
             return Err(
                 self.open_files
                     .line_refusal(LineError::Refused(Cause::TooManyLines)),
@@ -127,6 +128,7 @@ impl Lines {
     pub fn end(&mut self)
         ensures left { (told : Told) (place : ℕ) (blocks : Blocks)
             → left told place blocks self.new ≡ [] }
+        ensures ended { is_ended self.new ≡ true }
         ensures given { IsGiven self.new.open_files }
         ensures firsts { self.new.firsts ≡ self.old.firsts }
         ensures bounded { Bounded self.new.open_files 0 }

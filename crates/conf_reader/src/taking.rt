@@ -2,6 +2,7 @@
 
 ghost use Rattle.std.specs.Prelude.{◌≡◌, ◌<◌, ◌≤◌, ◌+◌, ℕ, IfOk, IfErr, IfSome, IsSome, false, length, None, Ok};
 ghost use Rattle.std.specs.Option.{option_map};
+ghost use Rattle.conf_rules.specs.Sources.{depth_limit};
 ghost use Rattle.conf_rules.specs.Told.{Told};
 ghost use Rattle.conf_reader.specs.Blocks.{Blocks};
 
@@ -15,18 +16,16 @@ use ssh_fields::{OutOfMemory, Text};
 impl OpenFiles {
     ghost use Rattle.conf_reader.specs.Left.{IsReady, stack, Takes, IsGiven, IsGivenBy, gone, HeadIs};
     ghost use Rattle.conf_reader.specs.Moving.{IsAtLine, KeepsBounds};
-    ghost use Rattle.conf_reader.specs.Results.{Refuses, is_read_fault};
+    ghost use Rattle.conf_reader.specs.Results.{Refuses, is_fault_at};
     ghost use Rattle.conf_reader.specs.Looking.{TakesLooks};
 
     /// The line that the last file says, as it is given.
     pub fn given(&self, said: Said) -> Result<ConfLine, OutOfMemory>
         requires some { IsSome self.now.top }
-        requires few { length self.now.below.items ≤ 16 }
+        requires few { length self.now.below.items ≤ depth_limit }
         ensures { IfOk result (IsGivenBy self.now said) }
     {
-        let Some(top) = &self.top else {
-            return Err(OutOfMemory);
-        };
+        let Some(top) = &self.top else { unreachable!() };
         let Said { keyword, rest } = said;
         Ok(ConfLine {
             file: Text::copy(self.alloc, top.path.as_bytes())?,
@@ -59,20 +58,17 @@ impl OpenFiles {
         requires line { IsAtLine self.now.top }
         ensures { IfSome self.now.top (λ f. HeadIs f result) }
     {
-        match &self.top {
-            None => Err(LineError::OutOfMemory),
-            Some(top) => top.head(self.alloc),
-        }
+        let Some(top) = &self.top else { unreachable!() };
+        top.head(self.alloc)
     }
 
     /// The refusal of the next line of the last file.
     pub fn line_refusal(&self, error: LineError) -> ResolveError
+        requires some { IsSome self.now.top }
         ensures { IfSome self.now.top (λ f. Refuses error f.path f.number result) }
     {
-        match &self.top {
-            None => ResolveError::OutOfMemory,
-            Some(top) => refuse(self.alloc, top.path.as_bytes(), top.number, error),
-        }
+        let Some(top) = &self.top else { unreachable!() };
+        refuse(self.alloc, top.path.as_bytes(), top.number, error)
     }
 
     /// Takes the next line of the last file; `None` is a comment.
@@ -91,7 +87,7 @@ impl OpenFiles {
             × (length (stack self.new) ≡ l.depth + 1))) }
         ensures bounded { result ≡ Ok None → KeepsBounds self.old self.new }
         ensures looks { TakesLooks self.old self.new result }
-        ensures quiet { IfErr result (λ e. is_read_fault e ≡ false) }
+        ensures quiet { IfErr result (λ e. is_fault_at e ≡ false) }
     {
         let Next { next, said } = match self.head() {
             Ok(next) => next,

@@ -17,11 +17,11 @@ use Rattle.conf_reader.specs.Blocks.{open_behind}
 use Rattle.conf_reader.specs.Firsts.{firsts_of}
 use Rattle.conf_reader.specs.Left.{left}
 use Rattle.conf_reader.specs.Reads.{GivesNext}
-use Rattle.conf_reader.specs.Results.{is_run_fault}
+use Rattle.conf_reader.specs.Results.{is_run_fault, is_fault_at}
 use Rattle.conf_reader.specs.Looking.{Test, all_pass, TellsFailed}
 use Rattle.conf_fold.specs.declared.fold.Fold.{Fold}
 use Rattle.conf_fold.specs.Begins.{asked_rows, asked_again, SecondBegins}
-use Rattle.conf_fold.specs.Results.{FailsAt, HasRunCause, is_fault_at}
+use Rattle.conf_fold.specs.Results.{FailsAt, HasRunCause}
 use Rattle.conf_fold.specs.Stands.{Stands, IsNext, next_row}
 use Rattle.conf_fold.proofs.OrderLemmas.{from, rows-on, rows-end, row-line, from-front}
 use Rattle.conf_resolve.specs.Passes.{Commands, commands, AreAgain, final_rows, first_rows}

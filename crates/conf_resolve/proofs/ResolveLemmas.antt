@@ -194,9 +194,6 @@ twice told old new mid (Err (errors.At file number cause)) s b p = λ fault. ap 
 
 -- ---- commands
 
-execs-are : (told : Told) → execs told ≡ commands (all_rows told)
-execs-are told = refl
-
 -- the command line alone runs nothing
 pub asked-commands : (told : Told) → commands (asked_rows told) ≡ []
 asked-commands told = asked-quiet told First told.asked.lines [] 0

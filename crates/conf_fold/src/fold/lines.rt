@@ -7,15 +7,15 @@ ghost use Rattle.conf_rules.specs.Rows.{word_in, but_none};
 ghost use Rattle.conf_tokens.specs.Seen.{seen};
 ghost use Rattle.conf_tokens.specs.Known.{known};
 ghost use Rattle.conf_fold.specs.Entries.{entry_fits};
-ghost use Rattle.conf_fold.specs.Results.{Evaluated, GivesLine, Refuses, RanUnless, breaks_line, breaks_off, FailsInLine, FailsAt, HasLineCause, HasRunCause, is_line_fault};
+ghost use Rattle.conf_reader.specs.Results.{Refuses, is_line_fault};
+ghost use Rattle.conf_fold.specs.Results.{Evaluated, GivesLine, RanUnless, breaks_line, breaks_off, FailsInLine, FailsAt, HasLineCause, HasRunCause};
 ghost use Rattle.conf_fold.specs.Stands.{OnNext, WhereTold, FoldsEntry, Folds, next_row, setting, view_of, entry_so_far};
 ghost use Rattle.conf_rules.specs.declared.key.Key.TheVariants as keys;
 
 use super::Fold;
 use crate::entries::file_entry;
-use crate::errors::{LineError, refuse};
 use conf_match::eval;
-use conf_reader::ConfLine;
+use conf_reader::{ConfLine, LineError, refuse};
 use conf_rules::{Criteria, Entry, Key, ResolveError};
 use conf_tokens::View;
 use mux_outside::{Facts, Runner};

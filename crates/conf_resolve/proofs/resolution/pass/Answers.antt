@@ -4,6 +4,7 @@ use Rattle.conf_rules.specs.declared.asked.Asked.{Asked}
 use Rattle.conf_rules.specs.Told.{Facts}
 use Rattle.conf_reader.specs.Firsts.{firsts_of}
 use Rattle.conf_resolve.specs.Passes.{final_rows}
+use Rattle.conf_resolve.proofs.CauseLemmas.{run-causes}
 use Rattle.conf_resolve.proofs.DepthLemmas.{depth-low, given-bounded, more-bounded}
 use Rattle.conf_resolve.proofs.PassLemmas.{goes-on, line-fails, reader-fails, all-given, line-ran, reader-ran, all-ran, start-ran, none-given}
 use Rattle.conf_resolve.proofs.ResolveLemmas.{underway}
@@ -64,6 +65,11 @@ returns-in_err-line-2-clause-ran g c = λ told asked facts tells status pass row
     (λ rows place l stands next. c.in_err-line-2.ensures.folds told pass rows u.blocks place l facts (rw c.loop-reader.invariant.runner status) stands next)
     (λ rows place l stands next. c.in_err-line-2.ensures.ran told pass rows u.blocks place l facts (rw c.loop-reader.invariant.runner status) stands next)
     began)
+
+pub returns-in_err-line-2-clause-cause : goal.returns-in_err-line-2-clause-cause
+returns-in_err-line-2-clause-cause g c =
+    let p = err_from_is_err_and c.from_residual-in_err-line-2.result c.from_residual-in_err-line-2.ensures.1 in
+    rw (p.1, p.2) (run-causes _ _ _ _ _ _ (c.in_ok-line.ensures.cause ∙ c.loop-reader.invariant.file_faults) c.loop-reader.invariant.run_faults c.in_err-line-2.ensures.cause)
 
 pub loop-reader-preserved : goal.loop-reader-preserved
 loop-reader-preserved g c =

@@ -1,4 +1,5 @@
 use Rattle.std.proofs.Common.{◌≡◌, ◌-◌, List, length}
+use Rattle.conf_rules.specs.declared.maxima.TheConstants.{MAX_LINES}
 use Rattle.conf_rules.specs.Told.{Told}
 use Rattle.conf_rules.specs.Rows.{Row, Pass}
 use Rattle.conf_match.specs.Evaluated.{TellsStatus}
@@ -26,4 +27,4 @@ invariant-loop-reader g l = record {
 }
 
 abbrev pub decreases-loop-reader : goal.decreases-loop-reader
-decreases-loop-reader g l = 100000 - l.reader.lines.read
+decreases-loop-reader g l = MAX_LINES - l.reader.lines.read

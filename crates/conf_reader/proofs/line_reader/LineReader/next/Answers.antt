@@ -1,5 +1,14 @@
-use Rattle.std.proofs.Common.{◌∙◌, sym}
+use Rattle.std.proofs.Common.{◌∙◌, sym, subst}
+use Rattle.conf_reader.specs.Reads.{AreIdle}
+use Rattle.conf_reader.proofs.BetweenLemmas.{over-left}
 use Rattle.conf_reader.proofs.line_reader.LineReader.next.Goals as goal
+
+pub returns-then-self-clause-reads : goal.returns-then-self-clause-reads
+returns-then-self-clause-reads g c = λ told place blocks tells facts original at bounded.
+    subst (λ ls. AreIdle told place ls) (sym (over-left told place blocks c.args.self.now.over c.args.self.now.lines c.args.self.now.ended c.if-self.true)) tt
+
+pub returns-then-self-clause-ended : goal.returns-then-self-clause-ended
+returns-then-self-clause-ended g c = λ over told place blocks. over-left told place blocks c.args.self.now.over c.args.self.now.lines c.args.self.now.ended c.if-self.true
 
 pub returns-else-not-matches-clause-reads : goal.returns-else-not-matches-clause-reads
 returns-else-not-matches-clause-reads g c = λ told place blocks tells facts original at bounded. c.next-given.ensures.reads told place blocks tells facts (original ∙ sym c.as_bytes.ensures) at bounded

@@ -1,4 +1,5 @@
 use Rattle.std.proofs.Common.{◌≡◌, ◌≤◌, ◌+◌, ◌-◌, ℕ, true, length}
+use Rattle.conf_rules.specs.declared.maxima.TheConstants.{MAX_LINES}
 use Rattle.conf_rules.specs.Told.{Told}
 use Rattle.conf_reader.specs.Known.{TellsFiles}
 use Rattle.conf_reader.specs.Blocks.{Blocks}
@@ -20,4 +21,4 @@ invariant-loop-line g l = record {
 }
 
 abbrev pub decreases-loop-line : goal.decreases-loop-line
-decreases-loop-line g l = 100000 - l.self.read
+decreases-loop-line g l = MAX_LINES - l.self.read

@@ -11,7 +11,7 @@ returns-clause-left c = λ told place blocks names small.
     let top : c.args.self.now.top ≡ Some f = sym c.in-Some.ensures.value in
     let h : (f.include ≡ None) × (f.next < length f.named) = rw top at c.requires.named in
     let path : slice_get f.named f.next ≡ Some c.in-Some-next_path.path.now = sym c.in-Some-next_path.ensures in
-    open-enters told place blocks c.args.self.now c.push.new.self.items f c.pass.new.self c.begin.result c.in-Some-next_path.path.now c.args.text c.requires.ready c.requires.deep top h.0 h.1 path (rw (top, path) at names) small c.in_ok-push.ensures.items c.pass.ensures (c.begin.ensures ∙ ap (λ p. record { path = p; text = c.args.text; at = 0; number = 1; include = None; named = []; next = 0 }) (c.in_ok-path-in-Some-next_path.ensures ∙ c.as_bytes.ensures))
+    open-enters told place blocks c.args.self.now c.push.new.self.items f c.pass.new.self c.begin.result c.in-Some-next_path.path.now c.args.text c.requires.ready c.requires.deep top h.0 h.1 path (rw (top, path) at names) small c.in_ok-push.ensures.items c.pass.ensures (c.begin.ensures ∙ ap (λ p. record { path = p; text = c.args.text; at = 0; number = 1; include = None; named = []; next = 0 }) (c.in_ok-path.ensures ∙ c.as_bytes.ensures))
 
 pub returns-clause-looks : goal.returns-clause-looks
 returns-clause-looks c = λ told test h.

@@ -2,17 +2,17 @@ use Rattle.std.proofs.Common.{[], refl, arith}
 use Rattle.conf_reader.proofs.OpenLemmas.{moves-deep, moves-large, holds-names}
 use Rattle.conf_reader.proofs.stack.OpenFiles.open.Goals as goal
 
-pub returns-then-len-lt16-clause-moves : goal.returns-then-len-lt16-clause-moves
-returns-then-len-lt16-clause-moves c = λ told place blocks names.
+pub returns-then-len-lt-MAX_DEPTH-clause-moves : goal.returns-then-len-lt-MAX_DEPTH-clause-moves
+returns-then-len-lt-MAX_DEPTH-clause-moves c = λ told place blocks names.
     moves-large told place blocks c.args.self.now [] c.too_large.result c.args.self.now.top refl c.requires.some c.requires.named (omega arith) (rw c.in-TooLarge.is at names) c.too_large.ensures
 
-pub returns-else-len-lt16-clause-moves : goal.returns-else-len-lt16-clause-moves
-returns-else-len-lt16-clause-moves c = λ told place blocks names.
+pub returns-else-len-lt-MAX_DEPTH-clause-moves : goal.returns-else-len-lt-MAX_DEPTH-clause-moves
+returns-else-len-lt-MAX_DEPTH-clause-moves c = λ told place blocks names.
     moves-deep told place blocks c.args.self.now [] c.args.found c.refusal.result c.args.self.now.top refl c.requires.some c.requires.named (let k = c.requires.ready.few in omega (arith, k)) (λ e. let k = c.in-TooLarge.is in cc) names c.refusal.ensures
 
-pub returns-else-len-lt16-2-clause-moves : goal.returns-else-len-lt16-2-clause-moves
-returns-else-len-lt16-2-clause-moves c = λ told place blocks names.
-    moves-deep told place blocks c.args.self.now [] c.args.found c.refusal-else-len-lt16-2.result c.args.self.now.top refl c.requires.some c.requires.named (let k = c.requires.ready.few in omega (arith, k)) (λ e. let k = c.in-Holds.is in cc) names c.refusal-else-len-lt16-2.ensures
+pub returns-else-len-lt-MAX_DEPTH-2-clause-moves : goal.returns-else-len-lt-MAX_DEPTH-2-clause-moves
+returns-else-len-lt-MAX_DEPTH-2-clause-moves c = λ told place blocks names.
+    moves-deep told place blocks c.args.self.now [] c.args.found c.refusal-else-len-lt-MAX_DEPTH-2.result c.args.self.now.top refl c.requires.some c.requires.named (let k = c.requires.ready.few in omega (arith, k)) (λ e. let k = c.in-Holds.is in cc) names c.refusal-else-len-lt-MAX_DEPTH-2.ensures
 
 pub returns-in-Ok-clause-moves : goal.returns-in-Ok-clause-moves
 returns-in-Ok-clause-moves c = λ told place blocks names.
