@@ -52,36 +52,11 @@ impl Model for Engine {
 
     ghost Value = { State };
 
-    ghost view = { λ a. record {
-      pid = a.pid;
-      core = a.core;
-      server = a.server;
-      up = a.up;
-      clients = a.clients.items;
-      refused = a.refused;
-      leaving = a.leaving.items;
-      waiting =
-          a.waiting;
-      listening = a.listening;
-      ended = a.ended;
-      starved = a.starved;
-    } };
+    ghost use Rattle.mux_machine.specs.Shown.{state_of};
 
-    ghost invariant = { λ a.
-        IsSound (record {
-          pid = a.pid;
-          core = a.core;
-          server = a.server;
-          up = a.up;
-          clients = a.clients.items;
-          refused = a.refused;
-          leaving = a.leaving.items;
-          waiting =
-              a.waiting;
-          listening = a.listening;
-          ended = a.ended;
-          starved = a.starved;
-        }) };
+    ghost view = { state_of };
+
+    ghost invariant = { λ a. IsSound (state_of a) };
 }
 
 fn went_by(ended: Option<Ended>) -> Went
