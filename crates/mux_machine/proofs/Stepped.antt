@@ -146,10 +146,6 @@ asking-goes May before told s new e mark live d t = absurd d
 
 -- ---- from the clauses of the calls
 
-pub on-all : {T E Q : Type 0} (r : Result T E) → Q → OnOk r Q
-on-all (Ok x) q = q
-on-all (Err e) q = tt
-
 pub lost-on : {T E : Type 0} (r : Result T E) (s new : State) (k : ℕ) → OnOk r (is_served s.clients k ≡ true → LosesAt s new k) → OnOk r (is_served s.clients k ≡ false → new ≡ s) → OnOk r (Lost s new k)
 lost-on (Ok x) s new k loses stays = record { loses = loses; stays = stays }
 lost-on (Err e) s new k loses stays = tt

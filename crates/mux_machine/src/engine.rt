@@ -154,9 +154,13 @@ impl Engine {
             Event::FromServer(bytes) => self.hear(bytes),
             Event::ServerEnd => {
                 let cause = self.server.end();
-                self.end(cause)
+                self.end(cause);
+                Ok(())
             }
-            Event::ServerFailed => self.end(Ended::ServerFailed),
+            Event::ServerFailed => {
+                self.end(Ended::ServerFailed);
+                Ok(())
+            }
         }
     }
 
@@ -257,11 +261,10 @@ impl Engine {
     }
 
     // The run is over.
-    fn end(&mut self, cause: Ended) -> Result<(), OutOfMemory>
+    fn end(&mut self, cause: Ended)
         requires starved { self.old.starved ≡ true }
         ensures { self.new ≡ over self.old cause }
     {
         self.ended = Some(cause);
-        Ok(())
     }
 }
