@@ -1,5 +1,5 @@
 -- What the code of each event does is what the laws take.
-use Rattle.std.proofs.Common.{◌≡◌, ◌≢◌, ℕ, Bool, true, false, List, [], ◌∷◌, ◌++◌, Option, Some, None, refl, sym, ap, ◌∙◌, subst, inl, inr, cond, append-nil, length, Result, Ok, Err, OnOk}
+use Rattle.std.proofs.Common.{◌≡◌, ◌≢◌, ℕ, Bool, true, false, List, [], ◌∷◌, Option, Some, None, refl, sym, ap, ◌∙◌, subst, inl, inr, length, Result, Ok, Err, OnOk}
 use Rattle.mux_outside.specs.House.{Asked}
 use Rattle.mux_outside.specs.declared.house.HouseReply.{HouseReply}
 use Rattle.mux_outside.specs.declared.mark.Mark.{Mark}
@@ -7,10 +7,7 @@ use Rattle.mux_outside.specs.declared.mark.Mark.TheVariants.{Accepts, Gets, Ends
 use Rattle.mux_history.specs.declared.broke.Break.TheVariants as broke
 use Rattle.mux_history.specs.declared.ended.Ended.{Ended}
 use Rattle.mux_history.specs.declared.ended.Ended.TheVariants as ended
-use Rattle.mux_clients.specs.State.{ClientState, part}
-use Rattle.mux_clients.specs.Stands.{is_lost, is_read}
-use Rattle.mux_clients.specs.Entering.{new_client}
-use Rattle.mux_clients.specs.Losing.{Loses}
+use Rattle.mux_clients.specs.Stands.{is_read}
 use Rattle.mux_clients.specs.Server.{stream_end}
 use Rattle.mux_machine.specs.declared.event.Event.{Event}
 use Rattle.mux_machine.specs.declared.event.Event.TheVariants as event

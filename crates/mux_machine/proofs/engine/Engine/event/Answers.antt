@@ -1,4 +1,4 @@
-use Rattle.std.proofs.Common.{◌≡◌, Some, sym, ap, ◌∙◌}
+use Rattle.std.proofs.Common.{sym, ap, ◌∙◌}
 use Rattle.mux_machine.specs.Shown.{state_of}
 use Rattle.mux_machine.specs.State.{State}
 use Rattle.mux_machine.proofs.Fed.{ends-shown, goes-shown}
