@@ -10,7 +10,7 @@ use Rattle.mux_history.specs.Journal.{items_in, log_of_journal}
 use Rattle.mux_clients.specs.Asked.{asked_by, asked_of}
 use Rattle.mux_clients.proofs.Asks.{tells_none}
 use Rattle.mux_machine.specs.State.{State}
-use Rattle.mux_machine.specs.Stands.{GoesAlone, GoesOn, IsAllowed, Stands, log, setting}
+use Rattle.mux_machine.specs.Stands.{GoesAlone, GoesOn, Stands, log, setting}
 
 -- ---- more rows only add asks
 

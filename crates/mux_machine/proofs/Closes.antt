@@ -1,5 +1,5 @@
 -- An engine goes on with a client closed.
-use Rattle.std.proofs.Common.{◌≡◌, ◌≢◌, ℕ, Bool, true, false, not, ◌||◌, ◌&&◌, List, [], ◌∷◌, ◌++◌, Option, Some, None, refl, sym, ap, ◌∙◌, subst, inl, inr, ◌⊎◌, cond, length}
+use Rattle.std.proofs.Common.{◌≡◌, ◌≢◌, ℕ, Bool, true, false, not, ◌||◌, ◌&&◌, List, [], ◌∷◌, ◌++◌, Option, refl, sym, ap, ◌∙◌, subst, inl, inr, ◌⊎◌, cond, length}
 use Rattle.std.specs.Prelude.{filter, ◌==◌}
 use Rattle.std.specs.List.{list_any}
 use Rattle.std.proofs.lemmas.Bool.{eq-eqb, eqb-true}
@@ -9,13 +9,13 @@ use Rattle.mux_outside.specs.Streams.{among, without}
 use Rattle.mux_outside.specs.House.{Asked}
 use Rattle.mux_outside.specs.declared.mark.Mark.{Mark}
 use Rattle.mux_history.specs.declared.why.Why.{Why}
-use Rattle.mux_history.specs.Rows.{Row, rows_of, is_out, is_ended, is_refusal, loses, losses, loss_by, Item, Gone, Fate, Goes, Refused, Drop, End}
+use Rattle.mux_history.specs.Rows.{Row, rows_of, is_out, is_refusal, loses, losses, loss_by, Item, Gone, Fate, Goes, Refused, Drop, End}
 use Rattle.mux_history.specs.Promises.{is_empty}
-use Rattle.mux_clients.specs.Among.{AllFit, InFits, is_present}
+use Rattle.mux_clients.specs.Among.{is_present}
 use Rattle.mux_clients.specs.State.{ClientState}
 use Rattle.mux_clients.proofs.Stood.{out_is, or_true, own_row}
 use Rattle.mux_machine.specs.State.{State, closed_by, is_here, waiting_clients, waiting_in, without_client}
-use Rattle.mux_machine.specs.Stands.{BytesFit, Closes, EachReads, IsFirst, IsStrange, RowsFit, Stands, StandsFor, is_accepted, log, not_closed}
+use Rattle.mux_machine.specs.Stands.{BytesFit, Closes, EachReads, IsFirst, IsStrange, RowsFit, Stands, is_accepted, log, not_closed}
 use Rattle.mux_machine.proofs.Lists.{apart_less, each_less, gone_less, lost_less, present_less, test_other, true_false, waiting_less, among-gone, among-less, among-was}
 
 -- ---- who is out

@@ -1,7 +1,6 @@
 -- An engine goes on with a client that comes.
-use Rattle.std.proofs.Common.{◌≡◌, ◌≢◌, ℕ, Bool, true, false, not, ◌||◌, ◌&&◌, List, [], ◌∷◌, ◌++◌, length, Option, Some, None, refl, sym, ap, ◌∙◌, subst, inl, inr, cond, append-nil}
+use Rattle.std.proofs.Common.{◌≡◌, ◌≢◌, ℕ, Bool, true, false, not, ◌||◌, List, [], ◌∷◌, ◌++◌, length, Option, None, refl, sym, ap, ◌∙◌, subst, inl, inr, cond, append-nil}
 use Rattle.std.specs.Prelude.{filter, ◌==◌, is_some}
-use Rattle.std.specs.List.{list_any}
 use Rattle.std.proofs.lemmas.Bool.{eq-eqb}
 use Rattle.std.proofs.lemmas.Bool.Decides.{eqb_tells}
 use Rattle.std.proofs.lemmas.List.Folds.{list_any-append}
@@ -18,18 +17,17 @@ use Rattle.mux_history.specs.Choices.{numbers_taken, replies_given}
 use Rattle.mux_history.specs.Right.{AreFresh}
 use Rattle.mux_history.specs.Settings.{by_lists}
 use Rattle.mux_history.specs.Solo.{end_of}
-use Rattle.mux_history.specs.Log.{Setting, entered as came, next_row}
+use Rattle.mux_history.specs.Log.{entered as came, next_row}
 use Rattle.mux_history.specs.Journal.{bytes_of, is_accepted, log_of_journal}
 use Rattle.mux_core.specs.State.{CoreState}
-use Rattle.mux_core.specs.Calls.{IsNew}
 use Rattle.mux_clients.specs.State.{ClientState}
-use Rattle.mux_clients.specs.Among.{AllFit, EachFits, is_present}
+use Rattle.mux_clients.specs.Among.{AllFit, is_present}
 use Rattle.mux_clients.specs.Asked.{asked_of}
 use Rattle.mux_clients.specs.Entering.{Enters, EntersBy, new_client}
 use Rattle.mux_clients.proofs.Enters.{let-in, present-end, present-last, refused, row-let-in, row-refused}
-use Rattle.mux_clients.proofs.Stood.{or_true, own_row}
-use Rattle.mux_machine.specs.State.{State, entered, is_here, numbers, served_in, waiting_in}
-use Rattle.mux_machine.specs.Stands.{BytesFit, ClientReads, EachReads, GoesAlone, IsAllowed, IsKnown, IsStrange, RowsFit, ServerReads, Stands, StandsFor, log, not_closed, refusal, setting}
+use Rattle.mux_clients.proofs.Stood.{own_row}
+use Rattle.mux_machine.specs.State.{State, entered, is_here, numbers, waiting_in}
+use Rattle.mux_machine.specs.Stands.{BytesFit, ClientReads, EachReads, GoesAlone, IsAllowed, IsKnown, IsStrange, RowsFit, ServerReads, Stands, StandsFor, log, not_closed, refusal}
 use Rattle.mux_machine.proofs.Closes.{other_row, out_more}
 use Rattle.mux_machine.proofs.Grows.{filter-append, served-more}
 use Rattle.mux_machine.proofs.Lists.{test_other, true_false}

@@ -1,5 +1,5 @@
 -- How an event may end the run.
-use Rattle.std.proofs.Common.{◌≡◌, ◌≢◌, ℕ, Bool, true, false, List, [], ◌∷◌, ◌++◌, length, drop, map, Option, Some, None, refl, sym, ap, ◌∙◌, subst, append_assoc}
+use Rattle.std.proofs.Common.{◌≡◌, ℕ, Bool, true, false, List, [], ◌∷◌, ◌++◌, length, drop, Option, Some, None, refl, sym, ap, ◌∙◌, subst, append_assoc}
 use Rattle.std.specs.Prelude.{◌==◌}
 use Rattle.ssh_grammar.specs.Said.{InProxy, parse, said}
 use Rattle.mux_outside.specs.House.{Asked}
@@ -11,7 +11,7 @@ use Rattle.mux_history.specs.declared.ended.Ended.TheVariants as ended
 use Rattle.mux_history.specs.Rows.{Item, Row}
 use Rattle.mux_history.specs.Settings.{by_lists}
 use Rattle.mux_history.specs.Solo.{end_of}
-use Rattle.mux_history.specs.Journal.{bytes_of, heard_item, log_of_journal, new_heard, new_sayings, said_item}
+use Rattle.mux_history.specs.Journal.{bytes_of, log_of_journal, new_heard, new_sayings}
 use Rattle.mux_history.specs.Log.{more_all}
 use Rattle.mux_machine.specs.declared.event.Event.{Event}
 use Rattle.mux_machine.specs.declared.event.Event.TheVariants as event

@@ -1,38 +1,34 @@
 -- An engine goes on where a client's stream gave bytes.
-use Rattle.std.proofs.Common.{◌≡◌, ◌≢◌, ◌+◌, ℕ, zero, suc, Bool, true, false, not, ◌||◌, ◌&&◌, List, [], ◌∷◌, ◌++◌, length, drop, map, Option, Some, None, refl, sym, ap, ◌∙◌, subst, inl, inr, cond, append-nil, append_assoc, length-append, arith}
+use Rattle.std.proofs.Common.{◌≡◌, ◌≢◌, ◌+◌, ℕ, Bool, true, false, not, ◌&&◌, List, [], ◌∷◌, ◌++◌, length, drop, Option, Some, None, refl, sym, ap, ◌∙◌, subst, append-nil, append_assoc, length-append}
 use Rattle.std.specs.Prelude.{◌==◌, ◌^◌, ◌-◌, min, is_some, MatchBool}
 use Rattle.std.proofs.lemmas.Bool.{eq-eqb, eqb-true}
 use Rattle.ssh_fields.specs.Fields.{AreBytes}
 use Rattle.ssh_grammar.specs.Said.{InControl, Stopped, parse, said}
 use Rattle.mux_outside.specs.House.{Asked}
-use Rattle.mux_outside.specs.Streams.{among}
 use Rattle.mux_outside.specs.declared.house.HouseReply.{HouseReply}
 use Rattle.mux_outside.specs.declared.mark.Mark.{Mark}
 use Rattle.mux_outside.specs.declared.mark.Mark.TheVariants.{Gets}
 use Rattle.mux_history.specs.declared.ended.Ended.{Ended}
 use Rattle.mux_history.specs.Rows.{Row, rows_of, is_out, is_ended}
-use Rattle.mux_history.specs.Choices.{numbers_taken, replies_given}
-use Rattle.mux_history.specs.Right.{AreFresh}
 use Rattle.mux_history.specs.Settings.{by_lists}
 use Rattle.mux_history.specs.Solo.{end_of}
-use Rattle.mux_history.specs.Promises.{MayGive, listens}
-use Rattle.mux_history.specs.Log.{Setting, more_all}
-use Rattle.mux_history.specs.Journal.{bytes_of, is_accepted, log_of_journal, new_heard, new_sayings}
+use Rattle.mux_history.specs.Promises.{listens}
+use Rattle.mux_history.specs.Log.{more_all}
+use Rattle.mux_history.specs.Journal.{bytes_of, log_of_journal, new_heard, new_sayings}
 use Rattle.mux_clients.specs.declared.heard.Heard.{Heard}
-use Rattle.mux_clients.specs.State.{ClientState, part}
-use Rattle.mux_clients.specs.Stands.{Fits, SeatFits, is_lost, is_read, standing_of}
-use Rattle.mux_clients.specs.Among.{AllFit, ChangesOne, EachFits, InFits, MovesTo, is_present}
-use Rattle.mux_clients.specs.Asked.{TellsAsks, asked_of}
-use Rattle.mux_clients.specs.Laws.{AllMoved, IsReadTo, ReadsAs, rows_given}
-use Rattle.mux_clients.specs.Pieces.{Hearing, HearsIn, HearsNothing, HearsPiece, RunsTo, ended_then}
+use Rattle.mux_clients.specs.State.{ClientState}
+use Rattle.mux_clients.specs.Stands.{is_lost, is_read, standing_of}
+use Rattle.mux_clients.specs.Among.{ChangesOne, EachFits, InFits, MovesTo, is_present}
+use Rattle.mux_clients.specs.Asked.{asked_of}
+use Rattle.mux_clients.specs.Laws.{AllMoved, IsReadTo, rows_given}
+use Rattle.mux_clients.specs.Pieces.{Hearing, HearsPiece, RunsTo, ended_then}
 use Rattle.mux_clients.proofs.Journaled.{pieces-of-a-client}
 use Rattle.mux_clients.proofs.Ones.{one-moves-all}
-use Rattle.mux_clients.proofs.Stood.{out_is}
 use Rattle.mux_machine.specs.Moves.{GainsAt}
-use Rattle.mux_machine.specs.State.{State, is_here, loss_between, numbers, waiting_in}
-use Rattle.mux_machine.specs.Stands.{BytesFit, ClientReads, EachReads, GoesBy, GoesOn, IsAllowed, IsStrange, RowsFit, ServerReads, Stands, StandsFor, log, setting}
+use Rattle.mux_machine.specs.State.{State, loss_between, numbers, waiting_in}
+use Rattle.mux_machine.specs.Stands.{BytesFit, ClientReads, EachReads, GoesOn, IsAllowed, IsStrange, RowsFit, ServerReads, Stands, StandsFor, log, setting}
 use Rattle.mux_machine.proofs.Lists.{either, test_other, true_false}
-use Rattle.mux_machine.proofs.Moved.{Moves, here-same, moved}
+use Rattle.mux_machine.proofs.Moved.{here-same, moved}
 use Rattle.mux_machine.proofs.OneClient.{apart-here, changes-to, numbers-one, open-here, reads-one, unclosed-one}
 use Rattle.mux_machine.proofs.Over.{are-bytes-on, some-end, strange-on}
 use Rattle.mux_machine.proofs.Refused.{apart-refused}

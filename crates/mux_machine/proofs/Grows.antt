@@ -1,13 +1,13 @@
 -- A log that goes on without a client more: what it leaves as it was, and whom it loses.
-use Rattle.std.proofs.Common.{◌≡◌, ◌≢◌, ℕ, Bool, true, false, ◌||◌, ◌&&◌, not, List, [], ◌∷◌, ◌++◌, Option, Some, None, refl, sym, ap, ◌∙◌, subst, append-nil, append_assoc, inl, inr, cond}
-use Rattle.std.specs.Prelude.{filter, ◌==◌}
+use Rattle.std.proofs.Common.{◌≡◌, ℕ, Bool, true, false, ◌||◌, not, List, [], ◌∷◌, ◌++◌, Option, refl, sym, ap, ◌∙◌, subst, append-nil, append_assoc, inl, inr, cond}
+use Rattle.std.specs.Prelude.{filter}
 use Rattle.std.proofs.lemmas.Bool.Decides.{eqb_tells}
 use Rattle.mux_history.specs.declared.why.Why.{Why}
-use Rattle.mux_history.specs.Rows.{Row, rows_of, any_of, loses, is_lost, is_out, is_refusal, is_admit, loss_by, losses, Item, Admit, Fate, Goes, Refused, Drop, End}
+use Rattle.mux_history.specs.Rows.{Row, rows_of, loses, is_lost, is_out, is_refusal, is_admit, loss_by, losses, Item, Admit, Fate, Goes, Refused, Drop, End}
 use Rattle.mux_history.specs.Log.{entered, served}
 use Rattle.mux_clients.specs.State.{ClientState}
 use Rattle.mux_clients.specs.Stands as stands
-use Rattle.mux_clients.specs.Among.{EachFits, InFits}
+use Rattle.mux_clients.specs.Among.{EachFits}
 use Rattle.mux_clients.proofs.Stood.{out_is, or_true, own_row}
 use Rattle.mux_machine.specs.State.{numbers, served_in}
 use Rattle.mux_machine.specs.Stands.{IsKnown}

@@ -1,8 +1,7 @@
 -- The rows of what the server says: what they leave as it was.
-use Rattle.std.proofs.Common.{◌≡◌, ◌≢◌, ◌+◌, ℕ, zero, suc, Bool, true, false, not, ◌||◌, ◌&&◌, List, [], ◌∷◌, ◌++◌, length, map, take, Option, Some, None, Ok, Err, refl, sym, ap, ◌∙◌, subst, inl, inr, cond, append-nil}
+use Rattle.std.proofs.Common.{◌≡◌, ◌≢◌, ◌+◌, ℕ, zero, suc, Bool, true, false, List, [], ◌∷◌, ◌++◌, length, map, take, Option, Some, None, Ok, Err, refl, sym, ap, ◌∙◌, subst, append-nil}
 use Rattle.std.specs.Prelude.{◌==◌, Result, filter, find, slice_get}
 use Rattle.std.proofs.lemmas.Bool.{eq-eqb}
-use Rattle.std.proofs.lemmas.Bool.Decides.{eqb_tells}
 use Rattle.ssh_grammar.specs.declared.fault.Bad.{Bad}
 use Rattle.ssh_grammar.specs.Said.{Saying, Body, Payload, BadFraming}
 use Rattle.mux_history.specs.declared.why.Why.{Why}
@@ -13,7 +12,7 @@ use Rattle.mux_history.specs.Gist.{Confirmation, Gist, Open, Refuses, Requests, 
 use Rattle.mux_history.specs.Heard.{Breaks, Dest, Disconnects, ToClient, ToMaster, dest, dest_gist, for_master, heard_for, heard_master}
 use Rattle.mux_history.specs.Policy.{Policy}
 use Rattle.mux_history.specs.Requests.{Ask, asks, replies}
-use Rattle.mux_history.specs.Rows.{Row, rows_of, is_out, is_ended, is_refusal, losses, loss_by, loses, Item, BadServer, Heard}
+use Rattle.mux_history.specs.Rows.{Row, rows_of, is_refusal, loss_by, Item, BadServer, Heard}
 use Rattle.mux_history.specs.Settings.{by_lists}
 use Rattle.mux_history.specs.Log.{heard_row, makes_next, more_all, more_of, next_row}
 use Rattle.mux_history.specs.Journal.{heard_item}
@@ -28,7 +27,6 @@ use Rattle.mux_clients.proofs.Ones.{unrefused-row}
 use Rattle.mux_machine.specs.Stands.{refusal}
 use Rattle.mux_machine.proofs.Closes.{other_row}
 use Rattle.mux_machine.proofs.Grows.{Grows, grows-none, grows-on, grows-row}
-use Rattle.mux_machine.proofs.Lists.{test_other, true_false}
 
 -- ---- nothing goes to a client that holds nothing
 

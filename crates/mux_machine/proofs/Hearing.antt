@@ -1,8 +1,8 @@
 -- An engine goes on where the server's stream gave bytes.
-use Rattle.std.proofs.Common.{◌≡◌, ◌≢◌, ◌+◌, ℕ, Bool, true, false, not, ◌||◌, ◌&&◌, List, [], ◌∷◌, ◌++◌, length, drop, map, Option, Some, None, refl, sym, ap, ◌∙◌, subst, inl, inr, ◌⊎◌, cond, append-nil}
+use Rattle.std.proofs.Common.{◌≡◌, ◌≢◌, ◌+◌, ℕ, Bool, true, false, not, ◌||◌, List, [], ◌∷◌, ◌++◌, length, drop, Option, Some, None, refl, sym, ap, ◌∙◌, subst, inl, inr, cond, append-nil}
 use Rattle.std.specs.Prelude.{◌==◌, is_some, filter}
-use Rattle.std.specs.List.{AllByRecursion, list_any}
-use Rattle.std.proofs.lemmas.Bool.{eq-eqb, eqb-true}
+use Rattle.std.specs.List.{AllByRecursion}
+use Rattle.std.proofs.lemmas.Bool.{eq-eqb}
 use Rattle.std.proofs.lemmas.Bool.Decides.{eqb_tells}
 use Rattle.std.proofs.lemmas.List.Folds.{list_any-append}
 use Rattle.ssh_grammar.specs.Said.{InProxy, parse}
@@ -13,28 +13,24 @@ use Rattle.mux_outside.specs.declared.mark.Mark.{Mark}
 use Rattle.mux_outside.specs.declared.mark.Mark.TheVariants.{Gets}
 use Rattle.mux_history.specs.declared.why.Why.{Why}
 use Rattle.mux_history.specs.declared.ended.Ended.{Ended}
-use Rattle.mux_history.specs.Rows.{Row, rows_of, any_of, is_admit, is_lost as has_loss, is_out, is_ended, is_refusal, loses, losses, loss_by, Item, Gone, Fate, Goes, Refused, Drop, End}
+use Rattle.mux_history.specs.Rows.{Row, rows_of, any_of, is_admit, is_out, is_ended, is_refusal, loses, losses, loss_by, Item, Gone, Fate, Goes, Refused, Drop, End}
 use Rattle.mux_history.specs.Settings.{by_lists}
 use Rattle.mux_history.specs.Solo.{end_of}
-use Rattle.mux_history.specs.Log.{more_all}
-use Rattle.mux_history.specs.Journal.{bytes_in, bytes_of, heard_item, is_accepted, log_of_journal, new_heard}
+use Rattle.mux_history.specs.Journal.{bytes_in, bytes_of, log_of_journal}
 use Rattle.mux_clients.specs.State.{ClientState}
 use Rattle.mux_clients.specs.Stands.{is_lost as lost, is_read, mode_of}
-use Rattle.mux_clients.specs.Among.{AllFit, EachFits, InFits, KeepReading, is_present}
-use Rattle.mux_clients.specs.Asked.{asked_of}
+use Rattle.mux_clients.specs.Among.{EachFits, KeepReading, is_present}
 use Rattle.mux_clients.specs.Hearings.{AreHere}
 use Rattle.mux_clients.specs.Laws.{IsHeardTo, rows_told}
-use Rattle.mux_clients.specs.Laws as laws
-use Rattle.mux_clients.specs.Server.{AllAwait, HeardTo, HearsBytes, HearingAll}
+use Rattle.mux_clients.specs.Server.{HeardTo}
 use Rattle.mux_clients.proofs.ServerJournaled.{pieces-of-the-server}
 use Rattle.mux_machine.specs.Moves.{HeardAt}
-use Rattle.mux_machine.specs.State.{State, is_here, numbers, waiting_in}
-use Rattle.mux_machine.specs.Stands.{BytesFit, ClientReads, EachReads, GoesAlone, IsAllowed, IsKnown, IsStrange, RowsFit, ServerReads, Stands, StandsFor, log, not_closed, place, setting}
+use Rattle.mux_machine.specs.State.{State, numbers}
+use Rattle.mux_machine.specs.Stands.{BytesFit, ClientReads, EachReads, GoesAlone, IsAllowed, IsStrange, RowsFit, StandsFor, log, not_closed, place}
 use Rattle.mux_machine.proofs.Closes.{in_losses, loss_is_out, other_row}
-use Rattle.mux_machine.proofs.Grows.{Grows}
 use Rattle.mux_machine.proofs.HeardRows.{HeardOn, heard-on, idle-none, idle-refused}
 use Rattle.mux_machine.proofs.Lists.{either, test_other, true_false}
-use Rattle.mux_machine.proofs.Moved.{Moves, here-same, moved}
+use Rattle.mux_machine.proofs.Moved.{here-same, moved}
 use Rattle.mux_machine.proofs.Over.{are-bytes-on, some-end, strange-on}
 use Rattle.mux_machine.proofs.Refused.{refused-client, refused-out}
 

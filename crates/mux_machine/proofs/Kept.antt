@@ -17,13 +17,13 @@ use Rattle.mux_clients.specs.Pieces.{HearsPiece}
 use Rattle.mux_machine.specs.declared.event.Event.{Event}
 use Rattle.mux_machine.specs.declared.event.Event.TheVariants as event
 use Rattle.mux_machine.specs.Events.{Arrives, Keeps, LetsIn, MayEnd, Refuses, SameStreams}
-use Rattle.mux_machine.specs.Moves.{GainsAt, HeardAt, LosesAt, not_lost}
+use Rattle.mux_machine.specs.Moves.{GainsAt, LosesAt}
 use Rattle.mux_machine.specs.State.{State, SameClient, entered, in_client, numbers, over, server_cause}
 use Rattle.mux_machine.specs.Steps.{EntersAt, is_heard, is_served}
 use Rattle.mux_machine.proofs.Comes.{numbers-last}
-use Rattle.mux_machine.proofs.Gains.{pair, redo}
+use Rattle.mux_machine.proofs.Gains.{pair}
 use Rattle.mux_machine.proofs.Hearing.{numbers-kept}
-use Rattle.mux_machine.proofs.Lists.{test_other, true_false}
+use Rattle.mux_machine.proofs.Lists.{test_other}
 use Rattle.mux_machine.proofs.Looked.{so-here}
 use Rattle.mux_machine.proofs.OneClient.{numbers-one, same-one}
 use Rattle.mux_machine.proofs.Stepped.{DidAlone, DidAsking, Gained, Lost, SameRun, same-run}

@@ -1,7 +1,7 @@
 -- Lists of clients: one that is there or not, and one less.
 use Rattle.std.proofs.Common.{◌≡◌, ◌≢◌, ℕ, Bool, true, false, not, ◌||◌, List, [], ◌∷◌, refl, sym, ap, ◌∙◌, inl, inr, cond}
-use Rattle.std.specs.Prelude.{filter, ◌==◌}
-use Rattle.std.proofs.lemmas.Bool.{eq-eqb, eqb-true}
+use Rattle.std.specs.Prelude.{◌==◌}
+use Rattle.std.proofs.lemmas.Bool.{eqb-true}
 use Rattle.std.proofs.lemmas.Bool.Decides.{eqb_tells}
 use Rattle.mux_outside.specs.Streams.{among, without}
 use Rattle.mux_history.specs.Rows.{Row}

@@ -1,25 +1,19 @@
 -- An engine goes on where the stream of a client is gone.
-use Rattle.std.proofs.Common.{◌≡◌, ◌≢◌, ℕ, Bool, true, false, not, ◌||◌, ◌&&◌, List, [], ◌∷◌, ◌++◌, length, Option, Some, None, refl, sym, ap, ◌∙◌, subst, inl, inr, cond, append-nil}
-use Rattle.std.specs.Prelude.{filter, ◌==◌, is_some, nat_lt}
+use Rattle.std.proofs.Common.{◌≡◌, ◌≢◌, ℕ, Bool, true, false, not, List, [], ◌∷◌, ◌++◌, length, None, refl, sym, ap, ◌∙◌, subst, cond, append-nil}
+use Rattle.std.specs.Prelude.{◌==◌, is_some}
 use Rattle.std.specs.List.{AllByRecursion}
 use Rattle.mux_outside.specs.House.{Asked}
-use Rattle.mux_outside.specs.Streams.{among}
 use Rattle.mux_outside.specs.declared.house.HouseReply.{HouseReply}
 use Rattle.mux_outside.specs.declared.mark.Mark.{Mark}
-use Rattle.mux_outside.specs.declared.mark.Mark.TheVariants.{Accepts, Gets, Ends, Fails, WriteFails}
-use Rattle.mux_history.specs.declared.why.Why.{Why}
-use Rattle.mux_history.specs.declared.ended.Ended.{Ended}
-use Rattle.mux_history.specs.Policy.{Policy}
-use Rattle.mux_history.specs.Rows.{Row, rows_of, is_out, is_ended, losses, Gone, Goes}
+use Rattle.mux_outside.specs.declared.mark.Mark.TheVariants.{Ends, Fails, WriteFails}
+use Rattle.mux_history.specs.Rows.{Row, rows_of, is_out, is_ended, Gone, Goes}
 use Rattle.mux_history.specs.Farewell.{farewell}
 use Rattle.mux_history.specs.Settings.{by_lists}
-use Rattle.mux_history.specs.Solo.{end_of}
-use Rattle.mux_history.specs.Log.{Setting, makes_next, more_of, next_row}
+use Rattle.mux_history.specs.Log.{Setting, more_of, next_row}
 use Rattle.mux_history.specs.Journal.{bytes_in, bytes_of, is_accepted, log_of_journal}
-use Rattle.mux_core.specs.State.{CoreState}
 use Rattle.mux_clients.specs.declared.standing.Standing.TheVariants.{Lost}
 use Rattle.mux_clients.specs.State.{ClientState, part}
-use Rattle.mux_clients.specs.Stands.{Fits, is_lost, is_read, standing_of}
+use Rattle.mux_clients.specs.Stands.{Fits, is_lost, is_read}
 use Rattle.mux_clients.specs.Among.{AllFit, ChangesOne, InFits, MovesTo, is_present}
 use Rattle.mux_clients.specs.Asked.{asked_of}
 use Rattle.mux_clients.specs.Laws.{AllMoved}
@@ -28,14 +22,14 @@ use Rattle.mux_clients.proofs.Adds.{losses-add-for-one}
 use Rattle.mux_clients.proofs.Losses.{gone, gone-row}
 use Rattle.mux_clients.proofs.Ones.{one-moves-all}
 use Rattle.mux_clients.proofs.RowForms.{made}
-use Rattle.mux_clients.proofs.Stood.{out_is, own_row}
+use Rattle.mux_clients.proofs.Stood.{out_is}
 use Rattle.mux_machine.specs.Moves.{IsEvent, IsGone, LosesAt}
-use Rattle.mux_machine.specs.State.{State, is_here, numbers, waiting_in}
-use Rattle.mux_machine.specs.Stands.{BytesFit, ClientReads, EachReads, GoesAlone, IsAllowed, IsStrange, RowsFit, ServerReads, Stands, StandsFor, log, not_closed, setting}
+use Rattle.mux_machine.specs.State.{State, numbers}
+use Rattle.mux_machine.specs.Stands.{BytesFit, ClientReads, EachReads, GoesAlone, IsAllowed, IsStrange, RowsFit, ServerReads, Stands, StandsFor, log, setting}
 use Rattle.mux_machine.proofs.Closes.{other_row}
 use Rattle.mux_machine.proofs.Grows.{grows-row}
 use Rattle.mux_machine.proofs.Lists.{true_false}
-use Rattle.mux_machine.proofs.Moved.{Moves, here-same, moved}
+use Rattle.mux_machine.proofs.Moved.{here-same, moved}
 use Rattle.mux_machine.proofs.OneClient.{all-fit, apart-here, changes-to, numbers-one, open-here, reads-one}
 use Rattle.mux_machine.proofs.Over.{are-bytes-on, next-live, one-more, some-end, strange-on}
 use Rattle.mux_machine.proofs.Refused.{apart-refused}

@@ -1,21 +1,19 @@
 -- An engine goes on where no client more comes.
-use Rattle.std.proofs.Common.{◌≡◌, ◌≢◌, ◌<◌, ℕ, Bool, true, false, not, ◌||◌, ◌&&◌, List, [], ◌∷◌, ◌++◌, length, Option, Some, None, refl, sym, ap, ◌∙◌, subst, inl, inr, cond, append-nil}
+use Rattle.std.proofs.Common.{◌≡◌, ◌≢◌, ℕ, Bool, true, false, ◌||◌, List, [], ◌∷◌, ◌++◌, length, Option, refl, sym, ap, ◌∙◌}
 use Rattle.std.specs.Prelude.{filter, ◌==◌}
 use Rattle.mux_outside.specs.Streams.{among}
 use Rattle.mux_outside.specs.House.{Asked}
-use Rattle.mux_outside.specs.declared.mark.Mark.{Mark}
 use Rattle.mux_history.specs.declared.why.Why.{Why}
 use Rattle.mux_history.specs.Rows.{Row, rows_of, is_out, is_ended, losses}
 use Rattle.mux_history.specs.Choices.{numbers_taken, replies_given}
 use Rattle.mux_history.specs.Right.{AreFresh}
-use Rattle.mux_history.specs.Log.{entered}
 use Rattle.mux_history.specs.Solo.{end_of}
 use Rattle.mux_history.specs.Promises.{listens}
 use Rattle.mux_clients.specs.State.{ClientState}
 use Rattle.mux_clients.specs.Among.{AllFit, is_present}
 use Rattle.mux_clients.specs.Asked.{asked_of}
 use Rattle.mux_machine.specs.State.{State, is_here, numbers, waiting_in}
-use Rattle.mux_machine.specs.Stands.{IsKnown, RowsFit, not_closed, place, refusal}
+use Rattle.mux_machine.specs.Stands.{RowsFit, not_closed, place, refusal}
 use Rattle.mux_machine.proofs.Grows.{Grows, filter-append, served-grows}
 use Rattle.mux_machine.proofs.Lists.{either}
 

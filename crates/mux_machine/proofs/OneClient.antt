@@ -1,19 +1,17 @@
 -- An engine goes on where one client does.
-use Rattle.std.proofs.Common.{◌≡◌, ◌≢◌, ℕ, Bool, true, false, not, ◌||◌, ◌&&◌, List, [], ◌∷◌, ◌++◌, length, Option, Some, None, refl, sym, ap, ◌∙◌, subst, inl, inr, cond, append-nil}
-use Rattle.std.specs.Prelude.{filter, ◌==◌, is_some, MatchBool}
+use Rattle.std.proofs.Common.{◌≡◌, ◌≢◌, ℕ, Bool, true, false, not, ◌||◌, List, [], ◌∷◌, ◌++◌, Option, Some, None, refl, sym, ap, ◌∙◌, subst, cond, append-nil}
+use Rattle.std.specs.Prelude.{filter, ◌==◌, MatchBool}
 use Rattle.std.proofs.lemmas.Bool.{eq-eqb, eqb-true}
-use Rattle.std.proofs.lemmas.Bool.Decides.{eqb_tells}
 use Rattle.mux_outside.specs.Streams.{among}
 use Rattle.mux_outside.specs.declared.mark.Mark.{Mark}
-use Rattle.mux_history.specs.declared.why.Why.{Why}
-use Rattle.mux_history.specs.Rows.{Row, rows_of, is_out, is_refusal, loses, loss_by, losses, Item, Says, Gone, Fate, Goes, Refused, Drop, End}
+use Rattle.mux_history.specs.Rows.{Row, is_refusal, loss_by, Item, Says, Gone, Fate, Goes, Refused, Drop, End}
 use Rattle.mux_history.specs.Journal.{bytes_in, bytes_of}
 use Rattle.mux_clients.specs.declared.standing.Standing.{Standing}
 use Rattle.mux_clients.specs.declared.standing.Standing.TheVariants.{Awaited, Greeted, Proxied, Unread, Lost}
 use Rattle.mux_clients.specs.State.{ClientState}
 use Rattle.mux_clients.specs.Stands.{is_lost, standing_of}
-use Rattle.mux_clients.specs.Among.{AddsFor, ChangesOne, EachFits, InFits, is_present}
-use Rattle.mux_clients.proofs.Stood.{kept_here, out_is, standing_row, stands_here}
+use Rattle.mux_clients.specs.Among.{ChangesOne, EachFits, InFits, is_present}
+use Rattle.mux_clients.proofs.Stood.{kept_here, stands_here}
 use Rattle.mux_machine.specs.State.{State, SameClient, in_client, is_here, loss_between, loss_in, numbers}
 use Rattle.mux_machine.specs.Stands.{ClientReads, EachReads, RowsFit, not_closed}
 use Rattle.mux_machine.proofs.Lists.{either, test_other, true_false}

@@ -1,37 +1,34 @@
 -- An engine whose run is over, and one whose run ends by the server's stream.
-use Rattle.std.proofs.Common.{◌≡◌, ◌≢◌, ℕ, Bool, true, false, not, ◌||◌, ◌&&◌, List, [], ◌∷◌, ◌++◌, length, drop, map, Option, Some, None, refl, sym, ap, ◌∙◌, subst, inl, inr, cond, append-nil}
-use Rattle.std.specs.Prelude.{filter, ◌==◌, is_some}
-use Rattle.std.proofs.lemmas.Bool.{eq-eqb}
+use Rattle.std.proofs.Common.{◌≡◌, ◌≢◌, ℕ, Bool, true, false, List, [], ◌∷◌, ◌++◌, length, drop, map, Some, None, refl, sym, ap, ◌∙◌, subst, inl, inr, cond, append-nil}
+use Rattle.std.specs.Prelude.{◌==◌, is_some}
 use Rattle.std.proofs.lemmas.Bool.Decides.{eqb_tells}
 use Rattle.mux_outside.specs.House.{Asked}
-use Rattle.mux_outside.specs.Streams.{among}
 use Rattle.mux_outside.specs.declared.house.HouseReply.{HouseReply}
 use Rattle.mux_outside.specs.declared.mark.Mark.{Mark}
-use Rattle.mux_outside.specs.declared.mark.Mark.TheVariants.{Waits, Accepts, Gets, Ends, Frees, Fails, Takes, Holds, WriteFails}
+use Rattle.mux_outside.specs.declared.mark.Mark.TheVariants.{Accepts, Gets, Ends, Fails, WriteFails}
 use Rattle.ssh_fields.specs.Fields.{AreBytes}
 use Rattle.ssh_grammar.specs.Said.{Saying, Body, Payload, BadFraming, InProxy, parse, said}
 use Rattle.mux_history.specs.declared.ended.Ended.{Ended}
 use Rattle.mux_history.specs.declared.ended.Ended.TheVariants as ended
 use Rattle.mux_history.specs.declared.broke.Break.TheVariants as broke
-use Rattle.mux_history.specs.Rows.{Row, rows_of, is_out, is_ended, Item, Admit, Says, Gone, Heard, BadServer, ServerEnd, ServerCut, ServerFailed, Took, Fate, Goes, Refused, Drop, End}
+use Rattle.mux_history.specs.Rows.{Row, is_ended, Item, Gone, ServerEnd, ServerCut, ServerFailed, Fate, Goes, Refused, Drop, End}
 use Rattle.mux_history.specs.Heard.{finishes}
 use Rattle.mux_history.specs.Pending.{pending_up}
 use Rattle.mux_history.specs.Solo.{end_of}
 use Rattle.mux_history.specs.Log.{Setting, bare, is_took, makes_next, makes_row, more_all, more_of, next_row}
 use Rattle.mux_history.specs.Journal.{bytes_in, bytes_of, heard_item, is_accepted, items_in, new_heard, new_sayings, said_item, server_end}
 use Rattle.mux_clients.specs.State.{ClientState}
-use Rattle.mux_clients.specs.Among.{AllFit, EachFits, InFits, is_present}
+use Rattle.mux_clients.specs.Among.{EachFits}
 use Rattle.mux_clients.specs.Asked.{asked_of}
-use Rattle.mux_clients.proofs.Stood.{own_row}
 use Rattle.mux_clients.proofs.Ones.{other-fits}
 use Rattle.mux_machine.specs.Moves.{IsEvent}
-use Rattle.mux_machine.specs.State.{State, over, server_cause, waiting_in}
-use Rattle.mux_machine.specs.Stands.{BytesFit, ClientReads, EachReads, GoesAlone, IsAllowed, IsStrange, RowsFit, ServerReads, Stands, StandsFor, log, place, setting}
+use Rattle.mux_machine.specs.State.{State, over, server_cause}
+use Rattle.mux_machine.specs.Stands.{BytesFit, GoesAlone, IsAllowed, IsStrange, RowsFit, ServerReads, StandsFor, log, place, setting}
 use Rattle.mux_machine.proofs.Closes.{other_row}
 use Rattle.mux_machine.proofs.Grows.{NotAdmit, grows-row}
 use Rattle.mux_machine.proofs.Refused.{refused-client}
 use Rattle.mux_machine.proofs.Lists.{test_other, true_false}
-use Rattle.mux_machine.proofs.Moved.{Moves, moved}
+use Rattle.mux_machine.proofs.Moved.{moved}
 use Rattle.mux_machine.proofs.Takes.{more-yes}
 
 -- ---- after the end nothing more makes a row

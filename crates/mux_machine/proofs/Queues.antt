@@ -10,7 +10,7 @@ use Rattle.mux_history.specs.Pending.{pending, pending_down, pending_up}
 use Rattle.mux_history.specs.Promises.{has_output, is_empty}
 use Rattle.mux_clients.specs.State.{ClientState}
 use Rattle.mux_clients.specs.Among.{AreApart, EachFits, is_present}
-use Rattle.mux_machine.specs.State.{State, in_client, queue_in, waiting_clients, waiting_in}
+use Rattle.mux_machine.specs.State.{State, queue_in, waiting_clients, waiting_in}
 use Rattle.mux_machine.specs.Stands.{RowsFit}
 use Rattle.mux_machine.proofs.Lists.{either, not_here, test_other}
 use Rattle.mux_machine.proofs.Waits.{queue_at}

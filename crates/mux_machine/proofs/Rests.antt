@@ -1,7 +1,7 @@
 -- What a stream gave and isn't cut yet is less than a frame.
 use Rattle.std.proofs.Common.{◌≡◌, ◌≢◌, ◌≤◌, ℕ, Bool, true, false, List, [], ◌∷◌, length, ◌++◌, refl, sym, ap, ◌∙◌, cond, arith}
 use Rattle.std.specs.Prelude.{◌==◌, is_some}
-use Rattle.ssh_grammar.specs.Said.{InControl, InProxy, Mode, Stopped, parse}
+use Rattle.ssh_grammar.specs.Said.{InControl, InProxy, Stopped, parse}
 use Rattle.mux_outside.specs.declared.mark.Mark.{Mark}
 use Rattle.mux_outside.specs.declared.house.HouseReply.{HouseReply}
 use Rattle.mux_history.specs.Rows.{is_ended}

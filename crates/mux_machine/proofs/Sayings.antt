@@ -1,17 +1,14 @@
 -- The rows of what one client says: what they leave as it was, and whom they lose.
-use Rattle.std.proofs.Common.{◌≡◌, ◌≢◌, ◌+◌, ℕ, Bool, true, false, not, ◌||◌, ◌&&◌, List, [], ◌∷◌, ◌++◌, length, drop, map, Option, Some, None, refl, sym, ap, ◌∙◌, subst, inl, inr, cond, append-nil}
-use Rattle.std.specs.Prelude.{◌==◌}
-use Rattle.std.proofs.lemmas.Bool.{eq-eqb}
+use Rattle.std.proofs.Common.{◌≡◌, ◌+◌, ℕ, Bool, true, false, not, ◌&&◌, List, [], ◌∷◌, ◌++◌, map, Option, Some, None, refl, sym, ap, ◌∙◌, subst, cond, append-nil}
 use Rattle.mux_outside.specs.declared.house.HouseReply.{HouseReply}
 use Rattle.ssh_grammar.specs.Said.{Saying, Body, Payload, BadFraming}
-use Rattle.mux_history.specs.declared.why.Why.{Why}
 use Rattle.mux_history.specs.Policy.{Policy}
-use Rattle.mux_history.specs.Rows.{Row, rows_of, is_out, is_ended, is_refusal, loses, loss_by, losses, Item, Says}
+use Rattle.mux_history.specs.Rows.{Row, rows_of, is_out, is_ended, loss_by, Item, Says}
 use Rattle.mux_history.specs.Heard.{is_heard, next_index}
 use Rattle.mux_history.specs.Controls.{body_asks, greeted}
 use Rattle.mux_history.specs.Choices.{FromLists, pick_of, reply_at, replies_given}
 use Rattle.mux_history.specs.Settings.{by_lists}
-use Rattle.mux_history.specs.Log.{Setting, said_by_client, treat, is_took, makes_next, makes_row, more_all, more_of, next_row}
+use Rattle.mux_history.specs.Log.{said_by_client, treat, makes_next, more_all, more_of, next_row}
 use Rattle.mux_history.specs.Journal.{said_item}
 use Rattle.mux_clients.specs.declared.standing.Standing.{Standing}
 use Rattle.mux_clients.specs.declared.standing.Standing.TheVariants.{Lost}
@@ -20,7 +17,7 @@ use Rattle.mux_clients.proofs.Adds.{IsOwn, said-own}
 use Rattle.mux_clients.proofs.Mores.{parts-of}
 use Rattle.mux_clients.proofs.Stood.{out_is, own_row}
 use Rattle.mux_machine.specs.State.{loss_between, loss_in}
-use Rattle.mux_machine.proofs.Grows.{Grows, NotAdmit, grows-none, grows-on, grows-row}
+use Rattle.mux_machine.proofs.Grows.{Grows, grows-none, grows-on, grows-row}
 use Rattle.mux_machine.proofs.Lists.{true_false}
 use Rattle.mux_machine.proofs.OneClient.{loss-row}
 

@@ -1,11 +1,10 @@
 -- An engine that was told nothing yet.
-use Rattle.std.proofs.Common.{◌≡◌, ℕ, true, false, ◌||◌, List, [], ◌∷◌, ◌++◌, Option, None, refl, sym, ap, ◌∙◌, subst, cond}
+use Rattle.std.proofs.Common.{◌≡◌, ℕ, true, false, ◌||◌, [], ◌∷◌, None, refl, sym, ap, ◌∙◌, subst, cond}
 use Rattle.mux_outside.specs.Streams.{among}
 use Rattle.mux_history.specs.Promises.{is_empty}
 use Rattle.mux_core.specs.Stands as core
 use Rattle.mux_clients.specs.Among.{AreApart, EachFits, is_present}
 use Rattle.mux_clients.specs.Server.{ServerState, new_server}
-use Rattle.mux_machine.specs.Ready.{IsReady, IsSound}
 use Rattle.mux_machine.specs.State.{State, is_here, served_in, waiting_clients, waiting_in}
 use Rattle.mux_machine.specs.Stands.{BytesFit, EachReads, RowsFit, ServerReads, Stands}
 use Rattle.mux_machine.proofs.Lists.{true_false}

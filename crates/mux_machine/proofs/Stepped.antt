@@ -1,5 +1,5 @@
 -- What the code of each event does is what the laws take.
-use Rattle.std.proofs.Common.{◌≡◌, ◌≢◌, ℕ, Bool, true, false, List, [], ◌∷◌, ◌++◌, Option, Some, None, refl, sym, ap, ◌∙◌, subst, inl, inr, cond, append-nil, length, Result, Ok, Err, OnOk}
+use Rattle.std.proofs.Common.{◌≡◌, ◌≢◌, ℕ, Bool, true, false, List, [], ◌∷◌, Option, Some, None, refl, sym, ap, ◌∙◌, subst, inl, inr, length, Result, Ok, Err, OnOk}
 use Rattle.mux_outside.specs.House.{Asked}
 use Rattle.mux_outside.specs.declared.house.HouseReply.{HouseReply}
 use Rattle.mux_outside.specs.declared.mark.Mark.{Mark}
@@ -7,10 +7,7 @@ use Rattle.mux_outside.specs.declared.mark.Mark.TheVariants.{Accepts, Gets, Ends
 use Rattle.mux_history.specs.declared.broke.Break.TheVariants as broke
 use Rattle.mux_history.specs.declared.ended.Ended.{Ended}
 use Rattle.mux_history.specs.declared.ended.Ended.TheVariants as ended
-use Rattle.mux_clients.specs.State.{ClientState, part}
-use Rattle.mux_clients.specs.Stands.{is_lost, is_read}
-use Rattle.mux_clients.specs.Entering.{new_client}
-use Rattle.mux_clients.specs.Losing.{Loses}
+use Rattle.mux_clients.specs.Stands.{is_read}
 use Rattle.mux_clients.specs.Server.{stream_end}
 use Rattle.mux_machine.specs.declared.event.Event.{Event}
 use Rattle.mux_machine.specs.declared.event.Event.TheVariants as event
@@ -145,10 +142,6 @@ asking-goes May before told s new (event.FromClient k bytes) mark live d t = sub
 asking-goes May before told s new e mark live d t = absurd d
 
 -- ---- from the clauses of the calls
-
-pub on-all : {T E Q : Type 0} (r : Result T E) → Q → OnOk r Q
-on-all (Ok x) q = q
-on-all (Err e) q = tt
 
 pub lost-on : {T E : Type 0} (r : Result T E) (s new : State) (k : ℕ) → OnOk r (is_served s.clients k ≡ true → LosesAt s new k) → OnOk r (is_served s.clients k ≡ false → new ≡ s) → OnOk r (Lost s new k)
 lost-on (Ok x) s new k loses stays = record { loses = loses; stays = stays }

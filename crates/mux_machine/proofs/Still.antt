@@ -1,7 +1,6 @@
 -- An engine stays as it is where nobody is heard.
-use Rattle.std.proofs.Common.{◌≡◌, ◌≢◌, ◌+◌, ℕ, zero, suc, Bool, true, false, not, ◌||◌, ◌&&◌, List, [], ◌∷◌, ◌++◌, length, drop, map, Option, Some, None, refl, sym, ap, ◌∙◌, subst, inl, inr, ◌⊎◌, cond, append-nil}
+use Rattle.std.proofs.Common.{◌≡◌, ◌≢◌, ◌+◌, ℕ, zero, suc, Bool, true, false, not, ◌||◌, List, [], ◌∷◌, ◌++◌, length, drop, map, Option, None, refl, sym, ap, ◌∙◌, subst, append-nil}
 use Rattle.std.specs.Prelude.{◌==◌, is_some}
-use Rattle.std.specs.List.{AllByRecursion}
 use Rattle.std.proofs.lemmas.Bool.{eq-eqb, eqb-true}
 use Rattle.ssh_grammar.specs.Said.{InControl, Parsed, Saying, Stopped, parse, said}
 use Rattle.ssh_grammar.proofs.Parses.{parse-append}
@@ -10,19 +9,19 @@ use Rattle.mux_outside.specs.Streams.{among}
 use Rattle.mux_outside.specs.declared.house.HouseReply.{HouseReply}
 use Rattle.mux_outside.specs.declared.mark.Mark.{Mark}
 use Rattle.mux_outside.specs.declared.mark.Mark.TheVariants.{Gets}
-use Rattle.mux_history.specs.Rows.{Row, rows_of, is_out, is_ended, Says}
+use Rattle.mux_history.specs.Rows.{Row, rows_of, is_out, is_ended}
 use Rattle.mux_history.specs.Log.{Setting, more_all, more_of, next_row}
 use Rattle.mux_history.specs.Journal.{bytes_of, is_accepted, new_sayings, said_item}
 use Rattle.mux_clients.specs.declared.standing.Standing.{Standing}
 use Rattle.mux_clients.specs.declared.standing.Standing.TheVariants.{Awaited, Greeted, Proxied, Unread, Lost}
 use Rattle.mux_clients.specs.State.{ClientState}
 use Rattle.mux_clients.specs.Stands.{is_lost, is_read, mode_of}
-use Rattle.mux_clients.specs.Among.{EachFits, InFits, is_present}
-use Rattle.mux_clients.specs.Asked.{TellsAsks, asked_of}
+use Rattle.mux_clients.specs.Among.{EachFits, is_present}
+use Rattle.mux_clients.specs.Asked.{asked_of}
 use Rattle.mux_clients.proofs.Asks.{tells_none}
 use Rattle.mux_clients.proofs.Stood.{out_is}
 use Rattle.mux_machine.specs.Moves.{IsGone, NoneStands, not_lost}
-use Rattle.mux_machine.specs.State.{State, is_here}
+use Rattle.mux_machine.specs.State.{State}
 use Rattle.mux_machine.specs.Stands.{BytesFit, ClientReads, EachReads, GoesAlone, GoesOn, IsAllowed, RowsFit, ServerReads, Stands, StandsFor, log, setting}
 use Rattle.mux_machine.proofs.Gains.{gets-log, gets-own, gets-quiet}
 use Rattle.mux_machine.proofs.Lists.{either, true_false}

@@ -1,6 +1,6 @@
 -- An engine goes on where bytes are taken.
-use Rattle.std.proofs.Common.{◌≡◌, ◌≢◌, ℕ, Bool, true, false, not, ◌||◌, List, [], ◌∷◌, ◌++◌, length, drop, Option, Some, None, refl, sym, ap, ◌∙◌, subst, inl, inr, cond, append-nil}
-use Rattle.std.specs.Prelude.{filter, ◌==◌}
+use Rattle.std.proofs.Common.{◌≡◌, ◌≢◌, ℕ, Bool, true, false, ◌||◌, List, [], ◌∷◌, ◌++◌, length, drop, refl, sym, ap, ◌∙◌, subst, inl, inr, cond, append-nil}
+use Rattle.std.specs.Prelude.{◌==◌}
 use Rattle.std.proofs.lemmas.Bool.{eqb-true, eq-eqb}
 use Rattle.std.proofs.lemmas.Bool.Decides.{eqb_tells}
 use Rattle.mux_outside.specs.House.{Asked}
@@ -13,7 +13,7 @@ use Rattle.mux_history.specs.Rows.{Row, rows_of, is_out, is_ended, Item, Took}
 use Rattle.mux_history.specs.Pending.{pending_down, pending_up}
 use Rattle.mux_history.specs.Said.{silent}
 use Rattle.mux_history.specs.Settings.{by_lists}
-use Rattle.mux_history.specs.Log.{Setting, bare, makes_next, makes_row, is_took, more_of, next_row}
+use Rattle.mux_history.specs.Log.{Setting, bare, makes_next, more_of, next_row}
 use Rattle.mux_history.specs.Journal.{bytes_of}
 use Rattle.mux_core.specs.Stands as core
 use Rattle.mux_core.proofs.Idle.{idle-stays}
@@ -22,12 +22,12 @@ use Rattle.mux_clients.specs.Among.{AllFit, AreApart, EachFits, InFits, is_prese
 use Rattle.mux_clients.specs.Stands.{SeatFits}
 use Rattle.mux_clients.proofs.Stood.{own_row}
 use Rattle.mux_clients.proofs.Ones.{other-fits}
-use Rattle.mux_machine.specs.State.{State, at_client, client_took, is_here, numbers, taken, waiting_in}
-use Rattle.mux_machine.specs.Stands.{BytesFit, ClientReads, EachReads, GoesAlone, IsAllowed, IsStrange, RowsFit, Stands, StandsFor, log, refusal, setting}
+use Rattle.mux_machine.specs.State.{State, at_client, client_took, is_here, numbers, taken}
+use Rattle.mux_machine.specs.Stands.{BytesFit, ClientReads, EachReads, GoesAlone, IsStrange, RowsFit, Stands, StandsFor, log, refusal, setting}
 use Rattle.mux_machine.proofs.Closes.{other_row}
 use Rattle.mux_machine.proofs.Grows.{grows-row}
 use Rattle.mux_machine.proofs.Lists.{either, not_here, test_other, true_false}
-use Rattle.mux_machine.proofs.Moved.{Moves, here-same, moved}
+use Rattle.mux_machine.proofs.Moved.{here-same, moved}
 use Rattle.mux_machine.proofs.Refused.{apart-refused, refused-client}
 use Rattle.mux_machine.proofs.Waits.{waiting-taken}
 

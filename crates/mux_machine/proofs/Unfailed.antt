@@ -1,6 +1,6 @@
 -- What a client or the server says never ends the run as a failure of the server's stream, nor as
 -- one whose turns are spent.
-use Rattle.std.proofs.Common.{◌≡◌, ◌≢◌, ℕ, Bool, true, false, ◌&&◌, List, [], ◌∷◌, ◌++◌, length, drop, map, Option, Some, None, Result, Ok, Err, refl, sym, ap, ◌∙◌, subst}
+use Rattle.std.proofs.Common.{◌≡◌, ◌≢◌, ℕ, Bool, true, false, ◌&&◌, List, [], ◌∷◌, length, map, Option, Some, None, Result, Ok, Err, sym, subst}
 use Rattle.std.specs.Prelude.{◌==◌, nat_lt}
 use Rattle.ssh_grammar.specs.declared.fault.Bad.{Bad}
 use Rattle.ssh_grammar.specs.declared.fault.BadControl.{BadControl}
@@ -8,10 +8,10 @@ use Rattle.ssh_grammar.specs.declared.fault.BadControl.TheVariants as bad
 use Rattle.ssh_grammar.specs.declared.fault.Breach.{Breach}
 use Rattle.ssh_grammar.specs.declared.numbers.TheConstants.{DISCONNECT, VERSION}
 use Rattle.ssh_grammar.specs.declared.side.Side.TheVariants.{Up}
-use Rattle.ssh_grammar.specs.Control.{Control, Hello, NewSession, AliveCheck, Terminate, OpenForward, CloseForward, StdioForward, StopListening, Proxy}
+use Rattle.ssh_grammar.specs.Control.{Control, Hello, Terminate, OpenForward, CloseForward}
 use Rattle.ssh_grammar.specs.Messages.{Global, Opens, Session, Direct, Forward, Cancel, KeepAlive, OtherName}
 use Rattle.ssh_grammar.specs.ReadControl.{read_control}
-use Rattle.ssh_grammar.specs.Said.{Saying, Body, Payload, BadFraming, InProxy, parse, said}
+use Rattle.ssh_grammar.specs.Said.{Saying, Body, Payload, BadFraming}
 use Rattle.mux_outside.specs.declared.house.HouseReply.{HouseReply}
 use Rattle.mux_history.specs.declared.why.Why.{Why}
 use Rattle.mux_history.specs.declared.why.Why.TheVariants as why

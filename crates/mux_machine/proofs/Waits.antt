@@ -1,6 +1,6 @@
 -- The streams that wait, after bytes were taken of one.
-use Rattle.std.proofs.Common.{◌≡◌, ◌≢◌, ℕ, Bool, true, false, not, List, [], ◌∷◌, drop, refl, sym, ap, ◌∙◌, inl, inr, cond, arith}
-use Rattle.std.specs.Prelude.{filter, ◌==◌}
+use Rattle.std.proofs.Common.{◌≡◌, ◌≢◌, ℕ, Bool, true, false, List, [], ◌∷◌, drop, refl, sym, ap, ◌∙◌, inl, inr, cond, arith}
+use Rattle.std.specs.Prelude.{◌==◌}
 use Rattle.std.proofs.lemmas.Bool.{eqb-true}
 use Rattle.std.proofs.lemmas.Bool.Decides.{eqb_tells}
 use Rattle.std.proofs.lemmas.Grind.{common_steps}
@@ -9,7 +9,7 @@ use Rattle.mux_history.specs.Rows.{Row}
 use Rattle.mux_history.specs.Promises.{is_empty}
 use Rattle.mux_clients.specs.State.{ClientState}
 use Rattle.mux_clients.specs.Among.{AreApart, EachFits, is_present}
-use Rattle.mux_machine.specs.State.{State, at_client, client_took, in_client, queue_in, taken, took, waiting_clients, waiting_in}
+use Rattle.mux_machine.specs.State.{State, at_client, client_took, in_client, taken, waiting_clients, waiting_in}
 use Rattle.mux_machine.proofs.Lists.{either, not_here, test_other, without_head}
 
 abbrev pub queue_at : List ClientState → ℕ → List ℕ

@@ -1,8 +1,7 @@
 -- The parts of an engine after its code has written them.
-use Rattle.std.proofs.Common.{◌≡◌, ◌≢◌, ◌≤◌, ◌+◌, ◌*◌, ◌&&◌, ℕ, Bool, true, false, not, List, [], ◌∷◌, ◌++◌, length, take, drop, Option, Some, None, refl, sym, ap, ◌∙◌, subst, cond, arith, append-nil}
+use Rattle.std.proofs.Common.{◌≡◌, ◌≤◌, ◌+◌, ◌*◌, ◌&&◌, ℕ, Bool, true, false, not, List, [], ◌∷◌, ◌++◌, length, take, drop, Option, None, refl, sym, ap, ◌∙◌, subst, cond, arith}
 use Rattle.std.specs.Prelude.{◌==◌, MatchBool}
 use Rattle.std.specs.List.{AllByRecursion}
-use Rattle.std.proofs.lemmas.Bool.{eqb-true}
 use Rattle.std.proofs.lemmas.List.{take_at}
 use Rattle.proxy_frames.specs.State.{QueueState}
 use Rattle.mux_outside.specs.House.{Asked}
@@ -19,7 +18,7 @@ use Rattle.mux_clients.specs.Entering.{new_client}
 use Rattle.mux_clients.specs.Losing.{Loses, LosesIn, loss_between, loss_in}
 use Rattle.mux_clients.specs.Pieces.{HearsIn, HearsPiece}
 use Rattle.mux_clients.specs.Room.{HasRoom, served_in}
-use Rattle.mux_clients.specs.Server.{HearsBytes, HearingAll, ServerState}
+use Rattle.mux_clients.specs.Server.{HearsBytes, ServerState}
 use Rattle.mux_clients.proofs.Runs.{read-here}
 use Rattle.mux_machine.specs.Moves.{GainsAt, HeardAt, LosesAt, not_lost}
 use Rattle.mux_machine.specs.State.{State, entered, in_client, numbers}

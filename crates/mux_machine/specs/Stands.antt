@@ -1,6 +1,6 @@
 -- An engine stands for a journal, the newest mark first, and for the clients that were closed: one
 -- clause a part.
-use Rattle.std.specs.Prelude.{◌≡◌, ◌≢◌, ◌<◌, ◌^◌, ◌-◌, min, ℕ, Bool, true, false, not, List, [], ◌∷◌, ◌++◌, length, filter, Option, Some, None}
+use Rattle.std.specs.Prelude.{◌≡◌, ◌≢◌, ◌^◌, ◌-◌, min, ℕ, Bool, true, false, not, List, [], ◌∷◌, ◌++◌, length, filter, Option}
 use Rattle.ssh_fields.specs.Fields.{AreBytes}
 use Rattle.ssh_grammar.specs.Said.{InControl, InProxy, parse}
 use Rattle.mux_outside.specs.House.{Asked}

@@ -1,5 +1,5 @@
 -- What an engine keeps.
-use Rattle.std.specs.Prelude.{◌≡◌, ℕ, Bool, true, false, not, List, [], ◌∷◌, ◌++◌, drop, filter, if◌then◌else◌, ◌==◌, ◌||◌, Option, Some, None, is_some, length}
+use Rattle.std.specs.Prelude.{◌≡◌, ℕ, Bool, true, false, not, List, [], ◌∷◌, ◌++◌, filter, if◌then◌else◌, ◌==◌, ◌||◌, Option, Some, None, is_some, length}
 use Rattle.proxy_frames.specs.Queued.{without_first}
 use Rattle.proxy_frames.specs.State.{QueueState}
 use Rattle.mux_history.specs.declared.why.Why.{Why}

@@ -1,10 +1,10 @@
 -- What each kind of event does to an engine of a run that goes on.
-use Rattle.std.specs.Prelude.{◌≡◌, ℕ, Bool, true, false, List, [], ◌∷◌, ◌++◌, Option, Some, None, if◌then◌else◌, ◌==◌}
+use Rattle.std.specs.Prelude.{◌≡◌, ℕ, Bool, false, List, [], ◌∷◌, ◌++◌, Option, None, if◌then◌else◌, ◌==◌}
 use Rattle.proxy_frames.specs.State.{QueueState}
 use Rattle.mux_history.specs.declared.why.Why.{Why}
 use Rattle.mux_history.specs.Promises.{is_empty}
 use Rattle.mux_clients.specs.State.{ClientState}
-use Rattle.mux_clients.specs.Stands.{is_lost, is_read}
+use Rattle.mux_clients.specs.Stands.{is_read}
 use Rattle.mux_core.specs.State.{CoreState}
 use Rattle.mux_clients.specs.Entering.{Enters, new_client}
 use Rattle.mux_machine.specs.Moves.{not_lost}

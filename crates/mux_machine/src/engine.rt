@@ -52,36 +52,11 @@ impl Model for Engine {
 
     ghost Value = { State };
 
-    ghost view = { λ a. record {
-      pid = a.pid;
-      core = a.core;
-      server = a.server;
-      up = a.up;
-      clients = a.clients.items;
-      refused = a.refused;
-      leaving = a.leaving.items;
-      waiting =
-          a.waiting;
-      listening = a.listening;
-      ended = a.ended;
-      starved = a.starved;
-    } };
+    ghost use Rattle.mux_machine.specs.Shown.{state_of};
 
-    ghost invariant = { λ a.
-        IsSound (record {
-          pid = a.pid;
-          core = a.core;
-          server = a.server;
-          up = a.up;
-          clients = a.clients.items;
-          refused = a.refused;
-          leaving = a.leaving.items;
-          waiting =
-              a.waiting;
-          listening = a.listening;
-          ended = a.ended;
-          starved = a.starved;
-        }) };
+    ghost view = { state_of };
+
+    ghost invariant = { λ a. IsSound (state_of a) };
 }
 
 fn went_by(ended: Option<Ended>) -> Went
@@ -179,9 +154,13 @@ impl Engine {
             Event::FromServer(bytes) => self.hear(bytes),
             Event::ServerEnd => {
                 let cause = self.server.end();
-                self.end(cause)
+                self.end(cause);
+                Ok(())
             }
-            Event::ServerFailed => self.end(Ended::ServerFailed),
+            Event::ServerFailed => {
+                self.end(Ended::ServerFailed);
+                Ok(())
+            }
         }
     }
 
@@ -282,11 +261,10 @@ impl Engine {
     }
 
     // The run is over.
-    fn end(&mut self, cause: Ended) -> Result<(), OutOfMemory>
+    fn end(&mut self, cause: Ended)
         requires starved { self.old.starved ≡ true }
         ensures { self.new ≡ over self.old cause }
     {
         self.ended = Some(cause);
-        Ok(())
     }
 }

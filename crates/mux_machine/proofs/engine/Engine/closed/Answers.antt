@@ -1,5 +1,6 @@
 use Rattle.std.proofs.Common.{sym, ap, ◌∙◌, subst}
 use Rattle.mux_machine.specs.Ready.{IsSound}
+use Rattle.mux_machine.specs.Shown.{state_of}
 use Rattle.mux_machine.specs.State.{State, closed_by}
 use Rattle.mux_machine.specs.Stands.{Closes}
 use Rattle.mux_machine.proofs.Closes.{closes}
@@ -9,12 +10,10 @@ use Rattle.mux_machine.proofs.engine.Engine.closed.Goals as goal
 
 pub invariant_of-self : goal.invariant_of-self
 invariant_of-self c =
-    let s = c.self.inside in
-    let parts : State = record { pid = s.pid; core = s.core; server = s.server; up = s.up; clients = s.clients.items; refused = s.refused; leaving = s.leaving.items; waiting = s.waiting; listening = s.listening; ended = s.ended; starved = s.starved } in
+    let parts : State = state_of c.self.inside in
     subst IsSound (sym (close-written parts c.args.client c.close_at.new.clients.items c.remove.new.self c.leave_at.new.leaving.items c.remove-2.new.self c.close_at.ensures c.remove.ensures c.leave_at.ensures c.remove-2.ensures)) (sound-closed parts c.args.client c.self.invariant)
 
 pub returns-clause-stands : goal.returns-clause-stands
 returns-clause-stands c =
-    let s = c.self.inside in
-    let parts : State = record { pid = s.pid; core = s.core; server = s.server; up = s.up; clients = s.clients.items; refused = s.refused; leaving = s.leaving.items; waiting = s.waiting; listening = s.listening; ended = s.ended; starved = s.starved } in
+    let parts : State = state_of c.self.inside in
     subst (λ (x : State). Closes c.args.self.now x c.args.client) (sym (close-written parts c.args.client c.close_at.new.clients.items c.remove.new.self c.leave_at.new.leaving.items c.remove-2.new.self c.close_at.ensures c.remove.ensures c.leave_at.ensures c.remove-2.ensures ∙ ap (λ (x : State). closed_by x c.args.client) c.self.view_is)) (closes c.args.self.now c.args.client c.requires)

@@ -1,5 +1,5 @@
-use Rattle.std.proofs.Common.{◌≡◌, [], ap, subst, ◌∙◌, filter, length, ◌++◌, sym}
-use Rattle.mux_machine.specs.State.{State, first_of}
+use Rattle.std.proofs.Common.{◌≡◌, [], subst}
+use Rattle.mux_machine.specs.State.{State}
 use Rattle.mux_machine.proofs.Sound.{none-refused}
 use Rattle.mux_machine.proofs.engine.Engine.closing.Goals as goal
 

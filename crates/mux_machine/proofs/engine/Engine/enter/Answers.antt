@@ -4,14 +4,14 @@ use Rattle.client_teardown.specs.declared.farewell.TheConstants.{FAREWELL_ROOM}
 use Rattle.mux_clients.specs.State.{ClientState}
 use Rattle.mux_clients.specs.Room.{served_in}
 use Rattle.mux_machine.specs.Ready.{IsReady}
+use Rattle.mux_machine.specs.Shown.{state_of}
 use Rattle.mux_machine.specs.State.{State}
 use Rattle.mux_machine.proofs.Written.{enter-written, enter_new, room-entered}
 use Rattle.mux_machine.proofs.engine.Engine.enter.Goals as goal
 
 pub returns-clause-enters : goal.returns-clause-enters
 returns-clause-enters c =
-    let s = c.self.inside in
-    let parts : State = record { pid = s.pid; core = s.core; server = s.server; up = s.up; clients = s.clients.items; refused = s.refused; leaving = s.leaving.items; waiting = s.waiting; listening = s.listening; ended = s.ended; starved = s.starved } in
+    let parts : State = state_of c.self.inside in
     on_ok_weaker c.list_waiting.result
     (λ waits. enter-written c.args.self.now parts (enter_new parts c.receive.new.clients.items c.receive.new.core c.reserve_farewells.new.up c.receive.new.refused c.receive.new.leaving.items c.list_waiting.new.list)
     c.args.client c.receive.new.clients.items c.receive.new.core c.reserve_farewells.new.up c.receive.new.refused c.receive.new.leaving.items c.deref-2.result.now c.list_waiting.new.list c.self.view_is refl record {
@@ -24,8 +24,7 @@ returns-clause-enters c =
 
 pub returns-clause-ready : goal.returns-clause-ready
 returns-clause-ready c =
-    let s = c.self.inside in
-    let parts : State = record { pid = s.pid; core = s.core; server = s.server; up = s.up; clients = s.clients.items; refused = s.refused; leaving = s.leaving.items; waiting = s.waiting; listening = s.listening; ended = s.ended; starved = s.starved } in
+    let parts : State = state_of c.self.inside in
     let was : IsReady parts = subst IsReady (sym c.self.view_is) c.requires.ready in
     on_ok_weaker c.list_waiting.result
     (λ waits. record {

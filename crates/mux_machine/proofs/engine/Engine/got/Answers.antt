@@ -1,5 +1,6 @@
 use Rattle.std.proofs.Common.{◌&&◌, not, refl, ap, ◌∙◌}
 use Rattle.std.proofs.lemmas.Result.{on_ok_weaker}
+use Rattle.mux_machine.specs.Shown.{state_of}
 use Rattle.mux_machine.specs.State.{State}
 use Rattle.mux_machine.specs.Steps.{is_heard}
 use Rattle.mux_machine.proofs.Written.{gain-written, gain_new}
@@ -7,8 +8,7 @@ use Rattle.mux_machine.proofs.engine.Engine.got.Goals as goal
 
 pub returns-clause-gains : goal.returns-clause-gains
 returns-clause-gains g c =
-    let s = c.self.inside in
-    let parts : State = record { pid = s.pid; core = s.core; server = s.server; up = s.up; clients = s.clients.items; refused = s.refused; leaving = s.leaving.items; waiting = s.waiting; listening = s.listening; ended = s.ended; starved = s.starved } in
+    let parts : State = state_of c.self.inside in
     on_ok_weaker c.list_waiting.result
     (λ waits read. gain-written g.H.House.may (g.H.House.told c.args.house.now) (g.H.House.told c.got_at.new.house) c.args.self.now parts
     (gain_new parts c.self.inside.clients.len c.got_at.new.clients c.got_at.new.core c.got_at.new.up c.in_ok-heard.heard c.note_loss.new.leaving.items c.list_waiting.new.list (c.self.inside.listening && not c.in_ok-heard.heard.stops))

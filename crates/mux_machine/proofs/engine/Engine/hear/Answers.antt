@@ -1,14 +1,14 @@
 use Rattle.std.proofs.Common.{List, ℕ, Option, ◌++◌, refl, ap, ◌∙◌}
 use Rattle.std.proofs.lemmas.Result.{on_ok_weaker}
 use Rattle.mux_history.specs.declared.why.Why.{Why}
+use Rattle.mux_machine.specs.Shown.{state_of}
 use Rattle.mux_machine.specs.State.{State}
 use Rattle.mux_machine.proofs.Written.{hear-written, hear_new}
 use Rattle.mux_machine.proofs.engine.Engine.hear.Goals as goal
 
 pub returns-clause-heard : goal.returns-clause-heard
 returns-clause-heard c =
-    let s = c.self.inside in
-    let parts : State = record { pid = s.pid; core = s.core; server = s.server; up = s.up; clients = s.clients.items; refused = s.refused; leaving = s.leaving.items; waiting = s.waiting; listening = s.listening; ended = s.ended; starved = s.starved } in
+    let parts : State = state_of c.self.inside in
     on_ok_weaker c.list_waiting.result
     (λ waits. hear-written c.args.self.now parts (hear_new parts c.self.inside.clients.len c.got.new.clients c.got.new.core c.got.new.up c.got.new.self c.extend_from_slice.new.self.items c.list_waiting.new.list c.in_ok-self-inside.field-0)
     c.args.bytes.now c.self.inside.clients.len c.deref_mut.result.now c.got.new.clients c.deref-2.result.now c.got.new.core c.got.new.up c.got.new.self c.new-lost.result.items c.got.new.leaving.items c.extend_from_slice.new.self.items c.list_waiting.new.list c.in_ok-self-inside.field-0 c.self.view_is refl record {

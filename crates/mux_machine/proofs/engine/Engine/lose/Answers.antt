@@ -1,5 +1,6 @@
 use Rattle.std.proofs.Common.{refl, ap, ◌∙◌}
 use Rattle.std.proofs.lemmas.Result.{on_ok_weaker}
+use Rattle.mux_machine.specs.Shown.{state_of}
 use Rattle.mux_machine.specs.State.{State}
 use Rattle.mux_machine.specs.Steps.{is_served}
 use Rattle.mux_machine.proofs.Written.{lose-written, lose_new}
@@ -7,8 +8,7 @@ use Rattle.mux_machine.proofs.engine.Engine.lose.Goals as goal
 
 pub returns-clause-loses : goal.returns-clause-loses
 returns-clause-loses c =
-    let s = c.self.inside in
-    let parts : State = record { pid = s.pid; core = s.core; server = s.server; up = s.up; clients = s.clients.items; refused = s.refused; leaving = s.leaving.items; waiting = s.waiting; listening = s.listening; ended = s.ended; starved = s.starved } in
+    let parts : State = state_of c.self.inside in
     on_ok_weaker c.list_waiting.result
     (λ waits served. lose-written c.args.self.now parts (lose_new parts c.self.inside.clients.len c.lose_at.new.clients c.lose_at.new.core c.lose_at.new.up c.push.new.self.items c.list_waiting.new.list)
     c.args.client c.self.inside.clients.len c.deref_mut.result.now c.lose_at.new.clients c.deref-2.result.now c.lose_at.new.core c.lose_at.new.up c.push.new.self.items c.list_waiting.new.list c.self.view_is refl record {

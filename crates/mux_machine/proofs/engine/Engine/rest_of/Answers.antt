@@ -1,19 +1,18 @@
 use Rattle.std.proofs.Common.{◌≡◌, false}
 use Rattle.std.specs.Prelude.{is_some}
+use Rattle.mux_machine.specs.Shown.{state_of}
 use Rattle.mux_machine.specs.State.{State}
 use Rattle.mux_machine.proofs.Rests.{client-rest, server-rest}
 use Rattle.mux_machine.proofs.engine.Engine.rest_of.Goals as goal
 
 pub returns-then-stream-eq0-clause-short : goal.returns-then-stream-eq0-clause-short
 returns-then-stream-eq0-clause-short c =
-    let s = c.self.inside in
-    let parts : State = record { pid = s.pid; core = s.core; server = s.server; up = s.up; clients = s.clients.items; refused = s.refused; leaving = s.leaving.items; waiting = s.waiting; listening = s.listening; ended = s.ended; starved = s.starved } in
+    let parts : State = state_of c.self.inside in
     let on : is_some c.self.inside.ended ≡ false = cc (c.is_some.ensures, c.if-is_some.false) in
     λ picked given marks closed st. server-rest c.args.self.now parts c.rest_len.result picked given marks closed c.self.view_is c.rest_len.ensures on st
 
 pub returns-clause-short : goal.returns-clause-short
 returns-clause-short c =
-    let s = c.self.inside in
-    let parts : State = record { pid = s.pid; core = s.core; server = s.server; up = s.up; clients = s.clients.items; refused = s.refused; leaving = s.leaving.items; waiting = s.waiting; listening = s.listening; ended = s.ended; starved = s.starved } in
+    let parts : State = state_of c.self.inside in
     let on : is_some c.self.inside.ended ≡ false = cc (c.is_some.ensures, c.if-is_some.false) in
     λ picked given marks closed st. client-rest c.args.self.now parts c.args.stream c.rest_at.result c.deref.result.now picked given marks closed c.self.view_is c.deref.ensures.value c.rest_at.ensures.exact c.rest_at.ensures.unheard on st

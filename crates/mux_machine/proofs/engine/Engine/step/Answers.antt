@@ -4,7 +4,7 @@ use Rattle.mux_clients.specs.Server.{stream_end}
 use Rattle.mux_machine.specs.State.{State, over}
 use Rattle.mux_machine.proofs.Endings.{alone-ends, asking-ends}
 use Rattle.mux_machine.proofs.Kept.{asking-keeps, did-keeps}
-use Rattle.mux_machine.proofs.Stepped.{DidAlone, DidAsking, asking-goes, cause-as, did-goes, gained-on, lost-on, on-all}
+use Rattle.mux_machine.proofs.Stepped.{DidAlone, DidAsking, asking-goes, cause-as, did-goes, gained-on, lost-on}
 use Rattle.mux_machine.proofs.engine.Engine.step.Goals as goal
 
 pub returns-in-Accepted-clause-stands : goal.returns-in-Accepted-clause-stands
@@ -35,10 +35,10 @@ pub returns-in-FromServer-clause-ends : goal.returns-in-FromServer-clause-ends
 returns-in-FromServer-clause-ends g c = on_ok_weaker c.hear.result (λ d mark t. alone-ends c.args.self.now c.hear.new.self c.args.e mark (subst (DidAlone c.args.self.now c.hear.new.self) (sym c.in-FromServer.is) d) t) c.hear.ensures.heard
 
 pub returns-in-ServerEnd-clause-stands : goal.returns-in-ServerEnd-clause-stands
-returns-in-ServerEnd-clause-stands g c = on_ok_weaker c.end.result (λ d mark t. did-goes g.H.House.may (g.H.House.told c.args.house.now) c.args.self.now c.end.new.self c.args.e mark c.requires.goes (subst (DidAlone c.args.self.now c.end.new.self) (sym c.in-ServerEnd.is) d) t) (on-all c.end.result (c.end.ensures ∙ ap (over c.args.self.now) (c.end-cause.ensures ∙ (ap (λ (x : State). stream_end x.server.rest x.server.index) c.self.view_is ∙ cause-as c.args.self.now))))
+returns-in-ServerEnd-clause-stands g c = λ mark t. did-goes g.H.House.may (g.H.House.told c.args.house.now) c.args.self.now c.end.new.self c.args.e mark c.requires.goes (subst (DidAlone c.args.self.now c.end.new.self) (sym c.in-ServerEnd.is) (c.end.ensures ∙ ap (over c.args.self.now) (c.end-cause.ensures ∙ (ap (λ (x : State). stream_end x.server.rest x.server.index) c.self.view_is ∙ cause-as c.args.self.now)))) t
 
 pub returns-in-ServerFailed-clause-stands : goal.returns-in-ServerFailed-clause-stands
-returns-in-ServerFailed-clause-stands g c = on_ok_weaker c.end-in-ServerFailed.result (λ d mark t. did-goes g.H.House.may (g.H.House.told c.args.house.now) c.args.self.now c.end-in-ServerFailed.new.self c.args.e mark c.requires.goes (subst (DidAlone c.args.self.now c.end-in-ServerFailed.new.self) (sym c.in-ServerFailed.is) d) t) (on-all c.end-in-ServerFailed.result c.end-in-ServerFailed.ensures)
+returns-in-ServerFailed-clause-stands g c = λ mark t. did-goes g.H.House.may (g.H.House.told c.args.house.now) c.args.self.now c.end-in-ServerFailed.new.self c.args.e mark c.requires.goes (subst (DidAlone c.args.self.now c.end-in-ServerFailed.new.self) (sym c.in-ServerFailed.is) c.end-in-ServerFailed.ensures) t
 
 pub returns-in-FromClient-clause-stands : goal.returns-in-FromClient-clause-stands
 returns-in-FromClient-clause-stands g c = on_ok_weaker c.got.result (λ d mark t. asking-goes (g.H.House.may) (g.H.House.told c.args.house.now) (g.H.House.told c.got.new.house) c.args.self.now c.got.new.self c.args.e mark c.requires.goes (subst (DidAsking (g.H.House.may) (g.H.House.told c.args.house.now) (g.H.House.told c.got.new.house) c.args.self.now c.got.new.self) (sym c.in-FromClient.is) d) t) (gained-on c.got.result (g.H.House.may) (g.H.House.told c.args.house.now) (g.H.House.told c.got.new.house) c.args.self.now c.got.new.self c.in-FromClient.client c.in-FromClient.bytes.now c.got.ensures.gains c.got.ensures.stays c.got.ensures.untold c.got.ensures.policy c.got.ensures.numbers)
