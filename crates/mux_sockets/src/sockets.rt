@@ -1,8 +1,8 @@
 // The sockets of a run, and which of them are ready, in the order in which they became so.
-ghost use Rattle.std.specs.Prelude.{◌≡◌, ◌≢◌, ℕ, List, Option, Err, IfOk, IfSome, IsNone, IsSome, IsUtf8, OnOk, false};
+ghost use Rattle.std.specs.Prelude.{◌≡◌, ◌≢◌, ℕ, List, Option, Err, IfOk, IfSome, IsNone, IsSome, IsUtf8, None, OnOk, false};
 ghost use Rattle.std.specs.IoError.{error_kind};
 ghost use Rattle.mux_sockets.specs.Sockets.{FoundFits};
-ghost use Rattle.mux_sockets.specs.Entries.{IsStream, OthersStay};
+ghost use Rattle.mux_sockets.specs.Entries.{IsStream, OthersStay, first_key};
 ghost use Rattle.slab.specs.Slab.{get};
 
 mod served;
@@ -158,7 +158,8 @@ impl<R: Files + Net + Clone + Drop> Sockets<R> {
 
     // The key of a stream.
     fn key_of(&self, number: u64) -> Option<usize>
-        ensures { IfSome result (λ key. IsStream number (get self.now.entries key)) }
+        ensures held { IfSome result (λ key. IsStream number (get self.now.entries key)) }
+        ensures first { result ≡ first_key number self.now.entries }
     {
         for (key, entry) in self.entries.iter() {
             if entry.number == number {
@@ -170,7 +171,9 @@ impl<R: Files + Net + Clone + Drop> Sockets<R> {
 
     /// Lets go of a stream.
     pub fn remove(&mut self, number: u64)
-        ensures { OthersStay number self.old.entries self.new.entries }
+        ensures gone { IfSome (first_key number self.old.entries)
+            (λ key. get self.new.entries key ≡ None) }
+        ensures others { OthersStay number self.old.entries self.new.entries }
     {
         let Some(key) = self.key_of(number) else {
             return;
