@@ -1,4 +1,4 @@
-ghost use Rattle.std.specs.Prelude.{◌≡◌, ◌++◌, [], List, OnOk, IfErr, IfOk, true, false, length, Ok};
+ghost use Rattle.std.specs.Prelude.{◌≡◌, ◌++◌, [], List, OnOk, OnErr, IfErr, IfOk, true, false, length, Ok};
 ghost use Rattle.std.specs.Option.{option_copied};
 ghost use Rattle.conf_rules.specs.Told.{Told};
 ghost use Rattle.conf_rules.specs.Sources.{asked_line};
@@ -137,6 +137,7 @@ impl Fold {
             → Stands told First self.old rows blocks → Behind told rows
             → SecondBegins told rows self.new again) }
         ensures same { result ≡ Ok false → self.new ≡ self.old }
+        ensures err { OnErr result (self.new ≡ self.old) }
     {
         if !self.asks_again {
             return Ok(false);

@@ -64,6 +64,10 @@ pub fn hear_at(
     ensures hears { OnOk result (HearsAt number (frame_payload payload.now ∷ refusals_of refusals)
         leaving.old.items leaving.new.items core.old core.new up.old up.new clients.old
         clients.new) }
+    ensures absent { is_present clients.old number ≡ false
+        → IsUntouched clients.old clients.new core.old core.new up.old up.new }
+    ensures unnoted { is_present clients.old number ≡ false
+        → leaving.new.items ≡ leaving.old.items }
     ensures present { OnOk result ((j : ℕ) → is_present clients.new j ≡ is_present clients.old j) }
     ensures room { OnOk result (HasRoom clients.old up.old → HasRoom clients.new up.new) }
     ensures policy { core.new.policy ≡ core.old.policy }

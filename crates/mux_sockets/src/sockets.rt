@@ -1,7 +1,9 @@
 // The sockets of a run, and which of them are ready, in the order in which they became so.
-ghost use Rattle.std.specs.Prelude.{◌≡◌, ◌≢◌, ℕ, List, Option, Err, IsUtf8};
+ghost use Rattle.std.specs.Prelude.{◌≡◌, ◌≢◌, ℕ, List, Option, Err, IfOk, IfSome, IsNone, IsSome, IsUtf8, None, OnOk, false};
 ghost use Rattle.std.specs.IoError.{error_kind};
 ghost use Rattle.mux_sockets.specs.Sockets.{FoundFits};
+ghost use Rattle.mux_sockets.specs.Entries.{IsStream, OthersStay, first_key};
+ghost use Rattle.slab.specs.Slab.{get};
 
 mod served;
 
@@ -82,6 +84,7 @@ impl<R: Files + Net + Clone + Drop> Sockets<R> {
         transport: &[u8],
     ) -> Result<Sockets<R>, Fault>
         ensures not_text { ¬ (IsUtf8 control.now) → result ≡ Err Fault.Control }
+        ensures listens { IfOk result (λ sockets. IsSome sockets.listening) }
     {
         let Ok(path) = str::from_utf8(control) else {
             return Err(Fault::Control);
@@ -90,7 +93,9 @@ impl<R: Files + Net + Clone + Drop> Sockets<R> {
     }
 
     // The same, at a path that is text.
-    fn open_at(rt: &R, alloc: Global, path: &str, transport: &[u8]) -> Result<Sockets<R>, Fault> {
+    fn open_at(rt: &R, alloc: Global, path: &str, transport: &[u8]) -> Result<Sockets<R>, Fault>
+        ensures { IfOk result (λ sockets. IsSome sockets.listening) }
+    {
         let unnamed = listen_beside(rt, alloc, path).map_err(|e| fault_of(&e, Fault::Control))?;
         let mut sockets = Sockets::connected(rt, alloc, transport).map_err(|e| fault_of(
             &e,
@@ -123,13 +128,9 @@ impl<R: Files + Net + Clone + Drop> Sockets<R> {
     }
 
     // Gives the control socket its name, and takes it in.
-    fn publish(
-        &mut self,
-        rt: &R,
-        alloc: Global,
-        path: &str,
-        unnamed: Unnamed<R>,
-    ) -> io::Result<()> {
+    fn publish(&mut self, rt: &R, alloc: Global, path: &str, unnamed: Unnamed<R>) -> io::Result<()>
+        ensures { OnOk result (IsSome self.new.listening) }
+    {
         let (mut listener, control) = unnamed.publish(rt, alloc, path)?;
         self.poll
             .registry()
@@ -155,7 +156,11 @@ impl<R: Files + Net + Clone + Drop> Sockets<R> {
         Ok(())
     }
 
-    fn key_of(&self, number: u64) -> Option<usize> {
+    // The key of a stream.
+    fn key_of(&self, number: u64) -> Option<usize>
+        ensures held { IfSome result (λ key. IsStream number (get self.now.entries key)) }
+        ensures first { result ≡ first_key number self.now.entries }
+    {
         for (key, entry) in self.entries.iter() {
             if entry.number == number {
                 return Some(key);
@@ -164,7 +169,12 @@ impl<R: Files + Net + Clone + Drop> Sockets<R> {
         None
     }
 
-    pub fn remove(&mut self, number: u64) {
+    /// Lets go of a stream.
+    pub fn remove(&mut self, number: u64)
+        ensures gone { IfSome (first_key number self.old.entries)
+            (λ key. get self.new.entries key ≡ None) }
+        ensures others { OthersStay number self.old.entries self.new.entries }
+    {
         let Some(key) = self.key_of(number) else {
             return;
         };
@@ -176,14 +186,21 @@ impl<R: Files + Net + Clone + Drop> Sockets<R> {
         }
     }
 
-    pub fn stop_listening(&mut self) {
+    /// Accepts no more clients, and lets go of the listener and its name.
+    pub fn stop_listening(&mut self)
+        ensures deaf { IsNone self.new.listening }
+        ensures unpaused { self.new.pauses ≡ false }
+        ensures entries { self.new.entries ≡ self.old.entries }
+    {
         self.listening = None;
         self.pauses = false;
         self.ready.retain(|r| *r != Ready::Accept);
     }
 
     // Tries to accept again.
-    fn resume(&mut self) {
+    fn resume(&mut self)
+        ensures { self.new.entries ≡ self.old.entries }
+    {
         if note(&mut self.ready, Ready::Accept).is_ok() {
             self.pauses = false;
         }

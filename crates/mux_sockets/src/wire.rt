@@ -1,4 +1,4 @@
-ghost use Rattle.std.specs.Prelude.{◌≡◌, ◌<◌, ◌+◌, ◌++◌, ℕ, List, [], length, false, true, IfSome, IsErr, IsTrue, IsUtf8, None};
+ghost use Rattle.std.specs.Prelude.{◌≡◌, ◌<◌, ◌+◌, ◌++◌, ℕ, List, [], length, false, true, IfSome, IsErr, IsNone, IsSome, IsSomeAnd, IsTrue, IsUtf8, None, OnOk};
 ghost use Rattle.mux_outside.specs.Seen.{no_calls, seen_after_open};
 ghost use Rattle.mux_outside.specs.Streams.{among};
 ghost use Rattle.mux_outside.specs.Tally.{no_tally};
@@ -172,6 +172,8 @@ impl<R: Files + Net + Clone + Drop> Wire for RealWire<R> {
 
     fn open(&mut self, control: &[u8], transport: &[u8]) -> Result<(), FileError>
         ensures not_text { ¬ (IsUtf8 control.now) → IsErr result }
+        ensures listens { OnOk result
+            (IsSomeAnd self.new.sockets (λ sockets. IsSome sockets.listening)) }
         ensures seen { untold self.new.streams self.new.blocked self.new.listening self.new.last
             ≡ seen_after_open result
             (untold self.old.streams self.old.blocked self.old.listening self.old.last) }
@@ -215,7 +217,14 @@ impl<R: Files + Net + Clone + Drop> Wire for RealWire<R> {
         wrote
     }
 
-    fn stop_listening(&mut self) {
+    fn stop_listening(&mut self)
+        ensures deaf { IfSome self.new.sockets (λ sockets. IsNone sockets.listening) }
+        ensures seen { untold self.new.streams self.new.blocked self.new.listening self.new.last
+            ≡ untold self.old.streams self.old.blocked false self.old.last }
+        ensures calls { self.new.calls ≡ self.old.calls }
+        ensures server { self.new.server_faults ≡ self.old.server_faults }
+        ensures client { self.new.client_faults ≡ self.old.client_faults }
+    {
         self.listening = false;
         if let Some(sockets) = &mut self.sockets {
             sockets.stop_listening();

@@ -2,6 +2,7 @@
 ghost use Rattle.std.specs.Prelude.{◌≡◌, ◌<◌, length, ℕ, Option, IfSome, IfNone};
 ghost use Rattle.mux_outside.specs.Wire.{WroteFits};
 ghost use Rattle.mux_sockets.specs.Sockets.{FoundFits};
+ghost use Rattle.mux_sockets.specs.Entries.{IsBlocked, OthersStay};
 
 use super::{Ready, Sockets, note};
 use crate::stream::Stream;
@@ -99,9 +100,12 @@ impl<R: Files + Net + Clone + Drop> Sockets<R> {
         }
     }
 
+    /// Hands bytes to a stream, which takes one of them at least, or none for now.
     pub fn write(&mut self, number: u64, bytes: &[u8]) -> Wrote
         requires { 0 < length bytes.now }
-        ensures { WroteFits result (length bytes.now) }
+        ensures fits { WroteFits result (length bytes.now) }
+        ensures waits { result ≡ Wrote.Later → IsBlocked number self.new.entries }
+        ensures others { OthersStay number self.old.entries self.new.entries }
     {
         let Some(key) = self.key_of(number) else {
             return Wrote::Failed;

@@ -5,7 +5,7 @@ use Rattle.mux_clients.specs.Among.{HearsNoting, is_present}
 use Rattle.mux_clients.specs.Losing.{loss_between}
 use Rattle.mux_clients.proofs.Keeping.{among-loss, keep-same, keep-set}
 use Rattle.mux_clients.proofs.Noted.{loss-same}
-use Rattle.mux_clients.proofs.Placed.{placed-absent, placed-present, present-set, set-changes}
+use Rattle.mux_clients.proofs.Placed.{placed-absent, placed-here, placed-present, present-set, set-changes}
 use Rattle.mux_clients.proofs.Rooms.{room-at, room-set}
 use Rattle.mux_clients.proofs.among.hear_at.Goals as goal
 
@@ -40,3 +40,21 @@ returns-in_ok-note_loss-clause-room c = room-set c.index_of-i.result c.index-cli
 
 pub hears-requires-clause-room : goal.hears-requires-clause-room
 hears-requires-clause-room c = λ here. room-at c.index_of-i.result c.index-clients-i.result c.args.clients.now c.args.up.now c.if-i-clients.true here c.requires.room
+
+pub returns-in_ok-note_loss-clause-absent : goal.returns-in_ok-note_loss-clause-absent
+returns-in_ok-note_loss-clause-absent c = λ gone. placed-here c.args.number c.index_of-i.result c.args.clients.now c.index_of-i.ensures c.if-i-clients.true gone
+
+pub returns-in_ok-note_loss-clause-unnoted : goal.returns-in_ok-note_loss-clause-unnoted
+returns-in_ok-note_loss-clause-unnoted c = λ gone. placed-here c.args.number c.index_of-i.result c.args.clients.now c.index_of-i.ensures c.if-i-clients.true gone
+
+pub returns-in_err-note_loss-clause-absent : goal.returns-in_err-note_loss-clause-absent
+returns-in_err-note_loss-clause-absent c = λ gone. placed-here c.args.number c.index_of-i.result c.args.clients.now c.index_of-i.ensures c.if-i-clients.true gone
+
+pub returns-in_err-note_loss-clause-unnoted : goal.returns-in_err-note_loss-clause-unnoted
+returns-in_err-note_loss-clause-unnoted c = λ gone. placed-here c.args.number c.index_of-i.result c.args.clients.now c.index_of-i.ensures c.if-i-clients.true gone
+
+pub returns-in_err-hears-clause-absent : goal.returns-in_err-hears-clause-absent
+returns-in_err-hears-clause-absent c = λ gone. placed-here c.args.number c.index_of-i.result c.args.clients.now c.index_of-i.ensures c.if-i-clients.true gone
+
+pub returns-in_err-hears-clause-unnoted : goal.returns-in_err-hears-clause-unnoted
+returns-in_err-hears-clause-unnoted c = λ gone. placed-here c.args.number c.index_of-i.result c.args.clients.now c.index_of-i.ensures c.if-i-clients.true gone
