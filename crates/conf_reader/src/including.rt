@@ -1,4 +1,4 @@
-// The files that the last line includes.
+//! The files that the last line includes.
 
 ghost use Rattle.std.specs.Prelude.{◌≡◌, ◌-◌, IfSome, IsSome, OnOk};
 ghost use Rattle.std.specs.Option.{option_copied, option_and_then, option_map};

@@ -1,4 +1,4 @@
-// The next line of all files, line by line.
+//! The next line of all files, line by line.
 
 ghost use Rattle.std.specs.Prelude.{◌≡◌, ℕ, IfOk, IfSome, OnOk, true, Ok, []};
 ghost use Rattle.std.specs.List.{list_all};

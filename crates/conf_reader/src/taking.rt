@@ -1,4 +1,4 @@
-// The next line of the files that are being read.
+//! The next line of the files that are being read.
 
 ghost use Rattle.std.specs.Prelude.{◌≡◌, ◌<◌, ◌≤◌, ◌+◌, ℕ, IfOk, IfErr, IfSome, IsSome, false, length, None, Ok};
 ghost use Rattle.std.specs.Option.{option_map};

@@ -1,4 +1,4 @@
-// What the server says of channels.
+//! What the server says of channels.
 
 ghost use Rattle.std.specs.Prelude.{◌≡◌, IfOk, OnErr};
 ghost use Rattle.mux_history.specs.Gist.{Confirmation, Fails, Open, Within};

@@ -1,4 +1,4 @@
-// What a client asks of the server beside its channels.
+//! What a client asks of the server beside its channels.
 
 ghost use Rattle.std.specs.Prelude.{◌≡◌, true, IfOk, OnOk, OnErr};
 ghost use Rattle.ssh_grammar.specs.declared.framing.Framing.TheVariants.{Proxy};

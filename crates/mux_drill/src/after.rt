@@ -1,4 +1,4 @@
-// What a step leaves.
+//! What a step leaves.
 ghost use Rattle.std.specs.Prelude.{◌≡◌, ◌≤◌};
 ghost use Rattle.mux_drill.specs.Course.{stage_after as after, place_of, last_of, from_message as message_or_close, drawn_after, counting};
 ghost use Rattle.mux_drill.specs.Generator.{length_of};

@@ -1,4 +1,4 @@
-// What clients, server and master write in a drill.
+//! What clients, server and master write in a drill.
 ghost use Rattle.std.specs.Prelude.{◌≡◌, ◌≤◌, ◌<◌, ◌+◌, ◌^◌, [], ◌++◌, OnOk, IfOk, length, replicate, codes};
 ghost use Rattle.ssh_fields.specs.Fields.{u32, u32_at};
 ghost use Rattle.ssh_grammar.specs.Frames.{frame_body, frame_payload};

@@ -1,4 +1,4 @@
-// The step of a stage.
+//! The step of a stage.
 ghost use Rattle.std.specs.Prelude.{◌≡◌, ◌≤◌, IfOk};
 ghost use Rattle.mux_drill.specs.Course.{place_of, last_of, draws_at};
 ghost use Rattle.mux_drill.specs.Generator.{drawn};

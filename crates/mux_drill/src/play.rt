@@ -1,4 +1,4 @@
-// How a drill is played, turn by turn.
+//! How a drill is played, turn by turn.
 ghost use Rattle.std.specs.Prelude.{◌≡◌, ◌≢◌, ◌≤◌, length, IsTrue, IfOk, true, false};
 ghost use Rattle.mux_outside.specs.Streams.{among};
 ghost use Rattle.mux_outside.specs.Wire.{TurnFits};

@@ -1,4 +1,4 @@
-// The steps of a drill.
+//! The steps of a drill.
 ghost use Rattle.std.specs.Prelude.{◌≡◌, ◌≤◌, ◌-◌, ◌==◌, if◌then◌else◌, [], IfOk, slice_index};
 ghost use Rattle.mux_drill.specs.Frames.{greeting, welcome, close_frame};
 ghost use Rattle.mux_drill.specs.Generator.{IsMessage};

@@ -1,4 +1,4 @@
-// The limits of a master, which code and definitions name alike.
+//! The limits of a master, which code and definitions name alike.
 
 /// Clients with open matters.
 pub const MAX_CLIENTS: usize = 64;

@@ -1,4 +1,4 @@
-// What an engine does to one of its clients, and to the lists of streams that it keeps.
+//! What an engine does to one of its clients, and to the lists of streams that it keeps.
 
 ghost use Rattle.std.specs.Prelude.{if◌then◌else◌, ◌≡◌, ◌≤◌, ◌+◌, ◌*◌, ◌++◌, [], ℕ, length, filter, not, ◌==◌, OnOk, OnErr, true, false};
 ghost use Rattle.client_teardown.specs.declared.farewell.TheConstants.{FAREWELL_ROOM as TheRoom};

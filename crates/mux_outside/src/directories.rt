@@ -1,4 +1,4 @@
-// The files and directories of a list of paths and contents.
+//! The files and directories of a list of paths and contents.
 ghost use Rattle.std.specs.Prelude.{◌≡◌, IfOk};
 ghost use Rattle.std.specs.Option.{option_map};
 ghost use Rattle.std.specs.List.{before_first, list_any};

@@ -1,4 +1,4 @@
-// What a script gives next.
+//! What a script gives next.
 ghost use Rattle.std.specs.Prelude.{◌≡◌, ◌≤◌, drop, take, length, IfSome};
 ghost use Rattle.mux_outside.specs.declared.turn.Want.TheVariants.{Read};
 ghost use Rattle.mux_outside.specs.Streams.{among};

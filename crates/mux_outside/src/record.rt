@@ -1,4 +1,4 @@
-// What a wire in memory records of its calls: all of it, or nothing for want of memory.
+//! What a wire in memory records of its calls: all of it, or nothing for want of memory.
 ghost use Rattle.std.specs.Prelude.{◌≡◌, ◌≢◌, ◌++◌, OnOk, OnErr, IfOk, ◌∷◌, [], length};
 ghost use Rattle.mux_outside.specs.Wire.{turn_marks, wait_marks, open_after, WroteFits, write_marks, blocked_after_write};
 ghost use Rattle.mux_outside.specs.declared.turn.Turn.TheVariants.{NoMemory};

@@ -1,4 +1,4 @@
-// The control socket and its name in the file system.
+//! The control socket and its name in the file system.
 use libc::net::listen;
 use mio::net::UnixListener;
 use std::alloc::Global;

@@ -1,4 +1,4 @@
-// Errors of the system as a caller of the outside sees them.
+//! Errors of the system as a caller of the outside sees them.
 ghost use Rattle.std.specs.Prelude.{◌≡◌, ◌↔◌};
 ghost use Rattle.std.specs.IoError.{error_kind};
 ghost use Rattle.mux_outside.specs.Counts.{HasCause};

@@ -1,4 +1,4 @@
-// The sockets of a run, and which of them are ready, in the order in which they became so.
+//! The sockets of a run, and which of them are ready, in the order in which they became so.
 ghost use Rattle.std.specs.Prelude.{◌≡◌, ◌≢◌, ℕ, List, Option, Err, IfOk, IfSome, IsNone, IsSome, IsUtf8, None, OnOk, false};
 ghost use Rattle.std.specs.IoError.{error_kind};
 ghost use Rattle.mux_sockets.specs.Sockets.{FoundFits};

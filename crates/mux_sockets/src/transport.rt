@@ -1,4 +1,4 @@
-// The connection to the server.
+//! The connection to the server.
 ghost use Rattle.std.specs.Prelude.{IfOk};
 ghost use Rattle.mux_sockets.specs.Transport.{IsOver, IsOverUnix};
 

@@ -1,4 +1,4 @@
-// What came of a row, as lines.
+//! What came of a row, as lines.
 use crate::marks::add_marks;
 use crate::play::Played;
 use crate::scripted::took_line;

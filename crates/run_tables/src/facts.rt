@@ -1,4 +1,4 @@
-// What a row knows of the machine.
+//! What a row knows of the machine.
 use mux_outside::{Facts, Pair, Pairs};
 use ssh_fields::{OutOfMemory, Text};
 use std::alloc::Global;

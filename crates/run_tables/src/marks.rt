@@ -1,4 +1,4 @@
-// The marks of a wire as lines.
+//! The marks of a wire as lines.
 use mux_outside::{Mark, Streams, Want};
 use ssh_fields::{OutOfMemory, Text, Texts};
 use std::alloc::Global;

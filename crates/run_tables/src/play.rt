@@ -1,4 +1,4 @@
-// Plays a row.
+//! Plays a row.
 use crate::answer::{lines_of, summary_of};
 use crate::row::Row;
 use mux_drill::DrillWire;

@@ -1,4 +1,4 @@
-// One row: what a run is to be played over, and what must come of it.
+//! One row: what a run is to be played over, and what must come of it.
 use crate::facts::{ann, forget_fact, set_fact, set_variable};
 use crate::scripted::{add_writes, bytes_of, step_of, took_line};
 use crate::spelling::unescape;

@@ -1,4 +1,4 @@
-// What the lines of a row say of a scripted wire: steps, answers to writes, and bytes.
+//! What the lines of a row say of a scripted wire: steps, answers to writes, and bytes.
 use crate::spelling::{add_hex, spell_frames, unescape};
 use mux_outside::{Pairs, Step, WriteEntry, Writes};
 use ssh_fields::{OutOfMemory, Text};

@@ -1,4 +1,4 @@
-// Bytes as the lines of a table spell them.
+//! Bytes as the lines of a table spell them.
 ghost use Rattle.std.specs.Prelude.{◌<◌, IfSome};
 
 use ssh_fields::{OutOfMemory, Text};

@@ -1,4 +1,4 @@
-// A table of rows, line by line.
+//! A table of rows, line by line.
 use crate::play::play;
 use crate::row::Row;
 use crate::scripted::bytes_of;

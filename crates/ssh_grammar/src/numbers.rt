@@ -1,4 +1,4 @@
-// The numbers of the protocol, in the order of their standards.
+//! The numbers of the protocol, in the order of their standards.
 
 // ---- messages: RFC 4250, section 4.1.2
 

@@ -1,4 +1,4 @@
-// The blocks that are open, and what counts in them.
+//! The blocks that are open, and what counts in them.
 
 ghost use Rattle.std.specs.Prelude.{◌≡◌, ◌≤◌, ◌<◌, ◌^◌, ◌++◌, ◌∷◌, [], List, OnOk, OnErr, true, length, take, Ok, ◌||◌, ◌&&◌};
 ghost use Rattle.std.specs.List.{list_any, list_all};

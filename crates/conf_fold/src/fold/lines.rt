@@ -1,4 +1,4 @@
-// One line of a file: what it says, and what comes of it.
+//! One line of a file: what it says, and what comes of it.
 
 ghost use Rattle.std.specs.Prelude.{◌≡◌, ◌≤◌, ◌<◌, ◌+◌, [], OnOk, OnErr, IfErr, IfOk, true, false, length, Ok};
 ghost use Rattle.conf_rules.specs.Texts.{or_text};

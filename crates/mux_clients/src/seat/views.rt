@@ -1,4 +1,4 @@
-// What a seat shows, and what is taken from it.
+//! What a seat shows, and what is taken from it.
 
 ghost use Rattle.std.specs.Prelude.{◌≡◌, ◌≤◌, drop, length};
 ghost use Rattle.mux_clients.specs.Stands.{is_read, is_proxied, is_greeted};

@@ -1,4 +1,4 @@
-// The channels that are held.
+//! The channels that are held.
 
 ghost use Rattle.std.specs.Prelude.{◌≡◌, ◌+◌, ◌++◌, ◌∷◌, [], not, is_some, IfOk, OnErr};
 ghost use Rattle.channel_table.specs.Entries.{IsFree, RefusesAs, changed_at, freed, number_of_own, number_of_remote, own_entry, own_refusal, remote_entry, remote_refusal, with_ledger, with_own, with_remote};

@@ -1,4 +1,4 @@
-// The requests that wait for a reply, and the forwardings.
+//! The requests that wait for a reply, and the forwardings.
 
 ghost use Rattle.std.specs.Prelude.{◌≡◌, ◌+◌, ◌++◌, ◌∷◌, [], true, false, length, IfOk, IfSome, OnOk, OnErr};
 ghost use Rattle.global_replies.specs.Replies.{FirstAsked, after_reply, is_none_left, or_behind, refusals_behind, request_of, rest_of};

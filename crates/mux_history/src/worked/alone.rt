@@ -1,5 +1,5 @@
-// Clients alone: each sees what it sees among others, and the premises of the laws hold of worked
-// runs.
+//! Clients alone: each sees what it sees among others, and the premises of the laws hold of worked
+//! runs.
 
 ghost use Rattle.std.specs.Prelude.{◌≡◌, [], ◌∷◌, IsTrue, false, reverse, true};
 ghost use Rattle.mux_outside.specs.declared.mark.Mark.TheVariants.{Accepts};

@@ -1,4 +1,4 @@
-// The control phase.
+//! The control phase.
 
 ghost use Rattle.std.specs.Prelude.{◌≡◌, [], ◌∷◌, ◌++◌, codes, Some, None};
 ghost use Rattle.mux_outside.specs.declared.house.HouseReply.TheVariants.{Done, Port};

@@ -1,4 +1,4 @@
-// Global requests: remote forwardings, their opens, and answers in order.
+//! Global requests: remote forwardings, their opens, and answers in order.
 
 ghost use Rattle.std.specs.Prelude.{◌≡◌, [], ◌∷◌, ◌++◌, codes, Some, None, drop};
 ghost use Rattle.mux_history.specs.declared.broke.Break.TheVariants as broke;

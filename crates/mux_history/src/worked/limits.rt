@@ -1,4 +1,4 @@
-// Limits that are too large to compute.
+//! Limits that are too large to compute.
 
 ghost use Rattle.mux_history.specs.WorkedLimits.{FullOfChannels, OneMoreAsk, OneAskTooMany, LongestFrame};
 

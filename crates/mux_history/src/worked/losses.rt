@@ -1,4 +1,4 @@
-// Lost clients, limits, and streams that hold back.
+//! Lost clients, limits, and streams that hold back.
 
 ghost use Rattle.std.specs.Prelude.{◌≡◌, [], ◌∷◌, ◌++◌, codes, Some, None, true, false, drop, replicate, reverse};
 ghost use Rattle.mux_history.specs.declared.why.Why.TheVariants as why;

@@ -1,4 +1,4 @@
-// Forwardings of paths, and opens to paths.
+//! Forwardings of paths, and opens to paths.
 
 ghost use Rattle.std.specs.Prelude.{◌≡◌, [], ◌++◌, codes, drop};
 ghost use Rattle.mux_history.specs.Worked.{hex, run, run_of, under, sent, told_in_proxy};

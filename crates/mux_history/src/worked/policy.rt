@@ -1,4 +1,4 @@
-// Permission lists: what is read, and the place of the first text that is none.
+//! Permission lists: what is read, and the place of the first text that is none.
 
 ghost use Rattle.std.specs.Prelude.{◌≡◌, [], ◌∷◌, codes, Ok, Err};
 ghost use Rattle.mux_history.specs.Policy.{read_list, Anything, Entries};

@@ -1,4 +1,4 @@
-// Proxy mode: opens, data, windows, and channels that end.
+//! Proxy mode: opens, data, windows, and channels that end.
 
 ghost use Rattle.std.specs.Prelude.{◌≡◌, [], ◌∷◌, ◌++◌, codes, Some};
 ghost use Rattle.ssh_grammar.specs.declared.fault.BadFrame.TheVariants as bad;

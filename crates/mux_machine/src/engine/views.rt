@@ -1,4 +1,4 @@
-// What an engine shows, and what is taken from it.
+//! What an engine shows, and what is taken from it.
 
 ghost use Rattle.std.specs.Prelude.{◌≡◌, ◌≤◌, ◌++◌, [], length, filter, List, ℕ, false, None};
 ghost use Rattle.ssh_fields.specs.Fields.{AreBytes};

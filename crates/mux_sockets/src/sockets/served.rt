@@ -1,4 +1,4 @@
-// What is done with a socket that is ready, and the write to one.
+//! What is done with a socket that is ready, and the write to one.
 ghost use Rattle.std.specs.Prelude.{◌≡◌, ◌<◌, length, ℕ, Option, IfSome, IfNone};
 ghost use Rattle.mux_outside.specs.Wire.{WroteFits};
 ghost use Rattle.mux_sockets.specs.Sockets.{FoundFits};
