@@ -14,7 +14,7 @@ use Rattle.mux_outside.specs.Wire.{WroteFits, blocked_after_write, write_marks}
 use Rattle.mux_outside.specs.declared.turn.Wrote.{Wrote}
 use Rattle.mux_outside.specs.declared.turn.Wrote.TheVariants as wrote
 use Rattle.mux_history.specs.Policy.{Policy}
-use Rattle.mux_history.specs.Rows.{Row, rows_of, is_out, is_ended, Fate, Goes, Refused, Drop, End}
+use Rattle.mux_history.specs.Rows.{rows_of, is_out, is_ended}
 use Rattle.mux_history.specs.Pending.{pending}
 use Rattle.mux_history.specs.Solo.{end_of}
 use Rattle.mux_history.specs.Log.{Setting}
@@ -25,6 +25,7 @@ use Rattle.mux_history.proofs.Wires.{wire-keeps}
 use Rattle.mux_machine.specs.State.{State}
 use Rattle.mux_machine.specs.Events.{here}
 use Rattle.mux_machine.specs.Stands.{GoesBy, Stands, StandsFor, log}
+use Rattle.mux_machine.proofs.Over.{some-end}
 use Rattle.mux_clients.specs.Asked.{TellsAsks}
 use Rattle.mux_engine.specs.Run.{IsOfWire}
 use Rattle.mux_engine.specs.Serving.{IsSound, IsUnseen, Promised, Serving, is_open}
@@ -154,16 +155,6 @@ next-holds {May} {before} {now} {policy} {pid} {start} {seen} {held} {given} {to
     }
 
 -- ---- a stream that failed
-
-end-is : (f : Fate) (row : Row) (rows : List Row) → row.fate ≡ f → is_some (end_of rows) ≡ is_ended rows → is_some (end_of (row ∷ rows)) ≡ is_ended (row ∷ rows)
-end-is Goes row rows e ih = rw e ih
-end-is Refused row rows e ih = rw e ih
-end-is (Drop why) row rows e ih = rw e ih
-end-is (End cause) row rows e ih = rw e refl
-
-pub some-end : (rows : List Row) → is_some (end_of rows) ≡ is_ended rows
-some-end [] = refl
-some-end (row ∷ rows) = end-is row.fate row rows refl (some-end rows)
 
 -- of the server that is the end; a client's farewell is left to the server's stream
 pub next-fails : {May : HouseReply → Type 0} {before now now' : Option (List Asked)} {policy : Policy} {pid : ℕ} {start : Option (List Mark)} {seen : Seen} {held : List ℕ} {given : ℕ} {todo : List ℕ} {s s' : State} (v : Serving May before now policy pid start seen held given todo s) (k : ℕ) (bytes : List ℕ) (g : GoesBy May now now' v.picked v.replies s s' (WriteFails k) v.journal v.closed)

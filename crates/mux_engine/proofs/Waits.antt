@@ -169,7 +169,7 @@ want-is m n = (λ e. by_less e (nat_lt m n) refl, λ le. ap (λ b. cond b Read W
 not-empty : (q : List ℕ) → not (is_empty q) ≡ true → q ≢ []
 not-empty q e z = true-false (sym e ∙ ap (λ x. not (is_empty x)) z)
 
--- ---- where all streams were offered what waits for them, in a run that goes on and that nobody leaves
+-- ---- where all streams were offered what waits for them, while a run goes on and nobody leaves
 
 module _ {May : HouseReply → Type 0} {before now : Option (List Asked)} {policy : Policy} {pid : ℕ} {start : Option (List Mark)} {seen : Seen} {held : List ℕ} {given : ℕ} {s : State}
     (v : Serving May before now policy pid start seen held given [] s) (none : s.leaving ≡ []) (admitted : s.refused ≡ []) (live : s.ended ≡ None) where

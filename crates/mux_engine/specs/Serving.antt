@@ -1,5 +1,5 @@
 -- What holds between an engine and its wire while it is served.
-use Rattle.std.specs.Prelude.{◌≡◌, ◌≤◌, ◌<◌, ◌⊎◌, ◌||◌, ◌==◌, ℕ, Bool, true, false, List, [], ◌∷◌, ◌++◌, length, Option, Some, None, Result, MatchResult}
+use Rattle.std.specs.Prelude.{◌≡◌, ◌≤◌, ◌<◌, ◌⊎◌, ◌||◌, ◌==◌, ℕ, Bool, true, false, List, ◌∷◌, ◌++◌, length, Option, Some, None, Result, MatchResult}
 use Rattle.mux_outside.specs.Counts.{Rose}
 use Rattle.mux_outside.specs.House.{Asked}
 use Rattle.mux_outside.specs.Seen.{Seen}

@@ -124,37 +124,6 @@ fn run<W: Wire, H: House>(
     Ok(engine.ended().unwrap_or(Ended::Spent))
 }
 
-// Serves an open wire with a new engine: why it ended.
-fn serve_new<W: Wire, H: House>(
-    alloc: Global,
-    policy: Policy,
-    pid: u32,
-    wire: &mut W,
-    house: &mut H,
-    turns: u64,
-) -> Result<Ended, OutOfMemory>
-    requires server_alone { (W.seen wire.old).streams ≡ 0 ∷ [] }
-    requires none_blocked { (W.seen wire.old).blocked ≡ [] }
-    requires listens { (W.seen wire.old).listens ≡ true }
-    ensures kept { MatchResult result
-        (λ answer. IsRun H.may policy pid turns (H.told house.old) (H.told house.new)
-        (W.seen wire.old).told (W.seen wire.new).told answer)
-        (λ e. IsRun H.may policy pid turns (H.told house.old) (H.told house.new)
-        (W.seen wire.old).told (W.seen wire.new).told WantOfMemory) }
-    ensures failed { IfOk result (λ answer. answer ≡ ServerFailed
-        → Rose (W.server_faults wire.old) (W.server_faults wire.new)) }
-    ensures calls { MatchResult result
-        (λ answer. Stops turns answer (W.calls wire.old) (W.calls wire.new))
-        (λ e. Stops turns WantOfMemory (W.calls wire.old) (W.calls wire.new)) }
-    ensures openings { W.openings wire.new ≡ W.openings wire.old }
-    ensures idle { turns ≡ 0
-        → SameFaults (W.server_faults wire.old) (W.server_faults wire.new)
-        (W.client_faults wire.old) (W.client_faults wire.new) }
-{
-    let mut engine = Engine::new(alloc, policy, pid)?;
-    run(alloc, &mut engine, wire, house, turns)
-}
-
 /// Serves an open wire until the run ends, for so many turns at most: why it ended. It permits what
 /// the policy does, and tells the process id to clients that check. What the wire tells of this run
 /// is written and kept open as it must be, and ends as it must; the house is told each ask of its
@@ -181,7 +150,10 @@ pub fn serve<W: Wire, H: House>(
         → SameFaults (W.server_faults wire.old) (W.server_faults wire.new)
         (W.client_faults wire.old) (W.client_faults wire.new) }
 {
-    match serve_new(alloc, policy, pid, wire, house, turns) {
+    let Ok(mut engine) = Engine::new(alloc, policy, pid) else {
+        return Ended::OutOfMemory;
+    };
+    match run(alloc, &mut engine, wire, house, turns) {
         Ok(ended) => ended,
         Err(_) => Ended::OutOfMemory,
     }

@@ -13,7 +13,7 @@ mod Looked
 mod Loses
 mod Moved
 mod OneClient
-mod Over
+pub mod Over
 mod Places
 mod Queues
 mod Refused

@@ -1,4 +1,4 @@
-use Rattle.std.proofs.Common.{[], ◌∷◌, ◌≡◌, ◌++◌, ◌+◌, ◌∙◌, refl, sym, ap, subst, ℕ, List, Some, None}
+use Rattle.std.proofs.Common.{◌∷◌, ◌≡◌, ◌+◌, ◌∙◌, refl, sym, subst, ℕ, List, Some, None}
 use Rattle.std.specs.Prelude.{All, IsTrue, length, ◌<◌}
 use Rattle.ssh_fields.specs.Fields.{AreBytes}
 use Rattle.mux_outside.specs.Seen.{Calls, Seen, seen_after_turn}
