@@ -88,10 +88,7 @@ fn split(alloc: Global, rest: &[u8]) -> Result<Texts, LineError>
     ensures read { GivesLine result (split rest.now) }
     ensures plain { IfErr result (λ e. is_line_fault e ≡ false) }
 {
-    match split_words(alloc, rest) {
-        Ok(words) => Ok(words),
-        Err(e) => Err(LineError::from(e)),
-    }
+    Ok(split_words(alloc, rest)?)
 }
 
 /// What a Host line says.
@@ -100,10 +97,7 @@ fn block_entry(alloc: Global, rest: &[u8]) -> Result<Entry, LineError>
     ensures fits { IfOk result (λ entry. entry_fits entry ≡ true) }
     ensures plain { IfErr result (λ e. is_line_fault e ≡ false) }
 {
-    match split(alloc, rest) {
-        Ok(words) => Ok(Entry::Block(words)),
-        Err(e) => Err(e),
-    }
+    Ok(Entry::Block(split(alloc, rest)?))
 }
 
 /// What a Match line says.
@@ -112,13 +106,8 @@ fn tests_entry(alloc: Global, rest: &[u8]) -> Result<Entry, LineError>
     ensures fits { IfOk result (λ entry. entry_fits entry ≡ true) }
     ensures plain { IfErr result (λ e. is_line_fault e ≡ false) }
 {
-    match split(alloc, rest) {
-        Ok(words) => match read_criteria(alloc, &words) {
-            Ok(criteria) => Ok(Entry::Tests(criteria)),
-            Err(e) => Err(LineError::from(e)),
-        },
-        Err(e) => Err(e),
-    }
+    let words = split(alloc, rest)?;
+    Ok(Entry::Tests(read_criteria(alloc, &words)?))
 }
 
 /// What a line says whose words alone are read.
@@ -127,10 +116,8 @@ fn words_entry(alloc: Global, rest: &[u8]) -> Result<Entry, LineError>
     ensures fits { IfOk result (λ entry. entry_fits entry ≡ true) }
     ensures plain { IfErr result (λ e. is_line_fault e ≡ false) }
 {
-    match split(alloc, rest) {
-        Ok(_) => Ok(Entry::Nothing),
-        Err(e) => Err(e),
-    }
+    let _words = split(alloc, rest)?;
+    Ok(Entry::Nothing)
 }
 
 /// What words give to a key.
@@ -139,10 +126,7 @@ fn value_entry(alloc: Global, key: Key, rest: &[u8], words: &Texts) -> Result<En
     ensures fits { IfOk result (λ entry. entry_fits entry ≡ true) }
     ensures plain { IfErr result (λ e. is_line_fault e ≡ false) }
 {
-    match read_value(alloc, key, rest, words) {
-        Ok(value) => Ok(Entry::Gives(key, value)),
-        Err(e) => Err(LineError::from(e)),
-    }
+    Ok(Entry::Gives(key, read_value(alloc, key, rest, words)?))
 }
 
 /// What a line gives to a key.
@@ -154,10 +138,8 @@ fn key_entry(alloc: Global, key: Key, rest: &[u8]) -> Result<Entry, LineError>
     if is_raw(key) {
         return value_entry(alloc, key, rest, &Texts::new(alloc));
     }
-    match split(alloc, rest) {
-        Ok(words) => value_entry(alloc, key, rest, &words),
-        Err(e) => Err(e),
-    }
+    let words = split(alloc, rest)?;
+    value_entry(alloc, key, rest, &words)
 }
 
 /// What given words give to a key.
@@ -263,10 +245,9 @@ fn asked_text(alloc: Global, ignored: Option<&[u8]>, line: &[u8]) -> Result<Entr
     ensures fits { IfOk result (λ entry. entry_fits entry ≡ true) }
     ensures plain { IfErr result (λ e. is_line_fault e ≡ false) }
 {
-    match split_head(line) {
-        Ok(Head::Blank) => Ok(Entry::Nothing),
-        Ok(Head::Line { keyword, rest }) => asked_heading(alloc, ignored, keyword, rest),
-        Err(e) => Err(LineError::from(e)),
+    match split_head(line)? {
+        Head::Blank => Ok(Entry::Nothing),
+        Head::Line { keyword, rest } => asked_heading(alloc, ignored, keyword, rest),
     }
 }
 

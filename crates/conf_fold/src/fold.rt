@@ -87,15 +87,9 @@ impl Fold {
         ensures begins { (told : Told) → told.asked ≡ asked.now → IsBegun told result }
         ensures plain { IfErr result (λ e. is_fault_at e ≡ false) }
     {
-        let mut fold = match Fold::of_nothing(alloc, asked.original.as_bytes()) {
-            Ok(fold) => fold,
-            Err(_) => return Err(ResolveError::OutOfMemory),
-        };
+        let mut fold = Fold::of_nothing(alloc, asked.original.as_bytes())?;
         for line in asked.lines.as_slice() {
-            match fold.asked_line(line) {
-                Ok(()) => {}
-                Err(e) => return Err(e),
-            }
+            fold.asked_line(line)?;
         }
         Ok(fold)
     }
@@ -110,10 +104,8 @@ impl Fold {
             Ok(entry) => entry,
             Err(e) => return Err(refuse(self.alloc, b"command line", number_of(line), e)),
         };
-        match self.take_asked(entry) {
-            Ok(()) => Ok(()),
-            Err(_) => Err(ResolveError::OutOfMemory),
-        }
+        self.take_asked(entry)?;
+        Ok(())
     }
 
     /// Takes what a line of the command line says, which is active.

@@ -39,10 +39,7 @@ fn evaluate<R: Runner>(
     ensures cause { HasLineCause result (R.faults runner.old) (R.faults runner.new) }
     ensures told { R.told runner.new ≡ R.told runner.old }
 {
-    match eval(alloc, criteria, view, runner) {
-        Ok(holds) => Ok(holds),
-        Err(e) => Err(LineError::from(e)),
-    }
+    Ok(eval(alloc, criteria, view, runner)?)
 }
 
 impl Fold {

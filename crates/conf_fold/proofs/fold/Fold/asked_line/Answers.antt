@@ -12,8 +12,8 @@ returns-in-Err-clause-takes c = λ told rows s.
     (subst (λ i. FailsLine c.in-Err.e (content_entry i CommandLine (asked_line c.args.line.now).content)) c.text.ensures c.in-Err.ensures.read)
     c.number_of.ensures c.refuse.ensures
 
-pub returns-in-Ok-take_asked-clause-takes : goal.returns-in-Ok-take_asked-clause-takes
-returns-in-Ok-take_asked-clause-takes c = λ told rows s.
+pub returns-clause-takes : goal.returns-clause-takes
+returns-clause-takes c = λ told rows s.
     asked-taken told c.args.self.now c.take_asked.new.self rows c.args.line.now c.in-Ok.entry s
     (subst (λ i. content_entry i CommandLine (asked_line c.args.line.now).content ≡ Ok c.in-Ok.entry) c.text.ensures c.in-Ok.ensures.read)
-    c.in-Ok-take_asked.ensures.keeps c.in-Ok-take_asked.ensures.others
+    c.in_ok-take_asked.ensures.keeps c.in_ok-take_asked.ensures.others
