@@ -165,10 +165,10 @@ impl Lines {
                 Ok(true)
             }
             Ok(Found::TooLarge) => Err(self.file_refusal(Cause::TooLarge)),
-            Ok(Found::Holds(text)) => match self.begin(text) {
-                Ok(()) => Ok(true),
-                Err(_) => Err(ResolveError::OutOfMemory),
-            },
+            Ok(Found::Holds(text)) => {
+                self.begin(text)?;
+                Ok(true)
+            }
             Err(FileError::Failed) => Err(self.file_refusal(Cause::ReadFault)),
             Err(FileError::OutOfMemory) => Err(ResolveError::OutOfMemory),
         }
@@ -192,15 +192,11 @@ impl Lines {
         ensures count { self.new.read ≡ self.old.read }
     {
         loop {
-            match self.settle(files) {
-                Ok(true) => return Ok(true),
-                Ok(false) => {}
-                Err(e) => return Err(e),
+            if self.settle(files)? {
+                return Ok(true);
             }
-            match self.first(files) {
-                Ok(true) => {}
-                Ok(false) => return Ok(false),
-                Err(e) => return Err(e),
+            if !self.first(files)? {
+                return Ok(false);
             }
         }
     }

@@ -178,10 +178,8 @@ impl OpenFiles {
             }
             Found::Holds(text) => {
                 if self.below.len() < MAX_DEPTH {
-                    match self.enter(text) {
-                        Ok(()) => Ok(()),
-                        Err(_) => Err(ResolveError::OutOfMemory),
-                    }
+                    self.enter(text)?;
+                    Ok(())
                 } else {
                     Err(self.refusal(Cause::TooDeep))
                 }
@@ -206,10 +204,10 @@ impl OpenFiles {
         };
         match top.next_path() {
             Some(path) => match read_file(path.as_bytes(), files) {
-                Ok(found) => match self.open(found) {
-                    Ok(()) => Ok(Stand::Moved),
-                    Err(e) => Err(e),
-                },
+                Ok(found) => {
+                    self.open(found)?;
+                    Ok(Stand::Moved)
+                }
                 Err(FileError::Failed) => Err(self.refusal(Cause::ReadFault)),
                 Err(FileError::OutOfMemory) => Err(ResolveError::OutOfMemory),
             },
@@ -236,11 +234,10 @@ impl OpenFiles {
             result }
     {
         loop {
-            match self.advance(files) {
-                Ok(Stand::Line) => return Ok(true),
-                Ok(Stand::End) => return Ok(false),
-                Ok(Stand::Moved) => {}
-                Err(e) => return Err(e),
+            match self.advance(files)? {
+                Stand::Line => return Ok(true),
+                Stand::End => return Ok(false),
+                Stand::Moved => {}
             }
         }
     }

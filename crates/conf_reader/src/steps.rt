@@ -38,10 +38,8 @@ impl Lines {
         ensures told { F.told files.new ≡ F.told files.old }
         ensures cause { HasFilesCause result (F.faults files.old) (F.faults files.new) }
     {
-        match self.reach(files) {
-            Err(e) => return Err(e),
-            Ok(false) => return Ok(Step::End),
-            Ok(true) => {}
+        if !self.reach(files)? {
+            return Ok(Step::End);
         }
         if self.read >= MAX_LINES {
             return Err(
@@ -50,10 +48,9 @@ impl Lines {
             );
         }
         self.read += 1;
-        match self.open_files.take_line() {
-            Err(e) => Err(e),
-            Ok(None) => Ok(Step::Comment),
-            Ok(Some(line)) => Ok(Step::Given(line)),
+        match self.open_files.take_line()? {
+            None => Ok(Step::Comment),
+            Some(line) => Ok(Step::Given(line)),
         }
     }
 
@@ -70,11 +67,10 @@ impl Lines {
         ensures cause { HasFilesCause result (F.faults files.old) (F.faults files.new) }
     {
         loop {
-            match self.one(files) {
-                Ok(Step::End) => return Ok(None),
-                Ok(Step::Comment) => {}
-                Ok(Step::Given(line)) => return Ok(Some(line)),
-                Err(e) => return Err(e),
+            match self.one(files)? {
+                Step::End => return Ok(None),
+                Step::Comment => {}
+                Step::Given(line) => return Ok(Some(line)),
             }
         }
     }
@@ -118,10 +114,8 @@ impl Lines {
         ensures told { F.told files.new ≡ F.told files.old }
         ensures cause { HasFilesCause result (F.faults files.old) (F.faults files.new) }
     {
-        match self.expand(facts, original, files) {
-            Ok(()) => self.next_line(files),
-            Err(e) => Err(e),
-        }
+        self.expand(facts, original, files)?;
+        self.next_line(files)
     }
 
     /// Gives no more line.

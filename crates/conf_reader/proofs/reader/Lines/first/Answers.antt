@@ -34,8 +34,8 @@ returns-in-Ok-TooLarge-clause-moves g c = λ told place blocks tells.
     size-moves told place blocks c.args.self.now f c.file_refusal-in-Ok-TooLarge.result (told.content f.path) refl c.requires.none (c.requires.ready.none c.requires.none) named
     (plain-at c.args.self.now.firsts.items c.args.self.now.next_first f c.requires.plain named) found (rw named at c.file_refusal-in-Ok-TooLarge.ensures)
 
-pub returns-in-Ok-clause-next : goal.returns-in-Ok-clause-next
-returns-in-Ok-clause-next g c = (c.in-Ok.ensures.next, below-end c.args.self.now.firsts.items c.args.self.now.next_first c.in-Some.first.now (sym c.in-Some.ensures))
+pub returns-in_ok-begin-in-Ok-Holds-clause-next : goal.returns-in_ok-begin-in-Ok-Holds-clause-next
+returns-in_ok-begin-in-Ok-Holds-clause-next g c = (c.in_ok-begin-in-Ok-Holds.ensures.next, below-end c.args.self.now.firsts.items c.args.self.now.next_first c.in-Some.first.now (sym c.in-Some.ensures))
 
 pub returns-in-Err-Failed-clause-looks : goal.returns-in-Err-Failed-clause-looks
 returns-in-Err-Failed-clause-looks g c = λ told test h.

@@ -6,8 +6,8 @@ use Rattle.conf_reader.specs.Left.{left, IsReady, Bounded}
 use Rattle.conf_reader.specs.Looking.{Test, all_pass}
 use Rattle.conf_reader.proofs.reader.Lines.reach.Given as goal
 
-abbrev pub invariant-loop-e : goal.invariant-loop-e
-invariant-loop-e g l = record {
+abbrev pub invariant-loop-self : goal.invariant-loop-self
+invariant-loop-self g l = record {
   ready : IsReady l.self.open_files;
   told : g.F.Files.told l.files ≡ g.F.Files.told l.initial.files;
   faults : g.F.Files.faults l.files ≡ g.F.Files.faults l.initial.files;
@@ -18,5 +18,5 @@ invariant-loop-e g l = record {
   left : (told : Told) (place : ℕ) (blocks : Blocks) → TellsFiles (g.F.Files.told l.initial.files) told → left told place blocks l.initial.self ≡ left told place blocks l.self;
 }
 
-abbrev pub decreases-loop-e : goal.decreases-loop-e
-decreases-loop-e g l = length l.self.firsts.items - l.self.next_first
+abbrev pub decreases-loop-self : goal.decreases-loop-self
+decreases-loop-self g l = length l.self.firsts.items - l.self.next_first

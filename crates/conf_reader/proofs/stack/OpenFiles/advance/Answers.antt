@@ -1,4 +1,5 @@
 use Rattle.std.proofs.Common.{◌≡◌, ◌<◌, ◌≤◌, [], ◌∷◌, Some, length, sym, ap, subst, refl, arith}
+use Rattle.std.proofs.lemmas.Result.{err_from_is_err_and}
 use Rattle.std.specs.List.{slice_get}
 use Rattle.conf_reader.specs.declared.stack.Stand.{Stand}
 use Rattle.conf_reader.proofs.OpenLemmas.{ready-top, none-left, one-left-path, found-names}
@@ -19,9 +20,10 @@ close-requires-clause-ended g c =
     let past : length c.in-Some.top.text ≤ c.in-Some.top.at = let k = ap length c.as_bytes-in-None.ensures in omega (arith, k) in
     rw c.in-Some.is ((ready-top c.args.self.now c.in-Some.top c.requires.ready c.in-Some.is, none-left c.in-Some.top.named c.in-Some.top.next c.in-None.ensures), past)
 
-pub returns-in-Err-clause-moves : goal.returns-in-Err-clause-moves
-returns-in-Err-clause-moves g c = λ told place blocks tells.
-    c.in-Err.ensures.moves told place blocks (rw c.in-Some.is (found-names told c.in-Ok.found c.in-Some.top c.in-Some-next_path.path.now (sym c.in-Some-next_path.ensures) (rw c.as_bytes.ensures at (c.in-Ok.ensures.found told tells))))
+pub returns-in_err-open-in-Ok-clause-moves : goal.returns-in_err-open-in-Ok-clause-moves
+returns-in_err-open-in-Ok-clause-moves g c = λ told place blocks tells.
+    let p = err_from_is_err_and c.from_residual.result c.from_residual.ensures.1 in
+    rw (p.1, p.2) (c.in_err-open-in-Ok.ensures.moves told place blocks (rw c.in-Some.is (found-names told c.in-Ok.found c.in-Some.top c.in-Some-next_path.path.now (sym c.in-Some-next_path.ensures) (rw c.as_bytes.ensures at (c.in-Ok.ensures.found told tells)))))
 
 pub returns-in-Err-Failed-clause-looks : goal.returns-in-Err-Failed-clause-looks
 returns-in-Err-Failed-clause-looks g c = λ told test h.

@@ -14,7 +14,7 @@ pub returns-else-len-lt-MAX_DEPTH-2-clause-moves : goal.returns-else-len-lt-MAX_
 returns-else-len-lt-MAX_DEPTH-2-clause-moves c = λ told place blocks names.
     moves-deep told place blocks c.args.self.now [] c.args.found c.refusal-else-len-lt-MAX_DEPTH-2.result c.args.self.now.top refl c.requires.some c.requires.named (let k = c.requires.ready.few in omega (arith, k)) (λ e. let k = c.in-Holds.is in cc) names c.refusal-else-len-lt-MAX_DEPTH-2.ensures
 
-pub returns-in-Ok-clause-moves : goal.returns-in-Ok-clause-moves
-returns-in-Ok-clause-moves c = λ told place blocks names.
+pub returns-in_ok-enter-in-Holds-clause-moves : goal.returns-in_ok-enter-in-Holds-clause-moves
+returns-in_ok-enter-in-Holds-clause-moves c = λ told place blocks names.
     let h = holds-names told c.in-Holds.text c.args.self.now.top c.requires.some c.requires.named (rw c.in-Holds.is at names) in
-    c.in-Ok.ensures.left told place blocks h.0 h.1
+    c.in_ok-enter-in-Holds.ensures.left told place blocks h.0 h.1

@@ -1,41 +1,44 @@
 use Rattle.std.proofs.Common.{◌∙◌, Bool}
+use Rattle.std.proofs.lemmas.Result.{err_from_is_err_and}
 use Rattle.conf_reader.proofs.OpenLemmas.{moved-before}
 use Rattle.conf_reader.specs.Left.{open_left}
 use Rattle.conf_reader.specs.declared.stack.Stand.{Stand}
 use Rattle.conf_reader.proofs.LookingLemmas.{tells-on}
 use Rattle.conf_reader.proofs.stack.OpenFiles.settle.Goals as goal
 
-pub returns-in-Err-clause-moves : goal.returns-in-Err-clause-moves
-returns-in-Err-clause-moves g c = λ told place blocks tells.
-    moved-before (open_left told place blocks c.args.self.now) (open_left told place blocks c.loop-e.self) c.in-Err.e (c.loop-e.invariant.left told place blocks tells) (c.in-Err.ensures.moves told place blocks (rw c.loop-e.invariant.told tells))
+pub returns-in_err-advance-clause-moves : goal.returns-in_err-advance-clause-moves
+returns-in_err-advance-clause-moves g c = λ told place blocks tells.
+    let p = err_from_is_err_and c.from_residual.result c.from_residual.ensures.1 in
+    rw (p.1, p.2) (moved-before (open_left told place blocks c.args.self.now) (open_left told place blocks c.loop.self) _ (c.loop.invariant.left told place blocks tells) (c.in_err-advance.ensures.moves told place blocks (rw c.loop.invariant.told tells)))
 
-pub loop-e-preserved : goal.loop-e-preserved
-loop-e-preserved g c = record {
-  ready = c.in-Ok-Moved.ensures.ready;
-  told = c.advance.ensures.told ∙ c.loop-e.invariant.told;
-  faults = c.in-Ok-Moved.ensures.cause ∙ c.loop-e.invariant.faults;
+pub loop-preserved : goal.loop-preserved
+loop-preserved g c = record {
+  ready = c.in_ok-advance.ensures.ready;
+  told = c.advance.ensures.told ∙ c.loop.invariant.told;
+  faults = c.in_ok-advance.ensures.cause ∙ c.loop.invariant.faults;
   looks = λ told test h.
-      let before = c.loop-e.invariant.looks told test h in
-      let step = c.in-Ok-Moved.ensures.looks told test before.1 in
+      let before = c.loop.invariant.looks told test h in
+      let step = c.in_ok-advance.ensures.looks told test before.1 in
       (step.0 ∙ before.0, step.1);
-  bounded = λ n b. c.in-Ok-Moved.ensures.bounded n (c.loop-e.invariant.bounded n b);
-  left = λ told place blocks tells. c.loop-e.invariant.left told place blocks tells ∙ c.in-Ok-Moved.ensures.moves told place blocks (rw c.loop-e.invariant.told tells);
+  bounded = λ n b. c.in_ok-advance.ensures.bounded n (c.loop.invariant.bounded n b);
+  left = λ told place blocks tells. c.loop.invariant.left told place blocks tells ∙ c.in_ok-advance.ensures.moves told place blocks (rw c.loop.invariant.told tells);
 }
 
-pub returns-in-Ok-Line-clause-looks : goal.returns-in-Ok-Line-clause-looks
-returns-in-Ok-Line-clause-looks g c = λ told test h.
-    let before = c.loop-e.invariant.looks told test h in
-    let step = c.in-Ok-Line.ensures.looks told test before.1 in
+pub returns-in-Line-clause-looks : goal.returns-in-Line-clause-looks
+returns-in-Line-clause-looks g c = λ told test h.
+    let before = c.loop.invariant.looks told test h in
+    let step = c.in_ok-advance.ensures.looks told test before.1 in
     (step.0 ∙ before.0, step.1)
 
-pub returns-in-Ok-End-clause-looks : goal.returns-in-Ok-End-clause-looks
-returns-in-Ok-End-clause-looks g c = λ told test h.
-    let before = c.loop-e.invariant.looks told test h in
-    let step = c.in-Ok-End.ensures.looks told test before.1 in
+pub returns-in-End-clause-looks : goal.returns-in-End-clause-looks
+returns-in-End-clause-looks g c = λ told test h.
+    let before = c.loop.invariant.looks told test h in
+    let step = c.in_ok-advance.ensures.looks told test before.1 in
     (step.0 ∙ before.0, step.1)
 
-pub returns-in-Err-clause-looks : goal.returns-in-Err-clause-looks
-returns-in-Err-clause-looks g c = λ told test h.
-    let before = c.loop-e.invariant.looks told test h in
-    let step = c.in-Err.ensures.looks told test before.1 in
-    (tells-on Stand Bool test c.in-Err.e _ _ _ before.0 step.0, tt)
+pub returns-in_err-advance-clause-looks : goal.returns-in_err-advance-clause-looks
+returns-in_err-advance-clause-looks g c = λ told test h.
+    let before = c.loop.invariant.looks told test h in
+    let step = c.in_err-advance.ensures.looks told test before.1 in
+    let p = err_from_is_err_and c.from_residual.result c.from_residual.ensures.1 in
+    rw (p.1, p.2) (tells-on Stand Bool test _ _ _ _ before.0 step.0, tt)

@@ -6,8 +6,8 @@ use Rattle.conf_reader.specs.Left.{open_left, IsReady, work, Bounded}
 use Rattle.conf_reader.specs.Looking.{Test, passes}
 use Rattle.conf_reader.proofs.stack.OpenFiles.settle.Given as goal
 
-abbrev pub invariant-loop-e : goal.invariant-loop-e
-invariant-loop-e g l = record {
+abbrev pub invariant-loop : goal.invariant-loop
+invariant-loop g l = record {
   ready : IsReady l.self;
   told : g.F.Files.told l.files ≡ g.F.Files.told l.initial.files;
   faults : g.F.Files.faults l.files ≡ g.F.Files.faults l.initial.files;
@@ -16,5 +16,5 @@ invariant-loop-e g l = record {
   left : (told : Told) (place : ℕ) (blocks : Blocks) → TellsFiles (g.F.Files.told l.initial.files) told → open_left told place blocks l.initial.self ≡ open_left told place blocks l.self;
 }
 
-abbrev pub decreases-loop-e : goal.decreases-loop-e
-decreases-loop-e g l = work l.self
+abbrev pub decreases-loop : goal.decreases-loop
+decreases-loop g l = work l.self
