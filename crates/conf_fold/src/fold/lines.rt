@@ -157,10 +157,7 @@ impl Fold {
             }
             Entry::Tests(criteria) => {
                 let active = self.applies.all_before(depth);
-                let applies = match self.tests(active, &criteria, facts, runner) {
-                    Ok(applies) => applies,
-                    Err(e) => return Err(e),
-                };
+                let applies = self.tests(active, &criteria, facts, runner)?;
                 self.ask(&criteria);
                 self.open(depth, applies)?;
                 Ok(())
