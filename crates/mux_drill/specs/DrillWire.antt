@@ -11,9 +11,9 @@ use Rattle.mux_outside.specs.declared.turn.Wrote.{Wrote}
 use Rattle.mux_outside.specs.declared.turn.Wrote.TheVariants.{Took}
 use Rattle.mux_drill.specs.Course.{tally_at}
 use Rattle.mux_drill.specs.Inboxes.{with_more}
-use Rattle.mux_drill.specs.Play.{next_turn, next_piece, next_play, Starts}
+use Rattle.mux_drill.specs.Play.{next_turn, next_piece, next_play, IsNothing, Starts}
 use Rattle.mux_drill.specs.declared.plan.Plan.{Plan}
-use Rattle.mux_drill.specs.declared.stage.Stage.TheVariants.{Unopened, Ending}
+use Rattle.mux_drill.specs.declared.stage.Stage.TheVariants.{Ending}
 use Rattle.mux_drill.specs.declared.drill_wire.DrillWire.{DrillWire}
 
 -- what was counted
@@ -26,7 +26,7 @@ IsOver w = w.play.course.stage ≡ Ending
 
 -- a wire that isn't open
 pub record IsNew (w : DrillWire) : Type 0 where
-  pub stage_is : w.play.course.stage ≡ Unopened
+  pub play_is : IsNothing w.play
   pub log_is : w.log ≡ nothing_logged
 
 -- what is played stays

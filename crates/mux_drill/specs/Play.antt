@@ -11,7 +11,7 @@ use Rattle.mux_drill.specs.Inboxes.{unread_at, without_first, stands_first, all_
 use Rattle.mux_drill.specs.Saying.{Said, gone_on}
 use Rattle.mux_drill.specs.Steps.{step_at}
 use Rattle.mux_drill.specs.declared.stage.Stage.{Stage}
-use Rattle.mux_drill.specs.declared.stage.Stage.TheVariants.{Accepting, Confirming}
+use Rattle.mux_drill.specs.declared.stage.Stage.TheVariants.{Accepting, Confirming, Unopened}
 use Rattle.mux_drill.specs.declared.step.Step.{Step}
 use Rattle.mux_drill.specs.declared.plan.Plan.{Plan}
 use Rattle.mux_drill.specs.declared.play.Play.{Play}
@@ -118,4 +118,11 @@ pub record Starts (plan : Plan) (play : Play) : Type 0 where
   pub course_is : play.course ≡ record { plan = plan; stage = Accepting 1 }
   pub said_is : play.said ≡ record { stream = 0; rest = [] }
   pub unread_is : play.unread ≡ replicate (plan.clients + 1) []
+  pub picks_are : play.picks ≡ replicate 65 0
+
+-- no play: nothing is opened, said, written or picked
+pub record IsNothing (play : Play) : Type 0 where
+  pub stage_is : play.course.stage ≡ Unopened
+  pub said_is : play.said ≡ record { stream = 0; rest = [] }
+  pub unread_is : play.unread ≡ []
   pub picks_are : play.picks ≡ replicate 65 0

@@ -88,6 +88,7 @@ impl Wire for DrillWire {
         ensures over { IsOver self.old → tally_of self.new ≡ tally_of self.old }
         ensures given { want ≡ Read → result ≢ NoMemory
             → PlaysNext self.old self.new result into.new }
+        ensures idle { want ≡ WriteOnly → SamePlay self.old self.new }
         ensures err { result ≡ NoMemory → SamePlay self.old self.new }
         ensures kept { result ≡ NoMemory → into.new ≡ into.old }
     {

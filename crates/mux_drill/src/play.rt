@@ -4,9 +4,9 @@ ghost use Rattle.mux_outside.specs.Streams.{among};
 ghost use Rattle.mux_outside.specs.Wire.{TurnFits};
 ghost use Rattle.mux_outside.specs.declared.turn.Want.TheVariants.{Read};
 ghost use Rattle.mux_outside.specs.declared.turn.Turn.TheVariants.{End, NoMemory};
-ghost use Rattle.mux_drill.specs.declared.stage.Stage.TheVariants.{Unopened, Ending};
+ghost use Rattle.mux_drill.specs.declared.stage.Stage.TheVariants.{Ending};
 ghost use Rattle.mux_drill.specs.Plan.{IsPlan};
-ghost use Rattle.mux_drill.specs.Play.{speaks, may_happen, is_met, next_step, next_turn, next_piece, next_change, piece_of, changed, begun, speaker_of, picks_after, Starts, GivesNext};
+ghost use Rattle.mux_drill.specs.Play.{speaks, may_happen, is_met, next_step, next_turn, next_piece, next_change, piece_of, changed, begun, speaker_of, picks_after, IsNothing, Starts, GivesNext};
 ghost use Rattle.mux_drill.specs.declared.play.Change.TheVariants.{Nothing};
 
 use crate::course::Course;
@@ -89,7 +89,7 @@ fn is_met(step: &Step, log: &WireLog, unread: &Inboxes) -> bool
 impl Play {
     /// Nothing is played.
     pub fn nothing(alloc: Global) -> Play
-        ensures { result.course.stage ≡ Unopened }
+        ensures { IsNothing result }
     {
         Play {
             alloc,
