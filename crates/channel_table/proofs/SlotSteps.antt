@@ -10,7 +10,8 @@ use Rattle.channel_table.specs.Entries.{Entry, is_at, entry_at, freed, changed_a
 use Rattle.mux_history.specs.declared.limits.TheConstants.{NUMBERS_END}
 use Rattle.channel_table.specs.Slots.{Ranked, ranked, ranked_from, entries_of, free_count, placed, IsLinked, AreOpenedBefore, AreSlots}
 use Rattle.channel_table.proofs.Lists.{slice_get-set_same, slice_get-push, filter-map}
-use Rattle.channel_table.proofs.Ranks.{entry, entry_in, at_entries, slots-open, slots-free, slots-set, replaced, rank_held}
+use Rattle.channel_table.proofs.Ranks.{entry, slots-open, slots-free, slots-set, replaced, rank_held}
+use Rattle.channel_table.proofs.SlotLookups.{entry_in, at_entries}
 use Rattle.channel_table.proofs.Links.{IsLinked-held, IsLinked-shorter, IsLinked-none, free_count-push, free_count-open, free_count-free, free_count-set, before-push, before-more, before-free, before-set}
 
 -- ---- the front one of the free slots
