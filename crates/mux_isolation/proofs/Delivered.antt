@@ -1,39 +1,31 @@
--- What the server says to a client's channel or forwarding is told as it came; what a client says
--- goes up as it was said.
-use Rattle.std.proofs.Common.{◌≡◌, ℕ, List, [], ◌∷◌, ◌++◌, length, true, false, Bool, refl, ◌∙◌, ap, map, sym, Option, Some, None, subst, Ok, Err, drop, inl, inr}
-use Rattle.std.specs.Prelude.{MatchBool, Result, not, ◌&&◌, nat_lt, codes}
+-- What the server says to a client's channel or forwarding is told as it came.
+use Rattle.std.proofs.Common.{◌≡◌, ℕ, List, [], ◌∷◌, ◌++◌, length, true, false, Bool, refl, ◌∙◌, ap, map, sym, Option, Some, None, subst, Ok, Err, drop}
+use Rattle.std.specs.Prelude.{MatchBool, not, ◌&&◌, nat_lt, codes}
 use Rattle.std.proofs.Math.Seq.{drop-append_seam}
 use Rattle.std.proofs.lemmas.List.{append-nil}
-use Rattle.mux_history.specs.Channels.{Channel, channels_of, held_of, holder, live_in, own_of, with_own}
-use Rattle.mux_history.specs.Forwardings.{Forwarding, current, live_at}
-use Rattle.mux_history.specs.Gist.{Act, Confirmation, Fails, Gist, Open, Requests, Within, read_gist, reading, recipient_of, sender_of}
+use Rattle.mux_history.specs.Channels.{Channel, channels_of, held_of, holder, live_in}
+use Rattle.mux_history.specs.Forwardings.{Forwarding, live_at}
+use Rattle.mux_history.specs.Gist.{Act, Confirmation, Fails, Gist, Open, Within, read_gist, reading, recipient_of}
 use Rattle.mux_history.specs.Heard.{Breaks, Dest, Disconnects, ToClient, ToMaster, dest, dest_confirmation, dest_gist, dest_open, dest_within, for_client, for_lost, heard_for, heard_gist, pending_open, renamed}
-use Rattle.mux_history.specs.Kept.{Delivers, FailsOpen, ForEach, GoesUp, LeavesLate, MustAsk, MustGoUp, MustOpen, Passes, Reaches, ReachesChannel, ReachesForwarding}
-use Rattle.mux_history.specs.Keys.{is_askable}
+use Rattle.mux_history.specs.Kept.{Delivers, FailsOpen, ForEach, LeavesLate, Reaches, ReachesChannel, ReachesForwarding}
 use Rattle.mux_history.specs.Ledger.{breach}
 use Rattle.mux_history.specs.Log.{all_told, bare, fate_with, fitting, goes, heard_row, new_answers, overflow, row_of, treat}
 use Rattle.mux_history.specs.Pending.{waiting_down}
-use Rattle.mux_history.specs.Policy.{Policy, permits}
+use Rattle.mux_history.specs.Policy.{Policy}
 use Rattle.mux_history.specs.Requests.{answers, answers_to, is_reply, replies, reply_in, wanted}
-use Rattle.mux_history.specs.Rows.{Goes, Heard, Item, Row, Says, is_end, is_lost, rows_of}
-use Rattle.mux_history.specs.Said.{Outcome, drops, fails_open, is_full_of_asks, on_breach, on_confirmed, on_unused, on_waiting, said_gist, said_open, said_payload, said_request, sends, sends_as, sends_if, sends_open, silent, tells}
-use Rattle.mux_outside.specs.declared.house.HouseReply.{HouseReply}
+use Rattle.mux_history.specs.Rows.{Goes, Heard, Item, Row, is_end, is_lost, rows_of}
+use Rattle.mux_history.specs.Said.{Outcome, sends, silent, tells}
 use Rattle.ssh_grammar.specs.Frames.{frame_payload}
-use Rattle.ssh_grammar.specs.Messages.{Cancel, Direct, Forward, Forwarded, Global, KeepAlive, Key, Session}
-use Rattle.ssh_grammar.specs.Said.{Payload}
-use Rattle.ssh_grammar.specs.SpellMessage.{open_failure, with_recipient, with_sender}
-use Rattle.ssh_grammar.specs.declared.fault.Bad.{Bad}
+use Rattle.ssh_grammar.specs.Messages.{Forwarded, Key}
+use Rattle.ssh_grammar.specs.SpellMessage.{open_failure, with_recipient}
 use Rattle.ssh_grammar.specs.declared.fault.Breach.{Breach}
 use Rattle.ssh_grammar.specs.declared.side.Side.TheVariants.{Down}
 use Rattle.mux_history.specs.declared.broke.Break.TheVariants as broke
-use Rattle.mux_history.specs.declared.why.Why.TheVariants as why
 use Rattle.mux_history.proofs.Apart.{AreApart}
 use Rattle.mux_history.proofs.Dests.{Offered, Reached, dest-ok, offered, reached}
-use Rattle.mux_history.proofs.KeepsApart.{ok-same}
 use Rattle.mux_history.proofs.LawfulItems.{client-of, treat-item}
-use Rattle.mux_history.proofs.Readings.{reading-err, reading-ok}
+use Rattle.mux_history.proofs.Readings.{reading-ok}
 use Rattle.mux_history.proofs.RightLogs.{LogKnown, by-treat}
-use Rattle.mux_history.proofs.Sends.{Sent, sent-by}
 use Rattle.mux_isolation.proofs.Fulls.{all-fit, drops-if-full, heard-goes, no-overflow, row-whole}
 use Rattle.mux_isolation.proofs.Named.{Met, holder-local, met, number-met}
 
@@ -234,79 +226,3 @@ late-treat policy pid pick before item p m is reads = subst (λ (i : Item). ((tr
 
 pub delivered : (policy : Policy) (pid : ℕ) (rows : List Row) → LogKnown policy pid rows → ForEach Delivers rows
 delivered policy pid rows known = by-treat Delivers policy pid (λ pick before item good orderly lawful makes. record { reaches = reaches-treat policy pid pick before item good; lost = late-treat policy pid pick before item; full = drops-if-full policy pid pick before item }) (λ before stream size. record { reaches = λ p m is. cc; lost = λ p m is. cc; full = λ p is. cc }) rows known.each
-
--- ---- what a client says
-
-goes-up : (p : List ℕ) (own : List Row) (pick : ℕ) (m : Gist) (ups : List (List ℕ)) → Sent own pick p m ups → GoesUp ups p (sender_of m)
-goes-up p own pick m ups (inl none) = by_own (sender_of m)
-  where
-    by_own : (o : Option ℕ) → GoesUp ups p o
-    by_own None = inl none
-    by_own (Some c) = inl none
-goes-up p own pick m ups (inr (inl plain)) = subst (GoesUp ups p) (sym plain.unowned) (inr plain.up)
-goes-up p own pick m ups (inr (inr new)) = subst (GoesUp ups p) (sym new.owned) (inr (pick, new.up))
-
--- a channel is opened
-must-open : (own : List Row) (pick : ℕ) (p : List ℕ) (c : ℕ) (o : Outcome) → (nat_lt (length (held_of own)) 256 ≡ true → o.sent ≡ with_sender p pick ∷ []) → MustOpen own (on_unused c o (with_own own c)).sent p c
-must-open own pick p c o opens unused few = (pick, ap (λ x. (on_unused c o x).sent) unused ∙ opens few)
-
-room-left : (own : List Row) (pick : ℕ) (p : List ℕ) (c : ℕ) → nat_lt (length (held_of own)) 256 ≡ true → (sends_open own pick p c).sent ≡ with_sender p pick ∷ []
-room-left own pick p c few = ap (λ b. (elim b as (λ _. Outcome) [ true ↦ sends_as pick p | false ↦ fails_open c 4 (codes "too many channels") ]).sent) few
-
--- a request is asked
-must-ask : (policy : Policy) (k : ℕ) (own : List Row) (p : List ℕ) (what : Global) (wants : Bool) → (said_request policy k own p what wants).sent ≡ p ∷ [] → MustAsk own (elim (is_full_of_asks wants own) as (λ _. Outcome) [ true ↦ drops (why.TooManyAsks 1024) | false ↦ said_request policy k own p what wants ]).sent p wants
-must-ask policy k own p what wants asked full = ap (λ b. (elim b as (λ _. Outcome) [ true ↦ drops (why.TooManyAsks 1024) | false ↦ said_request policy k own p what wants ]).sent) full ∙ asked
-
-all-three : (a b c : Bool) → a ≡ true → b ≡ true → c ≡ true → (a && (b && c)) ≡ true
-all-three true true true e f g = refl
-all-three false b c e f g = cc
-all-three true false c e f g = cc
-all-three true true false e f g = cc
-
-must-go : (policy : Policy) (k : ℕ) (own : List Row) (pick : ℕ) (p : List ℕ) (m : Gist) → MustGoUp policy k own (said_gist policy k own pick p m).sent p m
-must-go policy k own pick p (Open Session c w max) = must-open own pick p c (sends_open own pick p c) (room-left own pick p c)
-must-go policy k own pick p (Open (Direct key) c w max) = λ permitted. must-open own pick p c (said_open policy own pick p c (Direct key)) (λ few. ap (λ b. (elim b as (λ _. Outcome) [ true ↦ sends_open own pick p c | false ↦ fails_open c 1 (codes "not permitted") ]).sent) permitted ∙ room-left own pick p c few)
-must-go policy k own pick p (Requests (Forward key) true) = λ askable permitted few. must-ask policy k own p (Forward key) true (ap (λ b. (sends_if b p).sent) (all-three (is_askable key) (permits policy.listens key) (nat_lt (length (current own)) 64) askable permitted few))
-must-go policy k own pick p (Requests (Cancel key) wants) = λ free. must-ask policy k own p (Cancel key) wants (ap (λ b. (sends_if b p).sent) free)
-must-go policy k own pick p (Requests KeepAlive wants) = must-ask policy k own p KeepAlive wants refl
-must-go policy k own pick p (Confirmation s c w max) = λ x waits unused. (pick, ap (λ o. (on_waiting s (on_unused c (sends_as pick p) (with_own own c)) o).sent) waits ∙ ap (λ o. (on_unused c (sends_as pick p) o).sent) unused)
-must-go policy k own pick p (Within s Fails) = λ x waits. ap (λ o. (on_waiting s (sends p) o).sent) waits
-must-go policy k own pick p (Within s act) = λ x confirmed fine. ap (λ o. (on_confirmed p s act o).sent) confirmed ∙ ap (λ o. (on_breach p s o).sent) fine
-must-go policy k own pick p m = tt
-
--- of a payload
-record SaidUp (policy : Policy) (k : ℕ) (own : List Row) (p : List ℕ) (client : ℕ) (ups : List (List ℕ)) : Type 0 where
-  mine : client ≡ k
-  unchanged : GoesUp ups p (reading p sender_of None)
-  must : (m : Gist) → read_gist p ≡ Ok m → MustGoUp policy k own ups p m
-
-payload-up : (policy : Policy) (k : ℕ) (own : List Row) (pick : ℕ) (p : List ℕ) → SaidUp policy k own p k (said_payload policy k own pick p).sent
-payload-up policy k own pick p = by_case (read_gist p) refl
-  where
-    never : (r : Result Gist Bad) (bad : Bad) (m : Gist) → r ≡ Err bad → r ≡ Ok m → ⊥
-    never r bad m e f = cc
-
-    by_case : (r : Result Gist Bad) → read_gist p ≡ r → SaidUp policy k own p k (elim r as (λ _. Outcome) [ Err bad ↦ drops (why.BadMessage bad) | Ok m ↦ said_gist policy k own pick p m ]).sent
-    by_case (Err bad) reads = record {
-      mine = refl;
-      unchanged = subst (GoesUp [] p) (sym (reading-err p bad sender_of None reads)) (inl refl);
-      must = λ m reads'. absurd (never (read_gist p) bad m reads reads');
-    }
-    by_case (Ok m) reads = record {
-      mine = refl;
-      unchanged = subst (GoesUp (said_gist policy k own pick p m).sent p) (sym (reading-ok p m sender_of None reads)) (goes-up p own pick m (said_gist policy k own pick p m).sent (sent-by policy k own pick p m));
-      must = λ m' reads'. subst (MustGoUp policy k own (said_gist policy k own pick p m).sent p) (ok-same p m m' reads reads') (must-go policy k own pick p m);
-    }
-
-passes-treat : (policy : Policy) (pid pick : ℕ) (before : List Row) (item : Item) (k : ℕ) (p : List ℕ) (given : Option HouseReply) → (treat policy pid pick before item).item ≡ Says k (Payload p) given → SaidUp policy k (rows_of k before) p (treat policy pid pick before item).client (treat policy pid pick before item).up
-passes-treat policy pid pick before item k p given is = subst (λ (i : Item). SaidUp policy k (rows_of k before) p (treat policy pid pick before i).client (treat policy pid pick before i).up) (sym (sym (treat-item policy pid pick before item) ∙ is)) (row-whole (λ row. SaidUp policy k (rows_of k before) p row.client row.up) (Says k (Payload p) given) k (said_payload policy k (rows_of k before) pick p) (rows_of k before) (λ fw. payload-up policy k (rows_of k before) pick p))
-
-passes-row : (policy : Policy) (pid pick : ℕ) (before : List Row) (item : Item) → Passes policy before (treat policy pid pick before item)
-passes-row policy pid pick before item = record {
-  client = λ k p given is. (passes-treat policy pid pick before item k p given is).mine;
-  unchanged = λ k p given is. subst (GoesUp (treat policy pid pick before item).up p) (sym (ap own_of is)) (passes-treat policy pid pick before item k p given is).unchanged;
-  must = λ k p given m is reads. (passes-treat policy pid pick before item k p given is).must m reads;
-}
-
-pub passed : (policy : Policy) (pid : ℕ) (rows : List Row) → LogKnown policy pid rows → ForEach (Passes policy) rows
-passed policy pid rows known = by-treat (Passes policy) policy pid (λ pick before item good orderly lawful makes. passes-row policy pid pick before item) (λ before stream size. record { client = λ k p given is. cc; unchanged = λ k p given is. cc; must = λ k p given m is. cc }) rows known.each

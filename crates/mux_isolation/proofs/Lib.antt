@@ -14,9 +14,11 @@ pub mod Meets
 pub mod Named
 pub mod Numbers
 pub mod OwnSayings
+pub mod Passed
 pub mod Renamed
 pub mod Replied
 pub mod Rows
+pub mod SaidTold
 pub mod Sendings
 pub mod Solos
 pub mod Told

@@ -2,7 +2,8 @@
 use Rattle.mux_history.proofs.RightLogs.{right-known, numbers-apart}
 use Rattle.mux_isolation.proofs.AllRuns.{isolation}
 use Rattle.mux_isolation.proofs.Allowed.{ups-allowed}
-use Rattle.mux_isolation.proofs.Delivered.{delivered, passed}
+use Rattle.mux_isolation.proofs.Delivered.{delivered}
+use Rattle.mux_isolation.proofs.Passed.{passed}
 use Rattle.mux_isolation.proofs.Told.{downs-allowed}
 use Rattle.mux_isolation.proofs.Mays.{permissions, windows}
 use Rattle.mux_isolation.proofs.Replied.{askers-served}

@@ -1,6 +1,6 @@
 -- What a client says goes up.
 use Rattle.mux_history.proofs.RightLogs.{right-known}
-use Rattle.mux_isolation.proofs.Delivered.{passed}
+use Rattle.mux_isolation.proofs.Passed.{passed}
 use Rattle.mux_isolation.proofs.laws.messages_are_sent.Goals as goal
 
 pub returns : goal.returns
