@@ -1,9 +1,11 @@
 pub mod AddsLittle
+pub mod AddsNothing
 pub mod Asked
 pub mod Begun
 pub mod Closed
 pub mod Closing
 pub mod Counts
+pub mod CoverSteps
 pub mod Covers
 pub mod Early
 pub mod Entries

@@ -17,7 +17,8 @@ use Rattle.mux_history.specs.Said.{said_request, sends_if}
 use Rattle.mux_history.proofs.Finds.{filter-no, filter-yes}
 use Rattle.mux_history.proofs.Sends.{and-left}
 use Rattle.mux_bounds.proofs.Counts.{is_on}
-use Rattle.mux_bounds.proofs.Covers.{CoverFrom, Sound, client-sound, client-waits, cover-append, cover-from, covered, covered-append, covered-first, covered-hit, covered-last, covered-map, covers, free-is, free-waits-not, is_forward, replied-other, replied-sound, sound-append, sound-first, sound-map, stopped-sound, stopped-waits}
+use Rattle.mux_bounds.proofs.CoverSteps.{client-sound, client-waits, cover-append, cover-from, covered-append, covered-first, covered-hit, covered-last, covered-map, free-is, free-waits-not, replied-other, replied-sound, sound-append, sound-first, sound-map, stopped-sound, stopped-waits}
+use Rattle.mux_bounds.proofs.Covers.{CoverFrom, Sound, covered, covers, is_forward}
 use Rattle.mux_bounds.proofs.SentRequests.{flag}
 use Rattle.mux_bounds.proofs.Weights.{EachOf}
 use Rattle.mux_history.proofs.Bools.{self}

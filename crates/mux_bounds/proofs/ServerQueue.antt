@@ -7,20 +7,19 @@ use Rattle.mux_outside.specs.declared.mark.Mark.TheVariants as wire
 use Rattle.ssh_grammar.specs.Said.{InControl, InProxy, parse}
 use Rattle.mux_history.specs.Kept.{AtEach}
 use Rattle.mux_history.specs.Journal.{IsLawful, LawfulMark, bytes_of, items_in, log_of_journal, new_heard, new_sayings, server_end}
-use Rattle.mux_history.specs.Log.{bare, is_took, makes_next, makes_row, more_all, more_of}
+use Rattle.mux_history.specs.Log.{more_all, more_of}
 use Rattle.mux_history.specs.Pending.{pending_up}
 use Rattle.mux_history.specs.Policy.{Policy}
 use Rattle.mux_history.specs.Promises.{Throughout}
 use Rattle.mux_history.specs.Right.{AreFresh}
 use Rattle.mux_history.specs.Wires.{reads}
-use Rattle.mux_history.specs.Rows.{Admit, Gone, Item, Row, ServerFailed, Took, is_ended}
-use Rattle.mux_history.specs.Said.{silent}
+use Rattle.mux_history.specs.Rows.{Admit, Item, Row, ServerFailed, is_ended}
 use Rattle.mux_bounds.specs.Bounds.{AddsAtOnce, IsLog, ReadsWithRoom, StaysBelow}
 use Rattle.std.proofs.lemmas.List.{take_all}
 use Rattle.mux_history.proofs.Journals.{logs-right}
 use Rattle.mux_history.proofs.RightLogs.{LogKnown, right-known}
-use Rattle.mux_bounds.proofs.AddsLittle.{grows-by}
-use Rattle.mux_bounds.proofs.Entries.{EachItem, by-more, cut-first, log-first, next, setting, tails}
+use Rattle.mux_bounds.proofs.AddsNothing.{gone-free, gone-mute, mute-take, over-all, server-free, server-mute, total-take, waits}
+use Rattle.mux_bounds.proofs.Entries.{EachItem, by-more, cut-first, log-first, setting, tails}
 use Rattle.mux_bounds.proofs.Lengths.{new-bodies, new-bytes, new_says, payloads_bytes}
 use Rattle.mux_bounds.proofs.Potentials.{Facts, IsMute, heard-cost, heard-mute, live-grows, live_cost, owed-grows, owed_cost, said-cost, total, with_live, with_owed}
 use Rattle.mux_bounds.proofs.Totals.{live, live-few, owed, owed-all-few}
@@ -28,34 +27,6 @@ use Rattle.mux_bounds.proofs.Totals.{live, live-few, owed, owed-all-few}
 module _ (policy : Policy) (pid : ℕ) (picks : List ℕ) (given : List HouseReply) where
   abbrev log : List Mark → List Row
   log marks = log_of_journal (setting policy pid picks given) marks
-
-  abbrev waits : List Row → ℕ
-  waits rows = length (pending_up rows)
-
-  -- ---- after the end
-
-  -- only what is taken makes rows
-  abbrev Over : List Row → List Row → Type 0
-  Over rows after = (waits after ≤ waits rows) × (is_ended after ≡ true)
-
-  over-one : (rows : List Row) (item : Item) → is_ended rows ≡ true → Over rows (more_of (setting policy pid picks given) rows item)
-  over-one rows item ended = by-more policy pid picks given (Over rows) rows item (λ stays. (omega arith, ended)) (λ makes. took item (takes makes))
-    where
-      takes : makes_next rows item ≡ true → is_took item ≡ true
-      takes makes = sym (ap (λ b. elim b as (λ _. Bool) [ true ↦ is_took item | false ↦ makes_row rows item ]) ended) ∙ makes
-
-      took : (i : Item) → is_took i ≡ true → Over rows (next policy pid picks given rows i ∷ rows)
-      took (Took stream size) e = (let g = grows-by (bare (Took stream size) stream silent) rows in omega (arith, g), ended)
-      took i e = cc
-
-  over-all : (rows : List Row) (xs : List Item) → is_ended rows ≡ true → Over rows (more_all (setting policy pid picks given) rows xs)
-  over-all rows [] ended = (omega arith, ended)
-  over-all rows (item ∷ xs) ended =
-      let one = over-one rows item ended in
-      let rest = over-all (more_of (setting policy pid picks given) rows item) xs one.1 in
-      let a = one.0 in
-      let b = rest.0 in
-      (omega (arith, a, b), rest.1)
 
   -- ---- one mark, or some of its items
 
@@ -103,35 +74,11 @@ module _ (policy : Policy) (pid : ℕ) (picks : List ℕ) (given : List HouseRep
   abbrev Moves : List Mark → Mark → ℕ → Type 0
   Moves before mark n = Still before mark n ⊎ (Hears before mark n ⊎ Says before mark n)
 
-  total-take : (cost : Item → ℕ) (n : ℕ) (xs : List Item) → total cost (take n xs) ≤ total cost xs
-  total-take cost zero xs = omega arith
-  total-take cost (suc n) [] = omega arith
-  total-take cost (suc n) (x ∷ xs) = let t = total-take cost n xs in omega (arith, t)
-
-  mute-take : (n : ℕ) (xs : List Item) → EachItem IsMute xs → EachItem IsMute (take n xs)
-  mute-take zero xs all = tt
-  mute-take (suc n) [] all = tt
-  mute-take (suc n) (x ∷ xs) all = (all.0, mute-take n xs all.1)
-
   still-mark : (before : List Mark) (mark : Mark) (n : ℕ) → Facts policy pid (cut before mark n) → EachItem IsMute (items_in before mark) → total owed_cost (items_in before mark) ≡ 0 → Still before mark n
   still-mark before mark n facts mute none =
       let g = owed-grows policy pid picks given (log before) (take n (items_in before mark)) (mute-take n (items_in before mark) mute) facts in
       let t = total-take owed_cost n (items_in before mark) in
       omega (arith, g, t, none)
-
-  server-mute : (rest : List ℕ) → EachItem IsMute (server_end rest ∷ [])
-  server-mute [] = (tt, tt)
-  server-mute (b ∷ rest) = (tt, tt)
-
-  server-free : (rest : List ℕ) → total owed_cost (server_end rest ∷ []) ≡ 0
-  server-free [] = refl
-  server-free (b ∷ rest) = refl
-
-  gone-mute : (stream : ℕ) (item : Item) → EachItem IsMute (item ∷ []) → EachItem IsMute (elim (stream == 0) as (λ _. List Item) [ true ↦ item ∷ [] | false ↦ Gone stream ∷ [] ])
-  gone-mute stream item mute = elim (stream == 0) as (λ b. EachItem IsMute (elim b as (λ _. List Item) [ true ↦ item ∷ [] | false ↦ Gone stream ∷ [] ])) [ true ↦ mute | false ↦ (tt, tt) ]
-
-  gone-free : (stream : ℕ) (item : Item) → total owed_cost (item ∷ []) ≡ 0 → total owed_cost (elim (stream == 0) as (λ _. List Item) [ true ↦ item ∷ [] | false ↦ Gone stream ∷ [] ]) ≡ 0
-  gone-free stream item none = elim (stream == 0) as (λ b. total owed_cost (elim b as (λ _. List Item) [ true ↦ item ∷ [] | false ↦ Gone stream ∷ [] ]) ≡ 0) [ true ↦ none | false ↦ refl ]
 
   gets-mark : (before : List Mark) (stream : ℕ) (bytes : List ℕ) (n : ℕ) → length bytes ≤ 65536 → Facts policy pid (cut before (wire.Gets stream bytes) n) → Moves before (wire.Gets stream bytes) n
   gets-mark before stream bytes n short facts = by_stream (stream == 0) refl
@@ -183,7 +130,7 @@ module _ (policy : Policy) (pid : ℕ) (picks : List ℕ) (given : List HouseRep
       few = live-few policy pid (log before) (log-known before was)
 
       by_end : (b : Bool) → is_ended (log before) ≡ b → waits (cut before mark n) ≤ waits (log before) + 4096009
-      by_end true e = let o = (over-all (log before) (take n (items_in before mark)) e).0 in omega (arith, o)
+      by_end true e = let o = (over-all policy pid picks given (log before) (take n (items_in before mark)) e).0 in omega (arith, o)
       by_end false e = by_move (moves before mark n known.lawful.0 (cut-facts before mark n known)) (owed-all-few policy pid (log before) (log-known before was) (facts-of before was).first e)
         where
           by_move : Moves before mark n → owed (log before) ≤ 4096 → waits (cut before mark n) ≤ waits (log before) + 4096009
@@ -211,7 +158,7 @@ module _ (policy : Policy) (pid : ℕ) (picks : List ℕ) (given : List HouseRep
 
       by_end : (b : Bool) → is_ended (log before) ≡ b → Bound (cut before mark n)
       by_end true e =
-          let o = over-all (log before) (take n (items_in before mark)) e in
+          let o = over-all policy pid picks given (log before) (take n (items_in before mark)) e in
           let w = o.0 in
           let h = bound.waits in
           record {
