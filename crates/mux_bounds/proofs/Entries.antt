@@ -17,10 +17,10 @@ use Rattle.mux_history.specs.Said.{silent}
 use Rattle.mux_history.specs.Settings.{by_lists}
 use Rattle.mux_history.proofs.Bools.{or-left, or-right, or-yes, self}
 use Rattle.mux_history.proofs.Finds.{filter-no, filter-yes}
-use Rattle.mux_history.proofs.KeepsApart.{admits_client}
 use Rattle.mux_history.proofs.LawfulItems.{client-of, reply-next, treat-item}
 use Rattle.mux_history.proofs.Nexts.{next-live}
 use Rattle.mux_history.proofs.RightLogs.{RowKnown}
+use Rattle.mux_history.proofs.SaidApart.{admits_client}
 use Rattle.mux_bounds.proofs.Knowns.{LetFirst, is_own}
 use Rattle.mux_bounds.proofs.Matters.{still-in}
 

@@ -23,9 +23,9 @@ use Rattle.ssh_grammar.specs.declared.fault.Bad.{Bad}
 use Rattle.mux_history.specs.declared.why.Why.TheVariants as why
 use Rattle.mux_history.proofs.Dests.{dest-ok}
 use Rattle.mux_history.proofs.Finds.{filter-no, filter-yes}
-use Rattle.mux_history.proofs.KeepsApart.{opened-plain}
 use Rattle.mux_history.proofs.OwnRows.{same-client}
 use Rattle.mux_history.proofs.RightLogs.{LogKnown, RowKnown}
+use Rattle.mux_history.proofs.SaidApart.{opened-plain}
 use Rattle.mux_history.proofs.Sends.{as_row, row-parts}
 use Rattle.mux_bounds.proofs.Begun.{held-count, lost-offers, opened-down-not}
 

@@ -27,8 +27,8 @@ use Rattle.mux_history.specs.Said.{Outcome, drops, said_gist, said_payload, send
 use Rattle.mux_bounds.specs.Bounds.{weight}
 use Rattle.mux_history.proofs.Askers.{asks-local, asks_for}
 use Rattle.mux_history.proofs.Finds.{filter-no, filter-yes}
-use Rattle.mux_history.proofs.KeepsApart.{LawfulItem}
 use Rattle.mux_history.proofs.RightLogs.{RowKnown}
+use Rattle.mux_history.proofs.SaidApart.{LawfulItem}
 use Rattle.mux_history.proofs.Sends.{Sent, admits-sent, body-sent, row-parts, sent-by}
 use Rattle.mux_bounds.proofs.Shorts.{AskShort, EachAsk, IsBrief, asks-brief}
 use Rattle.mux_bounds.proofs.Weights.{bound-brief, cancel-weight, close-weight, failure-weight, weight-one}

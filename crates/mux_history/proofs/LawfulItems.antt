@@ -12,7 +12,7 @@ use Rattle.mux_history.specs.Settings.{by_lists}
 use Rattle.mux_outside.specs.declared.house.HouseReply.{HouseReply}
 use Rattle.ssh_grammar.specs.Said.{BadFraming, Body, Payload}
 use Rattle.mux_history.proofs.Bools.{or-left, or-right}
-use Rattle.mux_history.proofs.KeepsApart.{LawfulItem, SayingBytes, admits_client}
+use Rattle.mux_history.proofs.SaidApart.{LawfulItem, SayingBytes, admits_client}
 use Rattle.mux_history.proofs.Sends.{row-parts}
 
 pub client-of : (item : Item) (k : ℕ) (o : Outcome) (own : List Row) → (row_of item k o own).client ≡ k

@@ -28,7 +28,9 @@ pub mod Quiets
 pub mod Readings
 pub mod Renumbered
 pub mod RightLogs
+pub mod RoomActs
 pub mod Rooms
+pub mod SaidApart
 pub mod SameKeys
 pub mod Sends
 pub mod Steps

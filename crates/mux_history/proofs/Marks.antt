@@ -17,8 +17,8 @@ use Rattle.ssh_grammar.specs.declared.fault.BadFrame.TheVariants as bad_frame
 use Rattle.mux_outside.specs.declared.mark.Mark.TheVariants as wire
 use Rattle.ssh_grammar.specs.declared.framing.Framing.TheVariants as framing
 use Rattle.mux_history.proofs.Bools.{or-left, or-right}
-use Rattle.mux_history.proofs.KeepsApart.{SayingBytes, admits_client}
 use Rattle.mux_history.proofs.LawfulItems.{LawfulIn, LawfulItems}
+use Rattle.mux_history.proofs.SaidApart.{SayingBytes, admits_client}
 
 -- ---- what is cut from bytes are bytes
 

@@ -11,10 +11,10 @@ use Rattle.mux_history.specs.Rows.{Admit, Fate, Item, Refused, Row, any_of, is_a
 use Rattle.mux_history.specs.Steps.{MattersStep, one_if}
 use Rattle.mux_history.proofs.Bools.{or-left, or-right, self}
 use Rattle.mux_history.proofs.Finds.{filter-no, filter-yes}
-use Rattle.mux_history.proofs.KeepsApart.{LawfulItem, admits_client}
 use Rattle.mux_history.proofs.LawfulItems.{client-of, treat-item}
 use Rattle.mux_history.proofs.OwnRows.{same-client}
 use Rattle.mux_history.proofs.RightLogs.{LogKnown, RowKnown}
+use Rattle.mux_history.proofs.SaidApart.{LawfulItem, admits_client}
 
 -- ---- a client is let in once
 

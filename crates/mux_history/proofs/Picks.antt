@@ -21,11 +21,11 @@ use Rattle.ssh_fields.specs.Fields.{AreBytes}
 use Rattle.ssh_grammar.specs.Said.{BadFraming, Body, Payload}
 use Rattle.ssh_grammar.specs.declared.fault.Bad.{Bad}
 use Rattle.mux_history.specs.declared.why.Why.TheVariants as why
-use Rattle.mux_history.proofs.KeepsApart.{LawfulItem, admits_client}
 use Rattle.mux_history.proofs.LawfulItems.{LawfulIn, LawfulItems, reply-lawful, rows-admits}
 use Rattle.mux_history.proofs.Marks.{left-lawful}
 use Rattle.mux_history.proofs.Readings.{reading-ok}
 use Rattle.mux_history.proofs.Renumbered.{number-sent, sender-in, word}
+use Rattle.mux_history.proofs.SaidApart.{LawfulItem, admits_client}
 use Rattle.mux_history.proofs.Sends.{Sent, as_row, row-parts, sent-by}
 
 abbrev CarriesPick : ℕ → Row → Type 0

@@ -18,10 +18,11 @@ use Rattle.mux_history.proofs.Apart.{AllApart, ApartFrom, AreApart, each-of}
 use Rattle.mux_history.proofs.Askers.{Orderly, orderly-none, orderly-treat}
 use Rattle.mux_history.proofs.Bools.{or-left, or-right}
 use Rattle.mux_history.proofs.Finds.{Each, filter-no, filter-yes}
-use Rattle.mux_history.proofs.KeepsApart.{LawfulItem, admits_client, good-treat}
+use Rattle.mux_history.proofs.KeepsApart.{good-treat}
 use Rattle.mux_history.proofs.LawfulItems.{LawfulIn, LawfulItems, reply-lawful, reply-next, rows-admits}
 use Rattle.mux_history.proofs.Marks.{left-lawful}
 use Rattle.mux_history.proofs.Nexts.{by-next}
+use Rattle.mux_history.proofs.SaidApart.{LawfulItem, admits_client}
 
 -- ---- each row
 

@@ -22,10 +22,10 @@ use Rattle.ssh_grammar.specs.declared.fault.Breach.{Breach}
 use Rattle.ssh_grammar.specs.declared.side.Side.TheVariants.{Up}
 use Rattle.mux_history.specs.declared.why.Why.TheVariants as why
 use Rattle.mux_history.proofs.Harmless.{Harmless, IsHarmless, every-append, every-of, harmless-each, harmless-heard, harmless-master}
-use Rattle.mux_history.proofs.KeepsApart.{LawfulItem, ok-same}
 use Rattle.mux_history.proofs.Legal.{fits-of}
 use Rattle.mux_history.proofs.Renumbered.{reads-sent, sender-in, word}
 use Rattle.mux_history.proofs.RightLogs.{LogKnown, by-treat}
+use Rattle.mux_history.proofs.SaidApart.{LawfulItem, ok-same}
 use Rattle.mux_history.proofs.Sends.{admits-sent, body-sent, row-split}
 use Rattle.mux_isolation.proofs.Mays.{MaySend, SendsAllowed}
 

@@ -18,9 +18,10 @@ use Rattle.mux_history.proofs.Apart.{AreApart}
 use Rattle.mux_history.proofs.Askers.{Orderly, orderly-none, orderly-treat}
 use Rattle.mux_history.proofs.Bools.{is-of, or-left, or-right, same-number}
 use Rattle.mux_history.proofs.Finds.{filter-no, filter-yes}
-use Rattle.mux_history.proofs.KeepsApart.{IsFresh, LawfulItem, admits_client, good-treat}
+use Rattle.mux_history.proofs.KeepsApart.{good-treat}
 use Rattle.mux_history.proofs.LawfulItems.{LawfulIn, LawfulItems, client-of, reply-lawful, reply-next, rows-admits}
 use Rattle.mux_history.proofs.Nexts.{by-next, next-live, next-took}
+use Rattle.mux_history.proofs.SaidApart.{IsFresh, LawfulItem, admits_client}
 use Rattle.mux_isolation.proofs.Numbers.{AllNamed}
 use Rattle.mux_isolation.proofs.Rows.{AllSmall, SmallItem}
 use Rattle.mux_isolation.proofs.Solos.{alone, alone_row}

@@ -21,11 +21,11 @@ use Rattle.mux_history.specs.declared.why.Why.TheVariants as why
 use Rattle.mux_history.proofs.Apart.{AreApart, Sound, each-filter, each-of, find-of}
 use Rattle.mux_history.proofs.Dests.{Reached, dest-err, dest-ok, reached}
 use Rattle.mux_history.proofs.Finds.{Each, filter-no, filter-yes, find-no, find-yes}
-use Rattle.mux_history.proofs.KeepsApart.{ok-same, opened-none, opened-plain, own-small, quiet-plain}
 use Rattle.mux_history.proofs.Local.{channels-local}
 use Rattle.mux_history.proofs.Quiets.{Quiet}
 use Rattle.mux_history.proofs.Readings.{reading-ok}
 use Rattle.mux_history.proofs.Renumbered.{SenderIn, number-sent, readdressed, reads-sent, resent, sender-in, sent-again, spelled, word}
+use Rattle.mux_history.proofs.SaidApart.{ok-same, opened-none, opened-plain, own-small, quiet-plain}
 use Rattle.mux_history.proofs.Sends.{Sent, as_row, sent-by}
 use Rattle.mux_isolation.proofs.Heard.{Named}
 use Rattle.mux_isolation.proofs.Meets.{Distinct, Meets, distinct-of, meets-all, own_numbered}

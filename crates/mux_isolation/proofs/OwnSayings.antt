@@ -8,8 +8,8 @@ use Rattle.mux_history.specs.Policy.{Policy}
 use Rattle.mux_history.specs.Rows.{Admit, Gone, Heard, Item, Row, Says, rows_of}
 use Rattle.mux_history.specs.Said.{Outcome, silent}
 use Rattle.mux_history.proofs.Harmless.{masters-heard, masters-master}
-use Rattle.mux_history.proofs.KeepsApart.{LawfulItem}
 use Rattle.mux_history.proofs.RightLogs.{LogKnown, by-treat}
+use Rattle.mux_history.proofs.SaidApart.{LawfulItem}
 use Rattle.mux_history.proofs.Sends.{admits-sent, row-split}
 
 split : (before : List Row) (item : Item) (k : ℕ) (o : Outcome) → (k ≡ 0 → Every IsMasters o.sent) → (is_says item ≡ false → Every IsMasters o.sent) → OwnWords before (row_of item k o (rows_of k before))

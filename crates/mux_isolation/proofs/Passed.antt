@@ -16,10 +16,10 @@ use Rattle.ssh_grammar.specs.Said.{Payload}
 use Rattle.ssh_grammar.specs.SpellMessage.{with_sender}
 use Rattle.ssh_grammar.specs.declared.fault.Bad.{Bad}
 use Rattle.mux_history.specs.declared.why.Why.TheVariants as why
-use Rattle.mux_history.proofs.KeepsApart.{ok-same}
 use Rattle.mux_history.proofs.LawfulItems.{treat-item}
 use Rattle.mux_history.proofs.Readings.{reading-err, reading-ok}
 use Rattle.mux_history.proofs.RightLogs.{LogKnown, by-treat}
+use Rattle.mux_history.proofs.SaidApart.{ok-same}
 use Rattle.mux_history.proofs.Sends.{Sent, sent-by}
 use Rattle.mux_isolation.proofs.Fulls.{row-whole}
 

@@ -23,10 +23,10 @@ use Rattle.mux_history.specs.declared.why.Why.TheVariants as why
 use Rattle.mux_history.proofs.Apart.{AreApart}
 use Rattle.mux_history.proofs.Dests.{Legal, Offered, dest-ok, offered, reached, within-legal}
 use Rattle.mux_history.proofs.Finds.{Each, filter-no, filter-yes, find-no, find-yes}
-use Rattle.mux_history.proofs.KeepsApart.{ok-same}
 use Rattle.mux_history.proofs.Legal.{fits-of}
 use Rattle.mux_history.proofs.Renumbered.{read-renamed, readdressed}
 use Rattle.mux_history.proofs.RightLogs.{LogKnown, by-treat}
+use Rattle.mux_history.proofs.SaidApart.{ok-same}
 use Rattle.mux_history.proofs.Sends.{row-split}
 use Rattle.mux_isolation.proofs.Mays.{MayTell, TellsAllowed}
 use Rattle.mux_isolation.proofs.Meets.{Meets}

@@ -25,12 +25,12 @@ use Rattle.mux_history.proofs.Apart.{AreApart}
 use Rattle.mux_history.proofs.Askers.{Orderly}
 use Rattle.mux_history.proofs.Bools.{or-left, or-right}
 use Rattle.mux_history.proofs.Finds.{filter-no, filter-yes}
-use Rattle.mux_history.proofs.KeepsApart.{LawfulItem, admits_client}
 use Rattle.mux_history.proofs.LawfulItems.{client-of, item-of}
 use Rattle.mux_history.proofs.OwnRows.{all-of, rows-all}
 use Rattle.mux_history.proofs.Quiets.{Quiet}
 use Rattle.mux_history.proofs.Readings.{reading-err, reading-ok}
 use Rattle.mux_history.proofs.Renumbered.{sender-in, sent-again}
+use Rattle.mux_history.proofs.SaidApart.{LawfulItem, admits_client}
 use Rattle.mux_history.proofs.Sends.{admits-sent, as_row, body-sent, quiet-heard, row-parts}
 use Rattle.mux_isolation.proofs.Alike.{message-said, numbered}
 use Rattle.mux_isolation.proofs.Alone.{loses-alone}

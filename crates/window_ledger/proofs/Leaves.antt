@@ -9,7 +9,7 @@ use Rattle.mux_history.specs.Gist.{Closes}
 use Rattle.mux_history.specs.Channels.{Channel, any_by, is_closes, is_confirmed, is_ends}
 use Rattle.mux_history.specs.Ledger.{breach}
 use Rattle.mux_history.specs.Laws.{with_act}
-use Rattle.mux_history.proofs.Rooms.{accounted-act, may-of}
+use Rattle.mux_history.proofs.RoomActs.{accounted-act, may-of}
 use Rattle.window_ledger.specs.Stands.{IsStateOf, account_of, both_closed, is_answered, speech_of}
 use Rattle.window_ledger.specs.Leaving.{is_closed, is_over_in, left_state, said_close_in}
 use Rattle.window_ledger.specs.declared.account.Account.{Account}

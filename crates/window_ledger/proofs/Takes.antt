@@ -7,7 +7,7 @@ use Rattle.ssh_grammar.specs.declared.fault.Breach.TheVariants.{AfterClose, Afte
 use Rattle.mux_history.specs.Channels.{Channel, any_by, is_closes, is_confirmed, is_ends}
 use Rattle.mux_history.specs.Ledger.{breach}
 use Rattle.mux_history.specs.Laws.{with_act}
-use Rattle.mux_history.proofs.Rooms.{accounted-act, may-of}
+use Rattle.mux_history.proofs.RoomActs.{accounted-act, may-of}
 use Rattle.window_ledger.specs.Act.{act_of}
 use Rattle.window_ledger.specs.Stands.{IsStateOf, is_answered}
 use Rattle.window_ledger.specs.Step.{breach_in, judged, other_after, own_after, state_after}
