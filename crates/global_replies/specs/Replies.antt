@@ -31,8 +31,8 @@ abbrev pub rest_of : List history.Ask → List history.Ask
 rest_of [] = []
 rest_of (a ∷ later) = later
 
--- ---- what a client is still to be answered: for each request, from the first on that was sent and has no reply,
--- whether it was sent
+-- ---- what a client is still to be answered: for each request, from the first on that was sent and
+-- has no reply, whether it was sent
 
 -- nothing waits
 abbrev pub is_none_left : List Bool → Bool

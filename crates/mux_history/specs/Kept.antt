@@ -79,7 +79,8 @@ pub record Window (before : List Row) (row : Row) : Type 0 where
   pub up : EachSays (UpFits (rows_of row.client before)) (sent_by row)
   pub down : EachTells (DownFits (rows_of row.client before)) row.down
 
--- ---- Permission: no forwarding passes its permission list, and each forwarded open meets a live forwarding
+-- ---- Permission: no forwarding passes its permission list, and each forwarded open meets a live
+-- forwarding
 
 -- a direct channel and a forwarding that is asked are on their lists, be it by address and port or
 -- by path

@@ -46,7 +46,8 @@ permits (Entries entries) key = any_of (is_for key) entries
 abbrev pub any_policy : Policy
 any_policy = record { opens = Anything; listens = Anything }
 
--- ---- how a list is read: `any`, `none`, or entries `/path`, `host:port`, `[address]:port` and `port`
+-- ---- how a list is read: `any`, `none`, or entries `/path`, `host:port`, `[address]:port` and
+-- `port`
 
 -- a decimal number up to 65,535; leading zeros are allowed
 abbrev pub digits : ℕ → List ℕ → Option ℕ

@@ -19,7 +19,8 @@ use Rattle.mux_history.specs.Said.{Outcome, silent, tells, drops, said_payload}
 use Rattle.mux_history.specs.Controls.{greeted, said_body}
 use Rattle.mux_history.specs.Heard.{Dest, ToMaster, ToClient, Disconnects, Breaks, dest, heard_for, heard_master, finishes, broken}
 
--- ---- a client's row: the answers that its requests and replies complete, the queue's bound, the farewell
+-- ---- a client's row: the answers that its requests and replies complete, the queue's bound, the
+-- farewell
 
 -- a row of what an item does, and nothing else
 abbrev pub bare : Item → ℕ → Outcome → Row

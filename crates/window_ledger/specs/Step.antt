@@ -36,7 +36,8 @@ abbrev pub own_act_breach : Act → Account → Option Breach
 own_act_breach (Data size) own = while_speaking own.speech (packet_breach own.maximum own.room size)
 own_act_breach Eof own = while_speaking own.speech None
 own_act_breach (Request true) own =
-    elim (nat_lt own.unanswered MAX_CHANNEL_REQUESTS) [ true ↦ None | false ↦ Some (TooManyAsks own.unanswered) ]
+    elim (nat_lt own.unanswered MAX_CHANNEL_REQUESTS)
+      [ true ↦ None | false ↦ Some (TooManyAsks own.unanswered) ]
 own_act_breach _ own = None
 
 abbrev pub own_breach : Act → Account → Option Breach

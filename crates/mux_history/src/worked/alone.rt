@@ -22,7 +22,8 @@ pub fn a_client_sees_nothing_of_others()
     ensures again { IsTrue (looks_unshared again_setting 1 (run_of again_setting data_too_early)) }
     ensures first { IsTrue (looks_unshared open_setting 1 (run connected)) }
     ensures second { IsTrue (looks_unshared open_setting 2 (run connected)) }
-    ensures refused { IsTrue (looks_unshared (under port_8080_only 0 []) 1 (run_of (under port_8080_only 0 []) one_of_two_ports)) }
+    ensures refused { IsTrue (looks_unshared (under port_8080_only 0 []) 1
+        (run_of (under port_8080_only 0 []) one_of_two_ports)) }
     ensures cancels { IsTrue (looks_unshared open_setting 1 (run cancelled_twice)) }
     ensures lost { IsTrue (looks_unshared open_setting 1 (run told_too_late)) }
     ensures goes_on { IsTrue (looks_unshared open_setting 2 (run told_too_late)) }

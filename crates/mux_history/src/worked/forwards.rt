@@ -18,7 +18,8 @@ pub fn each_reply_reaches_its_asker()
 pub fn a_forwarded_open_reaches_its_client()
     ensures down { told_in_proxy 2 (run connected) ≡ bound_to 40002 ++ connects_to 40002 9 }
     ensures other { told_in_proxy 1 (run connected) ≡ bound_to 40001 }
-    ensures up { drop 64 (sent (run connected)) ≡ hex (codes "00000012 00 5b 00000009 00000000 00200000 00008000") }
+    ensures up { drop 64 (sent (run connected))
+        ≡ hex (codes "00000012 00 5b 00000009 00000000 00200000 00008000") }
 {}
 
 /// The server may not use a number of its own twice.
@@ -29,7 +30,8 @@ pub fn a_live_number_of_the_server_is_not_taken_again()
 /// A refusal waits until all earlier requests are answered.
 pub fn a_refusal_waits_for_earlier_replies()
     ensures up { sent (run_of (under port_8080_only 0 []) one_of_two_ports) ≡ asks_port 8080 }
-    ensures down { told_in_proxy 1 (run_of (under port_8080_only 0 []) one_of_two_ports) ≡ bound_to 0 ++ failure }
+    ensures down { told_in_proxy 1 (run_of (under port_8080_only 0 []) one_of_two_ports)
+        ≡ bound_to 0 ++ failure }
 {}
 
 /// Every other global request is refused by the master.
@@ -41,12 +43,15 @@ pub fn an_unknown_global_request_is_refused()
 /// A second cancel means no forwarding; after the first took effect the port is nobody's.
 pub fn a_forwarding_is_cancelled_once()
     ensures down { told_in_proxy 1 (run cancelled_twice) ≡ bound_to 40001 ++ (success ++ failure) }
-    ensures up { drop 64 (sent (run cancelled_twice)) ≡ cancels 40001 ++ (hex (codes "0000001f 00 5c 0000000c 00000001 0000000d") ++ (codes "not permitted" ++ hex (codes "00000000"))) }
+    ensures up { drop 64 (sent (run cancelled_twice))
+        ≡ cancels 40001 ++ (hex (codes "0000001f 00 5c 0000000c 00000001 0000000d")
+            ++ (codes "not permitted" ++ hex (codes "00000000"))) }
 {}
 
 /// A cancel that the server refuses after its client is lost is said again by the master.
 pub fn a_refused_cancel_is_said_again_for_a_lost_client()
-    ensures { sent (run cancel_refused_late) ≡ asks_port 8080 ++ (cancels 8080 ++ cancels_at_once 8080) }
+    ensures { sent (run cancel_refused_late)
+        ≡ asks_port 8080 ++ (cancels 8080 ++ cancels_at_once 8080) }
 {}
 
 /// A client that fails while it is told its port loses the forwarding; the other goes on.

@@ -12,15 +12,21 @@ ghost use Rattle.mux_history.specs.WorkedLosses.{leaves, late_confirmation, late
 /// What a client leaves behind is closed for it, at once and when the server answers later.
 pub fn the_master_says_farewell_for_a_lost_client()
     ensures at_once { drop 90 (sent (run leaves)) ≡ hex (codes "00000006 00 61 00000007") }
-    ensures confirmation { drop 100 (sent (run late_confirmation)) ≡ hex (codes "00000006 00 61 00000008") }
-    ensures success { drop 110 (sent (run late_success)) ≡ hex (codes "00000023 00 50 00000014") ++ (codes "cancel-tcpip-forward" ++ hex (codes "00 00000000 00009c41")) }
+    ensures confirmation { drop 100 (sent (run late_confirmation))
+        ≡ hex (codes "00000006 00 61 00000008") }
+    ensures success { drop 110 (sent (run late_success))
+        ≡ hex (codes "00000023 00 50 00000014") ++ (codes "cancel-tcpip-forward"
+            ++ hex (codes "00 00000000 00009c41")) }
     ensures before { open_matters (run late_success) ≡ 1 }
     ensures after { open_matters (run all_closed) ≡ 0 }
 {}
 
 /// Channels come first in a farewell, in the order in which they began, and then forwardings.
 pub fn a_farewell_has_an_order()
-    ensures { drop 54 (sent (run leaves_opens)) ≡ hex (codes "00000006 00 61 00000003 00000020 00 5c 00000004 00000002 0000000e") ++ (codes "client is gone" ++ (hex (codes "00000000 00000023 00 50 00000014") ++ (codes "cancel-tcpip-forward" ++ hex (codes "00 00000000 00001f90")))) }
+    ensures { drop 54 (sent (run leaves_opens))
+        ≡ hex (codes "00000006 00 61 00000003 00000020 00 5c 00000004 00000002 0000000e")
+            ++ (codes "client is gone" ++ (hex (codes "00000000 00000023 00 50 00000014")
+            ++ (codes "cancel-tcpip-forward" ++ hex (codes "00 00000000 00001f90")))) }
 {}
 
 /// A client that comes while 64 have open matters is refused, also where one of them is lost.
@@ -34,7 +40,8 @@ pub fn the_sixty_fifth_client_is_refused()
 /// A frame that fills the queue is taken, the next is not.
 pub fn a_full_queue_drops_its_client()
     ensures fits { fitting 33554421 (replicate 11 0 ∷ replicate 6 0 ∷ []) ≡ replicate 11 0 ∷ [] }
-    ensures full { overflow 33554421 (replicate 11 0 ∷ replicate 6 0 ∷ []) ≡ Some (why.QueueFull 33554432 6) }
+    ensures full { overflow 33554421 (replicate 11 0 ∷ replicate 6 0 ∷ [])
+        ≡ Some (why.QueueFull 33554432 6) }
 {}
 
 /// A stream that holds back waits with its output, and others are served meanwhile.
