@@ -23,7 +23,7 @@ use Rattle.mux_core.specs.Stands.{Stands, TableFits, look}
 use Rattle.mux_core.specs.Opening.{open_verdict}
 use Rattle.mux_core.specs.Calls.{SaysAs, SaysIn, SaysOn, SaysRow, SaysSome, StartsOn}
 use Rattle.mux_history.specs.Channels.{held_of}
-use Rattle.mux_core.proofs.Opens.{judged}
+use Rattle.mux_core.proofs.OpensJudged.{judged}
 use Rattle.mux_core.proofs.Says.{AsksNothing, quiet-says, said_as, same-queue, takes-unsent, tells-own, unsent-held}
 use Rattle.mux_core.proofs.SaysWithin.{dropped-row, said-ok}
 use Rattle.mux_core.proofs.Served.{quiet-stands, served}

@@ -19,7 +19,8 @@ use Rattle.mux_core.proofs.Granting.{granted-fit}
 use Rattle.mux_core.proofs.Pairs.{and-right}
 use Rattle.mux_core.proofs.Ranking.{AllPairs, Known, first-is, known-all, leaves_at, rank-of, same-cancelled}
 use Rattle.mux_core.proofs.Refusing.{refused-fit}
-use Rattle.mux_core.proofs.Released.{moved-fit, not-asked, released, released-at, seen-all, there-is}
+use Rattle.mux_core.proofs.CancelAnswered.{released, released-at, seen-all}
+use Rattle.mux_core.proofs.Released.{moved-fit, not-asked, there-is}
 use Rattle.mux_core.proofs.Removed.{all-by, kept_by, on-all, on-listed}
 use Rattle.mux_core.proofs.Replied.{Replies, after, idle-all, is_neither, neither-idle, nobody-fit, number-is}
 

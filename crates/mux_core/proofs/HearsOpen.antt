@@ -35,7 +35,8 @@ use Rattle.mux_core.proofs.Bare.{down_act}
 use Rattle.mux_core.proofs.Failing.{free-table}
 use Rattle.channel_table.proofs.Fits.{FoundFit}
 use Rattle.mux_core.proofs.Found.{stands-confirmed}
-use Rattle.mux_core.proofs.HearsWithin.{Holds, does, entry-known, heard-channels, holder-fit, holds, is_theirs, known-served, own-holder, quiet-heard, shown-entry, shown-none, sole, theirs-found}
+use Rattle.mux_core.proofs.ChannelHeard.{does, heard-channels, holder-fit, is_theirs, own-holder, quiet-heard, shown-entry, shown-none, sole, theirs-found}
+use Rattle.mux_core.proofs.HearsWithin.{Holds, entry-known, holds, known-served}
 use Rattle.mux_core.proofs.Quiet.{IsQuiet}
 use Rattle.mux_core.proofs.Says.{tells-own}
 use Rattle.mux_core.proofs.Served.{IsServed, quiet-stands, served}

@@ -38,10 +38,11 @@ use Rattle.mux_core.specs.Requesting.{waiting_of, with_waiting}
 use Rattle.mux_core.specs.Settling.{is_lost_in, settled}
 use Rattle.mux_core.proofs.Answering.{Waits}
 use Rattle.mux_core.proofs.Ended.{failure-fit, success-fit}
-use Rattle.mux_core.proofs.HearsReply.{IsReply, asked-first, lost-reply-stands, nobody-asked, own-next, reply_row, served-stands, waits-start}
+use Rattle.mux_core.proofs.HearsReply.{lost-reply-stands, served-stands}
+use Rattle.mux_core.proofs.ReplyRow.{IsReply, asked-first, nobody-asked, own-next, reply_row, waits-start}
 use Rattle.mux_core.proofs.HearsWithin.{known-served}
 use Rattle.mux_core.proofs.Leaves.{cancel-none}
-use Rattle.mux_core.proofs.Released.{client-after}
+use Rattle.mux_core.proofs.CancelsLeft.{client-after}
 use Rattle.mux_core.proofs.ReplyTold.{reply-told}
 use Rattle.mux_core.proofs.Served.{served}
 use Rattle.mux_core.proofs.Settles.{lost-there}

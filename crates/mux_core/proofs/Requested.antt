@@ -27,7 +27,7 @@ use Rattle.channel_table.specs.Entries.{Entry}
 use Rattle.mux_core.specs.State.{ClientState, CoreState, is_served}
 use Rattle.mux_core.specs.Stands.{AreOnce, ClientFits, Stands, TableFits, has_matters, is_known, look}
 use Rattle.mux_core.proofs.Bare.{held-bare}
-use Rattle.mux_core.proofs.Opens.{served-known}
+use Rattle.mux_core.proofs.OpensSent.{served-known}
 use Rattle.mux_core.proofs.Quiet.{own-same}
 use Rattle.mux_core.proofs.Served.{IsServed, open-by, served}
 use Rattle.mux_core.proofs.Answering.{Waits, asked_more, asks-sent, sent-waits}

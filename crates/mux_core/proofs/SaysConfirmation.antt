@@ -41,8 +41,8 @@ use Rattle.mux_core.proofs.Awaiting.{WaitingEntry, waiting-entry}
 use Rattle.mux_core.proofs.Bare.{held-bare}
 use Rattle.channel_table.proofs.Fits.{FoundFit}
 use Rattle.mux_core.proofs.Found.{find-narrow, only_if}
-use Rattle.mux_core.proofs.HearsWithin.{holder-fit}
-use Rattle.mux_core.proofs.Opens.{all-unit, by-none, by-use, none-own, uses}
+use Rattle.mux_core.proofs.ChannelHeard.{holder-fit}
+use Rattle.mux_core.proofs.OpensJudged.{all-unit, by-none, by-use, none-own, uses}
 use Rattle.mux_core.proofs.Says.{AsksNothing, quiet-says, said_as, tells-own}
 use Rattle.mux_core.proofs.SaysFailure.{nobody-waits, theirs-found, waits}
 use Rattle.mux_core.proofs.SaysWithin.{dropped-row, said-ok}

@@ -18,7 +18,7 @@ use Rattle.mux_core.specs.State.{ClientState, CoreState, is_served}
 use Rattle.mux_core.specs.Stands.{AreKnown, AreOnce, AsksFit, ClientFits, ClientsFit, Look, Stands, TableFits, has_matters, is_known, look}
 use Rattle.mux_core.specs.Settling.{has_left, is_lost_in, is_other, kept, settled}
 use Rattle.mux_core.proofs.Found.{held-local}
-use Rattle.mux_core.proofs.Opens.{count-fit}
+use Rattle.mux_core.proofs.OpensJudged.{count-fit}
 use Rattle.mux_history.proofs.OwnRows.{idle_row}
 use Rattle.forward_rules.specs.Stands.{AreFit}
 use Rattle.mux_core.proofs.Quiet.{IsQuiet, look-same}

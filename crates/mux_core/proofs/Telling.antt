@@ -27,10 +27,11 @@ use Rattle.mux_core.specs.State.{CoreState}
 use Rattle.mux_core.specs.Stands.{Stands, is_known}
 use Rattle.mux_core.specs.Calls.{HearsAs, HearsGist, HearsOn, HearsWith, IsLetIn}
 use Rattle.channel_table.proofs.Fits.{FoundFit}
-use Rattle.mux_core.proofs.HearsOpens.{list-find, owner-served}
-use Rattle.mux_core.proofs.HearsReply.{asked-first, nobody-asked}
-use Rattle.mux_core.proofs.HearsWithin.{entry-known, holder-fit}
-use Rattle.mux_core.proofs.Opens.{served-known}
+use Rattle.mux_core.proofs.OpenedRow.{list-find, owner-served}
+use Rattle.mux_core.proofs.ReplyRow.{asked-first, nobody-asked}
+use Rattle.mux_core.proofs.ChannelHeard.{holder-fit}
+use Rattle.mux_core.proofs.HearsWithin.{entry-known}
+use Rattle.mux_core.proofs.OpensSent.{served-known}
 
 to-is : (j k : ℕ) → ToClient j ≡ ToClient k → j ≡ k
 to-is j k h = cc

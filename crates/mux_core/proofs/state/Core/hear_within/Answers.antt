@@ -2,7 +2,8 @@ use Rattle.std.proofs.Common.{rules}
 use Rattle.ssh_grammar.specs.declared.side.Side.TheVariants.{Down}
 use Rattle.window_ledger.specs.Act.{act_of}
 use Rattle.mux_core.proofs.Acts.{ActsOn, plain-act, no-failure}
-use Rattle.mux_core.proofs.HearsWithin.{breaks, nobody, shown-entry, shown-none, within-delivered}
+use Rattle.mux_core.proofs.ChannelHeard.{shown-entry, shown-none}
+use Rattle.mux_core.proofs.HearsWithin.{breaks, nobody, within-delivered}
 use Rattle.mux_core.proofs.state.Core.hear_within.Goals as goal
 
 pub returns-in_default-clause-stands : goal.returns-in_default-clause-stands

@@ -1,5 +1,6 @@
 use Rattle.std.proofs.Common.{rules}
-use Rattle.mux_core.proofs.Opens.{free-own, goes-up, has-room, is-full, no-room, none-own}
+use Rattle.mux_core.proofs.OpensJudged.{free-own, has-room, is-full, no-room, none-own}
+use Rattle.mux_core.proofs.OpensSent.{goes-up}
 use Rattle.mux_core.proofs.state.Core.start.Goals as goal
 
 pub returns-in-Err-Full-clause-stands : goal.returns-in-Err-Full-clause-stands
