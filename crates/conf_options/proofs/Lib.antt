@@ -1,5 +1,6 @@
 pub mod Sums
 pub mod OfferLemmas
+pub mod ListsLemmas
 pub mod ChangeLemmas
 pub mod KindLemmas
 pub mod WordLemmas

@@ -1,7 +1,7 @@
 use Rattle.std.proofs.Common.{◌≡◌, ap, ◌∙◌, true, false}
 use Rattle.conf_rules.specs.Rows.{values_among}
 use Rattle.conf_options.specs.Kept.{keeps_every}
-use Rattle.conf_options.proofs.OfferLemmas.{among-singles, among-collected}
+use Rattle.conf_options.proofs.ListsLemmas.{among-singles, among-collected}
 use Rattle.conf_options.proofs.settings.Settings.among.Goals as goal
 
 pub returns-then-keeps_every : goal.returns-then-keeps_every

@@ -2,7 +2,7 @@ use Rattle.std.proofs.Common.{◌≡◌, ap, ◌∙◌, refl}
 use Rattle.std.specs.List.{slice_get}
 use Rattle.conf_rules.specs.declared.key.Key.TheVariants as keys
 use Rattle.conf_rules.specs.Rows.{values_among, number_in}
-use Rattle.conf_options.proofs.OfferLemmas.{among-singles}
+use Rattle.conf_options.proofs.ListsLemmas.{among-singles}
 use Rattle.conf_options.proofs.settings.Settings.port.Goals as goal
 
 pub returns : goal.returns
