@@ -25,7 +25,7 @@ use Rattle.conf_reader.specs.Results.{Refuses}
 use Rattle.conf_reader.specs.Blocks.{Blocks, or_none}
 use Rattle.conf_reader.specs.Left.{source_of, frame_files, frames_left, deeper, cur, open_left, RefusesFirst, named_by, FoundPaths, named_as}
 use Rattle.conf_reader.proofs.LeftLemmas.{top_depth, top_outer, Step, under, stays, Alike, refuses, token-refuses}
-use Rattle.conf_reader.proofs.OpenLemmas.{first-refused, moves-refused, moved}
+use Rattle.conf_reader.proofs.RefusalLemmas.{first-refused, moves-refused, moved}
 
 twice : {X Y Z : Type 0} (f : X → List Y) (g : Y → List Z) (xs : List X) → flat_map g (flat_map f xs) ≡ flat_map (λ x. flat_map g (f x)) xs
 twice f g [] = refl

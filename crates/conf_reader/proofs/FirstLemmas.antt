@@ -16,7 +16,8 @@ use Rattle.conf_reader.specs.declared.reader.Lines.{Lines}
 use Rattle.conf_reader.specs.Blocks.{Blocks}
 use Rattle.conf_reader.specs.Left.{source_of, open_left, parts_left, first_left, firsts_left, left, is_plain_first, RefusesFirst, IsLacking, IsFound, Moves}
 use Rattle.conf_reader.proofs.LeftLemmas.{new-left}
-use Rattle.conf_reader.proofs.OpenLemmas.{drop-at, moved, moves-refused}
+use Rattle.conf_reader.proofs.OpenLemmas.{drop-at}
+use Rattle.conf_reader.proofs.RefusalLemmas.{moved, moves-refused}
 use Rattle.conf_rules.specs.declared.causes.ResolveError.{ResolveError}
 use Rattle.conf_rules.specs.declared.causes.ResolveError.TheVariants as errors
 use Rattle.conf_reader.specs.declared.errors.LineError.TheVariants as line_errors

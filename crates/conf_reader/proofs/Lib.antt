@@ -10,4 +10,5 @@ pub mod OneLemmas
 pub mod OpenLemmas
 pub mod OrderLemmas
 pub mod PathLemmas
+pub mod RefusalLemmas
 pub mod TakeLemmas

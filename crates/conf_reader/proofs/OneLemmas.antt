@@ -15,7 +15,8 @@ use Rattle.conf_reader.specs.declared.open_file.OpenFile.{OpenFile}
 use Rattle.conf_reader.specs.Results.{Refuses}
 use Rattle.conf_lexer.proofs.LineLemmas.{first_line}
 use Rattle.conf_reader.proofs.LeftLemmas.{top_depth, top_outer, file_line, head-left, front}
-use Rattle.conf_reader.proofs.OpenLemmas.{settled-files, moved}
+use Rattle.conf_reader.proofs.OpenLemmas.{settled-files}
+use Rattle.conf_reader.proofs.RefusalLemmas.{moved}
 use Rattle.conf_reader.proofs.TakeLemmas.{file-source}
 use Rattle.conf_rules.specs.Told.{Told}
 use Rattle.conf_rules.specs.Sources.{Line}

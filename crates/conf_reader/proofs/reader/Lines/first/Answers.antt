@@ -3,7 +3,7 @@ use Rattle.std.specs.List.{slice_get}
 use Rattle.conf_rules.specs.declared.causes.Cause.TheVariants as causes
 use Rattle.conf_reader.specs.declared.reader.Lines.{Lines}
 use Rattle.conf_reader.specs.Left.{left}
-use Rattle.conf_reader.proofs.OpenLemmas.{moves-refused}
+use Rattle.conf_reader.proofs.RefusalLemmas.{moves-refused}
 use Rattle.conf_reader.proofs.FirstLemmas.{lack-refused, size-moves, plain-at, below-end}
 use Rattle.conf_reader.specs.Looking.{FailsAmong}
 use Rattle.conf_reader.proofs.LookingLemmas.{first-tells}

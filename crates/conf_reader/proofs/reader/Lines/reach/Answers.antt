@@ -1,6 +1,6 @@
 use Rattle.std.proofs.Common.{◌∙◌, Bool, ap}
 use Rattle.std.proofs.lemmas.Result.{err_from_is_err_and}
-use Rattle.conf_reader.proofs.OpenLemmas.{moved-before}
+use Rattle.conf_reader.proofs.RefusalLemmas.{moved-before}
 use Rattle.conf_reader.specs.Known.{TellsFiles}
 use Rattle.conf_reader.specs.declared.reader.Lines.{Lines}
 use Rattle.conf_reader.specs.Left.{left}

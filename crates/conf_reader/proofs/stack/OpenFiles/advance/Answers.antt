@@ -2,7 +2,7 @@ use Rattle.std.proofs.Common.{◌≡◌, ◌<◌, ◌≤◌, [], ◌∷◌, Some
 use Rattle.std.proofs.lemmas.Result.{err_from_is_err_and}
 use Rattle.std.specs.List.{slice_get}
 use Rattle.conf_reader.specs.declared.stack.Stand.{Stand}
-use Rattle.conf_reader.proofs.OpenLemmas.{ready-top, none-left, one-left-path, found-names}
+use Rattle.conf_reader.proofs.RefusalLemmas.{ready-top, none-left, one-left-path, found-names}
 use Rattle.conf_reader.specs.Looking.{FailsAmong}
 use Rattle.conf_reader.proofs.LookingLemmas.{top-tells}
 use Rattle.conf_reader.proofs.stack.OpenFiles.advance.Goals as goal

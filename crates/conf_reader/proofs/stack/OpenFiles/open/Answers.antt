@@ -1,5 +1,5 @@
 use Rattle.std.proofs.Common.{[], refl, arith}
-use Rattle.conf_reader.proofs.OpenLemmas.{moves-deep, moves-large, holds-names}
+use Rattle.conf_reader.proofs.RefusalLemmas.{moves-deep, moves-large, holds-names}
 use Rattle.conf_reader.proofs.stack.OpenFiles.open.Goals as goal
 
 pub returns-then-len-lt-MAX_DEPTH-clause-moves : goal.returns-then-len-lt-MAX_DEPTH-clause-moves

@@ -1,6 +1,6 @@
 use Rattle.std.proofs.Common.{◌∙◌, Bool}
 use Rattle.std.proofs.lemmas.Result.{err_from_is_err_and}
-use Rattle.conf_reader.proofs.OpenLemmas.{moved-before}
+use Rattle.conf_reader.proofs.RefusalLemmas.{moved-before}
 use Rattle.conf_reader.specs.Left.{open_left}
 use Rattle.conf_reader.specs.declared.stack.Stand.{Stand}
 use Rattle.conf_reader.proofs.LookingLemmas.{tells-on}
