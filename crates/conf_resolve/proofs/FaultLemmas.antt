@@ -27,7 +27,8 @@ use Rattle.conf_fold.proofs.OrderLemmas.{from, rows-on, rows-end, row-line, from
 use Rattle.conf_resolve.specs.Passes.{Commands, commands, AreAgain, final_rows, first_rows}
 use Rattle.conf_resolve.specs.Faults.{FailedPaths, FaultStands, NoneFails}
 use Rattle.conf_resolve.proofs.IncludeLemmas.{may_tell, told-place, all-told}
-use Rattle.conf_resolve.proofs.PassLemmas.{Underway, idle-many}
+use Rattle.conf_resolve.proofs.IdleLemmas.{idle-many}
+use Rattle.conf_resolve.proofs.PassLemmas.{Underway}
 use Rattle.conf_resolve.proofs.ResolveLemmas.{all-front, first-is, twice-all}
 
 -- ---- rows

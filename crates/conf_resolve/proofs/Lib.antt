@@ -2,6 +2,7 @@ pub mod CauseLemmas
 pub mod CommandLemmas
 pub mod DepthLemmas
 pub mod FaultLemmas
+pub mod IdleLemmas
 pub mod IncludeLemmas
 pub mod PartsLemmas
 pub mod PassLemmas
