@@ -21,7 +21,7 @@ use Rattle.mux_machine.specs.Moves.{GainsAt, LosesAt}
 use Rattle.mux_machine.specs.State.{State, SameClient, entered, in_client, numbers, over, server_cause}
 use Rattle.mux_machine.specs.Steps.{EntersAt, is_heard, is_served}
 use Rattle.mux_machine.proofs.Comes.{numbers-last}
-use Rattle.mux_machine.proofs.Gains.{pair}
+use Rattle.mux_machine.proofs.Pairs.{pair}
 use Rattle.mux_machine.proofs.Hearing.{numbers-kept}
 use Rattle.mux_machine.proofs.Lists.{test_other}
 use Rattle.mux_machine.proofs.Looked.{so-here}

@@ -14,6 +14,7 @@ mod Loses
 mod Moved
 mod OneClient
 pub mod Over
+mod Pairs
 mod Places
 mod Queues
 mod Refused
