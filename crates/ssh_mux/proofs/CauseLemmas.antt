@@ -31,7 +31,7 @@ use Rattle.ssh_mux.specs.Master.{EndsMaster}
 use Rattle.ssh_mux.specs.Outcomes.{machine, machine_of}
 use Rattle.ssh_mux.specs.Status.{status_of}
 use Rattle.ssh_mux.proofs.RefusalLemmas.{Promise}
-use Rattle.ssh_mux.proofs.StillLemmas.{some-ran}
+use Rattle.ssh_mux.proofs.MisreadLemmas.{some-ran}
 
 -- ---- counts
 

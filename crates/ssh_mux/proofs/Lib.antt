@@ -3,6 +3,7 @@ pub mod DrillLemmas
 pub mod EndLemmas
 pub mod LineLemmas
 pub mod ListLemmas
+pub mod MisreadLemmas
 pub mod PermitParts
 pub mod PermitWords
 pub mod Permits

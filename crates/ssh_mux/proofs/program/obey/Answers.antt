@@ -9,7 +9,8 @@ use Rattle.ssh_mux.proofs.DrillLemmas.{drill-cause, drill-comes, drill-takes, dr
 use Rattle.ssh_mux.proofs.PolicyLemmas.{are-permitted, with-policy}
 use Rattle.ssh_mux.proofs.RefusalLemmas.{list-looks, list-shut, list-undrilled, master-looks, master-quiet, master-undrilled}
 use Rattle.ssh_mux.proofs.SharingLemmas.{none-opened, none-taken, none-counted}
-use Rattle.ssh_mux.proofs.StillLemmas.{on_false, not_false, not_true, shut, loud, quiet-out, quiet-count, still-due, still-opened, still-shared, still-caused, still-calls, still-idle, still-waited, shut-all, for-master, on_true, untouched, of-drill, of-read, for-read, misread, misread-runs, misread-cause, drilled-runs}
+use Rattle.ssh_mux.proofs.MisreadLemmas.{of-drill, of-read, for-read, misread, misread-runs, misread-cause, drilled-runs}
+use Rattle.ssh_mux.proofs.StillLemmas.{on_false, not_false, not_true, shut, loud, quiet-out, quiet-count, still-due, still-opened, still-shared, still-caused, still-calls, still-idle, still-waited, shut-all, for-master, on_true, untouched}
 use Rattle.ssh_mux.proofs.PlaceLemmas.{misread-place, list-told, master-told}
 use Rattle.ssh_mux.proofs.program.obey.Goals as goal
 
