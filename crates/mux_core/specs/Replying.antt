@@ -1,5 +1,5 @@
 -- What the server's reply to a client's request does to the forwardings.
-use Rattle.std.specs.Prelude.{ℕ, ◌==◌, ◌&&◌, not, Bool, true, false, List, [], ◌∷◌, Option, Some, None, length}
+use Rattle.std.specs.Prelude.{ℕ, ◌==◌, ◌&&◌, not, Bool, true, false, List, Some, None, length}
 use Rattle.ssh_fields.specs.Fields.{u32_at}
 use Rattle.ssh_grammar.specs.Messages.{Global, Forward, Cancel}
 use Rattle.mux_history.specs.Keys.{learns_port}

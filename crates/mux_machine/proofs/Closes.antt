@@ -15,7 +15,7 @@ use Rattle.mux_clients.specs.Among.{is_present}
 use Rattle.mux_clients.specs.State.{ClientState}
 use Rattle.mux_clients.proofs.Stood.{out_is, or_true, own_row}
 use Rattle.mux_machine.specs.State.{State, closed_by, is_here, waiting_clients, waiting_in, without_client}
-use Rattle.mux_machine.specs.Stands.{BytesFit, Closes, EachReads, IsFirst, IsStrange, RowsFit, Stands, is_accepted, log, not_closed}
+use Rattle.mux_machine.specs.Stands.{BytesFit, Closes, EachReads, IsFirst, IsStrange, RowsFit, is_accepted, log, not_closed}
 use Rattle.mux_machine.proofs.Lists.{apart_less, each_less, gone_less, lost_less, present_less, test_other, true_false, waiting_less, among-gone, among-less, among-was}
 
 -- ---- who is out

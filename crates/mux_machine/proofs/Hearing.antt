@@ -1,5 +1,5 @@
 -- An engine goes on where the server's stream gave bytes.
-use Rattle.std.proofs.Common.{◌≡◌, ◌≢◌, ◌+◌, ℕ, Bool, true, false, not, ◌||◌, List, [], ◌∷◌, ◌++◌, length, drop, Option, Some, None, refl, sym, ap, ◌∙◌, subst, inl, inr, cond, append-nil}
+use Rattle.std.proofs.Common.{◌≡◌, ◌≢◌, ℕ, Bool, true, false, not, ◌||◌, List, [], ◌∷◌, ◌++◌, length, drop, Option, Some, None, refl, sym, ap, ◌∙◌, subst, inl, inr, cond, append-nil}
 use Rattle.std.specs.Prelude.{◌==◌, is_some, filter}
 use Rattle.std.specs.List.{AllByRecursion}
 use Rattle.std.proofs.lemmas.Bool.{eq-eqb}
@@ -26,7 +26,7 @@ use Rattle.mux_clients.specs.Server.{HeardTo}
 use Rattle.mux_clients.proofs.ServerJournaled.{pieces-of-the-server}
 use Rattle.mux_machine.specs.Moves.{HeardAt}
 use Rattle.mux_machine.specs.State.{State, numbers}
-use Rattle.mux_machine.specs.Stands.{BytesFit, ClientReads, EachReads, GoesAlone, IsAllowed, IsStrange, RowsFit, StandsFor, log, not_closed, place}
+use Rattle.mux_machine.specs.Stands.{BytesFit, ClientReads, EachReads, GoesAlone, IsAllowed, IsStrange, RowsFit, StandsFor, log, not_closed}
 use Rattle.mux_machine.proofs.Closes.{in_losses, loss_is_out, other_row}
 use Rattle.mux_machine.proofs.HeardRows.{HeardOn, heard-on, idle-none, idle-refused}
 use Rattle.mux_machine.proofs.Lists.{either, test_other, true_false}
