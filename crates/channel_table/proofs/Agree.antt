@@ -46,12 +46,6 @@ module _ {Q : Type 0} (name : Option Entry → Option Q) (nothing : name None �
   pub named-without_other : (m : ℕ) (xs : List Entry) (n : ℕ) → n ≢ m → named (freed m xs) n ≡ named xs n
   named-without_other m xs n ne = ap name (at-without_other n m xs ne)
 
-  pub named-without_none : (m : ℕ) (xs : List Entry) → named xs m ≡ None → (n : ℕ) → named (freed m xs) n ≡ named xs n
-  named-without_none m xs lacks n = ⊎_elim here (named-without_other m xs n) (cases_eq n m)
-    where
-      here : n ≡ m → named (freed m xs) n ≡ named xs n
-      here e = subst (λ k. named (freed m xs) k ≡ named xs k) (sym e) (named-without_same m xs ∙ sym lacks)
-
   pub named-changed_other : (m : ℕ) (f : Entry → Entry) (xs : List Entry) → Keeps f → (n : ℕ) → n ≢ m → named (changed_at m f xs) n ≡ named xs n
   named-changed_other m f xs k n ne = ap name (at-changed_other n m f xs k ne)
 

@@ -62,13 +62,6 @@ shown-lookup (y ∷ ys) n apart = by (is_at n y) refl (is_shown y.channel) refl 
 abbrev client_in : Option Entry → Option ℕ
 client_in o = option_map (λ (x : Entry). x.channel.client) o
 
-pub holder-none : (xs : List Entry) (s : ℕ) → None ≡ number_of_remote xs s → holder_of xs s ≡ None
-holder-none xs s e = by (find (has_remote s) xs) refl
-  where
-    by : (o : Option Entry) → find (has_remote s) xs ≡ o → client_in (find (has_remote s) xs) ≡ None
-    by None f = ap client_in f
-    by (Some x) f = absurd (none-some x.number (e ∙ ap (option_map (λ (x : Entry). x.number)) f))
-
 pub holder-found : (xs : List Entry) (s n : ℕ) → AreApart xs → Some n ≡ number_of_remote xs s → holder_of xs s ≡ option_map (λ (c : Channel). c.client) (admitted_at xs n)
 holder-found xs s n apart e = by (find (has_remote s) xs) refl
   where

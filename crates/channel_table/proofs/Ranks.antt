@@ -1,5 +1,5 @@
 -- The channels of slots, in order of opening: what a write in one slot changes in their list.
-use Rattle.std.proofs.Common.{◌≡◌, ℕ, zero, suc, ◌+◌, ◌<◌, ◌≤◌, Bool, true, false, cond, not, List, [], ◌∷◌, ◌++◌, length, map, set, refl, ap, sym, ◌∙◌, subst, arith}
+use Rattle.std.proofs.Common.{◌≡◌, ℕ, zero, suc, ◌+◌, ◌<◌, ◌≤◌, Bool, true, false, cond, not, List, [], ◌∷◌, ◌++◌, map, set, refl, ap, sym, ◌∙◌, subst, arith}
 use Rattle.std.specs.Prelude.{Option, Some, slice_get, filter, nat_lt}
 use Rattle.std.proofs.lemmas.Bool.Decides.{nat_tests}
 use Rattle.std.proofs.lemmas.Bool.{eq-eqb, ne_eqb}
@@ -7,7 +7,7 @@ use Rattle.channel_table.specs.declared.slots.Slot.{Slot}
 use Rattle.channel_table.specs.declared.slots.Slot.TheVariants.{Free, Held}
 use Rattle.channel_table.specs.declared.slots.Opened.{Opened}
 use Rattle.channel_table.specs.Entries.{Entry, at_number, is_at}
-use Rattle.channel_table.specs.Slots.{Ranked, ranked, placed, ranked_from, free_count, AreOpenedBefore}
+use Rattle.channel_table.specs.Slots.{Ranked, ranked, placed, ranked_from, AreOpenedBefore}
 
 -- all of them were opened before so many channels
 abbrev pub AllBefore : ℕ → List Ranked → Type 0
@@ -73,14 +73,6 @@ Above-placed n x (y ∷ ys) l b =
 pub Above-weaker : (n m : ℕ) (ys : List Ranked) → n ≤ m → Above m ys → Above n ys
 Above-weaker n m [] l b = tt
 Above-weaker n m (y ∷ ys) l b = (omega (arith, b.0), Above-weaker n m ys l b.1)
-
-pub length-placed : (x : Ranked) (ys : List Ranked) → length (placed x ys) ≡ length ys + 1
-length-placed x [] = refl
-length-placed x (y ∷ ys) =
-    elim (nat_lt x.rank y.rank) as (λ t. length (cond t (x ∷ y ∷ ys) (y ∷ placed x ys)) ≡ length (y ∷ ys) + 1) [
-      | true ↦ omega arith
-      | false ↦ let ih = length-placed x ys in omega arith
-    ]
 
 -- the one opened last goes last
 pub placed-last : (x : Ranked) (ys : List Ranked) → AllBefore x.rank ys → placed x ys ≡ ys ++ x ∷ []
@@ -169,13 +161,6 @@ pub AllBefore-slots : (r n : ℕ) (slots : List Slot) → AreOpenedBefore r slot
 AllBefore-slots r n [] b = tt
 AllBefore-slots r n (Free next ∷ slots) b = AllBefore-slots r (n + 1) slots b
 AllBefore-slots r n (Held h ∷ slots) b = AllBefore-placed r (ranked n h) (ranked_from (n + 1) slots) b.0 (AllBefore-slots r (n + 1) slots b.1)
-
--- every slot is free or holds a channel
-pub length-slots : (n : ℕ) (slots : List Slot) → length (ranked_from n slots) + free_count slots ≡ length slots
-length-slots n [] = refl
-length-slots n (Free next ∷ slots) = let ih = length-slots (n + 1) slots in omega arith
-length-slots n (Held h ∷ slots) =
-    let ih = length-slots (n + 1) slots in let p = length-placed (ranked n h) (ranked_from (n + 1) slots) in omega arith
 
 -- a channel in a slot that was free goes last
 pub slots-open : (slots : List Slot) (n i m : ℕ) (next : Option ℕ) (h : Opened) → m ≡ n + i → slice_get slots i ≡ Some (Free next) → AreOpenedBefore h.rank slots → ranked_from n (set slots i (Held h)) ≡ ranked_from n slots ++ ranked m h ∷ []

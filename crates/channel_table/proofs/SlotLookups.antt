@@ -1,13 +1,12 @@
 -- A look-up by number among the channels of slots reads the slot of that number, and no two
 -- channels have one number.
-use Rattle.std.proofs.Common.{◌≡◌, ℕ, zero, suc, ◌+◌, ◌<◌, ◌≤◌, Bool, true, false, cond, List, [], ◌∷◌, length, map, refl, ap, sym, ◌∙◌, get_or, arith}
+use Rattle.std.proofs.Common.{◌≡◌, ℕ, zero, suc, ◌+◌, ◌<◌, ◌≤◌, true, false, cond, List, [], ◌∷◌, length, map, refl, ap, sym, ◌∙◌, get_or, arith}
 use Rattle.std.specs.Prelude.{Option, Some, None, slice_get, nat_lt}
-use Rattle.std.proofs.lemmas.Bool.{eqb-false, eq-eqb, ne_eqb}
-use Rattle.std.proofs.lemmas.Option.{none-some, slice_get_read, slice_get_past}
+use Rattle.std.proofs.lemmas.Bool.{eq-eqb, ne_eqb}
+use Rattle.std.proofs.lemmas.Option.{slice_get_read, slice_get_past}
 use Rattle.channel_table.specs.declared.slots.Slot.{Slot}
 use Rattle.channel_table.specs.declared.slots.Slot.TheVariants.{Free, Held}
 use Rattle.channel_table.specs.Entries.{Entry, entry_at, is_at}
-use Rattle.channel_table.specs.Indices.{AreDistinct}
 use Rattle.channel_table.specs.Slots.{Ranked, ranked, placed, ranked_from, entries_of}
 use Rattle.channel_table.proofs.Ranks.{Above, Above-slots, entry}
 
@@ -51,26 +50,6 @@ at-slot (Held h ∷ slots) n zero m e =
     at-placed_same m (n + 1) (ranked n h) (ranked_from (n + 1) slots) (eq-eqb n m at) (omega arith) (Above-slots (n + 1) slots) ∙ ap (λ k. Some (ranked k h).entry) at
 at-slot (Held h ∷ slots) n (suc i) m e =
     at-placed_other m (ranked n h) (ranked_from (n + 1) slots) (ne_eqb n m (λ d. omega arith)) ∙ at-slot slots (n + 1) i m (omega arith)
-
-pub distinct-placed : (x : Ranked) (ys : List Ranked) → entry_at (map entry ys) x.entry.number ≡ None → AreDistinct (map entry ys) → AreDistinct (map entry (placed x ys))
-distinct-placed x [] none d = (refl, tt)
-distinct-placed x (y ∷ ys) none d = by (is_at x.entry.number y.entry) refl (λ rest. distinct-placed x ys rest d.1)
-  where
-    by : (u : Bool) → is_at x.entry.number y.entry ≡ u → (entry_at (map entry ys) x.entry.number ≡ None → AreDistinct (map entry (placed x ys))) → AreDistinct (map entry (placed x (y ∷ ys)))
-    by true e ih = absurd (none-some y.entry (sym none ∙ rw e refl))
-    by false e ih =
-        let ne : is_at y.entry.number x.entry ≡ false = ne_eqb x.entry.number y.entry.number (λ d. eqb-false y.entry.number x.entry.number e (sym d)) in
-        let rest : entry_at (map entry ys) x.entry.number ≡ None = rw e at none in
-        elim (nat_lt x.rank y.rank) as (λ t. AreDistinct (map entry (cond t (x ∷ y ∷ ys) (y ∷ placed x ys)))) [
-          | true ↦ (none, d)
-          | false ↦ (at-placed_other y.entry.number x ys ne ∙ d.0, ih rest)
-        ]
-
-pub distinct-slots : (n : ℕ) (slots : List Slot) → AreDistinct (map entry (ranked_from n slots))
-distinct-slots n [] = tt
-distinct-slots n (Free next ∷ slots) = distinct-slots (n + 1) slots
-distinct-slots n (Held h ∷ slots) =
-    distinct-placed (ranked n h) (ranked_from (n + 1) slots) (at-above n (n + 1) (ranked_from (n + 1) slots) (omega arith) (Above-slots (n + 1) slots)) (distinct-slots (n + 1) slots)
 
 -- the same of all slots
 pub at_entries : (slots : List Slot) (m : ℕ) → entry_at (entries_of slots) m ≡ entry_in m (slice_get slots m)

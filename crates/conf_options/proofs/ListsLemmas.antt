@@ -1,8 +1,8 @@
 -- The two lists of values that an offer changes: of keys of which one counts, and of the others.
-use Rattle.std.proofs.Common.{◌≡◌, Bool, true, false, cond, ◌&&◌, not, List, [], ◌∷◌, ◌++◌, refl, sym, ap, ◌∙◌, append-nil, append_assoc, subst, ◌≢◌, ◌+◌, length, arith, length-append}
+use Rattle.std.proofs.Common.{◌≡◌, Bool, true, false, cond, ◌&&◌, not, List, [], ◌∷◌, ◌++◌, refl, sym, ap, ◌∙◌, append-nil, append_assoc, subst, ◌≢◌}
 use Rattle.std.specs.Prelude.{◌↔◌, Result, Ok, Err, OnOk, OnErr, IfOk, IsTrue}
 use Rattle.std.specs.List.{list_all}
-use Rattle.std.proofs.lemmas.List.{append_cancel_left, append_cancel_right}
+use Rattle.std.proofs.lemmas.List.{append_cancel_right}
 use Rattle.conf_rules.specs.declared.key.Key.{Key}
 use Rattle.conf_rules.specs.declared.key.Key.TheVariants.{CertificateFile, DynamicForward, IdentityFile, LocalForward, ProxyCommand, ProxyJump, RemoteForward, SendEnv}
 use Rattle.conf_rules.specs.declared.value.Value.{Value}
@@ -130,16 +130,9 @@ offered-fits how key v old e single a f = on how e
 
 -- ---- what an offer leaves
 
-behind-differs : (all : List Given) (key : Key) (v : Value) → behind_all all key v ≢ all
-behind-differs all key v e = let n : length all + 1 ≡ length all = sym (length-append all ((key, v) ∷ [])) ∙ ap length e in absurd (omega (arith, n))
-
 pub single-fits : {A E : Type 0} (r : Result A E) (old new : List Given) (key : Key) (v : Value) → OnOk r (new ≡ offered (keeping key) old key v) → OnErr r (new ≡ old) → keeps_every key ≡ false → list_all fits_single old ≡ true → fits key v ≡ true → list_all fits_single new ≡ true
 single-fits (Ok x) old new key v ok err single a f = ap (list_all fits_single) ok ∙ offered-fits (keeping key) key v old refl single a f
 single-fits (Err e) old new key v ok err single a f = ap (list_all fits_single) err ∙ a
-
-pub every-fits : {A E : Type 0} (r : Result A E) (old new : List Given) (key : Key) (v : Value) → OnOk r (new ≡ behind_all old key v) → OnErr r (new ≡ old) → keeps_every key ≡ true → list_all fits_every old ≡ true → fits key v ≡ true → list_all fits_every new ≡ true
-every-fits (Ok x) old new key v ok err every a f = ap (list_all fits_every) ok ∙ fit-behind fits_every old key v a (rw (every, f) refl)
-every-fits (Err e) old new key v ok err every a f = ap (list_all fits_every) err ∙ a
 
 pub single-kept : {A E : Type 0} (r : Result A E) (singles new collected old : List Given) (key : Key) (v : Value) → singles ++ collected ≡ old → keeps_every key ≡ false → list_all fits_every collected ≡ true
     → OnOk r (new ≡ offered (keeping key) singles key v) → OnOk r ((given : List Given) → Keeps old given → Keeps (new ++ collected) (given ++ (key, v) ∷ []))
@@ -161,9 +154,3 @@ pub single-changed : {E : Type 0} (r : Result Bool E) (singles new collected old
 single-changed (Ok b) singles new collected old same h =
     (λ t e. h.0 t (append_cancel_right new singles collected (e ∙ sym same)), λ n. h.1 (λ e. n (ap (λ l. l ++ collected) e ∙ same)))
 single-changed (Err e) singles new collected old same h = tt
-
-pub every-changed : {E : Type 0} (r : Result Bool E) (singles collected new old : List Given) (key : Key) (v : Value) → singles ++ collected ≡ old
-    → OnOk r (new ≡ behind_all collected key v) → IfOk r (λ changed. changed ≡ true) → IfOk r (λ changed. IsTrue changed ↔ (singles ++ new ≢ old))
-every-changed (Ok b) singles collected new old key v same ok h =
-    (λ t e. behind-differs collected key v (append_cancel_left singles (behind_all collected key v) collected (ap (λ l. singles ++ l) (sym ok) ∙ (e ∙ sym same))), λ n. h)
-every-changed (Err e) singles collected new old key v same ok h = tt

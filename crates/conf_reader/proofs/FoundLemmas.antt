@@ -102,8 +102,6 @@ below-some (Some files) told component base (Some ms) ns t h n g =
     let to : taken component base ms ≡ taken component base ns = ap (taken component base) same in
     λ f. sym (ap (sum_by f) to) ∙ same-taken component base (names_in files (or_root base)) ms listed f ∙ sym (ap (sum_by f) from)
 
--- ---- several directories
-
 -- ---- components
 
 pair_of : Bytes → Option (Bytes × Bytes) → List Bytes

@@ -156,9 +156,3 @@ none-told test (errors.At file number cause) failed mid now same tells = tells �
 -- in the second pass
 pub none-again : (r : Result (Unit {0}) ResolveError) (failed mid now : FailedPaths) → mid ≡ failed → NoneFails r mid now → NoneFails r failed now
 none-again r failed mid now same none = subst (λ paths. NoneFails r paths now) same none
-
--- the value doesn't matter
-pub none-of-err : (A B : Type 0) (e : ResolveError) (failed now : FailedPaths) → NoneFails {A = A} (Err e) failed now → NoneFails {A = B} (Err e) failed now
-none-of-err A B errors.OutOfMemory failed now none = tt
-none-of-err A B (errors.At file number causes.ReadFault) failed now none = tt
-none-of-err A B (errors.At file number cause) failed now none = none

@@ -1,6 +1,6 @@
 -- A reply to a cancel: how many cancels are unanswered after it, and that the list still stands for
 -- the forwardings of the history, be it a success or a refusal.
-use Rattle.std.proofs.Common.{◌≡◌, ◌≤◌, ◌<◌, ◌+◌, ◌-◌, inl, inr, ℕ, List, [], ◌∷◌, length, map, true, false, Bool, refl, ◌∙◌, ap, sym, subst, Option, Some, None, arith}
+use Rattle.std.proofs.Common.{◌≡◌, ◌≤◌, ◌<◌, ◌+◌, ◌-◌, inl, inr, ℕ, List, [], ◌∷◌, length, map, true, false, Bool, refl, ◌∙◌, ap, sym, subst, Option, Some, arith}
 use Rattle.std.specs.Prelude.{filter, find, ◌==◌, ◌&&◌, not, is_some, slice_get}
 use Rattle.std.specs.List.{AllByRecursion}
 use Rattle.std.proofs.lemmas.Bool.Decides.{nat_tests}
@@ -20,7 +20,7 @@ use Rattle.forward_rules.proofs.AskAnswered.{leaving-same}
 use Rattle.forward_rules.proofs.Counts.{few-filter, few-settled}
 use Rattle.forward_rules.proofs.FirstAsked.{all-on, found-of, number-is}
 use Rattle.forward_rules.proofs.FirstCancel.{AllPairs, HasCancel, IsBehind, IsLower, all-behind, find-cancel, first-is, has-first, lower-all}
-use Rattle.forward_rules.proofs.Replies.{IsAnswered, after, ended-at, ends_at, kept-at, none-at}
+use Rattle.forward_rules.proofs.Replies.{IsAnswered, after, ended-at, ends_at, none-at}
 use Rattle.forward_rules.proofs.StillAwaited.{each-awaits, each-has, each-two}
 use Rattle.forward_rules.proofs.WithoutCancel.{IsPair, Keeps, Moves, all-pairs, cancelled-same, listed-settled, moved-some, moves-of, order-settled, settled-fits, settled-moves, settled-none, settled-other}
 
@@ -220,26 +220,3 @@ ended-fits k key rest fs gs own next lost fit here turn = by_rank (find-cancel k
 all-kept : (fs : List Forward) → filter (λ (f : Forward). true) fs ≡ fs
 all-kept [] = refl
 all-kept (f ∷ fs) = ap (λ xs. f ∷ xs) (all-kept fs)
-
-pub kept-fits : (k : ℕ) (key : Key) (fs : List Forward) (gs : List Forwarding) (own next : ℕ → Places) (lost : ℕ → Bool) → AreFit fs gs own lost → lost k ≡ false → IsAnswered k (full.Cancel key) own next → AreFit (cancel_answered k key false fs) (filter is_on (map (after k (own k).replied None) gs)) next lost
-kept-fits k key fs gs own next lost fit here turn = by_rank (find-cancel k (own k).replied fs gs fit.listed (cancel-there k key own gs turn.asked (fit.each k here)))
-  where
-    keeps : (r : ℕ) → Keeps k r (own k).replied None (λ f. true)
-    keeps r = record {
-      both = λ f g pair. by_end f g pair (ends_at k (own k).replied g) refl;
-      fits = λ f g pair kept. stands-for f g pair (ends_at k (own k).replied g) refl;
-      dropped = λ f gone. cc;
-    }
-      where
-        by_end : (f : Forward) (g : Forwarding) → IsPair k r (own k).replied f g → (b : Bool) → ends_at k (own k).replied g ≡ b → true ≡ is_on (after k (own k).replied None g)
-        by_end f g pair true e = sym (ap is_on (kept-at k (own k).replied g pair.asks e) ∙ ap not pair.fits.on)
-        by_end f g pair false e = sym (ap is_on (none-at k (own k).replied None g pair.asks e) ∙ ap not pair.fits.on)
-
-        stands-for : (f : Forward) (g : Forwarding) → IsPair k r (own k).replied f g → (b : Bool) → ends_at k (own k).replied g ≡ b → Fits (without_cancel_of k r f) (after k (own k).replied None g)
-        stands-for f g pair true e =
-            subst (Fits (without_cancel_of k r f)) (sym (kept-at k (own k).replied g pair.asks e))
-            (subst (λ x. Fits x (record g { cancel = None })) (sym (settled-none k r f (cancelled-same k r (own k).replied f g pair ∙ e))) (record { client = pair.fits.client; key = pair.fits.key; live = pair.fits.live; cancel = refl; on = pair.fits.on }))
-        stands-for f g pair false e = subst (Fits (without_cancel_of k r f)) (sym (none-at k (own k).replied None g pair.asks e)) (settled-fits k r f g pair.fits (cancelled-same k r (own k).replied f g pair ∙ e))
-
-    by_rank : (r : ℕ) × HasCancel k r (own k).replied fs gs → AreFit (cancel_answered k key false fs) (filter is_on (map (after k (own k).replied None) gs)) next lost
-    by_rank found = subst (λ xs. AreFit xs (filter is_on (map (after k (own k).replied None) gs)) next lost) (sym (ap (λ o. settled_at k o false fs) (first-cancelled k found.0 key fs gs own next lost fit turn found.1) ∙ ap (map (without_cancel_of k found.0)) (sym (all-kept fs)))) (settled-fit k found.0 key None (λ f. true) fs gs own next lost fit turn found.1 (keeps found.0))

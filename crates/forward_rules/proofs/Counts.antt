@@ -1,13 +1,10 @@
 -- No call leaves a client more than 64 forwardings.
-use Rattle.std.proofs.Common.{◌≡◌, ◌≤◌, ◌<◌, ◌+◌, ℕ, List, [], ◌∷◌, ◌++◌, length, map, true, false, Bool, Some, None, refl, ◌∙◌, ap, sym, subst, arith, suc}
+use Rattle.std.proofs.Common.{◌≡◌, ◌≤◌, ◌+◌, ℕ, List, [], ◌∷◌, length, map, true, false, Bool, Some, None, refl, ◌∙◌, ap, sym, arith, suc}
 use Rattle.std.specs.Prelude.{filter, find, ◌==◌}
-use Rattle.mux_history.specs.declared.limits.TheConstants.{MAX_FORWARDINGS}
-use Rattle.mux_history.proofs.Bools.{same-number}
 use Rattle.mux_history.proofs.Finds.{filter-no, filter-yes, find-no}
 use Rattle.mux_history.specs.Channels.{is_number}
-use Rattle.ssh_grammar.specs.Messages.{Key}
 use Rattle.forward_rules.specs.State.{Forward}
-use Rattle.forward_rules.specs.Step.{asked, change_first, count_of, is_of, moved_up, without_cancel, without_cancel_of, without_first}
+use Rattle.forward_rules.specs.Step.{change_first, count_of, is_of, moved_up, without_cancel, without_cancel_of, without_first}
 use Rattle.forward_rules.specs.Taking.{AreFew, moved_up_of}
 use Rattle.forward_rules.proofs.Places.{change-at, without-at}
 
@@ -28,27 +25,6 @@ count-same k f g fs gs client same = by_case (is_of k f) refl
 
 pub few-less : (fs gs : List Forward) → ((k : ℕ) → count_of gs k ≤ count_of fs k) → AreFew fs → AreFew gs
 few-less fs gs less few k = let a = less k in let b = few k in omega (arith, a, b)
-
--- ---- one more
-
-pub count-asked : (j k : ℕ) (key : Key) (fs : List Forward) → is_of j (asked k key) ≡ false → count_of (fs ++ asked k key ∷ []) j ≡ count_of fs j
-count-asked j k key [] h = count-no j (asked k key) [] h
-count-asked j k key (f ∷ fs) h = count-same j f f (fs ++ asked k key ∷ []) fs refl (count-asked j k key fs h)
-
-pub count-asking : (k : ℕ) (key : Key) (fs : List Forward) → is_of k (asked k key) ≡ true → count_of (fs ++ asked k key ∷ []) k ≡ suc (count_of fs k)
-count-asking k key [] h = count-yes k (asked k key) [] h
-count-asking k key (f ∷ fs) h = by_case (count-asking k key fs h) (is_of k f) refl
-  where
-    by_case : count_of (fs ++ asked k key ∷ []) k ≡ suc (count_of fs k) → (b : Bool) → is_of k f ≡ b → count_of ((f ∷ fs) ++ asked k key ∷ []) k ≡ suc (count_of (f ∷ fs) k)
-    by_case ih true e = count-yes k f (fs ++ asked k key ∷ []) e ∙ (ap suc ih ∙ ap suc (sym (count-yes k f fs e)))
-    by_case ih false e = count-no k f (fs ++ asked k key ∷ []) e ∙ (ih ∙ ap suc (sym (count-no k f fs e)))
-
-pub few-asked : (k : ℕ) (key : Key) (fs : List Forward) → count_of fs k < MAX_FORWARDINGS → AreFew fs → AreFew (fs ++ asked k key ∷ [])
-few-asked k key fs lt few j = by_case (is_of j (asked k key)) refl
-  where
-    by_case : (b : Bool) → is_of j (asked k key) ≡ b → count_of (fs ++ asked k key ∷ []) j ≤ MAX_FORWARDINGS
-    by_case true h = let same : k ≡ j = same-number k j h in subst (λ i. count_of (fs ++ asked k key ∷ []) i ≤ MAX_FORWARDINGS) same (let e = count-asking k key fs (subst (λ i. is_of i (asked k key) ≡ true) (sym same) h) in omega (arith, e, lt))
-    by_case false h = let e = count-asked j k key fs h in let l = few j in omega (arith, e, l)
 
 -- ---- changed
 

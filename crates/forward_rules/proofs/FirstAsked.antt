@@ -1,6 +1,6 @@
 -- A reply to a forwarding's request: the first that is asked with its key is the one whose request
 -- is answered.
-use Rattle.std.proofs.Common.{◌≡◌, ◌≤◌, ◌<◌, ℕ, List, [], ◌∷◌, map, true, false, Bool, refl, ◌∙◌, ap, sym, subst, Option, Some, None, arith}
+use Rattle.std.proofs.Common.{◌≡◌, ◌≤◌, ◌<◌, ℕ, List, [], ◌∷◌, true, false, Bool, refl, ◌∙◌, ap, sym, subst, Option, Some, None, arith}
 use Rattle.std.specs.Prelude.{filter, find, ◌==◌, ◌&&◌, not, is_some, is_none, slice_get, unwrap_or}
 use Rattle.std.specs.List.{AllByRecursion}
 use Rattle.std.proofs.lemmas.Bool.Decides.{nat_tests}
@@ -12,14 +12,13 @@ use Rattle.mux_history.specs.Forwardings.{Forwarding, is_request}
 use Rattle.mux_history.specs.Keys.{bound, is_key}
 use Rattle.mux_history.specs.Requests.{Ask}
 use Rattle.mux_history.proofs.Bools.{same-number}
-use Rattle.mux_history.proofs.CurrentSteps.{is_on}
 use Rattle.mux_history.proofs.Finds.{filter-no, filter-yes, find-no, find-yes}
 use Rattle.mux_history.proofs.SameKeys.{is-key}
 use Rattle.mux_history.proofs.Sends.{and-left, and-right}
 use Rattle.forward_rules.specs.State.{Forward}
 use Rattle.forward_rules.specs.Step.{is_asked_at, is_of}
 use Rattle.forward_rules.specs.Stands.{AreListed, AreTwo, EachTwo, Fits, IsAwaited, Places}
-use Rattle.forward_rules.proofs.Replies.{after, asks_at, ends_at, none-answered, none-at, refusal-at, success-at}
+use Rattle.forward_rules.proofs.Replies.{asks_at, ends_at}
 
 -- ---- what is known of one
 
@@ -174,58 +173,5 @@ dropped-at test g gs b h = ap (λ (c : Bool). elim c as (λ _. List Forwarding) 
 pub changed-at : (test : Forwarding → Bool) (change : Forwarding → Forwarding) (g : Forwarding) (gs : List Forwarding) (b : Bool) → test g ≡ b → history.change_first test change (g ∷ gs) ≡ elim b as (λ _. List Forwarding) [ true ↦ change g ∷ gs | false ↦ g ∷ history.change_first test change gs ]
 changed-at test change g gs b h = ap (λ (c : Bool). elim c as (λ _. List Forwarding) [ true ↦ change g ∷ gs | false ↦ g ∷ history.change_first test change gs ]) h
 
--- none of those behind it waits at its place
-only-one : (k place : ℕ) (g : Forwarding) (gs : List Forwarding) → asks_at k place g ≡ true → AllByRecursion (AreTwo g) gs → AllByRecursion (λ h. ends_at k place h ≡ false) gs → AllByRecursion (λ h. (asks_at k place h ≡ false) × (ends_at k place h ≡ false)) gs
-only-one k place g [] at two ends = tt
-only-one k place g (h ∷ hs) at two ends = ((by_case (asks_at k place h) refl, ends.0), only-one k place g hs at two.1 ends.1)
-  where
-    twice : (a b p : ℕ) → (a == p) ≡ true → (b == p) ≡ true → a < b → ⊥
-    twice a b p e f lt = grind (arith, nat_tests)
-
-    idle : (x : Forwarding) → asks_at k place x ≡ true → x.live ≡ None
-    idle x t = none-is x.live (and-right (x.request == place) (is_none x.live) (and-right (x.client == k) (is_request x place) t))
-
-    here : (x : Forwarding) → asks_at k place x ≡ true → (x.request == place) ≡ true
-    here x t = and-left (x.request == place) (is_none x.live) (and-right (x.client == k) (is_request x place) t)
-
-    client : (x : Forwarding) → asks_at k place x ≡ true → x.client ≡ k
-    client x t = same-number x.client k (and-left (x.client == k) (is_request x place) t)
-
-    by_case : (b : Bool) → asks_at k place h ≡ b → asks_at k place h ≡ false
-    by_case false t = t
-    by_case true t = absurd (twice g.request h.request place (here g at) (here h t) (two.0.asked (client g at ∙ sym (client h t)) (idle g at) (idle h t)))
-
 abbrev pub begins : List ℕ → Forwarding → Forwarding
 begins rest g = record g { live = Some (bound g.key rest) }
-
-pub success-first : (k place : ℕ) (rest : List ℕ) (gs : List Forwarding) → AllByRecursion (λ g. g.over ≡ false) gs → AllByRecursion (λ g. ends_at k place g ≡ false) gs → EachTwo gs → filter is_on (map (after k place (Some rest)) gs) ≡ history.change_first (asks_at k place) (begins rest) gs
-success-first k place rest [] on ends two = refl
-success-first k place rest (g ∷ gs) on ends two = by_case (success-first k place rest gs on.1 ends.1 two.1) (asks_at k place g) refl
-  where
-    by_case : filter is_on (map (after k place (Some rest)) gs) ≡ history.change_first (asks_at k place) (begins rest) gs → (b : Bool) → asks_at k place g ≡ b → filter is_on (map (after k place (Some rest)) (g ∷ gs)) ≡ history.change_first (asks_at k place) (begins rest) (g ∷ gs)
-    by_case ih true t =
-        ap (λ (x : Forwarding). filter is_on (x ∷ map (after k place (Some rest)) gs)) (success-at k place rest g t)
-        ∙ (filter-yes is_on (begins rest g) (map (after k place (Some rest)) gs) (ap not on.0)
-        ∙ (ap (λ xs. begins rest g ∷ xs) (none-answered k place (Some rest) gs on.1 (only-one k place g gs t two.0 ends.1))
-        ∙ sym (changed-at (asks_at k place) (begins rest) g gs true t)))
-    by_case ih false t =
-        ap (λ (x : Forwarding). filter is_on (x ∷ map (after k place (Some rest)) gs)) (none-at k place (Some rest) g t ends.0)
-        ∙ (filter-yes is_on g (map (after k place (Some rest)) gs) (ap not on.0)
-        ∙ (ap (λ xs. g ∷ xs) ih
-        ∙ sym (changed-at (asks_at k place) (begins rest) g gs false t)))
-
-pub refusal-first : (k place : ℕ) (gs : List Forwarding) → AllByRecursion (λ g. g.over ≡ false) gs → AllByRecursion (λ g. ends_at k place g ≡ false) gs → EachTwo gs → filter is_on (map (after k place None) gs) ≡ dropped_first (asks_at k place) gs
-refusal-first k place [] on ends two = refl
-refusal-first k place (g ∷ gs) on ends two = by_case (refusal-first k place gs on.1 ends.1 two.1) (asks_at k place g) refl
-  where
-    by_case : filter is_on (map (after k place None) gs) ≡ dropped_first (asks_at k place) gs → (b : Bool) → asks_at k place g ≡ b → filter is_on (map (after k place None) (g ∷ gs)) ≡ dropped_first (asks_at k place) (g ∷ gs)
-    by_case ih true t =
-        ap (λ (x : Forwarding). filter is_on (x ∷ map (after k place None) gs)) (refusal-at k place g t)
-        ∙ (filter-no is_on (record g { over = true }) (map (after k place None) gs) refl
-        ∙ (none-answered k place None gs on.1 (only-one k place g gs t two.0 ends.1)
-        ∙ sym (dropped-at (asks_at k place) g gs true t)))
-    by_case ih false t =
-        ap (λ (x : Forwarding). filter is_on (x ∷ map (after k place None) gs)) (none-at k place None g t ends.0)
-        ∙ (filter-yes is_on g (map (after k place None) gs) (ap not on.0)
-        ∙ (ap (λ xs. g ∷ xs) ih
-        ∙ sym (dropped-at (asks_at k place) g gs false t)))

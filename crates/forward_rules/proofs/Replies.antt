@@ -1,13 +1,12 @@
 -- What the server's reply to a client's oldest request leaves of the forwardings of a history.
-use Rattle.std.proofs.Common.{◌≡◌, ◌+◌, ℕ, List, [], ◌∷◌, map, true, false, Bool, refl, ◌∙◌, ap, sym, subst, Option, Some, None}
-use Rattle.std.specs.Prelude.{filter, ◌==◌, ◌&&◌, not, slice_get}
+use Rattle.std.proofs.Common.{◌≡◌, ◌+◌, ℕ, List, [], ◌∷◌, true, false, Bool, refl, ◌∙◌, ap, sym, subst, Option, Some, None}
+use Rattle.std.specs.Prelude.{filter, ◌==◌, ◌&&◌, slice_get}
 use Rattle.std.specs.List.{AllByRecursion}
 use Rattle.ssh_grammar.specs.Messages.{Global}
 use Rattle.mux_history.specs.Channels.{is_number}
 use Rattle.mux_history.specs.Forwardings.{Forwarding, is_request, of_client, replied}
 use Rattle.mux_history.specs.Gist.{Gist, Refuses, Succeeds}
 use Rattle.mux_history.specs.Keys.{bound}
-use Rattle.mux_history.proofs.CurrentSteps.{is_on}
 use Rattle.mux_history.proofs.Finds.{filter-no, filter-yes}
 use Rattle.mux_history.proofs.Sends.{and-left, and-right}
 use Rattle.forward_rules.specs.Stands.{Places}
@@ -113,10 +112,3 @@ all-filter P keep (x ∷ xs) all = by_case (all-filter P keep xs all.1) (keep x)
     by_case : AllByRecursion P (filter keep xs) → (b : Bool) → keep x ≡ b → AllByRecursion P (filter keep (x ∷ xs))
     by_case ih true h = subst (AllByRecursion P) (sym (filter-yes keep x xs h)) (all.0, ih)
     by_case ih false h = subst (AllByRecursion P) (sym (filter-no keep x xs h)) ih
-
--- where none is answered all stay
-pub none-answered : (k place : ℕ) (o : Option (List ℕ)) (gs : List Forwarding) → AllByRecursion (λ g. g.over ≡ false) gs → AllByRecursion (λ g. (asks_at k place g ≡ false) × (ends_at k place g ≡ false)) gs → filter is_on (map (after k place o) gs) ≡ gs
-none-answered k place o [] on none = refl
-none-answered k place o (g ∷ gs) on none =
-    ap (λ (h : Forwarding). filter is_on (h ∷ map (after k place o) gs)) (none-at k place o g none.0.0 none.0.1)
-    ∙ (filter-yes is_on g (map (after k place o) gs) (ap not on.0) ∙ ap (λ hs. g ∷ hs) (none-answered k place o gs on.1 none.1))

@@ -1,5 +1,5 @@
 -- The requests without a reply, by one more request and by one more reply.
-use Rattle.std.proofs.Common.{◌≡◌, ◌≤◌, ◌+◌, ℕ, List, [], ◌∷◌, ◌++◌, length, drop, Option, Some, None, refl, ◌∙◌, ap, sym, arith, suc, zero, length-append}
+use Rattle.std.proofs.Common.{◌≡◌, ◌≤◌, ◌+◌, ℕ, List, [], ◌∷◌, ◌++◌, length, drop, Option, Some, None, refl, ◌∙◌, ap, sym, arith, suc, zero}
 use Rattle.std.specs.Prelude.{slice_get}
 use Rattle.mux_history.specs.Requests as history
 use Rattle.global_replies.specs.declared.ask.Ask.{Ask}
@@ -10,12 +10,6 @@ drop-more : (n : ℕ) (xs : List history.Ask) (a : history.Ask) → n ≤ length
 drop-more zero xs a h = refl
 drop-more (suc n) [] a h = absurd (omega (arith, h))
 drop-more (suc n) (x ∷ xs) a h = drop-more n xs a (omega (arith, h))
-
-pub ask-goes-on : (old new : List history.Ask) (a : history.Ask) → new ≡ old ++ a ∷ [] → AskGoesOn old new a
-ask-goes-on old new a is asked replied queue = record {
-  waiting = is ∙ (ap (λ xs. xs ++ a ∷ []) queue.waiting ∙ sym (drop-more replied asked a queue.awaited));
-  awaited = let l = length-append asked (a ∷ []) in let q = queue.awaited in omega (arith, l, q);
-}
 
 -- what stands first was asked at the place of the next reply
 first-of : (n : ℕ) (xs : List history.Ask) (a : history.Ask) (later : List history.Ask) → drop n xs ≡ a ∷ later → (slice_get xs n ≡ Some a) × (drop (suc n) xs ≡ later) × (suc n ≤ length xs)

@@ -1,8 +1,8 @@
 -- Who is noted as lost by what the server says.
-use Rattle.std.proofs.Common.{◌≡◌, ℕ, Bool, true, false, List, [], ◌∷◌, ◌++◌, Option, Some, None, refl, sym, ap, ◌∙◌, cond}
+use Rattle.std.proofs.Common.{◌≡◌, ℕ, Bool, true, false, List, [], ◌∷◌, Option, Some, None, refl, sym, ap, ◌∙◌, cond}
 use Rattle.std.specs.Prelude.{◌==◌, MatchBool}
 use Rattle.mux_history.specs.declared.why.Why.{Why}
-use Rattle.mux_history.specs.Rows.{Row, rows_of, loss_by, Item, Heard, Fate, Goes, Refused, Drop, End}
+use Rattle.mux_history.specs.Rows.{Row, loss_by, Heard, Fate, Goes, Refused, Drop, End}
 use Rattle.mux_history.proofs.Bools.{same-number}
 use Rattle.mux_clients.specs.declared.standing.Standing.{Standing}
 use Rattle.mux_clients.specs.declared.standing.Standing.TheVariants.{Awaited, Greeted, Proxied, Unread, Lost}
@@ -11,7 +11,7 @@ use Rattle.mux_clients.specs.Stands.{SeatFits, standing_of}
 use Rattle.mux_clients.specs.Stands as stands
 use Rattle.mux_clients.specs.Among.{ChangesOne, EachFits, InFits, is_present}
 use Rattle.mux_clients.specs.Losing.{loss_between, loss_in}
-use Rattle.mux_clients.proofs.Stood.{kept_here, own_row, standing_row, standing_step}
+use Rattle.mux_clients.proofs.Stood.{kept_here, standing_row, standing_step}
 
 -- ---- the loss by a row of the server's
 

@@ -1,13 +1,10 @@
 -- The room for the farewells of all clients, where one of them goes on.
-use Rattle.std.proofs.Common.{◌≡◌, ◌≤◌, ◌<◌, ◌+◌, ◌*◌, ℕ, zero, suc, Bool, true, false, List, [], ◌∷◌, length, get_or, set, refl, sym, ap, ◌∙◌, cond, arith, subst}
+use Rattle.std.proofs.Common.{◌≡◌, ◌≤◌, ◌<◌, ◌+◌, ◌*◌, ℕ, zero, suc, Bool, true, false, List, [], ◌∷◌, length, get_or, set, cond, arith, subst}
 use Rattle.proxy_frames.specs.State.{QueueState}
 use Rattle.client_teardown.specs.declared.farewell.TheConstants.{FAREWELL_ROOM}
-use Rattle.mux_clients.specs.declared.standing.Standing.{Standing}
-use Rattle.mux_clients.specs.declared.standing.Standing.TheVariants.{Awaited, Greeted, Proxied, Unread, Lost}
-use Rattle.mux_clients.specs.State.{ClientState, KeepsRoom}
+use Rattle.mux_clients.specs.State.{ClientState}
 use Rattle.mux_clients.specs.Stands as stands
-use Rattle.mux_clients.specs.Among.{is_present}
-use Rattle.mux_clients.specs.Room.{HasRoom, LeavesRoom, farewell_of, served_in}
+use Rattle.mux_clients.specs.Room.{HasRoom, LeavesRoom, served_in}
 
 -- ---- how many are not lost
 
@@ -54,22 +51,5 @@ room-set i x y cs up up' lt leaves room =
 
 -- ---- one client
 
-leaves-by : (s : Standing) (up up' : QueueState) (x : ClientState) → farewell_of x ≡ FAREWELL_ROOM → KeepsRoom up up' s → up.spare + cond (stands.is_lost s) 0 FAREWELL_ROOM ≤ up'.spare + farewell_of x
-leaves-by Awaited up up' x e k = omega (arith, e, k)
-leaves-by Greeted up up' x e k = omega (arith, e, k)
-leaves-by Proxied up up' x e k = omega (arith, e, k)
-leaves-by Unread up up' x e k = omega (arith, e, k)
-leaves-by (Lost why) up up' x e k = omega (arith, e, k)
-
--- one that wasn't lost
-pub leaves-here : (up up' : QueueState) (x y : ClientState) → stands.is_lost x.seat.standing ≡ false → KeepsRoom up up' y.seat.standing → LeavesRoom up up' x y
-leaves-here up up' x y here k = leaves-by y.seat.standing up up' x (ap (λ b. cond b 0 FAREWELL_ROOM) here) k
-
 pub leaves-same : (up : QueueState) (x : ClientState) → LeavesRoom up up x x
 leaves-same up x = omega arith
-
-pub leaves-lost : (up up' : QueueState) (x y : ClientState) → stands.is_lost x.seat.standing ≡ false → stands.is_lost y.seat.standing ≡ true → up.spare ≤ up'.spare + FAREWELL_ROOM → LeavesRoom up up' x y
-leaves-lost up up' x y here gone le =
-    let e : farewell_of x ≡ FAREWELL_ROOM = ap (λ b. cond b 0 FAREWELL_ROOM) here in
-    let f : farewell_of y ≡ 0 = ap (λ b. cond b 0 FAREWELL_ROOM) gone in
-    omega (arith, e, f, le)

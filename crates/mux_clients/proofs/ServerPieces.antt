@@ -1,12 +1,11 @@
 -- A piece of the server's bytes, one frame after another.
-use Rattle.std.proofs.Common.{◌≡◌, ◌<◌, ◌-◌, ℕ, suc, Bool, true, false, ◌||◌, List, [], ◌∷◌, ◌++◌, length, map, Option, Some, None, refl, sym, ap, ◌∙◌, subst, append_assoc, append-nil, arith}
+use Rattle.std.proofs.Common.{◌≡◌, ℕ, suc, Bool, true, false, ◌||◌, List, [], ◌∷◌, ◌++◌, length, map, Option, Some, None, refl, sym, ap, ◌∙◌, subst, append_assoc, append-nil}
 use Rattle.std.specs.Prelude.{is_some}
 use Rattle.mux_outside.specs.declared.house.HouseReply.{HouseReply}
 use Rattle.ssh_grammar.specs.declared.fault.BadFrame.{BadFrame}
 use Rattle.ssh_grammar.specs.Frames.{Front, Frame, More, Faulty}
 use Rattle.ssh_grammar.specs.Said.{InProxy, BadFraming, Parsed, first_in, parse}
-use Rattle.ssh_grammar.proofs.Cuts.{IsShorter}
-use Rattle.ssh_grammar.proofs.Parses.{in-shorter, parse-at}
+use Rattle.ssh_grammar.proofs.Parses.{parse-at}
 use Rattle.proxy_frames.specs.State.{QueueState}
 use Rattle.mux_history.specs.declared.broke.Break.TheVariants as broke
 use Rattle.mux_history.specs.declared.ended.Ended.{Ended}
@@ -14,7 +13,6 @@ use Rattle.mux_history.specs.declared.ended.Ended.TheVariants as ended
 use Rattle.mux_history.specs.declared.why.Why.{Why}
 use Rattle.mux_history.specs.Policy.{Policy}
 use Rattle.mux_history.specs.Rows.{Row, BadServer, Fate, Goes, Refused, Drop, End, is_end, is_ended, losses}
-use Rattle.mux_history.specs.Heard.{next_index}
 use Rattle.mux_history.specs.Settings.{by_lists}
 use Rattle.mux_history.specs.Solo.{end_of}
 use Rattle.mux_history.specs.Journal.{heard_item}
@@ -25,7 +23,7 @@ use Rattle.mux_clients.specs.Among.{AllFit}
 use Rattle.mux_clients.specs.Hearings.{HeardBy, end_by}
 use Rattle.mux_clients.specs.Pieces.{behind}
 use Rattle.mux_clients.specs.Room.{HasRoom}
-use Rattle.mux_clients.specs.Server.{AllAwait, HearingAll, HearsBytes, HearsOnwards, HeardTo, ServerFault, ServerFrame, ServerNext, ServerNone, ServerState, rows_heard}
+use Rattle.mux_clients.specs.Server.{AllAwait, HearingAll, HearsBytes, HearsOnwards, HeardTo, ServerFault, ServerFrame, ServerNext, ServerState, rows_heard}
 use Rattle.mux_clients.proofs.Keeping.{among-then, keep-same, keep-then}
 use Rattle.mux_clients.proofs.Served.{end-shown, fault-heard, heard-item, makes-heard, map-last, more-last, or-first, payload-heard}
 
@@ -170,46 +168,7 @@ abbrev pub left_of : Option Ended → List ℕ → ℕ
 left_of None rest = suc (length rest)
 left_of (Some cause) rest = 0
 
-left-less : (ended : Option Ended) (rest bytes : List ℕ) → length rest < length bytes → left_of ended rest < suc (length bytes)
-left-less None rest bytes lt = omega (arith, lt)
-left-less (Some cause) rest bytes lt = omega arith
-
-shorter-at : (bytes : List ℕ) (f : Front) (leaving leaving' : List (ℕ × Option Why)) (core core' : CoreState) (cs cs' : List ClientState) (queue queue' : QueueState) (now new : ServerState) (ended' : Option Ended) → 0 < length bytes → IsShorter (length bytes - 4) f
-    → ServerNext true f leaving leaving' core core' cs cs' queue queue' now new None ended' → left_of ended' new.rest < suc (length bytes)
-shorter-at bytes (Frame content rest) leaving leaving' core core' cs cs' queue queue' now new ended' some short s = left-less ended' new.rest bytes (omega (arith, ap length s.left, short, some))
-shorter-at bytes More leaving leaving' core core' cs cs' queue queue' now new ended' some short s = absurd s
-shorter-at bytes (Faulty fault) leaving leaving' core core' cs cs' queue queue' now new ended' some short s = let e : left_of ended' new.rest ≡ 0 = ap (λ o. left_of o new.rest) s.ends in omega (arith, e)
-
-pub hearing-shorter : (bytes : List ℕ) (leaving leaving' : List (ℕ × Option Why)) (core core' : CoreState) (cs cs' : List ClientState) (queue queue' : QueueState) (now new : ServerState) (ended' : Option Ended)
-    → ServerNext true (first_in InProxy bytes) leaving leaving' core core' cs cs' queue queue' now new None ended' → left_of ended' new.rest < suc (length bytes)
-hearing-shorter [] leaving leaving' core core' cs cs' queue queue' now new ended' s = absurd s
-hearing-shorter (b ∷ bytes) leaving leaving' core core' cs cs' queue queue' now new ended' s = shorter-at (b ∷ bytes) (first_in InProxy (b ∷ bytes)) leaving leaving' core core' cs cs' queue queue' now new ended' (omega arith) (in-shorter InProxy (b ∷ bytes)) s
-
 -- ---- all was heard
-
-hearing-same : (all : List ℕ) (leaving0 leaving leaving' : List (ℕ × Option Why)) (core0 core core' : CoreState) (cs0 cs cs' : List ClientState) (queue0 queue queue' : QueueState) (first now new : ServerState) (ended' : Option Ended) → leaving' ≡ leaving → core' ≡ core → cs' ≡ cs → queue' ≡ queue → new ≡ now → ended' ≡ None
-    → HearingAll all leaving0 leaving core0 cs0 queue0 first core cs queue now None → HearingAll all leaving0 leaving' core0 cs0 queue0 first core' cs' queue' new ended'
-hearing-same all leaving0 leaving leaving' core0 core core' cs0 cs cs' queue0 queue queue' first now new ended' n a b c d e h =
-    subst (λ (x : List (ℕ × Option Why)). HearingAll all leaving0 x core0 cs0 queue0 first core' cs' queue' new ended') (sym n)
-    (subst (λ (x : CoreState). HearingAll all leaving0 leaving core0 cs0 queue0 first x cs' queue' new ended') (sym a)
-    (subst (λ (x : List ClientState). HearingAll all leaving0 leaving core0 cs0 queue0 first core x queue' new ended') (sym b)
-    (subst (λ (x : QueueState). HearingAll all leaving0 leaving core0 cs0 queue0 first core cs x new ended') (sym c)
-    (subst (λ (x : ServerState). HearingAll all leaving0 leaving core0 cs0 queue0 first core cs queue x ended') (sym d)
-    (subst (λ (x : Option Ended). HearingAll all leaving0 leaving core0 cs0 queue0 first core cs queue now x) (sym e) h)))))
-
--- nothing whole is left
-pub bytes-rest : (bytes : List ℕ) (leaving0 leaving leaving' : List (ℕ × Option Why)) (core0 core core' : CoreState) (cs0 cs cs' : List ClientState) (queue0 queue queue' : QueueState) (first now new : ServerState) (ended' : Option Ended)
-    → HearingAll (first.rest ++ bytes) leaving0 leaving core0 cs0 queue0 first core cs queue now None → ServerNext false (first_in InProxy now.rest) leaving leaving' core core' cs cs' queue queue' now new None ended'
-    → HearsBytes bytes leaving0 leaving' core0 cs0 queue0 first core' cs' queue' new ended'
-bytes-rest bytes leaving0 leaving leaving' core0 core core' cs0 cs cs' queue0 queue queue' first now new ended' h says = by_front (first_in InProxy now.rest) refl says
-  where
-    by_front : (f : Front) → first_in InProxy now.rest ≡ f → ServerNext false f leaving leaving' core core' cs cs' queue queue' now new None ended' → HearsBytes bytes leaving0 leaving' core0 cs0 queue0 first core' cs' queue' new ended'
-    by_front (Frame content rest) e s = absurd s
-    by_front More e s = record {
-      hearing = hearing-same (first.rest ++ bytes) leaving0 leaving leaving' core0 core core' cs0 cs cs' queue0 queue queue' first now new ended' s.leaving_same s.core_same s.clients_same s.queue_same s.same s.ended_same h;
-      whole = λ t. ap (λ (x : ServerState). first_in InProxy x.rest) s.same ∙ e;
-    }
-    by_front (Faulty fault) e s = absurd s
 
 -- the run is over
 pub bytes-over : (bytes : List ℕ) (leaving0 leaving : List (ℕ × Option Why)) (core0 core : CoreState) (cs0 cs : List ClientState) (queue0 queue : QueueState) (first now : ServerState) (cause : Ended)

@@ -57,9 +57,6 @@ on-success s k p rest up e = drops-all s k p up (Succeeds rest) (why.Unasked 81)
 pub on-refusal : (s : CoreState) (k : ℕ) (p : List ℕ) (up : QueueState) → read_gist p ≡ Ok Refuses → SaysOn s s k p up up (verdict.Drop (why.Unasked 82))
 on-refusal s k p up e = drops-all s k p up Refuses (why.Unasked 82) e (λ rows. refl)
 
-pub on-disconnect : (s : CoreState) (k : ℕ) (p : List ℕ) (up : QueueState) → read_gist p ≡ Ok (Transport 1) → SaysOn s s k p up up (verdict.Drop why.Disconnected)
-on-disconnect s k p up e = drops-all s k p up (Transport 1) why.Disconnected e (λ rows. refl)
-
 pub on-other : (s : CoreState) (k n : ℕ) (p : List ℕ) (up : QueueState) → (n == 1) ≡ false → read_gist p ≡ Ok (Transport n) → SaysOn s s k p up up verdict.Silent
 on-other s k n p up other e = record { pick = 0; goes = one }
   where

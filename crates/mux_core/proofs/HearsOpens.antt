@@ -174,17 +174,3 @@ remote-full es k r n free h = by_room (nat_lt (count_of es k) MAX_CHANNELS) (sym
     by_room : (b : Bool) → unless (not b) (refused.Full (count_of es k)) None ≡ Some (refused.Full n) → b ≡ false
     by_room true h = absurd (cc)
     by_room false h = refl
-
-pub remote-own : (es : List Entry) (k r : ℕ) → is_some (number_of_remote es r) ≡ false → remote_refusal es k r ≡ Some refused.OwnInUse → ⊥
-remote-own es k r free h = by_room (nat_lt (count_of es k) MAX_CHANNELS) (sym (refused-as es k r free) ∙ h)
-  where
-    by_room : (b : Bool) → unless (not b) (refused.Full (count_of es k)) None ≡ Some refused.OwnInUse → ⊥
-    by_room true h = cc
-    by_room false h = cc
-
-pub remote-used : (es : List Entry) (k r holder : ℕ) → is_some (number_of_remote es r) ≡ false → remote_refusal es k r ≡ Some (refused.RemoteInUse holder) → ⊥
-remote-used es k r holder free h = by_room (nat_lt (count_of es k) MAX_CHANNELS) (sym (refused-as es k r free) ∙ h)
-  where
-    by_room : (b : Bool) → unless (not b) (refused.Full (count_of es k)) None ≡ Some (refused.RemoteInUse holder) → ⊥
-    by_room true h = cc
-    by_room false h = cc

@@ -39,9 +39,6 @@ pub record IsLoss (k : ℕ) (old new : List Row) : Type 0 where
 turned : (a b : ℕ) → (a == b) ≡ false → (b == a) ≡ false
 turned a b h = grind (arith, nat_tests)
 
-same-turned : (a b : ℕ) → (a == b) ≡ true → (b == a) ≡ true
-same-turned a b h = grind (arith, nat_tests)
-
 -- ---- the forwardings
 
 abbrev other : ℕ → Forwarding → Bool

@@ -147,10 +147,6 @@ no-room s k c w m what p up rows st serves e judges full =
 
 -- ---- the table's answers
 
-unless-true : (b : Bool) (w : Refused) (later : Option Refused) → b ≡ true → unless b w later ≡ Some w
-unless-true true w later h = refl
-unless-true false w later h = absurd (cc)
-
 unless-false : (b : Bool) (w : Refused) (later : Option Refused) → b ≡ false → unless b w later ≡ later
 unless-false true w later h = absurd (cc)
 unless-false false w later h = refl
@@ -187,17 +183,3 @@ is-full s k c n free h = by_room (nat_lt (count_of s.channels k) MAX_CHANNELS) (
     by_room : (b : Bool) → unless (not b) (refused.Full (count_of s.channels k)) None ≡ Some (refused.Full n) → b ≡ false
     by_room true h = absurd (cc)
     by_room false h = refl
-
-pub never-own : (s : CoreState) (k c : ℕ) → is_some (number_of_own s.channels k c) ≡ false → own_refusal s.channels k c ≡ Some refused.OwnInUse → ⊥
-never-own s k c free h = by_room (nat_lt (count_of s.channels k) MAX_CHANNELS) (sym (refused-full s k c free) ∙ h)
-  where
-    by_room : (b : Bool) → unless (not b) (refused.Full (count_of s.channels k)) None ≡ Some refused.OwnInUse → ⊥
-    by_room true h = cc
-    by_room false h = cc
-
-pub never-remote : (s : CoreState) (k c holder : ℕ) → is_some (number_of_own s.channels k c) ≡ false → own_refusal s.channels k c ≡ Some (refused.RemoteInUse holder) → ⊥
-never-remote s k c holder free h = by_room (nat_lt (count_of s.channels k) MAX_CHANNELS) (sym (refused-full s k c free) ∙ h)
-  where
-    by_room : (b : Bool) → unless (not b) (refused.Full (count_of s.channels k)) None ≡ Some (refused.RemoteInUse holder) → ⊥
-    by_room true h = cc
-    by_room false h = cc

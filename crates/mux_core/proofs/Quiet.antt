@@ -2,13 +2,13 @@
 use Rattle.std.proofs.Common.{◌≡◌, ℕ, List, [], ◌∷◌, ◌++◌, length, true, false, Bool, refl, ◌∙◌, ap, append-nil}
 use Rattle.std.specs.Prelude.{◌==◌, ◌||◌, filter, not}
 use Rattle.mux_history.specs.Rows.{Row, rows_of, any_of, is_admit, is_lost, loses}
-use Rattle.mux_history.specs.Requests.{Ask, asks, asks_of, is_sent, replies, reply_in, sent_flags, wanted, wanted_by}
+use Rattle.mux_history.specs.Requests.{asks, asks_of, is_sent, replies, reply_in, sent_flags, wanted, wanted_by}
 use Rattle.mux_history.specs.Forwardings.{Forwarding, current, dropped, forwarded, forwardings_of}
 use Rattle.mux_history.specs.Log.{entered}
-use Rattle.mux_isolation.specs.View.{Waiting, left_of}
+use Rattle.mux_isolation.specs.View.{left_of}
 use Rattle.mux_history.proofs.OwnRows.{idle_row, own_row}
-use Rattle.forward_rules.specs.Stands.{Places, places_of}
-use Rattle.mux_core.specs.Stands.{Look, look}
+use Rattle.forward_rules.specs.Stands.{places_of}
+use Rattle.mux_core.specs.Stands.{look}
 
 -- a row that neither asks nor replies, changes no forwarding, loses nobody and lets nobody in
 pub record IsQuiet (row : Row) : Type 0 where
@@ -37,9 +37,6 @@ own-same {A} f row rows same j = by_case (row.client == j) refl
     by_case : (b : Bool) → (row.client == j) ≡ b → f (rows_of j (row ∷ rows)) ≡ f (rows_of j rows)
     by_case true e = ap f (own_row j row rows e) ∙ same (rows_of j rows)
     by_case false e = ap f (idle_row j row rows e)
-
-at_places : List Ask → List (List ℕ) → Places
-at_places us rs = record { asked = us; replied = length rs }
 
 pub places-steady : (row : Row) → IsSteady row → (own : List Row) → places_of (row ∷ own) ≡ places_of own
 places-steady row q own = ap (λ us. record { asked = us; replied = length (replies own ++ reply_in row.item) }) (ap (λ us. asks own ++ us) q.asks ∙ append-nil (asks own)) ∙ ap (λ (rs : List (List ℕ)). record { asked = asks own; replied = length rs }) (ap (λ rs. replies own ++ rs) q.replies ∙ append-nil (replies own))
@@ -76,9 +73,6 @@ entered-steady row rows q = ap (λ b. entered rows ++ elim b as (λ _. List ℕ)
 
 entered-same : (row : Row) (rows : List Row) → IsQuiet row → entered (row ∷ rows) ≡ entered rows
 entered-same row rows q = entered-steady row rows (steady row q)
-
-look-of : Places → (ℕ → Places) → List Forwarding → List ℕ → (ℕ → Bool) → (ℕ → Bool) → (ℕ → Waiting) → Look
-look-of a o c e d l w = record { all = a; own = o; current = c; entered = e; admitted = d; lost = l; waiting = w }
 
 -- what is looked up besides the channels stays
 pub look-same : (row : Row) (rows : List Row) → IsQuiet row → look (row ∷ rows) ≡ look rows

@@ -164,9 +164,6 @@ forwards-more fs gs own own' lost a plain fit mine others = record {
 request-lost : (k : ℕ) (p : List ℕ) (own : List Row) → is_lost (request_row k p ∷ own) ≡ is_lost own
 request-lost k p own = refl
 
-request-admitted : (k : ℕ) (p : List ℕ) (own : List Row) → any_of is_admit (request_row k p ∷ own) ≡ any_of is_admit own
-request-admitted k p own = refl
-
 -- a request that changes no forwarding
 same-forwardings : (k : ℕ) (p : List ℕ) (what : Global) (rows : List Row) → read_gist p ≡ Ok (Requests what true) → ((place : ℕ) (fs : List Forwarding) → requested k place (Requests what true) fs ≡ fs) → current (request_row k p ∷ rows) ≡ current rows
 same-forwardings k p what rows e none = ap (filter (λ (f : Forwarding). not f.over)) (reading-ok p (Requests what true) (λ m. requested k (length (asks (rows_of k rows))) m (forwardings_of rows)) (forwardings_of rows) e ∙ none (length (asks (rows_of k rows))) (forwardings_of rows))

@@ -53,12 +53,6 @@ well-one c = record { waited = waited-none c.waits; wants = refl; late = late-on
 pub well-wait : (t : Turn) (c : Calls) → is_starved t ≡ false → Well 1 c (calls_after_wait t c)
 well-wait t c e = record { waited = waited-one c.waits; wants = ap (λ b. cond b (counted c.wants) c.wants) e; late = late-one c (is_starved t) }
 
-pub cut-one : (c : Calls) → Cut 0 c (calls_after_one true c)
-cut-one c = record { few = omega arith; wants = counted-most c.wants; late = late-one c true }
-
-pub well-cut : (n : ℕ) (a b : Calls) → Well n a b → Cut n a b
-well-cut n a b w = let e : b.wants ≡ a.wants = w.wants in record { few = w.waited.most; wants = omega arith; late = w.late }
-
 -- first so many waits, then so many
 pub well-on : (m n k : ℕ) (a b c : Calls) → m + n ≡ k → Well m a b → Well n b c → Well k a c
 well-on m n k a b c e v w = record { waited = waited-on m n k a.waits b.waits c.waits e v.waited w.waited; wants = w.wants ∙ v.wants; late = λ z. w.late (v.wants ∙ z) ∙ v.late z }

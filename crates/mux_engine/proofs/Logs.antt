@@ -63,10 +63,6 @@ live-row Refused row rows e h = rw e at h
 live-row (Drop why) row rows e h = rw e at h
 live-row (End cause) row rows e h = let z : Some cause ≡ None = rw e at h in absurd (cc)
 
--- a run that goes on went on before
-pub log-live : (set : Setting) (mark : Mark) (before : List Mark) → end_of (log_of_journal set (mark ∷ before)) ≡ None → end_of (log_of_journal set before) ≡ None
-log-live set mark before = log-keeps (λ rows. end_of rows ≡ None → end_of (log_of_journal set before) ≡ None) (λ row rows h e. h (live-row row.fate row rows refl e)) set mark before (λ e. e)
-
 -- ---- bytes that are taken
 
 -- they make a row

@@ -21,7 +21,7 @@ use Rattle.mux_machine.specs.Events.{here}
 use Rattle.mux_machine.specs.Stands.{GoesBy, RowsFit, Stands, StandsFor, log}
 use Rattle.mux_engine.specs.Run.{IsOfWire}
 use Rattle.mux_engine.specs.Serving.{IsLeft, IsSound, IsUnseen, Kept, Promised, Serving, is_open}
-use Rattle.mux_engine.proofs.Logs.{log-listens, log-live}
+use Rattle.mux_engine.proofs.Logs.{log-listens}
 use Rattle.mux_engine.proofs.Told.{may-more, tells-more, tells-none, tells-then}
 
 -- ---- what stood before, with the numbers and replies of now
@@ -89,14 +89,6 @@ hears-before {s = s} {marks = marks} {closed = closed} st s' mark p r picked' re
     let old = stood-at st p r picked' replies' e f [] [] in
     let new = st'.at [] [] in
     old.rows.listening_is ∙ log-listens (by_lists s.core.policy s.pid (picked' ++ []) (replies' ++ [])) mark marks (ap Rattle.mux_history.specs.Promises.listens (sym (log-same s s' (picked' ++ []) (replies' ++ []) (mark ∷ marks) g h)) ∙ (sym new.rows.listening_is ∙ l))
-
--- a run that goes on went on before
-pub live-before : {picked : List ℕ} {replies : List HouseReply} {s : State} {marks : List Mark} {closed : List ℕ} (st : Stands picked replies s marks closed) (s' : State) (mark : Mark) (p : List ℕ) (r : List HouseReply) (picked' : List ℕ) (replies' : List HouseReply)
-    → picked' ≡ picked ++ p → replies' ≡ replies ++ r → s'.core.policy ≡ s.core.policy → s'.pid ≡ s.pid → Stands picked' replies' s' (mark ∷ marks) closed → s'.ended ≡ None → s.ended ≡ None
-live-before {s = s} {marks = marks} {closed = closed} st s' mark p r picked' replies' e f g h st' l =
-    let old = stood-at st p r picked' replies' e f [] [] in
-    let new = st'.at [] [] in
-    old.rows.ended_is ∙ log-live (by_lists s.core.policy s.pid (picked' ++ []) (replies' ++ [])) mark marks (ap Rattle.mux_history.specs.Solo.end_of (sym (log-same s s' (picked' ++ []) (replies' ++ []) (mark ∷ marks) g h)) ∙ (sym new.rows.ended_is ∙ l))
 
 -- with so many numbers and replies more, where the house was asked this
 unfoldable pub serve-on : {May : HouseReply → Type 0} {before now : Option (List Asked)} {policy : Policy} {pid : ℕ} {start : Option (List Mark)} {seen : Seen} {held : List ℕ} {given : ℕ} {todo : List ℕ} {s : State} (v : Serving May before now policy pid start seen held given todo s) (now' : Option (List Asked)) (seen' : Seen) (held' : List ℕ) (given' : ℕ) (todo' : List ℕ) (s' : State) (mark : Mark) (p : List ℕ) (r : List HouseReply) (asks : List Asked) (picked' : List ℕ) (replies' : List HouseReply)

@@ -75,9 +75,6 @@ awaited-by rows n k d to e = by_holder (holder rows n) refl e
     by_holder None held e = cc
     by_holder (Some x) held e = by_pending x (is_pending x) held refl e
 
-live_dest : ℕ → ℕ → Option Channel → Dest
-live_dest s client o = ToMaster
-
 pub confirmed : (rows : List Row) (n s k : ℕ) → dest_confirmation rows n s ≡ ToClient k → Confirmed rows n s k
 confirmed rows n s k e = by_live (live_in rows s) refl e
   where

@@ -175,9 +175,6 @@ forwarded-other k row own fs e = by_item row.item
     by_item (Heard p) = by_reading (read_gist p) (λ m. map (of_client row.client (replied (length (replies own)) m))) (λ m. other-map k (of_client row.client (replied (length (replies own)) m)) (of-client-keeps row.client (replied (length (replies own)) m) (replied-keeps (length (replies own)) m)) (of-client-other k row.client (replied (length (replies own)) m) e) fs)
     by_item item = refl
 
-over_now : Forwarding → Forwarding
-over_now f = record f { over = true }
-
 dropped-mine : (k : ℕ) (row : Row) (fs : List Forwarding) → filter (for_of k) (dropped row fs) ≡ dropped row (filter (for_of k) fs)
 dropped-mine k row fs = by_case (loses row)
   where

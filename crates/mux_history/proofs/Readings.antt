@@ -3,7 +3,7 @@ use Rattle.std.proofs.Common.{◌≡◌, ℕ, ◌+◌, List, [], ◌∷◌, ◌+
 use Rattle.ssh_fields.specs.Fields.{u32, str, take_bool, take_u32, take_str}
 use Rattle.ssh_grammar.specs.declared.fault.Bad.{Bad}
 use Rattle.ssh_grammar.specs.declared.fault.Bad.TheVariants as bad
-use Rattle.ssh_grammar.specs.Messages.{Key, Tcp, Path, Message, PlainMessage, Plain, To, GlobalRequest, Global, Cancel, OpenFailure, Close, cancel_name, cancel_path_name}
+use Rattle.ssh_grammar.specs.Messages.{Key, Tcp, Path, Message, PlainMessage, Plain, To, GlobalRequest, Cancel, OpenFailure, Close, cancel_name, cancel_path_name}
 use Rattle.ssh_grammar.specs.SpellMessage.{cancel_forward}
 use Rattle.ssh_fields.proofs.Fields.{take_str-str}
 use Rattle.ssh_grammar.specs.ReadMessage.{Reading, on_bool, on_u32, on_str, on_end, with_reading, read_message, read_open_failure, read_global_request, read_global, read_key, read_path}
@@ -78,12 +78,6 @@ failure-always P rest each =
 
 pub close-always : (P : Gist → Type 0) (rest : List ℕ) → ((n : ℕ) → P (Within n Closes)) → Always (λ m. P (gist m)) (read_message (97 ∷ rest))
 close-always P rest each = u32-always (λ m. P (gist m)) rest 1 _ (λ n rest at. then-always (λ m. P (gist m)) (on_end rest 5 Close) (To n) (end-always (λ m. P (gist_to n m)) rest 5 Close (each n)))
-
-pub request-always : (P : Gist → Type 0) (rest : List ℕ) → ((what : Global) (want : Bool) → P (Requests what want)) → Always (λ m. P (gist m)) (read_message (80 ∷ rest))
-request-always P rest each =
-    then-always (λ m. P (gist m)) (read_global_request rest) Plain
-    (str-always (λ m. P (gist_of_plain m)) rest 1 _ (λ name rest at. bool-always (λ m. P (gist_of_plain m)) rest at _ (λ want rest at.
-    with-always (λ m. P (gist_of_plain m)) (read_global name rest at) (GlobalRequest name want rest) (λ what. each what want))))
 
 -- the master's cancel reads as one
 pub cancel-always : (P : Gist → Type 0) (key : Key) → ((key : Key) → P (Requests (Cancel key) false)) → Always (λ m. P (gist m)) (read_message (cancel_forward key))

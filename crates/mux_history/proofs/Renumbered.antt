@@ -11,7 +11,7 @@ use Rattle.ssh_grammar.specs.Renumber.{to_recipient, to_sender}
 use Rattle.ssh_grammar.proofs.MessageReads.{reads_is_spelled}
 use Rattle.ssh_grammar.proofs.MessageSpelled.{spelled_reads}
 use Rattle.ssh_grammar.proofs.Renumbered.{with_u32-between}
-use Rattle.mux_history.specs.Gist.{Gist, Open, Confirmation, Within, gist, read_gist, reading, recipient_of, sender_of}
+use Rattle.mux_history.specs.Gist.{Gist, Open, Confirmation, Within, gist, read_gist, reading, sender_of}
 use Rattle.mux_history.proofs.Readings.{gist-from, gist-ok, reading-ok}
 
 -- ---- gists with another number
@@ -124,23 +124,6 @@ message-twice (n ∷ rest) (full.To r m) c lt e =
 -- the same recipient twice
 pub renamed-twice : (p : List ℕ) (g : Gist) (c : ℕ) → c < 4294967296 → read_gist p ≡ Ok g → with_recipient (with_recipient p c) c ≡ with_recipient p c
 renamed-twice p g c lt reads = let r = gist-from p g reads in message-twice p r.message c lt r.reads
-
--- a payload without a recipient stays
-pub none-renamed : (p : List ℕ) (g : Gist) (c : ℕ) → read_gist p ≡ Ok g → recipient_of g ≡ None → with_recipient p c ≡ p
-none-renamed p g c reads none = let r = gist-from p g reads in by_message r.message r.reads (ap recipient_of r.is ∙ none)
-  where
-    by_message : (m : full.Message) → read_message p ≡ Ok m → recipient_of (gist m) ≡ None → with_recipient p c ≡ p
-    by_message (full.Plain m) e none = ap (λ at. with_number p at c) (place-of recipient_place p (full.Plain m) e)
-    by_message (full.To r (full.Confirmation s w m rest)) e none = cc
-    by_message (full.To r (full.OpenFailure reason text language)) e none = cc
-    by_message (full.To r (full.Adjust add)) e none = cc
-    by_message (full.To r (full.Data bytes)) e none = cc
-    by_message (full.To r (full.Extended code bytes)) e none = cc
-    by_message (full.To r full.Eof) e none = cc
-    by_message (full.To r full.Close) e none = cc
-    by_message (full.To r (full.Request kind want rest)) e none = cc
-    by_message (full.To r full.Success) e none = cc
-    by_message (full.To r full.Failure) e none = cc
 
 -- ---- another sender: the payload is a front, four bytes and a tail
 

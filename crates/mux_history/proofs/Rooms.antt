@@ -99,9 +99,6 @@ still-item before row harmless stays x known = elim (x.client == row.client) as 
 
 -- ---- what a client says
 
-same-client-as : (a b : ℕ) → (a == b) ≡ true → a ≡ b
-same-client-as a b e = grind (arith, nat_tests)
-
 module _ (before : List Row) (good : AreApart (channels_of before)) (k : ℕ) where
   -- the confirmed channel that was found is the one that is meant
   meant-up : (x : Channel) → KnownIn before x → (x.client == k) ≡ true → (s : ℕ) (act : Act) → UpLegal (rows_of k before) s act → SafeUp (Within s act) x

@@ -1,13 +1,10 @@
 -- How the channels that are not over, and their sums, go on by one row.
-use Rattle.std.proofs.Common.{◌≡◌, ℕ, ◌-◌, List, [], ◌∷◌, ◌++◌, true, false, Bool, refl, ◌∙◌, ap, arith, map, sym, Option, None, Ok, Err}
+use Rattle.std.proofs.Common.{◌≡◌, ℕ, List, [], ◌∷◌, ◌++◌, true, false, Bool, refl, ◌∙◌, ap, map, sym, Option, None, Ok, Err}
 use Rattle.std.specs.Prelude.{◌==◌, ◌&&◌, filter}
 use Rattle.std.proofs.lemmas.List.Elements.{filter-append}
 use Rattle.mux_history.specs.Channels.{Channel, after_farewell, after_item, begun_by, channels_of, heard_by, held_of, is_held, is_number, own_of, with_down, with_up, with_ups}
-use Rattle.mux_history.specs.Gist.{Carries, Confirmation, Gist, Within, read_gist, reading}
-use Rattle.mux_history.specs.Ledger.{initial, room}
+use Rattle.mux_history.specs.Gist.{Confirmation, Gist, Within, read_gist, reading}
 use Rattle.mux_history.specs.Rows.{Heard, Item, Row}
-use Rattle.ssh_grammar.specs.declared.side.Side.{Side}
-use Rattle.ssh_grammar.specs.declared.side.Side.TheVariants.{Down, Up}
 use Rattle.mux_history.proofs.Finds.{filter-no, filter-yes}
 
 -- a change that leaves what is over
@@ -71,14 +68,3 @@ held-step row before =
     (filter-append is_held (map (after_item row) (channels_of before)) (begun_by row.client row.up row.item)
     ∙ (ap (λ ys. ys ++ filter is_held (begun_by row.client row.up row.item)) (held-map (after_item row) (item-over row) (channels_of before))
     ∙ sym (filter-append is_held (map (after_item row) (held_of before)) (begun_by row.client row.up row.item))))
-
--- the sums of one channel: what a ledger keeps goes on by one message
-initial-carries : (n : ℕ) (x : Channel) → initial Up (record x { acts = (Up, Carries n) ∷ x.acts }) ≡ initial Up x
-initial-carries n x = by_side x.by
-  where
-    by_side : (side : Side) → initial Up (record x { by = side; acts = (Up, Carries n) ∷ x.acts }) ≡ initial Up (record x { by = side })
-    by_side Up = refl
-    by_side Down = refl
-
-pub room-carries : (n : ℕ) (x : Channel) → room Up (record x { acts = (Up, Carries n) ∷ x.acts }) ≡ room Up x - n
-room-carries n x = let e = initial-carries n x in omega arith

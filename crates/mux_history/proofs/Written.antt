@@ -143,10 +143,6 @@ holds-took t s taken bytes rows front h = by_same (s == t) refl ∙ sym (ap (λ 
 
 -- ---- the items of a mark
 
-still-append : (xs ys : List Item) → AreStill xs → AreStill ys → AreStill (xs ++ ys)
-still-append [] ys a b = b
-still-append (x ∷ xs) ys a b = (a.0, still-append xs ys a.1 b)
-
 said-still : (k : ℕ) (ss : List Saying) → AreStill (map (said_item k) ss)
 said-still k [] = tt
 said-still k (s ∷ ss) = (refl, said-still k ss)

@@ -126,10 +126,6 @@ module _ (before : List Row) (orderly : Orderly before) (k : ℕ) (p : List ℕ)
   fewer : length (replies (rows_of k before)) < count_sent (wanted (rows_of k before))
   fewer = let a = slice_get_within (asks (rows_of k before)) (length (replies (rows_of k before))) asked.ask (asker-local before k orderly asked) in let b = count-asks (rows_of k before) in omega arith
 
-  flags-same : (b : Bool) → sent_flags b None ≡ []
-  flags-same true = refl
-  flags-same false = refl
-
   answers-row : answers (mute_row ∷ rows_of k before) ≡ answers_to (wanted (rows_of k before)) (replies (rows_of k before) ++ p ∷ [])
   answers-row = ap (λ w. answers_to w (replies (rows_of k before) ++ reply_in (Heard p))) (append-nil (wanted (rows_of k before))) ∙ ap (λ r. answers_to (wanted (rows_of k before)) (replies (rows_of k before) ++ r)) reply-is
 
@@ -172,9 +168,6 @@ module _ (before : List Row) (orderly : Orderly before) (k : ℕ) (p : List ℕ)
           by_case : (b : Bool) → answers ((elim b as (λ _. Row) [ true ↦ record (queued (all_told (bare (Heard p) k silent) (rows_of k before)) (bare (Heard p) k silent) (rows_of k before)) { farewell = farewell (queued (all_told (bare (Heard p) k silent) (rows_of k before)) (bare (Heard p) k silent) (rows_of k before)) (rows_of k before) } | false ↦ queued (all_told (bare (Heard p) k silent) (rows_of k before)) (bare (Heard p) k silent) (rows_of k before) ]) ∷ rows_of k before) ≡ answers (mute_row ∷ rows_of k before)
           by_case true = refl
           by_case false = refl
-
-      plain_row : Row
-      plain_row = queued (all_told (bare (Heard p) k silent) (rows_of k before)) (bare (Heard p) k silent) (rows_of k before)
 
       down-is : (row_of (Heard p) k silent (rows_of k before)).down ≡ fitting (waiting_down (rows_of k before)) (all_told mute_row (rows_of k before))
       down-is = by_case (loses (queued (all_told (bare (Heard p) k silent) (rows_of k before)) (bare (Heard p) k silent) (rows_of k before)))

@@ -49,11 +49,6 @@ same-use {A} before p f other small blind = by_case (read_gist p) refl
 pub same-payload : (before : List Row) (p : List ℕ) (m : Gist) → read_gist p ≡ Ok m → recipient_of m ≡ None → seen_payload before p ≡ p
 same-payload before p m reads none = reading-ok p m (λ m. renamed before p (recipient_of m)) p reads ∙ ap (renamed before p) none
 
-replied-blind : (place : ℕ) (m : Gist) (c : ℕ) (f : Forwarding) → replied place (readdressed c m) f ≡ replied place m f
-replied-blind place (Confirmation n s w max) c f = refl
-replied-blind place (Within n act) c f = refl
-replied-blind place m c f = refl
-
 replied-all : (place : ℕ) (m : Gist) (c : ℕ) → replied place (readdressed c m) ≡ replied place m
 replied-all place (Confirmation n s w max) c = refl
 replied-all place (Within n act) c = refl

@@ -51,10 +51,6 @@ or-one : (a b : Bool) → b ≡ true → (a || b) ≡ true
 or-one true b e = refl
 or-one false b e = e
 
-or-split : (a b : Bool) → (a || b) ≡ false → (a ≡ false) × (b ≡ false)
-or-split true b e = true_false e
-or-split false b e = (refl, e)
-
 -- ---- who is here
 
 here-new : (s : State) (core' : CoreState) (up' : QueueState) (k : ℕ) (b : Bool) → is_here (entered s core' up' k b) k ≡ true

@@ -7,8 +7,7 @@ use Rattle.mux_outside.specs.declared.mark.Mark.TheVariants.{Waits, Accepts, Get
 use Rattle.mux_history.specs.declared.ended.Ended.{Ended}
 use Rattle.mux_history.specs.Rows.{Row}
 use Rattle.mux_machine.specs.declared.event.Event.{Event}
-use Rattle.mux_machine.specs.declared.event.Event.TheVariants as event
-use Rattle.mux_machine.specs.Events.{Arrives, EndsBy, Keeps, LeavesOthers}
+use Rattle.mux_machine.specs.Events.{EndsBy}
 use Rattle.mux_machine.specs.State.{State}
 use Rattle.mux_machine.specs.Stands.{BytesFit, GoesBy, GoesOn, IsAllowed, RowsFit, Stands}
 
@@ -77,49 +76,12 @@ goes-fed May before told s t a b mark h picked given marks closed st al =
       asked = g.asked;
     }
 
-others-fed : (s t : State) (a b : Bool) (e : Event) → LeavesOthers e (fed a s) t → LeavesOthers e s (fed b t)
-others-fed s t a b (event.Accepted k) h = h
-others-fed s t a b (event.FromClient k bytes) h = h
-others-fed s t a b (event.ClientEnd k) h = h
-others-fed s t a b (event.ClientFailed k) h = h
-others-fed s t a b (event.FromServer bytes) h = h
-others-fed s t a b event.ServerEnd h = h
-others-fed s t a b event.ServerFailed h = h
-
-arrives-fed : (s t : State) (a b : Bool) (e : Event) → Arrives e (fed a s) t → Arrives e s (fed b t)
-arrives-fed s t a b (event.Accepted k) h = elim h [
-  | Rattle.std.proofs.Common.inl w ↦ Rattle.std.proofs.Common.inl record { clients = w.clients; refused = w.refused }
-  | Rattle.std.proofs.Common.inr w ↦ Rattle.std.proofs.Common.inr record { clients = w.clients; refused = w.refused }
-]
-arrives-fed s t a b (event.FromClient k bytes) h = record { clients = h.clients; refused = h.refused }
-arrives-fed s t a b (event.ClientEnd k) h = record { clients = h.clients; refused = h.refused }
-arrives-fed s t a b (event.ClientFailed k) h = record { clients = h.clients; refused = h.refused }
-arrives-fed s t a b (event.FromServer bytes) h = record { clients = h.clients; refused = h.refused }
-arrives-fed s t a b event.ServerEnd h = record { clients = h.clients; refused = h.refused }
-arrives-fed s t a b event.ServerFailed h = record { clients = h.clients; refused = h.refused }
-
-keeps-fed : (s t : State) (a b : Bool) (e : Event) → s.ended ≡ None → Keeps e (fed a s) t → Keeps e s (fed b t)
-keeps-fed s t a b e live h = record {
-  pid = h.pid;
-  policy = h.policy;
-  others = others-fed s t a b e h.others;
-  streams = λ on. arrives-fed s t a b e (h.streams on);
-  more_leaving = h.more_leaving;
-  leaving = h.leaving;
-  over = λ cause o. absurd (let z : None ≡ Some cause = sym live ∙ o in cc);
-}
-
 -- ---- as the code shows them: the parts before a step, what it is, and those behind it
 
 pub goes-shown : (May : HouseReply → Type 0) (before told : Option (List Asked)) (parts s parts' t : State) (mark : Mark) → parts ≡ s → parts' ≡ t → GoesOn May before told (fed true parts) t mark → GoesOn May before told s (fed false parts') mark
 goes-shown May before told parts s parts' t mark is is' h =
     subst (λ (x : State). GoesOn May before told x (fed false parts') mark) is
     (subst (λ (y : State). GoesOn May before told parts (fed false y) mark) (sym is') (goes-fed May before told parts t true false mark h))
-
-pub keeps-shown : (parts s parts' t : State) (e : Event) → parts ≡ s → parts' ≡ t → parts.ended ≡ None → Keeps e (fed true parts) t → Keeps e s (fed false parts')
-keeps-shown parts s parts' t e is is' live h =
-    subst (λ (x : State). Keeps e x (fed false parts')) is
-    (subst (λ (y : State). Keeps e parts (fed false y)) (sym is') (keeps-fed parts t true false e live h))
 
 -- the same of how it may end
 pub ends-shown : (parts s parts' t : State) (e : Event) (mark : Mark) → parts ≡ s → parts' ≡ t → EndsBy e (fed true parts) t mark → EndsBy e s (fed false parts') mark

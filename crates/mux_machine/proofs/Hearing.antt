@@ -168,9 +168,6 @@ rows-heard taken dn s new bytes old closed rows rows' c same all w st =
 server-quiet : (j : ℕ) (bytes : List ℕ) → j ≢ 0 → bytes_in j (Gets 0 bytes) ≡ []
 server-quiet j bytes nz = ap (λ b. elim b as (λ _. List ℕ) [ true ↦ bytes | false ↦ [] ]) (test_other 0 j (λ e. nz (sym e)))
 
-server-own : (bytes : List ℕ) (marks : List Mark) → bytes_of 0 (Gets 0 bytes ∷ marks) ≡ bytes_of 0 marks ++ bytes
-server-own bytes marks = refl
-
 reads-others : (bytes : List ℕ) (marks : List Mark) (rows : List Row) (cs : List ClientState) → EachFits rows cs → EachReads marks cs → EachReads (Gets 0 bytes ∷ marks) cs
 reads-others bytes marks rows [] each e = tt
 reads-others bytes marks rows (c ∷ cs) each e =

@@ -228,24 +228,3 @@ pub asking-keeps : (May : HouseReply → Type 0) (before told : Option (List Ask
 asking-keeps May before told s new (event.FromClient k bytes) live d =
     client-keeps k s new (event.FromClient k bytes) live record { pid = gained-pid May before told s new k bytes.now d; policy = d.policy } (gained-others May before told s new k bytes.now d) (λ o. o.others) (λ o. o)
 asking-keeps May before told s new e live d = absurd d
-
--- after the end nothing changes
-pub over-keeps-all : (s : State) (e : Event) (cause : Ended) → s.ended ≡ Some cause → Keeps e s s
-over-keeps-all s e cause over = record {
-  pid = refl;
-  policy = refl;
-  others = same-others-all e;
-  streams = λ on. absurd (let z : None ≡ Some cause = sym on ∙ over in cc);
-  more_leaving = [];
-  leaving = sym (append-nil s.leaving);
-  over = λ c o. refl;
-}
-  where
-    same-others-all : (e : Event) → Rattle.mux_machine.specs.Events.LeavesOthers e s s
-    same-others-all (event.Accepted k) = λ j ne. refl
-    same-others-all (event.FromClient k bytes) = λ j ne. refl
-    same-others-all (event.ClientEnd k) = λ j ne. refl
-    same-others-all (event.ClientFailed k) = λ j ne. refl
-    same-others-all (event.FromServer bytes) = tt
-    same-others-all event.ServerEnd = refl
-    same-others-all event.ServerFailed = refl

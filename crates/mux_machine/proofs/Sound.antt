@@ -27,26 +27,8 @@ or-last : (a b : Bool) → b ≡ true → (a || b) ≡ true
 or-last true b e = refl
 or-last false b e = e
 
-listed-append : (ls more : List (ℕ × Option Why)) → listed (ls ++ more) ≡ listed ls ++ listed more
-listed-append [] more = refl
-listed-append (l ∷ ls) more = ap (λ js. l.0 ∷ js) (listed-append ls more)
-
 among-append : (k : ℕ) (is js : List ℕ) → among k (is ++ js) ≡ (among k is || among k js)
 among-append k is js = list_any-append (λ (i : ℕ). i == k) is js
-
--- more of them
-pub listed-more : (ks : List ℕ) (ls more : List (ℕ × Option Why)) → AreListed ks ls → AreListed ks (ls ++ more)
-listed-more ks ls more h k a = ap (among k) (listed-append ls more) ∙ (among-append k (listed ls) (listed more) ∙ or-first (among k (listed ls)) (among k (listed more)) (h k a))
-
--- one more that was refused
-pub listed-both : (j : ℕ) (why : Option Why) (ks : List ℕ) (ls : List (ℕ × Option Why)) → AreListed ks ls → AreListed (ks ++ j ∷ []) (ls ++ (j, why) ∷ [])
-listed-both j why ks ls h k a = by_old (among k ks) refl
-  where
-    by_old : (b : Bool) → among k ks ≡ b → among k (listed (ls ++ (j, why) ∷ [])) ≡ true
-    by_old true e = listed-more ks ls ((j, why) ∷ []) h k e
-    by_old false e =
-        let last : among k (j ∷ []) ≡ true = sym (among-append k ks (j ∷ []) ∙ ap (λ t. t || among k (j ∷ [])) e) ∙ a in
-        ap (among k) (listed-append ls ((j, why) ∷ [])) ∙ (among-append k (listed ls) (j ∷ []) ∙ or-last (among k (listed ls)) (among k (j ∷ [])) last)
 
 -- one less
 listed-less : (k : ℕ) (ls : List (ℕ × Option Why)) → listed (filter (λ (l : ℕ × Option Why). not (l.0 == k)) ls) ≡ without k (listed ls)
@@ -108,10 +90,6 @@ room-taken s t n room = by_server (t == 0)
     by_server false = omega (arith, ap length (served-took t n s.clients), room)
 
 -- ---- an engine
-
--- one that had no memory on the way
-pub sound-starved : (s : State) → s.starved ≡ true → AreListed s.refused s.leaving → IsSound s
-sound-starved s starved h = record { ready = λ no on. true_false (sym starved ∙ no); refused = h }
 
 pub sound-closed : (s : State) (k : ℕ) → IsSound s → IsSound (closed_by s k)
 sound-closed s k h = record {

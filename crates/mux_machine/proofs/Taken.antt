@@ -1,5 +1,5 @@
 -- The parts of an engine after bytes were taken or a stream was closed.
-use Rattle.std.proofs.Common.{◌≡◌, ◌≤◌, ℕ, Bool, true, false, not, List, [], ◌++◌, length, take, drop, Option, sym, ap, ◌∙◌, subst, cond}
+use Rattle.std.proofs.Common.{◌≡◌, ℕ, Bool, true, false, not, List, [], ◌++◌, length, take, drop, Option, sym, ap, ◌∙◌, subst, cond}
 use Rattle.std.specs.Prelude.{◌==◌, filter}
 use Rattle.proxy_frames.specs.Queued.{without_first}
 use Rattle.proxy_frames.specs.State.{QueueState}
@@ -8,7 +8,7 @@ use Rattle.mux_history.specs.Promises.{is_empty}
 use Rattle.mux_history.specs.declared.why.Why.{Why}
 use Rattle.mux_clients.specs.State.{ClientState}
 use Rattle.mux_machine.specs.Ready.{IsSound}
-use Rattle.mux_machine.specs.State.{State, at_client, client_took, closed_by, in_client, queue_in, taken, without_client}
+use Rattle.mux_machine.specs.State.{State, at_client, client_took, closed_by, in_client, taken, without_client}
 use Rattle.mux_machine.specs.Steps.{waiting_for}
 use Rattle.mux_machine.proofs.Sound.{sound-taken}
 use Rattle.mux_machine.proofs.Written.{whole-written}
@@ -52,11 +52,6 @@ take-written parts t n m lent cs up empty ws p =
     let whole : take m (cs ++ drop (length cs) parts.clients) ≡ cs = whole-written m cs parts.clients p.all (p.same ∙ ap length p.lends) in
     let clients : cs ≡ cond (t == 0) parts.clients (at_client t (client_took n) parts.clients) = p.clients_are ∙ ap (λ (l : List ClientState). cond (t == 0) l (at_client t (client_took n) l)) p.lends in
     ap (λ (l : List ClientState). record parts { up = up; clients = l; waiting = ws }) whole ∙ take-as parts t n cs up empty ws p.up_is clients p.empty_is p.waits
-
--- what may be taken
-pub may-take : (s parts : State) (t n : ℕ) (lent : List ClientState) → parts ≡ s → lent ≡ parts.clients → n ≤ length (queue_in s t) → n ≤ length (waiting_for parts.up lent t)
-may-take s parts t n lent view lends le =
-    subst (λ (l : List ClientState). n ≤ length (waiting_for parts.up l t)) (sym lends) (subst (λ (x : State). n ≤ length (queue_in x t)) (sym view) le)
 
 pub sound-take : (parts : State) (t n m : ℕ) (lent cs : List ClientState) (up : QueueState) (empty : Bool) (ws : List ℕ) → IsSound parts → TakeParts parts t n m lent cs up empty ws → IsSound (take_new parts m cs up ws)
 sound-take parts t n m lent cs up empty ws h p = subst IsSound (sym (take-written parts t n m lent cs up empty ws p)) (sound-taken parts t n h)

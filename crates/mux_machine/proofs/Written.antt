@@ -258,7 +258,3 @@ room-entered k b cs cs' up e room = subst (λ (l : List ClientState). HasRoom l 
     by_let_in : (b : Bool) → HasRoom (cond b (cs ++ new_client k ∷ []) cs) up
     by_let_in true = omega (arith, served-last k cs, room)
     by_let_in false = omega (arith, room)
-
-pub room-written : (n : ℕ) (lent cs old : List ClientState) (up up' : QueueState) → lent ≡ old → n ≡ length old → length cs ≡ length lent → (HasRoom lent up → HasRoom cs up') → HasRoom old up → HasRoom (take n (cs ++ drop (length cs) old)) up'
-room-written n lent cs old up up' lends all same keeps room =
-    subst (λ (l : List ClientState). HasRoom l up') (sym (whole-written n cs old all (same ∙ ap length lends))) (keeps (subst (λ (l : List ClientState). HasRoom l up) (sym lends) room))

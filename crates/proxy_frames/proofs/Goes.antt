@@ -12,7 +12,7 @@ use Rattle.proxy_frames.specs.declared.next.Next.TheVariants as next
 use Rattle.proxy_frames.specs.State.{FramerState}
 use Rattle.proxy_frames.specs.Steps.{pushed, switched, once_told, front_of, answer_to, after_front}
 use Rattle.proxy_frames.specs.History.{History, StandsFor, GoesOn, IsNext, HasTold, and_bytes, and_frame, and_fault, and_switch, and_next, and_next_in, next_in, next_of, first_of, frame_next, cut_of, left, to_come}
-use Rattle.proxy_frames.proofs.Stands.{stands_by, to_come-is, fault-is, left-is, valid-and, joined-and}
+use Rattle.proxy_frames.proofs.Stands.{stands_by, to_come-is, fault-is, valid-and, joined-and}
 
 -- ---- more bytes
 
@@ -23,20 +23,6 @@ pushed-stands h f piece st = stands_by (and_bytes piece h) (pushed piece f) st.v
     by_told : (t : Option BadFrame) → HasTold t h f → HasTold t (and_bytes piece h) (pushed piece f)
     by_told None is = is
     by_told (Some fault) is = subst (λ (front : Front). Extends piece front (first_frame h.framing (f.rest ++ piece))) is (first-extends h.framing f.rest piece)
-
--- ---- another framing
-
-pub switched-stands : (h : History) (f : FramerState) (framing : Framing) → StandsFor h f → StandsFor (and_switch framing h) (switched framing f)
-switched-stands h f framing st = by_told h.told refl st.told
-  where
-    by_told : (t : Option BadFrame) → h.told ≡ t → HasTold t h f → StandsFor (and_switch framing h) (switched framing f)
-    by_told None e is =
-        let after : History = record { framing = framing; bytes = left h; given = []; told = None } in
-        let same : and_switch framing h ≡ after = ap (λ (t : Option BadFrame). once_told t (λ _. h) after) e in
-        subst (λ (x : History). StandsFor x (switched framing f)) (sym same) (stands_by after (switched framing f) tt (left-is h f st) (st.fault ∙ e) refl)
-    by_told (Some fault) e is =
-        let same : and_switch framing h ≡ h = ap (λ (t : Option BadFrame). once_told t (λ _. h) (record { framing = framing; bytes = left h; given = []; told = None })) e in
-        subst (λ (x : History). StandsFor x (switched framing f)) (sym same) (record { valid = st.valid; filled = st.filled; frames = st.frames; fault = st.fault; told = subst (λ (t : Option BadFrame). HasTold t h (switched framing f)) (sym e) is })
 
 -- ---- what comes next
 

@@ -36,12 +36,6 @@ AreBytes-take n bytes h = AreBytes-front (take n bytes) (drop n bytes) (rw take-
 pub AreBytes-drop : (n : ℕ) (bytes : List ℕ) → AreBytes bytes → AreBytes (drop n bytes)
 AreBytes-drop n bytes h = AreBytes-behind (take n bytes) (drop n bytes) (rw take-append-drop h)
 
-pub AreBytes-u32 : (n : ℕ) → AreBytes (u32 n)
-AreBytes-u32 n = (omega arith, (omega arith, (omega arith, (omega arith, tt))))
-
-pub AreBytes-str : (s : List ℕ) → AreBytes s → AreBytes (str s)
-AreBytes-str s h = AreBytes-append (u32 (length s)) s (AreBytes-u32 (length s)) h
-
 -- ---- numbers
 
 pub of_four-u32 : (n : ℕ) → n < 2 ^ 32 → of_four ((n / 16777216) % 256) ((n / 65536) % 256) ((n / 256) % 256) (n % 256) ≡ n
@@ -73,23 +67,6 @@ take_u32-is (a ∷ b ∷ c ∷ d ∷ more) n rest h e =
     let behind : more ≡ rest = (value_and_rest (of_four a b c d, more) (n, rest) e).1 in
     let spelled : u32 (of_four a b c d) ≡ a ∷ b ∷ c ∷ d ∷ [] = u32-of_four a b c d h.0 h.1.0 h.1.1.0 h.1.1.1.0 in
     (sym (ap (λ m. u32 m ++ rest) (sym number) ∙ (ap (λ x. x ++ rest) spelled ∙ ap (λ x. a ∷ b ∷ c ∷ d ∷ x) (sym behind))), subst (λ m. m < 2 ^ 32) number (of_four-fits a b c d h.0 h.1.0 h.1.1.0 h.1.1.1.0))
-
-pub take_u32-append : (a b : List ℕ) (n : ℕ) (rest : List ℕ) → take_u32 a ≡ Some (n, rest) → take_u32 (a ++ b) ≡ Some (n, rest ++ b)
-take_u32-append [] b n rest e = absurd cc
-take_u32-append (w ∷ []) b n rest e = absurd cc
-take_u32-append (w ∷ x ∷ []) b n rest e = absurd cc
-take_u32-append (w ∷ x ∷ y ∷ []) b n rest e = absurd cc
-take_u32-append (w ∷ x ∷ y ∷ z ∷ more) b n rest e =
-    let number : of_four w x y z ≡ n = (value_and_rest (of_four w x y z, more) (n, rest) e).0 in
-    let behind : more ≡ rest = (value_and_rest (of_four w x y z, more) (n, rest) e).1 in
-    ap (λ m. Some (m, more ++ b)) number ∙ ap (λ r. Some (n, r ++ b)) behind
-
-pub u32-same : (n m : ℕ) → n < 2 ^ 32 → m < 2 ^ 32 → u32 n ≡ u32 m → n ≡ m
-u32-same n m h k e =
-    let left : take_u32 (u32 n ++ []) ≡ Some (n, []) = take_u32-u32 n [] h in
-    let right : take_u32 (u32 m ++ []) ≡ Some (m, []) = take_u32-u32 m [] k in
-    let both : take_u32 (u32 n ++ []) ≡ take_u32 (u32 m ++ []) = ap (λ x. take_u32 (x ++ [])) e in
-    (value_and_rest (n, []) (m, []) (sym left ∙ (both ∙ right))).0
 
 -- ---- strings
 
@@ -124,20 +101,6 @@ take_str-is bytes s rest h e = by_case (take_u32 bytes) refl e
         let text : (p.1 ≡ s ++ rest) × (length s ≡ p.0) = split_at-is p.0 p.1 s rest e in
         (number.0 ∙ (ap (λ x. u32 p.0 ++ x) text.0 ∙ ap (λ n. u32 n ++ (s ++ rest)) (sym text.1)), omega (arith, number.1, text.1))
 
-pub split_at-more : (n : ℕ) (a b s rest : List ℕ) → split_at n a ≡ Some (s, rest) → split_at n (a ++ b) ≡ Some (s, rest ++ b)
-split_at-more n a b s rest e =
-    let is : (a ≡ s ++ rest) × (length s ≡ n) = split_at-is n a s rest e in
-    ap (λ m. split_at m (a ++ b)) (sym is.1) ∙ (ap (λ x. split_at (length s) (x ++ b)) is.0 ∙ (ap (split_at (length s)) (append_assoc s rest b) ∙ split_at-append s (rest ++ b)))
-
-pub take_str-append : (a b s rest : List ℕ) → take_str a ≡ Some (s, rest) → take_str (a ++ b) ≡ Some (s, rest ++ b)
-take_str-append a b s rest e = by_case (take_u32 a) refl e
-  where
-    by_case : (o : Option (ℕ × List ℕ)) → take_u32 a ≡ o → (elim o as (λ _. Option (List ℕ × List ℕ)) [ None ↦ None | Some p ↦ split_at p.0 p.1 ]) ≡ Some (s, rest) → take_str (a ++ b) ≡ Some (s, rest ++ b)
-    by_case None t e = absurd cc
-    by_case (Some p) t e =
-        ap (λ o. elim o as (λ _. Option (List ℕ × List ℕ)) [ None ↦ None | Some p ↦ split_at p.0 p.1 ]) (take_u32-append a b p.0 p.1 t)
-        ∙ split_at-more p.0 p.1 b s rest e
-
 -- ---- numbers in place
 
 pub length-with_u32 : (bytes : List ℕ) (at n : ℕ) → at + 4 ≤ length bytes → length (with_u32 bytes at n) ≡ length bytes
@@ -148,9 +111,6 @@ drop-with_u32 bytes at n fits = drop_at (take at bytes) (u32 n ++ drop (at + 4) 
 
 pub u32_at-with_u32 : (bytes : List ℕ) (at n : ℕ) → at + 4 ≤ length bytes → n < 2 ^ 32 → u32_at at (with_u32 bytes at n) ≡ n
 u32_at-with_u32 bytes at n fits small = ap (λ b. elim (take_u32 b) as (λ _. ℕ) [ None ↦ 0 | Some p ↦ p.0 ]) (drop-with_u32 bytes at n fits) ∙ of_four-u32 n small
-
-pub AreBytes-with_u32 : (bytes : List ℕ) (at n : ℕ) → AreBytes bytes → AreBytes (with_u32 bytes at n)
-AreBytes-with_u32 bytes at n h = AreBytes-append (take at bytes) (u32 n ++ drop (at + 4) bytes) (AreBytes-take at bytes h) (AreBytes-append (u32 n) (drop (at + 4) bytes) (AreBytes-u32 n) (AreBytes-drop (at + 4) bytes h))
 
 pub take-with_u32 : (bytes : List ℕ) (at n : ℕ) → at + 4 ≤ length bytes → take at (with_u32 bytes at n) ≡ take at bytes
 take-with_u32 bytes at n fits = take_at (take at bytes) (u32 n ++ drop (at + 4) bytes) at (omega (arith, length-take at bytes))

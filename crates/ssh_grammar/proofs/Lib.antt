@@ -9,5 +9,4 @@ pub mod Frames
 pub mod Parses
 pub mod Said
 pub mod Renumbered
-pub mod Written
 pub mod AnswerReads

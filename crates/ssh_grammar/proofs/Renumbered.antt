@@ -7,7 +7,7 @@ use Rattle.ssh_fields.proofs.Fields.{of_four-u32}
 use Rattle.ssh_grammar.specs.declared.fault.Bad.{Bad}
 use Rattle.ssh_grammar.specs.Messages.{Transport, GlobalRequest, RequestSuccess, RequestFailure, Open, Confirmation, OpenFailure, Adjust, Data, Extended, Eof, Close, Request, Success, Failure, Message, Plain, To}
 use Rattle.ssh_grammar.specs.ReadMessage.{read_message}
-use Rattle.ssh_grammar.specs.SpellMessage.{spell, spell_with, fields_of, number_of, flag_of, wants, recipient_of, sender_of, recipient_place, sender_place, in_payload, with_number, with_recipient, with_sender, recipient_at, sender_at}
+use Rattle.ssh_grammar.specs.SpellMessage.{spell, spell_with, fields_of, number_of, flag_of, wants, recipient_of, sender_of, recipient_place, sender_place, in_payload, with_number, with_recipient, with_sender, sender_at}
 use Rattle.ssh_grammar.specs.IsMessage.{IsMessage, Spells}
 use Rattle.ssh_grammar.specs.Renumber.{to_recipient, to_sender, Stands}
 use Rattle.ssh_grammar.proofs.MessageReads.{reads_is_spelled}
@@ -141,9 +141,6 @@ place_within f p h = by_case (read_message p) h
     by_case : (r : Result Message Bad) → IfOk r (λ m. IfSome (f m) (λ at. at + 4 ≤ length p)) → IfSome (elim r as (λ _. Option ℕ) [ Err e ↦ None | Ok m ↦ f m ]) (λ at. at + 4 ≤ length p)
     by_case (Ok m) h = h
     by_case (Err e) h = tt
-
-pub recipient_within : (p : List ℕ) → AreBytes p → IfSome (recipient_at p) (λ at. at + 4 ≤ length p)
-recipient_within p h = place_within recipient_place p (IfOk-weaker (read_message p) _ (λ m. IfSome (recipient_place m) (λ at. at + 4 ≤ length p)) (λ m is. within (recipient_of m) (recipient_place m) p is.0) (numbers_stand p h))
 
 pub sender_within : (p : List ℕ) → AreBytes p → IfSome (sender_at p) (λ at. at + 4 ≤ length p)
 sender_within p h = place_within sender_place p (IfOk-weaker (read_message p) _ (λ m. IfSome (sender_place m) (λ at. at + 4 ≤ length p)) (λ m is. within (sender_of m) (sender_place m) p is.1) (numbers_stand p h))

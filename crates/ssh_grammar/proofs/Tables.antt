@@ -33,12 +33,3 @@ by_name-other {A} (row ∷ rows) name other h = by_case (bytes_eq name row.0) re
     by_case : (t : Bool) → bytes_eq name row.0 ≡ t → by_name rows name other ≡ other → (elim t as (λ _. A) [ true ↦ row.1 | false ↦ by_name rows name other ]) ≡ other
     by_case true e later = absurd (h.0 ((bytes_eq-Decides name row.0).0 e))
     by_case false e later = later
-
--- a number that no row has is given the last answer
-pub by_number-other : {A : Type 0} (rows : List (ℕ × A)) (n : ℕ) (other : A) → AllByRecursion (λ row. n ≢ row.0) rows → by_number rows n other ≡ other
-by_number-other [] n other h = refl
-by_number-other {A} (row ∷ rows) n other h = by_case (nat_eq n row.0) refl (by_number-other rows n other h.1)
-  where
-    by_case : (t : Bool) → nat_eq n row.0 ≡ t → by_number rows n other ≡ other → (elim t as (λ _. A) [ true ↦ row.1 | false ↦ by_number rows n other ]) ≡ other
-    by_case true e later = absurd (h.0 (eqb-true n row.0 e))
-    by_case false e later = later

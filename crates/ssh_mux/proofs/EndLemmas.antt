@@ -158,11 +158,6 @@ module _ (May : HouseReply → Type 0) (policy : Policy) (pid turns : ℕ) (befo
   own-serves (endings.BadListing key error) h r = absurd (none-ends (endings.BadListing key error) refl h)
   own-serves endings.NoControlPath h r = absurd (none-ends endings.NoControlPath refl h)
 
-  -- with the status that came of it
-  serves-by : (meant : MeantEnding) (status : Status) → (status ≡ statuses.Memory) ⊎ (status ≡ status_of (shown meant)) → Shared (Err meant) → Reports status (shown meant) b n f f' → Served status
-  serves-by meant status (inl e) h r = subst Served (sym e) (memory-serves meant h (subst (λ s. Reports s (shown meant) b n f f') e r))
-  serves-by meant status (inr e) h r = subst Served (sym e) (own-serves meant h (subst (λ s. Reports s (shown meant) b n f f') e r))
-
   -- a wire that wasn't touched is served by nobody
   memory-by : (opened shares drilled : Bool) (meant : MeantEnding) → OnTrue (opened && shares) (Shared (Err meant)) → OnFalse (opened && (shares || drilled)) (told ≡ start) → OnFalse (opened && shares) (now ≡ before) → Reports statuses.Memory (shown meant) b n f f' → OnTrue shares (Served statuses.Memory)
   memory-by opened false drilled meant h w g r = tt

@@ -79,11 +79,3 @@ refuses way act old e is x stands = sym (breach-is way act old x stands) ∙ som
 
 pub goes-on : (way : Side) (act : Act) (old new : State) → Ok new ≡ judged (breach_in way act old) (state_after way act old) → (x : Channel) → IsStateOf old x → IsStateOf new (with_act way (act_of act) x)
 goes-on way act old new is x stands = subst (λ s. IsStateOf s (with_act way (act_of act) x)) (made-of (breach_in way act old) (state_after way act old) new is) (goes way act old x stands (takes way act old new is x stands))
-
-answered-after : (way : Side) (act : Act) (state : State) → is_answered (state_after way act state) ≡ is_answered state
-answered-after way act (Opened by window maximum) = refl
-answered-after Up act (Confirmed up down) = refl
-answered-after Down act (Confirmed up down) = refl
-
-pub answered-on : (way : Side) (act : Act) (old new : State) → Ok new ≡ judged (breach_in way act old) (state_after way act old) → is_answered new ≡ is_answered old
-answered-on way act old new is = ap is_answered (sym (made-of (breach_in way act old) (state_after way act old) new is)) ∙ answered-after way act old

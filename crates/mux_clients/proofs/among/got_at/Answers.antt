@@ -1,6 +1,6 @@
-use Rattle.std.proofs.Common.{◌≡◌, ◌++◌, sym, ◌∙◌, arith, true, false}
+use Rattle.std.proofs.Common.{◌≡◌, sym, ◌∙◌, arith, true, false}
 use Rattle.mux_clients.specs.declared.heard.Heard.{Heard}
-use Rattle.mux_clients.specs.Among.{ChangesOne, is_present}
+use Rattle.mux_clients.specs.Among.{is_present}
 use Rattle.mux_clients.specs.Pieces.{HearsIn}
 use Rattle.mux_clients.proofs.Placed.{if-ok, numbers-set, on-ok, placed-absent, placed-here, present-set, set-changes}
 use Rattle.mux_clients.proofs.Rooms.{room-at, room-set}
