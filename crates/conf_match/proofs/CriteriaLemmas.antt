@@ -1,17 +1,13 @@
 -- Criteria, read one by one.
-use Rattle.std.proofs.Common.{◌≡◌, ℕ, ◌+◌, ◌<◌, ◌≤◌, Bool, true, false, not, List, [], ◌∷◌, ◌++◌, length, drop, Some, None, Ok, Err, refl, sym, ap, ◌∙◌, append_assoc, append-nil, arith}
-use Rattle.std.specs.Bool.{OnFalse}
+use Rattle.std.proofs.Common.{◌≡◌, ℕ, ◌+◌, ◌<◌, ◌≤◌, Bool, true, false, not, List, [], ◌∷◌, ◌++◌, length, drop, Some, None, Ok, Err, refl, sym, ap, ◌∙◌, append-nil, arith}
 use Rattle.std.proofs.Math.ListN.{drop_of_length-le}
 use Rattle.conf_rules.specs.declared.criterion.Kind.{Kind}
 use Rattle.conf_rules.specs.declared.criterion.Kind.TheVariants as kinds
 use Rattle.conf_rules.specs.declared.criterion.Criterion.{Criterion}
 use Rattle.conf_rules.specs.declared.criterion.Named.TheVariants.{Valued, Plain, NotSupported, NoName}
-use Rattle.conf_rules.specs.declared.causes.MatchError.{MatchError}
 use Rattle.conf_rules.specs.declared.causes.MatchError.TheVariants.{Unknown, AllNotAlone, Unsupported}
 use Rattle.conf_rules.specs.Texts.{Bytes}
 use Rattle.conf_rules.specs.Criteria.{Spelled, spelled, ReadCriteria, criteria_from, with_criterion, plain_criterion, all_alone, unvalued, opens_all}
-use Rattle.conf_rules.specs.Results.{Fails}
-use Rattle.conf_rules.specs.Wants.{match_wants_memory}
 use Rattle.conf_match.specs.Place.{onto, valued, every, Goes}
 
 pub is_true : (b : Bool) → not b ≡ false → b ≡ true

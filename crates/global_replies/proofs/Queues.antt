@@ -4,7 +4,7 @@ use Rattle.std.specs.Prelude.{slice_get}
 use Rattle.mux_history.specs.Requests as history
 use Rattle.global_replies.specs.declared.ask.Ask.{Ask}
 use Rattle.global_replies.specs.Replies.{FirstAsked, rest_of}
-use Rattle.global_replies.specs.Stands.{AskGoesOn, ReplyGoesOn}
+use Rattle.global_replies.specs.Stands.{ReplyGoesOn}
 
 drop-more : (n : ℕ) (xs : List history.Ask) (a : history.Ask) → n ≤ length xs → drop n (xs ++ a ∷ []) ≡ drop n xs ++ a ∷ []
 drop-more zero xs a h = refl

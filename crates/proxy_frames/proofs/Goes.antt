@@ -2,7 +2,6 @@
 use Rattle.std.proofs.Common.{◌≡◌, ℕ, List, [], ◌∷◌, ◌++◌, refl, sym, ◌∙◌, ap, subst, Option, Some, None, append_assoc}
 use Rattle.ssh_fields.specs.Fields.{AreBytes}
 use Rattle.ssh_grammar.specs.declared.fault.BadFrame.{BadFrame}
-use Rattle.ssh_grammar.specs.declared.framing.Framing.{Framing}
 use Rattle.ssh_grammar.specs.Frames.{Cut, cut, frame, Front, Frame, More, Faulty, first_frame}
 use Rattle.ssh_grammar.specs.IsFrame.{joined}
 use Rattle.ssh_grammar.proofs.Cuts.{Extends, first-extends, cut-at}
@@ -10,8 +9,8 @@ use Rattle.ssh_grammar.proofs.Frames.{IsFirst, first-is}
 use Rattle.proxy_frames.specs.declared.next.Next.{Next}
 use Rattle.proxy_frames.specs.declared.next.Next.TheVariants as next
 use Rattle.proxy_frames.specs.State.{FramerState}
-use Rattle.proxy_frames.specs.Steps.{pushed, switched, once_told, front_of, answer_to, after_front}
-use Rattle.proxy_frames.specs.History.{History, StandsFor, GoesOn, IsNext, HasTold, and_bytes, and_frame, and_fault, and_switch, and_next, and_next_in, next_in, next_of, first_of, frame_next, cut_of, left, to_come}
+use Rattle.proxy_frames.specs.Steps.{pushed, once_told, front_of, answer_to, after_front}
+use Rattle.proxy_frames.specs.History.{History, StandsFor, GoesOn, IsNext, HasTold, and_bytes, and_frame, and_fault, and_next, and_next_in, next_in, next_of, first_of, frame_next, cut_of, to_come}
 use Rattle.proxy_frames.proofs.Stands.{stands_by, to_come-is, fault-is, valid-and, joined-and}
 
 -- ---- more bytes
