@@ -1,5 +1,4 @@
--- A look-up by number among the channels of slots reads the slot of that number, and no two
--- channels have one number.
+-- A look-up by number among the channels of slots reads the slot of that number.
 use Rattle.std.proofs.Common.{◌≡◌, ℕ, zero, suc, ◌+◌, ◌<◌, ◌≤◌, true, false, cond, List, [], ◌∷◌, length, map, refl, ap, sym, ◌∙◌, get_or, arith}
 use Rattle.std.specs.Prelude.{Option, Some, None, slice_get, nat_lt}
 use Rattle.std.proofs.lemmas.Bool.{eq-eqb, ne_eqb}

@@ -83,11 +83,6 @@ none-same (Some m) (Some n) h = refl
 same-cancel : (f : Forward) (g : Forwarding) → kept.Fits f g → cancel_of f ≡ leave_forwarding g
 same-cancel f g fits = by_live g.live refl
   where
-    sent : Bool → Bool → Key → List (List ℕ)
-    sent live free key = elim (live && free) as (λ _. List (List ℕ)) [ true ↦ cancel_forward key ∷ [] | false ↦ [] ]
-
-    for : Option Key → List (List ℕ)
-    for o = elim (is_none g.cancel) as (λ _. List (List ℕ)) [ true ↦ cancel_live o | false ↦ [] ]
 
     never : (b : Bool) → [] ≡ elim b as (λ _. List (List ℕ)) [ true ↦ [] | false ↦ [] ]
     never true = refl

@@ -2,11 +2,4 @@ pub mod Places
 pub mod Walks
 pub mod Counts
 pub mod Taken
-pub mod Replies
-pub mod StillAwaited
-pub mod FirstAsked
-pub mod AskAnswered
-pub mod FirstCancel
-pub mod WithoutCancel
-pub mod CancelAnswered
 pub mod Lists

@@ -1,15 +1,10 @@
 -- The requests without a reply, by one more request and by one more reply.
-use Rattle.std.proofs.Common.{◌≡◌, ◌≤◌, ◌+◌, ℕ, List, [], ◌∷◌, ◌++◌, length, drop, Option, Some, None, refl, ◌∙◌, ap, sym, arith, suc, zero}
+use Rattle.std.proofs.Common.{◌≡◌, ◌≤◌, ◌+◌, ℕ, List, [], ◌∷◌, length, drop, Option, Some, None, refl, ◌∙◌, ap, sym, arith, suc, zero}
 use Rattle.std.specs.Prelude.{slice_get}
 use Rattle.mux_history.specs.Requests as history
 use Rattle.global_replies.specs.declared.ask.Ask.{Ask}
 use Rattle.global_replies.specs.Replies.{FirstAsked, rest_of}
 use Rattle.global_replies.specs.Stands.{ReplyGoesOn}
-
-drop-more : (n : ℕ) (xs : List history.Ask) (a : history.Ask) → n ≤ length xs → drop n (xs ++ a ∷ []) ≡ drop n xs ++ a ∷ []
-drop-more zero xs a h = refl
-drop-more (suc n) [] a h = absurd (omega (arith, h))
-drop-more (suc n) (x ∷ xs) a h = drop-more n xs a (omega (arith, h))
 
 -- what stands first was asked at the place of the next reply
 first-of : (n : ℕ) (xs : List history.Ask) (a : history.Ask) (later : List history.Ask) → drop n xs ≡ a ∷ later → (slice_get xs n ≡ Some a) × (drop (suc n) xs ≡ later) × (suc n ≤ length xs)

@@ -52,10 +52,6 @@ pub none-number : (o : Option ℕ) (i : ℕ) → is_none o ≡ true → is_numbe
 none-number None i e = refl
 none-number (Some m) i e = cc
 
-some-number : (o : Option ℕ) (i : ℕ) → is_number o i ≡ true → is_none o ≡ false
-some-number None i e = cc
-some-number (Some m) i e = refl
-
 same-test : (a i j : ℕ) → (a == i) ≡ true → (a == j) ≡ true → i ≡ j
 same-test a i j e f = grind (arith, nat_tests)
 

@@ -4,9 +4,6 @@ use Rattle.std.specs.Prelude.{◌==◌, MatchBool, Result, Ok, Err, IfOk, OnOk}
 use Rattle.mux_clients.specs.State.{ClientState}
 use Rattle.mux_clients.specs.Among.{ChangesOne, client_index, is_present, numbers}
 
-abbrev placed : ℕ → ClientState → List ClientState → ℕ
-placed k c cs = cond (c.seat.number == k) 0 (suc (client_index k cs))
-
 pub set-changes : (k i : ℕ) (R : ClientState → ClientState → Type 0) (x y : ClientState) (cs : List ClientState) → i ≡ client_index k cs → i < length cs → R (get_or cs i x) y → ChangesOne k R cs (set cs i y)
 set-changes k i R x y [] e lt r = absurd (omega arith)
 set-changes k i R x y (c ∷ cs) e lt r = by_head (c.seat.number == k) refl i e lt r (λ j f l q. set-changes k j R x y cs f l q)

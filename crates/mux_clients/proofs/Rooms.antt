@@ -48,8 +48,3 @@ room-by false false n m u v e le room = omega (arith, e, le, room)
 pub room-set : (i : ℕ) (x y : ClientState) (cs : List ClientState) (up up' : QueueState) → i < length cs → LeavesRoom up up' (get_or cs i x) y → HasRoom cs up → HasRoom (set cs i y) up'
 room-set i x y cs up up' lt leaves room =
     room-by (stands.is_lost (get_or cs i x).seat.standing) (stands.is_lost y.seat.standing) (length (served_in cs)) (length (served_in (set cs i y))) up.spare up'.spare (served-set i x y cs lt) leaves room
-
--- ---- one client
-
-pub leaves-same : (up : QueueState) (x : ClientState) → LeavesRoom up up x x
-leaves-same up x = omega arith

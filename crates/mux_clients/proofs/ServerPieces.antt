@@ -23,7 +23,7 @@ use Rattle.mux_clients.specs.Among.{AllFit}
 use Rattle.mux_clients.specs.Hearings.{HeardBy, end_by}
 use Rattle.mux_clients.specs.Pieces.{behind}
 use Rattle.mux_clients.specs.Room.{HasRoom}
-use Rattle.mux_clients.specs.Server.{AllAwait, HearingAll, HearsBytes, HearsOnwards, HeardTo, ServerFault, ServerFrame, ServerNext, ServerState, rows_heard}
+use Rattle.mux_clients.specs.Server.{AllAwait, HearingAll, HearsOnwards, HeardTo, ServerFault, ServerFrame, ServerNext, ServerState, rows_heard}
 use Rattle.mux_clients.proofs.Keeping.{among-then, keep-same, keep-then}
 use Rattle.mux_clients.proofs.Served.{end-shown, fault-heard, heard-item, makes-heard, map-last, more-last, or-first, payload-heard}
 
@@ -167,13 +167,6 @@ none-then (Some cause) e = absurd (cc)
 abbrev pub left_of : Option Ended → List ℕ → ℕ
 left_of None rest = suc (length rest)
 left_of (Some cause) rest = 0
-
--- ---- all was heard
-
--- the run is over
-pub bytes-over : (bytes : List ℕ) (leaving0 leaving : List (ℕ × Option Why)) (core0 core : CoreState) (cs0 cs : List ClientState) (queue0 queue : QueueState) (first now : ServerState) (cause : Ended)
-    → HearingAll (first.rest ++ bytes) leaving0 leaving core0 cs0 queue0 first core cs queue now (Some cause) → HearsBytes bytes leaving0 leaving core0 cs0 queue0 first core cs queue now (Some cause)
-bytes-over bytes leaving0 leaving core0 core cs0 cs queue0 queue first now cause h = record { hearing = h; whole = λ e. absurd (cc) }
 
 -- ---- with the room
 

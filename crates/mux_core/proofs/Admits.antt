@@ -92,9 +92,6 @@ not-in k rows new = by_case (any_of (λ i. i == k) (entered rows)) refl
 
 -- ---- the row
 
-refusal : Outcome
-refusal = record { sent = []; told = []; ends = Refused }
-
 -- one that is refused changes nothing
 pub refused-quiet : (k : ℕ) → IsQuiet (bare (Admit k) k (record { sent = []; told = []; ends = Refused }))
 refused-quiet k = record { asks = refl; flags = refl; replies = refl; forwards = λ own fs. refl; keeps = refl; admits = refl }

@@ -20,10 +20,6 @@ pub all-of : (P Q : Entry → Type 0) → ((e : Entry) → P e → Q e) → (es 
 all-of P Q each [] all = tt
 all-of P Q each (e ∷ es) all = (each e all.0, all-of P Q each es all.1)
 
-pub all-both : (P Q R : Entry → Type 0) → ((e : Entry) → P e → Q e → R e) → (es : List Entry) → AllByRecursion P es → AllByRecursion Q es → AllByRecursion R es
-all-both P Q R each [] all also = tt
-all-both P Q R each (e ∷ es) all also = (each e all.0 also.0, all-both P Q R each es all.1 also.1)
-
 pub all-filter : (P : Entry → Type 0) (keep : Entry → Bool) (es : List Entry) → AllByRecursion P es → AllByRecursion P (filter keep es)
 all-filter P keep [] all = tt
 all-filter P keep (e ∷ es) all = by_case (all-filter P keep es all.1) (keep e) refl

@@ -94,9 +94,6 @@ delivers s new n a p up e0 l over rows st serves h fine acts plain after e =
     is : IsServed e0.channel.client (look rows)
     is = served (look rows) e0.channel.client s.clients st.clients.each serves
 
-    frame : List ℕ
-    frame = frame_payload (with_recipient p (unwrap_or e0.channel.own 0))
-
     number-is : (x : Holds e0 n rows) → own_number (holder (rows_of e0.channel.client rows) n) ≡ unwrap_or e0.channel.own 0
     number-is x = ap own_number (own-holder e0.channel.client n x.channel rows x.is (ap (λ i. i == e0.channel.client) (sym x.fits.client) ∙ self e0.channel.client)) ∙ by_own x.channel.own x.fits.own
       where
@@ -128,9 +125,6 @@ passes-by s new n a p p' up e0 l over rows st lost h fine acts plain after e =
   where
     there : is_lost (rows_of e0.channel.client rows) ≡ true
     there = lost-there (look rows) e0.channel.client s.clients st.clients.each lost
-
-    nothing : Outcome
-    nothing = for_lost (rows_of e0.channel.client rows) (Within n a)
 
     outcome : heard_for (rows_of e0.channel.client rows) p ≡ for_lost (rows_of e0.channel.client rows) (Within n a)
     outcome = rw (e, heard_for) (ap (λ (b : Bool). elim b as (λ _. Outcome) [ true ↦ for_lost (rows_of e0.channel.client rows) (Within n a) | false ↦ for_client (rows_of e0.channel.client rows) p (Within n a) ]) there)

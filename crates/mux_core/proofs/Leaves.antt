@@ -27,9 +27,6 @@ ups-append (p ∷ ps) qs x = ups-append ps qs (reading p (λ m. with_up None m x
 
 -- ---- what the master's payloads read as
 
-IsSmall : ℕ → Type 0
-IsSmall n = n < 4294967296
-
 pub reads-close : (s : ℕ) → s < 4294967296 → read_gist (close s) ≡ Ok (Within s Closes)
 reads-close s small = gist-ok (close s) (full.To s full.Close) (spelled_reads (full.To s full.Close) (close s) (record { is_message = (small, tt); flag = 0; boolean = refl; spelled = refl }))
 

@@ -65,7 +65,3 @@ remote-named s mid new b n remote l holds first second =
     second
     ∙ (ap (λ (u : CoreState). let v : CoreState = record u { channels = changed_at n (with_ledger l) u.channels } in v) (first ∙ ap (λ (c : Bool). let u : CoreState = record s { channels = changed_if c n (with_remote remote) s.channels } in u) holds)
     ∙ ap (λ (es : List Entry). let u : CoreState = record s { channels = es } in u) (remote-then n remote l s.channels))
-
--- who is lost isn't changed by the table
-pub same-clients : (s new : CoreState) (es : List Entry) → new ≡ record s { channels = es } → new.clients ≡ s.clients
-same-clients s new es after = ap (λ (u : CoreState). u.clients) after

@@ -21,9 +21,6 @@ use Rattle.mux_engine.specs.Serving.{StaysOrFails}
 
 -- ---- calls
 
-counted-most : (n : ℕ) → counted n ≤ n + 1
-counted-most n = omega arith
-
 counted-least : (m n : ℕ) → m ≤ n → counted m ≤ counted n
 counted-least m n h = omega arith
 

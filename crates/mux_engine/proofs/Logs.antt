@@ -1,5 +1,5 @@
 -- What one mark more makes of the rows: of the other streams it leaves what they had.
-use Rattle.std.proofs.Common.{◌≡◌, ◌≢◌, ℕ, Bool, true, false, not, ◌||◌, ◌&&◌, List, [], ◌∷◌, length, Some, None, refl, sym, ap, ◌∙◌, inl, inr}
+use Rattle.std.proofs.Common.{◌≡◌, ◌≢◌, ℕ, Bool, true, false, not, ◌||◌, ◌&&◌, List, [], ◌∷◌, length, refl, sym, ap, ◌∙◌, inl, inr}
 use Rattle.std.specs.Prelude.{◌==◌}
 use Rattle.std.proofs.lemmas.Bool.Decides.{eqb_tells}
 use Rattle.mux_outside.specs.declared.house.HouseReply.{HouseReply}
@@ -56,12 +56,6 @@ and-last false b e = true-false (sym e)
 -- where clients are accepted, they were accepted before
 pub log-listens : (set : Setting) (mark : Mark) (before : List Mark) → listens (log_of_journal set (mark ∷ before)) ≡ true → listens (log_of_journal set before) ≡ true
 log-listens set mark before = log-keeps (λ rows. listens rows ≡ true → listens (log_of_journal set before) ≡ true) (λ row rows h e. h (and-last (not (stops row (rows_of row.client rows))) (listens rows) e)) set mark before (λ e. e)
-
-live-row : (f : Fate) (row : Row) (rows : List Row) → row.fate ≡ f → end_of (row ∷ rows) ≡ None → end_of rows ≡ None
-live-row Goes row rows e h = rw e at h
-live-row Refused row rows e h = rw e at h
-live-row (Drop why) row rows e h = rw e at h
-live-row (End cause) row rows e h = let z : Some cause ≡ None = rw e at h in absurd (cc)
 
 -- ---- bytes that are taken
 

@@ -1,5 +1,5 @@
 -- The loops over streams that are offered what waits for them, and over clients that are closed.
-use Rattle.std.proofs.Common.{◌≡◌, ◌≢◌, ◌≤◌, ◌<◌, ◌+◌, ℕ, zero, suc, Bool, true, false, not, ◌||◌, List, [], ◌∷◌, ◌++◌, length, drop, Option, Some, None, refl, sym, ap, ◌∙◌, subst, inl, inr, ◌⊎◌, cond, arith}
+use Rattle.std.proofs.Common.{◌≡◌, ◌≢◌, ◌≤◌, ◌<◌, ◌+◌, ℕ, Bool, true, false, not, ◌||◌, List, [], ◌∷◌, ◌++◌, length, Option, Some, refl, sym, ap, ◌∙◌, subst, inl, inr, ◌⊎◌, cond, arith}
 use Rattle.std.specs.Prelude.{◌==◌, filter, Result, Ok, Err, IsErr}
 use Rattle.std.specs.List.{list_any}
 use Rattle.std.proofs.lemmas.Bool.{eq-eqb, eqb-true}
@@ -104,12 +104,6 @@ waits-open s t a = elim (eqb_tells 0 t) [
     by_server : (b : Bool) → (0 == t) ≡ false → among t (cond b (waiting_clients s.clients) (0 ∷ waiting_clients s.clients)) ≡ true → among t (waiting_clients s.clients) ≡ true
     by_server true e h = h
     by_server false e h = sym (ap (λ b. b || among t (waiting_clients s.clients)) e) ∙ h
-
-pub drop-all : (n : ℕ) (xs : List ℕ) → length xs ≤ n → drop n xs ≡ []
-drop-all zero [] le = refl
-drop-all (suc n) [] le = refl
-drop-all zero (x ∷ xs) le = absurd (omega arith)
-drop-all (suc n) (x ∷ xs) le = drop-all n xs (omega arith)
 
 -- the next stream comes before the server's
 pub next-first : {May : HouseReply → Type 0} {before now : Option (List Asked)} {policy : Policy} {pid : ℕ} {start : Option (List Mark)} {seen : Seen} {held : List ℕ} {given : ℕ} {s : State} (todo : List ℕ) (k : ℕ) (rest : List ℕ) → todo ≡ k ∷ rest
@@ -238,10 +232,6 @@ fewer k (l ∷ ls) f = let e : filter (λ (l : ℕ × Option Why). not (l.0 == k
 pub first-is : (k : ℕ) (why : Option Why) (ls : List (ℕ × Option Why)) → first_of ls ≡ Some (k, why) → IsFirst k ls
 first-is k why [] e = absurd (cc)
 first-is k why (l ∷ ls) e = let p : l ≡ (k, why) = cc in ap (λ (x : ℕ × Option Why). x.0) p
-
-pub first-none : (ls : List (ℕ × Option Why)) → first_of ls ≡ None → ls ≡ []
-first-none [] e = refl
-first-none (l ∷ ls) e = absurd (cc)
 
 -- ---- clients are accepted no more
 

@@ -1,10 +1,9 @@
 -- An engine is the same for a journal whether there was memory or not.
-use Rattle.std.proofs.Common.{◌≡◌, ℕ, Bool, true, false, List, ◌∷◌, ◌++◌, Option, Some, None, sym, ◌∙◌, subst}
+use Rattle.std.proofs.Common.{◌≡◌, ℕ, Bool, true, false, List, ◌∷◌, ◌++◌, Option, sym, subst}
 use Rattle.mux_outside.specs.House.{Asked}
 use Rattle.mux_outside.specs.declared.house.HouseReply.{HouseReply}
 use Rattle.mux_outside.specs.declared.mark.Mark.{Mark}
 use Rattle.mux_outside.specs.declared.mark.Mark.TheVariants.{Waits, Accepts, Gets, Ends, Frees, Fails, Takes, Holds, WriteFails}
-use Rattle.mux_history.specs.declared.ended.Ended.{Ended}
 use Rattle.mux_history.specs.Rows.{Row}
 use Rattle.mux_machine.specs.declared.event.Event.{Event}
 use Rattle.mux_machine.specs.Events.{EndsBy}
@@ -88,6 +87,3 @@ pub ends-shown : (parts s parts' t : State) (e : Event) (mark : Mark) → parts 
 ends-shown parts s parts' t e mark is is' h =
     subst (λ (x : State). EndsBy e x (fed false parts') mark) is
     (subst (λ (y : State). EndsBy e parts (fed false y) mark) (sym is') (λ picked given marks closed st al live. h picked given marks closed (stands-fed picked given parts true marks closed st) (allowed-fed parts true marks mark al) live))
-
-pub ends-over : (s : State) (e : Event) (mark : Mark) (cause : Ended) → s.ended ≡ Some cause → EndsBy e s s mark
-ends-over s e mark cause over picked given marks closed st al live = absurd (let z : None ≡ Some cause = sym live ∙ over in cc)

@@ -1,9 +1,8 @@
 -- What an engine keeps, where a stream is closed, bytes are taken or clients leave.
-use Rattle.std.proofs.Common.{◌≡◌, ◌≤◌, ℕ, Bool, true, false, not, ◌||◌, List, [], ◌∷◌, ◌++◌, length, map, Option, refl, sym, ap, ◌∙◌, inl, inr, cond, arith}
+use Rattle.std.proofs.Common.{◌≡◌, ◌≤◌, ℕ, Bool, true, false, not, ◌||◌, List, [], ◌∷◌, length, map, Option, refl, sym, ap, ◌∙◌, inl, inr, cond, arith}
 use Rattle.std.specs.Prelude.{◌==◌, filter}
 use Rattle.std.proofs.lemmas.Bool.{eq-eqb}
 use Rattle.std.proofs.lemmas.Bool.Decides.{eqb_tells}
-use Rattle.std.proofs.lemmas.List.Folds.{list_any-append}
 use Rattle.proxy_frames.specs.Queued.{without_first}
 use Rattle.mux_outside.specs.Streams.{among, without}
 use Rattle.mux_history.specs.declared.why.Why.{Why}
@@ -19,16 +18,6 @@ use Rattle.mux_machine.proofs.Takes.{Same, taken-same}
 
 abbrev pub listed : List (ℕ × Option Why) → List ℕ
 listed ls = map (λ (l : ℕ × Option Why). l.0) ls
-
-or-first : (a b : Bool) → a ≡ true → (a || b) ≡ true
-or-first a b e = ap (λ t. t || b) e
-
-or-last : (a b : Bool) → b ≡ true → (a || b) ≡ true
-or-last true b e = refl
-or-last false b e = e
-
-among-append : (k : ℕ) (is js : List ℕ) → among k (is ++ js) ≡ (among k is || among k js)
-among-append k is js = list_any-append (λ (i : ℕ). i == k) is js
 
 -- one less
 listed-less : (k : ℕ) (ls : List (ℕ × Option Why)) → listed (filter (λ (l : ℕ × Option Why). not (l.0 == k)) ls) ≡ without k (listed ls)

@@ -26,9 +26,6 @@ absent_waiting k (c ∷ cs) p = let q : (c.seat.number ≢ k) × (is_present cs 
 abbrev pub no_bytes : List ℕ
 no_bytes = []
 
-pub drop_none : (n : ℕ) → drop n no_bytes ≡ no_bytes
-drop_none n = grind (arith, common_steps)
-
 drop_empty : (n : ℕ) (q : List ℕ) → is_empty q ≡ true → is_empty (drop n q) ≡ true
 drop_empty n [] e = ap is_empty (drop_nothing n)
   where

@@ -6,11 +6,10 @@ use Rattle.ssh_grammar.specs.Frames.{Cut, cut, frame, Front, Frame, More, Faulty
 use Rattle.ssh_grammar.specs.IsFrame.{joined}
 use Rattle.ssh_grammar.proofs.Cuts.{Extends, first-extends, cut-at}
 use Rattle.ssh_grammar.proofs.Frames.{IsFirst, first-is}
-use Rattle.proxy_frames.specs.declared.next.Next.{Next}
 use Rattle.proxy_frames.specs.declared.next.Next.TheVariants as next
 use Rattle.proxy_frames.specs.State.{FramerState}
 use Rattle.proxy_frames.specs.Steps.{pushed, once_told, front_of, answer_to, after_front}
-use Rattle.proxy_frames.specs.History.{History, StandsFor, GoesOn, IsNext, HasTold, and_bytes, and_frame, and_fault, and_next, and_next_in, next_in, next_of, first_of, frame_next, cut_of, to_come}
+use Rattle.proxy_frames.specs.History.{History, StandsFor, GoesOn, HasTold, and_bytes, and_frame, and_fault, and_next, and_next_in, next_in, next_of, first_of, frame_next, cut_of, to_come}
 use Rattle.proxy_frames.proofs.Stands.{stands_by, to_come-is, fault-is, valid-and, joined-and}
 
 -- ---- more bytes
@@ -116,8 +115,3 @@ push-stands old new piece is h st = subst (StandsFor (and_bytes piece h)) (sym i
 
 pub next-stands : (old new : FramerState) → AreBytes old.rest → new ≡ after_front (front_of old) old → GoesOn old new and_next
 next-stands old new bytes is h st = subst (StandsFor (and_next h)) (sym is) (next-goes h old bytes st).stands
-
-pub next-given : (old new : FramerState) (answer : Next) → AreBytes old.rest → answer ≡ answer_to (front_of old) → new ≡ after_front (front_of old) old → IsNext old answer new
-next-given old new answer bytes is goes h st =
-    let all : Goes h old (front_of old) = next-goes h old bytes st in
-    (is ∙ all.answer, ap (λ (f : FramerState). f.current) goes ∙ all.current)
