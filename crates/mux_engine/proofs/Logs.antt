@@ -6,9 +6,8 @@ use Rattle.mux_outside.specs.declared.house.HouseReply.{HouseReply}
 use Rattle.mux_outside.specs.declared.mark.Mark.{Mark}
 use Rattle.mux_outside.specs.declared.mark.Mark.TheVariants.{Waits, Accepts, Gets, Ends, Frees, Fails, Takes, Holds, WriteFails}
 use Rattle.mux_history.specs.Policy.{Policy}
-use Rattle.mux_history.specs.Rows.{Row, rows_of, is_out, is_ended, loses, is_refusal, Item, Gone, Took, ServerFailed, Fate, Goes, Refused, Drop, End}
+use Rattle.mux_history.specs.Rows.{Row, rows_of, is_out, is_ended, loses, is_refusal, Item, Gone, Took, ServerFailed}
 use Rattle.mux_history.specs.Pending.{pending, pending_down, pending_up}
-use Rattle.mux_history.specs.Solo.{end_of}
 use Rattle.mux_history.specs.Steps.{TakeStep, take_row}
 use Rattle.mux_history.specs.Settings.{by_lists}
 use Rattle.mux_history.specs.Log.{Setting, makes_next, more_all, more_of, next_row}
