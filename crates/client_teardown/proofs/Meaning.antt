@@ -83,7 +83,6 @@ none-same (Some m) (Some n) h = refl
 same-cancel : (f : Forward) (g : Forwarding) → kept.Fits f g → cancel_of f ≡ leave_forwarding g
 same-cancel f g fits = by_live g.live refl
   where
-
     never : (b : Bool) → [] ≡ elim b as (λ _. List (List ℕ)) [ true ↦ [] | false ↦ [] ]
     never true = refl
     never false = refl

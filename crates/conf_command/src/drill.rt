@@ -19,10 +19,7 @@ fn drill_number(word: u64, low: u64, high: u64, text: &[u8]) -> Result<u64, Usag
 }
 
 /// The drill of three numbers, behind which no word may stand.
-#[tactic(
-    auto,
-    unfolding(conf_rules::specs::Reading::drill_of, conf_rules::specs::Reading::seed_limit)
-)]
+#[tactic(auto, unfolding(conf_rules::specs::Reading::drill_of, conf_rules::specs::Reading::seed_limit))]
 fn drill_with(
     seed: &[u8],
     clients: &[u8],

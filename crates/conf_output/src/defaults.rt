@@ -7,10 +7,7 @@ use conf_options::Key;
 
 /// The text that is listed for a key that isn't set. User and Hostname have a default of their own
 /// besides.
-#[tactic(
-    auto,
-    unfolding(conf_rules::specs::Kinds::default_of, conf_rules::specs::Numbers::digits_of)
-)]
+#[tactic(auto, unfolding(conf_rules::specs::Kinds::default_of, conf_rules::specs::Numbers::digits_of))]
 pub fn default_text(key: Key) -> Option<&'static [u8]>
     ensures { text_list (option_copied result) ≡ default_texts key }
 {

@@ -34,7 +34,6 @@ pub record ActsOn (way : Side) (a : Act) (old new : Ledger) (over : Bool) : Type
 pub held-after : (way : Side) (a : Act) (x : Channel) → is_fails a ≡ false → is_held x ≡ true → is_held (with_act way a x) ≡ not (both_closed (with_act way a x))
 held-after way a x fine held = by_fails (any_act is_fails x.acts) refl
   where
-
     by_fails : (b : Bool) → any_act is_fails x.acts ≡ b → is_held (with_act way a x) ≡ not (both_closed (with_act way a x))
     by_fails true e = absurd (let c : is_held x ≡ false = rw (e, is_held) refl in let d = sym held ∙ c in cc)
     by_fails false e = ap (λ b. not ((b || any_act is_fails x.acts) || both_closed (with_act way a x))) fine ∙ ap (λ b. not (b || both_closed (with_act way a x))) e

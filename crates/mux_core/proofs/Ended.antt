@@ -84,7 +84,6 @@ kept-settled k place rank own [] (g ∷ gs) known = absurd known
 kept-settled k place rank own (f ∷ fs) [] known = absurd known
 kept-settled k place rank own (f ∷ fs) (g ∷ gs) known = by_test (kept-settled k place rank own fs gs known.1) (leaves_at k place g) refl
   where
-
     same : is_cancelled_at k rank f ≡ leaves_at k place g
     same = same-cancelled k place rank own f g known.0
 
@@ -99,7 +98,6 @@ ended-after : (k place : ℕ) (rest : List ℕ) (key : Key) (own : ℕ → Place
 ended-after k place rest key own [] asked waits on = refl
 ended-after k place rest key own (g ∷ gs) asked waits on = by_test (ended-after k place rest key own gs asked waits.1 on.1) (g.client == k) refl (is_number g.cancel place) refl
   where
-
     at : (b : Bool) → leaves_at k place g ≡ b → kept_by (marks k place (g ∷ gs)) (map (released k place) (g ∷ gs)) ≡ elim (not b) as (λ _. List Forwarding) [ true ↦ released k place g ∷ kept_by (marks k place gs) (map (released k place) gs) | false ↦ kept_by (marks k place gs) (map (released k place) gs) ]
     at b h = ap (λ (c : Bool). elim (not c) as (λ _. List Forwarding) [ true ↦ released k place g ∷ kept_by (marks k place gs) (map (released k place) gs) | false ↦ kept_by (marks k place gs) (map (released k place) gs) ]) h
 

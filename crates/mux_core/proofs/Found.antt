@@ -38,7 +38,6 @@ pub find-filter : {X : Type 0} (p q : X → Bool) (xs : List X) → find q (filt
 find-filter p q [] = refl
 find-filter {X} p q (x ∷ xs) = by_case (find-filter p q xs) (p x) refl (q x) refl
   where
-
     by_case : find q (filter p xs) ≡ find (λ x. p x && q x) xs → (b : Bool) → p x ≡ b → (c : Bool) → q x ≡ c → find q (filter p (x ∷ xs)) ≡ find (λ y. p y && q y) (x ∷ xs)
     by_case ih true h true t = ap (find q) (filter-yes p x xs h) ∙ (find-yes q x (filter p xs) t ∙ sym (find-yes (λ y. p y && q y) x xs (ap (λ b. b && q x) h ∙ t)))
     by_case ih true h false t = ap (find q) (filter-yes p x xs h) ∙ (find-no q x (filter p xs) t ∙ (ih ∙ sym (find-no (λ y. p y && q y) x xs (ap (λ b. b && q x) h ∙ t))))

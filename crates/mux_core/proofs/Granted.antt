@@ -104,7 +104,6 @@ granted-listed k place rest key own [] (g ∷ gs) listed waits two at asked ther
 granted-listed k place rest key own (f ∷ fs) [] listed waits two at asked there = absurd listed
 granted-listed k place rest key own (f ∷ fs) (g ∷ gs) listed waits two at asked there = by_case (granted-listed k place rest key own fs gs listed.1 waits.1 two.1 at asked) (g.client == k) refl (is_none g.live) refl (g.request == place) refl
   where
-
     passes : (b c d : Bool) → (g.client == k) ≡ b → is_none g.live ≡ c → (g.request == place) ≡ d → asks_at k place g ≡ (b && (c && d))
     passes b c d p q r = ap (λ x. x && (is_none g.live && (g.request == place))) p ∙ (ap (λ x. b && (x && (g.request == place))) q ∙ ap (λ x. b && (c && x)) r)
 

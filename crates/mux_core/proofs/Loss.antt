@@ -115,7 +115,6 @@ others-stay : (k j : ℕ) → (k == j) ≡ false → (gs : List Forwarding) → 
 others-stay k j apart [] = refl
 others-stay k j apart (g ∷ gs) = by_case (others-stay k j apart gs) (g.client == j) refl (g.client == k) refl
   where
-
     clash : (a : ℕ) → (a == j) ≡ true → (a == k) ≡ true → (k == j) ≡ false → ⊥
     clash a p q r = grind (arith, nat_tests)
 

@@ -73,7 +73,6 @@ few-append k e es room few = by_case (is_of k e) refl
 pub free-held : (s : CoreState) (n : ℕ) (rows : List Row) → Stands s rows → IsFree s.channels n → holder rows n ≡ None
 free-held s n rows st free = by_found (holder rows n) refl fit
   where
-
     narrow : (e : Entry) → is_number (shown_number e) n ≡ true → is_at n e ≡ true
     narrow e h = by_shown (is_shown e.channel) h
       where

@@ -46,7 +46,6 @@ awaited-after k key own own' (g ∷ gs) next asked waits = (awaited-released k k
 two-after : (k place : ℕ) (a b : Forwarding) → AreTwo a b → AreTwo (released k place a) (released k place b)
 two-after k place a b two = by_tests (leaves_at k place a) (leaves_at k place b)
   where
-
     by_tests : (x y : Bool) → AreTwo (elim x as (λ _. Forwarding) [ true ↦ record a { cancel = None } | false ↦ a ]) (elim y as (λ _. Forwarding) [ true ↦ record b { cancel = None } | false ↦ b ])
     by_tests true true = record { asked = two.asked; leaving = λ q s c d. absurd (let x : None ≡ Some q = c in cc) }
     by_tests true false = record { asked = two.asked; leaving = λ q s c d. absurd (let x : None ≡ Some q = c in cc) }

@@ -73,7 +73,6 @@ number-same k c = elim (c.number == k) as (λ b. (elim b as (λ _. ClientState) 
 pub client-more : (k : ℕ) (p : List ℕ) (what : Global) (rows : List Row) (c : ClientState) → read_gist p ≡ Ok (Requests what true) → ClientFits (look rows) c → ClientFits (look (request_row k p ∷ rows)) (awaits k c)
 client-more k p what rows c e fits = by_number (c.number == k) refl (k == c.number) refl
   where
-
     after-own : (j : ℕ) → (k == j) ≡ true → rows_of j (request_row k p ∷ rows) ≡ request_row k p ∷ rows_of j rows
     after-own j h = own_row j (request_row k p) rows h
 

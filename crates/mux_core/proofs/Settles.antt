@@ -180,7 +180,6 @@ known-settle s k known elsewhere = by_left (has_left s k) refl
 pub listed : (j : ℕ) (m : ℕ → Bool) (js : List ℕ) (cs : List ClientState) → map (λ (c : ClientState). c.number) cs ≡ filter m js → is_known cs j ≡ true → m j ≡ true
 listed j m js cs e known = within (filter m js) (passing js) (sym (any-map cs) ∙ known ∙ refl) e
   where
-
     passing : (is : List ℕ) → AllByRecursion (λ i. m i ≡ true) (filter m is)
     passing [] = tt
     passing (i ∷ is) = by_case (passing is) (m i) refl

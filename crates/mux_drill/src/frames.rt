@@ -167,11 +167,7 @@ fn first_u32(bytes: &[u8]) -> u32
 }
 
 /// The sender's number in an open of a session, 0 where too few bytes are there.
-#[tactic(
-    auto,
-    using(std::proofs::lemmas::List::drop_min),
-    unfolding(crate::specs::Frames::opener_in)
-)]
+#[tactic(auto, using(std::proofs::lemmas::List::drop_min), unfolding(crate::specs::Frames::opener_in))]
 pub fn opener_in(bytes: &[u8]) -> u32
     ensures { result ≡ opener_in bytes.now }
 {

@@ -11,10 +11,7 @@ pub struct Message {
 
 impl Message {
     /// The message of a number, the i-th from 0 on.
-    #[tactic(
-        auto,
-        unfolding(crate::specs::Generator::length_of, crate::specs::Generator::client_of)
-    )]
+    #[tactic(auto, unfolding(crate::specs::Generator::length_of, crate::specs::Generator::client_of))]
     pub fn of(clients: u64, x: u64, i: u64) -> Message
         requires some { 1 ≤ clients }
         requires few { clients ≤ 64 }

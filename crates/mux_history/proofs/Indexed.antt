@@ -24,7 +24,6 @@ find-kept : (k s : ℕ) (test : Channel → Bool) (xs : List Channel) → AllApa
 find-kept k s test [] apart = refl
 find-kept k s test (x ∷ xs) apart = by_all (find-kept k s test xs apart.1) (x.client == k) refl (is_held x) refl (is_number x.remote s) refl (test x) refl
   where
-
     others : is_held x ≡ true → is_number x.remote s ≡ true → find (λ y. is_number y.remote s && test y) (filter is_held (filter (is_of k) xs)) ≡ None
     others held has = none-passes s test (filter (is_of k) xs) (each-filter k (NotLive s) xs (each-of (ApartFrom x) (NotLive s) (λ y a h. a.remotes held h s has) xs apart.0))
 

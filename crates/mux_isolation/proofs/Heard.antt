@@ -34,7 +34,6 @@ down-some (Open what s w max) n c x some meets = cc
 pub heard-alone : (before : List Row) (p : List ℕ) (x : Channel) → Named before p x → heard_by (item_for before (Heard p)) (own_numbered x) ≡ own_numbered (heard_by (Heard p) x)
 heard-alone before p x named = by_case (read_gist p) refl
   where
-
     by_some : (m : Gist) → read_gist p ≡ Ok m → (o : Option ℕ) → recipient_of m ≡ o → reading (renamed before p o) (λ m. with_down m (own_numbered x)) (own_numbered x) ≡ own_numbered (with_down m x)
     by_some m reads None none = reading-ok p m (λ m. with_down m (own_numbered x)) (own_numbered x) reads ∙ (down-none m (own_numbered x) none ∙ sym (ap own_numbered (down-none m x none)))
     by_some m reads (Some n) some =

@@ -37,7 +37,7 @@ own_act_breach (Data size) own = while_speaking own.speech (packet_breach own.ma
 own_act_breach Eof own = while_speaking own.speech None
 own_act_breach (Request true) own =
     elim (nat_lt own.unanswered MAX_CHANNEL_REQUESTS)
-      [ true ↦ None | false ↦ Some (TooManyAsks own.unanswered) ]
+    [ true ↦ None | false ↦ Some (TooManyAsks own.unanswered) ]
 own_act_breach _ own = None
 
 abbrev pub own_breach : Act → Account → Option Breach

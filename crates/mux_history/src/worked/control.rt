@@ -31,7 +31,7 @@ pub fn another_version_is_dropped()
 pub fn a_session_with_descriptors_is_refused()
     ensures down { told 1 (run session_with_descriptors)
         ≡ hello ++ (hex (codes "00000029 80000003 00000005 0000001d")
-            ++ codes "descriptors are not supported") }
+        ++ codes "descriptors are not supported") }
     ensures loss { losses (run session_with_descriptors) ≡ [] }
 {}
 
@@ -50,7 +50,7 @@ pub fn an_alive_check_has_an_id()
 pub fn an_unknown_type_is_refused()
     ensures down { told 1 (run unknown_types)
         ≡ hello ++ (hex (codes "0000001f 80000003 00000009 00000013")
-            ++ codes "unsupported request") }
+        ++ codes "unsupported request") }
     ensures loss { losses (run unknown_types)
         ≡ (2, Some (why.BadControl (bad.Unknown 268435466 None))) ∷ [] }
 {}
@@ -61,7 +61,7 @@ pub fn the_house_is_asked_in_order()
         ≡ hello ++ hex (codes "0000000c 80000007 00000001 00009c41 00000008 80000001 00000002") }
     ensures refused { told 1 (run forward_asks)
         ≡ hello ++ (hex (codes "00000026 80000003 00000001 0000001a")
-            ++ (codes "forwardings are not served"
-            ++ (hex (codes "00000026 80000003 00000002 0000001a")
-            ++ codes "forwardings are not served"))) }
+        ++ (codes "forwardings are not served"
+        ++ (hex (codes "00000026 80000003 00000002 0000001a")
+        ++ codes "forwardings are not served"))) }
 {}

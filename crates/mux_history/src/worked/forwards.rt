@@ -45,7 +45,7 @@ pub fn a_forwarding_is_cancelled_once()
     ensures down { told_in_proxy 1 (run cancelled_twice) ≡ bound_to 40001 ++ (success ++ failure) }
     ensures up { drop 64 (sent (run cancelled_twice))
         ≡ cancels 40001 ++ (hex (codes "0000001f 00 5c 0000000c 00000001 0000000d")
-            ++ (codes "not permitted" ++ hex (codes "00000000"))) }
+        ++ (codes "not permitted" ++ hex (codes "00000000"))) }
 {}
 
 /// A cancel that the server refuses after its client is lost is said again by the master.

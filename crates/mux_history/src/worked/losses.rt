@@ -16,7 +16,7 @@ pub fn the_master_says_farewell_for_a_lost_client()
         ≡ hex (codes "00000006 00 61 00000008") }
     ensures success { drop 110 (sent (run late_success))
         ≡ hex (codes "00000023 00 50 00000014") ++ (codes "cancel-tcpip-forward"
-            ++ hex (codes "00 00000000 00009c41")) }
+        ++ hex (codes "00 00000000 00009c41")) }
     ensures before { open_matters (run late_success) ≡ 1 }
     ensures after { open_matters (run all_closed) ≡ 0 }
 {}
@@ -25,8 +25,8 @@ pub fn the_master_says_farewell_for_a_lost_client()
 pub fn a_farewell_has_an_order()
     ensures { drop 54 (sent (run leaves_opens))
         ≡ hex (codes "00000006 00 61 00000003 00000020 00 5c 00000004 00000002 0000000e")
-            ++ (codes "client is gone" ++ (hex (codes "00000000 00000023 00 50 00000014")
-            ++ (codes "cancel-tcpip-forward" ++ hex (codes "00 00000000 00001f90")))) }
+        ++ (codes "client is gone" ++ (hex (codes "00000000 00000023 00 50 00000014")
+        ++ (codes "cancel-tcpip-forward" ++ hex (codes "00 00000000 00001f90")))) }
 {}
 
 /// A client that comes while 64 have open matters is refused, also where one of them is lost.

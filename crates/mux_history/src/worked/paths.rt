@@ -35,11 +35,11 @@ pub fn a_port_permits_no_path()
 pub fn a_path_permits_no_port()
     ensures up { sent (run_of (under a_port_and_a_path 0 []) opens_both)
         ≡ hex (codes "0000003e 00 5a 0000001e") ++ (codes "direct-streamlocal@openssh.com"
-            ++ (hex (codes "00000000 00200000 00008000 00000002") ++ (codes "/s"
-            ++ hex (codes "00000000 00000000")))) }
+        ++ (hex (codes "00000000 00200000 00008000 00000002") ++ (codes "/s"
+        ++ hex (codes "00000000 00000000")))) }
     ensures down { told_in_proxy 1 (run_of (under a_port_and_a_path 0 []) opens_both)
         ≡ hex (codes "0000001f 00 5c 00000005 00000001 0000000d") ++ (codes "not permitted"
-            ++ hex (codes "00000000")) }
+        ++ hex (codes "00000000")) }
 {}
 
 /// The same bytes as an address are another key: only the cancel of the path takes it away.
@@ -47,5 +47,5 @@ pub fn a_path_is_no_address()
     ensures down { told_in_proxy 1 (run namesake_cancelled) ≡ success ++ (failure ++ success) }
     ensures up { sent (run namesake_cancelled)
         ≡ asks_path ++ (cancels_path ++ (hex (codes "0000001f 00 5c 00000009 00000001 0000000d")
-            ++ (codes "not permitted" ++ hex (codes "00000000")))) }
+        ++ (codes "not permitted" ++ hex (codes "00000000")))) }
 {}

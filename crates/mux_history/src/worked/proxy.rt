@@ -34,7 +34,7 @@ pub fn a_confirmation_reaches_its_client()
 pub fn data_past_the_window_drops_its_client()
     ensures up { sent_after_two (run past_window)
         ≡ hex (codes "0000000f 00 5e 00000005 00000005") ++ (codes "hello"
-            ++ hex (codes "00000006 00 61 00000005")) }
+        ++ hex (codes "00000006 00 61 00000005")) }
     ensures loss { losses (run past_window)
         ≡ (2, Some (why.Channel 5 (breach.PastWindow 0 1))) ∷ [] }
 {}
@@ -55,7 +55,7 @@ pub fn a_closed_channel_takes_nothing()
     ensures nobody { end_of (run data_to_nobody) ≡ Some (ended.Broke 3 (broke.NoChannel 1)) }
     ensures again { sent_after_two (run_of again_setting data_too_early)
         ≡ hex (codes "00000006 00 61 00000005") ++ (hex (codes "00000019 00 5a 00000007")
-            ++ (codes "session" ++ hex (codes "00000001 00200000 00008000"))) }
+        ++ (codes "session" ++ hex (codes "00000001 00200000 00008000"))) }
     ensures unconfirmed { end_of (run_of again_setting data_too_early)
         ≡ Some (ended.Broke 3 (broke.Channel 1 breach.NotOpen)) }
 {}
@@ -72,7 +72,7 @@ pub fn a_foreign_channel_takes_nothing()
 pub fn a_direct_channel_needs_its_permission()
     ensures down { told_in_proxy 1 (run_of (under database_only 0 []) opens_directly)
         ≡ hex (codes "0000001f 00 5c 00000004 00000001 0000000d") ++ (codes "not permitted"
-            ++ hex (codes "00000000")) }
+        ++ hex (codes "00000000")) }
     ensures up { sent (run_of (under database_only 0 []) opens_directly) ≡ to_database 0 }
 {}
 
@@ -80,7 +80,7 @@ pub fn a_direct_channel_needs_its_permission()
 pub fn an_unknown_channel_type_is_refused()
     ensures down { told_in_proxy 1 (run opens_display)
         ≡ hex (codes "00000026 00 5c 00000004 00000003 00000014") ++ (codes "unknown channel type"
-            ++ hex (codes "00000000")) }
+        ++ hex (codes "00000000")) }
     ensures up { sent (run opens_display) ≡ [] }
 {}
 
