@@ -12,6 +12,8 @@ mod breaks;
 #[cfg(test)]
 mod control_messages;
 #[cfg(test)]
+mod dialogs;
+#[cfg(test)]
 mod fields;
 #[cfg(test)]
 mod frames;

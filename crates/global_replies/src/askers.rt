@@ -4,6 +4,8 @@ ghost use Rattle.global_replies.specs.Replies.{asked_of, request_of, FirstAsked,
 ghost use Rattle.global_replies.specs.Stands.{AskGoesOn, ReplyGoesOn};
 
 use crate::ask::{Ask, Asked, MOST_WAITING};
+use crate::tally::{add_one, count_of, drop_one};
+use indexmap::IndexMap;
 use ssh_fields::OutOfMemory;
 use std::alloc::Global;
 use std::collections::VecDeque;
@@ -14,19 +16,21 @@ use std::marker::Model;
 #[derive(Drop)]
 pub struct Askers {
     waiting: VecDeque<Asked>,
+    /// How many of them each client has, of those that have any.
+    counts: IndexMap<u64, u32>,
 }
 
 impl Model for Askers {
-    ghost use Rattle.std.specs.Prelude.{List, map, length, ◌≤◌};
+    ghost use Rattle.std.specs.Prelude.{List, map};
     ghost use Rattle.mux_history.specs.Requests.{Ask};
     ghost use Rattle.global_replies.specs.Replies.{asked_of};
-    ghost use Rattle.global_replies.specs.declared.ask.TheConstants.{MOST_WAITING};
+    ghost use Rattle.global_replies.specs.Tally.{IsTally};
 
     ghost Value = { List Ask };
 
     ghost view = { λ a. map asked_of a.waiting.items };
 
-    ghost invariant = { λ a. length a.waiting.items ≤ MOST_WAITING };
+    ghost invariant = { λ a. IsTally a.counts a.waiting.items };
 }
 
 impl Askers {
@@ -36,6 +40,7 @@ impl Askers {
     {
         Askers {
             waiting: VecDeque::new(alloc),
+            counts: IndexMap::new(alloc),
         }
     }
 
@@ -50,7 +55,11 @@ impl Askers {
         if self.waiting.len() >= MOST_WAITING {
             return Err(OutOfMemory);
         }
-        self.waiting.push_back(Asked { client, what })?;
+        add_one(&mut self.counts, client)?;
+        if self.waiting.push_back(Asked { client, what }).is_err() {
+            drop_one(&mut self.counts, client);
+            return Err(OutOfMemory);
+        }
         Ok(())
     }
 
@@ -63,6 +72,7 @@ impl Askers {
         ensures short { IfSome result (λ a. IsShort a.1) }
     {
         let asked = self.waiting.pop_front()?;
+        drop_one(&mut self.counts, asked.client);
         Some((asked.client, asked.what))
     }
 
@@ -70,21 +80,6 @@ impl Askers {
     pub fn count(&self, client: u64) -> u32
         ensures { result ≡ length (filter (is_of client) self.now) }
     {
-        let (front, back) = self.waiting.as_slices();
-        count_in(front, client) + count_in(back, client)
+        count_of(&self.counts, client)
     }
-}
-
-fn count_in(waiting: &[Asked], client: u64) -> u32
-    requires { length waiting.now ≤ MOST_WAITING }
-    ensures exact { result ≡ length (filter (is_of client) (map asked_of waiting.now)) }
-    ensures few { result ≤ length waiting.now }
-{
-    let mut count = 0;
-    for asked in waiting {
-        if asked.client == client {
-            count += 1;
-        }
-    }
-    count
 }

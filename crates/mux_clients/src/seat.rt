@@ -110,6 +110,9 @@ impl Seat {
         ensures full { IfOk result (λ full. full ≡ full_of (refusals_of refusals) self.old) }
         ensures stays { self.new.standing ≡ self.old.standing }
     {
+        if refusals == 0 {
+            return Ok(None);
+        }
         let refusal = request_failure();
         let mut left = refusals;
         while left > 0 {

@@ -1,4 +1,5 @@
-ghost use Rattle.std.specs.Prelude.{◌≡◌, ◌↔◌, ◌+◌, ◌<◌, length, IsSome, Some, OnOk, OnErr};
+ghost use Rattle.std.specs.Prelude.{◌≡◌, ◌↔◌, ◌+◌, ◌<◌, ◌≤◌, length, drop, IsSome, Some, OnOk, OnErr};
+ghost use Rattle.std.specs.Vec.{vec_capacity};
 ghost use Rattle.std.specs.Borrow.{Lends, Array, sem, u8};
 ghost use Rattle.ssh_grammar.specs.declared.fault.BadFrame.{BadFrame};
 ghost use Rattle.proxy_frames.specs.contracts.framer.Framer.{the_row};
@@ -62,7 +63,7 @@ impl Framer {
         self.current = None;
         // What is gone already is dropped where it is half of all or more.
         if self.bytes.len() - self.at <= self.at {
-            let _ = self.bytes.drain(..self.at);
+            remove_front(&mut self.bytes, self.at);
             self.at = 0;
         }
         self.bytes.extend_from_slice(piece)?;
@@ -138,4 +139,15 @@ impl Framer {
     {
         self.bytes.len() - self.at
     }
+}
+
+// Drops so many first bytes. The others are moved down once, and the room stays.
+fn remove_front(bytes: &mut Vec<u8>, n: usize)
+    requires { n ≤ length bytes.old.items }
+    ensures items { bytes.new.items ≡ drop n bytes.old.items }
+    ensures capacity { vec_capacity bytes.new ≡ vec_capacity bytes.old }
+{
+    let len = bytes.len();
+    bytes.copy_within(n..len, 0);
+    bytes.truncate(len - n);
 }

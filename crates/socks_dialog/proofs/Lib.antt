@@ -1,0 +1,5 @@
+pub mod Fields
+pub mod Dialogs
+pub mod Kept
+pub mod Few
+pub mod Stand

@@ -1,0 +1,125 @@
+-- What contracts see of a dialog, and what it stands for.
+use Rattle.std.specs.Prelude.{◌≡◌, ℕ, ◌+◌, ◌-◌, ◌≤◌, Bool, true, false, List, [], ◌∷◌, ◌++◌, length, take, drop, slice_index}
+use Rattle.socks_dialog.specs.Socks.{Dialog, socks}
+use Rattle.socks_dialog.specs.declared.outcome.Outcome.{Outcome}
+use Rattle.socks_dialog.specs.declared.outcome.Outcome.TheVariants.{Wants, Connects, Breaks}
+use Rattle.socks_dialog.specs.declared.step.Step.{Step}
+use Rattle.socks_dialog.specs.declared.step.Step.TheVariants as step
+
+-- the bytes of the dialog so far, and how many of its replies were given
+pub record State : Type 0 where
+  pub bytes : List ℕ
+  pub given : ℕ
+
+-- how many replies were given
+abbrev pub count_given : Bool → ℕ
+count_given true = 1
+count_given false = 0
+
+-- of all bytes, those of the dialog
+abbrev pub dialog_bytes : List ℕ → List ℕ
+dialog_bytes bytes = take (length bytes - length (socks bytes).rest) bytes
+
+-- as many bytes are kept as are counted, and none behind the dialog
+pub record IsWithin (kept : ℕ) (bytes : List ℕ) : Type 0 where
+  pub most : kept ≤ 520
+  pub none : (socks bytes).rest ≡ []
+
+-- ---- calls
+
+-- no byte came
+abbrev pub new_dialog : State
+new_dialog = record { bytes = []; given = 0 }
+
+-- after more bytes
+abbrev pub pushed : List ℕ → State → State
+pushed piece d = record d { bytes = dialog_bytes (d.bytes ++ piece) }
+
+-- the outcome as a step
+abbrev pub step_to : Outcome → Step
+step_to Wants = step.More
+step_to (Connects host port) = step.Connect host port
+step_to (Breaks reply) = step.Bad reply
+
+-- the first reply that wasn't given, and after the last one the outcome
+abbrev pub step_in : List (List ℕ) → Outcome → Step
+step_in (reply ∷ more) outcome = step.Reply reply
+step_in [] outcome = step_to outcome
+
+-- how many replies are given by that step
+abbrev pub gives_in : List (List ℕ) → ℕ
+gives_in (reply ∷ more) = 1
+gives_in [] = 0
+
+-- the replies that weren't given
+abbrev pub to_give : ℕ → Dialog → List (List ℕ)
+to_give given d = drop given d.replies
+
+abbrev pub step_of : State → Step
+step_of d = step_in (to_give d.given (socks d.bytes)) (socks d.bytes).outcome
+
+abbrev pub stepped : State → State
+stepped d = record d { given = d.given + gives_in (to_give d.given (socks d.bytes)) }
+
+-- this end was given
+abbrev pub IsConnect : Outcome → Type 0
+IsConnect Wants = ⊥
+IsConnect (Connects host port) = Unit {0}
+IsConnect (Breaks reply) = ⊥
+
+abbrev pub HasConnect : State → Type 0
+HasConnect d = IsConnect (socks d.bytes).outcome
+
+-- a step gives it
+abbrev pub GivesConnect : Step → Type 0
+GivesConnect (step.Connect host port) = Unit {0}
+GivesConnect step.More = ⊥
+GivesConnect (step.Reply reply) = ⊥
+GivesConnect (step.Bad reply) = ⊥
+
+-- the version that the dialog began with
+abbrev pub version_of : State → ℕ
+version_of d = slice_index d.bytes 0
+
+-- ---- over all that came
+
+-- all bytes of the client, what follows the dialog too, and the replies that were given
+pub record History : Type 0 where
+  pub bytes : List ℕ
+  pub given : List (List ℕ)
+
+abbrev pub new_history : History
+new_history = record { bytes = []; given = [] }
+
+-- more bytes came
+abbrev pub and_bytes : List ℕ → History → History
+and_bytes piece h = record h { bytes = h.bytes ++ piece }
+
+-- what comes next: the first reply that wasn't given, and after the last one the outcome
+abbrev pub next_of : History → Step
+next_of h = step_in (to_give (length h.given) (socks h.bytes)) (socks h.bytes).outcome
+
+-- a reply was given by this step, or none
+abbrev pub and_step : Step → History → History
+and_step (step.Reply reply) h = record h { given = h.given ++ reply ∷ [] }
+and_step _ h = h
+
+-- the dialog is that of all bytes, and the replies given are its first ones
+pub record StandsFor (h : History) (d : State) : Type 0 where
+  pub bytes : d.bytes ≡ dialog_bytes h.bytes
+  pub given : h.given ≡ take d.given (socks h.bytes).replies
+  pub some : d.given ≤ length (socks h.bytes).replies
+
+-- of each history that it stood for before a call, it stands afterwards for what that became
+abbrev pub GoesOn : State → State → (History → History) → Type 0
+GoesOn old new event = (h : History) → StandsFor h old → StandsFor (event h) new
+
+-- of each history that it stood for, this is what comes next
+abbrev pub IsNext : State → Step → Type 0
+IsNext old answer = (h : History) → StandsFor h old → answer ≡ next_of h
+
+-- of each history that it stood for, what follows the dialog is what followed it, and then these
+-- bytes but for so many
+abbrev pub RestIs : State → List ℕ → ℕ → Type 0
+RestIs old piece taken = (h : History) → StandsFor h old
+    → (socks (h.bytes ++ piece)).rest ≡ (socks h.bytes).rest ++ drop taken piece

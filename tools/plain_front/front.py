@@ -1,0 +1,201 @@
+"""The listener at FRONT, who is in, and the master at CONTROL."""
+
+import contextlib
+import errno
+import os
+import selectors
+import signal
+import socket
+import struct
+import sys
+import time
+from typing import Callable, NoReturn, Optional
+
+from plain_front.caller import Caller
+from plain_front.channel import Session
+from plain_front.protocol import MUX_VERSION, Mux, reason, uint32
+from plain_front.streams import Loop
+
+# More clients wait before they are let in: each has up to seven descriptors here, of 1,024 in all.
+MOST_CLIENTS = 128
+
+# How long to wait for a master's hello, and before the next try where the machine is out of means.
+HELLO_SECONDS = 10
+PAUSE_SECONDS = 0.1
+
+ENDING_SIGNALS = (signal.SIGHUP, signal.SIGINT, signal.SIGTERM)
+
+
+def say(text: str) -> None:
+    # The terminal or the log of the one who started this may be gone.
+    with contextlib.suppress(OSError, ValueError):
+        print(f"plain-front: {text}", file=sys.stderr, flush=True)
+
+
+def fail(text: str) -> NoReturn:
+    say(text)
+    sys.exit(1)
+
+
+def handle(number: int, handler: Callable[[int, object], None]) -> None:
+    """Handles a signal, unless whoever started this wants it ignored, as nohup does."""
+    if signal.getsignal(number) != signal.SIG_IGN:
+        signal.signal(number, handler)
+
+
+class Front:
+    """The listener at FRONT, and who is in."""
+
+    def __init__(self, control: str, path: str):
+        self.control, self.path = control, path
+        self.loop = Loop()
+        self.callers: set[Caller] = set()
+        self.accepted = 0
+        self.status: Optional[int] = None
+        self.listener: Optional[socket.socket] = None
+        self.identity: Optional[tuple[int, int]] = None
+        self.signals = socket.socketpair()
+
+    def reach_master(self) -> socket.socket:
+        """A connection to the master. One that is gone for good won't be missed twice."""
+        stream = socket.socket(socket.AF_UNIX)
+        try:
+            # A master that is too busy to accept must not hold up the others' sessions.
+            stream.setblocking(False)
+            stream.connect(self.control)
+            return stream
+        except OSError as error:
+            stream.close()
+            if error.errno in (errno.ENOENT, errno.ECONNREFUSED):
+                self.stop_listening()
+            raise
+
+    def watch_master(self) -> None:
+        """Looks whether a master is at CONTROL, and has the loop see its end.
+
+        Its process is looked at, since a client that only waits would take a place of another one.
+        """
+        try:
+            stream = self.reach_master()
+            with stream:
+                stream.settimeout(HELLO_SECONDS)
+                hello = stream.recv(12, socket.MSG_WAITALL)
+                pid, _, _ = peer_of(stream)
+        except OSError as error:
+            fail(f"no master at {self.control}: {reason(error)}")
+        if hello[4:] != uint32(Mux.HELLO, MUX_VERSION):
+            fail(f"no master at {self.control}: it lets nobody in, or says another hello")
+        # A master that put itself into the background after it began to listen isn't seen.
+        with contextlib.suppress(OSError):
+            process = os.pidfd_open(pid)
+            self.loop.watch(process, selectors.EVENT_READ, lambda _: self.on_master_end(process))
+
+    def on_master_end(self, process: int) -> None:
+        self.loop.forget(process)
+        self.stop_listening()
+
+    def watch_signals(self) -> None:
+        told, tells = self.signals
+        tells.setblocking(False)
+        signal.set_wakeup_fd(tells.fileno(), warn_on_full_buffer=False)
+        for number in (signal.SIGWINCH, *ENDING_SIGNALS):
+            handle(number, lambda _number, _frame: None)
+
+        def on_signals(_events: int) -> None:
+            for number in set(told.recv(1024)):
+                self.on_signal(number)
+
+        self.loop.watch(told.fileno(), selectors.EVENT_READ, on_signals)
+
+    def on_signal(self, number: int) -> None:
+        if number != signal.SIGWINCH:
+            self.end_all()
+            self.status = 128 + number
+            return
+        for caller in list(self.callers):
+            if isinstance(caller.channel, Session):
+                caller.channel.on_resize()
+
+    def listen(self) -> None:
+        """Makes FRONT, which only this user can reach. The path appears once it listens."""
+        self.listener, name = socket.socket(socket.AF_UNIX), f"{self.path}.{os.getpid()}"
+        mask = os.umask(0o177)
+        try:
+            self.listener.bind(name)
+            try:
+                self.listener.listen(64)
+                self.identity = identity(name)
+                # Unlike a renaming this fails where something stands there already.
+                os.link(name, self.path)
+            finally:
+                os.unlink(name)
+        except OSError as error:
+            fail(f"cannot make {self.path}: {reason(error)}")
+        finally:
+            os.umask(mask)
+        self.listener.setblocking(False)
+        self.update()
+
+    def update(self) -> None:
+        """Lets clients in while there is room. It ends with the last one if no more can come."""
+        if self.listener is not None:
+            reads = selectors.EVENT_READ if len(self.callers) < MOST_CLIENTS else 0
+            self.loop.watch(self.listener.fileno(), reads, self.on_caller)
+        elif not self.callers and self.status is None:
+            self.status = 0
+
+    def on_caller(self, _events: int) -> None:
+        try:
+            stream, _ = self.listener.accept()
+        except BlockingIOError:
+            return
+        except OSError as error:
+            say(f"cannot accept at {self.path}: {reason(error)}")
+            # It stays there, and the next one that leaves makes room for it.
+            if self.callers:
+                self.loop.forget(self.listener.fileno())
+            else:
+                time.sleep(PAUSE_SECONDS)
+            return
+        _, user, _ = peer_of(stream)
+        if user not in (0, os.geteuid()):
+            say(f"refused at {self.path}: user {user}")
+            stream.close()
+            return
+        self.accepted += 1
+        self.callers.add(Caller(self, stream, self.accepted % (1 << 31)))
+        self.update()
+
+    def stop_listening(self) -> None:
+        if self.listener is not None:
+            with contextlib.suppress(OSError):
+                if identity(self.path) == self.identity:
+                    os.unlink(self.path)
+            self.loop.forget(self.listener.fileno())
+            self.listener.close()
+            self.listener = None
+            self.update()
+
+    def end_all(self, asker: Optional[Caller] = None) -> None:
+        """Ends every session; the one that asked for it still gets its answer."""
+        self.stop_listening()
+        for caller in list(self.callers):
+            if caller is asker:
+                caller.wire.close_when_sent()
+            else:
+                caller.wire.close()
+
+    def serve(self) -> int:
+        while self.status is None:
+            self.loop.turn()
+        return self.status
+
+
+def identity(path: str) -> tuple[int, int]:
+    found = os.lstat(path)
+    return found.st_dev, found.st_ino
+
+
+def peer_of(stream: socket.socket) -> tuple[int, int, int]:
+    """Process, user and group of the other side."""
+    return struct.unpack("3i", stream.getsockopt(socket.SOL_SOCKET, socket.SO_PEERCRED, 12))
