@@ -4,7 +4,7 @@ ghost use Rattle.mux_outside.specs.Marks.{bytes_taken as all_taken};
 ghost use Rattle.mux_outside.specs.declared.turn.Turn.TheVariants.{NoMemory};
 ghost use Rattle.mux_outside.specs.Wire.{WroteFits};
 ghost use Rattle.mux_outside.specs.WireLog.{nothing_logged, turn_kept, answer_kept, OpensAs};
-ghost use Rattle.mux_outside.specs.WireLog.{LogsOpening, LogsTurn, LogsWrite, LogsClose};
+ghost use Rattle.mux_outside.specs.WireLog.{LogsOpening, LogsJoining, LogsTurn, LogsWrite, LogsClose};
 
 use crate::call_counts::CallCounts;
 use crate::counts::{count_fault, raised};
@@ -22,6 +22,7 @@ use std::marker::Model;
 pub struct WireLog {
     alloc: Global,
     openings: Vec<Opening>,
+    joinings: Vec<Text>,
     marks: Vec<Mark>,
     streams: Streams,
     blocked: Streams,
@@ -39,6 +40,7 @@ impl Model for WireLog {
 
     ghost view = { λ l. record {
       openings = l.openings.items;
+      joinings = l.joinings.items;
       marks = l.marks.items;
       streams = l.streams;
       blocked = l.blocked;
@@ -58,6 +60,7 @@ impl WireLog {
         WireLog {
             alloc,
             openings: Vec::new(alloc),
+            joinings: Vec::new(alloc),
             marks: Vec::new(alloc),
             streams: Streams::new(alloc),
             blocked: Streams::new(alloc),
@@ -111,6 +114,13 @@ impl WireLog {
         self.openings.as_slice()
     }
 
+    /// The arguments of the calls of `join` so far.
+    pub fn joinings(&self) -> &[Text]
+        ensures { result.now ≡ self.now.joinings }
+    {
+        self.joinings.as_slice()
+    }
+
     /// All bytes that a stream took.
     pub fn taken(&self, stream: u64) -> Result<Text, OutOfMemory>
         ensures { IfOk result (λ bytes. bytes ≡ all_taken stream self.now.marks) }
@@ -140,6 +150,28 @@ impl WireLog {
         self.streams = streams;
         self.blocked = Streams::new(self.alloc);
         self.listening = true;
+        Ok(())
+    }
+
+    /// Keeps a call of `join` with this argument, which succeeds or fails. After success the server's
+    /// stream alone is open, and clients aren't accepted; a failure counts as the server's.
+    pub fn joined(&mut self, control: &[u8], joins: bool) -> Result<(), FileError>
+        ensures joins { OpensAs joins result }
+        ensures logs { LogsJoining result control.now self.old self.new }
+    {
+        let joining = Text::copy(self.alloc, control)?;
+        let mut streams = Streams::new(self.alloc);
+        streams.push(0)?;
+        if self.joinings.push(joining).is_err() {
+            return Err(FileError::OutOfMemory);
+        }
+        if !joins {
+            self.server_faults = raised(self.server_faults);
+            return Err(FileError::Failed);
+        }
+        self.streams = streams;
+        self.blocked = Streams::new(self.alloc);
+        self.listening = false;
         Ok(())
     }
 

@@ -1,0 +1,3 @@
+pub mod AnswerKinds
+pub mod ForwardFrames
+pub mod Talks
