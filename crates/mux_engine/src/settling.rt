@@ -1,7 +1,8 @@
-ghost use Rattle.std.specs.Prelude.{[], ◌∷◌, ◌≡◌, ◌≢◌, ◌≤◌, ◌<◌, length, List, ℕ, true, false, OnOk, IfOk, if◌then◌else◌};
+ghost use Rattle.std.specs.Prelude.{[], ◌∷◌, ◌≡◌, ◌≢◌, ◌≤◌, ◌<◌, length, List, ℕ, true, false, None, OnOk, IfOk, if◌then◌else◌};
 ghost use Rattle.std.specs.declared.option.Option.{Option};
 ghost use Rattle.mux_outside.specs.House.{Asked as TheAsked};
 ghost use Rattle.mux_outside.specs.Streams.{among, without};
+ghost use Rattle.mux_outside.specs.Wire.{SameFaults};
 ghost use Rattle.mux_outside.specs.declared.mark.Mark.{Mark as TheMark};
 ghost use Rattle.mux_history.specs.Policy.{Policy as ThePolicy};
 ghost use Rattle.mux_machine.specs.Events.{here};
@@ -169,26 +170,56 @@ fn close_lost<W: Wire, H: House>(engine: &mut Engine, wire: &mut W, held: &mut S
     }
 }
 
-// Accepts no more clients where the engine wants none.
+// Accepts no more clients where the engine wants none, or its run is over.
 fn hush<W: Wire, H: House>(engine: &Engine, wire: &mut W)
-    requires hears { engine.now.listening ≡ true → (W.seen wire.old).listens ≡ true }
+    requires hears { engine.now.ended ≡ None → engine.now.listening ≡ true
+        → (W.seen wire.old).listens ≡ true }
     ensures serving { (before now : Option (List TheAsked)) (policy : ThePolicy) (pid : ℕ)
-        (start : Option (List TheMark)) (held : List ℕ) (given : ℕ) →
-        Serving H.may before now policy pid start (W.seen wire.old) held given [] engine.now →
-        Serving H.may before now policy pid start (W.seen wire.new) held given [] engine.now }
-    ensures hears { (W.seen wire.new).listens ≡ engine.now.listening }
+        (start : Option (List TheMark)) (held : List ℕ) (given : ℕ) (todo : List ℕ) →
+        Serving H.may before now policy pid start (W.seen wire.old) held given todo engine.now →
+        Serving H.may before now policy pid start (W.seen wire.new) held given todo engine.now }
+    ensures hears { engine.now.ended ≡ None → (W.seen wire.new).listens ≡ engine.now.listening }
     ensures faults { W.server_faults wire.new ≡ W.server_faults wire.old }
+    ensures client { W.client_faults wire.new ≡ W.client_faults wire.old }
     ensures calls { W.calls wire.new ≡ W.calls wire.old }
     ensures openings { W.openings wire.new ≡ W.openings wire.old }
 {
-    if engine.listening() {
+    if engine.listening() && engine.ended().is_none() {
         return;
     }
     wire.stop_listening();
 }
 
+// Offers each stream what waits for it, the last time in a run. Where the run is over, clients are
+// accepted no more before its answer can be read.
+pub fn finish<W: Wire, H: House>(
+    engine: &mut Engine,
+    wire: &mut W,
+    house: &mut H,
+    held: &mut Streams,
+    todo: &mut Streams,
+) -> Result<(), OutOfMemory>
+    requires served { IsServedBut H.may (H.told house.old) (W.seen wire.old) held.old
+        (0 ∷ here engine.old) engine.old }
+    ensures serving { ServesOn result H.may (H.told house.old) (H.told house.new)
+        (W.seen wire.old) (W.seen wire.new) held.old held.new (0 ∷ here engine.old) (λ done. [])
+        engine.old engine.new }
+    ensures ended { OnOk result (StaysOrFails engine.old.ended engine.new.ended
+        (W.server_faults wire.old) (W.server_faults wire.new)) }
+    ensures later { W.server_faults wire.old ≤ W.server_faults wire.new }
+    ensures calls { Counts 0 result (W.calls wire.old) (W.calls wire.new) }
+    ensures openings { W.openings wire.new ≡ W.openings wire.old }
+    ensures idle { engine.old.waiting ≡ [] → (engine.new ≡ engine.old)
+        × SameFaults (W.server_faults wire.old) (W.server_faults wire.new)
+        (W.client_faults wire.old) (W.client_faults wire.new) }
+{
+    hush::<W, H>(engine, wire);
+    flush(engine, wire, house, held, todo)
+}
+
 // Makes the wire ready for a turn: each stream is offered what waits for it, and the streams of
-// lost clients are closed.
+// lost clients are closed. Where clients are accepted no more, they are not before a client reads
+// the answer to its wish.
 pub fn settle<W: Wire, H: House>(
     engine: &mut Engine,
     wire: &mut W,
@@ -203,7 +234,8 @@ pub fn settle<W: Wire, H: House>(
         engine.old engine.new }
     ensures closed { OnOk result (engine.new.leaving ≡ []) }
     ensures refused { OnOk result (engine.new.refused ≡ []) }
-    ensures hears { OnOk result ((W.seen wire.new).listens ≡ engine.new.listening) }
+    ensures hears { OnOk result (engine.new.ended ≡ None
+        → (W.seen wire.new).listens ≡ engine.new.listening) }
     ensures ended { OnOk result (StaysOrFails engine.old.ended engine.new.ended
         (W.server_faults wire.old) (W.server_faults wire.new)) }
     ensures later { W.server_faults wire.old ≤ W.server_faults wire.new }
@@ -211,6 +243,7 @@ pub fn settle<W: Wire, H: House>(
     ensures openings { W.openings wire.new ≡ W.openings wire.old }
     ensures idle { OnOk result (engine.old.waiting ≡ [] → engine.new.ended ≡ engine.old.ended) }
 {
+    hush::<W, H>(engine, wire);
     flush(engine, wire, house, held, todo)?;
     close_lost::<W, H>(engine, wire, held);
     hush::<W, H>(engine, wire);
