@@ -9,7 +9,7 @@ use Rattle.mux_outside.specs.Streams.{among}
 use Rattle.mux_outside.specs.declared.house.HouseReply.{HouseReply}
 use Rattle.mux_outside.specs.declared.mark.Mark.{Mark}
 use Rattle.mux_history.specs.Policy.{Policy}
-use Rattle.mux_history.specs.Rows.{Row, rows_of, is_out, is_ended}
+use Rattle.mux_history.specs.Rows.{Row, rows_of, is_out}
 use Rattle.mux_history.specs.declared.ended.Ended.{Ended}
 use Rattle.mux_history.specs.Solo.{end_of}
 use Rattle.mux_history.specs.Log.{Setting}

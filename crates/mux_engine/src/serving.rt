@@ -13,7 +13,7 @@ ghost use Rattle.mux_engine.specs.Serving.{IsServedBut, Promised, Serving};
 ghost use Rattle.mux_engine.specs.Turns.{want_of};
 
 use crate::events::event_of;
-use crate::settling::{finish, settle};
+use crate::settling::{flush, settle};
 use forward_rules::Policy;
 use mux_history::Ended;
 use mux_history::limits::READING_STOPS_AT;
@@ -120,7 +120,7 @@ fn run<W: Wire, H: House>(
             break;
         }
     }
-    finish(engine, wire, house, &mut held, &mut todo)?;
+    flush(engine, wire, house, &mut held, &mut todo)?;
     Ok(engine.ended().unwrap_or(Ended::Spent))
 }
 

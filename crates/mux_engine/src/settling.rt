@@ -124,8 +124,29 @@ fn offer_clients<W: Wire, H: House>(
     Ok(())
 }
 
+// Accepts no more clients where the engine wants none, or its run is over.
+fn hush<W: Wire, H: House>(engine: &Engine, wire: &mut W)
+    requires hears { engine.now.ended ≡ None → engine.now.listening ≡ true
+        → (W.seen wire.old).listens ≡ true }
+    ensures serving { (before now : Option (List TheAsked)) (policy : ThePolicy) (pid : ℕ)
+        (start : Option (List TheMark)) (held : List ℕ) (given : ℕ) (todo : List ℕ) →
+        Serving H.may before now policy pid start (W.seen wire.old) held given todo engine.now →
+        Serving H.may before now policy pid start (W.seen wire.new) held given todo engine.now }
+    ensures hears { engine.now.ended ≡ None → (W.seen wire.new).listens ≡ engine.now.listening }
+    ensures faults { W.server_faults wire.new ≡ W.server_faults wire.old }
+    ensures client { W.client_faults wire.new ≡ W.client_faults wire.old }
+    ensures calls { W.calls wire.new ≡ W.calls wire.old }
+    ensures openings { W.openings wire.new ≡ W.openings wire.old }
+{
+    if engine.listening() && engine.ended().is_none() {
+        return;
+    }
+    wire.stop_listening();
+}
+
 // Offers each stream what waits for it: the server's last, since a client that is lost leaves its
-// farewell to it.
+// farewell to it. Where clients are accepted no more, none is once a client can read the answer to
+// its wish.
 pub fn flush<W: Wire, H: House>(
     engine: &mut Engine,
     wire: &mut W,
@@ -144,8 +165,11 @@ pub fn flush<W: Wire, H: House>(
     ensures later { W.server_faults wire.old ≤ W.server_faults wire.new }
     ensures calls { Counts 0 result (W.calls wire.old) (W.calls wire.new) }
     ensures openings { W.openings wire.new ≡ W.openings wire.old }
-    ensures idle { engine.old.waiting ≡ [] → (engine.new ≡ engine.old) × (wire.new ≡ wire.old) }
+    ensures idle { engine.old.waiting ≡ [] → (engine.new ≡ engine.old)
+        × SameFaults (W.server_faults wire.old) (W.server_faults wire.new)
+        (W.client_faults wire.old) (W.client_faults wire.new) }
 {
+    hush::<W, H>(engine, wire);
     offer_clients(engine, wire, house, held, todo)?;
     offer(engine, wire, house, held, 0)
 }
@@ -170,56 +194,8 @@ fn close_lost<W: Wire, H: House>(engine: &mut Engine, wire: &mut W, held: &mut S
     }
 }
 
-// Accepts no more clients where the engine wants none, or its run is over.
-fn hush<W: Wire, H: House>(engine: &Engine, wire: &mut W)
-    requires hears { engine.now.ended ≡ None → engine.now.listening ≡ true
-        → (W.seen wire.old).listens ≡ true }
-    ensures serving { (before now : Option (List TheAsked)) (policy : ThePolicy) (pid : ℕ)
-        (start : Option (List TheMark)) (held : List ℕ) (given : ℕ) (todo : List ℕ) →
-        Serving H.may before now policy pid start (W.seen wire.old) held given todo engine.now →
-        Serving H.may before now policy pid start (W.seen wire.new) held given todo engine.now }
-    ensures hears { engine.now.ended ≡ None → (W.seen wire.new).listens ≡ engine.now.listening }
-    ensures faults { W.server_faults wire.new ≡ W.server_faults wire.old }
-    ensures client { W.client_faults wire.new ≡ W.client_faults wire.old }
-    ensures calls { W.calls wire.new ≡ W.calls wire.old }
-    ensures openings { W.openings wire.new ≡ W.openings wire.old }
-{
-    if engine.listening() && engine.ended().is_none() {
-        return;
-    }
-    wire.stop_listening();
-}
-
-// Offers each stream what waits for it, the last time in a run. Where the run is over, clients are
-// accepted no more before its answer can be read.
-pub fn finish<W: Wire, H: House>(
-    engine: &mut Engine,
-    wire: &mut W,
-    house: &mut H,
-    held: &mut Streams,
-    todo: &mut Streams,
-) -> Result<(), OutOfMemory>
-    requires served { IsServedBut H.may (H.told house.old) (W.seen wire.old) held.old
-        (0 ∷ here engine.old) engine.old }
-    ensures serving { ServesOn result H.may (H.told house.old) (H.told house.new)
-        (W.seen wire.old) (W.seen wire.new) held.old held.new (0 ∷ here engine.old) (λ done. [])
-        engine.old engine.new }
-    ensures ended { OnOk result (StaysOrFails engine.old.ended engine.new.ended
-        (W.server_faults wire.old) (W.server_faults wire.new)) }
-    ensures later { W.server_faults wire.old ≤ W.server_faults wire.new }
-    ensures calls { Counts 0 result (W.calls wire.old) (W.calls wire.new) }
-    ensures openings { W.openings wire.new ≡ W.openings wire.old }
-    ensures idle { engine.old.waiting ≡ [] → (engine.new ≡ engine.old)
-        × SameFaults (W.server_faults wire.old) (W.server_faults wire.new)
-        (W.client_faults wire.old) (W.client_faults wire.new) }
-{
-    hush::<W, H>(engine, wire);
-    flush(engine, wire, house, held, todo)
-}
-
 // Makes the wire ready for a turn: each stream is offered what waits for it, and the streams of
-// lost clients are closed. Where clients are accepted no more, they are not before a client reads
-// the answer to its wish.
+// lost clients are closed.
 pub fn settle<W: Wire, H: House>(
     engine: &mut Engine,
     wire: &mut W,
@@ -243,7 +219,6 @@ pub fn settle<W: Wire, H: House>(
     ensures openings { W.openings wire.new ≡ W.openings wire.old }
     ensures idle { OnOk result (engine.old.waiting ≡ [] → engine.new.ended ≡ engine.old.ended) }
 {
-    hush::<W, H>(engine, wire);
     flush(engine, wire, house, held, todo)?;
     close_lost::<W, H>(engine, wire, held);
     hush::<W, H>(engine, wire);

@@ -5,7 +5,7 @@ use Rattle.mux_machine.specs.Events.{here}
 use Rattle.mux_machine.specs.State.{State}
 use Rattle.mux_engine.specs.Serving.{Serving}
 use Rattle.mux_engine.proofs.Arms.{on-err, well-none, well-on}
-use Rattle.mux_engine.proofs.Counting.{cut-none, cut-on, fails-live, fails-then, later-on, later-then, more-none, none-more, none-of, rose-behind, same-faults, stops-cut, stops-well}
+use Rattle.mux_engine.proofs.Counting.{cut-none, cut-on, fails-live, faults-then, fails-then, later-on, later-then, more-none, none-more, none-of, rose-behind, same-faults, stops-cut, stops-well}
 use Rattle.mux_engine.proofs.Looped.{Looped, answer-failed, first-given, first-spent, given-is, idle-goes, looped-ends, looped-over, looped-served, looped-spent, none-given, none-spent, offers-unspent, one-given, spent-all, went-on, went-over}
 use Rattle.mux_engine.proofs.Marks.{cut-here}
 use Rattle.mux_engine.proofs.Runs.{ends-over, ends-starved, promised-more}
@@ -83,6 +83,9 @@ returns-in-Some-clause-idle g c = λ z. absurd (omega arith)
 pub returns-in-Some-clause-openings : goal.returns-in-Some-clause-openings
 returns-in-Some-clause-openings g c = c.settle.ensures.openings ∙ c.loop.invariant.openings
 
+pub turn-requires-clause-hears : goal.turn-requires-clause-hears
+turn-requires-clause-hears g c = c.in_ok-settle.ensures.hears (sym c.ended.ensures.exact ∙ c.in_default.is)
+
 pub turn-requires-clause-served : goal.turn-requires-clause-served
 turn-requires-clause-served g c = let w = c.requires.running in record {
   before = w.before;
@@ -139,10 +142,10 @@ at-end g c = elim c.loop-test.branch [
       (w.turn.ensures.openings ∙ (w.settle.ensures.openings ∙ c.loop.invariant.openings)))
 ]
 
-pub finish-requires : goal.finish-requires
-finish-requires g c = record { served = looped-served (at-end g c) c.requires.running }
+pub flush-requires : goal.flush-requires
+flush-requires g c = record { served = looped-served (at-end g c) c.requires.running }
 
-at-starved-end : (g : Over) (c : goal.After-drop-piece-inside-in_err-finish g) → Looped g.H.House.may (g.H.House.told c.args.house.now) (g.H.House.told c.loop-test.house) (g.W.Wire.seen c.args.wire.now) (g.W.Wire.seen c.loop-test.wire) c.loop-test.held c.args.engine.now c.loop-test.engine c.args.turns (g.W.Wire.server_faults c.args.wire.now) (g.W.Wire.server_faults c.loop-test.wire) (g.W.Wire.calls c.args.wire.now) (g.W.Wire.calls c.loop-test.wire) (g.W.Wire.openings c.args.wire.now) (g.W.Wire.openings c.loop-test.wire) c.args.wire.now c.loop-test.wire
+at-starved-end : (g : Over) (c : goal.After-drop-piece-inside-in_err-flush g) → Looped g.H.House.may (g.H.House.told c.args.house.now) (g.H.House.told c.loop-test.house) (g.W.Wire.seen c.args.wire.now) (g.W.Wire.seen c.loop-test.wire) c.loop-test.held c.args.engine.now c.loop-test.engine c.args.turns (g.W.Wire.server_faults c.args.wire.now) (g.W.Wire.server_faults c.loop-test.wire) (g.W.Wire.calls c.args.wire.now) (g.W.Wire.calls c.loop-test.wire) (g.W.Wire.openings c.args.wire.now) (g.W.Wire.openings c.loop-test.wire) c.args.wire.now c.loop-test.wire
 at-starved-end g c = elim c.loop-test.branch [
   | else-loop-test w ↦ rw (w.engine-is, w.wire-is, w.house-is, w.held-is) (looped-spent c.loop.counter (omega arith) c.loop.invariant.serving c.loop.invariant.on c.loop.invariant.first c.loop.invariant.faults c.loop.invariant.calls c.loop.invariant.openings)
   | then-loop-test+in_ok-settle+in_default+in_ok-turn+in-Ended w ↦ rw (w.engine-is, w.wire-is, w.house-is, w.held-is) (looped-over c.loop.counter w.loop-test.true
@@ -156,24 +159,24 @@ at-starved-end g c = elim c.loop-test.branch [
       (w.turn.ensures.openings ∙ (w.settle.ensures.openings ∙ c.loop.invariant.openings)))
 ]
 
-pub returns-in_err-finish-clause-ran : goal.returns-in_err-finish-clause-ran
-returns-in_err-finish-clause-ran g c before policy pid start v = let l = at-starved-end g c in
-    on-err c.from_residual-in_err-finish.result _ _ c.from_residual-in_err-finish.ensures.0
-    (ends-starved g.H.House.may before (g.H.House.told c.finish.new.house) policy pid c.args.turns start (g.W.Wire.seen c.finish.new.wire).told
-    (promised-more (0 + l.given) c.args.turns (first-given l.given c.args.turns l.fits) (c.in_err-finish.ensures.serving before policy pid start (0 + l.given) (l.serving before policy pid start 0 v))))
+pub returns-in_err-flush-clause-ran : goal.returns-in_err-flush-clause-ran
+returns-in_err-flush-clause-ran g c before policy pid start v = let l = at-starved-end g c in
+    on-err c.from_residual-in_err-flush.result _ _ c.from_residual-in_err-flush.ensures.0
+    (ends-starved g.H.House.may before (g.H.House.told c.flush.new.house) policy pid c.args.turns start (g.W.Wire.seen c.flush.new.wire).told
+    (promised-more (0 + l.given) c.args.turns (first-given l.given c.args.turns l.fits) (c.in_err-flush.ensures.serving before policy pid start (0 + l.given) (l.serving before policy pid start 0 v))))
 
-pub returns-in_err-finish-clause-calls : goal.returns-in_err-finish-clause-calls
-returns-in_err-finish-clause-calls g c = let l = at-starved-end g c in
-    on-err c.from_residual-in_err-finish.result _ _ c.from_residual-in_err-finish.ensures.0
-    (stops-cut c.args.turns (g.W.Wire.calls c.args.wire.now) (g.W.Wire.calls c.finish.new.wire)
-    (cut-on l.given 0 c.args.turns (g.W.Wire.calls c.args.wire.now) (g.W.Wire.calls c.loop-test.wire) (g.W.Wire.calls c.finish.new.wire) (none-more l.given c.args.turns l.fits) l.counts c.in_err-finish.ensures.calls))
+pub returns-in_err-flush-clause-calls : goal.returns-in_err-flush-clause-calls
+returns-in_err-flush-clause-calls g c = let l = at-starved-end g c in
+    on-err c.from_residual-in_err-flush.result _ _ c.from_residual-in_err-flush.ensures.0
+    (stops-cut c.args.turns (g.W.Wire.calls c.args.wire.now) (g.W.Wire.calls c.flush.new.wire)
+    (cut-on l.given 0 c.args.turns (g.W.Wire.calls c.args.wire.now) (g.W.Wire.calls c.loop-test.wire) (g.W.Wire.calls c.flush.new.wire) (none-more l.given c.args.turns l.fits) l.counts c.in_err-flush.ensures.calls))
 
-pub returns-in_err-finish-clause-idle : goal.returns-in_err-finish-clause-idle
-returns-in_err-finish-clause-idle g c = λ z. let l = at-starved-end g c in let f = l.first (none-of l.given c.args.turns l.fits z) in
-    same-faults g.W.Wire.server_faults g.W.Wire.client_faults c.args.wire.now c.finish.new.wire ((c.finish.ensures.idle (ap (λ (s : State). s.waiting) f.0 ∙ c.requires.quiet)).1 ∙ f.1)
+pub returns-in_err-flush-clause-idle : goal.returns-in_err-flush-clause-idle
+returns-in_err-flush-clause-idle g c = λ z. let l = at-starved-end g c in let f = l.first (none-of l.given c.args.turns l.fits z) in
+    faults-then g.W.Wire.server_faults g.W.Wire.client_faults c.args.wire.now c.loop-test.wire c.flush.new.wire f.1 (c.flush.ensures.idle (ap (λ (s : State). s.waiting) f.0 ∙ c.requires.quiet)).1
 
-pub returns-in_err-finish-clause-openings : goal.returns-in_err-finish-clause-openings
-returns-in_err-finish-clause-openings g c = c.finish.ensures.openings ∙ (at-starved-end g c).opened
+pub returns-in_err-flush-clause-openings : goal.returns-in_err-flush-clause-openings
+returns-in_err-flush-clause-openings g c = c.flush.ensures.openings ∙ (at-starved-end g c).opened
 
 at-whole-end : (g : Over) (c : goal.After-drop-piece-inside-2 g) → Looped g.H.House.may (g.H.House.told c.args.house.now) (g.H.House.told c.loop-test.house) (g.W.Wire.seen c.args.wire.now) (g.W.Wire.seen c.loop-test.wire) c.loop-test.held c.args.engine.now c.loop-test.engine c.args.turns (g.W.Wire.server_faults c.args.wire.now) (g.W.Wire.server_faults c.loop-test.wire) (g.W.Wire.calls c.args.wire.now) (g.W.Wire.calls c.loop-test.wire) (g.W.Wire.openings c.args.wire.now) (g.W.Wire.openings c.loop-test.wire) c.args.wire.now c.loop-test.wire
 at-whole-end g c = elim c.loop-test.branch [
@@ -191,26 +194,26 @@ at-whole-end g c = elim c.loop-test.branch [
 
 pub returns-clause-ran : goal.returns-clause-ran
 returns-clause-ran g c before policy pid start v = let l = at-whole-end g c in
-    looped-ends l before (g.H.House.told c.finish.new.house) policy pid start (g.W.Wire.seen c.finish.new.wire) c.finish.new.held c.finish.new.engine (g.W.Wire.server_faults c.finish.new.wire) (0 + l.given) (first-given l.given c.args.turns l.fits) (λ on. first-spent l.given c.args.turns (l.spent on))
-    (c.in_ok-finish.ensures.serving before policy pid start (0 + l.given) (l.serving before policy pid start 0 v)) c.in_ok-finish.ensures.ended c.unwrap_or.result (c.unwrap_or.ensures ∙ ap (λ o. unwrap_or o Spent) c.ended-2.ensures.exact)
+    looped-ends l before (g.H.House.told c.flush.new.house) policy pid start (g.W.Wire.seen c.flush.new.wire) c.flush.new.held c.flush.new.engine (g.W.Wire.server_faults c.flush.new.wire) (0 + l.given) (first-given l.given c.args.turns l.fits) (λ on. first-spent l.given c.args.turns (l.spent on))
+    (c.in_ok-flush.ensures.serving before policy pid start (0 + l.given) (l.serving before policy pid start 0 v)) c.in_ok-flush.ensures.ended c.unwrap_or.result (c.unwrap_or.ensures ∙ ap (λ o. unwrap_or o Spent) c.ended-2.ensures.exact)
 
 pub returns-clause-failed : goal.returns-clause-failed
 returns-clause-failed g c is = let l = at-whole-end g c in
-    fails-then c.loop-test.engine.ended c.finish.new.engine.ended (g.W.Wire.server_faults c.args.wire.now) (g.W.Wire.server_faults c.loop-test.wire) (g.W.Wire.server_faults c.finish.new.wire) l.later l.failed c.in_ok-finish.ensures.ended
-    (answer-failed c.finish.new.engine.ended c.unwrap_or.result (c.unwrap_or.ensures ∙ ap (λ o. unwrap_or o Spent) c.ended-2.ensures.exact) is)
+    fails-then c.loop-test.engine.ended c.flush.new.engine.ended (g.W.Wire.server_faults c.args.wire.now) (g.W.Wire.server_faults c.loop-test.wire) (g.W.Wire.server_faults c.flush.new.wire) l.later l.failed c.in_ok-flush.ensures.ended
+    (answer-failed c.flush.new.engine.ended c.unwrap_or.result (c.unwrap_or.ensures ∙ ap (λ o. unwrap_or o Spent) c.ended-2.ensures.exact) is)
 
 pub returns-clause-calls : goal.returns-clause-calls
 returns-clause-calls g c = let l = at-whole-end g c in
     let is = c.unwrap_or.ensures ∙ ap (λ o. unwrap_or o Spent) c.ended-2.ensures.exact in
-    stops-well l.given c.args.turns c.unwrap_or.result (g.W.Wire.calls c.args.wire.now) (g.W.Wire.calls c.finish.new.wire) l.fits
-    (spent-all c.loop-test.engine.ended c.finish.new.engine.ended (g.W.Wire.server_faults c.loop-test.wire) (g.W.Wire.server_faults c.finish.new.wire) l.given c.args.turns c.unwrap_or.result c.in_ok-finish.ensures.ended l.unspent l.spent is)
-    (λ z. let f = l.first z in none-spent c.finish.new.engine.ended c.unwrap_or.result is
-    (ap (λ (s : State). s.ended) (c.finish.ensures.idle (ap (λ (s : State). s.waiting) f.0 ∙ c.requires.quiet)).0 ∙ (ap (λ (s : State). s.ended) f.0 ∙ c.requires.on)))
-    (well-on l.given 0 l.given (g.W.Wire.calls c.args.wire.now) (g.W.Wire.calls c.loop-test.wire) (g.W.Wire.calls c.finish.new.wire) (more-none l.given) l.counts c.in_ok-finish.ensures.calls)
+    stops-well l.given c.args.turns c.unwrap_or.result (g.W.Wire.calls c.args.wire.now) (g.W.Wire.calls c.flush.new.wire) l.fits
+    (spent-all c.loop-test.engine.ended c.flush.new.engine.ended (g.W.Wire.server_faults c.loop-test.wire) (g.W.Wire.server_faults c.flush.new.wire) l.given c.args.turns c.unwrap_or.result c.in_ok-flush.ensures.ended l.unspent l.spent is)
+    (λ z. let f = l.first z in none-spent c.flush.new.engine.ended c.unwrap_or.result is
+    (ap (λ (s : State). s.ended) (c.flush.ensures.idle (ap (λ (s : State). s.waiting) f.0 ∙ c.requires.quiet)).0 ∙ (ap (λ (s : State). s.ended) f.0 ∙ c.requires.on)))
+    (well-on l.given 0 l.given (g.W.Wire.calls c.args.wire.now) (g.W.Wire.calls c.loop-test.wire) (g.W.Wire.calls c.flush.new.wire) (more-none l.given) l.counts c.in_ok-flush.ensures.calls)
 
 pub returns-clause-idle : goal.returns-clause-idle
 returns-clause-idle g c = λ z. let l = at-whole-end g c in let f = l.first (none-of l.given c.args.turns l.fits z) in
-    same-faults g.W.Wire.server_faults g.W.Wire.client_faults c.args.wire.now c.finish.new.wire ((c.finish.ensures.idle (ap (λ (s : State). s.waiting) f.0 ∙ c.requires.quiet)).1 ∙ f.1)
+    faults-then g.W.Wire.server_faults g.W.Wire.client_faults c.args.wire.now c.loop-test.wire c.flush.new.wire f.1 (c.flush.ensures.idle (ap (λ (s : State). s.waiting) f.0 ∙ c.requires.quiet)).1
 
 pub returns-clause-openings : goal.returns-clause-openings
-returns-clause-openings g c = c.finish.ensures.openings ∙ (at-whole-end g c).opened
+returns-clause-openings g c = c.flush.ensures.openings ∙ (at-whole-end g c).opened
