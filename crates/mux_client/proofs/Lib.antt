@@ -1,3 +1,5 @@
 pub mod AnswerKinds
 pub mod ForwardFrames
+pub mod ReadFrames
 pub mod Talks
+pub mod VerdictLemmas
