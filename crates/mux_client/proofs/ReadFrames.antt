@@ -119,6 +119,9 @@ has-due asks id at = by_case (request_at asks id) refl
 
 -- ---- behind a fault, or while more is wanted
 
+pub replied-none : (asks : Asks) (id at : ℕ) (broken : Bool) (request : Request) → request_at asks id ≡ Some request → replied (drop id (requests_of asks)) id at [] broken ≡ stops (tail_outcome broken at)
+replied-none asks id at broken request e = ap (λ rs. replied rs id at [] broken) (drop-some (requests_of asks) id request e)
+
 -- a talk breaks at the place of a fault
 broken-here : (asks : Asks) (stage : Stage) (at : ℕ) → place_of stage ≡ Some at → HasRequest asks stage → later_at stage (requests_of asks) [] true ≡ stops (Some (BrokenAt at))
 broken-here asks Greets at p h = ap (λ n. stops (Some (BrokenAt n))) (let z : Some 0 ≡ Some at = p in cc)
@@ -150,12 +153,14 @@ not-cut asks old new at place e none = subst (λ s. ReadsNextTo asks old s None)
       stands = λ bytes taken shown h. stands-on asks bytes taken shown [] [] old (after_cut More at old) (sym (append-nil old.queue)) (λ more ended. refl) h.request h;
       settled = λ z. settled-more old.stage at old.framer.rest place is;
       less = λ z. no-line z;
+      over = λ z. absurd (let w : Some at ≡ None = sym place ∙ z in cc);
     }
     by_front (Faulty f) is none = record {
       stands = λ bytes taken shown h. stands-on asks bytes taken shown [] [] old (after_cut (Faulty f) at old) (sym (append-nil old.queue))
           (λ more ended. ap (λ c. later_by old.stage (requests_of asks) c ended) (fault-cut old.framer.rest more f is) ∙ broken-here asks old.stage at place h.request) tt h;
       settled = λ z. tt;
       less = λ z. no-line z;
+      over = λ z. absurd (let w : Some at ≡ None = sym place ∙ z in cc);
     }
 
 -- the same, as the code tells it
@@ -172,6 +177,7 @@ pub record Stops (asks : Asks) (old : ClientState) (body : List ℕ) (stage : St
   pub stays : (bodies : List (List ℕ)) (broken : Bool) → later_at stage (requests_of asks) bodies broken ≡ later_at stage (requests_of asks) [] broken
   pub request : HasRequest asks stage
   pub settled : (rest : List ℕ) → IsSettledAt stage rest
+  pub ends : place_of stage ≡ None
 
 pub cut-stops : (asks : Asks) (old new : ClientState) (body : List ℕ) (stage : Stage) → IsCut old new body → Stops asks old body stage → ReadsNextTo asks old (record new { stage = stage }) None
 cut-stops asks old new body stage k s = record {
@@ -181,6 +187,7 @@ cut-stops asks old new body stage k s = record {
       ∙ s.over c.frames (broken_by c.fault ended) h.request ∙ sym (s.stays c.frames (broken_by c.fault ended))) s.request h;
   settled = λ z. s.settled new.framer.rest;
   less = λ z. no-line z;
+  over = λ z. s.ends;
 }
 
 -- no hello
@@ -190,6 +197,7 @@ bad-hello asks old body greets other = record {
   stays = λ bodies broken. refl;
   request = tt;
   settled = λ rest. tt;
+  ends = refl;
 }
 
 -- what follows a reply
@@ -214,6 +222,7 @@ refuses asks old id at body is means = record {
   stays = λ bodies broken. refl;
   request = tt;
   settled = λ rest. tt;
+  ends = refl;
 }
 
 pub breaks : (asks : Asks) (old : ClientState) (id at : ℕ) (body : List ℕ) → old.stage ≡ Asked id at → MeansTo asks id body Breaks → Stops asks old body (Broken at)
@@ -222,6 +231,7 @@ breaks asks old id at body is means = record {
   stays = λ bodies broken. refl;
   request = tt;
   settled = λ rest. tt;
+  ends = refl;
 }
 
 -- ---- the next request is due
@@ -230,6 +240,7 @@ breaks asks old id at body is means = record {
 pub record Goes (asks : Asks) (old : ClientState) (body : List ℕ) (id at : ℕ) (line : List ℕ) : Type 0 where
   pub on : (bodies : List (List ℕ)) (broken : Bool) → HasRequest asks old.stage
       → later_at old.stage (requests_of asks) (body ∷ bodies) broken ≡ showing line (talk_on (drop id (requests_of asks)) id at bodies broken)
+  pub awaits : place_of old.stage ≢ None
 
 pub cut-goes : (asks : Asks) (old cutoff new : ClientState) (body : List ℕ) (id at : ℕ) (line : Line) → IsCut old cutoff body → Goes asks old body id at (text_of_line line)
     → new ≡ asked (request_at asks id) id at cutoff → ReadsNextTo asks old new (Some line)
@@ -243,6 +254,7 @@ cut-goes asks old cutoff new body id at line k g e = subst (λ s. ReadsNextTo as
       (has-due asks id at) h;
   settled = λ z. absurd (let w : Some line ≡ None = z in cc);
   less = λ z. shorter old.framer.rest body cutoff.framer.rest k.front;
+  over = λ z. absurd (g.awaits z);
 })
 
 pub hello-goes : (asks : Asks) (old : ClientState) (body : List ℕ) (at : ℕ) → old.stage ≡ Greets → is_hello body ≡ true → at ≡ behind 0 body → Goes asks old body 0 at (text_of_line Nothing)
@@ -250,6 +262,7 @@ hello-goes asks old body at greets hello place = record {
   on = λ bodies broken h. ap (λ g. later_at g (requests_of asks) (body ∷ bodies) broken) greets
       ∙ ap (λ b. on_hello b (talk_on (requests_of asks) 0 (behind 0 body) bodies broken)) hello
       ∙ ap (λ n. talk_on (requests_of asks) 0 n bodies broken) (sym place);
+  awaits = λ z. let w : Some 0 ≡ None = sym (ap place_of greets) ∙ z in cc;
 }
 
 pub reply-goes : (asks : Asks) (old : ClientState) (body : List ℕ) (id next at behind_it : ℕ) (line : Line) → old.stage ≡ Asked id at → MeansTo asks id body (Grants (text_of_line line))
@@ -258,4 +271,5 @@ reply-goes asks old body id next at behind_it line is means one place = record {
   on = λ bodies broken h. reply-at asks old.stage id at body bodies broken (Grants (text_of_line line)) is h means
       ∙ ap (λ n. showing (text_of_line line) (talk_on (drop n (requests_of asks)) n (behind at body) bodies broken)) (sym one)
       ∙ ap (λ p. showing (text_of_line line) (talk_on (drop next (requests_of asks)) next p bodies broken)) (sym place);
+  awaits = λ z. let w : Some at ≡ None = sym (ap place_of is) ∙ z in cc;
 }

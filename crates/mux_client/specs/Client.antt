@@ -149,12 +149,13 @@ outcome_of (Broken at) = Some (BrokenAt at)
 -- ---- a frame is read
 
 -- whatever came before: the line is shown, and where there is none no frame can be read now; with
--- each frame less is left to be read
+-- each frame less is left to be read, and no reply is awaited where none was
 pub record ReadsNextTo (asks : Asks) (old new : ClientState) (line : Option Line) : Type 0 where
   pub stands : (bytes taken shown : List ℕ) → Stands asks bytes taken shown old
       → Stands asks bytes taken (shown ++ text_of_some line) new
   pub settled : line ≡ None → IsSettled new
   pub less : IsSome line → length new.framer.rest < length old.framer.rest
+  pub over : place_of old.stage ≡ None → place_of new.stage ≡ None
 
 abbrev pub ReadsNext : Asks → ClientState → ClientState → Result (Option Line) OutOfMemory → Type 0
 ReadsNext asks old new (Ok line) = ReadsNextTo asks old new line
