@@ -5,4 +5,5 @@ pub mod ReadFrames
 pub mod ShowLines
 pub mod Talks
 pub mod TalkSteps
+pub mod TalkTurns
 pub mod VerdictLemmas

@@ -1,4 +1,4 @@
-ghost use Rattle.std.specs.Prelude.{◌≡◌, ◌≢◌, ◌++◌, ◌+◌, ◌<◌, [], ◌∷◌, ℕ, List, length, true, false, IsTrue, IfOk, OnOk, Option};
+ghost use Rattle.std.specs.Prelude.{◌≡◌, ◌≢◌, ◌++◌, ◌+◌, ◌<◌, [], ◌∷◌, ℕ, List, length, true, false, IsTrue, IfOk, IfErr, OnOk, Option};
 ghost use Rattle.mux_outside.specs.Counts.{Rose};
 ghost use Rattle.mux_outside.specs.declared.mark.Mark.{Mark as TheMark};
 ghost use Rattle.mux_client.specs.declared.asks.Asks.{Asks as TheAsks};
@@ -131,6 +131,7 @@ fn show<S: Sink>(alloc: Global, line: Line, out: &mut S) -> Result<(), Talked>
         (λ more. more ≡ text_of_line line))
         (λ answer. ShowsLast (S.told out.old) (S.told out.new) out.old out.new
         (IsCutLine answer (text_of_line line))) }
+    ensures own { IfErr result (λ answer. answer ≢ FailedServer) }
     ensures cause { StepSinkFaults result (S.faults out.old) (S.faults out.new) }
 {
     if line == Line::Nothing {
@@ -162,6 +163,7 @@ fn read_once<S: Sink>(
     ensures settled { IfOk result (λ some. some ≡ false → IsSettled client.new) }
     ensures less { IfOk result (λ some. some ≡ true
         → length client.new.framer.rest < length client.old.framer.rest) }
+    ensures own { IfErr result (λ answer. answer ≢ FailedServer) }
     ensures cause { StepSinkFaults result (S.faults out.old) (S.faults out.new) }
 {
     match client.next(asks)? {
@@ -184,6 +186,7 @@ fn read<S: Sink>(alloc: Global, client: &mut Client, asks: &Asks, out: &mut S) -
         (λ answer. ShowsLast (S.told out.old) (S.told out.new) out.old out.new
         (λ more due. IsTalk asks.now answer start told (shown ++ more) (shown ++ due))) }
     ensures settled { OnOk result (IsSettled client.new) }
+    ensures own { IfErr result (λ answer. answer ≢ FailedServer) }
     ensures cause { StepSinkFaults result (S.faults out.old) (S.faults out.new) }
 {
     while read_once(alloc, client, asks, out)? {}
