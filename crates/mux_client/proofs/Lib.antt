@@ -1,4 +1,5 @@
 pub mod AnswerKinds
+pub mod Counts
 pub mod ForwardFrames
 pub mod JournalGrows
 pub mod ReadFrames
@@ -6,4 +7,5 @@ pub mod ShowLines
 pub mod Talks
 pub mod TalkSteps
 pub mod TalkTurns
+pub mod WholeTalks
 pub mod VerdictLemmas

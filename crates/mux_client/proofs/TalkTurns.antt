@@ -16,7 +16,7 @@ use Rattle.mux_client.specs.declared.talked.Talked.{Talked}
 use Rattle.mux_client.specs.declared.talked.Talked.TheVariants as talked
 use Rattle.mux_client.specs.Client.{ClientState, heard, place_of, IsSettled}
 use Rattle.mux_client.specs.Counted.{StepFaults, WireFaults}
-use Rattle.mux_client.specs.Talking.{IsHeld, IsGoing, IsOffered, BreaksOff, Talking, IsTalk, TalksOn}
+use Rattle.mux_client.specs.Talking.{IsHeld, IsGoing, IsOffered, IsOfSink, BreaksOff, Talking, IsTalk, TalksOn}
 use Rattle.mux_client.proofs.JournalGrows.{told-two, told-none}
 use Rattle.mux_client.proofs.TalkSteps.{talk-breaks-off, talk-ends, talk-fails, talk-frees, talk-gets, talk-starved, talk-waits}
 
@@ -98,11 +98,34 @@ off-or-on s (Err answer) On Over b on over = subst Over (sym b.2) (over b.0 b.1)
 
 -- ---- faults
 
-no-fault : (answer : Talked) (a b c d : ℕ) → answer ≢ talked.ServerFailed → SameFaults a b c d → WireFaults answer a b c d
-no-fault talked.ServerFailed a b c d other same = absurd (other refl)
-no-fault talked.Done a b c d other same = same
-no-fault answer a b c d other same = same
+no-fault : (answer : Talked) (a b c d : ℕ) → IsOfSink answer → SameFaults a b c d → WireFaults answer a b c d
+no-fault talked.WriteFault a b c d own same = same
+no-fault talked.OutOfMemory a b c d own same = same
+no-fault talked.ServerFailed a b c d own same = absurd own
+no-fault talked.Done a b c d own same = absurd own
+no-fault (talked.Refused id) a b c d own same = absurd own
+no-fault (talked.BadMaster at) a b c d own same = absurd own
+no-fault talked.Spent a b c d own same = absurd own
 
-pub no-faults : {A : Type 0} (r : Result A Talked) (a b c d : ℕ) → IfErr r (λ answer. answer ≢ talked.ServerFailed) → SameFaults a b c d → StepFaults r a b c d
-no-faults (Ok x) a b c d other same = same
-no-faults (Err answer) a b c d other same = no-fault answer a b c d other same
+pub no-faults : {A : Type 0} (r : Result A Talked) (a b c d : ℕ) → IfErr r IsOfSink → SameFaults a b c d → StepFaults r a b c d
+no-faults (Ok x) a b c d own same = same
+no-faults (Err answer) a b c d own same = no-fault answer a b c d own same
+
+-- ---- turns that are left
+
+sink-unspent : (answer : Talked) → IsOfSink answer → answer ≢ talked.Spent
+sink-unspent talked.WriteFault own e = cc
+sink-unspent talked.OutOfMemory own e = cc
+sink-unspent talked.ServerFailed own e = absurd own
+sink-unspent talked.Done own e = absurd own
+sink-unspent (talked.Refused id) own e = absurd own
+sink-unspent (talked.BadMaster at) own e = absurd own
+sink-unspent talked.Spent own e = absurd own
+
+pub read-unspent : {A : Type 0} (r : Result A Talked) → IfErr r IsOfSink → IfErr r (λ answer. answer ≢ talked.Spent)
+read-unspent (Ok x) own = own
+read-unspent (Err answer) own = sink-unspent answer own
+
+pub off-unspent : (s : ClientState) (r : Result (Unit {0}) Talked) → BreaksOff s r → IfErr r (λ answer. answer ≢ talked.Spent)
+off-unspent s (Ok x) b = tt
+off-unspent s (Err answer) b = λ e. let z : talked.BadMaster b.0 ≡ talked.Spent = sym b.2 ∙ e in cc

@@ -20,10 +20,10 @@ pub record Well (waits : ℕ) (old new : Calls) : Type 0 where
   pub wants : new.wants ≡ old.wants
   pub late : old.wants ≡ 0 → new.late ≡ old.late
 
--- at most so many calls of `wait`, and at most one call that wanted memory, which was the last, and
--- behind which the talk is over for want of memory
+-- so many calls of `wait`, and at most one call that wanted memory, which was the last, and behind
+-- which the talk is over for want of memory
 pub record Cut (waits : ℕ) (answer : Talked) (old new : Calls) : Type 0 where
-  pub few : new.waits ≤ old.waits + waits
+  pub waited : Waited waits old.waits new.waits
   pub wants : new.wants ≤ old.wants + 1
   pub starved : new.wants ≢ old.wants → answer ≡ OutOfMemory
   pub late : old.wants ≡ 0 → new.late ≡ old.late

@@ -66,6 +66,25 @@ BreaksOff s (Err answer) = (at : ℕ) × (place_of s.stage ≡ Some at) × (answ
 abbrev pub IsOffered : List ℕ → ClientState → Type 0
 IsOffered held s = (s.queue ≡ []) ⊎ (held ≡ 0 ∷ [])
 
+-- an answer that writes to the wire give, and one that the sink gives
+abbrev pub IsOfWire : Talked → Type 0
+IsOfWire ServerFailed = ⊤
+IsOfWire OutOfMemory = ⊤
+IsOfWire Done = ⊥
+IsOfWire (Refused id) = ⊥
+IsOfWire (BadMaster at) = ⊥
+IsOfWire WriteFault = ⊥
+IsOfWire Spent = ⊥
+
+abbrev pub IsOfSink : Talked → Type 0
+IsOfSink WriteFault = ⊤
+IsOfSink OutOfMemory = ⊤
+IsOfSink Done = ⊥
+IsOfSink (Refused id) = ⊥
+IsOfSink (BadMaster at) = ⊥
+IsOfSink ServerFailed = ⊥
+IsOfSink Spent = ⊥
+
 -- ---- the marks
 
 -- the wire told these marks more

@@ -2,13 +2,13 @@ ghost use Rattle.std.specs.Prelude.{◌≡◌, ◌≢◌, ◌++◌, ◌+◌, ◌
 ghost use Rattle.mux_outside.specs.Counts.{Rose};
 ghost use Rattle.mux_outside.specs.declared.mark.Mark.{Mark as TheMark};
 ghost use Rattle.mux_client.specs.declared.asks.Asks.{Asks as TheAsks};
-ghost use Rattle.mux_client.specs.declared.talked.Talked.TheVariants.{ServerFailed as FailedServer, WriteFault as FailedSink};
+ghost use Rattle.mux_client.specs.declared.talked.Talked.TheVariants.{ServerFailed as FailedServer, WriteFault as FailedSink, Spent as SpentTurns};
 ghost use Rattle.mux_client.specs.Requests.{MayAsk};
 ghost use Rattle.mux_client.specs.Verdicts.{text_of_line};
 ghost use Rattle.mux_client.specs.Client.{IsSettled};
 ghost use Rattle.mux_client.specs.Journal.{TalksTold, ShowsTold};
 ghost use Rattle.mux_client.specs.Counted.{Counts, Stops, WireFaults, StepFaults, SinkFaults, StepSinkFaults};
-ghost use Rattle.mux_client.specs.Talking.{IsAlone, AcceptsNone, IsHeld, IsDecided, BreaksOff, IsGoing, IsOffered, IsCutLine, talked_of, Talking, IsTalk, TalksOn, ShowsOn, ShowsLast, WholeTalk};
+ghost use Rattle.mux_client.specs.Talking.{IsAlone, AcceptsNone, IsHeld, IsDecided, BreaksOff, IsGoing, IsOffered, IsOfWire, IsOfSink, IsCutLine, talked_of, Talking, IsTalk, TalksOn, ShowsOn, ShowsLast, WholeTalk};
 
 use crate::asks::Asks;
 use crate::client::Client;
@@ -42,6 +42,7 @@ fn offer_once<W: Wire>(
     ensures less { IfOk result (λ more. more ≡ true
         → length client.new.queue < length client.old.queue) }
     ensures offered { IfOk result (λ more. more ≡ false → IsOffered held.new client.new) }
+    ensures own { IfErr result IsOfWire }
     ensures stage { OnOk result (client.new.stage ≡ client.old.stage) }
     ensures none_accepted { AcceptsNone (W.seen wire.old) (W.seen wire.new) }
     ensures calls { Counts 0 result (W.calls wire.old) (W.calls wire.new) }
@@ -84,6 +85,7 @@ fn offer<W: Wire>(client: &mut Client, wire: &mut W, held: &mut Streams) -> Resu
     ensures blocked { OnOk result ((W.seen wire.new).blocked ≡ held.new) }
     ensures held { OnOk result (IsHeld held.new) }
     ensures offered { OnOk result (IsOffered held.new client.new) }
+    ensures own { IfErr result IsOfWire }
     ensures stage { OnOk result (client.new.stage ≡ client.old.stage) }
     ensures none_accepted { AcceptsNone (W.seen wire.old) (W.seen wire.new) }
     ensures calls { Counts 0 result (W.calls wire.old) (W.calls wire.new) }
@@ -131,7 +133,7 @@ fn show<S: Sink>(alloc: Global, line: Line, out: &mut S) -> Result<(), Talked>
         (λ more. more ≡ text_of_line line))
         (λ answer. ShowsLast (S.told out.old) (S.told out.new) out.old out.new
         (IsCutLine answer (text_of_line line))) }
-    ensures own { IfErr result (λ answer. answer ≢ FailedServer) }
+    ensures own { IfErr result IsOfSink }
     ensures cause { StepSinkFaults result (S.faults out.old) (S.faults out.new) }
 {
     if line == Line::Nothing {
@@ -163,7 +165,7 @@ fn read_once<S: Sink>(
     ensures settled { IfOk result (λ some. some ≡ false → IsSettled client.new) }
     ensures less { IfOk result (λ some. some ≡ true
         → length client.new.framer.rest < length client.old.framer.rest) }
-    ensures own { IfErr result (λ answer. answer ≢ FailedServer) }
+    ensures own { IfErr result IsOfSink }
     ensures cause { StepSinkFaults result (S.faults out.old) (S.faults out.new) }
 {
     match client.next(asks)? {
@@ -186,7 +188,7 @@ fn read<S: Sink>(alloc: Global, client: &mut Client, asks: &Asks, out: &mut S) -
         (λ answer. ShowsLast (S.told out.old) (S.told out.new) out.old out.new
         (λ more due. IsTalk asks.now answer start told (shown ++ more) (shown ++ due))) }
     ensures settled { OnOk result (IsSettled client.new) }
-    ensures own { IfErr result (λ answer. answer ≢ FailedServer) }
+    ensures own { IfErr result IsOfSink }
     ensures cause { StepSinkFaults result (S.faults out.old) (S.faults out.new) }
 {
     while read_once(alloc, client, asks, out)? {}
@@ -221,6 +223,7 @@ fn turn<W: Wire, S: Sink>(
     ensures settled { OnOk result (IsSettled client.new) }
     ensures blocked { OnOk result ((W.seen wire.new).blocked ≡ held.new) }
     ensures held { OnOk result (IsHeld held.new) }
+    ensures unspent { IfErr result (λ answer. answer ≢ SpentTurns) }
     ensures none_accepted { AcceptsNone (W.seen wire.old) (W.seen wire.new) }
     ensures calls { Counts 1 result (W.calls wire.old) (W.calls wire.new) }
     ensures cause { StepFaults result (W.server_faults wire.old) (W.server_faults wire.new)
