@@ -68,6 +68,11 @@ Throughout asks before (mark ∷ marks) =
     WaitsRight asks before mark × TookFront asks (before ++ mark ∷ [])
     × Throughout asks (before ++ mark ∷ []) marks
 
+-- at each mark, behind some others
+abbrev pub AtEach : (List Mark → Mark → Type 0) → List Mark → List Mark → Type 0
+AtEach P before [] = Unit {0}
+AtEach P before (mark ∷ marks) = P before mark × AtEach P (before ++ mark ∷ []) marks
+
 -- ---- how it ended
 
 -- this answer is that of the talk: the last reply came and all was taken, a refusal, or a breach;
@@ -81,6 +86,11 @@ Answers Spent asks marks = ((talk_of asks marks).outcome ≡ None)
 Answers WriteFault asks marks = Unit {0}
 Answers ServerFailed asks marks = Unit {0}
 Answers OutOfMemory asks marks = Unit {0}
+
+-- a talk that is over waits no more: at a wait it has no outcome, or not all was taken
+abbrev pub WaitOpen : Asks → List Mark → Mark → Type 0
+WaitOpen asks before (Waits waiting want streams listens) = Answers Spent asks before
+WaitOpen asks before _ = Unit {0}
 
 -- a front of what is shown, and all of it but for a fault of the sink and want of memory
 pub record ShowsFront (shown out : List ℕ) : Type 0 where
