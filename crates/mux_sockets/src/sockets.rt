@@ -1,5 +1,5 @@
 //! The sockets of a run, and which of them are ready, in the order in which they became so.
-ghost use Rattle.std.specs.Prelude.{◌≡◌, ◌≢◌, ℕ, List, Option, Err, IfOk, IfSome, IsNone, IsSome, IsUtf8, None, OnOk, false};
+ghost use Rattle.std.specs.Prelude.{◌≡◌, ◌≢◌, ℕ, List, Option, Err, IfOk, IfSome, IsErr, IsNone, IsSome, IsUtf8, None, OnOk, false};
 ghost use Rattle.std.specs.IoError.{error_kind};
 ghost use Rattle.mux_sockets.specs.Sockets.{FoundFits};
 ghost use Rattle.mux_sockets.specs.Entries.{IsStream, OthersStay, first_key};
@@ -9,7 +9,7 @@ mod served;
 
 use crate::control::{Control, Unnamed, listen_beside};
 use crate::stream::Stream;
-use crate::transport::connect;
+use crate::transport::{connect, connect_unix};
 use mio::event::Event;
 use mio::net::UnixListener;
 use mio::{Events, Interest, Poll, Token};
@@ -60,6 +60,7 @@ pub struct Sockets<R: Files + Drop> {
     poll: Poll,
     events: Events,
     entries: Slab<Entry>,
+    // `None`: no client comes, as after `stop_listening` and after `join`
     listening: Option<Listening<R>>,
     // an accept failed for want of descriptors or memory, and is tried again
     pauses: bool,
@@ -107,15 +108,43 @@ impl<R: Files + Net + Clone + Drop> Sockets<R> {
         Ok(sockets)
     }
 
+    /// Connects to another master's control socket. Nothing listens, and nothing has a name.
+    pub fn join(rt: &R, alloc: Global, control: &[u8]) -> Result<Sockets<R>, Fault>
+        ensures not_text { ¬ (IsUtf8 control.now) → IsErr result }
+        ensures deaf { IfOk result (λ sockets. IsNone sockets.listening) }
+    {
+        Sockets::joined(rt, alloc, control).map_err(|e| fault_of(&e, Fault::Transport))
+    }
+
+    // The other master's stream alone.
+    fn joined(rt: &R, alloc: Global, control: &[u8]) -> io::Result<Sockets<R>>
+        ensures not_text { ¬ (IsUtf8 control.now) → IsErr result }
+        ensures deaf { IfOk result (λ sockets. IsNone sockets.listening) }
+    {
+        let stream = connect_unix(rt, control)?;
+        Sockets::alone(rt, alloc, stream)
+    }
+
     // The server's stream alone.
-    fn connected(rt: &R, alloc: Global, transport: &[u8]) -> io::Result<Sockets<R>> {
+    fn connected(rt: &R, alloc: Global, transport: &[u8]) -> io::Result<Sockets<R>>
+        ensures { IfOk result (λ sockets. IsNone sockets.listening) }
+    {
         let stream = connect(rt, alloc, transport)?;
+        Sockets::alone(rt, alloc, stream)
+    }
+
+    // Stream 0 alone.
+    fn alone(rt: &R, alloc: Global, stream: Stream) -> io::Result<Sockets<R>>
+        ensures { IfOk result (λ sockets. IsNone sockets.listening) }
+    {
         let mut sockets = Sockets::new(rt, alloc)?;
         sockets.add(0, stream)?;
         Ok(sockets)
     }
 
-    fn new(rt: &R, alloc: Global) -> io::Result<Sockets<R>> {
+    fn new(rt: &R, alloc: Global) -> io::Result<Sockets<R>>
+        ensures { IfOk result (λ sockets. IsNone sockets.listening) }
+    {
         Ok(Sockets {
             poll: Poll::new(rt)?,
             events: Events::with_capacity(alloc, EVENTS)?,
@@ -140,7 +169,9 @@ impl<R: Files + Net + Clone + Drop> Sockets<R> {
     }
 
     // Takes a stream in, with room for all that can be ready.
-    fn add(&mut self, number: u64, mut stream: Stream) -> io::Result<()> {
+    fn add(&mut self, number: u64, mut stream: Stream) -> io::Result<()>
+        ensures { self.new.listening ≡ self.old.listening }
+    {
         let entries = self.entries.len().saturating_add(1);
         self.ready
             .reserve(entries.saturating_mul(2).saturating_add(1))?;
