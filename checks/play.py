@@ -11,8 +11,10 @@ follow what, and a rule that two models share is written twice.
 """
 
 import argparse
+import collections
 import contextlib
 import dataclasses
+import itertools
 import os
 import random
 import resource
@@ -472,15 +474,54 @@ def parser_with_seed(about: str) -> argparse.ArgumentParser:
     return parser
 
 
-def begin_rounds(about: str, title: str, name: str, count: int) -> tuple[str, range]:
-    """Reads the options of a check of many rounds, so named: the program, and a seed for each."""
+@dataclasses.dataclass(frozen=True)
+class Rounds:
+    """The rounds of a check, so named, each with the seed behind the last one's."""
+
+    name: str
+    seed: int
+    # How many there are, and after how many seconds none begins any more, where that is said.
+    count: int | None
+    seconds: float | None
+
+    @property
+    def extent(self) -> str:
+        told = [] if self.count is None else [f"{self.count} {self.name}s"]
+        told += [] if self.seconds is None else [f"{self.seconds:g} seconds"]
+        return f"{' or '.join(told)}, seed {self.seed}"
+
+    def seeds(self) -> Iterator[int]:
+        began = time.monotonic()
+        for number in itertools.count() if self.count is None else range(self.count):
+            if self.seconds is not None and time.monotonic() - began >= self.seconds:
+                return
+            yield self.seed + number
+
+    def play(self, play: Callable[[int], str | None]) -> tuple[int, int]:
+        """Plays once with each seed, which may tell why that failed: how many passed and failed."""
+        counts = collections.Counter[bool]()
+        for seed in self.seeds():
+            why = play(seed)
+            counts[why is None] += 1
+            if why is not None:
+                say(f"FAILED: the {self.name} of --seed {seed} --{self.name}s 1: {why}")
+        return counts[True], counts[False]
+
+
+def begin_rounds(about: str, title: str, name: str, count: int) -> tuple[str, Rounds]:
+    """Reads the options of a check of many rounds, so named: the program, and the rounds."""
     parser = parser_with_seed(about)
     said = f"how many {name}s, each with the seed behind the last one's; by default {count}"
-    parser.add_argument(f"--{name}s", metavar="N", type=int, default=count, help=said)
+    parser.add_argument(f"--{name}s", metavar="N", type=int, help=f"{said} without --seconds")
+    said = f"begin no {name} once so many seconds are over"
+    parser.add_argument("--seconds", metavar="S", type=float, help=said)
     options, program = begin(parser)
-    count = getattr(options, f"{name}s")
-    say(f"{title}: over {os.path.relpath(program)}, {count} {name}s, seed {options.seed}")
-    return program, range(options.seed, options.seed + count)
+    wanted = getattr(options, f"{name}s")
+    if wanted is None and options.seconds is None:
+        wanted = count
+    rounds = Rounds(name, options.seed, wanted, options.seconds)
+    say(f"{title}: over {os.path.relpath(program)}, {rounds.extent}")
+    return program, rounds
 
 
 def begin(parser: argparse.ArgumentParser) -> tuple[argparse.Namespace, str]:
@@ -614,17 +655,6 @@ class Cases:
         tried = f"{counts['ok']} passed, {counts['FAILED']} failed, {counts['skipped']} skipped"
         say(f"{self.title}: {tried}, in {time.monotonic() - began:.1f} s")
         return any(counts.values()) and not counts["FAILED"]
-
-
-def failures(name: str, seeds: range, play: Callable[[int], str | None]) -> int:
-    """Plays once with each seed, which may tell why that failed: how many did."""
-    failed = 0
-    for seed in seeds:
-        why = play(seed)
-        if why is not None:
-            failed += 1
-            say(f"FAILED: the {name} of --seed {seed} --{name}s 1: {why}")
-    return failed
 
 
 # The way to OpenSSH's server.
