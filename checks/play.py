@@ -50,8 +50,9 @@ HELLO, VERSION = 0x00000001, 4
 NEW_SESSION, ALIVE_CHECK, TERMINATE = 0x10000002, 0x10000004, 0x10000005
 OPEN_FWD, CLOSE_FWD, NEW_STDIO_FWD = 0x10000006, 0x10000007, 0x10000008
 STOP_LISTENING, PROXY = 0x10000009, 0x1000000F
-S_OK, S_FAILURE, S_EXIT_MESSAGE = 0x80000001, 0x80000003, 0x80000004
-S_ALIVE, S_SESSION_OPENED, S_PROXY = 0x80000005, 0x80000006, 0x8000000F
+S_OK, S_PERMISSION_DENIED, S_FAILURE = 0x80000001, 0x80000002, 0x80000003
+S_EXIT_MESSAGE, S_ALIVE, S_SESSION_OPENED = 0x80000004, 0x80000005, 0x80000006
+S_REMOTE_PORT, S_PROXY = 0x80000007, 0x8000000F
 
 # RFC 4253, section 12, and RFC 4254, section 9. There each name has SSH_MSG_ in front, and from 90
 # on SSH_MSG_CHANNEL_; those of 91 and 93 are OPEN_CONFIRMATION and WINDOW_ADJUST.
@@ -559,6 +560,7 @@ def has_paramiko() -> bool:
 # What a case may need beside programs: whether it is here, and what is said where it isn't.
 NEEDS: dict[str, tuple[Callable[[], bool], str]] = {
     "paramiko": (has_paramiko, "this machine has no paramiko for /usr/bin/python3"),
+    "sshd": (lambda: SSHD is not None, "this machine has no sshd"),
     "terminal": (lambda: os.getuid() == 0, "sshd gives terminals only where root starts it"),
 }
 
@@ -574,16 +576,19 @@ def hold_need(name: str) -> None:
 
 @dataclasses.dataclass(frozen=True)
 class Case:
-    """A case: what it does in its room, what it needs, and how its way is to be."""
+    """A case: what it does in its room, what it needs, how its way is to be, and how many tries it
+    has where the report names no other number. One that is a row of a table has a title."""
 
     play: Callable[[Any], None]
     needs: Sequence[str] = ()
     permissions: Sequence[str] = ()
     sshd_settings: str = ""
+    tries: int = 1
+    title: str = ""
 
     @property
     def name(self) -> str:
-        return self.play.__name__.replace("_", " ")
+        return self.title or self.play.__name__.replace("_", " ")
 
 
 RoomFor = Callable[[Case], contextlib.AbstractContextManager[Any]]
@@ -610,6 +615,10 @@ class Cases:
 
         return mark
 
+    def row(self, title: str, play: Callable[[Any], None], **more: Any) -> None:
+        """Adds a case that is a row of a table."""
+        self.cases.append(Case(play, title=title, **more))
+
     def named(self, words: Sequence[str]) -> list[Case]:
         """The cases whose names have one of the words, or all."""
         parts = [word.replace("_", " ") for word in words] or [""]
@@ -633,7 +642,9 @@ class Cases:
             at = f"{os.path.basename(place.filename)} line {place.lineno}"
             return "FAILED", f"{type(why).__name__} at {at}: {why}"
 
-    def report(self, words: Sequence[str], room_for: RoomFor, tries: int = 1) -> bool:
+    def report(
+        self, words: Sequence[str], room_for: RoomFor, tries: int | None = None
+    ) -> bool:
         """Plays the cases that are named, and returns whether there were any and none failed.
 
         One that failed is played again while it has tries left; each failure is told.
@@ -642,7 +653,7 @@ class Cases:
         for case in self.named(words):
             start = time.monotonic()
             said, why = self.outcome(case, room_for)
-            for _ in range(tries - 1):
+            for _ in range((tries or case.tries) - 1):
                 if said == "FAILED":
                     say(f"again: {case.name}: {why}")
                     said, why = self.outcome(case, room_for)
