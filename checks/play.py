@@ -299,6 +299,12 @@ def talk(stream: socket.socket, data: bytes) -> bytes:
     return bytes(heard)
 
 
+def processor_nanoseconds(pid: int) -> int:
+    """How much of the processor's time a process has had."""
+    with open(f"/proc/{pid}/schedstat", encoding="ascii") as stat:
+        return int(stat.read().split()[0])
+
+
 def descriptors(pid: int) -> int:
     """How many descriptors a process has open."""
     return len(os.listdir(f"/proc/{pid}/fd"))
