@@ -42,6 +42,7 @@ fn offer_once<W: Wire, H: House>(
     ensures later { W.server_faults wire.old ≤ W.server_faults wire.new }
     ensures calls { Counts 0 result (W.calls wire.old) (W.calls wire.new) }
     ensures openings { W.openings wire.new ≡ W.openings wire.old }
+    ensures joinings { W.joinings wire.new ≡ W.joinings wire.old }
     ensures idle { queue_in engine.old stream ≡ [] → (engine.new ≡ engine.old)
         × (wire.new ≡ wire.old) }
 {
@@ -86,6 +87,7 @@ fn offer<W: Wire, H: House>(
     ensures later { W.server_faults wire.old ≤ W.server_faults wire.new }
     ensures calls { Counts 0 result (W.calls wire.old) (W.calls wire.new) }
     ensures openings { W.openings wire.new ≡ W.openings wire.old }
+    ensures joinings { W.joinings wire.new ≡ W.joinings wire.old }
     ensures idle { queue_in engine.old stream ≡ [] → (engine.new ≡ engine.old)
         × (wire.new ≡ wire.old) }
 {
@@ -114,6 +116,7 @@ fn offer_clients<W: Wire, H: House>(
     ensures later { W.server_faults wire.old ≤ W.server_faults wire.new }
     ensures calls { Counts 0 result (W.calls wire.old) (W.calls wire.new) }
     ensures openings { W.openings wire.new ≡ W.openings wire.old }
+    ensures joinings { W.joinings wire.new ≡ W.joinings wire.old }
     ensures idle { engine.old.waiting ≡ [] → (engine.new ≡ engine.old) × (wire.new ≡ wire.old) }
 {
     todo.refill(engine.waiting().as_slice())?;
@@ -137,6 +140,7 @@ fn hush<W: Wire, H: House>(engine: &Engine, wire: &mut W)
     ensures client { W.client_faults wire.new ≡ W.client_faults wire.old }
     ensures calls { W.calls wire.new ≡ W.calls wire.old }
     ensures openings { W.openings wire.new ≡ W.openings wire.old }
+    ensures joinings { W.joinings wire.new ≡ W.joinings wire.old }
 {
     if engine.listening() && engine.ended().is_none() {
         return;
@@ -165,6 +169,7 @@ pub fn flush<W: Wire, H: House>(
     ensures later { W.server_faults wire.old ≤ W.server_faults wire.new }
     ensures calls { Counts 0 result (W.calls wire.old) (W.calls wire.new) }
     ensures openings { W.openings wire.new ≡ W.openings wire.old }
+    ensures joinings { W.joinings wire.new ≡ W.joinings wire.old }
     ensures idle { engine.old.waiting ≡ [] → (engine.new ≡ engine.old)
         × SameFaults (W.server_faults wire.old) (W.server_faults wire.new)
         (W.client_faults wire.old) (W.client_faults wire.new) }
@@ -186,6 +191,7 @@ fn close_lost<W: Wire, H: House>(engine: &mut Engine, wire: &mut W, held: &mut S
     ensures faults { W.server_faults wire.new ≡ W.server_faults wire.old }
     ensures calls { W.calls wire.new ≡ W.calls wire.old }
     ensures openings { W.openings wire.new ≡ W.openings wire.old }
+    ensures joinings { W.joinings wire.new ≡ W.joinings wire.old }
 {
     while let Some((client, _)) = engine.closing() {
         wire.close(client);
@@ -217,6 +223,7 @@ pub fn settle<W: Wire, H: House>(
     ensures later { W.server_faults wire.old ≤ W.server_faults wire.new }
     ensures calls { Counts 0 result (W.calls wire.old) (W.calls wire.new) }
     ensures openings { W.openings wire.new ≡ W.openings wire.old }
+    ensures joinings { W.joinings wire.new ≡ W.joinings wire.old }
     ensures idle { OnOk result (engine.old.waiting ≡ [] → engine.new.ended ≡ engine.old.ended) }
 {
     flush(engine, wire, house, held, todo)?;
