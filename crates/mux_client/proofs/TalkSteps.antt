@@ -9,7 +9,7 @@ use Rattle.ssh_grammar.proofs.Cuts.{cut-at}
 use Rattle.mux_outside.specs.Marks.{bytes_taken, taken_at}
 use Rattle.mux_outside.specs.declared.mark.Mark.{Mark}
 use Rattle.mux_outside.specs.declared.mark.Mark.TheVariants.{Waits, Accepts, Gets, Ends, Frees, Fails, Takes, Holds, WriteFails}
-use Rattle.mux_outside.specs.declared.turn.Want.{Want}
+use Rattle.mux_outside.specs.declared.turn.Want.TheVariants.{Read}
 use Rattle.mux_client.specs.declared.asks.Asks.{Asks}
 use Rattle.mux_client.specs.declared.stage.Stage.{Stage}
 use Rattle.mux_client.specs.declared.stage.Stage.TheVariants.{Greets, Asks as Asked, Granted, Refused, Broken}
@@ -19,9 +19,9 @@ use Rattle.mux_client.specs.declared.verdict.Line.{Line}
 use Rattle.mux_client.specs.Verdicts.{text_of_some}
 use Rattle.mux_client.specs.Requests.{requests_of}
 use Rattle.mux_client.specs.Talk.{Outcome, Finished, RefusedAt, BrokenAt, Talk, talk, stops, sending, showing, broken_by, tail_outcome}
-use Rattle.mux_client.specs.Journal.{given_at, bytes_given, ends_at, has_ended, held_by, is_held, talk_of, TookFront, TookAll, WaitsRight, WaitOpen, Answers, Shows, ShowsFront}
+use Rattle.mux_client.specs.Journal.{given_at, bytes_given, ends_at, has_ended, held_by, is_held, held_streams, talk_of, TookFront, TookAll, WaitsRight, WaitOpen, Answers, Shows, ShowsFront}
 use Rattle.mux_client.specs.Client.{ClientState, heard, without_sent, place_of, replied, later_at, later_by, later, HasRequest, Stands, IsSettled, IsSettledAt, outcome_of, ReadsNextTo}
-use Rattle.mux_client.specs.Talking.{held_streams, IsHeld, IsGoing, IsAnswerAt, IsOffered, Tells, IsJournal, Talking, IsTalk, TalksOn}
+use Rattle.mux_client.specs.Talking.{IsHeld, IsGoing, IsAnswerAt, IsOffered, Tells, IsJournal, Talking, IsTalk, TalksOn}
 use Rattle.mux_client.proofs.JournalGrows.{given-more, taken-more, ended-more, held-more, journal-more, told-one, told-none, told-two}
 use Rattle.mux_client.proofs.ReadFrames.{replied-none}
 
@@ -278,11 +278,11 @@ held-true false e = absurd (let z : [] ≡ 0 ∷ [] = e in cc)
 
 -- what it waits for
 pub talk-waits : {asks : Asks} {start told : Option (List Mark)} {held shown : List ℕ} {s : ClientState} → Talking asks start told held shown s → IsSettled s → IsOffered held s → IsGoing s.stage s.queue
-    → (waiting : List ℕ) (want : Want) (streams : List ℕ) (listens : Bool) → Talking asks start (option_map (λ l. l ++ Waits waiting want streams listens ∷ []) told) held shown s
-talk-waits {asks} {held = held} {shown = shown} {s = s} v settled offered going waiting want streams listens =
-    talking-next v held shown s (Waits waiting want streams listens) (record {
+    → (streams : List ℕ) (listens : Bool) → Talking asks start (option_map (λ l. l ++ Waits held Read streams listens ∷ []) told) held shown s
+talk-waits {asks} {held = held} {shown = shown} {s = s} v settled offered going streams listens =
+    talking-next v held shown s (Waits held Read streams listens) (record {
       right = right offered;
-      opens = talk-open v settled going;
+      opens = record { opens = talk-open v settled going; reads = refl; waits_for = v.held_is };
       stands = same-stands v.stands;
     }) (or-none (has_ended v.marks) v.ended) v.held_is
   where
