@@ -1,15 +1,8 @@
 -- The calls that a talk counts.
-use Rattle.std.proofs.Common.{◌≡◌, ◌≢◌, ◌≤◌, ◌<◌, ◌+◌, ◌-◌, ◌^◌, ◌∙◌, refl, sym, subst, ℕ, arith}
-use Rattle.std.specs.Prelude.{min, Result, Ok, Err}
-use Rattle.mux_outside.specs.Counts.{counted}
+use Rattle.std.proofs.Common.{◌≡◌, ◌≤◌, ◌+◌, ◌-◌, ◌^◌, ◌∙◌, refl, ℕ, arith}
+use Rattle.std.specs.Prelude.{min}
 use Rattle.mux_outside.specs.Seen.{Calls}
-use Rattle.mux_client.specs.declared.stage.Stage.{Stage}
-use Rattle.mux_client.specs.declared.stage.Stage.TheVariants.{Greets}
-use Rattle.mux_client.specs.declared.talked.Talked.{Talked}
-use Rattle.mux_client.specs.declared.talked.Talked.TheVariants as talked
-use Rattle.mux_client.specs.Client.{ClientState}
-use Rattle.mux_client.specs.Counted.{Cut, Stops, Waited, Well}
-use Rattle.mux_client.specs.Talking.{IsAnswerAt, IsDecided, IsOfWire, talked_of}
+use Rattle.mux_client.specs.Counted.{Waited, Well}
 
 waited-none : (n : ℕ) → Waited 0 n n
 waited-none n = record { most = omega arith; least = omega arith; fits = λ h. h }

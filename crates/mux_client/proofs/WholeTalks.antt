@@ -1,7 +1,6 @@
 -- Whole talks, from their beginning.
-use Rattle.std.proofs.Common.{◌≡◌, ◌≢◌, ◌∙◌, refl, sym, ap, subst, ℕ, true, false, List, [], ◌∷◌, ◌++◌, Option, Some, None}
+use Rattle.std.proofs.Common.{◌≡◌, ◌∙◌, refl, sym, subst, ℕ, true, false, List, [], Option}
 use Rattle.std.specs.Prelude.{Result, Ok, Err, IsErrAnd}
-use Rattle.std.specs.Option.{option_map}
 use Rattle.mux_outside.specs.declared.mark.Mark.{Mark}
 use Rattle.mux_outside.specs.Seen.{Seen}
 use Rattle.mux_outside.specs.Wire.{SameFaults}
@@ -9,10 +8,8 @@ use Rattle.mux_client.specs.declared.asks.Asks.{Asks}
 use Rattle.mux_client.specs.declared.talked.Talked.{Talked}
 use Rattle.mux_client.specs.declared.talked.Talked.TheVariants as talked
 use Rattle.mux_client.specs.Client.{ClientState, new_client, Stands, IsSettled}
-use Rattle.mux_client.specs.Counted.{WireFaults, SinkFaults}
-use Rattle.mux_client.specs.Talking.{AcceptsNone, IsAnswerAt, IsDecided, Talking, IsTalk, ShowsOn, ShowsLast, talked_of}
+use Rattle.mux_client.specs.Talking.{AcceptsNone, IsDecided, Talking, IsTalk, talked_of}
 use Rattle.mux_client.proofs.JournalGrows.{told-none}
-use Rattle.mux_client.proofs.ShowLines.{last-here}
 use Rattle.mux_client.proofs.TalkSteps.{talk-decided, talk-spent, talk-starved}
 
 -- an answer that a `?` hands on

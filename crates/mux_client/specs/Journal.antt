@@ -4,7 +4,7 @@ use Rattle.std.specs.Prelude.{◌≡◌, ◌⊎◌, ℕ, ◌==◌, Bool, true, f
 use Rattle.std.specs.List.{list_any}
 use Rattle.mux_outside.specs.Marks.{bytes_taken}
 use Rattle.mux_outside.specs.declared.mark.Mark.{Mark}
-use Rattle.mux_outside.specs.declared.mark.Mark.TheVariants.{Waits, Accepts, Gets, Ends, Frees, Fails, Takes, Holds, WriteFails}
+use Rattle.mux_outside.specs.declared.mark.Mark.TheVariants.{Waits, Gets, Ends, Frees, Holds}
 use Rattle.mux_outside.specs.declared.turn.Want.{Want}
 use Rattle.mux_outside.specs.declared.turn.Want.TheVariants.{Read}
 use Rattle.mux_client.specs.declared.asks.Asks.{Asks}
@@ -97,10 +97,10 @@ held_streams false = []
 -- a call of wait behind these marks: it reads, and waits for stream 0 where that is blocked; and a
 -- talk that is over waits no more, so it has no outcome yet, or not all was taken
 pub record IsOpenWait (asks : Asks) (before : List Mark) (waiting : List ℕ) (want : Want) : Type 0
-    where
-  pub opens : Answers Spent asks before
-  pub reads : want ≡ Read
-  pub waits_for : waiting ≡ held_streams (is_held before)
+  where
+    pub opens : Answers Spent asks before
+    pub reads : want ≡ Read
+    pub waits_for : waiting ≡ held_streams (is_held before)
 
 abbrev pub WaitOpen : Asks → List Mark → Mark → Type 0
 WaitOpen asks before (Waits waiting want streams listens) = IsOpenWait asks before waiting want

@@ -1,9 +1,7 @@
-use Rattle.std.proofs.Common.{◌≡◌, ◌∙◌, ◌++◌, ◌∷◌, [], ap, refl, subst, sym, ℕ, List, Option, Some, None}
-use Rattle.mux_outside.specs.Seen.{Seen}
+use Rattle.std.proofs.Common.{◌≡◌, ◌∙◌, ◌++◌, [], ap, subst, sym, ℕ, List}
 use Rattle.mux_outside.specs.Streams.{without}
-use Rattle.mux_outside.specs.declared.mark.Mark.{Mark}
 use Rattle.mux_client.specs.declared.talked.Talked.TheVariants.{BadMaster, OutOfMemory, ServerFailed}
-use Rattle.mux_client.specs.Client.{ClientState, heard, place_of}
+use Rattle.mux_client.specs.Client.{heard}
 use Rattle.mux_client.specs.Talking.{IsTalk, Talking}
 use Rattle.mux_client.proofs.ShowLines.{last-none, shows-none}
 use Rattle.mux_client.proofs.TalkSteps.{want-of-memory}

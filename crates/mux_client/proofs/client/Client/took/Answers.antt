@@ -1,6 +1,6 @@
-use Rattle.std.proofs.Common.{◌≡◌, ◌∙◌, ◌++◌, ap, subst, sym, take}
+use Rattle.std.proofs.Common.{◌∙◌, ◌++◌, ap, subst, sym, take}
 use Rattle.proxy_frames.specs.State.{QueueState}
-use Rattle.mux_client.specs.Client.{ClientState, Stands, without_sent}
+use Rattle.mux_client.specs.Client.{Stands, without_sent}
 use Rattle.mux_client.proofs.TalkSteps.{stands-took}
 use Rattle.mux_client.proofs.client.Client.took.Goals as goal
 
