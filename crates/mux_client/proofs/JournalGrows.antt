@@ -1,7 +1,6 @@
 -- A journal grows by a mark at its end.
-use Rattle.std.proofs.Common.{◌≡◌, ◌≢◌, ◌∙◌, refl, sym, ap, subst, ℕ, Bool, true, false, ◌||◌, List, [], ◌∷◌, ◌++◌, Option, Some, None, append_assoc}
+use Rattle.std.proofs.Common.{◌≡◌, ◌∙◌, refl, sym, ap, subst, Bool, true, false, ◌||◌, List, [], ◌∷◌, ◌++◌, Option, Some, None, append_assoc}
 use Rattle.std.specs.Option.{option_map}
-use Rattle.std.specs.List.{list_any, flat_map}
 use Rattle.std.proofs.lemmas.List.{append-nil}
 use Rattle.std.proofs.lemmas.List.Folds.{list_any-append}
 use Rattle.std.proofs.lemmas.Grind.{flat_map-append}
@@ -38,10 +37,13 @@ held-more marks m = held-from false marks m
 throughout-more : (asks : Asks) (before marks : List Mark) (m : Mark) → Throughout asks before marks → WaitsRight asks (before ++ marks) m → TookFront asks (before ++ (marks ++ m ∷ []))
     → Throughout asks before (marks ++ m ∷ [])
 throughout-more asks before [] m t right front = (subst (λ l. WaitsRight asks l m) (append-nil before) right, front, tt)
-throughout-more asks before (x ∷ marks) m t right front =
-    (t.0, t.1, throughout-more asks (before ++ x ∷ []) marks m t.2
-    (subst (λ l. WaitsRight asks l m) (sym (append_assoc before (x ∷ []) marks)) right)
-    (subst (TookFront asks) (sym (append_assoc before (x ∷ []) (marks ++ m ∷ []))) front))
+throughout-more asks before (x ∷ marks) m t right front = (
+  t.0,
+  t.1,
+  throughout-more asks (before ++ x ∷ []) marks m t.2
+      (subst (λ l. WaitsRight asks l m) (sym (append_assoc before (x ∷ []) marks)) right)
+      (subst (TookFront asks) (sym (append_assoc before (x ∷ []) (marks ++ m ∷ []))) front),
+)
 
 each-more : (P : List Mark → Mark → Type 0) (before marks : List Mark) (m : Mark) → AtEach P before marks → P (before ++ marks) m → AtEach P before (marks ++ m ∷ [])
 each-more P before [] m t p = (subst (λ l. P l m) (append-nil before) p, tt)

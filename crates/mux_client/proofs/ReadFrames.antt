@@ -1,23 +1,21 @@
 -- A client reads a frame: what it stands for then.
-use Rattle.std.proofs.Common.{◌≡◌, ◌≢◌, ◌≤◌, ◌<◌, ◌∙◌, refl, sym, ap, subst, ℕ, zero, suc, ◌+◌, ◌-◌, Bool, true, false, List, [], ◌∷◌, ◌++◌, length, drop, Option, Some, None, append_assoc, add-one, arith}
-use Rattle.std.specs.Prelude.{IsSome, IsTrue, ◌↔◌, slice_get, ⊤}
+use Rattle.std.proofs.Common.{◌≡◌, ◌≢◌, ◌≤◌, ◌<◌, ◌∙◌, refl, sym, ap, subst, ℕ, zero, suc, ◌+◌, ◌-◌, Bool, true, false, List, [], ◌∷◌, ◌++◌, length, drop, Option, Some, None, append_assoc, arith}
+use Rattle.std.specs.Prelude.{IsSome, IsTrue, ◌↔◌, slice_get}
 use Rattle.std.proofs.lemmas.List.{append-nil}
 use Rattle.ssh_grammar.specs.declared.framing.Framing.TheVariants.{Control}
-use Rattle.ssh_grammar.specs.declared.fault.BadFrame.{BadFrame}
-use Rattle.ssh_grammar.specs.Frames.{Front, Frame, More, Faulty, first_frame, Cut, with_frame, cut}
+use Rattle.ssh_grammar.specs.Frames.{Front, Frame, More, Faulty, first_frame, with_frame, cut}
 use Rattle.ssh_grammar.proofs.Cuts.{IsShorter, first-shorter, cut-at, first-extends, Extends}
-use Rattle.proxy_frames.specs.State.{FramerState}
 use Rattle.mux_client.specs.declared.asks.Asks.{Asks}
 use Rattle.mux_client.specs.declared.stage.Stage.{Stage}
 use Rattle.mux_client.specs.declared.stage.Stage.TheVariants.{Greets, Asks as Asked, Granted, Refused, Broken}
 use Rattle.mux_client.specs.declared.verdict.Line.{Line}
 use Rattle.mux_client.specs.declared.verdict.Line.TheVariants.{Nothing}
-use Rattle.mux_client.specs.declared.verdict.Verdict.TheVariants as said
 use Rattle.mux_client.specs.Requests.{Request, requests_of, request_at, request_frame, frame_due}
 use Rattle.mux_client.specs.Replies.{Verdict, Grants, Refuses, Breaks, verdict, is_hello}
-use Rattle.mux_client.specs.Verdicts.{text_of_line, meant_by}
-use Rattle.mux_client.specs.Talk.{Finished, RefusedAt, BrokenAt, Talk, talk, stops, sending, showing, behind, broken_by, tail_outcome, on_reply, on_hello, talk_on, greeted}
-use Rattle.mux_client.specs.Client.{ClientState, place_of, after_cut, stage_behind, stage_due, asked, replied, later_at, later_by, later, HasRequest, Stands, IsSettled, IsSettledAt, ReadsNextTo}
+use Rattle.mux_client.specs.Verdicts.{text_of_line}
+use Rattle.mux_client.specs.Talk.{BrokenAt, Talk, stops, sending, showing, behind, broken_by, tail_outcome, on_reply, on_hello, talk_on}
+use Rattle.mux_client.proofs.Talks.{cut-fault}
+use Rattle.mux_client.specs.Client.{ClientState, place_of, after_cut, stage_due, asked, replied, later_at, later_by, later, HasRequest, Stands, IsSettledAt, ReadsNextTo}
 
 -- ---- from one client to the next
 
@@ -47,11 +45,6 @@ frame-cut : (rest more content behind : List ℕ) → first_frame Control rest �
     → cut Control (rest ++ more) ≡ with_frame content (cut Control (behind ++ more))
 frame-cut rest more content behind e =
     cut-at Control (rest ++ more) (Frame content (behind ++ more)) (subst (λ front. Extends more front (first_frame Control (rest ++ more))) e (first-extends Control rest more))
-
-fault-cut : (rest more : List ℕ) (f : BadFrame) → first_frame Control rest ≡ Faulty f
-    → cut Control (rest ++ more) ≡ record { frames = []; rest = rest ++ more; fault = Some f }
-fault-cut rest more f e =
-    cut-at Control (rest ++ more) (Faulty f) (subst (λ front. Extends more front (first_frame Control (rest ++ more))) e (first-extends Control rest more))
 
 shorter : (rest content behind : List ℕ) → first_frame Control rest ≡ Frame content behind → length behind < length rest
 shorter [] content behind e = absurd (let z : More ≡ Frame content behind = e in cc)
@@ -157,7 +150,7 @@ not-cut asks old new at place e none = subst (λ s. ReadsNextTo asks old s None)
     }
     by_front (Faulty f) is none = record {
       stands = λ bytes taken shown h. stands-on asks bytes taken shown [] [] old (after_cut (Faulty f) at old) (sym (append-nil old.queue))
-          (λ more ended. ap (λ c. later_by old.stage (requests_of asks) c ended) (fault-cut old.framer.rest more f is) ∙ broken-here asks old.stage at place h.request) tt h;
+          (λ more ended. ap (λ c. later_by old.stage (requests_of asks) c ended) (cut-fault old.framer.rest more f is) ∙ broken-here asks old.stage at place h.request) tt h;
       settled = λ z. tt;
       less = λ z. no-line z;
       over = λ z. absurd (let w : Some at ≡ None = sym place ∙ z in cc);

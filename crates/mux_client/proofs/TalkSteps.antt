@@ -1,15 +1,15 @@
 -- A talk goes on mark by mark, or is over.
-use Rattle.std.proofs.Common.{◌≡◌, ◌≢◌, ◌∙◌, refl, sym, ap, subst, ℕ, ◌≤◌, Bool, true, false, ◌||◌, List, [], ◌∷◌, ◌++◌, length, take, drop, Option, Some, None, ◌⊎◌, inl, inr, append_assoc}
-use Rattle.std.specs.Prelude.{Result, Ok, Err, IsErrAnd, ⊤}
+use Rattle.std.proofs.Common.{◌≡◌, ◌≢◌, ◌∙◌, refl, sym, ap, subst, ℕ, Bool, true, false, ◌||◌, List, [], ◌∷◌, ◌++◌, take, drop, Option, Some, None, ◌⊎◌, inl, inr, append_assoc}
+use Rattle.std.specs.Prelude.{Result, Ok, Err, IsErrAnd}
 use Rattle.std.specs.Option.{option_map}
 use Rattle.std.proofs.lemmas.List.{append-nil, append_cancel_left, take-append-drop}
 use Rattle.ssh_grammar.specs.declared.framing.Framing.TheVariants.{Control}
-use Rattle.ssh_grammar.specs.Frames.{More, first_frame, Cut, cut}
+use Rattle.ssh_grammar.specs.Frames.{More, first_frame, cut}
 use Rattle.ssh_grammar.proofs.Cuts.{cut-at}
 use Rattle.mux_outside.specs.Marks.{bytes_taken, taken_at}
 use Rattle.mux_outside.specs.declared.mark.Mark.{Mark}
 use Rattle.mux_outside.specs.declared.mark.Mark.TheVariants.{Waits, Accepts, Gets, Ends, Frees, Fails, Takes, Holds, WriteFails}
-use Rattle.mux_outside.specs.declared.turn.Want.{Want}
+use Rattle.mux_outside.specs.declared.turn.Want.TheVariants.{Read}
 use Rattle.mux_client.specs.declared.asks.Asks.{Asks}
 use Rattle.mux_client.specs.declared.stage.Stage.{Stage}
 use Rattle.mux_client.specs.declared.stage.Stage.TheVariants.{Greets, Asks as Asked, Granted, Refused, Broken}
@@ -18,11 +18,11 @@ use Rattle.mux_client.specs.declared.talked.Talked.TheVariants as talked
 use Rattle.mux_client.specs.declared.verdict.Line.{Line}
 use Rattle.mux_client.specs.Verdicts.{text_of_some}
 use Rattle.mux_client.specs.Requests.{requests_of}
-use Rattle.mux_client.specs.Talk.{Outcome, Finished, RefusedAt, BrokenAt, Talk, talk, stops, sending, showing, broken_by, tail_outcome}
-use Rattle.mux_client.specs.Journal.{given_at, bytes_given, ends_at, has_ended, held_by, is_held, talk_of, TookFront, TookAll, WaitsRight, WaitOpen, Answers, Shows, ShowsFront}
-use Rattle.mux_client.specs.Client.{ClientState, heard, without_sent, place_of, replied, later_at, later_by, later, HasRequest, Stands, IsSettled, IsSettledAt, outcome_of, ReadsNextTo}
-use Rattle.mux_client.specs.Talking.{held_streams, IsHeld, IsGoing, IsAnswerAt, IsOffered, Tells, IsJournal, Talking, IsTalk, TalksOn}
-use Rattle.mux_client.proofs.JournalGrows.{given-more, taken-more, ended-more, held-more, journal-more, told-one, told-none, told-two}
+use Rattle.mux_client.specs.Talk.{Outcome, BrokenAt, Talk, talk, stops, sending, showing, tail_outcome}
+use Rattle.mux_client.specs.Journal.{given_at, bytes_given, ends_at, has_ended, held_by, is_held, held_streams, talk_of, TookFront, TookAll, WaitsRight, WaitOpen, Answers, Shows}
+use Rattle.mux_client.specs.Client.{ClientState, heard, without_sent, place_of, later_by, later, HasRequest, Stands, IsSettled, IsSettledAt, outcome_of, ReadsNextTo}
+use Rattle.mux_client.specs.Talking.{IsGoing, IsAnswerAt, IsOffered, IsJournal, Talking, IsTalk, TalksOn}
+use Rattle.mux_client.proofs.JournalGrows.{given-more, taken-more, ended-more, held-more, journal-more, told-one}
 use Rattle.mux_client.proofs.ReadFrames.{replied-none}
 
 -- want of memory that a `?` hands on
@@ -41,21 +41,21 @@ pub talk-now : {asks : Asks} {bytes taken shown : List ℕ} {s : ClientState} (h
     → talk asks bytes ended ≡ sending (taken ++ s.queue) (showing shown (later s asks [] ended))
 talk-now {asks} {bytes} h ended = ap (λ b. talk asks b ended) (sym (append-nil bytes)) ∙ h.goes [] ended
 
+nothing-cut : (rest : List ℕ) → first_frame Control rest ≡ More → cut Control (rest ++ []) ≡ record { frames = []; rest = rest; fault = None }
+nothing-cut rest e = ap (cut Control) (append-nil rest) ∙ cut-at Control rest More e
+
 -- nothing is to come once all frames were read
 later-settled : (asks : Asks) (stage : Stage) (rest : List ℕ) (ended : Bool) → IsSettledAt stage rest → HasRequest asks stage → (ended ≡ true → place_of stage ≡ None)
     → later_by stage (requests_of asks) (cut Control (rest ++ [])) ended ≡ stops (outcome_of stage)
 later-settled asks stage rest ended settled request over = by_stage stage settled request over
   where
-    nothing : first_frame Control rest ≡ More → cut Control (rest ++ []) ≡ record { frames = []; rest = rest; fault = None }
-    nothing e = ap (cut Control) (append-nil rest) ∙ cut-at Control rest More e
-
     by_end : (ended : Bool) (at : ℕ) → (ended ≡ true → Some at ≡ None) → tail_outcome ended at ≡ None
     by_end true at over = absurd (let z : Some at ≡ None = over refl in cc)
     by_end false at over = refl
 
     by_stage : (stage : Stage) → IsSettledAt stage rest → HasRequest asks stage → (ended ≡ true → place_of stage ≡ None) → later_by stage (requests_of asks) (cut Control (rest ++ [])) ended ≡ stops (outcome_of stage)
-    by_stage Greets e h over = ap (λ c. later_by Greets (requests_of asks) c ended) (nothing e) ∙ ap stops (by_end ended 0 over)
-    by_stage (Asked id at) e h over = ap (λ c. later_by (Asked id at) (requests_of asks) c ended) (nothing e) ∙ replied-none asks id at ended h.0 h.1 ∙ ap stops (by_end ended at over)
+    by_stage Greets e h over = ap (λ c. later_by Greets (requests_of asks) c ended) (nothing-cut rest e) ∙ ap stops (by_end ended 0 over)
+    by_stage (Asked id at) e h over = ap (λ c. later_by (Asked id at) (requests_of asks) c ended) (nothing-cut rest e) ∙ replied-none asks id at ended h.0 h.1 ∙ ap stops (by_end ended at over)
     by_stage Granted e h over = refl
     by_stage (Refused id) e h over = refl
     by_stage (Broken at) e h over = refl
@@ -278,11 +278,11 @@ held-true false e = absurd (let z : [] ≡ 0 ∷ [] = e in cc)
 
 -- what it waits for
 pub talk-waits : {asks : Asks} {start told : Option (List Mark)} {held shown : List ℕ} {s : ClientState} → Talking asks start told held shown s → IsSettled s → IsOffered held s → IsGoing s.stage s.queue
-    → (waiting : List ℕ) (want : Want) (streams : List ℕ) (listens : Bool) → Talking asks start (option_map (λ l. l ++ Waits waiting want streams listens ∷ []) told) held shown s
-talk-waits {asks} {held = held} {shown = shown} {s = s} v settled offered going waiting want streams listens =
-    talking-next v held shown s (Waits waiting want streams listens) (record {
+    → (streams : List ℕ) (listens : Bool) → Talking asks start (option_map (λ l. l ++ Waits held Read streams listens ∷ []) told) held shown s
+talk-waits {asks} {held = held} {shown = shown} {s = s} v settled offered going streams listens =
+    talking-next v held shown s (Waits held Read streams listens) (record {
       right = right offered;
-      opens = talk-open v settled going;
+      opens = record { opens = talk-open v settled going; reads = refl; waits_for = v.held_is };
       stands = same-stands v.stands;
     }) (or-none (has_ended v.marks) v.ended) v.held_is
   where
@@ -318,12 +318,9 @@ later-broken : (asks : Asks) (stage : Stage) (rest : List ℕ) (at : ℕ) → Is
     → later_by stage (requests_of asks) (cut Control (rest ++ [])) true ≡ stops (Some (BrokenAt at))
 later-broken asks stage rest at settled request place = by_stage stage settled request place
   where
-    nothing : first_frame Control rest ≡ More → cut Control (rest ++ []) ≡ record { frames = []; rest = rest; fault = None }
-    nothing e = ap (cut Control) (append-nil rest) ∙ cut-at Control rest More e
-
     by_stage : (stage : Stage) → IsSettledAt stage rest → HasRequest asks stage → place_of stage ≡ Some at → later_by stage (requests_of asks) (cut Control (rest ++ [])) true ≡ stops (Some (BrokenAt at))
-    by_stage Greets e h p = ap (λ c. later_by Greets (requests_of asks) c true) (nothing e) ∙ ap (λ n. stops (Some (BrokenAt n))) (let z : Some 0 ≡ Some at = p in cc)
-    by_stage (Asked id n) e h p = ap (λ c. later_by (Asked id n) (requests_of asks) c true) (nothing e) ∙ replied-none asks id n true h.0 h.1 ∙ ap (λ m. stops (Some (BrokenAt m))) (let z : Some n ≡ Some at = p in cc)
+    by_stage Greets e h p = ap (λ c. later_by Greets (requests_of asks) c true) (nothing-cut rest e) ∙ ap (λ n. stops (Some (BrokenAt n))) (let z : Some 0 ≡ Some at = p in cc)
+    by_stage (Asked id n) e h p = ap (λ c. later_by (Asked id n) (requests_of asks) c true) (nothing-cut rest e) ∙ replied-none asks id n true h.0 h.1 ∙ ap (λ m. stops (Some (BrokenAt m))) (let z : Some n ≡ Some at = p in cc)
     by_stage Granted e h p = absurd (let z : None ≡ Some at = p in cc)
     by_stage (Refused id) e h p = absurd (let z : None ≡ Some at = p in cc)
     by_stage (Broken n) e h p = absurd (let z : None ≡ Some at = p in cc)

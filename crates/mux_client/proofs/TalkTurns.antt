@@ -1,5 +1,5 @@
 -- A talk at a turn.
-use Rattle.std.proofs.Common.{◌≡◌, ◌≢◌, ◌∙◌, refl, sym, ap, subst, ℕ, Bool, true, false, List, [], ◌∷◌, ◌++◌, Option, Some, None, ◌⊎◌, inl, inr}
+use Rattle.std.proofs.Common.{◌≡◌, ◌∙◌, refl, sym, ap, subst, ℕ, Bool, true, false, List, [], ◌∷◌, ◌++◌, Option, Some, None, inl, inr}
 use Rattle.std.specs.Prelude.{Result, Ok, Err, IfErr, IsTrue, ◌==◌, ◌||◌}
 use Rattle.std.specs.Option.{option_map}
 use Rattle.std.proofs.lemmas.Bool.{eqb-true}
@@ -10,7 +10,7 @@ use Rattle.mux_outside.specs.Wire.{SameFaults}
 use Rattle.mux_outside.specs.declared.mark.Mark.{Mark}
 use Rattle.mux_outside.specs.declared.mark.Mark.TheVariants.{Waits, Gets, Ends, Frees, Fails}
 use Rattle.mux_outside.specs.declared.turn.Turn.TheVariants as turn
-use Rattle.mux_outside.specs.declared.turn.Want.{Want}
+use Rattle.mux_outside.specs.declared.turn.Want.TheVariants.{Read}
 use Rattle.mux_client.specs.declared.asks.Asks.{Asks}
 use Rattle.mux_client.specs.declared.talked.Talked.{Talked}
 use Rattle.mux_client.specs.declared.talked.Talked.TheVariants as talked
@@ -47,45 +47,45 @@ starved {shown = shown} v = still-over shown (talk-starved v shown [] (sym (appe
 -- ---- a turn
 
 module _ {asks : Asks} {start : Option (List Mark)} (seen : Seen) {held shown : List ℕ} {s : ClientState}
-    (v : Talking asks start seen.told held shown s) (settled : IsSettled s) (offered : IsOffered held s) (going : IsGoing s.stage s.queue) (want : Want) (now : Seen) where
+    (v : Talking asks start seen.told held shown s) (settled : IsSettled s) (offered : IsOffered held s) (going : IsGoing s.stage s.queue) (now : Seen) where
   -- with the call of wait
   abbrev told-waiting : Option (List Mark)
-  told-waiting = option_map (λ m. m ++ Waits held want seen.streams seen.listens ∷ []) seen.told
+  told-waiting = option_map (λ m. m ++ Waits held Read seen.streams seen.listens ∷ []) seen.told
 
   waiting : Talking asks start told-waiting held shown s
-  waiting = talk-waits v settled offered going held want seen.streams seen.listens
+  waiting = talk-waits v settled offered going seen.streams seen.listens
 
-  pub turn-gets : (k : ℕ) (bytes : List ℕ) → k ≡ 0 → now ≡ seen_after_turn (turn.Got k) held want bytes seen → Talking asks start now.told held shown (heard bytes s)
+  pub turn-gets : (k : ℕ) (bytes : List ℕ) → k ≡ 0 → now ≡ seen_after_turn (turn.Got k) held Read bytes seen → Talking asks start now.told held shown (heard bytes s)
   turn-gets k bytes zero e =
       subst (λ t. Talking asks start t held shown (heard bytes s))
-      (sym (ap (λ (x : Seen). x.told) e ∙ told-two (Waits held want seen.streams seen.listens) (Gets k bytes) seen.told ∙ ap (λ n. option_map (λ m. m ++ Gets n bytes ∷ []) told-waiting) zero))
+      (sym (ap (λ (x : Seen). x.told) e ∙ told-two (Waits held Read seen.streams seen.listens) (Gets k bytes) seen.told ∙ ap (λ n. option_map (λ m. m ++ Gets n bytes ∷ []) told-waiting) zero))
       (talk-gets waiting bytes)
 
-  pub turn-ends : (k : ℕ) (bytes : List ℕ) → k ≡ 0 → now ≡ seen_after_turn (turn.End k) held want bytes seen → place_of s.stage ≡ None → Talking asks start now.told held shown s
+  pub turn-ends : (k : ℕ) (bytes : List ℕ) → k ≡ 0 → now ≡ seen_after_turn (turn.End k) held Read bytes seen → place_of s.stage ≡ None → Talking asks start now.told held shown s
   turn-ends k bytes zero e none =
       subst (λ t. Talking asks start t held shown s)
-      (sym (ap (λ (x : Seen). x.told) e ∙ told-two (Waits held want seen.streams seen.listens) (Ends k) seen.told ∙ ap (λ n. option_map (λ m. m ++ Ends n ∷ []) told-waiting) zero))
+      (sym (ap (λ (x : Seen). x.told) e ∙ told-two (Waits held Read seen.streams seen.listens) (Ends k) seen.told ∙ ap (λ n. option_map (λ m. m ++ Ends n ∷ []) told-waiting) zero))
       (talk-ends waiting none)
 
-  pub turn-breaks : (k : ℕ) (bytes : List ℕ) → k ≡ 0 → now ≡ seen_after_turn (turn.End k) held want bytes seen → (at : ℕ) → place_of s.stage ≡ Some at → IsTalk asks (talked.BadMaster at) start now.told shown shown
+  pub turn-breaks : (k : ℕ) (bytes : List ℕ) → k ≡ 0 → now ≡ seen_after_turn (turn.End k) held Read bytes seen → (at : ℕ) → place_of s.stage ≡ Some at → IsTalk asks (talked.BadMaster at) start now.told shown shown
   turn-breaks k bytes zero e at place =
       subst (λ t. IsTalk asks (talked.BadMaster at) start t shown shown)
-      (sym (ap (λ (x : Seen). x.told) e ∙ told-two (Waits held want seen.streams seen.listens) (Ends k) seen.told ∙ ap (λ n. option_map (λ m. m ++ Ends n ∷ []) told-waiting) zero))
+      (sym (ap (λ (x : Seen). x.told) e ∙ told-two (Waits held Read seen.streams seen.listens) (Ends k) seen.told ∙ ap (λ n. option_map (λ m. m ++ Ends n ∷ []) told-waiting) zero))
       (talk-breaks-off waiting settled at place)
 
-  pub turn-frees : (k : ℕ) (bytes : List ℕ) → k ≡ 0 → now ≡ seen_after_turn (turn.Writable k) held want bytes seen → Talking asks start now.told [] shown s
+  pub turn-frees : (k : ℕ) (bytes : List ℕ) → k ≡ 0 → now ≡ seen_after_turn (turn.Writable k) held Read bytes seen → Talking asks start now.told [] shown s
   turn-frees k bytes zero e =
       subst (λ t. Talking asks start t [] shown s)
-      (sym (ap (λ (x : Seen). x.told) e ∙ told-two (Waits held want seen.streams seen.listens) (Frees k) seen.told ∙ ap (λ n. option_map (λ m. m ++ Frees n ∷ []) told-waiting) zero))
+      (sym (ap (λ (x : Seen). x.told) e ∙ told-two (Waits held Read seen.streams seen.listens) (Frees k) seen.told ∙ ap (λ n. option_map (λ m. m ++ Frees n ∷ []) told-waiting) zero))
       (talk-frees waiting)
 
-  pub turn-fails : (k : ℕ) (bytes : List ℕ) → k ≡ 0 → now ≡ seen_after_turn (turn.Failed k) held want bytes seen → IsTalk asks talked.ServerFailed start now.told shown shown
+  pub turn-fails : (k : ℕ) (bytes : List ℕ) → k ≡ 0 → now ≡ seen_after_turn (turn.Failed k) held Read bytes seen → IsTalk asks talked.ServerFailed start now.told shown shown
   turn-fails k bytes zero e =
       subst (λ t. IsTalk asks talked.ServerFailed start t shown shown)
-      (sym (ap (λ (x : Seen). x.told) e ∙ told-two (Waits held want seen.streams seen.listens) (Fails k) seen.told ∙ ap (λ n. option_map (λ m. m ++ Fails n ∷ []) told-waiting) zero))
+      (sym (ap (λ (x : Seen). x.told) e ∙ told-two (Waits held Read seen.streams seen.listens) (Fails k) seen.told ∙ ap (λ n. option_map (λ m. m ++ Fails n ∷ []) told-waiting) zero))
       (talk-fails waiting settled)
 
-  pub turn-starved : (bytes : List ℕ) → now ≡ seen_after_turn turn.NoMemory held want bytes seen → IsTalk asks talked.OutOfMemory start now.told (shown ++ []) (shown ++ [])
+  pub turn-starved : (bytes : List ℕ) → now ≡ seen_after_turn turn.NoMemory held Read bytes seen → IsTalk asks talked.OutOfMemory start now.told (shown ++ []) (shown ++ [])
   turn-starved bytes e =
       subst (λ t. IsTalk asks talked.OutOfMemory start t (shown ++ []) (shown ++ [])) (sym (ap (λ (x : Seen). x.told) e ∙ told-none seen.told)) (starved v)
 
@@ -110,22 +110,3 @@ no-fault talked.Spent a b c d own same = absurd own
 pub no-faults : {A : Type 0} (r : Result A Talked) (a b c d : ℕ) → IfErr r IsOfSink → SameFaults a b c d → StepFaults r a b c d
 no-faults (Ok x) a b c d own same = same
 no-faults (Err answer) a b c d own same = no-fault answer a b c d own same
-
--- ---- turns that are left
-
-sink-unspent : (answer : Talked) → IsOfSink answer → answer ≢ talked.Spent
-sink-unspent talked.WriteFault own e = cc
-sink-unspent talked.OutOfMemory own e = cc
-sink-unspent talked.ServerFailed own e = absurd own
-sink-unspent talked.Done own e = absurd own
-sink-unspent (talked.Refused id) own e = absurd own
-sink-unspent (talked.BadMaster at) own e = absurd own
-sink-unspent talked.Spent own e = absurd own
-
-pub read-unspent : {A : Type 0} (r : Result A Talked) → IfErr r IsOfSink → IfErr r (λ answer. answer ≢ talked.Spent)
-read-unspent (Ok x) own = own
-read-unspent (Err answer) own = sink-unspent answer own
-
-pub off-unspent : (s : ClientState) (r : Result (Unit {0}) Talked) → BreaksOff s r → IfErr r (λ answer. answer ≢ talked.Spent)
-off-unspent s (Ok x) b = tt
-off-unspent s (Err answer) b = λ e. let z : talked.BadMaster b.0 ≡ talked.Spent = sym b.2 ∙ e in cc

@@ -1,18 +1,17 @@
 -- What an answer means, by what is asked.
 use Rattle.std.proofs.Common.{◌≡◌, ◌∙◌, refl, sym, ap, subst, ℕ, zero, suc, Bool, true, false, List, [], ◌∷◌, Option, Some, None}
-use Rattle.std.specs.Prelude.{slice_get, map}
+use Rattle.std.specs.Prelude.{slice_get}
 use Rattle.std.specs.Option.{option_map}
 use Rattle.std.proofs.lemmas.Option.{slice_get-map}
-use Rattle.ssh_grammar.specs.Control.{ForwardAsk, Answer, Greets, Okay, PermissionDenied, Failed, Alive, RemotePort, Proxies}
+use Rattle.ssh_grammar.specs.Control.{ForwardAsk, Answer, Greets}
 use Rattle.ssh_grammar.specs.ReadAnswer.{read_answer}
 use Rattle.mux_outside.specs.declared.start_ask.StartAsk.{StartAsk}
 use Rattle.mux_client.specs.declared.asks.Asks.{Asks}
 use Rattle.mux_client.specs.declared.asks.Asks.TheVariants.{Check, Exit, Stop, Forwards}
 use Rattle.mux_client.specs.declared.answer.Answer.{Answer as Read}
-use Rattle.mux_client.specs.declared.answer.Answer.TheVariants as read
 use Rattle.mux_client.specs.declared.verdict.Verdict.{Verdict as TheVerdict}
 use Rattle.mux_client.specs.Requests.{Request, Checks, Exits, Stops, Opens, Closes, forward_of, forward_request, request_at}
-use Rattle.mux_client.specs.Replies.{Verdict, Breaks, verdict, verdict_on}
+use Rattle.mux_client.specs.Replies.{verdict, verdict_on}
 use Rattle.mux_client.specs.Answers.{GivesAnswer, shown_of}
 use Rattle.mux_client.specs.Verdicts.{meant_by, verdict_by}
 

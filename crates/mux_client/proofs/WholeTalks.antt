@@ -1,7 +1,6 @@
 -- Whole talks, from their beginning.
-use Rattle.std.proofs.Common.{◌≡◌, ◌≢◌, ◌∙◌, refl, sym, ap, subst, ℕ, true, false, List, [], ◌∷◌, ◌++◌, Option, Some, None}
+use Rattle.std.proofs.Common.{◌≡◌, ◌∙◌, refl, sym, subst, ℕ, true, false, List, [], Option}
 use Rattle.std.specs.Prelude.{Result, Ok, Err, IsErrAnd}
-use Rattle.std.specs.Option.{option_map}
 use Rattle.mux_outside.specs.declared.mark.Mark.{Mark}
 use Rattle.mux_outside.specs.Seen.{Seen}
 use Rattle.mux_outside.specs.Wire.{SameFaults}
@@ -9,10 +8,8 @@ use Rattle.mux_client.specs.declared.asks.Asks.{Asks}
 use Rattle.mux_client.specs.declared.talked.Talked.{Talked}
 use Rattle.mux_client.specs.declared.talked.Talked.TheVariants as talked
 use Rattle.mux_client.specs.Client.{ClientState, new_client, Stands, IsSettled}
-use Rattle.mux_client.specs.Counted.{WireFaults, SinkFaults}
-use Rattle.mux_client.specs.Talking.{AcceptsNone, IsAnswerAt, IsDecided, Talking, IsTalk, ShowsOn, ShowsLast, talked_of}
+use Rattle.mux_client.specs.Talking.{AcceptsNone, IsDecided, Talking, IsTalk, talked_of}
 use Rattle.mux_client.proofs.JournalGrows.{told-none}
-use Rattle.mux_client.proofs.ShowLines.{last-here}
 use Rattle.mux_client.proofs.TalkSteps.{talk-decided, talk-spent, talk-starved}
 
 -- an answer that a `?` hands on
@@ -52,31 +49,3 @@ pub decided-talk : {asks : Asks} {start told : Option (List Mark)} {held shown :
     → IsTalk asks (talked_of r) start told shown shown
 decided-talk v settled (Ok x) d = talk-spent v settled d
 decided-talk v settled (Err answer) d = talk-decided v settled answer d
-
--- ---- faults of an answer that was decided
-
-decided-same : (s : ClientState) (answer : Talked) (a b c d : ℕ) → IsAnswerAt answer s.stage s.queue → SameFaults a b c d → WireFaults answer a b c d
-decided-same s talked.Done a b c d at same = same
-decided-same s (talked.Refused id) a b c d at same = same
-decided-same s (talked.BadMaster n) a b c d at same = same
-decided-same s talked.WriteFault a b c d at same = absurd at
-decided-same s talked.ServerFailed a b c d at same = absurd at
-decided-same s talked.Spent a b c d at same = absurd at
-decided-same s talked.OutOfMemory a b c d at same = absurd at
-
-pub decided-faults : (s : ClientState) (r : Result (Unit {0}) Talked) (a b c d : ℕ) → IsDecided s r → SameFaults a b c d → WireFaults (talked_of r) a b c d
-decided-faults s (Ok x) a b c d at same = same
-decided-faults s (Err answer) a b c d at same = decided-same s answer a b c d at same
-
-decided-calm : (s : ClientState) (answer : Talked) (a b : ℕ) → IsAnswerAt answer s.stage s.queue → b ≡ a → SinkFaults answer a b
-decided-calm s talked.Done a b at same = same
-decided-calm s (talked.Refused id) a b at same = same
-decided-calm s (talked.BadMaster n) a b at same = same
-decided-calm s talked.WriteFault a b at same = absurd at
-decided-calm s talked.ServerFailed a b at same = absurd at
-decided-calm s talked.Spent a b at same = absurd at
-decided-calm s talked.OutOfMemory a b at same = absurd at
-
-pub decided-sink : (s : ClientState) (r : Result (Unit {0}) Talked) (a b : ℕ) → IsDecided s r → b ≡ a → SinkFaults (talked_of r) a b
-decided-sink s (Ok x) a b at same = same
-decided-sink s (Err answer) a b at same = decided-calm s answer a b at same

@@ -1,5 +1,5 @@
 -- What holds between a client, its wire and its sink while it talks, and once the talk is over.
-use Rattle.std.specs.Prelude.{◌≡◌, ◌≢◌, ◌⊎◌, ℕ, Bool, true, false, ⊤, List, [], ◌∷◌, ◌++◌, Option, Some, None, Result, Ok, Err}
+use Rattle.std.specs.Prelude.{◌≡◌, ◌≢◌, ◌⊎◌, ℕ, true, false, ⊤, List, [], ◌∷◌, ◌++◌, Option, Some, None, Result, Ok, Err}
 use Rattle.std.specs.Option.{option_map}
 use Rattle.mux_outside.specs.Marks.{bytes_taken}
 use Rattle.mux_outside.specs.Seen.{Seen}
@@ -9,7 +9,7 @@ use Rattle.mux_client.specs.declared.stage.Stage.{Stage}
 use Rattle.mux_client.specs.declared.stage.Stage.TheVariants as stage
 use Rattle.mux_client.specs.declared.talked.Talked.{Talked}
 use Rattle.mux_client.specs.declared.talked.Talked.TheVariants.{Done, Refused, BadMaster, WriteFault, ServerFailed, Spent, OutOfMemory}
-use Rattle.mux_client.specs.Journal.{bytes_given, has_ended, is_held, talk_of, Throughout, WaitOpen, AtEach, Answers, Shows, ShowsFront}
+use Rattle.mux_client.specs.Journal.{bytes_given, has_ended, is_held, held_streams, talk_of, Throughout, WaitOpen, AtEach, Answers, Shows, ShowsFront}
 use Rattle.mux_client.specs.Client.{ClientState, Stands, place_of}
 
 -- ---- the wire
@@ -26,10 +26,6 @@ pub record AcceptsNone (old new : Seen) : Type 0 where
   pub last : new.last ≡ old.last
 
 -- the streams that take no bytes for now: stream 0, or none
-abbrev pub held_streams : Bool → List ℕ
-held_streams true = 0 ∷ []
-held_streams false = []
-
 abbrev pub IsHeld : List ℕ → Type 0
 IsHeld held = (held ≡ []) ⊎ (held ≡ 0 ∷ [])
 

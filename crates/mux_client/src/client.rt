@@ -1,4 +1,4 @@
-ghost use Rattle.std.specs.Prelude.{◌≡◌, ◌≤◌, ◌<◌, [], ◌++◌, ℕ, List, length, Some, None, IfOk, OnOk, OnErr, IsSome, IsTrue, ◌↔◌, ◌+◌, ◌*◌};
+ghost use Rattle.std.specs.Prelude.{◌≡◌, ◌≤◌, ◌<◌, [], ◌++◌, ℕ, List, length, take, Some, None, IfOk, OnOk, OnErr, IsSome, IsTrue, ◌↔◌, ◌+◌, ◌*◌};
 ghost use Rattle.ssh_grammar.specs.declared.framing.Framing.TheVariants.{Control};
 ghost use Rattle.ssh_grammar.specs.Frames.{first_frame};
 ghost use Rattle.mux_client.specs.declared.asks.Asks.{Asks as TheAsks};
@@ -76,6 +76,9 @@ impl Client {
     pub fn took(&mut self, n: usize)
         requires { n ≤ length self.old.queue }
         ensures exact { self.new ≡ without_sent n self.old }
+        ensures stands { (asks : TheAsks) (bytes taken shown : List ℕ)
+            → Stands asks bytes taken shown self.old
+            → Stands asks bytes (taken ++ take n self.old.queue) shown self.new }
     {
         self.queue.took(n);
     }

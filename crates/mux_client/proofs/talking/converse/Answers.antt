@@ -1,8 +1,7 @@
 use Rattle.std.proofs.Common.{◌≡◌, ◌∙◌, ◌+◌, [], refl, sym, ap, subst, ℕ, List, inl, arith}
-use Rattle.std.specs.Prelude.{length}
 use Rattle.mux_client.specs.declared.talked.Talked.TheVariants.{OutOfMemory}
 use Rattle.mux_client.specs.Client.{ClientState}
-use Rattle.mux_client.specs.Talking.{IsTalk, ShowsLast, Talking, WholeTalk, talked_of}
+use Rattle.mux_client.specs.Talking.{IsTalk, Talking, WholeTalk}
 use Rattle.mux_client.proofs.Counts.{well-none, well-on}
 use Rattle.mux_client.proofs.ShowLines.{last-here, last-none, last-then, shows-none, shows-then}
 use Rattle.mux_client.proofs.TalkSteps.{talk-decided}

@@ -1,4 +1,4 @@
-use Rattle.std.proofs.Common.{◌≡◌, ℕ, List}
+use Rattle.std.proofs.Common.{◌≡◌}
 use Rattle.mux_outside.specs.Wire.{SameFaults}
 use Rattle.mux_client.specs.declared.stage.Stage.TheVariants.{Greets}
 use Rattle.mux_client.specs.Client.{IsSettled}

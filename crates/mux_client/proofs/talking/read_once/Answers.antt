@@ -1,6 +1,5 @@
-use Rattle.std.proofs.Common.{◌≡◌, ◌++◌, [], sym, subst, ℕ, List, Some, None}
+use Rattle.std.proofs.Common.{◌++◌, [], sym, subst, Some, None}
 use Rattle.std.proofs.lemmas.List.{append-nil}
-use Rattle.mux_outside.specs.declared.mark.Mark.{Mark}
 use Rattle.mux_client.specs.declared.talked.Talked.TheVariants.{OutOfMemory}
 use Rattle.mux_client.specs.Client.{ReadsNextTo}
 use Rattle.mux_client.specs.Verdicts.{text_of_line}
