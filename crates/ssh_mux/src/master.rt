@@ -91,8 +91,8 @@ pub fn share<W: Wire, F: Files, R: Runner, H: House>(
     open_and_serve(alloc, &control, transport, policy, pid, wire, house, turns)
 }
 
-// The control path of what the words ask for.
-fn control_of<F: Files, R: Runner>(
+/// The control path of what the words ask for.
+pub fn control_of<F: Files, R: Runner>(
     alloc: Global,
     asked: &Asked,
     facts: &Facts,

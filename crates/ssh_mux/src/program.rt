@@ -11,6 +11,7 @@ ghost use Rattle.ssh_mux.specs.Places.{Placed, told_for};
 ghost use Rattle.ssh_mux.specs.Sharing.{CallsEnd, IdleCause, OpensOnce, ServesFor, SharesFor};
 ghost use Rattle.ssh_mux.specs.Sharing.{WaitsFor, WireCause, pid_of};
 
+use crate::client::ask_master;
 use crate::drill::drill;
 use crate::ending::Ending;
 use crate::listing::list;
@@ -27,11 +28,13 @@ use std::alloc::Global;
 ///
 /// `words` are the program's words without its name. What they ask for is resolved over `files`,
 /// whose commands `runner` runs. The listing of `-G` goes to `out` in one `put`, once it is
-/// complete. `-M` opens the wire and serves it for at most `turns` turns. `--drill` does so too,
-/// for clients that are permitted anything but forwardings of the master's own, and where its run
-/// ends well the summary of what the wire has counted goes to `out` in one `put`. A status other
-/// than that of success or of a failed `out` has its one line, which goes to `err` in one `put`;
-/// where there is no memory for it the status is that of want of memory.
+/// complete. `-M` opens the wire and serves it for at most `turns` turns. `-O` joins the wire to the
+/// socket of a running master, asks it for at most `turns` turns, and hands each line of what it
+/// answers to `out` in one `put`. `--drill` serves as `-M` does, for clients that are permitted
+/// anything but forwardings of the master's own, and where its run ends well the summary of what
+/// the wire has counted goes to `out` in one `put`. A status other than that of success or of a
+/// failed `out` has its one line, which goes to `err` in one `put`; where there is no memory for it
+/// the status is that of want of memory.
 pub fn run<W: Wire, F: Files, R: Runner, S: Sink, H: House>(
     alloc: Global,
     words: &Texts,
@@ -163,6 +166,9 @@ fn obey<W: Wire, F: Files, R: Runner, S: Sink, H: House>(
             listens,
         } => share(
             alloc, &asked, &transport, &opens, &listens, facts, wire, files, runner, house, turns,
+        ),
+        Command::Control { asked, control } => ask_master(
+            alloc, &asked, control, facts, wire, files, runner, out, turns,
         ),
         Command::Drill { .. } => drill(alloc, words, wire, out, turns),
     }
