@@ -1,7 +1,13 @@
 //! What a running master is asked, by the words.
-ghost use Rattle.std.specs.Prelude.{◌≡◌};
-ghost use Rattle.ssh_mux.specs.Asks.{forward_key, forward_kind, end_at, connect_at, start_ask};
-ghost use Rattle.ssh_mux.specs.Asks.{line_asks, asks_from, asks_for, GivesAsks};
+ghost use Rattle.std.specs.Prelude.{◌≡◌, IfOk, IsTrue, codes};
+ghost use Rattle.std.specs.List.{list_any};
+ghost use Rattle.conf_rules.specs.CommandLine.{is_forwarding};
+ghost use Rattle.conf_rules.specs.declared.causes.Cause.TheVariants.{Value as BadValue};
+ghost use Rattle.mux_client.specs.Requests.{MayAsk};
+ghost use Rattle.ssh_mux.specs.Asks.{forward_key, forward_kind, host_at, end_at, connect_at, start_ask};
+ghost use Rattle.ssh_mux.specs.Asks.{key_ask, line_ask, asks_from, asks_for, forwards_for};
+ghost use Rattle.ssh_mux.specs.Asks.{FindsAsks, NamesForwards};
+ghost use Rattle.ssh_mux.specs.declared.ending.Ending.TheVariants as endings;
 
 use crate::ending::Ending;
 use conf_options::{End, Forward, Value, ValueError, read_value};
@@ -22,7 +28,9 @@ struct AskedEnd {
 }
 
 // The key of a forwarding that a letter names.
-fn forward_key(keyword: &[u8]) -> Option<Key> {
+fn forward_key(keyword: &[u8]) -> Option<Key>
+    ensures { result ≡ forward_key keyword.now }
+{
     if keyword == b"localforward".as_slice() {
         return Some(Key::LocalForward);
     }
@@ -36,7 +44,9 @@ fn forward_key(keyword: &[u8]) -> Option<Key> {
 }
 
 // The kind of a forwarding: 1 for a local, 2 for a remote and 3 for a dynamic one.
-fn forward_kind(key: Key) -> u32 {
+fn forward_kind(key: Key) -> u32
+    ensures { result ≡ forward_kind key }
+{
     match key {
         Key::LocalForward => 1,
         Key::RemoteForward => 2,
@@ -44,31 +54,37 @@ fn forward_kind(key: Key) -> u32 {
     }
 }
 
-// An end; a path is none, nor is a host that is too long.
-fn end_at(alloc: Global, end: End) -> Option<AskedEnd> {
+// A host with its port, unless it is too long; one that isn't named is empty.
+fn host_at(alloc: Global, host: Option<Text>, port: u16) -> Option<AskedEnd>
+    ensures { result ≡ host_at host port }
+{
+    let host = match host {
+        None => Text::new(alloc),
+        Some(host) => host,
+    };
+    if host.as_bytes().len() > LONGEST_HOST {
+        return None;
+    }
+    Some(AskedEnd {
+        host,
+        port: u32::from(port),
+    })
+}
+
+// An end; a path is none.
+fn end_at(alloc: Global, end: End) -> Option<AskedEnd>
+    ensures { result ≡ end_at end }
+{
     match end {
         End::Path(_) => None,
-        End::Port { host: None, port } => Some(AskedEnd {
-            host: Text::new(alloc),
-            port: u32::from(port),
-        }),
-        End::Port {
-            host: Some(host),
-            port,
-        } => {
-            if host.as_bytes().len() > LONGEST_HOST {
-                return None;
-            }
-            Some(AskedEnd {
-                host,
-                port: u32::from(port),
-            })
-        }
+        End::Port { host, port } => host_at(alloc, host, port),
     }
 }
 
 // The end that is connected to: where there is none, an empty host and port 0.
-fn connect_at(alloc: Global, connect: Option<End>) -> Option<AskedEnd> {
+fn connect_at(alloc: Global, connect: Option<End>) -> Option<AskedEnd>
+    ensures { result ≡ connect_at connect }
+{
     match connect {
         None => Some(AskedEnd {
             host: Text::new(alloc),
@@ -79,7 +95,9 @@ fn connect_at(alloc: Global, connect: Option<End>) -> Option<AskedEnd> {
 }
 
 // The forwarding as it is asked for.
-fn start_ask(alloc: Global, kind: u32, forward: Forward) -> Option<StartAsk> {
+fn start_ask(alloc: Global, kind: u32, forward: Forward) -> Option<StartAsk>
+    ensures { result ≡ start_ask kind forward }
+{
     let listen = end_at(alloc, forward.listen)?;
     let connect = connect_at(alloc, forward.connect)?;
     Some(StartAsk {
@@ -93,7 +111,10 @@ fn start_ask(alloc: Global, kind: u32, forward: Forward) -> Option<StartAsk> {
 }
 
 // The refusal of a line of the command line.
-fn refused(alloc: Global, word: u64, error: ValueError) -> Result<Ending, OutOfMemory> {
+fn refused(alloc: Global, word: u64, error: ValueError) -> Result<Ending, OutOfMemory>
+    ensures { IfOk result (λ ending. ending
+        ≡ endings.BadLine (codes "command line") word (BadValue error)) }
+{
     Ok(Ending::BadLine {
         file: Text::copy(alloc, b"command line")?,
         line: word,
@@ -102,7 +123,9 @@ fn refused(alloc: Global, word: u64, error: ValueError) -> Result<Ending, OutOfM
 }
 
 // The forwarding of a line, by its key and its words.
-fn key_ask(alloc: Global, word: u64, key: Key, words: &Texts) -> Result<StartAsk, Ending> {
+fn key_ask(alloc: Global, word: u64, key: Key, words: &Texts) -> Result<StartAsk, Ending>
+    ensures { FindsAsks result (key_ask word key words.now) }
+{
     let forward = match read_value(alloc, key, b"", words) {
         Ok(Value::Forward(forward)) => forward,
         Ok(_) => return Err(refused(alloc, word, ValueError::BadForward)?),
@@ -115,43 +138,61 @@ fn key_ask(alloc: Global, word: u64, key: Key, words: &Texts) -> Result<StartAsk
     }
 }
 
-// Adds the forwarding of a line, where a letter names one.
-fn add_line(alloc: Global, line: &AskedLine, asks: &mut StartAsks) -> Result<(), Ending> {
+// The forwarding of a line, where a letter names one.
+fn line_ask(alloc: Global, line: &AskedLine) -> Result<Option<StartAsk>, Ending>
+    ensures { FindsAsks result (line_ask line.now) }
+{
     match line {
-        AskedLine::Line { .. } => Ok(()),
+        AskedLine::Line { .. } => Ok(None),
         AskedLine::Parts {
             word,
             keyword,
             words,
         } => match forward_key(keyword.as_bytes()) {
-            None => Ok(()),
+            None => Ok(None),
             Some(key) => {
-                asks.push(key_ask(alloc, *word, key, words)?)?;
-                Ok(())
+                let ask = key_ask(alloc, *word, key, words)?;
+                Ok(Some(ask))
             }
         },
     }
 }
 
 // The forwardings that letters name, in the order of the words.
-fn asks_from(alloc: Global, lines: &[AskedLine]) -> Result<StartAsks, Ending> {
+fn asks_from(alloc: Global, lines: &[AskedLine]) -> Result<StartAsks, Ending>
+    ensures { FindsAsks result (asks_from lines.now) }
+{
     let mut asks = StartAsks::new(alloc);
     for line in lines {
-        add_line(alloc, line, &mut asks)?;
+        if let Some(ask) = line_ask(alloc, line)? {
+            asks.push(ask)?;
+        }
     }
     Ok(asks)
 }
 
-/// What a running master is asked. The words of its forwardings are read as those of the
-/// configuration are; the first that has no reading is refused as its line is there.
-pub fn asks_of(alloc: Global, asked: &Asked, control: Control) -> Result<Asks, Ending> {
-    let opening = match control {
-        Control::Check => return Ok(Asks::Check),
-        Control::Exit => return Ok(Asks::Exit),
-        Control::Stop => return Ok(Asks::Stop),
-        Control::Forward => true,
-        Control::Cancel => false,
-    };
+// That forwardings are opened, or closed.
+fn forwards_of(alloc: Global, asked: &Asked, opening: bool) -> Result<Asks, Ending>
+    requires named { IsTrue (list_any is_forwarding asked.now.lines) }
+    ensures exact { FindsAsks result (forwards_for asked.now opening) }
+    ensures may { IfOk result MayAsk }
+{
     let what = asks_from(alloc, asked.lines.as_slice())?;
     Ok(Asks::Forwards { opening, what })
+}
+
+/// What a running master is asked. The words of its forwardings are read as those of the
+/// configuration are; the first that has no reading is refused as its line is there.
+pub fn asks_of(alloc: Global, asked: &Asked, control: Control) -> Result<Asks, Ending>
+    requires named { NamesForwards control asked.now.lines }
+    ensures exact { FindsAsks result (asks_for asked.now control) }
+    ensures may { IfOk result MayAsk }
+{
+    match control {
+        Control::Check => Ok(Asks::Check),
+        Control::Exit => Ok(Asks::Exit),
+        Control::Stop => Ok(Asks::Stop),
+        Control::Forward => forwards_of(alloc, asked, true),
+        Control::Cancel => forwards_of(alloc, asked, false),
+    }
 }
