@@ -27,7 +27,7 @@ use Rattle.ssh_mux.specs.declared.status.Status.TheVariants as statuses
 use Rattle.ssh_mux.specs.Answers.{IsRefused, may_ask, may_open}
 use Rattle.ssh_mux.specs.Ending.{shown, refused_as, unlisted_as}
 use Rattle.ssh_mux.specs.Out.{OutTakes}
-use Rattle.ssh_mux.specs.Outcomes.{Certain, Client, machine, machine_of, of_command, joins_at, asks, looks, opens, drills}
+use Rattle.ssh_mux.specs.Outcomes.{Certain, Client, machine, machine_of, of_command, joins_at, asks, looks, opens, drills, writes_out}
 use Rattle.ssh_mux.proofs.RefusalLemmas.{Promise, by-cause, kept, looks-rows, refused-rows, settled, shut-rows, undrilled-rows, unrefused-rows}
 
 -- ---- what a client uses
@@ -140,6 +140,33 @@ client-taken (Some m) asked what status before now h =
     let told = told_of m asked in
     let path = control_path_at told (all_rows told) in
     rows-taken (all_rows told) (joined_end asked what path) status before now (end-taken asked what path status before now) h
+
+-- where nothing may be shown at all, as where the configuration is refused
+ends-unlisted : (asking : Bool) (status : Status) (P : Type 0) → OnFalse (may_open status && asking) P → OnFalse asking P
+ends-unlisted true status P h = tt
+ends-unlisted false status P h = closed-off (may_open status) h where
+  closed-off : (opened : Bool) → OnFalse (opened && false) P → P
+  closed-off true h = h
+  closed-off false h = h
+
+writes-joined : (asked : Asked) (what : Control) (r : Result (Option Bytes) ListError) → writes_out (Certain (joined_end asked what r)) ≡ asks (Certain (joined_end asked what r))
+writes-joined asked what (Ok (Some path)) = refl
+writes-joined asked what (Ok None) = refl
+writes-joined asked what (Err e) = refl
+
+writes-rows : (rows : List Row) (x : Outcome) → writes_out (Certain x) ≡ asks (Certain x) → writes_out (Certain (unrefused rows x)) ≡ asks (Certain (unrefused rows x))
+writes-rows rows x h = on (refusal_in rows) where
+  on : (r : Option ResolveError) → writes_out (Certain (elim r [ Some e ↦ Ends (BadLine e) | None ↦ x ])) ≡ asks (Certain (elim r [ Some e ↦ Ends (BadLine e) | None ↦ x ]))
+  on (Some e) = refl
+  on None = h
+
+client-writes : (m : Option Machine) (asked : Asked) (what : Control) → writes_out (of_command m (commands.Control asked what)) ≡ asks (of_command m (commands.Control asked what))
+unfolding of_command
+client-writes None asked what = refl
+client-writes (Some m) asked what = writes-rows (all_rows (told_of m asked)) (joined_end asked what (control_path_at (told_of m asked) (all_rows (told_of m asked)))) (writes-joined asked what (control_path_at (told_of m asked) (all_rows (told_of m asked))))
+
+pub unlisted-client : (m : Option Machine) (asked : Asked) (what : Control) (status : Status) (P : Type 0) → OnFalse (may_ask (of_command m (commands.Control asked what)) status) P → OnFalse (writes_out (of_command m (commands.Control asked what))) P
+unlisted-client m asked what status P h = subst (λ b. OnFalse b P) (sym (client-writes m asked what)) (ends-unlisted (asks (of_command m (commands.Control asked what))) status P h)
 
 -- ---- the control path of a client
 

@@ -30,11 +30,11 @@ any-left (x ∷ xs) ys h = by_case (is_forwarding x) h (any-left xs ys)
 
 any-right : (xs ys : List AskedLine) → list_any is_forwarding ys ≡ true → list_any is_forwarding (xs ++ ys) ≡ true
 any-right [] ys h = h
-any-right (x ∷ xs) ys h = by_case (is_forwarding x)
+any-right (x ∷ xs) ys h = by_case (is_forwarding x) (any-right xs ys h)
   where
-    by_case : (t : Bool) → (t || list_any is_forwarding (xs ++ ys)) ≡ true
-    by_case true = refl
-    by_case false = any-right xs ys h
+    by_case : (t : Bool) → list_any is_forwarding (xs ++ ys) ≡ true → (t || list_any is_forwarding (xs ++ ys)) ≡ true
+    by_case true later = refl
+    by_case false later = later
 
 -- a step that asks for a forwarding gives its line
 step-line : (word : ℕ) (act : Act) → asks_forwarding (record { word = word; act = act }) ≡ true → list_any is_forwarding (line_in (record { word = word; act = act })) ≡ true
@@ -53,11 +53,11 @@ step-line word (Fails cause) h = absurd cc
 
 steps-lines : (steps : List Step) → list_any asks_forwarding steps ≡ true → list_any is_forwarding (flat_map line_in steps) ≡ true
 steps-lines [] h = absurd cc
-steps-lines (s ∷ ss) h = by_case (asks_forwarding s) refl h
+steps-lines (s ∷ ss) h = by_case (asks_forwarding s) refl (steps-lines ss) h
   where
-    by_case : (t : Bool) → asks_forwarding s ≡ t → (t || list_any asks_forwarding ss) ≡ true → list_any is_forwarding (line_in s ++ flat_map line_in ss) ≡ true
-    by_case true e g = any-left (line_in s) (flat_map line_in ss) (step-line s.word s.act e)
-    by_case false e g = any-right (line_in s) (flat_map line_in ss) (steps-lines ss g)
+    by_case : (t : Bool) → asks_forwarding s ≡ t → (list_any asks_forwarding ss ≡ true → list_any is_forwarding (flat_map line_in ss) ≡ true) → (t || list_any asks_forwarding ss) ≡ true → list_any is_forwarding (line_in s ++ flat_map line_in ss) ≡ true
+    by_case true e later g = any-left (line_in s) (flat_map line_in ss) (step-line s.word s.act e)
+    by_case false e later g = any-right (line_in s) (flat_map line_in ss) (later g)
 
 -- the lines of a client that was read
 abbrev OfClient : ReadCommand → Type 0
