@@ -1,17 +1,13 @@
 -- What words ask of a running master may be asked.
-use Rattle.std.proofs.Common.{◌≡◌, ◌≤◌, inl, inr, ℕ, Bool, ◌||◌, true, false, List, [], ◌∷◌, ◌++◌, length, Option, Some, None, Result, Ok, Err, refl, sym, ap, subst, ◌∙◌, arith, append_assoc}
-use Rattle.std.specs.Prelude.{nat_lt, if◌then◌else◌, bytes_eq, codes, is_some, IfOk, IsTrue}
-use Rattle.std.specs.Bool.{OnTrue}
+use Rattle.std.proofs.Common.{◌≡◌, ◌≤◌, inl, inr, ℕ, Bool, ◌||◌, true, false, List, [], ◌∷◌, ◌++◌, length, Option, Some, None, Result, Ok, Err, refl, sym, ap, subst, arith, append_assoc}
+use Rattle.std.specs.Prelude.{nat_lt, if◌then◌else◌, bytes_eq, codes, is_some}
 use Rattle.std.specs.List.{AllByRecursion, list_any}
 use Rattle.std.proofs.lemmas.List.{append-nil}
 use Rattle.std.proofs.lemmas.Bool.{cases_lt, lt-ltb}
-use Rattle.conf_rules.specs.declared.asked.Asked.{Asked}
 use Rattle.conf_rules.specs.declared.asked.AskedLine.{AskedLine}
 use Rattle.conf_rules.specs.declared.asked.AskedLine.TheVariants as lines
 use Rattle.conf_rules.specs.declared.causes.ResolveError.{ResolveError}
 use Rattle.conf_rules.specs.declared.causes.ValueError.{ValueError}
-use Rattle.conf_rules.specs.declared.control.Control.{Control}
-use Rattle.conf_rules.specs.declared.control.Control.TheVariants as controls
 use Rattle.conf_rules.specs.declared.key.Key.{Key}
 use Rattle.conf_rules.specs.declared.key.Key.TheVariants.{LocalForward, RemoteForward, DynamicForward}
 use Rattle.conf_rules.specs.declared.value.End.{End}
@@ -23,13 +19,10 @@ use Rattle.conf_rules.specs.CommandLine.{is_forwarding}
 use Rattle.conf_rules.specs.Results.{◌>>=◌}
 use Rattle.conf_rules.specs.Texts.{Bytes}
 use Rattle.conf_rules.specs.Values.{value_for}
-use Rattle.mux_client.specs.declared.asks.Asks.{Asks}
-use Rattle.mux_client.specs.declared.asks.Asks.TheVariants as asks
-use Rattle.mux_client.specs.Requests.{HasShortHosts, MayAsk}
+use Rattle.mux_client.specs.Requests.{HasShortHosts}
 use Rattle.mux_outside.specs.declared.start_ask.StartAsk.{StartAsk}
 use Rattle.ssh_mux.specs.declared.asks.AskedEnd.{AskedEnd}
-use Rattle.ssh_mux.specs.declared.ending.Ending.{Ending as MeantEnding}
-use Rattle.ssh_mux.specs.Asks.{forward_key, forward_kind, host_or_empty, end_at, connect_at, both_ends, start_ask, told_ask, value_ask, named_ask, line_ask, onto_asks, asks_from, asks_for, FindsAsks, NamesForwards}
+use Rattle.ssh_mux.specs.Asks.{forward_key, forward_kind, host_or_empty, end_at, connect_at, both_ends, start_ask, told_ask, value_ask, named_ask, line_ask, onto_asks, asks_from}
 
 -- ---- hosts are short
 

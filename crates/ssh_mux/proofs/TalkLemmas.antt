@@ -1,6 +1,6 @@
 -- What a client leaves behind whose wire was joined, or not.
-use Rattle.std.proofs.Common.{◌≡◌, ◌≢◌, ◌≤◌, ◌⊎◌, inl, inr, ℕ, Bool, ◌&&◌, ◌||◌, true, false, List, Option, Some, None, Result, Ok, Err, refl, sym, ap, subst, ◌∙◌, arith}
-use Rattle.std.specs.Bool.{OnFalse, OnTrue}
+use Rattle.std.proofs.Common.{◌≡◌, ◌⊎◌, inl, inr, ℕ, Bool, ◌&&◌, true, false, List, Option, Some, None, Result, Ok, Err, refl, sym, subst, arith}
+use Rattle.std.specs.Bool.{OnTrue}
 use Rattle.conf_rules.specs.declared.asked.Asked.{Asked}
 use Rattle.conf_rules.specs.declared.causes.Cause.TheVariants.{ReadFault, RunFault, Value as BadValue}
 use Rattle.conf_rules.specs.declared.causes.ListError.TheVariants as list_errors
@@ -11,27 +11,21 @@ use Rattle.conf_rules.specs.Diagnostics.{Ending}
 use Rattle.conf_rules.specs.Diagnostics as ends
 use Rattle.conf_rules.specs.Outcome.{Ends, Writes, Opens, Drills, Joins}
 use Rattle.conf_rules.specs.Texts.{Bytes}
-use Rattle.mux_client.specs.Counted.{Stops, WireFaults, SinkFaults}
 use Rattle.mux_client.specs.declared.asks.Asks.{Asks}
-use Rattle.mux_client.specs.declared.talked.Talked.{Talked}
-use Rattle.mux_client.specs.declared.talked.Talked.TheVariants as talks
-use Rattle.mux_client.specs.Journal.{TalksTold, ShowsTold}
-use Rattle.mux_outside.specs.Counts.{Rose}
 use Rattle.mux_outside.specs.declared.mark.Mark.{Mark}
 use Rattle.mux_outside.specs.Seen.{Calls}
-use Rattle.mux_outside.specs.Wire.{SameFaults}
 use Rattle.ssh_mux.specs.declared.ending.Ending.{Ending as MeantEnding}
 use Rattle.ssh_mux.specs.declared.ending.Ending.TheVariants as endings
 use Rattle.ssh_mux.specs.declared.status.Status.{Status}
 use Rattle.ssh_mux.specs.declared.status.Status.TheVariants as statuses
 use Rattle.ssh_mux.specs.Answers.{Comes, IsDue, IsRefused, may_ask, may_open, so_far}
 use Rattle.ssh_mux.specs.Asks.{FindsAsks, asks_for}
-use Rattle.ssh_mux.specs.Causes.{Caused, OutCause}
-use Rattle.ssh_mux.specs.Client.{Converses, ConversesBy, ConversesFor, ConversesOn, EndsClient, IsAsked, IsUnasked, JoinsAt, JoinsOnce, TalksFor, asks_in, talk_told}
+use Rattle.ssh_mux.specs.Causes.{Caused}
+use Rattle.ssh_mux.specs.Client.{Converses, ConversesBy, ConversesFor, ConversesOn, EndsClient, JoinsAt, JoinsOnce, TalksFor, asks_in}
 use Rattle.ssh_mux.specs.Ending.{shown}
 use Rattle.ssh_mux.specs.Outcomes.{Known, Certain, Client, Listing, Master, asks, joins_at}
-use Rattle.ssh_mux.specs.Sharing.{CallsEnd, IdleCause, WireCause}
-use Rattle.ssh_mux.specs.Status.{status_of, refusal_status, listing_status}
+use Rattle.ssh_mux.specs.Sharing.{WireCause}
+use Rattle.ssh_mux.specs.Status.{status_of, refusal_status}
 use Rattle.ssh_mux.proofs.StillLemmas.{not_true, on_true, only-memory}
 
 -- ---- a client whose control path was found
@@ -156,6 +150,7 @@ unjoined (Client asked what) ending h = some-unjoined ending h where
     by_status : (s : Status) → (may_open s ≡ false) ⊎ (s ≡ statuses.Memory) → (may_ask (Client asked what) s ≡ false) ⊎ (s ≡ statuses.Memory)
     by_status s (inl o) = inl (rw o refl)
     by_status s (inr o) = inr o
+
     plain-status : (x : ResolveError) → (may_open (refusal_status x) ≡ false) ⊎ (refusal_status x ≡ statuses.Memory)
     plain-status OutOfMemory = inr refl
     plain-status (At file line ReadFault) = inl refl
@@ -170,10 +165,10 @@ pub still-talked : (k : Known) (meant : MeantEnding) (start : Option (List Mark)
 still-talked k meant start out (inl e) = not_true (may_ask k (status_of (shown meant))) (ConversesBy (asks_in k) start start out out (Err meant)) e
 still-talked k meant start out (inr e) = on_true (may_ask k (status_of (shown meant))) (ConversesBy (asks_in k) start start out out (Err meant))
     (subst (λ m. ConversesBy (asks_in k) start start out out (Err m)) (sym (only-memory meant e)) (by_asks (asks_in k))) where
-  by_asks : (r : Option (Result Asks ResolveError)) → ConversesBy r start start out out (Err endings.NoMemory)
-  by_asks None = tt
-  by_asks (Some (Ok what)) = inl (record { same_wire = refl; same_out = refl })
-  by_asks (Some (Err e)) = record { same_wire = refl; same_out = refl }
+      by_asks : (r : Option (Result Asks ResolveError)) → ConversesBy r start start out out (Err endings.NoMemory)
+      by_asks None = tt
+      by_asks (Some (Ok what)) = inl (record { same_wire = refl; same_out = refl })
+      by_asks (Some (Err e)) = record { same_wire = refl; same_out = refl }
 
 pub still-asked-cause : (k : Known) (ending : Ending) (s s' c c' : ℕ) → Unjoined k ending → OnTrue (may_ask k (status_of ending)) (WireCause (status_of ending) s s' c c')
 still-asked-cause k ending s s' c c' (inl e) = not_true (may_ask k (status_of ending)) (WireCause (status_of ending) s s' c c') e
