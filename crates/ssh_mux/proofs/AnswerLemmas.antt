@@ -1,5 +1,5 @@
 -- From how a talk came out, and the line that was written of it, to how a client ended.
-use Rattle.std.proofs.Common.{◌≡◌, ◌⊎◌, ◌&&◌, ◌||◌, inl, inr, ℕ, Bool, true, false, List, Option, Some, None, Result, Ok, Err, refl, sym, ap, subst, ◌∙◌}
+use Rattle.std.proofs.Common.{◌≡◌, ◌⊎◌, ◌&&◌, ◌||◌, inl, inr, ℕ, Bool, true, false, List, Option, Some, None, Result, Ok, Err, refl, sym, ap, subst}
 use Rattle.std.specs.Bool.{OnFalse, OnTrue}
 use Rattle.conf_rules.specs.declared.causes.ResolveError.{ResolveError}
 use Rattle.conf_rules.specs.Diagnostics.{Ending}
@@ -14,7 +14,7 @@ use Rattle.ssh_mux.specs.declared.ending.Ending.{Ending as MeantEnding}
 use Rattle.ssh_mux.specs.declared.ending.Ending.TheVariants as endings
 use Rattle.ssh_mux.specs.declared.status.Status.{Status}
 use Rattle.ssh_mux.specs.declared.status.Status.TheVariants as statuses
-use Rattle.ssh_mux.specs.Answers.{may_ask, may_open, may_show, may_write, reaches, so_far}
+use Rattle.ssh_mux.specs.Answers.{may_ask, may_open, may_show, may_write, reaches}
 use Rattle.ssh_mux.specs.Client.{Answers, AnswersBy, AnswersFor, Converses, ConversesBy, ConversesFor, IsAnswered, IsAsked, IsUnasked, JoinsOnce, TalksFor, asks_in, ends_asking, talk_told}
 use Rattle.ssh_mux.specs.Ending.{shown}
 use Rattle.ssh_mux.specs.Err.{Reports}
@@ -68,7 +68,6 @@ closed statuses.Spent e = absurd cc
 closed statuses.Memory e = absurd cc
 closed statuses.Refused e = absurd cc
 closed statuses.BadMaster e = absurd cc
-
 
 module _ (start told : Option (List Mark)) (out out' : Option (List ℕ)) (b n : Option (List ℕ)) (f f' : ℕ) where
   -- an end with the line that was handed over

@@ -1,17 +1,12 @@
 -- What words ask of a running master may be asked.
-use Rattle.std.proofs.Common.{◌≡◌, ◌≤◌, inl, inr, ℕ, Bool, ◌||◌, true, false, List, [], ◌∷◌, ◌++◌, length, Option, Some, None, Result, Ok, Err, refl, sym, ap, subst, ◌∙◌, arith, append_assoc}
-use Rattle.std.specs.Prelude.{nat_lt, if◌then◌else◌, bytes_eq, codes, is_some, IfOk, IsTrue}
-use Rattle.std.specs.Bool.{OnTrue}
+use Rattle.std.proofs.Common.{◌≡◌, ◌≤◌, inl, inr, ℕ, Bool, ◌||◌, true, false, List, [], ◌∷◌, ◌++◌, length, Option, Some, None, Result, Ok, Err, refl, subst, arith}
+use Rattle.std.specs.Prelude.{nat_lt, if◌then◌else◌, bytes_eq, codes, is_some}
 use Rattle.std.specs.List.{AllByRecursion, list_any}
-use Rattle.std.proofs.lemmas.List.{append-nil}
 use Rattle.std.proofs.lemmas.Bool.{cases_lt, lt-ltb}
-use Rattle.conf_rules.specs.declared.asked.Asked.{Asked}
 use Rattle.conf_rules.specs.declared.asked.AskedLine.{AskedLine}
 use Rattle.conf_rules.specs.declared.asked.AskedLine.TheVariants as lines
 use Rattle.conf_rules.specs.declared.causes.ResolveError.{ResolveError}
 use Rattle.conf_rules.specs.declared.causes.ValueError.{ValueError}
-use Rattle.conf_rules.specs.declared.control.Control.{Control}
-use Rattle.conf_rules.specs.declared.control.Control.TheVariants as controls
 use Rattle.conf_rules.specs.declared.key.Key.{Key}
 use Rattle.conf_rules.specs.declared.key.Key.TheVariants.{LocalForward, RemoteForward, DynamicForward}
 use Rattle.conf_rules.specs.declared.value.End.{End}
@@ -23,13 +18,10 @@ use Rattle.conf_rules.specs.CommandLine.{is_forwarding}
 use Rattle.conf_rules.specs.Results.{◌>>=◌}
 use Rattle.conf_rules.specs.Texts.{Bytes}
 use Rattle.conf_rules.specs.Values.{value_for}
-use Rattle.mux_client.specs.declared.asks.Asks.{Asks}
-use Rattle.mux_client.specs.declared.asks.Asks.TheVariants as asks
-use Rattle.mux_client.specs.Requests.{HasShortHosts, MayAsk}
+use Rattle.mux_client.specs.Requests.{HasShortHosts}
 use Rattle.mux_outside.specs.declared.start_ask.StartAsk.{StartAsk}
 use Rattle.ssh_mux.specs.declared.asks.AskedEnd.{AskedEnd}
-use Rattle.ssh_mux.specs.declared.ending.Ending.{Ending as MeantEnding}
-use Rattle.ssh_mux.specs.Asks.{forward_key, forward_kind, host_or_empty, end_at, connect_at, both_ends, start_ask, told_ask, value_ask, named_ask, line_ask, onto_asks, asks_from, asks_for, FindsAsks, NamesForwards}
+use Rattle.ssh_mux.specs.Asks.{forward_key, forward_kind, host_or_empty, end_at, connect_at, both_ends, start_ask, told_ask, value_ask, named_ask, line_ask, onto_asks, asks_from}
 
 -- ---- hosts are short
 
@@ -184,18 +176,3 @@ may-forward ls what named is = (subst SomeAsks is (some-asks ls named), subst Sh
 -- the forwardings so far, and those of the lines that are left
 abbrev pub behind : List StartAsk → Result (List StartAsk) ResolveError → Result (List StartAsk) ResolveError
 behind before later = later >>= λ l. Ok (before ++ l)
-
-pub behind-none : (before : List StartAsk) (later : Result (List StartAsk) ResolveError) → behind before (then_asks (Ok None) later) ≡ behind before later
-behind-none before (Ok later) = refl
-behind-none before (Err e) = refl
-
-pub behind-some : (before : List StartAsk) (ask : StartAsk) (later : Result (List StartAsk) ResolveError) → behind before (then_asks (Ok (Some ask)) later) ≡ behind (before ++ ask ∷ []) later
-behind-some before ask (Ok later) = ap (λ l. Ok l) (sym (append_assoc before (ask ∷ []) later))
-behind-some before ask (Err e) = refl
-
-pub behind-first : (later : Result (List StartAsk) ResolveError) → behind [] later ≡ later
-behind-first (Ok later) = refl
-behind-first (Err e) = refl
-
-pub behind-last : (before : List StartAsk) → behind before (Ok []) ≡ Ok before
-behind-last before = ap (λ l. Ok l) (append-nil before)

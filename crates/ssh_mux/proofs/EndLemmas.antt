@@ -17,7 +17,7 @@ use Rattle.ssh_mux.specs.declared.ending.Ending.{Ending as MeantEnding}
 use Rattle.ssh_mux.specs.declared.ending.Ending.TheVariants as endings
 use Rattle.ssh_mux.specs.declared.status.Status.{Status}
 use Rattle.ssh_mux.specs.declared.status.Status.TheVariants as statuses
-use Rattle.ssh_mux.specs.Answers.{IsDue, IsWell, is_silent, may_ask, may_show, may_open, may_share, reaches, touches}
+use Rattle.ssh_mux.specs.Answers.{IsDue, IsWell, is_silent, may_show, may_open, may_share, reaches, touches}
 use Rattle.ssh_mux.specs.Causes.{EndCause, FaultCause, OutCause}
 use Rattle.ssh_mux.specs.Commands.{RunsFor}
 use Rattle.ssh_mux.specs.Ending.{shown}

@@ -15,7 +15,6 @@ use Rattle.conf_rules.specs.Outcome.{Outcome, Ends, told_of, listed_end, opened_
 use Rattle.conf_rules.specs.Resolution.{all_rows, refusal_in, refusal}
 use Rattle.conf_rules.specs.Rows.{Row}
 use Rattle.conf_rules.specs.Texts.{Bytes}
-use Rattle.conf_rules.specs.Told.{Told}
 use Rattle.conf_options.specs.Kept.{Given}
 use Rattle.conf_output.specs.Settled.{HasControlPath}
 use Rattle.conf_resolve.specs.Passes.{Resolved}

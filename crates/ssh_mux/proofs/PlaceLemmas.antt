@@ -1,12 +1,11 @@
 -- Where faults are told, from what a resolution came to.
-use Rattle.std.proofs.Common.{◌≡◌, List, Option, Some, None, Result, Ok, Err, refl, ap}
+use Rattle.std.proofs.Common.{◌≡◌, List, Option, Some, None, Ok, refl, ap}
 use Rattle.conf_command.specs.declared.reader.WordsError.{WordsError}
 use Rattle.conf_command.specs.declared.reader.WordsError.TheVariants as words_errors
 use Rattle.conf_match.specs.Evaluated.{TellsStatus}
 use Rattle.conf_reader.specs.Known.{TellsFiles}
 use Rattle.conf_resolve.specs.Faults.{FailedPaths, FaultStands}
 use Rattle.conf_rules.specs.declared.asked.Asked.{Asked}
-use Rattle.conf_rules.specs.declared.causes.Cause.TheVariants.{Value as BadValue}
 use Rattle.conf_rules.specs.declared.causes.ListError.{ListError}
 use Rattle.conf_rules.specs.declared.causes.ListError.TheVariants as list_errors
 use Rattle.conf_rules.specs.declared.causes.ResolveError.{ResolveError}
@@ -22,9 +21,6 @@ use Rattle.conf_tokens.specs.Known.{known}
 use Rattle.mux_outside.specs.declared.facts.Facts.{Facts}
 use Rattle.mux_outside.specs.declared.pairs.Pair.{Pair}
 use Rattle.mux_outside.specs.declared.statuses.CommandStatus.{CommandStatus}
-use Rattle.ssh_mux.specs.declared.ending.Ending.{Ending as MeantEnding}
-use Rattle.ssh_mux.specs.declared.ending.Ending.TheVariants as endings
-use Rattle.ssh_mux.specs.Asks.{FindsAsks}
 use Rattle.ssh_mux.specs.Ending.{shown, misread_as, refused_as, unlisted_as}
 use Rattle.ssh_mux.specs.Outcomes.{machine}
 use Rattle.ssh_mux.specs.Places.{EndPlace, told_over, told_by, told_for}
@@ -64,10 +60,3 @@ master-told m words asked transport opens listens e = ap (told_by m) e
 pub client-told : (m : Option Machine) (words : List Bytes) (asked : Asked) (what : Control) → reading words ≡ Ok (commands.Control asked what) → told_for m words ≡ told_over m asked
 unfolding told_for
 client-told m words asked what e = ap (told_by m) e
-
--- a forwarding that has no reading
-pub asks-place : {A : Type 0} (told : Option Told) (ending : MeantEnding) (reading : Result A ResolveError) (before now : Option (List Bytes)) (failed failed-now : FailedPaths) → FindsAsks {A = A} (Err ending) reading → EndPlace told (shown ending) before now failed failed-now
-asks-place None ending reading before now failed failed-now h = tt
-asks-place (Some told) endings.NoMemory reading before now failed failed-now h = tt
-asks-place (Some told) (endings.BadLine file line (BadValue e)) reading before now failed failed-now h = tt
-asks-place (Some told) ending reading before now failed failed-now h = absurd h

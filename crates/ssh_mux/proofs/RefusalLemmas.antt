@@ -122,7 +122,7 @@ master-undrilled (Some m) asked transport os ls = undrilled-rows (all_rows (told
 -- ---- a configuration that is refused
 
 -- an ending that is due, faults and want of memory aside
-abbrev pub Plain : Known → Ending → Type 0
+abbrev Plain : Known → Ending → Type 0
 Plain (Certain (Ends due)) ending = ending ≡ due
 Plain (Certain other) ending = ⊥
 Plain Listing ending = IsTrue (is_refusal ending)

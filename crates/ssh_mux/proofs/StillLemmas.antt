@@ -17,11 +17,11 @@ use Rattle.ssh_mux.specs.declared.ending.Ending.{Ending as MeantEnding}
 use Rattle.ssh_mux.specs.declared.ending.Ending.TheVariants as endings
 use Rattle.ssh_mux.specs.declared.status.Status.{Status}
 use Rattle.ssh_mux.specs.declared.status.Status.TheVariants as statuses
-use Rattle.ssh_mux.specs.Answers.{IsDue, IsRefused, is_silent, may_ask, may_open, may_share, touches, refuses_master, ends_client, ends_master}
+use Rattle.ssh_mux.specs.Answers.{IsDue, IsRefused, is_silent, may_open, may_share, touches, refuses_master, ends_client, ends_master}
 use Rattle.ssh_mux.specs.Causes.{OutCause}
 use Rattle.ssh_mux.specs.Ending.{shown}
 use Rattle.ssh_mux.specs.Out.{OutStays, OutTakes}
-use Rattle.ssh_mux.specs.Outcomes.{Known, Certain, Listing, Master, Client, asks, drills, opens}
+use Rattle.ssh_mux.specs.Outcomes.{Known, Certain, Listing, Master, Client, drills, opens}
 use Rattle.ssh_mux.specs.Sharing.{CallsEnd, IdleCause, OpensOnce, Shares, WaitsFor, WireCause}
 use Rattle.ssh_mux.specs.Status.{status_of, refusal_status, listing_status}
 

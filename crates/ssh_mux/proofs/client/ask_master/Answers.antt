@@ -1,9 +1,6 @@
-use Rattle.std.proofs.Common.{Err, refl}
 use Rattle.std.proofs.lemmas.Result.{err_from_is_err_and}
-use Rattle.ssh_mux.proofs.CauseLemmas.{all-ran}
-use Rattle.ssh_mux.proofs.PlaceLemmas.{asks-place}
-use Rattle.ssh_mux.proofs.StillLemmas.{on_false, on_true, not_false, still-due, still-calls, still-idle, loud, quiet-count}
-use Rattle.ssh_mux.proofs.TalkLemmas.{asks-cause, asks-due, asks-joined, asks-unjoined, client-asks, client-cause, client-comes, client-joined, client-talked, refused-unjoined, still-asked-cause, still-asked-waits, still-joined, still-talked}
+use Rattle.ssh_mux.proofs.StillLemmas.{still-due}
+use Rattle.ssh_mux.proofs.TalkLemmas.{refused-unjoined, still-asked-cause, still-asked-waits, still-joined, still-talked}
 use Rattle.ssh_mux.proofs.client.ask_master.Goals as goal
 
 pub returns-in_err-path-clause-exact : goal.returns-in_err-path-clause-exact
