@@ -20,6 +20,15 @@ module _ {S : Type 0} where
   IsBlocked number entries =
       IsSomeAnd (get nat_eq entries number) (λ entry. entry.blocked ≡ true)
 
+  -- a stream is among those to be read
+  abbrev pub IsNoted : ℕ → IndexMap ℕ Entry S → Type 0
+  IsNoted number entries = IsSomeAnd (get nat_eq entries number) (λ entry. entry.reads ≡ true)
+
+  -- reads of a stream may stop short of what is there
+  abbrev pub StopsShort : ℕ → IndexMap ℕ Entry S → Type 0
+  StopsShort number entries =
+      IsSomeAnd (get nat_eq entries number) (λ entry. entry.stops_short ≡ true)
+
   -- a client that was accepted has a socket
   abbrev pub HasClient : Turn → IndexMap ℕ Entry S → Type 0
   HasClient (Accepted k) entries = HasEntry k entries

@@ -2,7 +2,7 @@
 ghost use Rattle.std.specs.Prelude.{◌≡◌, ◌≢◌, ℕ, List, Option, Err, IfOk, IfSome, IsErr, IsNone, IsSome, IsUtf8, None, OnOk, false, nat_eq};
 ghost use Rattle.std.specs.IoError.{error_kind};
 ghost use Rattle.mux_sockets.specs.Sockets.{FoundFits};
-ghost use Rattle.mux_sockets.specs.Entries.{HasClient, HasEntry, OthersStay};
+ghost use Rattle.mux_sockets.specs.Entries.{HasClient, HasEntry, OthersStay, StopsShort};
 ghost use Rattle.indexmap.specs.IndexMap.{get};
 
 mod ready;
@@ -53,11 +53,12 @@ struct Listening<R: Files + Drop> {
 /// was ready then was served at most twice. So no stream is passed over for longer than that takes.
 #[derive(Drop)]
 pub struct Sockets<R: Files + Drop> {
+    // `None`: no client comes, as after `stop_listening` and after `join`. It stands first, so that
+    // the name goes first.
+    listening: Option<Listening<R>>,
     poll: Poll,
     events: Events,
     entries: IndexMap<u64, Entry>,
-    // `None`: no client comes, as after `stop_listening` and after `join`
-    listening: Option<Listening<R>>,
     // an accept failed for want of descriptors or memory, and is tried again
     pauses: bool,
     ready: Queue,
@@ -143,10 +144,10 @@ impl<R: Files + Net + Clone + Drop> Sockets<R> {
         ensures { IfOk result (λ sockets. IsNone sockets.listening) }
     {
         Ok(Sockets {
+            listening: None,
             poll: Poll::new(rt)?,
             events: Events::with_capacity(alloc, EVENTS)?,
             entries: IndexMap::new(alloc),
-            listening: None,
             pauses: false,
             ready: Queue::new(alloc),
             spare: Piece::new(alloc).map_err(|_| AllocError)?,
@@ -169,6 +170,7 @@ impl<R: Files + Net + Clone + Drop> Sockets<R> {
     // descriptors.
     fn add(&mut self, number: u64, mut stream: Stream) -> io::Result<()>
         ensures there { OnOk result (HasEntry number self.new.entries) }
+        ensures client { OnOk result (number ≢ 0 → StopsShort number self.new.entries) }
         ensures others { OthersStay number self.old.entries self.new.entries }
         ensures listening { self.new.listening ≡ self.old.listening }
     {

@@ -1,4 +1,4 @@
-ghost use Rattle.std.specs.Prelude.{◌≡◌, ◌≢◌, ◌<◌, ◌+◌, ◌++◌, ℕ, List, [], length, false, true, IfSome, IsErr, IsNone, IsSome, IsSomeAnd, IsTrue, IsUtf8, None, OnOk};
+ghost use Rattle.std.specs.Prelude.{◌≡◌, ◌≢◌, ◌<◌, ◌+◌, ◌++◌, ℕ, List, [], length, false, true, IfSome, IsErr, IsNone, IsSome, IsSomeAnd, IsTrue, IsUtf8, None, OnOk, nat_eq, option_map};
 ghost use Rattle.mux_outside.specs.Seen.{no_calls, seen_after_join, seen_after_open};
 ghost use Rattle.mux_outside.specs.Streams.{among};
 ghost use Rattle.mux_outside.specs.Tally.{no_tally};
@@ -6,6 +6,8 @@ ghost use Rattle.mux_outside.specs.Wire.{JoinFaults, OpenFaults, TurnFits, TurnF
 ghost use Rattle.mux_outside.specs.Wire.{WroteFits, WroteFaults, blocked_after_write};
 ghost use Rattle.mux_outside.specs.declared.turn.Want.TheVariants.{Read as WantsAll};
 ghost use Rattle.mux_outside.specs.declared.turn.Turn.TheVariants.{NoMemory};
+ghost use Rattle.indexmap.specs.IndexMap.{get};
+ghost use Rattle.mux_sockets.specs.Entries.{HasClient};
 ghost use Rattle.mux_sockets.specs.Sockets.{FoundFits, Tells};
 ghost use Rattle.mux_sockets.specs.Untold.{untold};
 
@@ -288,7 +290,10 @@ fn found_next<R: Files + Net + Clone + Drop>(
     client: Option<u64>,
     into: &mut Piece,
 ) -> Turn
-    ensures { FoundFits result client into.old into.new }
+    ensures fits { FoundFits result client into.old into.new }
+    ensures client { IfSome sockets.new (λ s. HasClient result s.entries) }
+    ensures listening { option_map (λ s. s.listening) sockets.new
+        ≡ option_map (λ s. s.listening) sockets.old }
 {
     match sockets {
         Some(sockets) => sockets.next(waiting.as_slice(), want, client, into),
@@ -297,7 +302,11 @@ fn found_next<R: Files + Net + Clone + Drop>(
 }
 
 // Lets go of a stream's socket.
-fn drop_socket<R: Files + Net + Clone + Drop>(sockets: &mut Option<Sockets<R>>, stream: u64) {
+fn drop_socket<R: Files + Net + Clone + Drop>(sockets: &mut Option<Sockets<R>>, stream: u64)
+    ensures gone { IfSome sockets.new (λ s. get nat_eq s.entries stream ≡ None) }
+    ensures listening { option_map (λ s. s.listening) sockets.new
+        ≡ option_map (λ s. s.listening) sockets.old }
+{
     if let Some(sockets) = sockets {
         sockets.remove(stream);
     }

@@ -1,5 +1,6 @@
 //! What is ready, in the order in which it became so.
-ghost use Rattle.std.specs.Prelude.{◌≡◌, false};
+ghost use Rattle.std.specs.Prelude.{◌≡◌, ◌++◌, ◌∷◌, [], false, true, OnErr, OnOk};
+ghost use Rattle.mux_sockets.specs.Ready.{IsFull};
 
 use crate::stream::Stream;
 use mux_outside::Want;
@@ -41,7 +42,8 @@ pub struct Queue {
 
 impl Entry {
     pub fn new(stream: Stream, stops_short: bool) -> Entry
-        ensures { result.blocked ≡ false }
+        ensures short { result.stops_short ≡ stops_short }
+        ensures blocked { result.blocked ≡ false }
     {
         Entry {
             stream,
@@ -70,7 +72,13 @@ impl Queue {
     }
 
     /// Notes that clients may wait to be accepted.
-    pub fn note_accept(&mut self) -> Result<(), AllocError> {
+    pub fn note_accept(&mut self) -> Result<(), AllocError>
+        ensures noted { OnOk result (self.new.accepts ≡ true) }
+        ensures queued { OnOk result (self.old.accepts ≡ false
+            → self.new.items.items ≡ self.old.items.items ++ Ready.Accept ∷ []) }
+        ensures once { self.old.accepts ≡ true → self.new ≡ self.old }
+        ensures full { OnErr result (IsFull self.old) }
+    {
         if !self.accepts {
             self.items.push_back(Ready::Accept)?;
             self.accepts = true;
@@ -80,7 +88,12 @@ impl Queue {
 
     /// Notes that a stream may be read.
     pub fn note_read(&mut self, number: u64, entry: &mut Entry) -> Result<(), AllocError>
-        ensures blocked { entry.new.blocked ≡ entry.old.blocked }
+        ensures entry { entry.new ≡ record entry.old { reads = entry.new.reads } }
+        ensures noted { OnOk result (entry.new.reads ≡ true) }
+        ensures queued { OnOk result (entry.old.reads ≡ false
+            → self.new.items.items ≡ self.old.items.items ++ Ready.Read number ∷ []) }
+        ensures once { entry.old.reads ≡ true → self.new ≡ self.old }
+        ensures full { OnErr result (IsFull self.old) }
     {
         if !entry.reads {
             self.items.push_back(Ready::Read(number))?;
@@ -91,7 +104,12 @@ impl Queue {
 
     /// Notes that a stream can be written to.
     pub fn note_write(&mut self, number: u64, entry: &mut Entry) -> Result<(), AllocError>
-        ensures blocked { entry.new.blocked ≡ entry.old.blocked }
+        ensures entry { entry.new ≡ record entry.old { writes = entry.new.writes } }
+        ensures noted { OnOk result (entry.new.writes ≡ true) }
+        ensures queued { OnOk result (entry.old.writes ≡ false
+            → self.new.items.items ≡ self.old.items.items ++ Ready.Write number ∷ []) }
+        ensures once { entry.old.writes ≡ true → self.new ≡ self.old }
+        ensures full { OnErr result (IsFull self.old) }
     {
         if !entry.writes {
             self.items.push_back(Ready::Write(number))?;

@@ -1,14 +1,15 @@
 //! What is done with a socket that is ready, and the write to one.
-ghost use Rattle.std.specs.Prelude.{◌≡◌, ◌<◌, length, ℕ, Option, IfSome, IfNone, OnSome};
+ghost use Rattle.std.specs.Prelude.{◌≡◌, ◌<◌, ◌⊎◌, length, ℕ, Option, Some, IfSome, IfNone, OnSome};
 ghost use Rattle.mux_outside.specs.Wire.{WroteFits};
 ghost use Rattle.mux_sockets.specs.Sockets.{FoundFits, IsOf, Serves};
-ghost use Rattle.mux_sockets.specs.Entries.{HasClient, HasEntry, IsBlocked, OthersStay};
+ghost use Rattle.mux_sockets.specs.Entries.{HasClient, HasEntry, IsBlocked, IsNoted, OthersStay, StopsShort};
+ghost use Rattle.mux_sockets.specs.Ready.{IsFull};
 
 use super::Sockets;
 use super::ready::Ready;
 use crate::exchange::{Sent, hear, send};
 use crate::stream::Stream;
-use mux_outside::{Piece, Turn, Wrote};
+use mux_outside::{LONGEST_PIECE, Piece, Turn, Wrote};
 use std::fs::Files;
 use std::io;
 use std::io::ErrorKind;
@@ -75,6 +76,13 @@ impl<R: Files + Net + Clone + Drop> Sockets<R> {
     // Reads a stream once.
     fn read(&mut self, number: u64, into: &mut Piece) -> Option<Turn>
         ensures turn { IfSome result (IsOf number) }
+
+        // More may wait, so it stays noted: its note finds room, since that was made for it.
+        ensures full_piece { result ≡ Some (Turn.Got number) → length into.new ≡ LONGEST_PIECE
+            → IsNoted number self.new.entries ⊎ IsFull self.old.ready }
+        ensures short { result ≡ Some (Turn.Got number) → StopsShort number self.old.entries
+            → IsNoted number self.new.entries ⊎ IsFull self.old.ready }
+
         ensures fits { IfSome result (λ turn.
             (client : Option ℕ) → FoundFits turn client into.old into.new) }
         ensures kept { IfNone result (into.new ≡ into.old) }
