@@ -93,7 +93,8 @@ abbrev pub replied : List Request → ℕ → ℕ → List (List ℕ) → Bool �
 replied [] id at bodies broken = stops (Some Finished)
 replied (request ∷ requests) id at [] broken = stops (tail_outcome broken at)
 replied (request ∷ requests) id at (body ∷ bodies) broken =
-    on_reply (verdict request id body) id at (talk_on requests (id + 1) (behind at body) bodies broken)
+    on_reply (verdict request id body) id at
+    (talk_on requests (id + 1) (behind at body) bodies broken)
 
 -- what is still to come at a stage, by the frames that aren't read yet
 abbrev pub later_at : Stage → List Request → List (List ℕ) → Bool → Talk

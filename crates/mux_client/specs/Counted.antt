@@ -61,7 +61,8 @@ WireFaults OutOfMemory server server' client client' = SameFaults server server'
 -- no call that goes on has a fault
 abbrev pub StepFaults : {A : Type 0} → Result A Talked → ℕ → ℕ → ℕ → ℕ → Type 0
 StepFaults (Ok x) server server' client client' = SameFaults server server' client client'
-StepFaults (Err answer) server server' client client' = WireFaults answer server server' client client'
+StepFaults (Err answer) server server' client client' =
+    WireFaults answer server server' client client'
 
 -- the sink's count rose where it failed, and stays with any other answer
 abbrev pub SinkFaults : Talked → ℕ → ℕ → Type 0

@@ -57,7 +57,8 @@ pub record TookFront (asks : Asks) (marks : List Mark) : Type 0 where
 abbrev pub TookAll : Asks → List Mark → Type 0
 TookAll asks marks = bytes_taken 0 marks ≡ (talk_of asks marks).sent
 
--- at one mark: at a wait all was taken that is sent for the bytes read so far, or stream 0 is blocked
+-- at one mark: at a wait all was taken that is sent for the bytes read so far, or stream 0 is
+-- blocked
 abbrev pub WaitsRight : Asks → List Mark → Mark → Type 0
 WaitsRight asks before (Waits waiting want streams listens) =
     TookAll asks before ⊎ (is_held before ≡ true)

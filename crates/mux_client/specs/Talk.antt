@@ -57,8 +57,8 @@ on_reply (Grants line) id at later = showing line later
 on_reply Refuses id at later = stops (Some (RefusedAt id))
 on_reply Breaks id at later = stops (Some (BrokenAt at))
 
--- the requests from this one on, with its id, the place of the next frame, the frames from there on,
--- and whether the talk is broken behind them
+-- the requests from this one on, with its id, the place of the next frame, the frames from there
+-- on, and whether the talk is broken behind them
 abbrev pub talk_on : List Request → ℕ → ℕ → List (List ℕ) → Bool → Talk
 talk_on [] id at bodies broken = stops (Some Finished)
 talk_on (request ∷ requests) id at [] broken =
@@ -80,7 +80,8 @@ greeted requests (body ∷ bodies) broken =
 
 -- by the frames of the bytes
 abbrev pub talk_by : Asks → Cut → Bool → Talk
-talk_by asks c ended = sending hello_frame (greeted (requests_of asks) c.frames (broken_by c.fault ended))
+talk_by asks c ended =
+    sending hello_frame (greeted (requests_of asks) c.frames (broken_by c.fault ended))
 
 -- by the bytes
 abbrev pub talk : Asks → List ℕ → Bool → Talk

@@ -178,8 +178,8 @@ impl Client {
         }
     }
 
-    /// Reads the next frame: the line that it shows, and nothing where no frame is read any more, or
-    /// none is there yet.
+    /// Reads the next frame: the line that it shows, and nothing where no frame is read any more,
+    /// or none is there yet.
     pub fn next(&mut self, asks: &Asks) -> Result<Option<Line>, OutOfMemory>
         requires { MayAsk asks.now }
         ensures { ReadsNext asks.now self.old self.new result }
