@@ -1,10 +1,10 @@
 -- The frame of a request about a forwarding, field by field.
-use Rattle.std.proofs.Common.{◌≡◌, ap, arith, ℕ, ◌+◌, Bool, true, false, List, [], ◌∷◌, ◌++◌, length, length-append, append_assoc, ◌∙◌, sym}
+use Rattle.std.proofs.Common.{◌≡◌, ap, arith, ℕ, ◌+◌, Bool, true, false, List, ◌++◌, length, length-append, append_assoc, ◌∙◌, sym}
 use Rattle.ssh_fields.specs.Fields.{u32, str}
 use Rattle.ssh_grammar.specs.declared.numbers.TheConstants as number
-use Rattle.ssh_grammar.specs.SpellControl.{spell_control, spell_ask}
+use Rattle.ssh_grammar.specs.SpellControl.{spell_ask}
 use Rattle.mux_outside.specs.declared.start_ask.StartAsk.{StartAsk}
-use Rattle.mux_client.specs.Requests.{forward_of, forward_kind, forward_request, control_of, request_frame}
+use Rattle.mux_client.specs.Requests.{forward_of, forward_kind, forward_request, request_frame}
 
 -- the fields
 abbrev pub fields_of : ℕ → ℕ → StartAsk → List ℕ

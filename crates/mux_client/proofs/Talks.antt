@@ -4,8 +4,8 @@ use Rattle.std.proofs.lemmas.List.{append-nil}
 use Rattle.ssh_fields.specs.Fields.{AreBytes}
 use Rattle.ssh_grammar.specs.declared.fault.BadFrame.{BadFrame}
 use Rattle.ssh_grammar.specs.declared.framing.Framing.TheVariants as framing
-use Rattle.ssh_grammar.specs.Frames.{Front, Faulty, first_frame, Cut, cut}
-use Rattle.ssh_grammar.specs.IsFrame.{EndsAt, Cuts}
+use Rattle.ssh_grammar.specs.Frames.{Faulty, first_frame, Cut, cut}
+use Rattle.ssh_grammar.specs.IsFrame.{EndsAt}
 use Rattle.ssh_grammar.specs.Laws.{cut_then}
 use Rattle.ssh_grammar.proofs.Cuts.{cut-at, first-extends, cut-append, Extends}
 use Rattle.ssh_grammar.proofs.Frames.{cut-is}
@@ -128,7 +128,7 @@ ends-greeted requests (f ∷ fs) =
 -- ---- by the bytes
 
 -- behind a fault nothing is cut
-cut-fault : (rest more : List ℕ) (f : BadFrame) → first_frame framing.Control rest ≡ Faulty f
+pub cut-fault : (rest more : List ℕ) (f : BadFrame) → first_frame framing.Control rest ≡ Faulty f
     → cut framing.Control (rest ++ more) ≡ record { frames = []; rest = rest ++ more; fault = Some f }
 cut-fault rest more f e =
     cut-at framing.Control (rest ++ more) (Faulty f)

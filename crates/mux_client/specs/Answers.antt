@@ -1,5 +1,5 @@
 -- A master's answer as the code reads it.
-use Rattle.std.specs.Prelude.{◌≡◌, ◌⊎◌, ℕ, List, Option, Some, None}
+use Rattle.std.specs.Prelude.{◌≡◌, ℕ, List, Option, Some, None}
 use Rattle.ssh_grammar.specs.Control.{Answer, Greets, Okay, PermissionDenied, Failed, Alive, RemotePort, Proxies}
 use Rattle.mux_client.specs.declared.answer.Answer.{Answer as Read}
 use Rattle.mux_client.specs.declared.answer.Answer.TheVariants as read

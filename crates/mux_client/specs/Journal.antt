@@ -4,7 +4,9 @@ use Rattle.std.specs.Prelude.{◌≡◌, ◌⊎◌, ℕ, ◌==◌, Bool, true, f
 use Rattle.std.specs.List.{list_any}
 use Rattle.mux_outside.specs.Marks.{bytes_taken}
 use Rattle.mux_outside.specs.declared.mark.Mark.{Mark}
-use Rattle.mux_outside.specs.declared.mark.Mark.TheVariants.{Waits, Accepts, Gets, Ends, Frees, Fails, Takes, Holds, WriteFails}
+use Rattle.mux_outside.specs.declared.mark.Mark.TheVariants.{Waits, Gets, Ends, Frees, Holds}
+use Rattle.mux_outside.specs.declared.turn.Want.{Want}
+use Rattle.mux_outside.specs.declared.turn.Want.TheVariants.{Read}
 use Rattle.mux_client.specs.declared.asks.Asks.{Asks}
 use Rattle.mux_client.specs.declared.talked.Talked.{Talked}
 use Rattle.mux_client.specs.declared.talked.Talked.TheVariants.{Done, Refused, BadMaster, WriteFault, ServerFailed, Spent, OutOfMemory}
@@ -68,6 +70,11 @@ Throughout asks before (mark ∷ marks) =
     WaitsRight asks before mark × TookFront asks (before ++ mark ∷ [])
     × Throughout asks (before ++ mark ∷ []) marks
 
+-- at each mark, behind some others
+abbrev pub AtEach : (List Mark → Mark → Type 0) → List Mark → List Mark → Type 0
+AtEach P before [] = Unit {0}
+AtEach P before (mark ∷ marks) = P before mark × AtEach P (before ++ mark ∷ []) marks
+
 -- ---- how it ended
 
 -- this answer is that of the talk: the last reply came and all was taken, a refusal, or a breach;
@@ -81,6 +88,23 @@ Answers Spent asks marks = ((talk_of asks marks).outcome ≡ None)
 Answers WriteFault asks marks = Unit {0}
 Answers ServerFailed asks marks = Unit {0}
 Answers OutOfMemory asks marks = Unit {0}
+
+-- the streams that take no bytes for now: stream 0, or none
+abbrev pub held_streams : Bool → List ℕ
+held_streams true = 0 ∷ []
+held_streams false = []
+
+-- a call of wait behind these marks: it reads, and waits for stream 0 where that is blocked; and a
+-- talk that is over waits no more, so it has no outcome yet, or not all was taken
+pub record IsOpenWait (asks : Asks) (before : List Mark) (waiting : List ℕ) (want : Want) : Type 0
+  where
+    pub opens : Answers Spent asks before
+    pub reads : want ≡ Read
+    pub waits_for : waiting ≡ held_streams (is_held before)
+
+abbrev pub WaitOpen : Asks → List Mark → Mark → Type 0
+WaitOpen asks before (Waits waiting want streams listens) = IsOpenWait asks before waiting want
+WaitOpen asks before _ = Unit {0}
 
 -- a front of what is shown, and all of it but for a fault of the sink and want of memory
 pub record ShowsFront (shown out : List ℕ) : Type 0 where

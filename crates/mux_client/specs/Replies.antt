@@ -1,5 +1,5 @@
 -- What a master's reply means to the client that asked (PROTOCOL.mux).
-use Rattle.std.specs.Prelude.{ℕ, Bool, true, false, List, [], ◌∷◌, ◌++◌, codes, Option, Some, None, nat_eq, Ok, Err}
+use Rattle.std.specs.Prelude.{ℕ, Bool, true, false, List, [], ◌++◌, codes, Option, Some, None, nat_eq, Ok, Err}
 use Rattle.std.specs.Fmt.{decimal}
 use Rattle.ssh_grammar.specs.declared.numbers.TheConstants.{VERSION}
 use Rattle.ssh_grammar.specs.Control.{Control, Hello, Answer, Okay, PermissionDenied, Failed, Alive, RemotePort}

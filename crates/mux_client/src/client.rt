@@ -1,40 +1,20 @@
-ghost use Rattle.std.specs.Prelude.{◌≡◌};
-ghost use Rattle.mux_client.specs.Requests.{MayAsk};
+ghost use Rattle.std.specs.Prelude.{◌≡◌, ◌≤◌, ◌<◌, [], ◌++◌, ℕ, List, length, take, Some, None, IfOk, OnOk, OnErr, IsSome, IsTrue, ◌↔◌, ◌+◌, ◌*◌};
+ghost use Rattle.ssh_grammar.specs.declared.framing.Framing.TheVariants.{Control};
+ghost use Rattle.ssh_grammar.specs.Frames.{first_frame};
+ghost use Rattle.mux_client.specs.declared.asks.Asks.{Asks as TheAsks};
+ghost use Rattle.mux_client.specs.declared.stage.Stage.TheVariants.{Greets, Asks as Asked};
+ghost use Rattle.mux_client.specs.Requests.{MayAsk, request_at};
+ghost use Rattle.mux_client.specs.Client.{new_client, heard, without_sent, place_of, after_cut, asked, Stands, IsSettled, ReadsNext};
 
-use crate::answer::{Answer, is_hello_of_4, read_answer};
+use crate::answer::is_hello_of_4;
 use crate::asks::Asks;
 use crate::request::{put_hello, put_request};
+use crate::stage::Stage;
+use crate::verdict::{Line, Verdict, verdict_of};
 use proxy_frames::{Framer, Framing, Next, Queue};
-use ssh_fields::{OutOfMemory, Text};
+use ssh_fields::OutOfMemory;
 use std::alloc::Global;
-
-/// How far a talk is.
-#[derive(Clone, Copy, Debug, PartialEq, Eq)]
-pub enum Stage {
-    /// The master's hello is awaited.
-    Greets,
-    /// The reply to the request with this id is awaited.
-    Asks { id: u32 },
-    /// Each request was granted.
-    Granted,
-    /// The request with this id was refused.
-    Refused { id: u32 },
-    /// The master broke the protocol at this place of its bytes.
-    Broken { at: usize },
-}
-
-/// What a reply means.
-#[derive(Clone, Copy, Debug, PartialEq, Eq)]
-enum Verdict {
-    /// The request is done.
-    Grants,
-    /// It is done, and the master runs with this process id.
-    Runs { pid: u32 },
-    /// It is done, and the server chose this port.
-    Binds { port: u32 },
-    Refuses,
-    Breaks,
-}
+use std::marker::Model;
 
 /// A client that talks to a master: what it still sends, and the master's bytes cut into frames.
 #[derive(Drop)]
@@ -44,49 +24,28 @@ pub struct Client {
     /// What the master didn't take yet.
     queue: Queue,
     stage: Stage,
-    /// The place of the next frame in the master's bytes.
-    at: usize,
 }
 
-// What an answer means to the request of this id.
-fn verdict_of(asks: &Asks, id: u32, answer: Answer) -> Verdict {
-    let (of, verdict) = match (asks, answer) {
-        (_, Answer::Refusal { id }) => (id, Verdict::Refuses),
-        (Asks::Check, Answer::Alive { id, pid }) => (id, Verdict::Runs { pid }),
-        (Asks::Exit, Answer::Okay { id }) => (id, Verdict::Grants),
-        (Asks::Stop, Answer::Okay { id }) => (id, Verdict::Grants),
-        (Asks::Forwards { .. }, Answer::Okay { id }) => (id, Verdict::Grants),
-        (Asks::Forwards { opening: true, .. }, Answer::RemotePort { id, port }) => {
-            (id, Verdict::Binds { port })
-        }
-        _ => return Verdict::Breaks,
-    };
-    if of == id { verdict } else { Verdict::Breaks }
-}
+impl Model for Client {
+    ghost use Rattle.std.specs.Prelude.{◌≡◌};
+    ghost use Rattle.ssh_grammar.specs.declared.framing.Framing.TheVariants.{Control};
+    ghost use Rattle.mux_client.specs.Client.{ClientState, IsPlaced, IsFaultless};
 
-// What is shown where a request was granted.
-fn line_of(alloc: Global, asks: &Asks, verdict: Verdict) -> Result<Text, OutOfMemory> {
-    let mut line = Text::new(alloc);
-    match (asks, verdict) {
-        (_, Verdict::Runs { pid }) => {
-            line.add(b"Master running (pid=")?;
-            line.add(pid.to_string(alloc)?.as_bytes())?;
-            line.add(b")\n")?;
-        }
-        (_, Verdict::Binds { port }) => {
-            line.add(port.to_string(alloc)?.as_bytes())?;
-            line.add(b"\n")?;
-        }
-        (Asks::Exit, Verdict::Grants) => line.add(b"Exit request sent.\n")?,
-        (Asks::Stop, Verdict::Grants) => line.add(b"Stop listening request sent.\n")?,
-        _ => {}
-    }
-    Ok(line)
+    ghost Value = { ClientState };
+
+    ghost view = { λ c. record { framer = c.framer; queue = c.queue.waiting; stage = c.stage } };
+
+    ghost invariant = { λ c. (c.framer.framing ≡ Control) × IsPlaced c.stage
+        × IsFaultless c.stage c.framer.fault };
 }
 
 impl Client {
     /// A client that has heard nothing, and has the hello to send.
-    pub fn new(alloc: Global) -> Result<Client, OutOfMemory> {
+    pub fn new(alloc: Global) -> Result<Client, OutOfMemory>
+        ensures new { IfOk result (λ client. client ≡ new_client) }
+        ensures stands { IfOk result (λ client. (asks : TheAsks) → Stands asks [] [] [] client) }
+        ensures settled { IfOk result IsSettled }
+    {
         let mut hello = Vec::new(alloc);
         put_hello(&mut hello)?;
         let mut queue = Queue::new(alloc);
@@ -96,104 +55,139 @@ impl Client {
             framer: Framer::new(alloc, Framing::Control),
             queue,
             stage: Stage::Greets,
-            at: 0,
         })
     }
 
     /// How far the talk is.
-    pub fn stage(&self) -> Stage {
+    pub fn stage(&self) -> Stage
+        ensures { result ≡ self.now.stage }
+    {
         self.stage
     }
 
     /// What is to be sent.
-    pub fn front(&self) -> &[u8] {
+    pub fn front(&self) -> &[u8]
+        ensures { result.now ≡ self.now.queue }
+    {
         self.queue.front()
     }
 
     /// So many of the first bytes were taken.
-    pub fn took(&mut self, n: usize) {
-        let n = n.min(self.queue.len());
+    pub fn took(&mut self, n: usize)
+        requires { n ≤ length self.old.queue }
+        ensures exact { self.new ≡ without_sent n self.old }
+        ensures stands { (asks : TheAsks) (bytes taken shown : List ℕ)
+            → Stands asks bytes taken shown self.old
+            → Stands asks bytes (taken ++ take n self.old.queue) shown self.new }
+    {
         self.queue.took(n);
     }
 
     /// More bytes of the master.
-    pub fn hears(&mut self, piece: &[u8]) -> Result<(), OutOfMemory> {
+    pub fn hears(&mut self, piece: &[u8]) -> Result<(), OutOfMemory>
+        ensures exact { OnOk result (self.new ≡ heard piece.now self.old) }
+        ensures unchanged { OnErr result (self.new ≡ self.old) }
+        ensures stands { (asks : TheAsks) (bytes taken shown : List ℕ)
+            → Stands asks bytes taken shown self.old
+            → OnOk result (Stands asks (bytes ++ piece.now) taken shown self.new) }
+    {
         self.framer.push(piece)
     }
 
-    // The request with this id is due, if there is one.
-    fn ask(&mut self, asks: &Asks, id: u32) -> Result<(), OutOfMemory>
-        requires { MayAsk asks.now }
+    // Cuts the next frame, whose place this is: whether there is one. Where none can be, the master
+    // broke the protocol.
+    fn cut(&mut self, at: usize) -> bool
+        requires { place_of self.old.stage ≡ Some at }
+        ensures exact { self.new
+            ≡ after_cut (first_frame Control self.old.framer.rest) at self.old }
+        ensures frame { IsTrue result ↔ IsSome self.new.framer.current }
+    {
+        match self.framer.next() {
+            Next::Frame => true,
+            Next::More => false,
+            Next::Bad(_) => {
+                self.stage = Stage::Broken { at };
+                false
+            }
+        }
+    }
+
+    // The request with this id is due, if there is one, whose reply stands at this place.
+    fn ask(&mut self, asks: &Asks, id: u32, at: usize) -> Result<(), OutOfMemory>
+        requires may { MayAsk asks.now }
+        requires faultless { self.old.framer.fault ≡ None }
+        requires placed { at ≤ (id + 1) * 262148 }
+        ensures exact { OnOk result (self.new ≡ asked (request_at asks.now id) id at self.old) }
     {
         let mut frame = Vec::new(self.alloc);
         if put_request(&mut frame, asks, id)? {
             self.queue.push_bytes(frame.as_slice())?;
-            self.stage = Stage::Asks { id };
+            self.stage = Stage::Asks { id, at };
         } else {
             self.stage = Stage::Granted;
         }
         Ok(())
     }
 
-    /// Reads the next frame: what it shows, and nothing where none is read any more, or now.
-    pub fn next(&mut self, asks: &Asks) -> Result<Option<Text>, OutOfMemory>
-        requires { MayAsk asks.now }
+    // Reads the master's hello, if it is there.
+    fn greet(&mut self, asks: &Asks) -> Result<Option<Line>, OutOfMemory>
+        requires may { MayAsk asks.now }
+        requires stage { self.old.stage ≡ Greets }
+        ensures reads { ReadsNext asks.now self.old self.new result }
     {
-        let at = self.at;
-        match self.stage {
-            Stage::Greets => match self.framer.next() {
-                Next::More => Ok(None),
-                Next::Bad(_) => {
-                    self.stage = Stage::Broken { at };
-                    Ok(None)
-                }
-                Next::Frame => {
-                    self.at = at.saturating_add(4 + self.framer.content().len());
-                    if is_hello_of_4(self.framer.content()) {
-                        self.ask(asks, 0)?;
-                        Ok(Some(Text::new(self.alloc)))
-                    } else {
-                        self.stage = Stage::Broken { at };
-                        Ok(None)
-                    }
-                }
-            },
-            Stage::Asks { id } => match self.framer.next() {
-                Next::More => Ok(None),
-                Next::Bad(_) => {
-                    self.stage = Stage::Broken { at };
-                    Ok(None)
-                }
-                Next::Frame => {
-                    self.at = at.saturating_add(4 + self.framer.content().len());
-                    let answer = read_answer(self.framer.content()).unwrap_or(Answer::Other);
-                    match verdict_of(asks, id, answer) {
-                        Verdict::Refuses => {
-                            self.stage = Stage::Refused { id };
-                            Ok(None)
-                        }
-                        Verdict::Breaks => {
-                            self.stage = Stage::Broken { at };
-                            Ok(None)
-                        }
-                        verdict => {
-                            let line = line_of(self.alloc, asks, verdict)?;
-                            self.ask(asks, id.checked_add(1).ok_or(OutOfMemory)?)?;
-                            Ok(Some(line))
-                        }
-                    }
-                }
-            },
-            _ => Ok(None),
+        if !self.cut(0) {
+            return Ok(None);
+        }
+        let body = self.framer.content();
+        let at = 4 + body.len();
+        if !is_hello_of_4(body) {
+            self.stage = Stage::Broken { at: 0 };
+            return Ok(None);
+        }
+        self.ask(asks, 0, at)?;
+        Ok(Some(Line::Nothing))
+    }
+
+    // Reads the reply to the request with this id, if it is there, at this place.
+    fn reply(&mut self, asks: &Asks, id: u32, at: usize) -> Result<Option<Line>, OutOfMemory>
+        requires may { MayAsk asks.now }
+        requires stage { self.old.stage ≡ Asked id at }
+        ensures reads { ReadsNext asks.now self.old self.new result }
+    {
+        if !self.cut(at) {
+            return Ok(None);
+        }
+        let body = self.framer.content();
+        let behind = at + (4 + body.len());
+        match verdict_of(asks, id, body) {
+            Verdict::Grants(line) => {
+                let Some(next) = id.checked_add(1) else {
+                    return Err(OutOfMemory);
+                };
+                self.ask(asks, next, behind)?;
+                Ok(Some(line))
+            }
+            Verdict::Refuses => {
+                self.stage = Stage::Refused { id };
+                Ok(None)
+            }
+            Verdict::Breaks => {
+                self.stage = Stage::Broken { at };
+                Ok(None)
+            }
         }
     }
 
-    /// The master's bytes ended.
-    pub fn ends(&mut self) {
+    /// Reads the next frame: the line that it shows, and nothing where no frame is read any more, or
+    /// none is there yet.
+    pub fn next(&mut self, asks: &Asks) -> Result<Option<Line>, OutOfMemory>
+        requires { MayAsk asks.now }
+        ensures { ReadsNext asks.now self.old self.new result }
+    {
         match self.stage {
-            Stage::Greets => self.stage = Stage::Broken { at: self.at },
-            Stage::Asks { .. } => self.stage = Stage::Broken { at: self.at },
-            _ => {}
+            Stage::Greets => self.greet(asks),
+            Stage::Asks { id, at } => self.reply(asks, id, at),
+            _ => Ok(None),
         }
     }
 }

@@ -7,8 +7,10 @@ mod asks;
 mod client;
 pub mod laws;
 mod request;
+mod stage;
 mod talked;
 mod talking;
+mod verdict;
 
 pub use asks::Asks;
 pub use talked::Talked;

@@ -1,3 +1,8 @@
+ghost use Rattle.std.specs.Prelude.{◌≡◌};
+ghost use Rattle.mux_client.specs.declared.talked.Talked.TheVariants.{OutOfMemory as WantOfMemory};
+
+use ssh_fields::OutOfMemory;
+
 /// How a talk ended.
 #[derive(Clone, Copy, Debug, PartialEq, Eq)]
 pub enum Talked {
@@ -15,4 +20,12 @@ pub enum Talked {
     /// All turns were given.
     Spent,
     OutOfMemory,
+}
+
+impl From<OutOfMemory> for Talked {
+    ghost from_gives = { λ _ e. e ≡ WantOfMemory };
+
+    fn from(_e: OutOfMemory) -> Talked {
+        Talked::OutOfMemory
+    }
 }

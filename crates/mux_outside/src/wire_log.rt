@@ -10,6 +10,8 @@ use crate::call_counts::CallCounts;
 use crate::counts::{count_fault, raised};
 use crate::file_error::FileError;
 use crate::mark::{Mark, Opening, bytes_taken};
+use crate::marks::Marks;
+use crate::open_streams::OpenStreams;
 use crate::record::{record_wait, record_write};
 use crate::streams::Streams;
 use crate::turn::{Turn, Want, Wrote};
@@ -23,8 +25,8 @@ pub struct WireLog {
     alloc: Global,
     openings: Vec<Opening>,
     joinings: Vec<Text>,
-    marks: Vec<Mark>,
-    streams: Streams,
+    marks: Marks,
+    streams: OpenStreams,
     blocked: Streams,
     listening: bool,
     last: u64,
@@ -41,7 +43,7 @@ impl Model for WireLog {
     ghost view = { λ l. record {
       openings = l.openings.items;
       joinings = l.joinings.items;
-      marks = l.marks.items;
+      marks = l.marks.told.items;
       streams = l.streams;
       blocked = l.blocked;
       listens = l.listening;
@@ -61,8 +63,8 @@ impl WireLog {
             alloc,
             openings: Vec::new(alloc),
             joinings: Vec::new(alloc),
-            marks: Vec::new(alloc),
-            streams: Streams::new(alloc),
+            marks: Marks::new(alloc),
+            streams: OpenStreams::new(Streams::new(alloc)),
             blocked: Streams::new(alloc),
             listening: false,
             last: 0,
@@ -76,7 +78,7 @@ impl WireLog {
     pub fn streams(&self) -> &Streams
         ensures { result.now ≡ self.now.streams }
     {
-        &self.streams
+        self.streams.streams()
     }
 
     /// The streams that take no bytes for now.
@@ -104,7 +106,7 @@ impl WireLog {
     pub fn marks(&self) -> &[Mark]
         ensures { result.now ≡ self.now.marks }
     {
-        self.marks.as_slice()
+        self.marks.told.as_slice()
     }
 
     /// The arguments of the calls of `open` so far.
@@ -125,7 +127,7 @@ impl WireLog {
     pub fn taken(&self, stream: u64) -> Result<Text, OutOfMemory>
         ensures { IfOk result (λ bytes. bytes ≡ all_taken stream self.now.marks) }
     {
-        bytes_taken(self.alloc, &self.marks, stream)
+        bytes_taken(self.alloc, &self.marks.told, stream)
     }
 
     /// Keeps a call of `open` with these arguments, which succeeds or fails. After success the
@@ -147,7 +149,7 @@ impl WireLog {
             self.server_faults = raised(self.server_faults);
             return Err(FileError::Failed);
         }
-        self.streams = streams;
+        self.streams = OpenStreams::new(streams);
         self.blocked = Streams::new(self.alloc);
         self.listening = true;
         Ok(())
@@ -169,7 +171,7 @@ impl WireLog {
             self.server_faults = raised(self.server_faults);
             return Err(FileError::Failed);
         }
-        self.streams = streams;
+        self.streams = OpenStreams::new(streams);
         self.blocked = Streams::new(self.alloc);
         self.listening = false;
         Ok(())
