@@ -16,3 +16,11 @@ returns-in-Ok-clause-talks g c =
 pub returns-in-Ok-clause-shows : goal.returns-in-Ok-clause-shows
 returns-in-Ok-clause-shows g c =
     whole-shows c.args.asks.now Spent (g.W.Wire.seen c.args.wire.now).told (g.W.Wire.seen c.converse.new.wire).told (g.S.Sink.told c.args.out.now) (g.S.Sink.told c.converse.new.out) c.args.out.now c.converse.new.out c.in-Ok.ensures.talks
+
+pub returns-in-Err-clause-talks : goal.returns-in-Err-clause-talks
+returns-in-Err-clause-talks g c =
+    whole-talks c.args.asks.now c.in-Err.talked (g.W.Wire.seen c.args.wire.now).told (g.W.Wire.seen c.converse.new.wire).told (g.S.Sink.told c.args.out.now) (g.S.Sink.told c.converse.new.out) c.args.out.now c.converse.new.out c.in-Err.ensures.talks
+
+pub returns-in-Err-clause-shows : goal.returns-in-Err-clause-shows
+returns-in-Err-clause-shows g c =
+    whole-shows c.args.asks.now c.in-Err.talked (g.W.Wire.seen c.args.wire.now).told (g.W.Wire.seen c.converse.new.wire).told (g.S.Sink.told c.args.out.now) (g.S.Sink.told c.converse.new.out) c.args.out.now c.converse.new.out c.in-Err.ensures.talks
