@@ -186,6 +186,7 @@ talk-starved {asks} {shown = shown} {s = s} v more rest e = let l = later s asks
       shows = record { rest = rest ++ l.out; whole = out ∙ ap (λ b. b ++ l.out) e ∙ append_assoc more rest l.out };
       due_front = record { rest = l.out; whole = out };
       fault = λ z. absurd (let w : talked.OutOfMemory ≡ talked.WriteFault = z in cc);
+      offered = λ z. absurd (let w : talked.OutOfMemory ≡ talked.Spent = z in cc);
     }
 
 -- for a fault of the sink
@@ -200,6 +201,7 @@ talk-faulted {asks} {shown = shown} {s = s} v more rest e some = let l = later s
       shows = record { rest = rest ++ l.out; whole = out ∙ ap (λ b. b ++ l.out) e ∙ append_assoc more rest l.out };
       due_front = record { rest = l.out; whole = out };
       fault = λ z. some;
+      offered = λ z. absurd (let w : talked.WriteFault ≡ talked.Spent = z in cc);
     }
 
 -- for a fault of the stream
@@ -213,15 +215,16 @@ talk-failed {asks} {shown = shown} {s = s} v settled =
       shows = sym out;
       due_front = record { rest = []; whole = out ∙ sym (append-nil shown) };
       fault = λ z. absurd (let w : talked.ServerFailed ≡ talked.WriteFault = z in cc);
+      offered = λ z. absurd (let w : talked.ServerFailed ≡ talked.Spent = z in cc);
     }
 
 -- by what the master said
 answers-at : (asks : Asks) (marks : List Mark) (answer : Talked) (queue shown : List ℕ) (stage : Stage) → talk_of asks marks ≡ talk_at (bytes_taken 0 marks ++ queue) shown (outcome_of stage) → IsAnswerAt answer stage queue
-    → Answers answer asks marks × (Shows answer shown (talk_of asks marks).out) × (answer ≢ talked.WriteFault)
+    → Answers answer asks marks × (Shows answer shown (talk_of asks marks).out) × (answer ≢ talked.WriteFault) × (answer ≢ talked.Spent)
 answers-at asks marks talked.Done queue shown stage t a =
-    ((ap (λ (k : Talk). k.outcome) t ∙ ap outcome_of a.0, sym (ap (λ (k : Talk). k.sent) t ∙ ap (λ q. bytes_taken 0 marks ++ q) a.1 ∙ append-nil (bytes_taken 0 marks))), sym (ap (λ (k : Talk). k.out) t), λ z. cc)
-answers-at asks marks (talked.Refused id) queue shown stage t a = (ap (λ (k : Talk). k.outcome) t ∙ ap outcome_of a, sym (ap (λ (k : Talk). k.out) t), λ z. cc)
-answers-at asks marks (talked.BadMaster at) queue shown stage t a = (ap (λ (k : Talk). k.outcome) t ∙ ap outcome_of a, sym (ap (λ (k : Talk). k.out) t), λ z. cc)
+    ((ap (λ (k : Talk). k.outcome) t ∙ ap outcome_of a.0, sym (ap (λ (k : Talk). k.sent) t ∙ ap (λ q. bytes_taken 0 marks ++ q) a.1 ∙ append-nil (bytes_taken 0 marks))), sym (ap (λ (k : Talk). k.out) t), (λ z. cc), (λ z. cc))
+answers-at asks marks (talked.Refused id) queue shown stage t a = (ap (λ (k : Talk). k.outcome) t ∙ ap outcome_of a, sym (ap (λ (k : Talk). k.out) t), (λ z. cc), (λ z. cc))
+answers-at asks marks (talked.BadMaster at) queue shown stage t a = (ap (λ (k : Talk). k.outcome) t ∙ ap outcome_of a, sym (ap (λ (k : Talk). k.out) t), (λ z. cc), (λ z. cc))
 answers-at asks marks talked.WriteFault queue shown stage t a = absurd a
 answers-at asks marks talked.ServerFailed queue shown stage t a = absurd a
 answers-at asks marks talked.Spent queue shown stage t a = absurd a
@@ -239,6 +242,7 @@ talk-decided {asks} {shown = shown} {s = s} v settled answer a =
       shows = k.1;
       due_front = record { rest = []; whole = ap (λ (x : Talk). x.out) t ∙ sym (append-nil shown) };
       fault = λ z. absurd (k.2 z);
+      offered = λ z. absurd (k.3 z);
     }
 
 -- with all turns given
@@ -253,8 +257,19 @@ open-at asks marks queue shown (Broken at) t g = absurd g
 pub talk-open : {asks : Asks} {start told : Option (List Mark)} {held shown : List ℕ} {s : ClientState} (v : Talking asks start told held shown s) → IsSettled s → IsGoing s.stage s.queue → Answers talked.Spent asks v.marks
 talk-open {asks} {shown = shown} {s = s} v settled going = open-at asks v.marks s.queue shown s.stage (settled-talk v.stands (has_ended v.marks) settled v.ended) going
 
-pub talk-spent : {asks : Asks} {start told : Option (List Mark)} {held shown : List ℕ} {s : ClientState} → Talking asks start told held shown s → IsSettled s → IsGoing s.stage s.queue → IsTalk asks talked.Spent start told shown shown
-talk-spent {asks} {shown = shown} {s = s} v settled going =
+held-true : (b : Bool) → held_streams b ≡ 0 ∷ [] → b ≡ true
+held-true true e = refl
+held-true false e = absurd (let z : [] ≡ 0 ∷ [] = e in cc)
+
+-- what was offered was taken, or stream 0 is blocked
+talk-offered : {asks : Asks} {start told : Option (List Mark)} {held shown : List ℕ} {s : ClientState} (v : Talking asks start told held shown s) → IsSettled s → IsOffered held s → TookAll asks v.marks ⊎ (is_held v.marks ≡ true)
+talk-offered v settled (inl none) =
+    inl (sym (ap (λ (k : Talk). k.sent) (settled-talk v.stands (has_ended v.marks) settled v.ended) ∙ ap (λ q. bytes_taken 0 v.marks ++ q) none ∙ append-nil (bytes_taken 0 v.marks)))
+talk-offered v settled (inr blocked) = inr (held-true (is_held v.marks) (sym v.held_is ∙ blocked))
+
+pub talk-spent : {asks : Asks} {start told : Option (List Mark)} {held shown : List ℕ} {s : ClientState} (v : Talking asks start told held shown s) → IsSettled s → IsGoing s.stage s.queue → (v.marks ≢ [] → IsOffered held s)
+    → IsTalk asks talked.Spent start told shown shown
+talk-spent {asks} {shown = shown} {s = s} v settled going offered =
     let t : talk_of asks v.marks ≡ talk_at (bytes_taken 0 v.marks ++ s.queue) shown (outcome_of s.stage) = settled-talk v.stands (has_ended v.marks) settled v.ended in record {
       marks = v.marks;
       tells = v.tells;
@@ -263,6 +278,7 @@ talk-spent {asks} {shown = shown} {s = s} v settled going =
       shows = sym (ap (λ (x : Talk). x.out) t);
       due_front = record { rest = []; whole = ap (λ (x : Talk). x.out) t ∙ sym (append-nil shown) };
       fault = λ z. absurd (let w : talked.Spent ≡ talked.WriteFault = z in cc);
+      offered = λ z some. talk-offered v settled (offered some);
     }
 
 pub talk-write-fails : {asks : Asks} {start told : Option (List Mark)} {held shown : List ℕ} {s : ClientState} → Talking asks start told held shown s → IsSettled s
@@ -272,23 +288,15 @@ talk-write-fails {held = held} {shown = shown} {s = s} v settled =
 
 -- ---- a turn
 
-held-true : (b : Bool) → held_streams b ≡ 0 ∷ [] → b ≡ true
-held-true true e = refl
-held-true false e = absurd (let z : [] ≡ 0 ∷ [] = e in cc)
-
 -- what it waits for
 pub talk-waits : {asks : Asks} {start told : Option (List Mark)} {held shown : List ℕ} {s : ClientState} → Talking asks start told held shown s → IsSettled s → IsOffered held s → IsGoing s.stage s.queue
     → (streams : List ℕ) (listens : Bool) → Talking asks start (option_map (λ l. l ++ Waits held Read streams listens ∷ []) told) held shown s
 talk-waits {asks} {held = held} {shown = shown} {s = s} v settled offered going streams listens =
     talking-next v held shown s (Waits held Read streams listens) (record {
-      right = right offered;
+      right = talk-offered v settled offered;
       opens = record { opens = talk-open v settled going; reads = refl; waits_for = v.held_is };
       stands = same-stands v.stands;
     }) (or-none (has_ended v.marks) v.ended) v.held_is
-  where
-    right : IsOffered held s → TookAll asks v.marks ⊎ (is_held v.marks ≡ true)
-    right (inl none) = inl (sym (ap (λ (k : Talk). k.sent) (settled-talk v.stands (has_ended v.marks) settled v.ended) ∙ ap (λ q. bytes_taken 0 v.marks ++ q) none ∙ append-nil (bytes_taken 0 v.marks)))
-    right (inr blocked) = inr (held-true (is_held v.marks) (sym v.held_is ∙ blocked))
 
 pub talk-gets : {asks : Asks} {start told : Option (List Mark)} {held shown : List ℕ} {s : ClientState} → Talking asks start told held shown s → (bytes : List ℕ)
     → Talking asks start (option_map (λ l. l ++ Gets 0 bytes ∷ []) told) held shown (heard bytes s)
@@ -344,6 +352,7 @@ talk-breaks-off {asks} {start} {told} {shown = shown} {s = s} v settled at place
       shows = sym (ap (λ (x : Talk). x.out) t);
       due_front = record { rest = []; whole = ap (λ (x : Talk). x.out) t ∙ sym (append-nil shown) };
       fault = λ z. absurd (let w : talked.BadMaster at ≡ talked.WriteFault = z in cc);
+      offered = λ z. absurd (let w : talked.BadMaster at ≡ talked.Spent = z in cc);
     }
 
 -- ---- a frame is read

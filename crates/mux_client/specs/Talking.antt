@@ -9,7 +9,7 @@ use Rattle.mux_client.specs.declared.stage.Stage.{Stage}
 use Rattle.mux_client.specs.declared.stage.Stage.TheVariants as stage
 use Rattle.mux_client.specs.declared.talked.Talked.{Talked}
 use Rattle.mux_client.specs.declared.talked.Talked.TheVariants.{Done, Refused, BadMaster, WriteFault, ServerFailed, Spent, OutOfMemory}
-use Rattle.mux_client.specs.Journal.{bytes_given, has_ended, is_held, held_streams, talk_of, Throughout, WaitOpen, AtEach, Answers, Shows, ShowsFront}
+use Rattle.mux_client.specs.Journal.{bytes_given, has_ended, is_held, held_streams, talk_of, TookAll, Throughout, WaitOpen, AtEach, Answers, Shows, ShowsFront}
 use Rattle.mux_client.specs.Client.{ClientState, Stands, place_of}
 
 -- ---- the wire
@@ -25,7 +25,7 @@ pub record AcceptsNone (old new : Seen) : Type 0 where
   pub listens : new.listens ≡ old.listens
   pub last : new.last ≡ old.last
 
--- the streams that take no bytes for now: stream 0, or none
+-- where stream 0 takes no bytes for now it is one of these, and else none is
 abbrev pub IsHeld : List ℕ → Type 0
 IsHeld held = (held ≡ []) ⊎ (held ≡ 0 ∷ [])
 
@@ -102,7 +102,9 @@ pub record Talking (asks : Asks) (start told : Option (List Mark)) (held shown :
   pub ended : has_ended marks ≡ true → place_of s.stage ≡ None
   pub held_is : held ≡ held_streams (is_held marks)
 
--- a talk that is over: these bytes were shown, and these were to be shown until then
+-- a talk that is over: these bytes were shown, and these were to be shown until then; a fault of the
+-- sink comes at a line; and with its turns spent the master took all that is sent by then, or takes
+-- no more for now
 pub record IsTalk (asks : Asks) (answer : Talked) (start told : Option (List Mark))
     (shown due : List ℕ) : Type 0 where
   pub marks : List Mark
@@ -112,6 +114,7 @@ pub record IsTalk (asks : Asks) (answer : Talked) (start told : Option (List Mar
   pub shows : Shows answer shown (talk_of asks marks).out
   pub due_front : ShowsFront due (talk_of asks marks).out
   pub fault : answer ≡ WriteFault → due ≢ []
+  pub offered : answer ≡ Spent → marks ≢ [] → TookAll asks marks ⊎ (is_held marks ≡ true)
 
 -- it goes on, or is over with an answer
 abbrev pub TalksOn : {A : Type 0} → Result A Talked → (A → Type 0) → (Talked → Type 0) → Type 0

@@ -78,4 +78,4 @@ pub returns-clause-talks : goal.returns-clause-talks
 returns-clause-talks g c =
     let told = (g.W.Wire.seen c.args.wire.now).told in
     let f = c.loop.invariant.talking in
-    last-here f (decided-talk (c.in_ok-offer-2.ensures.talking c.args.asks.now told f.more f.holds) c.in_ok-offer-2.ensures.settled c.decided-2.result c.decided-2.ensures)
+    last-here f (decided-talk (c.in_ok-offer-2.ensures.talking c.args.asks.now told f.more f.holds) c.in_ok-offer-2.ensures.settled c.in_ok-offer-2.ensures.offered c.decided-2.result c.decided-2.ensures)
