@@ -51,8 +51,8 @@ impl Heard {
         matches!(self, Heard::End | Heard::Failed)
     }
 
-    /// Whether more may wait, of which the system doesn't tell again: behind a full piece, and where
-    /// reads stop short of what is there.
+    /// Whether more may wait, of which the system doesn't tell again: behind a full piece, after a
+    /// signal, and where reads stop short of what is there.
     pub fn leaves_more(self, stops_short: bool) -> bool
         ensures { result ≡ heard_again self stops_short }
     {

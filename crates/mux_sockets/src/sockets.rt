@@ -44,13 +44,13 @@ struct Listening<R: Files + Drop> {
 ///
 /// The system tells once that bytes came, and not again while they are there. So a stream stays
 /// noted until a read shows that none are left: one that would wait, or one that doesn't fill the
-/// piece (epoll(7)). Such a short read shows nothing where descriptors may be passed, since a read of
-/// a Unix socket stops at them: so nothing on the streams of clients. Nobody passes any on the
+/// piece (epoll(7)). Such a short read shows nothing where descriptors may be passed, since a read
+/// of a Unix socket stops at them: so nothing on the streams of clients. Nobody passes any on the
 /// server's stream. There a read stops short at urgent bytes over TCP, and before the end: once the
 /// system told of one, or of an error, a short read shows nothing any more.
 ///
-/// What becomes ready goes behind what was ready before, and the system is asked again when all that
-/// was ready then was served at most twice. So no stream is passed over for longer than that takes.
+/// What becomes ready goes behind what was ready before, and the system is asked again when all
+/// that was ready then was served at most twice. So no stream is passed over for longer than that.
 #[derive(Drop)]
 pub struct Sockets<R: Files + Drop> {
     // `None`: no client comes, as after `stop_listening` and after `join`. It stands first, so that
