@@ -117,13 +117,29 @@ const REFUSED: Talked = Talked::Refused { id: 0 };
 const BROKEN: Talked = Talked::BadMaster { at: 12 };
 
 /// What a reply means to a check, an exit, a stop, and to a forwarding that is opened or closed.
-type Reply = (&'static [u8], [(Talked, &'static [u8]); 5]);
+type Reply = (&'static [u8], &'static [(Talked, &'static [u8])]);
+
+const ALL_REFUSED: &[(Talked, &[u8])] = &[
+    (REFUSED, b""),
+    (REFUSED, b""),
+    (REFUSED, b""),
+    (REFUSED, b""),
+    (REFUSED, b""),
+];
+
+const ALL_BROKEN: &[(Talked, &[u8])] = &[
+    (BROKEN, b""),
+    (BROKEN, b""),
+    (BROKEN, b""),
+    (BROKEN, b""),
+    (BROKEN, b""),
+];
 
 /// Each kind of reply, of this id and of another one, and what is no reply.
 const REPLIES: [Reply; 19] = [
     (
         OKAY,
-        [
+        &[
             (BROKEN, b""),
             (DONE, b"Exit request sent.\n"),
             (DONE, b"Stop listening request sent.\n"),
@@ -133,7 +149,7 @@ const REPLIES: [Reply; 19] = [
     ),
     (
         ALIVE,
-        [
+        &[
             (DONE, b"Master running (pid=42)\n"),
             (BROKEN, b""),
             (BROKEN, b""),
@@ -143,7 +159,7 @@ const REPLIES: [Reply; 19] = [
     ),
     (
         PORT,
-        [
+        &[
             (BROKEN, b""),
             (BROKEN, b""),
             (BROKEN, b""),
@@ -151,43 +167,43 @@ const REPLIES: [Reply; 19] = [
             (BROKEN, b""),
         ],
     ),
-    (DENIED, [(REFUSED, b""); 5]),
-    (FAILURE, [(REFUSED, b""); 5]),
+    (DENIED, ALL_REFUSED),
+    (FAILURE, ALL_REFUSED),
     // Of another id.
-    (OKAY_1, [(BROKEN, b""); 5]),
-    (PORT_1, [(BROKEN, b""); 5]),
-    (FAILURE_1, [(BROKEN, b""); 5]),
+    (OKAY_1, ALL_BROKEN),
+    (PORT_1, ALL_BROKEN),
+    (FAILURE_1, ALL_BROKEN),
     (
         b"\x00\x00\x00\x0e\x80\x00\x00\x02\x00\x00\x00\x01\x00\x00\x00\x02no",
-        [(BROKEN, b""); 5],
+        ALL_BROKEN,
     ),
     (
         b"\x00\x00\x00\x0c\x80\x00\x00\x05\x00\x00\x00\x01\x00\x00\x00\x2a",
-        [(BROKEN, b""); 5],
+        ALL_BROKEN,
     ),
     // Another hello, a request, a reply to a proxy, and an unknown type.
-    (HELLO, [(BROKEN, b""); 5]),
-    (CHECK, [(BROKEN, b""); 5]),
+    (HELLO, ALL_BROKEN),
+    (CHECK, ALL_BROKEN),
     (
         b"\x00\x00\x00\x08\x80\x00\x00\x0f\x00\x00\x00\x00",
-        [(BROKEN, b""); 5],
+        ALL_BROKEN,
     ),
     (
         b"\x00\x00\x00\x08\x80\x00\x00\x04\x00\x00\x00\x00",
-        [(BROKEN, b""); 5],
+        ALL_BROKEN,
     ),
     // Too short a body, a byte too many, a text that is cut off, and frames of no such length.
-    (b"\x00\x00\x00\x04\x80\x00\x00\x01", [(BROKEN, b""); 5]),
+    (b"\x00\x00\x00\x04\x80\x00\x00\x01", ALL_BROKEN),
     (
         b"\x00\x00\x00\x09\x80\x00\x00\x01\x00\x00\x00\x00\x00",
-        [(BROKEN, b""); 5],
+        ALL_BROKEN,
     ),
     (
         b"\x00\x00\x00\x0e\x80\x00\x00\x03\x00\x00\x00\x00\x00\x00\x00\x03no",
-        [(BROKEN, b""); 5],
+        ALL_BROKEN,
     ),
-    (b"\x00\x00\x00\x03", [(BROKEN, b""); 5]),
-    (b"\x00\x04\x00\x01", [(BROKEN, b""); 5]),
+    (b"\x00\x00\x00\x03", ALL_BROKEN),
+    (b"\x00\x04\x00\x01", ALL_BROKEN),
 ];
 
 /// Hellos, ends, several requests, and bytes behind the last reply.
@@ -372,7 +388,12 @@ fn goes_however_cut(alloc: Global, row: &Row<'_>) -> Result<bool, OutOfMemory> {
 }
 
 /// Whether each kind of reply means so to a request; `place` is that of its column.
-fn means_so(alloc: Global, ask: Ask, request: &[u8], place: usize) -> Result<bool, OutOfMemory> {
+fn means_so(
+    alloc: Global,
+    ask: Ask,
+    request: &'static [u8],
+    place: usize,
+) -> Result<bool, OutOfMemory> {
     for (reply, meanings) in &REPLIES {
         let Some((answer, shown)) = meanings.get(place) else {
             return Ok(false);
