@@ -22,6 +22,4 @@ mod lines;
 #[cfg(test)]
 mod messages;
 #[cfg(test)]
-mod talks;
-#[cfg(test)]
 mod transcripts;
