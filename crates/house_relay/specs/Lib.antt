@@ -1,0 +1,4 @@
+pub mod Acts
+pub mod Line
+pub mod Next
+pub mod Relay

@@ -1,0 +1,76 @@
+-- How a channel goes on: what each step leaves of it.
+use Rattle.std.specs.Prelude.{◌+◌, ◌-◌, ◌^◌, ◌&&◌, ℕ, Bool, true, false, not, min, nat_lt, if◌then◌else◌}
+use Rattle.house_relay.specs.declared.line.Live.{Live as LiveState}
+use Rattle.house_relay.specs.declared.line.Line.{Line}
+use Rattle.house_relay.specs.declared.line.Line.TheVariants.{Asked, Opened, Offered, Live, Over}
+
+-- whether it counts as a channel
+abbrev pub counts : Line → Bool
+counts (Asked host port) = true
+counts Opened = true
+counts (Offered remote window maximum) = true
+counts (Live live) = true
+counts Over = false
+
+-- whether the server's EOF came
+abbrev pub hears_end : Line → Bool
+hears_end (Asked host port) = false
+hears_end Opened = false
+hears_end (Offered remote window maximum) = false
+hears_end (Live live) = live.eof_heard
+hears_end Over = false
+
+-- a channel as it is confirmed
+abbrev pub fresh_live : ℕ → ℕ → ℕ → LiveState
+fresh_live remote window maximum = record {
+  remote = remote;
+  room = window;
+  maximum = maximum;
+  eof_said = false;
+  eof_heard = false;
+  close_said = false;
+  close_heard = false;
+  failures = 0;
+  owed = 0;
+}
+
+-- how many bytes of data the server takes in one message now
+abbrev pub takes : LiveState → ℕ
+takes live = min live.room live.maximum
+
+-- it is over where CLOSE went both ways
+abbrev pub over_if : Bool → LiveState → Line
+over_if b live = if b then Over else Live live
+
+abbrev pub closes : LiveState → Line
+closes live = over_if live.close_heard (record live { close_said = true; failures = 0; owed = 0 })
+
+abbrev pub answers : LiveState → LiveState
+answers live = record live { failures = live.failures - 1 }
+
+abbrev pub sends : ℕ → LiveState → LiveState
+sends n live = record live { room = live.room - n }
+
+abbrev pub ends : LiveState → LiveState
+ends live = record live { eof_said = true }
+
+abbrev pub grants : ℕ → LiveState → LiveState
+grants n live = record live { owed = live.owed - n }
+
+-- too much room isn't taken
+abbrev pub hears_room : ℕ → LiveState → LiveState
+hears_room n live =
+    if nat_lt (live.room + n) (2 ^ 32) then record live { room = live.room + n } else live
+
+abbrev pub hears_eof : LiveState → LiveState
+hears_eof live = record live { eof_heard = true }
+
+abbrev pub hears_close : LiveState → Line
+hears_close live = over_if live.close_said (record live { close_heard = true })
+
+abbrev pub hears_request : Bool → LiveState → LiveState
+hears_request want live = if want && not live.close_said
+    then record live { failures = min (live.failures + 1) (2 ^ 32 - 1) } else live
+
+abbrev pub takes_more : ℕ → LiveState → LiveState
+takes_more n live = if live.close_said then live else record live { owed = live.owed + n }
