@@ -126,7 +126,7 @@ pub strange-on : (s : State) (marks : List Mark) (closed : List ℕ) (mark : Mar
 strange-on s marks closed mark j h al was a =
     let q = still-strange s marks mark j h al a in
     let v : IsStrange s marks closed j = was j q.0 in
-    record { not_here = v.not_here; not_closed_yet = v.not_closed_yet; no_bytes = λ nz. ap (λ b. bytes_of j marks ++ b) (q.1 nz) ∙ (append-nil (bytes_of j marks) ∙ v.no_bytes nz) }
+    record { not_here = v.not_here; not_closed_yet = v.not_closed_yet; no_bytes = λ nz. ap (λ b. bytes_of j marks ++ b) (q.1 nz.0) ∙ (append-nil (bytes_of j marks) ∙ v.no_bytes nz) }
 
 -- ---- what comes is bytes
 

@@ -95,11 +95,12 @@ pub record ServerReads (bytes : List ℕ) (server : ServerState) : Type 0 where
   pub mode_is : (parse InProxy bytes).mode ≡ InProxy
   pub rest_is : (parse InProxy bytes).rest ≡ server.rest
 
--- a client that was never accepted: nobody knows of it, and it said nothing
+-- a client that was never accepted: nobody knows of it, and it said nothing, unless its number is that
+-- of a stream of the master's own
 pub record IsStrange (s : State) (marks : List Mark) (closed : List ℕ) (k : ℕ) : Type 0 where
   pub not_here : is_here s k ≡ false
   pub not_closed_yet : among k closed ≡ false
-  pub no_bytes : k ≢ 0 → bytes_of k marks ≡ []
+  pub no_bytes : (k ≢ 0) × (is_own_stream k ≡ false) → bytes_of k marks ≡ []
 
 pub record BytesFit (s : State) (marks : List Mark) (closed : List ℕ) (rows : List Row) :
     Type 0 where
@@ -138,7 +139,8 @@ HouseAllowed marks mark = Unit {0}
 -- what may come after these marks: a client is accepted once, and other marks name one that was
 -- accepted; none names a stream of the master's own
 abbrev pub IsAllowed : State → List Mark → Mark → Type 0
-IsAllowed s marks (Accepts k) = (k ≢ 0) × (is_accepted k marks ≡ false)
+IsAllowed s marks (Accepts k) =
+    (k ≢ 0) × (is_accepted k marks ≡ false) × (is_own_stream k ≡ false)
 IsAllowed s marks (Gets k bytes) =
     (k ≢ 0 → is_accepted k marks ≡ true) × AreBytes bytes × (is_own_stream k ≡ false)
 IsAllowed s marks (Ends k) = (k ≢ 0 → is_accepted k marks ≡ true) × (is_own_stream k ≡ false)
