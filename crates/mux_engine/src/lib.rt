@@ -1,8 +1,7 @@
 //! A run of the master: `serve` drives an engine over a wire.
 #![tactic(auto)]
 
+mod asking;
 mod events;
-mod serving;
+mod owned;
 mod settling;
-
-pub use serving::serve;

@@ -1,0 +1,118 @@
+use crate::asking::heed;
+use crate::lists::Lists;
+use crate::owned::own_rounds;
+use crate::settling::flush;
+use mux_clients::Asks;
+use mux_history::limits::{HOUSE, READING_STOPS_AT};
+use mux_machine::{Engine, Event};
+use mux_outside::{FileError, House, HouseMark, NoHouse, Order, Piece, Wire};
+use ssh_fields::{OutOfMemory, Text};
+use std::alloc::Global;
+
+// Lets the house in as a client, before all else.
+pub fn let_in<W: Wire, H: House>(
+    engine: &mut Engine,
+    wire: &mut W,
+    asks: &mut Asks,
+) -> Result<(), OutOfMemory>
+    requires on { engine.old.ended ≡ None }
+    requires refused { engine.old.refused ≡ [] }
+    ensures serving { (present : Bool) (before : Option (List TheHouseMark)) (now : TheSide)
+        (policy : ThePolicy) (pid : ℕ) (start : Option (List TheMark)) (held failed : List ℕ)
+        (given : ℕ) (todo : List ℕ) →
+        (v : Serving H.may (RestsOf H.told H.quiet present) before now policy pid start
+        (W.seen wire.old) held failed given todo engine.old) → v.journal ≡ [] →
+        MatchResult result
+        (λ x. Serving H.may (RestsOf H.told H.quiet present) before
+        (record now { let_in = true }) policy pid start (W.seen wire.new) held failed given
+        (0 ∷ here engine.new) engine.new)
+        (λ e. Promised H.may (RestsOf H.told H.quiet present) before now.told policy pid start
+        (W.seen wire.new).told given) }
+    ensures places { SamePlaces (W.seen wire.old) (W.seen wire.new) }
+    ensures on { OnOk result (engine.new.ended ≡ None) }
+    ensures calls { W.calls wire.new ≡ W.calls wire.old }
+    ensures faults { W.server_faults wire.new ≡ W.server_faults wire.old }
+    ensures clients { W.client_faults wire.new ≡ W.client_faults wire.old }
+    ensures openings { W.openings wire.new ≡ W.openings wire.old }
+{
+    wire.note(&HouseMark::HouseIn)?;
+    engine.event(Event::Accepted(HOUSE), &mut NoHouse, asks)?;
+    Ok(())
+}
+
+// Hands the house all that waits for it as a client.
+fn hand_over<W: Wire, H: House>(
+    engine: &mut Engine,
+    wire: &mut W,
+    house: &mut H,
+) -> Result<(), OutOfMemory>
+    requires ordering { (H.known house.old).ordering ≡ None }
+    ensures serving { (held failed : List ℕ) → RunsOn result H.may
+        (RestsOf H.told H.quiet (H.known house.old).present)
+        (noted (H.told house.old) (H.known house.old))
+        (noted (H.told house.new) (H.known house.new)) (W.seen wire.old) (W.seen wire.new) held held
+        failed failed 0 (λ done. 0) (0 ∷ here engine.old)
+        (λ done. 0 ∷ without TheHouse (here engine.new)) engine.old engine.new }
+    ensures known { OnOk result (H.known house.new ≡ H.known house.old) }
+    ensures must { H.must house.new ≡ H.must house.old }
+    ensures ended { engine.new.ended ≡ engine.old.ended }
+    ensures places { SamePlaces (W.seen wire.old) (W.seen wire.new) }
+    ensures blocked { (W.seen wire.new).blocked ≡ (W.seen wire.old).blocked }
+    ensures calls { W.calls wire.new ≡ W.calls wire.old }
+    ensures faults { W.server_faults wire.new ≡ W.server_faults wire.old }
+    ensures clients { W.client_faults wire.new ≡ W.client_faults wire.old }
+    ensures openings { W.openings wire.new ≡ W.openings wire.old }
+{
+    let bytes = engine.queue_of(HOUSE);
+    if bytes.is_empty() {
+        return Ok(());
+    }
+    let n = bytes.len();
+    house.takes(bytes)?;
+    wire.note(&HouseMark::HouseTook(n))?;
+    engine.took(HOUSE, n);
+    Ok(())
+}
+
+// A reply of the house that was to come later: whether there was one.
+fn reply<W: Wire, H: House>(
+    engine: &mut Engine,
+    wire: &mut W,
+    house: &mut H,
+    asks: &mut Asks,
+) -> Result<bool, OutOfMemory>
+    requires ordering { (H.known house.old).ordering ≡ None }
+    requires on { engine.old.ended ≡ None }
+    ensures serving { (held failed : List ℕ) → RunsOn result H.may
+        (RestsOf H.told H.quiet (H.known house.old).present)
+        (noted (H.told house.old) (H.known house.old))
+        (noted (H.told house.new) (H.known house.new)) (W.seen wire.old) (W.seen wire.new) held held
+        failed failed 0 (λ more. 0) (0 ∷ without TheHouse (here engine.old))
+        (λ more. if more then 0 ∷ here engine.new else 0 ∷ without TheHouse (here engine.new))
+        engine.old engine.new }
+    ensures known { SameHouse (H.known house.old) (H.known house.new) }
+    ensures fewer { IfOk result (λ more. more ≡ true
+        → length (H.known house.new).asks < length (H.known house.old).asks) }
+    ensures answered { IfOk result (λ more. more ≡ false → (H.quiet house.new).answers ≡ true) }
+    ensures queues { IfOk result (λ more. more ≡ false
+        → (t : ℕ) → H.queue house.new t ≡ H.queue house.old t) }
+    ensures must { H.must house.new ≡ H.must house.old }
+    ensures on { OnOk result (engine.new.ended ≡ None) }
+    ensures places { SamePlaces (W.seen wire.old) (W.seen wire.new) }
+    ensures blocked { (W.seen wire.new).blocked ≡ (W.seen wire.old).blocked }
+    ensures calls { W.calls wire.new ≡ W.calls wire.old }
+    ensures faults { W.server_faults wire.new ≡ W.server_faults wire.old }
+    ensures clients { W.client_faults wire.new ≡ W.client_faults wire.old }
+    ensures openings { W.openings wire.new ≡ W.openings wire.old }
+{
+    let Some((client, id, given)) = house.answer() else {
+        return Ok(false);
+    };
+    wire.note(&HouseMark::HouseAnswer {
+        client,
+        id,
+        reply: given,
+    })?;
+    engine.event(Event::HouseSays(client, id, given), &mut NoHouse, asks)?;
+    Ok(true)
+}
