@@ -198,6 +198,7 @@ housed-closed {seen = seen} {s = s} v k first known own h =
         opened = λ t one. without-other k t seen.streams (apart t (mine t one)) ∙ h.places.opened t (mine t one);
         numbered = λ t one. h.places.numbered t (mine t one);
         listed = λ t a is. subst (λ (l : List OwnStream). IsTrue (is_one t l)) (sym same) (h.places.listed t (was-among k t seen.streams a).0 is);
+        given = λ t one. h.places.given t (mine t one);
         listening = h.places.listening;
       };
     }

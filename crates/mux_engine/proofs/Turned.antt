@@ -18,18 +18,21 @@ use Rattle.mux_outside.specs.declared.turn.Turn.{Turn}
 use Rattle.mux_outside.specs.declared.turn.Turn.TheVariants as turn
 use Rattle.mux_history.specs.declared.limits.TheConstants.{HOUSE}
 use Rattle.mux_history.specs.Log.{Setting}
+use Rattle.mux_history.specs.Settings.{by_lists}
 use Rattle.mux_history.specs.Policy.{Policy}
 use Rattle.mux_history.specs.Journal.{is_accepted, is_own_stream, log_of_journal}
 use Rattle.mux_history.specs.Promises.{SpeaksInTime, turns_in}
 use Rattle.mux_history.specs.Wires.{OfWire}
 use Rattle.mux_history.proofs.Wires.{wire-keeps}
 use Rattle.mux_bounds.specs.Bounds.{IsLog}
-use Rattle.mux_clients.specs.Asked.{TellsAsks, known_after}
+use Rattle.mux_clients.specs.Asked.{TellsAsks, asked_of, known_after}
 use Rattle.mux_machine.specs.State.{State, numbers}
 use Rattle.mux_machine.specs.declared.event.Event.{Event}
 use Rattle.mux_machine.specs.declared.event.Event.TheVariants.{Accepted, FromClient, ClientEnd, ClientFailed, HouseSays, FromServer, ServerEnd, ServerFailed}
 use Rattle.mux_machine.specs.Events.{Arrives, EndsBy, Keeps, MayEnd, SameStreams, Tells, here}
 use Rattle.mux_machine.specs.Stands.{GoesBy, IsAllowed}
+use Rattle.mux_machine.specs.Twins.{AreAlike}
+use Rattle.mux_machine.proofs.Twins.{stands-alike}
 use Rattle.mux_engine.specs.Asking.{HeedsSo}
 use Rattle.mux_engine.specs.Run.{RestedAt}
 use Rattle.mux_engine.specs.Serving.{IsUnseen, Promised, Serving}
@@ -94,48 +97,62 @@ asks-are asks more e = held e
     held : Some asks ≡ Some more → asks ≡ more
     held h = cc
 
+-- the same event with a mark that says the same
+pub goes-twin : {May : HouseReply → Type 0} {told told' : Option (List HouseMark)} {picked : List ℕ} {replies : List HouseReply} {s s' : State} (twin mark : Mark) {marks : List Mark} {closed : List ℕ} → AreAlike (twin ∷ marks) (mark ∷ marks) → GoesBy May told told' picked replies s s' twin marks closed → GoesBy May told told' picked replies s s' mark marks closed
+goes-twin {picked = picked} {replies = replies} {s = s} {s' = s'} twin mark {marks} {closed} alike g = record {
+  picks = g.picks;
+  replies = g.replies;
+  asks = g.asks;
+  may = g.may;
+  stands = stands-alike (twin ∷ marks) (mark ∷ marks) (picked ++ g.picks) (replies ++ g.replies) s' closed alike g.stands;
+  told = g.told;
+  asked = λ p r. ap asked_of (sym (alike.log (by_lists s'.core.policy s'.pid ((picked ++ g.picks) ++ p) ((replies ++ g.replies) ++ r)))) ∙ g.asked p r;
+}
+
 module _ {May : HouseReply → Type 0} {Rest : Option (List HouseMark) → Type 0} {before : Option (List HouseMark)} {now : Side} {policy : Policy} {pid : ℕ} {start : Option (List Mark)} {seen : Seen} {held failed : List ℕ} {given : ℕ} {s : State}
-    (v : Serving May Rest before now policy pid start seen held failed given [] s) (live : s.ended ≡ None) (noted : now.unnoted ≡ []) where
-  -- an event that the wire told, and how the streams are then
-  pub record EventAt (e : Event) (seen' : Seen) : Type 0 where
+    (v : Serving May Rest before now policy pid start seen held failed given [] s) (live : s.ended ≡ None) where
+  -- an event that was told, as by its twin, and how the streams are then
+  pub record EventAt (e : Event) (seen' : Seen) (given' : ℕ) : Type 0 where
     pub mark : Mark
+    pub twin : Mark
     pub is : IsTold mark
-    pub tells : Tells e mark
-    pub allowed : IsAllowed s v.journal mark
+    pub alike : AreAlike (twin ∷ v.journal) (mark ∷ v.journal)
+    pub tells : Tells e twin
+    pub allowed : IsAllowed s v.journal twin
     pub marks : seen'.told ≡ option_map (λ m. m ++ mark ∷ []) seen.told
     pub of_wire : OfWire seen'.streams seen'.blocked seen'.last (mark ∷ v.journal)
     pub said : SaidBy (λ k. is_accepted k (mark ∷ v.journal) ≡ true) mark
     pub spares : (k : ℕ) → among k v.closed ≡ true → Spares k mark
-    pub speaks : (set : Setting) → SpeaksInTime set v.journal mark
+    pub speaks : (picks : List ℕ) (later : List HouseReply) → SpeaksInTime (by_lists policy pid (v.picked ++ picks) (v.replies ++ later)) v.journal mark
     pub rested : RestedAt Rest before v.journal mark
-    pub turns : turns_in (mark ∷ v.journal) ≡ given
-    pub plain : house_mark mark ≡ []
+    pub turns : turns_in (mark ∷ v.journal) ≡ given'
+    pub plain : house_mark mark ≡ now.unnoted
     pub cut : (set : Setting) → IsLog set (mark ∷ v.journal) (log_of_journal set v.journal)
     pub house : is_accepted HOUSE (mark ∷ v.journal) ≡ is_accepted HOUSE v.journal
     pub placed : (s' : State) → (s.ended ≡ None → Arrives e s s') → Placed s' v.journal seen seen' held failed mark
 
   -- the engine took it in, and so many of the asks were noted
-  pub event-goes : (e : Event) (seen' : Seen) (at : EventAt e seen') (s' : State) (asks : List HouseMark) (told told' : Option (List HouseMark)) (known known' : Known) (seen'' : Seen) (n : ℕ) → now.told ≡ told → now.asks ≡ known.asks → HeedsSo May e s s' asks told told' known known' seen' seen'' n
-      → Serving May Rest before (record { told = told'; asks = known'.asks; unnoted = drop n asks; let_in = now.let_in }) policy pid start seen'' held failed given (0 ∷ here s') s'
-  event-goes e seen' at s' asks told told' known known' seen'' n same_told same_asks h =
-      let g : GoesBy May (Some []) (Some asks) v.picked v.replies s s' at.mark v.journal v.closed = h.goes at.mark at.tells v.picked v.replies v.journal v.closed v.stands at.allowed in
+  pub event-goes : (e : Event) (seen' : Seen) (given' : ℕ) (at : EventAt e seen' given') (s' : State) (asks : List HouseMark) (told told' : Option (List HouseMark)) (known known' : Known) (seen'' : Seen) (n : ℕ) → now.told ≡ told → now.asks ≡ known.asks → HeedsSo May e s s' asks told told' known known' seen' seen'' n
+      → Serving May Rest before (record { told = told'; asks = known'.asks; unnoted = drop n asks; let_in = now.let_in }) policy pid start seen'' held failed given' (0 ∷ here s') s'
+  event-goes e seen' given' at s' asks told told' known known' seen'' n same_told same_asks h =
+      let g : GoesBy May (Some []) (Some asks) v.picked v.replies s s' at.mark v.journal v.closed = goes-twin at.twin at.mark at.alike (h.goes at.twin at.tells v.picked v.replies v.journal v.closed v.stands at.allowed) in
       let listed : asks ≡ g.asks = asks-are asks g.asks g.told in
       let each : EachAsked (λ k. is_accepted k (at.mark ∷ v.journal) ≡ true) asks = subst (EachAsked (λ k. is_accepted k (at.mark ∷ v.journal) ≡ true)) (sym listed) (goes-asked (λ k. is_accepted k (at.mark ∷ v.journal) ≡ true) g h.keeps.policy h.keeps.pid at.said) in
       let now' : Side = record { told = told'; asks = (known_after asks known).asks; unnoted = asks; let_in = now.let_in } in
-      let first : Serving May Rest before now' policy pid start seen' held failed given (0 ∷ here s') s' = serve-event v at.mark g now' seen' held failed given h.keeps.policy h.keeps.pid live at.is (λ t a. refl) at.spares (λ picks later. at.speaks _)
-      (record { more = asks; told_is = subst (λ (t : Option (List HouseMark)). TellsAsks t told' asks) (sym same_told) h.told_is; noted_is = ap (λ l. l ++ asks) at.plain ∙ ap (λ l. l ++ asks) (sym noted); asks_are = all-asks (λ k. is_accepted k (at.mark ∷ v.journal) ≡ true) asks each ∙ listed })
+      let first : Serving May Rest before now' policy pid start seen' held failed given' (0 ∷ here s') s' = serve-event v at.mark g now' seen' held failed given' h.keeps.policy h.keeps.pid live at.is (λ t a. refl) at.spares (λ picks later. subst (λ (ps : List ℕ). SpeaksInTime (by_lists policy pid ps ((v.replies ++ g.replies) ++ later)) v.journal at.mark) (sym (append_assoc v.picked g.picks picks)) (subst (λ (rs : List HouseReply). SpeaksInTime (by_lists policy pid (v.picked ++ (g.picks ++ picks)) rs) v.journal at.mark) (sym (append_assoc v.replies g.replies later)) (at.speaks (g.picks ++ picks) (g.replies ++ later))))
+      (record { more = asks; told_is = subst (λ (t : Option (List HouseMark)). TellsAsks t told' asks) (sym same_told) h.told_is; noted_is = ap (λ l. l ++ asks) at.plain; asks_are = all-asks (λ k. is_accepted k (at.mark ∷ v.journal) ≡ true) asks each ∙ listed })
       (asked-accepted (at.mark ∷ v.journal) asks known each (subst (λ l. All (λ a. IsTrue (is_accepted a.client (at.mark ∷ v.journal))) l) same_asks (λ k d lt. accepted-more at.mark v.journal _ (v.askers k d lt))))
       (at.house ∙ v.house_in) at.rested at.turns at.marks (at.placed s' h.keeps.streams) in
-      subst (λ (x : Seen). Serving May Rest before (record { told = told'; asks = known'.asks; unnoted = drop n asks; let_in = now.let_in }) policy pid start x held failed given (0 ∷ here s') s') (sym h.seen_is)
-      (subst (λ (k : Known). Serving May Rest before (record { told = told'; asks = k.asks; unnoted = drop n asks; let_in = now.let_in }) policy pid start (seen-with (take n asks) seen') held failed given (0 ∷ here s') s') (sym h.known_is)
+      subst (λ (x : Seen). Serving May Rest before (record { told = told'; asks = known'.asks; unnoted = drop n asks; let_in = now.let_in }) policy pid start x held failed given' (0 ∷ here s') s') (sym h.seen_is)
+      (subst (λ (k : Known). Serving May Rest before (record { told = told'; asks = k.asks; unnoted = drop n asks; let_in = now.let_in }) policy pid start (seen-with (take n asks) seen') held failed given' (0 ∷ here s') s') (sym h.known_is)
       (note-some n asks (λ k. is_accepted k (at.mark ∷ v.journal) ≡ true) each first refl))
 
   -- and may end by it
-  pub event-ends : (e : Event) (seen' : Seen) (at : EventAt e seen') (s' : State) → ((mark : Mark) → Tells e mark → EndsBy e s s' mark) → MayEnd e s'.ended
-  event-ends e seen' at s' ends = ends at.mark at.tells v.picked v.replies v.journal v.closed v.stands at.allowed live
+  pub event-ends : (e : Event) (seen' : Seen) (given' : ℕ) (at : EventAt e seen' given') (s' : State) → ((mark : Mark) → Tells e mark → EndsBy e s s' mark) → MayEnd e s'.ended
+  event-ends e seen' given' at s' ends = ends at.twin at.tells v.picked v.replies v.journal v.closed v.stands at.allowed live
 
   -- there was no memory for it
-  pub event-cut : (e : Event) (seen' : Seen) (at : EventAt e seen') (told' : Option (List HouseMark)) (more : List HouseMark) → TellsAsks now.told told' more → Promised May Rest before told' policy pid start seen'.told given
-  event-cut e seen' at told' more told =
-      cut-next v told' seen'.told given at.mark more more at.marks told (ap (λ l. l ++ more) at.plain ∙ ap (λ l. l ++ more) (sym noted)) (of-streams seen'.streams seen'.blocked seen'.last (at.mark ∷ v.journal) at.of_wire)
-      (let w : turns_in (at.mark ∷ v.journal) ≡ given = at.turns in omega arith) at.rested at.cut (λ picks later. told-promise _ at.mark v.journal at.is (at.speaks _))
+  pub event-cut : (e : Event) (seen' : Seen) (given' : ℕ) (at : EventAt e seen' given') (told' : Option (List HouseMark)) (more : List HouseMark) → TellsAsks now.told told' more → Promised May Rest before told' policy pid start seen'.told given'
+  event-cut e seen' given' at told' more told =
+      cut-next v told' seen'.told given' at.mark more more at.marks told (ap (λ l. l ++ more) at.plain) (of-streams seen'.streams seen'.blocked seen'.last (at.mark ∷ v.journal) at.of_wire)
+      (let w : turns_in (at.mark ∷ v.journal) ≡ given' = at.turns in omega arith) at.rested at.cut (λ picks later. told-promise _ at.mark v.journal at.is (at.speaks picks later))

@@ -24,6 +24,7 @@ use Rattle.mux_history.proofs.Wires.{wire-keeps}
 use Rattle.mux_machine.specs.State.{State}
 use Rattle.mux_machine.specs.declared.event.Event.{Event}
 use Rattle.mux_machine.specs.Events.{here}
+use Rattle.mux_machine.specs.Twins.{AreAlike}
 use Rattle.mux_engine.specs.Serving.{IsUnseen, Serving}
 use Rattle.mux_engine.specs.Sides.{Side}
 use Rattle.mux_engine.specs.Turns.{IsEventOf, want_of}
@@ -42,11 +43,14 @@ two-marks a b (Some m) = ap (λ (l : List Mark). Some l) (sym (append_assoc m (a
 few-clients : (last k : ℕ) → k ≡ last + 1 → last < LAST_CLIENT → k ≤ LAST_CLIENT
 few-clients last k e lt = omega arith
 
-client-number : (k : ℕ) → k ≤ LAST_CLIENT → is_own k ≡ false
+pub client-number : (k : ℕ) → k ≤ LAST_CLIENT → is_own k ≡ false
 client-number k le = grind (arith, nat_tests)
 
 house-apart : (k : ℕ) → k ≤ LAST_CLIENT → k ≢ HOUSE
 house-apart k le e = absurd (omega (arith, le, e))
+
+pub same-marks : (marks : List Mark) → AreAlike marks marks
+same-marks marks = record { log = λ set. refl; bytes = λ t. refl; accepted = λ k. refl }
 
 module _ {May : HouseReply → Type 0} {Rest : Option (List HouseMark) → Type 0} {before : Option (List HouseMark)} {now : Side} {policy : Policy} {pid : ℕ} {start : Option (List Mark)} {seen : Seen} {held failed : List ℕ} {given : ℕ} {s : State}
     (v : Serving May Rest before now policy pid start seen held failed given [] s) (none : s.leaving ≡ []) (admitted : s.refused ≡ []) (live : s.ended ≡ None) {own : List ℕ} {queue : ℕ → List ℕ} (o : Offered seen own held failed queue)
@@ -72,13 +76,15 @@ module _ {May : HouseReply → Type 0} {Rest : Option (List HouseMark) → Type 
   accepted : (k : ℕ) → is_own k ≡ false → among k seen.streams ≡ true → k ≢ 0 → is_accepted k v.journal ≡ true
   accepted k client found nz = (at-stream v.stands k (open-stream v k client found)).accepted nz
 
-  pub event-at : (t : Turn) (bytes : List ℕ) (e : Event) → AreBytes bytes → Fits t bytes → OwnTurnFits t → IsEventOf e t bytes → EventAt now-waiting live noted e (seen-then t bytes)
+  pub event-at : (t : Turn) (bytes : List ℕ) (e : Event) → AreBytes bytes → Fits t bytes → OwnTurnFits t → IsEventOf e t bytes → EventAt now-waiting live e (seen-then t bytes) (given + 1)
   unfolding waited serve-alone serve-on
   event-at (turn.Accepted k) bytes e are fits own_fits next =
       let few : k ≤ LAST_CLIENT = few-clients seen.last k fits.2 fits.3 in
       let new : IsUnseen v.journal seen.blocked k = v.unseen k (let n : k ≡ seen.last + 1 = fits.2 in omega arith) few in
       record {
         mark = Accepts k;
+    twin = Accepts k;
+    alike = same-marks (Accepts k ∷ now-waiting.journal);
         is = tt;
         tells = next;
         allowed = ((λ z. absurd (let n : k ≡ seen.last + 1 = fits.2 in omega arith)), new.not_accepted, not-own-stream k (client-number k few));
@@ -86,16 +92,18 @@ module _ {May : HouseReply → Type 0} {Rest : Option (List HouseMark) → Type 
         of_wire = of-turn (turn.Accepted k) bytes are fits own_fits;
         said = tt;
         spares = λ j c e. true-false (sym c ∙ (ap (λ i. among i v.closed) (sym e) ∙ ((v.stands.at [] []).bytes.strange k new.not_accepted).not_closed_yet));
-        speaks = λ set. tt;
+        speaks = λ picks later. tt;
         rested = tt;
         turns = now-waiting.turns;
-        plain = refl;
+        plain = sym noted;
         cut = λ set. inr (0, refl);
         house = ap (λ b. elim b as (λ _. Bool) [ true ↦ true | false ↦ is_accepted HOUSE v.journal ]) (test-other k HOUSE (house-apart k few));
         placed = λ s' arrives. placed-accepts now-waiting (seen-then (turn.Accepted k) bytes) s' k fits.2 few (of-turn (turn.Accepted k) bytes are fits own_fits) refl refl refl refl refl (came e k s s' next admitted (arrives live)) (client-number k few);
       }
   event-at (turn.Got k) bytes e are fits own_fits next = record {
     mark = Gets k bytes;
+    twin = Gets k bytes;
+    alike = same-marks (Gets k bytes ∷ now-waiting.journal);
     is = tt;
     tells = next.1;
     allowed = ((λ nz. accepted k next.0 fits.1 nz), are, not-own-stream k next.0);
@@ -103,16 +111,18 @@ module _ {May : HouseReply → Type 0} {Rest : Option (List HouseMark) → Type 
     of_wire = of-turn (turn.Got k) bytes are fits own_fits;
     said = λ nz. accepted k next.0 fits.1 nz;
     spares = λ j c. tt;
-    speaks = λ set. tt;
+    speaks = λ picks later. tt;
     rested = tt;
     turns = now-waiting.turns;
-    plain = refl;
+    plain = sym noted;
     cut = λ set. inr (0, refl);
     house = refl;
     placed = λ s' arrives. placed-gets now-waiting (seen-then (turn.Got k) bytes) s' k bytes fits.1 (of-turn (turn.Got k) bytes are fits own_fits) refl refl refl refl refl (stayed e (Gets k bytes) s s' next.1 tt (arrives live));
   }
   event-at (turn.End k) bytes e are fits own_fits next = record {
     mark = Ends k;
+    twin = Ends k;
+    alike = same-marks (Ends k ∷ now-waiting.journal);
     is = tt;
     tells = next.1;
     allowed = ((λ nz. accepted k next.0 fits.1 nz), not-own-stream k next.0);
@@ -120,16 +130,18 @@ module _ {May : HouseReply → Type 0} {Rest : Option (List HouseMark) → Type 
     of_wire = of-turn (turn.End k) bytes are fits own_fits;
     said = tt;
     spares = λ j c. tt;
-    speaks = λ set. tt;
+    speaks = λ picks later. tt;
     rested = tt;
     turns = now-waiting.turns;
-    plain = refl;
+    plain = sym noted;
     cut = λ set. inr (0, refl);
     house = refl;
     placed = λ s' arrives. placed-ends now-waiting (seen-then (turn.End k) bytes) s' k fits.1 (of-turn (turn.End k) bytes are fits own_fits) refl refl refl refl refl (stayed e (Ends k) s s' next.1 tt (arrives live));
   }
   event-at (turn.Failed k) bytes e are fits own_fits next = record {
     mark = Fails k;
+    twin = Fails k;
+    alike = same-marks (Fails k ∷ now-waiting.journal);
     is = tt;
     tells = next.1;
     allowed = ((λ nz. accepted k next.0 fits nz), not-own-stream k next.0);
@@ -137,10 +149,10 @@ module _ {May : HouseReply → Type 0} {Rest : Option (List HouseMark) → Type 
     of_wire = of-turn (turn.Failed k) bytes are fits own_fits;
     said = tt;
     spares = λ j c. tt;
-    speaks = λ set. tt;
+    speaks = λ picks later. tt;
     rested = tt;
     turns = now-waiting.turns;
-    plain = refl;
+    plain = sym noted;
     cut = λ set. inr (0, refl);
     house = refl;
     placed = λ s' arrives. placed-fails now-waiting (seen-then (turn.Failed k) bytes) s' failed k fits (of-turn (turn.Failed k) bytes are fits own_fits) refl refl refl refl refl (stayed e (Fails k) s s' next.1 tt (arrives live)) (λ own. true-false (sym own ∙ next.0)) (λ t a. a);

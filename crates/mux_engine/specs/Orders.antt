@@ -1,10 +1,11 @@
 -- What carrying out an order leaves.
-use Rattle.std.specs.Prelude.{◌≡◌, ℕ, true, false, List, [], ◌∷◌, ◌++◌, Option, Some, None, IsTrue}
-use Rattle.std.specs.Option.{option_map}
-use Rattle.mux_outside.specs.House.{Known, OrderFits, known_after_order, known_after_ordered, order_marks}
-use Rattle.mux_outside.specs.Seen.{Seen, seen_after_close, seen_after_connect, seen_after_finish, seen_after_listen, seen_after_pause, seen_after_unlisten}
+use Rattle.std.specs.Prelude.{◌≡◌, ℕ, true, false, List, [], ◌∷◌, ◌++◌, Option, Some, None, Result, Ok, Err, IsErr}
+use Rattle.mux_outside.specs.House.{Known, OrderFits, known_after_order, known_after_ordered}
+use Rattle.mux_outside.specs.Seen.{Seen, seen_after_close, seen_after_finish, seen_after_pause, seen_after_unlisten}
 use Rattle.mux_outside.specs.Streams.{without}
 use Rattle.mux_outside.specs.Wire.{IsNewOwn}
+use Rattle.mux_outside.specs.declared.file_error.FileError.{FileError}
+use Rattle.mux_outside.specs.declared.file_error.FileError.TheVariants.{Failed, OutOfMemory}
 use Rattle.mux_outside.specs.declared.house_mark.HouseMark.{HouseMark}
 use Rattle.mux_outside.specs.declared.house_mark.HouseMark.TheVariants.{HouseOrder}
 use Rattle.mux_outside.specs.declared.order.Order.{Order}
@@ -72,3 +73,11 @@ pub record HasOrdered (order : Order) (known : Known) (seen : Seen) (own : List 
   pub housed : Housed before seen own
   pub fits : OrderFits (Some order) before
   pub known_is : known ≡ known_after_order (Some order) before
+
+-- ---- what was made
+
+-- the number of what was made, and none where that failed; want of memory is no refusal
+abbrev pub IsMade : {E : Type 0} → Result ℕ FileError → Result (Option ℕ) E → Type 0
+IsMade (Ok n) result = result ≡ Ok (Some n)
+IsMade (Err Failed) result = result ≡ Ok None
+IsMade (Err OutOfMemory) result = IsErr result

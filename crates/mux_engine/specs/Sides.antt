@@ -69,6 +69,7 @@ pub record OwnPlaces (seen : Seen) : Type 0 where
   pub opened : (t : ℕ) → IsTrue (is_one t seen.own) → IsTrue (among t seen.streams)
   pub numbered : (t : ℕ) → IsTrue (is_one t seen.own) → IsTrue (is_own t)
   pub listed : (t : ℕ) → IsTrue (among t seen.streams) → IsTrue (is_own t) → IsTrue (is_one t seen.own)
+  pub given : (t : ℕ) → IsTrue (is_one t seen.own) → t ≤ seen.last_own
   pub listening : (l : ℕ) → IsTrue (among l seen.listeners) → l ≤ seen.last_own
 
 -- what is known of the house is what the wire has seen of it; these are the numbers of its streams

@@ -3,5 +3,8 @@
 
 mod asking;
 mod events;
+mod housing;
+mod lists;
+mod orders;
 mod owned;
 mod settling;
