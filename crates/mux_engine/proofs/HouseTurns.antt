@@ -37,7 +37,7 @@ use Rattle.mux_engine.specs.Serving.{IsSound, Promised, Serving}
 use Rattle.mux_engine.specs.Sides.{Side}
 use Rattle.mux_engine.proofs.Asks.{goes-asked, goes-unasked, none-asked}
 use Rattle.mux_engine.proofs.Cuts.{cut-next, of-streams}
-use Rattle.mux_engine.proofs.Events.{placed-house-in, serve-event}
+use Rattle.mux_engine.proofs.Happened.{placed-house-in, serve-event}
 use Rattle.mux_engine.proofs.Lists.{among-less, or-true, test-other, true-false}
 use Rattle.mux_engine.proofs.Logs.{accepted-more, failed-other, log-out, settled-as, took-log, took-pending}
 use Rattle.mux_engine.proofs.Marks.{Notes, serve-alone}

@@ -3,11 +3,12 @@ mod Asks
 mod Closed
 mod Counting
 mod Cuts
-mod Events
 mod First
+mod Happened
 mod HouseTakes
 mod HouseTurns
 mod Keeps
+mod Left
 mod Lists
 mod Logs
 mod Loops
@@ -20,6 +21,7 @@ mod OwnMarks
 mod OwnTurns
 mod Places
 mod Quiet
+mod Runs
 mod Silent
 mod Taken
 mod Todo

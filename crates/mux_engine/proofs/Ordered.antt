@@ -29,7 +29,7 @@ use Rattle.mux_engine.specs.Orders.{MadeBy, failed_carried, held_carried, more_t
 use Rattle.mux_engine.specs.Serving.{IsFree, IsUnseen, IsUnused, Serving}
 use Rattle.mux_engine.specs.Sides.{Side, asks_in}
 use Rattle.mux_engine.proofs.Closed.{both-tests, was-among}
-use Rattle.mux_engine.proofs.Events.{last-or}
+use Rattle.mux_engine.proofs.Happened.{last-or}
 use Rattle.mux_engine.proofs.Lists.{among-last, among-less, among-other-last, or-last, or-none, own-stream, test-other, true-false, without-other}
 use Rattle.mux_engine.proofs.Marks.{Notes, Placed}
 use Rattle.mux_engine.proofs.OwnMarks.{test-same}

@@ -29,7 +29,7 @@ use Rattle.mux_machine.proofs.Twins.{own-silent, stands-alike}
 use Rattle.std.proofs.lemmas.List.Folds.{list_any-append}
 use Rattle.mux_engine.specs.Serving.{IsFree, IsSound, IsUnseen, IsUnused, Serving}
 use Rattle.mux_engine.specs.Sides.{Side}
-use Rattle.mux_engine.proofs.Events.{last-or, placed-ends, placed-fails, placed-gets}
+use Rattle.mux_engine.proofs.Happened.{last-or, placed-ends, placed-fails, placed-gets}
 use Rattle.mux_engine.proofs.Lists.{among-last, among-open, none-without, or-last, or-none, test-other, true-false, without-other}
 use Rattle.mux_engine.proofs.Logs.{log-out, settled-as}
 use Rattle.mux_engine.proofs.Marks.{Placed, serve-alone}

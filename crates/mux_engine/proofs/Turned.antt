@@ -40,7 +40,7 @@ use Rattle.mux_engine.specs.Sides.{Side, house_mark}
 use Rattle.mux_engine.specs.Turns.{IsEventOf, want_of}
 use Rattle.mux_engine.proofs.Asks.{EachAsked, SaidBy, all-asks, asked-accepted, goes-asked}
 use Rattle.mux_engine.proofs.Cuts.{cut-next, of-streams}
-use Rattle.mux_engine.proofs.Events.{placed-accepts, placed-ends, placed-fails, placed-gets, serve-event}
+use Rattle.mux_engine.proofs.Happened.{placed-accepts, placed-ends, placed-fails, placed-gets, serve-event}
 use Rattle.mux_engine.proofs.Lists.{not-own-stream, true-false}
 use Rattle.mux_engine.proofs.Logs.{accepted-more}
 use Rattle.mux_engine.proofs.Marks.{Placed}

@@ -28,7 +28,7 @@ use Rattle.mux_machine.specs.Twins.{AreAlike}
 use Rattle.mux_engine.specs.Serving.{IsUnseen, Serving}
 use Rattle.mux_engine.specs.Sides.{Side}
 use Rattle.mux_engine.specs.Turns.{IsEventOf, want_of}
-use Rattle.mux_engine.proofs.Events.{placed-accepts, placed-ends, placed-fails, placed-gets}
+use Rattle.mux_engine.proofs.Happened.{placed-accepts, placed-ends, placed-fails, placed-gets}
 use Rattle.mux_engine.proofs.Lists.{not-own-stream, test-other, true-false}
 use Rattle.mux_engine.proofs.Marks.{serve-alone, serve-on}
 use Rattle.mux_engine.proofs.Places.{at-stream, open-stream}

@@ -11,7 +11,7 @@ ghost use Rattle.mux_engine.specs.Owned.{IsOffered};
 ghost use Rattle.mux_engine.specs.Serving.{Promised, RunsOn, Serving};
 ghost use Rattle.mux_engine.specs.Sides.{Housed, RestsOf, SameHouse, SamePlaces, Side as TheSide, noted};
 
-use crate::lists::Lists;
+use crate::room::Lists;
 use crate::owned::own_rounds;
 use mux_clients::Asks;
 use mux_history::limits::HOUSE;

@@ -4,7 +4,7 @@
 mod asking;
 mod events;
 mod housing;
-mod lists;
 mod orders;
 mod owned;
+mod room;
 mod settling;

@@ -7,7 +7,7 @@ ghost use Rattle.mux_engine.specs.Orders.{HasOrdered, IsMade, MadeBy, failed_car
 ghost use Rattle.mux_engine.specs.Serving.{RunsOn};
 ghost use Rattle.mux_engine.specs.Sides.{Housed, RestsOf, noted, noting};
 
-use crate::lists::Lists;
+use crate::room::Lists;
 use mux_outside::{FileError, House, HouseMark, Order, Wire};
 use ssh_fields::{OutOfMemory, Text};
 
