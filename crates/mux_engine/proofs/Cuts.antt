@@ -32,7 +32,7 @@ pub rows-left : (setting : Setting) (journal : List Mark) (taken : ℕ) (drawn :
 rows-left setting journal taken drawn s closed rows k l fit = record { kept = k; rows = rows; is_log = l; fresh = fit.fresh; taken_is = fit.taken_is; given_is = fit.drawn_is; asked_is = fit.asked_is }
 
 -- the asks of the house's marks with some more
-asks-left : (old more : List HouseMark) (asks : List HouseMark) → asks_in old ≡ asks → asks_in (old ++ more) ≡ asks ++ asks_in more
+pub asks-left : (old more : List HouseMark) (asks : List HouseMark) → asks_in old ≡ asks → asks_in (old ++ more) ≡ asks ++ asks_in more
 asks-left old more asks e = filter-append is_asked old more ∙ ap (λ l. l ++ asks_in more) e
 
 -- the rows before the mark are left, whatever the house told at the mark

@@ -96,14 +96,14 @@ reply-asked journal Later client id asks fits all = absurd fits
 
 pub rest-asked : (journal : List Mark) (client id : ℕ) (asks : List OpenAsk) → All (λ (a : OpenAsk). IsTrue (is_accepted a.client journal)) asks → All (λ (a : OpenAsk). IsTrue (is_accepted a.client journal)) (without_ask client id asks)
 rest-asked journal client id [] all = all
-rest-asked journal client id (a ∷ asks) all = by_head (is_ask client id a)
+rest-asked journal client id (a ∷ asks) all = by_head (rest-asked journal client id asks (All-tail (λ (x : OpenAsk). IsTrue (is_accepted x.client journal)) a asks all)) (is_ask client id a)
   where
     P : OpenAsk → Type 0
     P x = IsTrue (is_accepted x.client journal)
 
-    by_head : (b : Bool) → All P (cond b asks (a ∷ without_ask client id asks))
-    by_head true = All-tail P a asks all
-    by_head false = All-cons P a (without_ask client id asks) (All-head P a asks all) (rest-asked journal client id asks (All-tail P a asks all))
+    by_head : All P (without_ask client id asks) → (b : Bool) → All P (cond b asks (a ∷ without_ask client id asks))
+    by_head ih true = All-tail P a asks all
+    by_head ih false = All-cons P a (without_ask client id asks) (All-head P a asks all) ih
 
 -- and there is one less then
 fewer-ask : (client id : ℕ) (asks : List OpenAsk) → list_any (is_ask client id) asks ≡ true → length (without_ask client id asks) < length asks

@@ -28,7 +28,7 @@ left-le k failed (x ∷ own) = subst (λ (b : Bool). length (cond (not b) (x ∷
 -- and one less where it is one of them that did not fail before
 left-less : (k : ℕ) (failed own : List ℕ) → among k own ≡ true → among k failed ≡ false → left_of (failed ++ k ∷ []) own < left_of failed own
 left-less k failed [] a n = true-false (sym a)
-left-less k failed (x ∷ own) a n = subst (λ (b : Bool). length (cond (not b) (x ∷ filter (λ t. not (among t (failed ++ k ∷ []))) own) (filter (λ t. not (among t (failed ++ k ∷ []))) own)) < left_of failed (x ∷ own)) (sym (after-push k x failed)) (by_same (eqb_tells k x))
+left-less k failed (x ∷ own) a n = subst (λ (b : Bool). length (cond (not b) (x ∷ filter (λ t. not (among t (failed ++ k ∷ []))) own) (filter (λ t. not (among t (failed ++ k ∷ []))) own)) < left_of failed (x ∷ own)) (sym (after-push k x failed)) (by_same (eqb_tells k x) (λ r. left-less k failed own r n))
   where
     rest : k ≢ x → among k own ≡ true
     rest ne = sym (ap (λ b. b || among k own) (test-other x k (λ e. ne (sym e)))) ∙ a
@@ -44,9 +44,9 @@ left-less k failed (x ∷ own) a n = subst (λ (b : Bool). length (cond (not b) 
     kept true ih = ih
     kept false ih = omega (arith, ih)
 
-    by_same : (((k == x) ≡ true) × (k ≡ x)) ⊎ (((k == x) ≡ false) × (k ≢ x)) → length (cond (not (among x failed || ((k == x) || false))) (x ∷ filter (λ t. not (among t (failed ++ k ∷ []))) own) (filter (λ t. not (among t (failed ++ k ∷ []))) own)) < left_of failed (x ∷ own)
-    by_same (inl q) = gone q.1 q.0
-    by_same (inr q) = subst (λ (c : Bool). length (cond (not (among x failed || (c || false))) (x ∷ filter (λ t. not (among t (failed ++ k ∷ []))) own) (filter (λ t. not (among t (failed ++ k ∷ []))) own)) < left_of failed (x ∷ own)) (sym q.0) (kept (among x failed) (left-less k failed own (rest q.1) n))
+    by_same : (((k == x) ≡ true) × (k ≡ x)) ⊎ (((k == x) ≡ false) × (k ≢ x)) → (among k own ≡ true → left_of (failed ++ k ∷ []) own < left_of failed own) → length (cond (not (among x failed || ((k == x) || false))) (x ∷ filter (λ t. not (among t (failed ++ k ∷ []))) own) (filter (λ t. not (among t (failed ++ k ∷ []))) own)) < left_of failed (x ∷ own)
+    by_same (inl q) ih = gone q.1 q.0
+    by_same (inr q) ih = subst (λ (c : Bool). length (cond (not (among x failed || (c || false))) (x ∷ filter (λ t. not (among t (failed ++ k ∷ []))) own) (filter (λ t. not (among t (failed ++ k ∷ []))) own)) < left_of failed (x ∷ own)) (sym q.0) (kept (among x failed) (ih (rest q.1)))
 
 pub fewer-left : (k : ℕ) (failed failed' own : List ℕ) → failed' ≡ failed ++ k ∷ [] → among k own ≡ true → among k failed ≡ false → left_of failed' own + length failed' ≤ left_of failed own + length failed
 fewer-left k failed failed' own e a n =

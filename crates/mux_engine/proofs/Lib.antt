@@ -15,6 +15,7 @@ mod Loops
 mod Marks
 mod Noted
 mod Offers
+mod OrderHoused
 mod Ordered
 mod Outs
 mod OwnMarks

@@ -1,5 +1,5 @@
 -- Lists of streams, and the streams that are open.
-use Rattle.std.proofs.Common.{◌≡◌, ◌≢◌, ◌<◌, ◌+◌, ℕ, zero, suc, Bool, true, false, not, ◌||◌, List, [], ◌∷◌, ◌++◌, length, get_or, drop, refl, sym, ap, ◌∙◌, inl, inr, cond, arith, drop-cons}
+use Rattle.std.proofs.Common.{◌≡◌, ◌≢◌, ◌<◌, ◌+◌, ℕ, zero, suc, Bool, true, false, not, ◌||◌, ◌&&◌, List, [], ◌∷◌, ◌++◌, length, get_or, drop, refl, sym, ap, ◌∙◌, inl, inr, cond, arith, drop-cons}
 use Rattle.std.specs.Prelude.{◌==◌, filter}
 use Rattle.std.proofs.lemmas.Bool.{eq-eqb}
 use Rattle.std.proofs.lemmas.Bool.Decides.{eqb_tells}
@@ -96,7 +96,7 @@ among-filter P t [] = sym (and-false (P t))
     and-false : (b : Bool) → (b && false) ≡ false
     and-false true = refl
     and-false false = refl
-among-filter P t (x ∷ xs) = by_head (x == t) refl (P x) refl
+among-filter P t (x ∷ xs) = by_head (among-filter P t xs) (x == t) refl (P x) refl
   where
     same : (x == t) ≡ true → x ≡ t
     same e = elim (eqb_tells x t) [ inl q ↦ q.1 | inr q ↦ true-false (sym e ∙ q.0) ]
@@ -108,11 +108,11 @@ among-filter P t (x ∷ xs) = by_head (x == t) refl (P x) refl
     no-and : (b c : Bool) → b ≡ false → (b && c) ≡ false
     no-and b c e = ap (λ x. x && c) e
 
-    by_head : (b : Bool) → (x == t) ≡ b → (c : Bool) → P x ≡ c → among t (cond c (x ∷ filter P xs) (filter P xs)) ≡ (P t && ((x == t) || among t xs))
-    by_head true e true f = ap (λ b. b || among t (filter P xs)) e ∙ sym (ap (λ b. P t && (b || among t xs)) e ∙ (ap (λ b. b && true) (ap P (sym (same e)) ∙ f)))
-    by_head true e false f = among-filter P t xs ∙ (no-and (P t) (among t xs) (ap P (sym (same e)) ∙ f) ∙ sym (no-and (P t) ((x == t) || among t xs) (ap P (sym (same e)) ∙ f)))
-    by_head false e true f = ap (λ b. b || among t (filter P xs)) e ∙ (among-filter P t xs ∙ sym (ap (λ b. P t && (b || among t xs)) e))
-    by_head false e false f = among-filter P t xs ∙ sym (ap (λ b. P t && (b || among t xs)) e)
+    by_head : among t (filter P xs) ≡ (P t && among t xs) → (b : Bool) → (x == t) ≡ b → (c : Bool) → P x ≡ c → among t (cond c (x ∷ filter P xs) (filter P xs)) ≡ (P t && ((x == t) || among t xs))
+    by_head ih true e true f = ap (λ b. b || among t (filter P xs)) e ∙ sym (ap (λ b. P t && (b || among t xs)) e ∙ (ap (λ b. b && true) (ap P (sym (same e)) ∙ f)))
+    by_head ih true e false f = ih ∙ (no-and (P t) (among t xs) (ap P (sym (same e)) ∙ f) ∙ sym (no-and (P t) ((x == t) || among t xs) (ap P (sym (same e)) ∙ f)))
+    by_head ih false e true f = ap (λ b. b || among t (filter P xs)) e ∙ (ih ∙ sym (ap (λ b. P t && (b || among t xs)) e))
+    by_head ih false e false f = ih ∙ sym (ap (λ b. P t && (b || among t xs)) e)
 
 pub among-not-own : (t : ℕ) (xs : List ℕ) → is_own t ≡ false → among t (not_own xs) ≡ among t xs
 among-not-own t xs e = among-filter (λ (i : ℕ). not (is_own i)) t xs ∙ ap (λ b. not b && among t xs) e

@@ -1,12 +1,13 @@
 -- What an order that was carried out makes of what holds while a wire is served.
 use Rattle.std.proofs.Common.{◌≡◌, ◌≢◌, ◌≤◌, ◌<◌, ◌+◌, ℕ, Bool, true, false, not, ◌||◌, List, [], ◌∷◌, ◌++◌, Option, Some, None, refl, sym, ap, ◌∙◌, subst, inl, inr, cond, arith, append-nil}
-use Rattle.std.specs.Prelude.{◌==◌, IsTrue}
+use Rattle.std.specs.Prelude.{◌==◌, IsTrue, MatchResult, Result, Ok, Err}
 use Rattle.std.specs.Option.{option_map}
 use Rattle.std.proofs.lemmas.Bool.Decides.{eqb_tells}
 use Rattle.std.proofs.lemmas.List.Elements.{filter-append}
-use Rattle.mux_outside.specs.House.{order_marks}
-use Rattle.mux_outside.specs.OwnStreams.{is_own}
-use Rattle.mux_outside.specs.Seen.{Seen}
+use Rattle.mux_outside.specs.House.{Known, OpenAsk, known_after_order, order_marks}
+use Rattle.mux_outside.specs.OwnStreams.{is_one, is_own}
+use Rattle.mux_outside.specs.Seen.{Seen, seen_after_note}
+use Rattle.mux_outside.specs.declared.own_streams.OwnStream.{OwnStream}
 use Rattle.mux_outside.specs.Streams.{among, without}
 use Rattle.mux_outside.specs.Wire.{IsNewOwn}
 use Rattle.mux_outside.specs.declared.own_streams.TheConstants.{LAST_CLIENT, LAST_OWN}
@@ -25,10 +26,11 @@ use Rattle.mux_history.specs.Wires.{OfWire, is_connect}
 use Rattle.mux_history.proofs.Wires.{wire-keeps}
 use Rattle.mux_machine.specs.State.{State}
 use Rattle.mux_machine.proofs.Twins.{own-silent, stands-alike}
-use Rattle.mux_engine.specs.Orders.{MadeBy, failed_carried, held_carried, more_told, seen_carried}
-use Rattle.mux_engine.specs.Serving.{IsFree, IsUnseen, IsUnused, Serving}
-use Rattle.mux_engine.specs.Sides.{Side, asks_in}
+use Rattle.mux_engine.specs.Orders.{HasOrdered, MadeBy, failed_carried, held_carried, known_carried, more_told, seen_carried}
+use Rattle.mux_engine.specs.Serving.{IsFree, IsUnseen, IsUnused, Promised, Serving}
+use Rattle.mux_engine.specs.Sides.{Side, asks_in, noted, noting}
 use Rattle.mux_engine.proofs.Closed.{both-tests, was-among}
+use Rattle.mux_engine.proofs.Cuts.{cut-here, serve-told}
 use Rattle.mux_engine.proofs.Happened.{last-or}
 use Rattle.mux_engine.proofs.Lists.{among-last, among-less, among-other-last, or-last, or-none, own-stream, test-other, true-false, without-other}
 use Rattle.mux_engine.proofs.Marks.{Notes, Placed}
@@ -41,6 +43,11 @@ use Rattle.mux_engine.proofs.WireTurns.{client-number}
 -- what is seen once it is noted
 abbrev pub seen-noted : HouseMark → Seen → Seen
 seen-noted m seen = record seen { told = option_map (λ (l : List Mark). l ++ House m ∷ []) seen.told }
+
+-- the streams that an order closes are the master's own
+abbrev pub OwnedBy : Order → Type 0
+OwnedBy (Close k) = IsTrue (is_own k)
+OwnedBy order = Unit {0}
 
 -- a list without what is not in it
 without-none : (k : ℕ) (xs : List ℕ) → among k xs ≡ false → without k xs ≡ xs
@@ -153,13 +160,8 @@ module _ {May : HouseReply → Type 0} {Rest : Option (List HouseMark) → Type 
       let mark : Mark = House (HouseOrder order number) in
       let alike = own-silent.ordered v.journal order number in
       serve-quiet v now' seen' held' failed' (given + 1) mark
-      (record { log = alike.log; blocked = blocked; failed = λ t client. refl; promise = λ set. record { takes = tt; waits = tt; speaks = tt; open_streams = tt }; rested = tt; house = refl })
+      (record { log = alike.log; blocked = blocked; unwritten = λ t client. refl; promise = λ set. record { takes = tt; waits = tt; speaks = tt; open_streams = tt }; rested = tt; house = refl })
       (stands-alike v.journal (mark ∷ v.journal) v.picked v.replies s v.closed alike v.stands) notes asks within told (ap (λ n. n + 1) v.turns) placed
-
-  -- the streams that an order closes are the master's own
-  abbrev pub ClosesOwn : Order → Type 0
-  ClosesOwn (Close k) = IsTrue (is_own k)
-  ClosesOwn order = Unit {0}
 
   abbrev done-side : Option (List HouseMark) → Side
   done-side told' = record now { told = told'; unnoted = [] }
@@ -173,7 +175,7 @@ module _ {May : HouseReply → Type 0} {Rest : Option (List HouseMark) → Type 
   }
 
   -- all of it
-  pub order-done : (order : Order) (number : Option ℕ) (told' : Option (List HouseMark)) → MadeBy order number seen → ClosesOwn order → now.unnoted ≡ order_marks (Some order) → told' ≡ option_map (λ l. l ++ more_told order number) now.told
+  pub order-done : (order : Order) (number : Option ℕ) (told' : Option (List HouseMark)) → MadeBy order number seen → OwnedBy order → now.unnoted ≡ order_marks (Some order) → told' ≡ option_map (λ l. l ++ more_told order number) now.told
       → Serving May Rest before (record now { told = told'; unnoted = [] }) policy pid start (seen-noted (HouseOrder order number) (seen_carried order number seen)) (held_carried order number held) (failed_carried order failed) (given + 1) todo s
   order-done (Listen host port) (Some n) told' made own noted e = noted-order (Listen host port) (Some n) (done-side told') _ _ _ (λ t client. refl) (notes-of (Listen host port) (Some n) told' noted e refl refl) refl refl refl (placed-listens host port n made)
   order-done (Listen host port) None told' made own noted e = noted-order (Listen host port) None (done-side told') _ _ _ (λ t client. refl) (notes-of (Listen host port) None told' noted e refl refl) refl refl refl (placed-plain (Listen host port) None refl _ refl refl refl refl refl (λ t. refl))
@@ -189,3 +191,90 @@ module _ {May : HouseReply → Type 0} {Rest : Option (List HouseMark) → Type 
   order-done (Resume k) (Some n) told' made own noted e = absurd (let z : Some n ≡ None = made in cc)
   order-done (Finish k) (Some n) told' made own noted e = absurd (let z : Some n ≡ None = made in cc)
   order-done (Close k) (Some n) told' made own noted e = absurd (let z : Some n ≡ None = made in cc)
+
+  -- whether or not there is memory to note it
+  pub order-noted : {E : Type 0} (r : Result (Unit {0}) E) (order : Order) (number : Option ℕ) (side : Side) (seen0 seen' : Seen) (held' failed' : List ℕ) → MadeBy order number seen → OwnedBy order → now.unnoted ≡ order_marks (Some order)
+      → side.told ≡ option_map (λ l. l ++ more_told order number) now.told → side.asks ≡ now.asks → side.unnoted ≡ [] → side.let_in ≡ now.let_in → seen0 ≡ seen_carried order number seen → seen0.told ≡ seen.told → seen' ≡ seen_after_note r (HouseOrder order number) seen0 → held' ≡ held_carried order number held → failed' ≡ failed_carried order failed
+      → MatchResult r (λ x. Serving May Rest before side policy pid start seen' held' failed' (given + 1) todo s) (λ e. Promised May Rest before side.told policy pid start seen'.told (given + 1))
+  order-noted (Ok x) order number side seen0 seen' held' failed' made own noted told asks unnoted within carried same after held_is failed_is =
+      let done : Serving May Rest before (record now { told = side.told; unnoted = [] }) policy pid start (seen-noted (HouseOrder order number) (seen_carried order number seen)) (held_carried order number held) (failed_carried order failed) (given + 1) todo s = order-done order number side.told made own noted told in
+      let at : Serving May Rest before side policy pid start (seen-noted (HouseOrder order number) (seen_carried order number seen)) (held_carried order number held) (failed_carried order failed) (given + 1) todo s =
+      subst (λ (l : List OpenAsk). Serving May Rest before (record side { asks = l }) policy pid start (seen-noted (HouseOrder order number) (seen_carried order number seen)) (held_carried order number held) (failed_carried order failed) (given + 1) todo s) (sym asks)
+      (subst (λ (l : List HouseMark). Serving May Rest before (record side { asks = now.asks; unnoted = l }) policy pid start (seen-noted (HouseOrder order number) (seen_carried order number seen)) (held_carried order number held) (failed_carried order failed) (given + 1) todo s) (sym unnoted)
+      (subst (λ (b : Bool). Serving May Rest before (record side { asks = now.asks; unnoted = []; let_in = b }) policy pid start (seen-noted (HouseOrder order number) (seen_carried order number seen)) (held_carried order number held) (failed_carried order failed) (given + 1) todo s) (sym within) done)) in
+      subst (λ (l : List ℕ). Serving May Rest before side policy pid start seen' l failed' (given + 1) todo s) (sym held_is)
+      (subst (λ (l : List ℕ). Serving May Rest before side policy pid start seen' (held_carried order number held) l (given + 1) todo s) (sym failed_is)
+      (subst (λ (x : Seen). Serving May Rest before side policy pid start x (held_carried order number held) (failed_carried order failed) (given + 1) todo s) (sym (after ∙ ap (λ (x : Seen). seen-noted (HouseOrder order number) x) carried)) at))
+  order-noted (Err e) order number side seen0 seen' held' failed' made own noted told asks unnoted within carried same after held_is failed_is =
+      cut-here v side.told seen'.told (given + 1) (more_told order number) (ap (λ (x : Seen). x.told) after ∙ same) told (omega arith)
+
+-- ---- what is known of the house then
+
+pub carried-told : (order : Order) (number : Option ℕ) (seen : Seen) → (seen_carried order number seen).told ≡ seen.told
+carried-told (Listen host port) (Some n) seen = refl
+carried-told (Listen host port) None seen = refl
+carried-told (Connect host port) (Some n) seen = refl
+carried-told (Connect host port) None seen = refl
+carried-told (Unlisten l) number seen = refl
+carried-told (Pause k) number seen = refl
+carried-told (Resume k) number seen = refl
+carried-told (Finish k) number seen = refl
+carried-told (Close k) number seen = refl
+
+-- its asks and whether it is there stay
+pub record SameSide (old new : Known) : Type 0 where
+  pub asks : new.asks ≡ old.asks
+  pub present : new.present ≡ old.present
+
+carried-side : (order : Order) (number : Option ℕ) (before : Known) → SameSide (known_after_order (Some order) before) (known_carried order number (known_after_order (Some order) before))
+carried-side (Listen host port) (Some n) before = record { asks = refl; present = refl }
+carried-side (Listen host port) None before = record { asks = refl; present = refl }
+carried-side (Connect host port) (Some n) before = record { asks = refl; present = refl }
+carried-side (Connect host port) None before = record { asks = refl; present = refl }
+carried-side (Unlisten l) number before = record { asks = refl; present = refl }
+carried-side (Pause k) number before = record { asks = refl; present = refl }
+carried-side (Resume k) number before = record { asks = refl; present = refl }
+carried-side (Finish k) number before = record { asks = refl; present = refl }
+carried-side (Close k) number before = record { asks = refl; present = refl }
+
+pub side-carried : (order : Order) (number : Option ℕ) (known known' : Known) (seen : Seen) (own : List ℕ) → HasOrdered order known seen own → known' ≡ known_carried order number known → SameSide known known'
+side-carried order number known known' seen own h e =
+    subst (λ (k : Known). SameSide k known') (sym h.known_is)
+    (subst (λ (k : Known). SameSide (known_after_order (Some order) h.before) k) (sym (e ∙ ap (known_carried order number) h.known_is)) (carried-side order number h.before))
+
+pub closes-own : (order : Order) (known : Known) (seen : Seen) (own : List ℕ) → HasOrdered order known seen own → OwnedBy order
+closes-own (Close k) known seen own h = h.housed.places.numbered k (subst (λ (l : List OwnStream). IsTrue (is_one k l)) h.housed.streams h.fits)
+closes-own (Listen host port) known seen own h = tt
+closes-own (Connect host port) known seen own h = tt
+closes-own (Unlisten l) known seen own h = tt
+closes-own (Pause k) known seen own h = tt
+closes-own (Resume k) known seen own h = tt
+closes-own (Finish k) known seen own h = tt
+
+-- ---- an order that was just given
+
+order-unasked : (order : Order) → asks_in (order_marks (Some order)) ≡ []
+order-unasked (Listen host port) = refl
+order-unasked (Connect host port) = refl
+order-unasked (Unlisten l) = refl
+order-unasked (Pause k) = refl
+order-unasked (Resume k) = refl
+order-unasked (Finish k) = refl
+order-unasked (Close k) = refl
+
+order-side : (order : Order) (known : Known) → SameSide known (known_after_order (Some order) known)
+order-side (Listen host port) known = record { asks = refl; present = refl }
+order-side (Connect host port) known = record { asks = refl; present = refl }
+order-side (Unlisten l) known = record { asks = refl; present = refl }
+order-side (Pause k) known = record { asks = refl; present = refl }
+order-side (Resume k) known = record { asks = refl; present = refl }
+order-side (Finish k) known = record { asks = refl; present = refl }
+order-side (Close k) known = record { asks = refl; present = refl }
+
+pub given-side : (order : Order) (known known' : Known) → known' ≡ known_after_order (Some order) known → SameSide known known'
+given-side order known known' e = subst (SameSide known) (sym e) (order-side order known)
+
+pub order-given : {May : HouseReply → Type 0} {Rest : Option (List HouseMark) → Type 0} {before : Option (List HouseMark)} {policy : Policy} {pid : ℕ} {start : Option (List Mark)} {seen : Seen} {held failed : List ℕ} {given : ℕ} {todo : List ℕ} {s : State} (order : Order) (told told' : Option (List HouseMark)) (known known' : Known)
+    → told' ≡ option_map (λ l. l ++ order_marks (Some order)) told → known' ≡ known_after_order (Some order) known → Serving May Rest before (noted told known) policy pid start seen held failed given todo s → Serving May Rest before (noting (order_marks (Some order)) told' known') policy pid start seen held failed given todo s
+order-given order told told' known known' e f v = let side = given-side order known known' f in
+    serve-told v (noting (order_marks (Some order)) told' known') (order_marks (Some order)) e refl (order-unasked order) side.asks side.present

@@ -38,7 +38,7 @@ module _ {May : HouseReply → Type 0} {Rest : Option (List HouseMark) → Type 
   pub record IsQuiet (mark : Mark) : Type 0 where
     pub log : (set : Setting) → log_of_journal set v.journal ≡ log_of_journal set (mark ∷ v.journal)
     pub blocked : (t : ℕ) → is_own_stream t ≡ false → is_blocked t (mark ∷ v.journal) ≡ is_blocked t v.journal
-    pub failed : (t : ℕ) → is_own_stream t ≡ false → write_failed t (mark ∷ v.journal) ≡ write_failed t v.journal
+    pub unwritten : (t : ℕ) → is_own_stream t ≡ false → write_failed t (mark ∷ v.journal) ≡ write_failed t v.journal
     pub promise : (set : Setting) → PromiseAt set v.journal mark
     pub rested : RestedAt Rest before v.journal mark
     pub house : is_accepted HOUSE (mark ∷ v.journal) ≡ is_accepted HOUSE v.journal
@@ -61,7 +61,7 @@ module _ {May : HouseReply → Type 0} {Rest : Option (List HouseMark) → Type 
             let old : IsSound set v.journal todo s = v.sound picks later in
             record {
               promise = q.promise set;
-              failed_out = λ t client f live. ap (λ (r : List Row). is_out (rows_of t r)) (sym (q.log set)) ∙ old.failed_out t client (sym (q.failed t client) ∙ f) live;
-              settled = λ t client a. settled-as set mark v.journal t (ap (pending t) (sym (q.log set))) (q.blocked t client) (q.failed t client) (old.settled t client a);
+              failed_out = λ t client f live. ap (λ (r : List Row). is_out (rows_of t r)) (sym (q.log set)) ∙ old.failed_out t client (sym (q.unwritten t client) ∙ f) live;
+              settled = λ t client a. settled-as set mark v.journal t (ap (pending t) (sym (q.log set))) (q.blocked t client) (q.unwritten t client) (old.settled t client a);
             };
       }

@@ -110,7 +110,7 @@ waiting-filter rows (c ∷ cs) each =
     flip false l = refl
 
 -- they are the open ones for which something waits
-waiting-are : {taken : ℕ} {drawn : List HouseMark} {s : State} {closed : List ℕ} {rows : List Row} → RowsFit taken drawn s closed rows → s.waiting ≡ filter (has_output rows) (0 ∷ numbers s.clients)
+pub waiting-are : {taken : ℕ} {drawn : List HouseMark} {s : State} {closed : List ℕ} {rows : List Row} → RowsFit taken drawn s closed rows → s.waiting ≡ filter (has_output rows) (0 ∷ numbers s.clients)
 waiting-are {taken} {drawn} {s} {closed} {rows} fit =
     fit.waiting_is
     ∙ (ap (λ l. cond (is_empty s.up.waiting) l (0 ∷ l)) (waiting-filter rows s.clients fit.fit.each)

@@ -88,7 +88,7 @@ none-left (x ∷ xs) h = ap (λ b. cond (not b) (x ∷ not_own xs) (not_own xs))
     later true e = refl
     later false e = e
 
-rest-at : (Rest : Option (List HouseMark) → Type 0) (before : Option (List HouseMark)) (journal : List Mark) (waiting streams : List ℕ) (listens : Bool) (want : Want) → (want ≡ Read → Rest (option_map (λ told. told ++ house_marks journal) before)) → RestedAt Rest before journal (Waits waiting want streams listens)
+pub rest-at : (Rest : Option (List HouseMark) → Type 0) (before : Option (List HouseMark)) (journal : List Mark) (waiting streams : List ℕ) (listens : Bool) (want : Want) → (want ≡ Read → Rest (option_map (λ told. told ++ house_marks journal) before)) → RestedAt Rest before journal (Waits waiting want streams listens)
 rest-at Rest before journal waiting streams listens Read h = h refl
 rest-at Rest before journal waiting streams listens WriteOnly h = tt
 
@@ -204,7 +204,7 @@ module _ {May : HouseReply → Type 0} {Rest : Option (List HouseMark) → Type 
       split true e h = inl e
       split false e h = inr h
 
-  blocked-of : (t : ℕ) → among t all-waiting ≡ true → is_blocked t v.journal ≡ true
+  pub blocked-of : (t : ℕ) → among t all-waiting ≡ true → is_blocked t v.journal ≡ true
   blocked-of t a = elim (either-waits t a) [
     | inl c ↦ held-back t c
     | inr m ↦ let w : OwnWaits t = own-waits t m in sym (v.blocked_is t w.there) ∙ w.blocked
@@ -251,7 +251,7 @@ module _ {May : HouseReply → Type 0} {Rest : Option (List HouseMark) → Type 
       by_failed w false e = refl
       by_failed w true e = true-false (sym (v.failed_are t is w.there e) ∙ w.unfailed)
 
-  waits-right : (picks : List ℕ) (later : List HouseReply) → WaitsRight (setting picks later) v.journal all-waiting (want_of s) seen.streams
+  pub waits-right : (picks : List ℕ) (later : List HouseReply) → WaitsRight (setting picks later) v.journal all-waiting (want_of s) seen.streams
   waits-right picks later = record {
     waits_for = filter-append (λ (t : ℕ). not (is_own t)) s.waiting own-waiting
         ∙ (ap (λ l. not_own s.waiting ++ l) own-none ∙ (append-nil (not_own s.waiting)
@@ -263,7 +263,7 @@ module _ {May : HouseReply → Type 0} {Rest : Option (List HouseMark) → Type 
     house = house-none picks later;
   }
 
-  open-right : (hears : seen.listens ≡ s.listening) (picks : List ℕ) (later : List HouseReply) → OpenRight (rows picks later) seen.streams seen.listens
+  pub open-right : (hears : seen.listens ≡ s.listening) (picks : List ℕ) (later : List HouseReply) → OpenRight (rows picks later) seen.streams seen.listens
   open-right hears picks later = record {
     open_streams = streams-are ∙ ap (λ l. 0 ∷ not_own l) (all-served (rows picks later) s.clients (fits picks later).fit.each (λ k p. none-lost (fits picks later) none k (ap (λ b. b || among k s.refused) p)) ∙ (fits picks later).served_are);
     listening = hears ∙ (fits picks later).listening_is;

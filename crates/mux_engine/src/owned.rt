@@ -1,5 +1,8 @@
 ghost use Rattle.std.specs.Prelude.{◌≡◌, ◌<◌, ◌≤◌, ◌+◌, ◌++◌, ℕ, true, false, filter, length, List, None, OnOk, IfOk, IsTrue};
-ghost use Rattle.mux_outside.specs.OwnStreams.{is_one, is_own};
+ghost use Rattle.ssh_fields.specs.Fields.{AreBytes};
+ghost use Rattle.mux_outside.specs.OwnStreams.{is_finished, is_one, is_own};
+ghost use Rattle.mux_outside.specs.Seen.{calls_after_write, seen_after_write};
+ghost use Rattle.mux_outside.specs.Wire.{WroteFaults, WroteFits};
 ghost use Rattle.mux_outside.specs.Streams.{among};
 ghost use Rattle.mux_engine.specs.Counted.{Counts};
 ghost use Rattle.mux_engine.specs.Owned.{IsOffered, left_of, waits_for};
@@ -8,6 +11,23 @@ ghost use Rattle.mux_engine.specs.Sides.{Housed, RestsOf, SamePlaces};
 
 use mux_outside::{House, OwnTurn, Streams, Wire, Wrote};
 use ssh_fields::OutOfMemory;
+
+// Hands bytes to a stream.
+fn hand<W: Wire>(wire: &mut W, stream: u64, bytes: &[u8]) -> Wrote
+    requires stream_open { IsTrue (among stream (W.seen wire.old).streams) }
+    requires not_blocked { among stream (W.seen wire.old).blocked ≡ false }
+    requires not_finished { is_finished stream (W.seen wire.old).own ≡ false }
+    requires some { 0 < length bytes.now }
+    ensures bytes { AreBytes bytes.now }
+    ensures wrote { WroteFits result (length bytes.now) }
+    ensures seen { W.seen wire.new ≡ seen_after_write result stream bytes.now (W.seen wire.old) }
+    ensures calls { W.calls wire.new ≡ calls_after_write result (W.calls wire.old) }
+    ensures cause { WroteFaults result stream (W.server_faults wire.old)
+        (W.server_faults wire.new) (W.client_faults wire.old) (W.client_faults wire.new) }
+    ensures openings { W.openings wire.new ≡ W.openings wire.old }
+{
+    wire.write(stream, bytes)
+}
 
 // Offers one of the master's own streams what waits for it, once: whether it took some. A stream
 // that fails is not offered any more.
@@ -53,7 +73,7 @@ fn own_once<W: Wire, H: House>(
     if bytes.is_empty() {
         return Ok(false);
     }
-    match wire.write(stream, bytes) {
+    match hand(wire, stream, bytes) {
         Wrote::Took(n) => {
             house.took(stream, n);
             Ok(true)
