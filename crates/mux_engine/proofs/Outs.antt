@@ -11,14 +11,13 @@ use Rattle.mux_outside.specs.declared.mark.Mark.TheVariants.{Waits, Accepts, Get
 use Rattle.mux_outside.specs.declared.house_mark.HouseMark.TheVariants.{HouseIn, HouseSaid, HouseTook, HouseAsked, HouseAnswer, HouseOrder}
 use Rattle.mux_history.specs.declared.limits.TheConstants.{HOUSE}
 use Rattle.mux_history.specs.Choices.{pick_of, with_reply}
-use Rattle.mux_history.specs.Controls.{greeted}
+use Rattle.mux_history.specs.Controls.{greeted, house_says}
 use Rattle.mux_history.specs.Farewell.{farewell}
 use Rattle.mux_history.specs.Gist.{Gist, read_gist}
 use Rattle.mux_history.specs.Heard.{Breaks, Dest, Disconnects, ToClient, ToMaster, dest, for_client, for_lost, heard_for, heard_gist}
 use Rattle.mux_history.specs.Journal.{IsLawful, bytes_of, heard_item, is_own_stream, items_in, log_of_journal, new_heard, new_sayings, said_item, server_end, unless_own}
 use Rattle.mux_history.specs.Kept.{ForEach}
 use Rattle.mux_history.specs.Log.{Setting, admits, all_told, bare, fitting, goes, heard_row, is_took, makes_next, makes_row, more_all, more_of, new_answers, queued, row_of, said_by_client, treat, with_farewell}
-use Rattle.mux_history.specs.Treat.{house_says}
 use Rattle.mux_history.specs.Pending.{joined, pending_down, took_by, waiting_down}
 use Rattle.mux_history.specs.Policy.{Policy}
 use Rattle.mux_history.specs.Right.{AreFresh}

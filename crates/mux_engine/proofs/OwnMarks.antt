@@ -30,7 +30,7 @@ use Rattle.mux_engine.proofs.Places.{house-shut, placed-by, placed-still}
 use Rattle.mux_engine.proofs.Quiet.{notes-none, serve-quiet}
 use Rattle.mux_engine.proofs.Silent.{holds-alike}
 
-test-same : (i : ℕ) → (i == i) ≡ true
+pub test-same : (i : ℕ) → (i == i) ≡ true
 test-same i = elim (eqb_tells i i) [ inl q ↦ q.0 | inr q ↦ absurd (q.1 refl) ]
 
 module _ {May : HouseReply → Type 0} {Rest : Option (List HouseMark) → Type 0} {before : Option (List HouseMark)} {now : Side} {policy : Policy} {pid : ℕ} {start : Option (List Mark)} {seen : Seen} {held failed : List ℕ} {given : ℕ} {todo : List ℕ} {s : State}

@@ -1,5 +1,5 @@
 -- What a turn of the wire tells, right behind the wait.
-use Rattle.std.proofs.Common.{◌≡◌, ◌≢◌, ◌≤◌, ◌<◌, ◌+◌, ℕ, Bool, true, false, ◌||◌, List, [], ◌∷◌, ◌++◌, Option, Some, None, refl, sym, ap, ◌∙◌, subst, inl, inr, arith, append_assoc}
+use Rattle.std.proofs.Common.{◌≡◌, ◌≢◌, ◌≤◌, ◌<◌, ◌+◌, ℕ, Bool, true, false, ◌||◌, List, [], ◌∷◌, ◌++◌, Option, Some, None, refl, sym, ap, ◌∙◌, subst, inl, inr, cond, arith, append_assoc}
 use Rattle.std.specs.Prelude.{reverse, IsTrue}
 use Rattle.std.specs.Option.{option_map}
 use Rattle.std.proofs.lemmas.Bool.Decides.{nat_tests}
@@ -97,7 +97,7 @@ module _ {May : HouseReply → Type 0} {Rest : Option (List HouseMark) → Type 
         turns = now-waiting.turns;
         plain = sym noted;
         cut = λ set. inr (0, refl);
-        house = ap (λ b. elim b as (λ _. Bool) [ true ↦ true | false ↦ is_accepted HOUSE v.journal ]) (test-other k HOUSE (house-apart k few));
+        house = ap (λ b. cond b true (is_accepted HOUSE v.journal)) (test-other k HOUSE (house-apart k few));
         placed = λ s' arrives. placed-accepts now-waiting (seen-then (turn.Accepted k) bytes) s' k fits.2 few (of-turn (turn.Accepted k) bytes are fits own_fits) refl refl refl refl refl (came e k s s' next admitted (arrives live)) (client-number k few);
       }
   event-at (turn.Got k) bytes e are fits own_fits next = record {
