@@ -9,8 +9,8 @@ use Rattle.mux_engine.specs.Serving.{Serving}
 use Rattle.mux_engine.specs.Sides.{RestsOf, SamePlaces, Side}
 use Rattle.mux_engine.proofs.owned.own_rounds.Given as goal
 
-abbrev pub invariant-loop : goal.invariant-loop
-invariant-loop g l = let W = g.W.Wire in let H = g.H.House in record {
+abbrev pub invariant-loop-wire : goal.invariant-loop-wire
+invariant-loop-wire g l = let W = g.W.Wire in let H = g.H.House in record {
   serving : (present : Bool) (before : Option (List HouseMark)) (now : Side) (policy : Policy) (pid : ℕ) (start : Option (List Mark)) (given : ℕ) (todo : List ℕ) (s : State) → Serving H.may (RestsOf H.told H.quiet present) before now policy pid start (W.seen l.fn.wire) l.fn.held l.fn.failed given todo s
       → Serving H.may (RestsOf H.told H.quiet present) before now policy pid start (W.seen l.wire) l.held l.failed given todo s;
   known : H.known l.house ≡ H.known l.fn.house;
@@ -24,5 +24,5 @@ invariant-loop g l = let W = g.W.Wire in let H = g.H.House in record {
   openings : W.openings l.wire ≡ W.openings l.fn.wire;
 }
 
-abbrev pub decreases-loop : goal.decreases-loop
-decreases-loop g l = left_of l.failed l.own.now
+abbrev pub decreases-loop-wire : goal.decreases-loop-wire
+decreases-loop-wire g l = left_of l.failed l.own
