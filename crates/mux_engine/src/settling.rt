@@ -36,7 +36,7 @@ fn offer_once<W: Wire, H: House>(
     requires free { among stream (W.seen wire.old).blocked ≡ false }
     ensures serving { (todo : List ℕ) → among 0 (stream ∷ todo) ≡ true →
         ServesOn result H.may (RestsOf H.told H.quiet) (W.seen wire.old) (W.seen wire.new) held.old
-        held.new (stream ∷ todo) (λ more. if more then stream ∷ todo else without stream todo)
+        held.new todo (λ more. if more then stream ∷ todo else without stream todo)
         engine.old engine.new }
     ensures streams { OnOk result (here engine.new ≡ here engine.old) }
     ensures places { SamePlaces (W.seen wire.old) (W.seen wire.new) }

@@ -90,8 +90,8 @@ returns-in_err-push-in-Later-clause-serving g c todo zero present before now pol
 
 -- ---- a stream that failed
 
-failed : (g : given_to.Over) (c : goal.In_ok-event-in-Failed g) → Failing c.args.stream c.args.engine.now c.event.new.self
-failed g c =
+lost : (g : given_to.Over) (c : goal.In_ok-event-in-Failed g) → Failing c.args.stream c.args.engine.now c.event.new.self
+lost g c =
     let w = c.requires.served.serving in
     failing c.event_of_fault.result c.args.stream c.args.engine.now c.event.new.self c.event_of_fault.ensures.write c.in_ok-event-in-Failed.ensures.keeps
     (c.in_ok-event-in-Failed.ensures.ends (WriteFails c.args.stream) c.event_of_fault.ensures.write w.picked w.replies w.journal w.closed w.stands ((at-stream w.stands c.args.stream c.requires.stream_open).accepted, not-own-stream c.args.stream (open-own w c.args.stream c.requires.stream_open c.requires.no_house)))
@@ -102,7 +102,7 @@ returns-in_ok-event-in-Failed-clause-serving g c todo zero present before now po
     let k : ℕ = c.args.stream in
     let bytes : List ℕ = c.queue_of-bytes.result.now in
     let at : AtStream s v.journal v.closed k = at-stream v.stands k c.requires.stream_open in
-    let f : Failing k s c.event.new.self = failed g c in
+    let f : Failing k s c.event.new.self = lost g c in
     let said = c.in_ok-event-in-Failed.ensures.stands (WriteFails k) c.event_of_fault.ensures.write v.picked v.replies v.journal v.closed v.stands (at.accepted, not-own-stream k (open-own v k c.requires.stream_open c.requires.no_house)) in
     let none = none-asked said.asks (goes-asked (λ j. ⊥) said f.policy f.pid tt) in
     let on = goes-unasked {May = g.H.House.may} v.stands said none in
@@ -115,13 +115,13 @@ returns-in_err-event-in-Failed-clause-serving g c todo zero present before now p
     (cut-fails v _ c.args.stream c.queue_of-bytes.result.now (stream-open v c.args.stream c.requires.stream_open c.requires.no_house) c.queue_of-bytes.ensures.bytes (some-bytes c.queue_of-bytes.result.now (sym c.if-is_empty.ensures)) c.in-Failed.ensures.seen)
 
 pub returns-in_ok-event-in-Failed-clause-streams : goal.returns-in_ok-event-in-Failed-clause-streams
-returns-in_ok-event-in-Failed-clause-streams g c = (failed g c).streams
+returns-in_ok-event-in-Failed-clause-streams g c = (lost g c).streams
 
 pub returns-in_ok-event-in-Failed-clause-ended : goal.returns-in_ok-event-in-Failed-clause-ended
-returns-in_ok-event-in-Failed-clause-ended g c = fault-ended c.args.stream c.args.engine.now c.event.new.self _ _ _ _ (failed g c) c.in-Failed.ensures.cause
+returns-in_ok-event-in-Failed-clause-ended g c = fault-ended c.args.stream c.args.engine.now c.event.new.self _ _ _ _ (lost g c) c.in-Failed.ensures.cause
 
 pub returns-in_ok-event-in-Failed-clause-client : goal.returns-in_ok-event-in-Failed-clause-client
-returns-in_ok-event-in-Failed-clause-client g c = (failed g c).client
+returns-in_ok-event-in-Failed-clause-client g c = (lost g c).client
 
 pub returns-in_ok-event-in-Failed-clause-later : goal.returns-in_ok-event-in-Failed-clause-later
 returns-in_ok-event-in-Failed-clause-later g c = fault-later c.args.stream _ _ _ _ c.in-Failed.ensures.cause
@@ -161,22 +161,22 @@ pub returns-then-is_empty-clause-idle : goal.returns-then-is_empty-clause-idle
 returns-then-is_empty-clause-idle g c = λ none. (refl, refl)
 
 pub returns-in-Took-clause-places : goal.returns-in-Took-clause-places
-returns-in-Took-clause-places g c = places-write _ c.args.stream _ _ _ c.in-Took.ensures.seen
+returns-in-Took-clause-places g c = places-write (wrote.Took c.in-Took.n) c.args.stream c.queue_of-bytes.result.now _ _ c.in-Took.ensures.seen
 
 pub returns-in_ok-push-in-Later-clause-places : goal.returns-in_ok-push-in-Later-clause-places
-returns-in_ok-push-in-Later-clause-places g c = places-write _ c.args.stream _ _ _ c.in-Later.ensures.seen
+returns-in_ok-push-in-Later-clause-places g c = places-write wrote.Later c.args.stream c.queue_of-bytes.result.now _ _ c.in-Later.ensures.seen
 
 pub returns-in_err-push-in-Later-clause-places : goal.returns-in_err-push-in-Later-clause-places
-returns-in_err-push-in-Later-clause-places g c = places-write _ c.args.stream _ _ _ c.in-Later.ensures.seen
+returns-in_err-push-in-Later-clause-places g c = places-write wrote.Later c.args.stream c.queue_of-bytes.result.now _ _ c.in-Later.ensures.seen
 
 pub returns-in_ok-event-in-Failed-clause-places : goal.returns-in_ok-event-in-Failed-clause-places
-returns-in_ok-event-in-Failed-clause-places g c = places-write _ c.args.stream _ _ _ c.in-Failed.ensures.seen
+returns-in_ok-event-in-Failed-clause-places g c = places-write wrote.Failed c.args.stream c.queue_of-bytes.result.now _ _ c.in-Failed.ensures.seen
 
 pub returns-in_err-event-in-Failed-clause-places : goal.returns-in_err-event-in-Failed-clause-places
-returns-in_err-event-in-Failed-clause-places g c = places-write _ c.args.stream _ _ _ c.in-Failed.ensures.seen
+returns-in_err-event-in-Failed-clause-places g c = places-write wrote.Failed c.args.stream c.queue_of-bytes.result.now _ _ c.in-Failed.ensures.seen
 
 pub returns-in-NoMemory-clause-places : goal.returns-in-NoMemory-clause-places
-returns-in-NoMemory-clause-places g c = places-write _ c.args.stream _ _ _ c.in-NoMemory.ensures.seen
+returns-in-NoMemory-clause-places g c = places-write wrote.NoMemory c.args.stream c.queue_of-bytes.result.now _ _ c.in-NoMemory.ensures.seen
 
 pub returns-then-is_empty-clause-places : goal.returns-then-is_empty-clause-places
 returns-then-is_empty-clause-places g c = places-same _ _ refl
