@@ -1,2 +1,3 @@
+mod Dialings
 mod Takings
 mod Whole

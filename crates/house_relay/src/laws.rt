@@ -1,6 +1,6 @@
 //! What holds of every relay, whatever happened in it: the function's contract is the law.
 
-ghost use Rattle.std.specs.Prelude.{List};
+ghost use Rattle.std.specs.Prelude.{Bool, List};
 ghost use Rattle.house_relay.specs.Acts.{Act, Relays};
 ghost use Rattle.house_relay.specs.Relay.{Stands, Keeps};
 ghost use Rattle.house_relay.specs.declared.relay.Relay.{Relay as TheRelay};
@@ -9,6 +9,8 @@ ghost use Rattle.house_relay.specs.declared.relay.Relay.{Relay as TheRelay};
 /// order; no more room is given back than was taken; and EOF goes on behind everything alone. What is
 /// held and what waits are exactly the rest.
 pub fn relays_relay()
-    ensures relays { (acts : List Act) (r : TheRelay) → Stands acts r → Relays acts }
-    ensures keeps { (acts : List Act) (r : TheRelay) → Stands acts r → Keeps acts r }
+    ensures relays { (dials : Bool) (acts : List Act) (r : TheRelay)
+        → Stands dials acts r → Relays dials acts }
+    ensures keeps { (dials : Bool) (acts : List Act) (r : TheRelay)
+        → Stands dials acts r → Keeps dials acts r }
 {}

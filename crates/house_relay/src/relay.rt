@@ -1,13 +1,15 @@
 //! One relay: a channel and a socket.
-ghost use Rattle.std.specs.Prelude.{◌≡◌, ◌+◌, ◌≤◌, ◌<◌, ◌^◌, ◌++◌, ℕ, List, [], true, false, if◌then◌else◌, length, take, min, IfSome, OnOk, IfOk, None, Some, IsTrue};
-ghost use Rattle.house_relay.specs.Acts.{Act, Reads, Ends, Takes, Fails, Delivers, HearsEof, HearsClose, SaysData, SaysAdjust, SaysEof, SaysClose, Other};
+ghost use Rattle.std.specs.Prelude.{◌≡◌, ◌+◌, ◌≤◌, ◌<◌, ◌^◌, ◌++◌, ℕ, List, [], true, false, if◌then◌else◌, length, take, drop, min, IfSome, OnOk, IfOk, None, Some, IsTrue};
+ghost use Rattle.house_relay.specs.Acts.{Act, Reads, Ends, Takes, Fails, Confirms, Refuses, Delivers, HearsEof, HearsClose, SaysData, SaysAdjust, SaysEof, SaysClose, Other};
 ghost use Rattle.house_relay.specs.Next.{says_of, says_offered, says_live, orders_of};
-ghost use Rattle.house_relay.specs.Relay.{Stands, GoesOn, IsSaying, said_act, SilentIn, owed_in, is_broken, is_finished, stream_of, delivers, IsOffered, OrdersRight, IsResting, is_stuck, heard_in};
+ghost use Rattle.house_relay.specs.Relay.{Stands, GoesOn, IsSaying, said_act, SilentIn, owed_in, is_broken, is_finished, stream_of, delivers, IsOffered, OrdersRight, IsResting, is_stuck, heard_in, answered_in, MayRead, holding};
 
 use crate::MAXIMUM;
+use crate::dialing::{Came, Heard, hear};
 use crate::line::{Line, Live};
 use mux_outside::{Order, OwnStream};
 use proxy_frames::Queue;
+use socks_dialog::{Dialog, granted_in, refused_in};
 use ssh_fields::{OutOfMemory, Text};
 use std::alloc::Global;
 
@@ -79,26 +81,43 @@ impl Relay {
 
     /// A socket that was joined, and is to be a channel to this end.
     pub fn joined(alloc: Global, number: u32, stream: u64, host: Text, port: u32) -> Relay
-        ensures stands { Stands [] result }
+        ensures stands { Stands false [] result }
+        ensures asks { result.line ≡ Line.Asked host port None }
     {
         Relay::begun(
             alloc,
             number,
-            Line::Asked { host, port },
+            Line::Asked {
+                host,
+                port,
+                version: None,
+            },
+            Socket::Open(stream),
+        )
+    }
+
+    /// A socket that was joined, whose client says in a dialog to which end the channel is to be.
+    pub fn dynamic(alloc: Global, number: u32, stream: u64) -> Relay
+        ensures stands { Stands true [] result }
+    {
+        Relay::begun(
+            alloc,
+            number,
+            Line::Dialing(Dialog::new()),
             Socket::Open(stream),
         )
     }
 
     /// A socket that was joined, and for which there is no channel.
     pub fn surplus(alloc: Global, number: u32, stream: u64) -> Relay
-        ensures stands { Stands [] result }
+        ensures stands { Stands false [] result }
     {
         Relay::begun(alloc, number, Line::Over, Socket::Surplus(stream))
     }
 
     /// An OPEN of the server, for which a socket is to be connected.
     pub fn offered(alloc: Global, number: u32, remote: u32, window: u32, maximum: u32) -> Relay
-        ensures stands { Stands [] result }
+        ensures stands { Stands false [] result }
     {
         Relay::begun(
             alloc,
@@ -150,7 +169,8 @@ impl Relay {
     {
         match &self.line {
             Line::Asked { .. } => Some(Saying::Open),
-            Line::Opened => None,
+            Line::Dialing(_) => None,
+            Line::Opened { .. } => None,
             Line::Over => None,
             Line::Offered { .. } => self.says_offered(),
             Line::Live(live) => self.says_live(*live),
@@ -220,9 +240,7 @@ impl Relay {
         ensures stands { GoesOn self.old self.new (said_act saying self.old) }
     {
         match saying {
-            Saying::Open => {
-                self.line = Line::Opened;
-            }
+            Saying::Open => self.said_open(),
             Saying::Confirmation => self.said_confirmation(),
             Saying::OpenFailure => self.line = Line::Over,
             Saying::Close => self.said_close(),
@@ -230,6 +248,14 @@ impl Relay {
             Saying::Data(count) => self.said_data(count),
             Saying::Eof => self.said_eof(),
             Saying::Adjust(n) => self.said_adjust(n),
+        }
+    }
+
+    fn said_open(&mut self)
+        ensures stands { IsSaying Saying.Open self.old → GoesOn self.old self.new Other }
+    {
+        if let Line::Asked { version, .. } = self.line {
+            self.line = Line::Opened { version };
         }
     }
 
@@ -242,7 +268,7 @@ impl Relay {
             maximum,
         } = self.line
         {
-            self.line = Line::Live(Live::new(remote, window, maximum));
+            self.line = Line::Live(Live::new(remote, window, maximum, 0));
         }
     }
 
@@ -304,7 +330,7 @@ impl Relay {
             Socket::Open(_) | Socket::Connecting(_) => {}
             Socket::Unmade | Socket::Closed => return None,
         }
-        if !self.line.counts() && self.queue.is_empty() {
+        if self.line.has_no_more(self.ended) && self.queue.is_empty() {
             return Some(Order::Close(t));
         }
         if self.line.is_ended() && self.queue.is_empty() && !stream.finished {
@@ -328,7 +354,11 @@ impl Relay {
         }
         match &self.line {
             Line::Live(live) => live.close_said || live.takes() == 0,
-            Line::Asked { .. } | Line::Opened | Line::Offered { .. } | Line::Over => true,
+            Line::Dialing(_)
+            | Line::Asked { .. }
+            | Line::Opened { .. }
+            | Line::Offered { .. }
+            | Line::Over => true,
         }
     }
 
@@ -351,12 +381,50 @@ impl Relay {
         };
     }
 
-    /// It gave bytes.
-    pub fn got(&mut self, bytes: &[u8]) -> Result<(), OutOfMemory>
-        ensures stands { OnOk result (self.old.ended ≡ false → GoesOn self.old self.new (Reads bytes.now)) }
-        ensures held { OnOk result (self.new.held.waiting ≡ self.old.held.waiting ++ bytes.now) }
+    /// It gave bytes. A dialog that asks for a channel gets one where one is free.
+    pub fn got(&mut self, alloc: Global, bytes: &[u8], free: bool) -> Result<(), OutOfMemory>
+        ensures stands { OnOk result
+            (MayRead bytes.now self.old → GoesOn self.old self.new (Reads bytes.now)) }
     {
-        self.held.push_bytes(bytes)
+        let count = self.dials(alloc, bytes, free)?;
+        self.held.push_bytes(&bytes[count..])
+    }
+
+    /// Its dialog, if one is read, hears the bytes first: how many of them belong to it.
+    fn dials(&mut self, alloc: Global, bytes: &[u8], free: bool) -> Result<usize, OutOfMemory>
+        ensures within { IfOk result (λ count. count ≤ length bytes.now) }
+        ensures stands { IfOk result (λ count. MayRead bytes.now self.old
+            → GoesOn self.old (holding (drop count bytes.now) self.new) (Reads bytes.now)) }
+    {
+        let Line::Dialing(dialog) = &mut self.line else {
+            return Ok(0);
+        };
+        let Heard { count, came } = hear(dialog, bytes, &mut self.queue)?;
+        match came {
+            Came::Nothing => {}
+            Came::Connect { host, port, version } => {
+                let host = Text::copy(alloc, host.as_bytes())?;
+                self.asks(host, u32::from(port), version, free);
+            }
+            Came::Fault => self.line = Line::Over,
+        }
+        Ok(count)
+    }
+
+    /// Its dialog asks for a channel to this end, and one is free or not.
+    fn asks(&mut self, host: Text, port: u32, version: u8, free: bool) {
+        if free {
+            self.line = Line::Asked {
+                host,
+                port,
+                version: Some(version),
+            };
+            return;
+        }
+        self.line = Line::Over;
+        if let Some(stream) = self.stream() {
+            self.socket = Socket::Surplus(stream);
+        }
     }
 
     /// It gave its end.
@@ -393,8 +461,9 @@ impl Relay {
         self.queue.took(n);
         match self.line {
             Line::Live(live) => self.line = Line::Live(live.takes_more(n)),
+            Line::Dialing(_) => {}
             Line::Asked { .. } => {}
-            Line::Opened => {}
+            Line::Opened { .. } => {}
             Line::Offered { .. } => {}
             Line::Over => {}
         }
@@ -402,22 +471,35 @@ impl Relay {
 
     // ---- what comes of its channel
 
-    /// The server confirmed its OPEN.
-    pub fn confirmed(&mut self, remote: u32, window: u32, maximum: u32)
-        ensures stands { GoesOn self.old self.new Other }
+    /// The server confirmed its OPEN: a dialog is granted what it asked for.
+    pub fn confirmed(&mut self, remote: u32, window: u32, maximum: u32) -> Result<(), OutOfMemory>
+        ensures stands { OnOk result
+            (GoesOn self.old self.new (answered_in self.old.line Confirms)) }
     {
-        if let Line::Opened = self.line {
-            self.line = Line::Live(Live::new(remote, window, maximum));
+        let Line::Opened { version } = self.line else {
+            return Ok(());
+        };
+        if let Some(version) = version {
+            self.queue.push_bytes(granted_in(version).as_bytes())?;
         }
+        let replies = self.queue.len();
+        self.line = Line::Live(Live::new(remote, window, maximum, replies));
+        Ok(())
     }
 
-    /// The server refused its OPEN.
-    pub fn refused(&mut self)
-        ensures stands { GoesOn self.old self.new Other }
+    /// The server refused its OPEN for this reason (RFC 4254, section 5.1): a dialog is told so.
+    pub fn refused(&mut self, reason: u32) -> Result<(), OutOfMemory>
+        ensures stands { OnOk result
+            (GoesOn self.old self.new (answered_in self.old.line (Refuses reason))) }
     {
-        if let Line::Opened = self.line {
-            self.line = Line::Over;
+        let Line::Opened { version } = self.line else {
+            return Ok(());
+        };
+        if let Some(version) = version {
+            self.queue.push_bytes(refused_in(version, reason).as_bytes())?;
         }
+        self.line = Line::Over;
+        Ok(())
     }
 
     /// Room for more bytes in the channel.
@@ -436,7 +518,11 @@ impl Relay {
     {
         match &self.line {
             Line::Live(live) => !live.eof_heard && self.stream().is_some(),
-            Line::Asked { .. } | Line::Opened | Line::Offered { .. } | Line::Over => false,
+            Line::Dialing(_)
+            | Line::Asked { .. }
+            | Line::Opened { .. }
+            | Line::Offered { .. }
+            | Line::Over => false,
         }
     }
 
@@ -459,8 +545,9 @@ impl Relay {
     {
         match self.line {
             Line::Live(live) => self.line = Line::Live(live.hears_eof()),
+            Line::Dialing(_) => {}
             Line::Asked { .. } => {}
-            Line::Opened => {}
+            Line::Opened { .. } => {}
             Line::Offered { .. } => {}
             Line::Over => {}
         }
@@ -472,8 +559,9 @@ impl Relay {
     {
         match self.line {
             Line::Live(live) => self.line = live.hears_close(),
+            Line::Dialing(_) => {}
             Line::Asked { .. } => {}
-            Line::Opened => {}
+            Line::Opened { .. } => {}
             Line::Offered { .. } => {}
             Line::Over => {}
         }
