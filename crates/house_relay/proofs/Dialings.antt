@@ -1,5 +1,5 @@
 -- A dialog gives its replies, and hears more bytes.
-use Rattle.std.proofs.Common.{◌≡◌, ◌≢◌, ◌∙◌, refl, sym, ap, subst, arith, ℕ, ◌+◌, ◌-◌, ◌≤◌, ◌<◌, List, [], ◌∷◌, ◌++◌, length, take, drop, get_or, append_assoc, length-append, length-drop, drop_of_length-le}
+use Rattle.std.proofs.Common.{◌≡◌, ◌≢◌, ◌∙◌, refl, sym, ap, subst, arith, ℕ, ◌+◌, ◌-◌, ◌≤◌, List, [], ◌∷◌, ◌++◌, length, take, drop, append_assoc, length-append, length-drop, drop_of_length-le}
 use Rattle.std.proofs.Math.Seq.{drop-append_seam, take-length}
 use Rattle.std.proofs.lemmas.List.{append-nil}
 use Rattle.std.proofs.lemmas.List.Folds.{concat-append}
@@ -15,12 +15,10 @@ use Rattle.socks_dialog.specs.declared.step.Step.{Step}
 use Rattle.socks_dialog.specs.declared.step.Step.TheVariants as step
 use Rattle.socks_dialog.proofs.Dialogs.{ended, socks-parse}
 use Rattle.socks_dialog.proofs.Few.{socks-few}
-use Rattle.socks_dialog.proofs.Kept.{kept_alone, kept_wanting, kept_outcome, kept_rest, kept_whole}
+use Rattle.socks_dialog.proofs.Kept.{kept_alone, kept_wanting, kept_outcome, kept_whole}
 use Rattle.house_relay.specs.Acts.{Unanswered, outcome_in, before_in, behind_in, last_reply, replies_in}
 use Rattle.house_relay.specs.Dialing.{left_in, GivesAll, GaveSome, IsCame, IsReading, CameTo, IsHeard}
 use Rattle.house_relay.specs.declared.dialing.Came.{Came}
-use Rattle.house_relay.specs.declared.dialing.Came.TheVariants.{Nothing, Connect, Fault}
-use Rattle.house_relay.specs.declared.dialing.Heard.{Heard}
 
 -- ---- replies
 
@@ -55,7 +53,7 @@ gives_one d reply queue some is = by_left (drop d.given all) refl
     by_left : (left : List (List ℕ)) → drop d.given all ≡ left
         → GivesAll d (stepped (stepped d)) (step_of (stepped d)) queue (with_bytes reply queue)
     by_left [] e = absurd (no_reply (socks d.bytes).outcome reply
-      (sym (ap (λ left. step_in left (socks d.bytes).outcome) e) ∙ is))
+        (sym (ap (λ left. step_in left (socks d.bytes).outcome) e) ∙ is))
     by_left (first ∷ more) e =
         let few : length all ≤ 1 = socks-few d.bytes in
         let within : d.given ≤ length all = some in
@@ -166,10 +164,10 @@ hears old mid new piece count s came queue queue1 queue2 is rest gives comes rea
     let stepped_to : s ≡ step_to (socks all).outcome = given.outcome ∙ ap step_to came_out in
     let new_kept : new.bytes ≡ dialog_bytes all = given.bytes ∙ kept in
     let then = came_to (socks all).outcome (version_of new) (slice_index all 0) came all new queue1 queue2 refl
-        (subst (λ (t : Step). IsCame t (version_of new) came queue1 queue2) stepped_to comes)
-        (λ ne. ap (λ bytes. slice_index bytes 0) new_kept
-        ∙ first_in (dialog_bytes all) (socks all).rest all (kept_whole all) (λ w. ne (sym (kept_outcome all) ∙ w)))
-        (λ w. (new_kept ∙ kept_wanting all w, given.given ∙ ap length every)) in
+    (subst (λ (t : Step). IsCame t (version_of new) came queue1 queue2) stepped_to comes)
+    (λ ne. ap (λ bytes. slice_index bytes 0) new_kept
+    ∙ first_in (dialog_bytes all) (socks all).rest all (kept_whole all) (λ w. ne (sym (kept_outcome all) ∙ w)))
+    (λ w. (new_kept ∙ kept_wanting all w, given.given ∙ ap length every)) in
     let last = last_reply (socks all).outcome (slice_index all 0) Unanswered in
     let history : History = record { bytes = old.bytes; given = (socks old.bytes).replies } in
     let stands : StandsFor history old = record {

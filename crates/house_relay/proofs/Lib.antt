@@ -1,3 +1,5 @@
+mod Answerings
 mod Dialings
+mod Readings
 mod Takings
 mod Whole

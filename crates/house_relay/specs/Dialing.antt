@@ -1,8 +1,9 @@
 -- What more bytes are to a dialog.
-use Rattle.std.specs.Prelude.{◌≡◌, ◌≢◌, ◌≤◌, ℕ, List, ◌++◌, length, drop, slice_index}
+use Rattle.std.specs.Prelude.{◌≡◌, ◌≢◌, ◌≤◌, ℕ, List, [], ◌++◌, length, drop, slice_index, Option, Some, None}
 use Rattle.std.specs.List.{concat}
 use Rattle.proxy_frames.specs.Queued.{with_bytes}
 use Rattle.proxy_frames.specs.State.{QueueState}
+use Rattle.socks_dialog.specs.Replies.{granted_to, refused_to}
 use Rattle.socks_dialog.specs.State.{State, step_to}
 use Rattle.socks_dialog.specs.declared.outcome.Outcome.TheVariants.{Wants, Connects}
 use Rattle.socks_dialog.specs.declared.step.Step.{Step}
@@ -57,3 +58,15 @@ pub record IsHeard (old new : State) (bytes : List ℕ) (heard : Heard) (queue q
   pub more : List ℕ
   pub waiting : queue'.waiting ≡ queue.waiting ++ more
   pub replies : replies_in (old.bytes ++ bytes) Unanswered ≡ replies_in old.bytes Unanswered ++ more
+
+-- ---- the answer to the OPEN
+
+-- what is written to a dialog of this version where its end is reached, if one waits
+abbrev pub grant_of : Option ℕ → List ℕ
+grant_of None = []
+grant_of (Some version) = granted_to version
+
+-- and where it isn't, for a reason
+abbrev pub refusal_of : Option ℕ → ℕ → List ℕ
+refusal_of None reason = []
+refusal_of (Some version) reason = refused_to version reason

@@ -1,6 +1,6 @@
 -- How a relay stands, for what happened in it.
 use Rattle.std.specs.Prelude.{◌≡◌, ◌≢◌, ◌+◌, ◌-◌, ◌≤◌, ◌<◌, ◌&&◌, ◌||◌, ◌==◌, ℕ, Bool, true, false, not, is_some, List, [], ◌∷◌, ◌++◌, length, take, slice_index, IsTrue, Option, Some, None}
-use Rattle.house_relay.specs.Acts.{Act, Reads, Ends, Takes, Fails, Confirms, Refuses, Delivers, HearsEof, HearsClose, SaysData, SaysAdjust, SaysEof, SaysClose, Other}
+use Rattle.house_relay.specs.Acts.{Act, SaysData, SaysAdjust, SaysEof, SaysClose, Other}
 use Rattle.house_relay.specs.Acts.{read, sent, delivered, taken, adjusted, has_ended, heard_eof, heard_close, said_eof, said_close}
 use Rattle.house_relay.specs.Acts.{Unanswered, answer, outcome_in, before_in, replies, behind, held, to_take, waiting, taken_data}
 use Rattle.mux_outside.specs.declared.order.Order.{Order}
@@ -141,7 +141,7 @@ pub record NothingYet (dials : Bool) (acts : List Act) : Type 0 where
 
 -- a dialog that is read has all bytes that were read, has given all its replies, and wants more bytes
 pub record IsDialing (dialog : State) (dials : Bool) (acts : List Act) : Type 0 where
-  pub dials : dials ≡ true
+  pub socks : dials ≡ true
   pub bytes : dialog.bytes ≡ read acts
   pub given : dialog.given ≡ length (before_in (read acts))
   pub wants : outcome_in (read acts) ≡ Wants
@@ -217,7 +217,7 @@ GoesOn old new act =
 
 -- its socket may give these bytes: it hasn't ended, and they are no more than may be held
 pub record MayRead (bytes : List ℕ) (r : Relay) : Type 0 where
-  pub open : r.ended ≡ false
+  pub unended : r.ended ≡ false
   pub room : length r.held.waiting + length bytes ≤ LONGEST_PIECE
 
 -- with these bytes held too

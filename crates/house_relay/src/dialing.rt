@@ -1,10 +1,11 @@
 //! The dialog of SOCKS in front of a relay.
-ghost use Rattle.std.specs.Prelude.{◌≤◌, length, IfOk};
+ghost use Rattle.std.specs.Prelude.{◌≡◌, ◌≤◌, length, IfOk, OnOk};
 ghost use Rattle.socks_dialog.specs.State.{HasConnect, GivesConnect, version_of};
-ghost use Rattle.house_relay.specs.Dialing.{GivesAll, GaveSome, IsCame, IsReading, IsHeard};
+ghost use Rattle.house_relay.specs.Dialing.{GivesAll, GaveSome, IsCame, IsReading, IsHeard, grant_of, refusal_of};
+ghost use Rattle.proxy_frames.specs.Queued.{with_bytes};
 
 use proxy_frames::Queue;
-use socks_dialog::{Dialog, Step};
+use socks_dialog::{Dialog, Step, granted_in, refused_in};
 use ssh_fields::{OutOfMemory, Small};
 
 /// What a dialog came to by more bytes.
@@ -70,4 +71,24 @@ pub fn hear(dialog: &mut Dialog, bytes: &[u8], queue: &mut Queue) -> Result<Hear
     let step = next(dialog, queue)?;
     let came = came_by(step, dialog, queue)?;
     Ok(Heard { count, came })
+}
+
+/// A dialog of this version, if one waits, is told that its end is reached.
+pub fn grant(version: Option<u8>, queue: &mut Queue) -> Result<(), OutOfMemory>
+    ensures { OnOk result (queue.new ≡ with_bytes (grant_of version) queue.old) }
+{
+    match version {
+        Some(version) => queue.push_bytes(granted_in(version).as_bytes()),
+        None => queue.push_bytes(&[]),
+    }
+}
+
+/// It is told that its end isn't reached, for a reason of an open failure (RFC 4254, section 5.1).
+pub fn refuse(version: Option<u8>, reason: u32, queue: &mut Queue) -> Result<(), OutOfMemory>
+    ensures { OnOk result (queue.new ≡ with_bytes (refusal_of version reason) queue.old) }
+{
+    match version {
+        Some(version) => queue.push_bytes(refused_in(version, reason).as_bytes()),
+        None => queue.push_bytes(&[]),
+    }
 }

@@ -73,7 +73,8 @@ impl Line {
         match self {
             Line::Dialing(_) => ended,
             Line::Over => true,
-            Line::Asked { .. } | Line::Opened { .. } | Line::Offered { .. } | Line::Live(_) => false,
+            Line::Asked { .. } | Line::Opened { .. } | Line::Offered { .. } | Line::Live(_) =>
+                false,
         }
     }
 

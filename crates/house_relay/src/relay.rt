@@ -5,11 +5,11 @@ ghost use Rattle.house_relay.specs.Next.{says_of, says_offered, says_live, order
 ghost use Rattle.house_relay.specs.Relay.{Stands, GoesOn, IsSaying, said_act, SilentIn, owed_in, is_broken, is_finished, stream_of, delivers, IsOffered, OrdersRight, IsResting, is_stuck, heard_in, answered_in, MayRead, holding};
 
 use crate::MAXIMUM;
-use crate::dialing::{Came, Heard, hear};
+use crate::dialing::{Came, Heard, grant, hear, refuse};
 use crate::line::{Line, Live};
 use mux_outside::{Order, OwnStream};
 use proxy_frames::Queue;
-use socks_dialog::{Dialog, granted_in, refused_in};
+use socks_dialog::Dialog;
 use ssh_fields::{OutOfMemory, Text};
 use std::alloc::Global;
 
@@ -402,7 +402,11 @@ impl Relay {
         let Heard { count, came } = hear(dialog, bytes, &mut self.queue)?;
         match came {
             Came::Nothing => {}
-            Came::Connect { host, port, version } => {
+            Came::Connect {
+                host,
+                port,
+                version,
+            } => {
                 let host = Text::copy(alloc, host.as_bytes())?;
                 self.asks(host, u32::from(port), version, free);
             }
@@ -412,7 +416,12 @@ impl Relay {
     }
 
     /// Its dialog asks for a channel to this end, and one is free or not.
-    fn asks(&mut self, host: Text, port: u32, version: u8, free: bool) {
+    fn asks(&mut self, host: Text, port: u32, version: u8, free: bool)
+        ensures line { self.new.line
+            ≡ (if free then Line.Asked host port (Some version) else Line.Over) }
+        ensures others { self.new
+            ≡ record self.old { line = self.new.line; socket = self.new.socket } }
+    {
         if free {
             self.line = Line::Asked {
                 host,
@@ -479,9 +488,7 @@ impl Relay {
         let Line::Opened { version } = self.line else {
             return Ok(());
         };
-        if let Some(version) = version {
-            self.queue.push_bytes(granted_in(version).as_bytes())?;
-        }
+        grant(version, &mut self.queue)?;
         let replies = self.queue.len();
         self.line = Line::Live(Live::new(remote, window, maximum, replies));
         Ok(())
@@ -495,9 +502,7 @@ impl Relay {
         let Line::Opened { version } = self.line else {
             return Ok(());
         };
-        if let Some(version) = version {
-            self.queue.push_bytes(refused_in(version, reason).as_bytes())?;
-        }
+        refuse(version, reason, &mut self.queue)?;
         self.line = Line::Over;
         Ok(())
     }
