@@ -2,9 +2,9 @@
 use Rattle.std.proofs.Common.{◌≡◌, ◌∙◌, refl, sym, ap, arith, ℕ, ◌+◌, ◌-◌, ◌≤◌, Bool, true, false, if◌then◌else◌, List, ◌∷◌, ◌++◌, length, take, drop, length-take, length-append, Option, Some, None}
 use Rattle.std.proofs.lemmas.Grind.{common_steps}
 use Rattle.std.proofs.lemmas.List.{append_assoc, take-append-drop}
-use Rattle.proxy_frames.specs.Queued.{without_first}
 use Rattle.house_relay.specs.Acts.{Act, Takes, taken, delivered, adjusted, replies, to_take, taken_data}
-use Rattle.house_relay.specs.Line.{takes_more}
+use Rattle.house_relay.specs.Line.{takes_in, takes_more}
+use Rattle.house_relay.specs.Steps.{taken_of}
 use Rattle.socks_dialog.specs.declared.outcome.Outcome.{Outcome}
 use Rattle.socks_dialog.specs.declared.outcome.Outcome.TheVariants.{Connects}
 use Rattle.house_relay.specs.Relay.{Stands, LineStands, IsLive, NothingYet, WaitsFor}
@@ -12,15 +12,6 @@ use Rattle.house_relay.specs.declared.line.Live.{Live as LiveState}
 use Rattle.house_relay.specs.declared.line.Line.{Line}
 use Rattle.house_relay.specs.declared.line.Line.TheVariants.{Dialing, Asked, Opened, Offered, Live, Over}
 use Rattle.house_relay.specs.declared.relay.Relay.{Relay}
-
--- the channel of a relay as its socket takes bytes
-abbrev pub line_takes : ℕ → Line → Line
-line_takes n (Dialing dialog) = Dialing dialog
-line_takes n (Asked host port version) = Asked host port version
-line_takes n (Opened version) = Opened version
-line_takes n (Offered remote window maximum) = Offered remote window maximum
-line_takes n (Live live) = Live (takes_more n live)
-line_takes n Over = Over
 
 -- one that is confirmed owes as much more room as is taken behind the replies, until CLOSE is said
 pub live-takes : (live : LiveState) (n : ℕ) (dials : Bool) (acts : List Act) → IsLive live dials acts
@@ -79,7 +70,7 @@ waits-takes n dials acts (Some version) outcome s = s
 
 pub line-takes : (line : Line) (n : ℕ) (dials : Bool) (acts : List Act) (before queue : List ℕ)
     → before ++ queue ≡ to_take dials acts → length before ≡ taken acts → n ≤ length queue
-    → LineStands line dials acts → LineStands (line_takes n line) dials (Takes n ∷ acts)
+    → LineStands line dials acts → LineStands (takes_in n line) dials (Takes n ∷ acts)
 line-takes (Dialing dialog) n dials acts before queue whole had few s = record {
   socks = s.socks;
   bytes = s.bytes;
@@ -109,7 +100,7 @@ line-takes Over n dials acts before queue whole had few s = record {
 
 -- the relay goes on
 pub goes : (r : Relay) (n : ℕ) (dials : Bool) (acts : List Act) → n ≤ length r.queue.waiting → Stands dials acts r
-    → Stands dials (Takes n ∷ acts) (record r { line = line_takes n r.line; queue = without_first n r.queue })
+    → Stands dials (Takes n ∷ acts) (taken_of n r)
 goes r n dials acts few s =
     let before = s.delivers.0 in
     let queue = r.queue.waiting in

@@ -3,3 +3,4 @@ pub mod Dialing
 pub mod Line
 pub mod Next
 pub mod Relay
+pub mod Steps

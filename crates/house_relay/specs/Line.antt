@@ -32,6 +32,24 @@ has_no_more ended (Offered remote window maximum) = false
 has_no_more ended (Live live) = false
 has_no_more ended Over = true
 
+-- for how many bytes room is to be given back
+abbrev pub owed_in : Line → ℕ
+owed_in (Dialing dialog) = 0
+owed_in (Asked host port version) = 0
+owed_in (Opened version) = 0
+owed_in (Offered remote window maximum) = 0
+owed_in (Live live) = live.owed
+owed_in Over = 0
+
+-- a step of a channel that is confirmed; another stays
+abbrev pub in_live : (LiveState → Line) → Line → Line
+in_live step (Dialing dialog) = Dialing dialog
+in_live step (Asked host port version) = Asked host port version
+in_live step (Opened version) = Opened version
+in_live step (Offered remote window maximum) = Offered remote window maximum
+in_live step (Live live) = step live
+in_live step Over = Over
+
 -- a channel as it is confirmed, while so many bytes of replies wait
 abbrev pub fresh_live : ℕ → ℕ → ℕ → ℕ → LiveState
 fresh_live remote window maximum replies = record {
@@ -91,3 +109,7 @@ takes_more n live = if live.close_said then live else record live {
   owed = live.owed + (n - live.replies);
   replies = live.replies - n;
 }
+
+-- the socket took so many bytes
+abbrev pub takes_in : ℕ → Line → Line
+takes_in n = in_live (λ live. Live (takes_more n live))

@@ -88,15 +88,6 @@ IsSaying Eof r = InLive r.line (λ live. (live.close_said ≡ false) × (live.eo
     × IsTrue r.ended × (r.held.waiting ≡ []))
 IsSaying (Adjust n) r = InLive r.line (λ live. (live.close_said ≡ false) × (0 < n) × (n ≤ live.owed))
 
--- for how many bytes room is to be given back
-abbrev pub owed_in : Line → ℕ
-owed_in (Dialing dialog) = 0
-owed_in (Asked host port version) = 0
-owed_in (Opened version) = 0
-owed_in (Offered remote window maximum) = 0
-owed_in (Live live) = live.owed
-owed_in Over = 0
-
 -- what happens as that is said
 abbrev pub said_act : Saying → Relay → Act
 said_act Open r = Other

@@ -1,6 +1,6 @@
 //! The channel's side of a relay.
 ghost use Rattle.std.specs.Prelude.{◌≡◌, ◌≤◌, ◌<◌, ◌+◌, ◌-◌, ◌^◌};
-ghost use Rattle.house_relay.specs.Line.{counts, has_no_more, hears_end, fresh_live, takes, closes, answers, sends, ends, grants, hears_room, hears_eof, hears_close, hears_request, takes_more};
+ghost use Rattle.house_relay.specs.Line.{counts, has_no_more, hears_end, fresh_live, takes, closes, answers, sends, ends, grants, hears_room, hears_eof, hears_close, hears_request, takes_more, takes_in, owed_in};
 
 use socks_dialog::Dialog;
 use ssh_fields::Text;
@@ -89,6 +89,15 @@ impl Line {
             | Line::Opened { .. }
             | Line::Offered { .. }
             | Line::Over => false,
+        }
+    }
+
+    /// The socket took so many bytes.
+    pub fn takes_more(&mut self, n: usize)
+        ensures { owed_in self.old + n < 2 ^ 64 → self.new ≡ takes_in n self.old }
+    {
+        if let Line::Live(live) = self {
+            *live = live.takes_more(n);
         }
     }
 }

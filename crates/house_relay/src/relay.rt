@@ -2,7 +2,9 @@
 ghost use Rattle.std.specs.Prelude.{◌≡◌, ◌+◌, ◌≤◌, ◌<◌, ◌^◌, ◌++◌, ℕ, List, [], true, false, if◌then◌else◌, length, take, drop, min, IfSome, OnOk, IfOk, None, Some, IsTrue};
 ghost use Rattle.house_relay.specs.Acts.{Act, Reads, Ends, Takes, Fails, Confirms, Refuses, Delivers, HearsEof, HearsClose, SaysData, SaysAdjust, SaysEof, SaysClose, Other};
 ghost use Rattle.house_relay.specs.Next.{says_of, says_offered, says_live, orders_of};
-ghost use Rattle.house_relay.specs.Relay.{Stands, GoesOn, IsSaying, said_act, SilentIn, owed_in, is_broken, is_finished, stream_of, delivers, IsOffered, OrdersRight, IsResting, is_stuck, heard_in, answered_in, MayRead, holding};
+ghost use Rattle.house_relay.specs.Relay.{Stands, GoesOn, IsSaying, said_act, SilentIn, is_broken, is_finished, stream_of, delivers, IsOffered, OrdersRight, IsResting, is_stuck, heard_in, answered_in, MayRead, holding};
+ghost use Rattle.house_relay.specs.Line.{owed_in};
+ghost use Rattle.house_relay.specs.Steps.{said_of, made_as, connected, failing, taken_of, confirmed_in, refused_in, on_line, room_heard, eof_heard, close_heard, request_heard, data_heard};
 
 use crate::MAXIMUM;
 use crate::dialing::{Came, Heard, grant, hear, refuse};
@@ -238,6 +240,7 @@ impl Relay {
     pub fn said(&mut self, saying: Saying)
         requires { IsSaying saying self.old }
         ensures stands { GoesOn self.old self.new (said_act saying self.old) }
+        ensures exact { self.new ≡ said_of saying self.old }
     {
         match saying {
             Saying::Open => self.said_open(),
@@ -253,6 +256,7 @@ impl Relay {
 
     fn said_open(&mut self)
         ensures stands { IsSaying Saying.Open self.old → GoesOn self.old self.new Other }
+        ensures exact { self.new ≡ said_of Saying.Open self.old }
     {
         if let Line::Asked { version, .. } = self.line {
             self.line = Line::Opened { version };
@@ -261,6 +265,7 @@ impl Relay {
 
     fn said_confirmation(&mut self)
         ensures stands { IsSaying Saying.Confirmation self.old → GoesOn self.old self.new Other }
+        ensures exact { self.new ≡ said_of Saying.Confirmation self.old }
     {
         if let Line::Offered {
             remote,
@@ -274,6 +279,7 @@ impl Relay {
 
     fn said_close(&mut self)
         ensures stands { IsSaying Saying.Close self.old → GoesOn self.old self.new SaysClose }
+        ensures exact { self.new ≡ said_of Saying.Close self.old }
     {
         if let Line::Live(live) = self.line {
             self.line = live.closes();
@@ -282,36 +288,40 @@ impl Relay {
 
     fn said_failure(&mut self)
         ensures stands { IsSaying Saying.Failure self.old → GoesOn self.old self.new Other }
+        ensures exact { self.new ≡ said_of Saying.Failure self.old }
     {
-        if let Line::Live(live) = self.line {
-            self.line = Line::Live(live.answers());
+        if let Line::Live(live) = &mut self.line {
+            *live = live.answers();
         }
     }
 
     fn said_data(&mut self, count: u32)
         requires { IsSaying (Saying.Data count) self.old }
         ensures stands { GoesOn self.old self.new (SaysData (take count self.old.held.waiting)) }
+        ensures exact { self.new ≡ said_of (Saying.Data count) self.old }
     {
-        if let Line::Live(live) = self.line {
+        if let Line::Live(live) = &mut self.line {
             self.held.took(count as usize);
-            self.line = Line::Live(live.sends(count));
+            *live = live.sends(count);
         }
     }
 
     fn said_eof(&mut self)
         ensures stands { IsSaying Saying.Eof self.old → GoesOn self.old self.new SaysEof }
+        ensures exact { self.new ≡ said_of Saying.Eof self.old }
     {
-        if let Line::Live(live) = self.line {
-            self.line = Line::Live(live.ends());
+        if let Line::Live(live) = &mut self.line {
+            *live = live.ends();
         }
     }
 
     fn said_adjust(&mut self, n: u32)
         requires { IsSaying (Saying.Adjust n) self.old }
         ensures stands { GoesOn self.old self.new (SaysAdjust n) }
+        ensures exact { self.new ≡ said_of (Saying.Adjust n) self.old }
     {
-        if let Line::Live(live) = self.line {
-            self.line = Line::Live(live.grants(n));
+        if let Line::Live(live) = &mut self.line {
+            *live = live.grants(n);
         }
     }
 
@@ -365,6 +375,7 @@ impl Relay {
     /// Its stream was ordered to close.
     pub fn closed(&mut self)
         ensures stands { GoesOn self.old self.new Other }
+        ensures exact { self.new ≡ record self.old { socket = Socket.Closed } }
     {
         self.socket = Socket::Closed;
     }
@@ -374,6 +385,7 @@ impl Relay {
     /// Its stream is made, or couldn't be.
     pub fn made(&mut self, stream: Option<u64>)
         ensures stands { GoesOn self.old self.new Other }
+        ensures exact { self.new ≡ record self.old { socket = made_as stream } }
     {
         self.socket = match stream {
             Some(stream) => Socket::Connecting(stream),
@@ -439,6 +451,7 @@ impl Relay {
     /// It gave its end.
     pub fn ends(&mut self)
         ensures stands { GoesOn self.old self.new Ends }
+        ensures exact { self.new ≡ record self.old { ended = true } }
     {
         self.ended = true;
     }
@@ -446,6 +459,7 @@ impl Relay {
     /// It takes bytes, or is connected.
     pub fn writable(&mut self)
         ensures stands { GoesOn self.old self.new Other }
+        ensures exact { self.new ≡ record self.old { socket = connected self.old.socket } }
     {
         if let Socket::Connecting(stream) = self.socket {
             self.socket = Socket::Open(stream);
@@ -455,6 +469,7 @@ impl Relay {
     /// It failed.
     pub fn failed(&mut self)
         ensures stands { GoesOn self.old self.new Fails }
+        ensures exact { self.new ≡ record self.old { socket = failing self.old.socket } }
     {
         if let Some(stream) = self.stream() {
             self.socket = Socket::Failed(stream);
@@ -466,16 +481,10 @@ impl Relay {
         requires { n ≤ length self.old.queue.waiting }
         ensures stands { owed_in self.old.line + n < 2 ^ 64
             → GoesOn self.old self.new (Takes n) }
+        ensures exact { owed_in self.old.line + n < 2 ^ 64 → self.new ≡ taken_of n self.old }
     {
         self.queue.took(n);
-        match self.line {
-            Line::Live(live) => self.line = Line::Live(live.takes_more(n)),
-            Line::Dialing(_) => {}
-            Line::Asked { .. } => {}
-            Line::Opened { .. } => {}
-            Line::Offered { .. } => {}
-            Line::Over => {}
-        }
+        self.line.takes_more(n);
     }
 
     // ---- what comes of its channel
@@ -484,6 +493,8 @@ impl Relay {
     pub fn confirmed(&mut self, remote: u32, window: u32, maximum: u32) -> Result<(), OutOfMemory>
         ensures stands { OnOk result
             (GoesOn self.old self.new (answered_in self.old.line Confirms)) }
+        ensures exact { OnOk result
+            (self.new ≡ confirmed_in self.old.line remote window maximum self.old) }
     {
         let Line::Opened { version } = self.line else {
             return Ok(());
@@ -498,6 +509,7 @@ impl Relay {
     pub fn refused(&mut self, reason: u32) -> Result<(), OutOfMemory>
         ensures stands { OnOk result
             (GoesOn self.old self.new (answered_in self.old.line (Refuses reason))) }
+        ensures exact { OnOk result (self.new ≡ refused_in self.old.line reason self.old) }
     {
         let Line::Opened { version } = self.line else {
             return Ok(());
@@ -510,9 +522,10 @@ impl Relay {
     /// Room for more bytes in the channel.
     pub fn hears_room(&mut self, n: u32)
         ensures stands { GoesOn self.old self.new Other }
+        ensures exact { self.new ≡ on_line (room_heard n) self.old }
     {
-        if let Line::Live(live) = self.line {
-            self.line = Line::Live(live.hears_room(n));
+        if let Line::Live(live) = &mut self.line {
+            *live = live.hears_room(n);
         }
     }
 
@@ -536,6 +549,7 @@ impl Relay {
         ensures stands { IfOk result (λ is. GoesOn self.old self.new
             (if is then Delivers bytes.now else Other)) }
         ensures exact { IfOk result (λ is. is ≡ delivers self.old) }
+        ensures queue { IfOk result (λ is. self.new ≡ data_heard is bytes.now self.old) }
     {
         if self.delivers() {
             self.queue.push_bytes(bytes)?;
@@ -547,9 +561,10 @@ impl Relay {
     /// The server ends its data.
     pub fn hears_eof(&mut self)
         ensures stands { GoesOn self.old self.new (heard_in self.old.line HearsEof) }
+        ensures exact { self.new ≡ on_line eof_heard self.old }
     {
-        match self.line {
-            Line::Live(live) => self.line = Line::Live(live.hears_eof()),
+        match &mut self.line {
+            Line::Live(live) => *live = live.hears_eof(),
             Line::Dialing(_) => {}
             Line::Asked { .. } => {}
             Line::Opened { .. } => {}
@@ -561,6 +576,7 @@ impl Relay {
     /// The server closes the channel.
     pub fn hears_close(&mut self)
         ensures stands { GoesOn self.old self.new (heard_in self.old.line HearsClose) }
+        ensures exact { self.new ≡ on_line close_heard self.old }
     {
         match self.line {
             Line::Live(live) => self.line = live.hears_close(),
@@ -575,9 +591,10 @@ impl Relay {
     /// A channel request of the server.
     pub fn hears_request(&mut self, want: bool)
         ensures stands { GoesOn self.old self.new Other }
+        ensures exact { self.new ≡ on_line (request_heard want) self.old }
     {
-        if let Line::Live(live) = self.line {
-            self.line = Line::Live(live.hears_request(want));
+        if let Line::Live(live) = &mut self.line {
+            *live = live.hears_request(want);
         }
     }
 }

@@ -11,9 +11,8 @@ use Rattle.house_relay.specs.declared.line.Line.TheVariants.{Live}
 use Rattle.house_relay.proofs.Answerings.{confirms}
 use Rattle.house_relay.proofs.relay.Relay.confirmed.Goals as goal
 
-pub returns : goal.returns
-returns c = record {
-  stands = λ dials acts s.
+pub returns-clause-stands : goal.returns-clause-stands
+returns-clause-stands c = λ dials acts s.
       let r = c.args.self.now in
       let queue : c.grant.new.queue ≡ with_bytes (grant_of c.in-Opened.version) r.queue = c.in_ok-grant.ensures in
       let live : c.new.result ≡ fresh_live c.args.remote c.args.window c.args.maximum
@@ -26,5 +25,4 @@ returns c = record {
       (subst (λ (q : QueueState). Stands dials (Confirms ∷ acts) (record r { line = Live c.new.result; queue = q })) (sym queue)
       (subst (λ (l : LiveState). Stands dials (Confirms ∷ acts)
       (record r { line = Live l; queue = with_bytes (grant_of c.in-Opened.version) r.queue })) (sym live)
-      (confirms r c.in-Opened.version c.args.remote c.args.window c.args.maximum dials acts c.in-Opened.is s)));
-}
+      (confirms r c.in-Opened.version c.args.remote c.args.window c.args.maximum dials acts c.in-Opened.is s)))
