@@ -112,12 +112,6 @@ not_wanting bytes host port e w = no_wants (sym e ∙ w)
     no_wants : Connects host port ≡ Wants → ⊥
     no_wants f = cc
 
-not_wanting_bad : (bytes reply : List ℕ) → outcome_in bytes ≡ Breaks reply → outcome_in bytes ≢ Wants
-not_wanting_bad bytes reply e w = no_wants (sym e ∙ w)
-  where
-    no_wants : Breaks reply ≡ Wants → ⊥
-    no_wants f = cc
-
 -- what a step comes to, where it is the outcome of all bytes
 came_to : (o : Outcome) (version first : ℕ) (came : Came) (bytes : List ℕ) (new : State) (queue queue' : QueueState)
     → outcome_in bytes ≡ o → IsCame (step_to o) version came queue queue'
@@ -133,7 +127,7 @@ came_to (Connects host port) version first came bytes new queue queue' e is spea
   ap (λ (q : QueueState). q.waiting) is.1 ∙ sym (append-nil queue.waiting),
 )
 came_to (Breaks reply) version first came bytes new queue queue' e is speaks reads = (
-  subst (λ (c : Came). CameTo c bytes new) (sym is.0) (not_wanting_bad bytes reply e),
+  subst (λ (c : Came). CameTo c bytes new) (sym is.0) (reply, e),
   ap (λ (q : QueueState). q.waiting) is.1,
 )
 

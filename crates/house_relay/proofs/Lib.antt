@@ -1,4 +1,5 @@
 mod Answerings
+mod Comings
 mod Dialings
 mod Readings
 mod Takings

@@ -9,7 +9,7 @@ use Rattle.socks_dialog.specs.Laws.{followed}
 use Rattle.socks_dialog.specs.Socks.{Dialog, socks}
 use Rattle.socks_dialog.specs.State.{State}
 use Rattle.socks_dialog.specs.declared.outcome.Outcome.{Outcome}
-use Rattle.socks_dialog.specs.declared.outcome.Outcome.TheVariants.{Wants, Connects}
+use Rattle.socks_dialog.specs.declared.outcome.Outcome.TheVariants.{Wants, Connects, Breaks}
 use Rattle.socks_dialog.proofs.Dialogs.{socks-parse}
 use Rattle.house_relay.specs.Acts.{Act, Reads, Answer, Unanswered, answer, read, sent, delivered, taken, adjusted, has_ended, said_eof, outcome_in, before_in, behind_in, last_reply, replies_in, replies_if, replies, behind_if}
 use Rattle.house_relay.specs.Dialing.{CameTo, IsHeard, IsReading}
@@ -21,6 +21,7 @@ use Rattle.house_relay.specs.declared.line.Line.{Line}
 use Rattle.house_relay.specs.declared.line.Line.TheVariants.{Dialing, Asked, Opened, Offered, Live, Over}
 use Rattle.house_relay.specs.declared.relay.Relay.{Relay}
 use Rattle.house_relay.specs.declared.relay.Socket.{Socket}
+use Rattle.house_relay.proofs.Comings.{LineAfter}
 
 -- ---- a dialog that came to something
 
@@ -31,6 +32,12 @@ no_connects : (o : Outcome) (host : List ℕ) (port : ℕ) → o ≡ Connects ho
 no_connects o host port e w = clash (sym e ∙ w)
   where
     clash : Connects host port ≡ Wants → ⊥
+    clash f = cc
+
+no_breaks : (o : Outcome) (reply : List ℕ) → o ≡ Breaks reply → o ≢ Wants
+no_breaks o reply e w = clash (sym e ∙ w)
+  where
+    clash : Breaks reply ≡ Wants → ⊥
     clash f = cc
 
 pub settled-waits : (version : Option ℕ) (host : List ℕ) (port : ℕ) (dials : Bool) (acts : List Act)
@@ -181,12 +188,6 @@ reads-more r piece dials acts other may s =
 
 -- ---- a dialog that is read
 
--- what the channel's side is then
-abbrev pub LineAfter : Came → State → Line → Type 0
-LineAfter Nothing new line = line ≡ Dialing new
-LineAfter (Connect host port version) new line = (line ≡ Asked host port (Some version)) ⊎ (line ≡ Over)
-LineAfter Fault new line = line ≡ Over
-
 over-now : (acts : List Act) → NothingYet true acts → outcome_in (read acts) ≢ Wants → LineStands Over true acts
 over-now acts nothing ne = record {
   most = let a : adjusted acts ≡ 0 = nothing.no_room in omega arith;
@@ -208,7 +209,7 @@ line-after (Connect host port version) new line acts came nothing (inr is) =
     subst (λ l. LineStands l true acts) (sym is)
     (over-now acts nothing (no_connects (outcome_in (read acts)) host port came.0))
 line-after Fault new line acts came nothing is =
-    subst (λ l. LineStands l true acts) (sym is) (over-now acts nothing came)
+    subst (λ l. LineStands l true acts) (sym is) (over-now acts nothing (no_breaks (outcome_in (read acts)) came.0 came.1))
 
 -- what IsHeard says, where the dialog's bytes are all that were read
 same-bytes : (old new : State) (piece : List ℕ) (heard : Heard) (q q' : QueueState) (bytes : List ℕ)

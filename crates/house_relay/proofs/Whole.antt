@@ -1,9 +1,12 @@
 -- What a relay keeps is what is left of what happened in it.
-use Rattle.std.proofs.Common.{◌≡◌, ◌∙◌, sym, ap, subst, arith, ℕ, ◌+◌, ◌≤◌, Bool, true, false, List, ◌++◌, length, drop, Option, Some, None}
+use Rattle.std.proofs.Common.{◌≡◌, ◌∙◌, sym, ap, subst, arith, ℕ, ◌+◌, ◌≤◌, ◌<◌, Bool, true, false, List, ◌++◌, length, drop, Option, Some, None, [], IsTrue, ◌∷◌, refl}
+use Rattle.std.specs.Prelude.{◌||◌, ◌==◌}
+use Rattle.mux_outside.specs.declared.own_streams.OwnStream.{OwnStream}
+use Rattle.house_relay.specs.Line.{takes}
 use Rattle.std.proofs.lemmas.List.{length-append, take-append-drop}
 use Rattle.std.proofs.Math.Seq.{drop-append_seam}
 use Rattle.house_relay.specs.Acts.{Act, Relays, read, sent, taken, adjusted, held, waiting, to_take, taken_data, outcome_in}
-use Rattle.house_relay.specs.Relay.{Stands, Keeps, OwesRight, AsksRight, LineStands, NothingYet, WaitsFor}
+use Rattle.house_relay.specs.Relay.{Stands, Keeps, OwesRight, AsksRight, SilentIn, IsResting, stuck_in, is_stuck, LineStands, NothingYet, WaitsFor}
 use Rattle.mux_outside.specs.declared.piece.TheConstants.{LONGEST_PIECE}
 use Rattle.socks_dialog.specs.declared.outcome.Outcome.TheVariants.{Connects}
 use Rattle.house_relay.specs.declared.line.Line.{Line}
@@ -82,3 +85,30 @@ keeps dials acts r s = record {
   owes = owes r.line dials acts s.line;
   asks = asks r.line dials acts s.line;
 }
+
+-- ---- at rest
+
+-- what is held is stuck
+stuck : (line : Line) (r : Relay) → SilentIn line r → 0 < length r.held.waiting → IsTrue (stuck_in line)
+stuck (Dialing dialog) r silent some = refl
+stuck (Asked host port version) r silent some = absurd silent
+stuck (Opened version) r silent some = refl
+stuck (Offered remote window maximum) r silent some = refl
+stuck (Live live) r silent some = by_close live.close_said refl
+  where
+    by_close : (b : Bool) → live.close_said ≡ b → IsTrue (b || (takes live == 0))
+    by_close true e = refl
+    by_close false e = subst (λ n. IsTrue (n == 0)) (sym (((silent e).3) some)) refl
+stuck Over r silent some = refl
+
+pub empty-at-rest : (r : Relay) (stream : OwnStream) → SilentIn r.line r → IsResting r stream
+    → stream.paused ≡ false → r.held.waiting ≡ []
+empty-at-rest r stream silent rests going = by_held r.held.waiting refl
+  where
+    by_held : (held : List ℕ) → r.held.waiting ≡ held → held ≡ []
+    by_held [] e = refl
+    by_held (byte ∷ held) e =
+        let some : 0 < length r.held.waiting = omega (arith, ap length e) in
+        let is : IsTrue (is_stuck r.line r.held.waiting) =
+        subst (λ h. IsTrue (is_stuck r.line h)) (sym e) (stuck r.line r silent some) in
+        true_or (byte ∷ held ≡ []) stream.paused going (rests.paused is)

@@ -1,11 +1,11 @@
 -- What more bytes are to a dialog.
-use Rattle.std.specs.Prelude.{◌≡◌, ◌≢◌, ◌≤◌, ℕ, List, [], ◌++◌, length, drop, slice_index, Option, Some, None}
+use Rattle.std.specs.Prelude.{◌≡◌, ◌≤◌, ℕ, List, [], ◌++◌, length, drop, slice_index, Option, Some, None}
 use Rattle.std.specs.List.{concat}
 use Rattle.proxy_frames.specs.Queued.{with_bytes}
 use Rattle.proxy_frames.specs.State.{QueueState}
 use Rattle.socks_dialog.specs.Replies.{granted_to, refused_to}
 use Rattle.socks_dialog.specs.State.{State, step_to}
-use Rattle.socks_dialog.specs.declared.outcome.Outcome.TheVariants.{Wants, Connects}
+use Rattle.socks_dialog.specs.declared.outcome.Outcome.TheVariants.{Wants, Connects, Breaks}
 use Rattle.socks_dialog.specs.declared.step.Step.{Step}
 use Rattle.socks_dialog.specs.declared.step.Step.TheVariants as step
 use Rattle.house_relay.specs.Acts.{Unanswered, outcome_in, before_in, behind_in, replies_in}
@@ -48,7 +48,7 @@ CameTo Nothing bytes new =
     (outcome_in bytes ≡ Wants) × (new.bytes ≡ bytes) × (new.given ≡ length (before_in bytes))
 CameTo (Connect host port version) bytes new =
     (outcome_in bytes ≡ Connects host port) × (version ≡ slice_index bytes 0)
-CameTo Fault bytes new = outcome_in bytes ≢ Wants
+CameTo Fault bytes new = (reply : List ℕ) × (outcome_in bytes ≡ Breaks reply)
 
 -- more bytes were heard: what it comes to is that, all bytes but so many of them are behind it, and as
 -- many bytes wait in the queue as there are more of its replies

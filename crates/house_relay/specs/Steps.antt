@@ -1,7 +1,10 @@
 -- What each call leaves of a relay.
-use Rattle.std.specs.Prelude.{◌-◌, ℕ, Bool, true, false, List, length, Option, Some, None, if◌then◌else◌}
+use Rattle.std.specs.Prelude.{◌≡◌, ℕ, Bool, true, false, List, ◌++◌, length, Option, Some, None}
 use Rattle.proxy_frames.specs.Queued.{with_bytes, without_first}
-use Rattle.house_relay.specs.Dialing.{grant_of, refusal_of}
+use Rattle.socks_dialog.specs.declared.outcome.Outcome.{Outcome}
+use Rattle.socks_dialog.specs.declared.outcome.Outcome.TheVariants.{Wants, Connects, Breaks}
+use Rattle.house_relay.specs.Acts.{outcome_in}
+use Rattle.house_relay.specs.Dialing.{IsReading, grant_of, refusal_of}
 use Rattle.house_relay.specs.Line.{in_live, fresh_live, closes, answers, sends, ends, grants, hears_room, hears_eof, hears_close, hears_request, takes_in}
 use Rattle.house_relay.specs.declared.line.Live.{Live as LiveState}
 use Rattle.house_relay.specs.declared.line.Line.{Line}
@@ -129,3 +132,49 @@ surplus_of socket.Unmade = socket.Unmade
 surplus_of (socket.Failed stream) = socket.Surplus stream
 surplus_of (socket.Surplus stream) = socket.Surplus stream
 surplus_of socket.Closed = socket.Closed
+
+-- ---- a dialog
+
+abbrev pub IsToDial : Line → Type 0
+IsToDial (Dialing dialog) = Unit {0}
+IsToDial (Asked host port version) = ⊥
+IsToDial (Opened version) = ⊥
+IsToDial (Offered remote window maximum) = ⊥
+IsToDial (Live live) = ⊥
+IsToDial Over = ⊥
+
+-- an OPEN to this end is to be said
+abbrev pub IsAskedFor : List ℕ → ℕ → Line → Type 0
+IsAskedFor host port (Dialing dialog) = ⊥
+IsAskedFor host port (Asked host' port' version) = (host' ≡ host) × (port' ≡ port)
+IsAskedFor host port (Opened version) = ⊥
+IsAskedFor host port (Offered remote window maximum) = ⊥
+IsAskedFor host port (Live live) = ⊥
+IsAskedFor host port Over = ⊥
+
+-- it goes on while the dialog wants more bytes; where that asks for an end, it is asked for in a channel,
+-- if one is free; and where it breaks, nothing more comes of it
+abbrev pub ComesOf : Outcome → Bool → Relay → Relay → Type 0
+ComesOf Wants free old new = IsToDial new.line × (new.socket ≡ old.socket)
+ComesOf (Connects host port) true old new =
+    IsAskedFor host port new.line × (new.socket ≡ old.socket)
+ComesOf (Connects host port) false old new =
+    (new.line ≡ Over) × (new.socket ≡ surplus_of old.socket)
+ComesOf (Breaks reply) free old new = (new.line ≡ Over) × (new.socket ≡ old.socket)
+
+-- nothing but what is held changed
+abbrev pub SameChannel : Relay → Relay → Type 0
+SameChannel old new = (new.line ≡ old.line) × (new.socket ≡ old.socket) × (new.queue ≡ old.queue)
+
+-- bytes go into the dialog that is read, and where none is they change nothing of the channel
+abbrev pub DialsIn : Line → Bool → List ℕ → Relay → Relay → Type 0
+DialsIn (Dialing dialog) free bytes old new =
+    IsReading dialog → ComesOf (outcome_in (dialog.bytes ++ bytes)) free old new
+DialsIn (Asked host port version) free bytes old new = SameChannel old new
+DialsIn (Opened version) free bytes old new = SameChannel old new
+DialsIn (Offered remote window maximum) free bytes old new = SameChannel old new
+DialsIn (Live live) free bytes old new = SameChannel old new
+DialsIn Over free bytes old new = SameChannel old new
+
+abbrev pub Dials : Bool → List ℕ → Relay → Relay → Type 0
+Dials free bytes old new = DialsIn old.line free bytes old new

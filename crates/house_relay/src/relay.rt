@@ -4,7 +4,7 @@ ghost use Rattle.house_relay.specs.Acts.{Act, Reads, Ends, Takes, Fails, Confirm
 ghost use Rattle.house_relay.specs.Next.{says_of, says_offered, says_live, orders_of};
 ghost use Rattle.house_relay.specs.Relay.{Stands, GoesOn, IsSaying, said_act, SilentIn, is_broken, is_finished, stream_of, delivers, IsOffered, OrdersRight, IsResting, is_stuck, heard_in, answered_in, MayRead, holding};
 ghost use Rattle.house_relay.specs.Line.{owed_in};
-ghost use Rattle.house_relay.specs.Steps.{said_of, made_as, connected, failing, taken_of, confirmed_in, refused_in, on_line, room_heard, eof_heard, close_heard, request_heard, data_heard};
+ghost use Rattle.house_relay.specs.Steps.{said_of, made_as, connected, failing, taken_of, confirmed_in, refused_in, on_line, room_heard, eof_heard, close_heard, request_heard, data_heard, surplus_of, Dials};
 
 use crate::MAXIMUM;
 use crate::dialing::{Came, Heard, grant, hear, refuse};
@@ -397,6 +397,13 @@ impl Relay {
     pub fn got(&mut self, alloc: Global, bytes: &[u8], free: bool) -> Result<(), OutOfMemory>
         ensures stands { OnOk result
             (MayRead bytes.now self.old → GoesOn self.old self.new (Reads bytes.now)) }
+        ensures dials { OnOk result (Dials free bytes.now self.old self.new) }
+        ensures others { OnOk result (self.new ≡ record self.old {
+          line = self.new.line;
+          socket = self.new.socket;
+          held = self.new.held;
+          queue = self.new.queue;
+        }) }
     {
         let count = self.dials(alloc, bytes, free)?;
         self.held.push_bytes(&bytes[count..])
@@ -407,6 +414,12 @@ impl Relay {
         ensures within { IfOk result (λ count. count ≤ length bytes.now) }
         ensures stands { IfOk result (λ count. MayRead bytes.now self.old
             → GoesOn self.old (holding (drop count bytes.now) self.new) (Reads bytes.now)) }
+        ensures dials { OnOk result (Dials free bytes.now self.old self.new) }
+        ensures others { OnOk result (self.new ≡ record self.old {
+          line = self.new.line;
+          socket = self.new.socket;
+          queue = self.new.queue;
+        }) }
     {
         let Line::Dialing(dialog) = &mut self.line else {
             return Ok(0);
@@ -431,6 +444,8 @@ impl Relay {
     fn asks(&mut self, host: Text, port: u32, version: u8, free: bool)
         ensures line { self.new.line
             ≡ (if free then Line.Asked host port (Some version) else Line.Over) }
+        ensures socket { self.new.socket
+            ≡ (if free then self.old.socket else surplus_of self.old.socket) }
         ensures others { self.new
             ≡ record self.old { line = self.new.line; socket = self.new.socket } }
     {
