@@ -23,3 +23,5 @@ mod lines;
 mod messages;
 #[cfg(test)]
 mod transcripts;
+#[cfg(test)]
+mod relays;
