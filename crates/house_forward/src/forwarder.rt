@@ -10,7 +10,7 @@ use crate::forwarding::Request;
 use crate::forwardings::{Forwardings, ListenerOrder};
 use crate::hearing::{Offer, hear};
 use crate::relays::Relays;
-use crate::rules::{self, ends_of, of_client};
+use crate::rules::{self, Kind, ends_of, of_client};
 use crate::saying;
 use house_relay::{Line, Relay, Saying};
 use mux_outside::{
@@ -139,7 +139,7 @@ impl<N: Notes + Drop> Forwarder<N> {
     /// Writes what a relay says.
     fn payload_of(&self, relay: &Relay, saying: Saying) -> Result<Vec<u8>, OutOfMemory> {
         match &relay.line {
-            Line::Asked { host, port } => {
+            Line::Asked { host, port, .. } => {
                 saying::open(self.alloc, relay.number, host.as_bytes(), *port)
             }
             Line::Offered { remote, .. } => match saying {
@@ -152,7 +152,7 @@ impl<N: Notes + Drop> Forwarder<N> {
                 live.remote,
                 relay.held.front(),
             ),
-            Line::Opened | Line::Over => Err(OutOfMemory),
+            Line::Dialing(_) | Line::Opened { .. } | Line::Over => Err(OutOfMemory),
         }
     }
 
@@ -333,10 +333,13 @@ impl<N: Notes + Drop> Forwarder<N> {
     {
         let number = self.relays.free_number().ok_or(OutOfMemory)?;
         let relay = match self.forwardings.of_listener(listener) {
-            Some(f) if !self.relays.is_full() => {
-                let host = Text::copy(self.alloc, f.connect_host.as_bytes())?;
-                Relay::joined(self.alloc, number, stream, host, f.connect_port)
-            }
+            Some(f) if !self.relays.is_full() => match f.kind {
+                Kind::Dynamic => Relay::dynamic(self.alloc, number, stream),
+                Kind::Local | Kind::Remote => {
+                    let host = Text::copy(self.alloc, f.connect_host.as_bytes())?;
+                    Relay::joined(self.alloc, number, stream, host, f.connect_port)
+                }
+            },
             _ => Relay::surplus(self.alloc, number, stream),
         };
         self.relays.push(relay)?;
@@ -571,7 +574,7 @@ impl<N: Notes + Drop> House for Forwarder<N> {
     fn turn(&mut self, t: OwnTurn<'_>) -> Result<(), OutOfMemory> {
         match t {
             OwnTurn::Joined { listener, stream } => self.joined(listener, stream)?,
-            OwnTurn::Got(stream, bytes) => self.relays.got(stream, bytes)?,
+            OwnTurn::Got(stream, bytes) => self.relays.got(self.alloc, stream, bytes)?,
             OwnTurn::End(stream) => {
                 self.set_ended(stream);
                 self.relays.ends(stream);

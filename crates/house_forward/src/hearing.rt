@@ -90,8 +90,8 @@ fn hear_in(relay: &mut Relay, message: &Message<'_>) -> Result<(), OutOfMemory> 
             window,
             maximum,
             ..
-        } => relay.confirmed(*sender, *window, *maximum),
-        Message::OpenFailure { .. } => relay.refused(),
+        } => relay.confirmed(*sender, *window, *maximum)?,
+        Message::OpenFailure { reason, .. } => relay.refused(*reason)?,
         Message::Adjust { add, .. } => relay.hears_room(*add),
         Message::Data { bytes, .. } => {
             relay.hears_data(bytes)?;

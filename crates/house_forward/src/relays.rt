@@ -78,10 +78,11 @@ impl Relays {
     }
 
     /// The socket of a stream gave bytes.
-    pub fn got(&mut self, stream: u64, bytes: &[u8]) -> Result<(), OutOfMemory> {
+    pub fn got(&mut self, alloc: Global, stream: u64, bytes: &[u8]) -> Result<(), OutOfMemory> {
+        let free = !self.is_full();
         if let Some(i) = self.by_stream(stream) {
             if let Some(relay) = self.all.get_mut(i) {
-                relay.got(bytes)?;
+                relay.got(alloc, bytes, free)?;
             }
         }
         Ok(())
