@@ -108,7 +108,7 @@ const OFFERED: [Row; 3] = [
     (&[Made(false)], b"|open failure;"),
 ];
 
-/// The replies that grant and refuse what a dialog asks for.
+/// A socket that was joined for a dynamic forwarding: it begins with a dialog.
 const DIALED: [Row; 10] = [
     // SOCKS 5 in pieces, with bytes behind the request in its piece.
     (

@@ -99,7 +99,9 @@ impl<N: Notes + Drop> Forwarder<N> {
           notes = self.new.notes;
           listeners = self.new.listeners;
           streams = self.new.streams;
+          relays = self.new.relays;
         } }
+        ensures relays { self.new.relays.all ≡ self.old.relays.all }
     {
         let offers = self.offers.len().saturating_add(1);
         let streams = self.streams.len().saturating_add(offers).saturating_mul(4);
@@ -110,6 +112,7 @@ impl<N: Notes + Drop> Forwarder<N> {
         self.notes.room(marks.saturating_add(more))?;
         self.listeners.reserve(forwardings)?;
         self.streams.reserve(offers)?;
+        self.relays.reserve(offers)?;
         Ok(())
     }
 
@@ -165,7 +168,7 @@ impl<N: Notes + Drop> Forwarder<N> {
         } }
         ensures fits { SaysFits result into.new }
         ensures exact { OnOk result (says_nothing result
-            ≡ says_none self.old.greeted self.old.forwardings.all.items self.old.relays.all.items) }
+            ≡ says_none self.old.greeted self.old.forwardings.all.items self.old.relays) }
         ensures silent { result ≡ Ok false → self.new ≡ self.old }
     {
         if !self.greeted {
@@ -192,14 +195,14 @@ impl<N: Notes + Drop> Forwarder<N> {
             self.forwardings.said(request)?;
             return Ok(true);
         }
-        let Some((i, saying)) = self.relays.next_saying() else {
+        let Some((number, saying)) = self.relays.next_saying() else {
             return Ok(false);
         };
-        let relay = self.relays.get(i).ok_or(OutOfMemory)?;
+        let relay = self.relays.get(number).ok_or(OutOfMemory)?;
         let payload = self.payload_of(relay, saying)?;
         saying::put_frame(self.alloc, into, &payload)?;
-        self.relays.said(i, saying);
-        self.relays.sweep();
+        self.relays.said(number, saying);
+        self.relays.forget(number);
         Ok(true)
     }
 
@@ -231,13 +234,8 @@ impl<N: Notes + Drop> Forwarder<N> {
             Order::Finish(stream) => self.set_finished(*stream),
             Order::Close(stream) => {
                 let stream = *stream;
-                if let Some(i) = self.relays.by_stream(stream) {
-                    if let Some(relay) = self.relays.get_mut(i) {
-                        relay.closed();
-                    }
-                }
+                self.relays.closed(stream);
                 self.streams.retain(|s| s.number != stream);
-                self.relays.sweep();
             }
             Order::Listen { .. } | Order::Connect { .. } => {}
         }
@@ -405,12 +403,12 @@ impl<N: Notes + Drop> House for Forwarder<N> {
         f.ordering };
 
     ghost quiet = { λ f. record {
-      says = says_none f.greeted f.forwardings.all.items f.relays.all.items;
+      says = says_none f.greeted f.forwardings.all.items f.relays;
       orders = true;
       answers = true;
     } };
 
-    ghost queue = { λ f t. queue_at f.streams.items f.relays.all.items t };
+    ghost queue = { λ f t. queue_at f.streams.items f.relays t };
 
     ghost refused = { λ f. f.forwardings.refused };
 
@@ -502,7 +500,6 @@ impl<N: Notes + Drop> House for Forwarder<N> {
                 Next::More | Next::Bad(_) => break,
             }
         }
-        self.relays.sweep();
         self.make_room(1)?;
         self.notes.note(HouseMark::HouseTook(bytes.len()));
         Ok(())
@@ -556,11 +553,7 @@ impl<N: Notes + Drop> House for Forwarder<N> {
                 if let Some(stream) = number {
                     self.streams.push_reserved(OwnStream::new(stream));
                 }
-                if let Some(i) = self.relays.unmade(channel) {
-                    if let Some(relay) = self.relays.get_mut(i) {
-                        relay.made(number);
-                    }
-                }
+                self.relays.made(channel, number);
                 mark
             }
         };
