@@ -11,7 +11,7 @@ use Rattle.house_relay.specs.Line.{fresh_live}
 use Rattle.house_relay.specs.Relay.{Stands, LineStands, IsOpened, WaitsFor}
 use Rattle.house_relay.specs.declared.line.Line.TheVariants.{Opened, Live, Over}
 use Rattle.house_relay.specs.declared.relay.Relay.{Relay}
-use Rattle.house_relay.proofs.Readings.{settled-waits}
+use Rattle.house_relay.proofs.Readings.{settled-waits, asked-waits}
 
 -- the last reply by an answer
 abbrev reply_of : Option ℕ → Answer → List ℕ
@@ -125,6 +125,7 @@ confirms r version remote window maximum dials acts is s =
         owed = λ f. omega arith;
         most = omega arith;
         settled = settled-waits version o.host o.port dials acts o.waits;
+        asked = asked-waits version o.host o.port dials acts o.waits;
       };
     })
 

@@ -1,9 +1,8 @@
 -- What becomes of a relay by what its dialog comes to.
-use Rattle.std.proofs.Common.{◌≡◌, ◌⊎◌, inl, inr, ◌∙◌, refl, sym, ap, subst, ℕ, Bool, true, false, List, ◌++◌, Option, Some, if◌then◌else◌}
+use Rattle.std.proofs.Common.{◌≡◌, ◌⊎◌, inl, inr, refl, sym, subst, ℕ, Bool, true, false, List, ◌++◌, Some, if◌then◌else◌}
 use Rattle.proxy_frames.specs.State.{QueueState}
 use Rattle.socks_dialog.specs.State.{State}
 use Rattle.socks_dialog.specs.declared.outcome.Outcome.{Outcome}
-use Rattle.socks_dialog.specs.declared.outcome.Outcome.TheVariants.{Wants, Connects, Breaks}
 use Rattle.house_relay.specs.Acts.{outcome_in}
 use Rattle.house_relay.specs.Dialing.{CameTo, IsHeard, IsReading}
 use Rattle.house_relay.specs.Steps.{IsToDial, IsAskedFor, ComesOf, DialsIn, surplus_of}

@@ -1,5 +1,5 @@
 -- A socket gives bytes: to a dialog, or to a channel.
-use Rattle.std.proofs.Common.{◌≡◌, ◌≢◌, ◌⊎◌, inl, inr, ◌∙◌, refl, sym, ap, subst, arith, ℕ, ◌+◌, ◌-◌, ◌≤◌, Bool, true, false, List, [], ◌∷◌, ◌++◌, length, drop, append_assoc, length-append, length-drop, IsTrue, Option, Some, None}
+use Rattle.std.proofs.Common.{◌≡◌, ◌≢◌, inl, inr, ◌∙◌, refl, sym, ap, subst, arith, ℕ, ◌+◌, ◌-◌, ◌≤◌, Bool, true, false, List, [], ◌∷◌, ◌++◌, length, drop, append_assoc, length-append, length-drop, IsTrue, Option, Some, None}
 use Rattle.std.specs.Prelude.{slice_index}
 use Rattle.std.proofs.lemmas.List.{append-nil}
 use Rattle.std.specs.List.{concat}
@@ -7,13 +7,13 @@ use Rattle.proxy_frames.specs.State.{QueueState}
 use Rattle.mux_outside.specs.declared.piece.TheConstants.{LONGEST_PIECE}
 use Rattle.socks_dialog.specs.Laws.{followed}
 use Rattle.socks_dialog.specs.Socks.{Dialog, socks}
-use Rattle.socks_dialog.specs.State.{State}
+use Rattle.socks_dialog.specs.State.{State, IsConnect}
 use Rattle.socks_dialog.specs.declared.outcome.Outcome.{Outcome}
 use Rattle.socks_dialog.specs.declared.outcome.Outcome.TheVariants.{Wants, Connects, Breaks}
 use Rattle.socks_dialog.proofs.Dialogs.{socks-parse}
 use Rattle.house_relay.specs.Acts.{Act, Reads, Answer, Unanswered, answer, read, sent, delivered, taken, adjusted, has_ended, said_eof, outcome_in, before_in, behind_in, last_reply, replies_in, replies_if, replies, behind_if}
 use Rattle.house_relay.specs.Dialing.{CameTo, IsHeard, IsReading}
-use Rattle.house_relay.specs.Relay.{Stands, LineStands, IsDialing, IsSettled, WaitsFor, NothingYet, MayRead, holding}
+use Rattle.house_relay.specs.Relay.{Stands, LineStands, IsDialing, IsSettled, HasAsked, WaitsFor, NothingYet, MayRead, holding}
 use Rattle.house_relay.specs.declared.dialing.Came.{Came}
 use Rattle.house_relay.specs.declared.dialing.Came.TheVariants.{Nothing, Connect, Fault}
 use Rattle.house_relay.specs.declared.dialing.Heard.{Heard}
@@ -45,6 +45,18 @@ pub settled-waits : (version : Option ℕ) (host : List ℕ) (port : ℕ) (dials
 settled-waits version host port false acts s = tt
 settled-waits None host port true acts s = true_is (IsSettled true (read acts)) s
 settled-waits (Some version) host port true acts s = no_connects (outcome_in (read acts)) host port s.2
+
+-- a channel of a dialog has its end
+pub asked-waits : (version : Option ℕ) (host : List ℕ) (port : ℕ) (dials : Bool) (acts : List Act)
+    → WaitsFor version (Connects host port) dials acts → HasAsked dials (read acts)
+asked-waits version host port false acts s = tt
+asked-waits None host port true acts s = true_is (HasAsked true (read acts)) s
+asked-waits (Some version) host port true acts s = subst IsConnect (sym s.2) tt
+
+asked-more : (dials : Bool) (bytes piece : List ℕ) → (dials ≡ true → outcome_in (bytes ++ piece) ≡ outcome_in bytes)
+    → HasAsked dials bytes → HasAsked dials (bytes ++ piece)
+asked-more false bytes piece same s = tt
+asked-more true bytes piece same s = subst IsConnect (sym (same refl)) s
 
 settled-in : (line : Line) (dials : Bool) (acts : List Act) → ((dialog : State) → line ≡ Dialing dialog → ⊥)
     → LineStands line dials acts → IsSettled dials (read acts)
@@ -147,6 +159,7 @@ line-more (Live live) dials acts piece same settled other s =
       owed = λ f. s.owed f ∙ ap (λ n. taken acts - n) (sym sizes);
       most = subst (λ n. adjusted acts ≤ taken acts - n) (sym sizes) s.most;
       settled = settled-more dials (read acts) piece same settled;
+      asked = asked-more dials (read acts) piece same.outcome s.asked;
     }
 line-more Over dials acts piece same settled other s =
     let sizes : length (replies dials (Reads piece ∷ acts)) ≡ length (replies dials acts) =

@@ -29,6 +29,7 @@ live-takes live n dials acts s = by_case live.close_said refl
       owed = λ f. let z : true ≡ false = sym e ∙ f in cc;
       most = let m : adjusted acts ≤ taken_data dials acts = s.most in omega arith;
       settled = s.settled;
+      asked = s.asked;
     }
     by_case false e = record {
       eof_said = s.eof_said;
@@ -42,6 +43,7 @@ live-takes live n dials acts s = by_case live.close_said refl
           omega arith;
       most = let m : adjusted acts ≤ taken_data dials acts = s.most in omega arith;
       settled = s.settled;
+      asked = s.asked;
     }
 
 -- before the OPEN is answered no more than the replies is taken

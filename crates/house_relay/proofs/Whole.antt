@@ -10,6 +10,7 @@ use Rattle.house_relay.specs.Relay.{Stands, Keeps, OwesRight, AsksRight, SilentI
 use Rattle.mux_outside.specs.declared.piece.TheConstants.{LONGEST_PIECE}
 use Rattle.socks_dialog.specs.declared.outcome.Outcome.TheVariants.{Connects}
 use Rattle.house_relay.specs.declared.line.Line.{Line}
+use Rattle.house_relay.proofs.Readings.{asked-waits}
 use Rattle.house_relay.specs.declared.line.Line.TheVariants.{Dialing, Asked, Opened, Offered, Live, Over}
 use Rattle.house_relay.specs.declared.relay.Relay.{Relay}
 
@@ -63,10 +64,10 @@ asks-end (Some version) host port dials acts s e = s.2
 asks : (line : Line) (dials : Bool) (acts : List Act) → LineStands line dials acts → AsksRight line dials acts
 asks (Dialing dialog) dials acts s = s.wants
 asks (Asked host port version) dials acts s = asks-end version host port dials acts s.waits
-asks (Opened version) dials acts s = tt
-asks (Offered remote window maximum) dials acts s = tt
-asks (Live live) dials acts s = tt
-asks Over dials acts s = tt
+asks (Opened version) dials acts s = asked-waits version s.host s.port dials acts s.waits
+asks (Offered remote window maximum) dials acts s = s.plain
+asks (Live live) dials acts s = s.asked
+asks Over dials acts s = s.settled
 
 pub relays : (dials : Bool) (acts : List Act) (r : Relay) → Stands dials acts r → Relays dials acts
 relays dials acts r s = record {

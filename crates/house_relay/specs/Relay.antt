@@ -9,7 +9,7 @@ use Rattle.mux_outside.specs.declared.order.Order.TheVariants as close
 use Rattle.mux_outside.specs.declared.own_streams.OwnStream.{OwnStream}
 use Rattle.mux_outside.specs.declared.piece.TheConstants.{LONGEST_PIECE}
 use Rattle.proxy_frames.specs.Queued.{with_bytes}
-use Rattle.socks_dialog.specs.State.{State}
+use Rattle.socks_dialog.specs.State.{State, IsConnect}
 use Rattle.socks_dialog.specs.declared.outcome.Outcome.{Outcome}
 use Rattle.socks_dialog.specs.declared.outcome.Outcome.TheVariants.{Wants, Connects}
 use Rattle.house_relay.specs.Line.{takes, has_no_more, hears_end}
@@ -166,6 +166,11 @@ abbrev pub IsSettled : Bool → List ℕ → Type 0
 IsSettled false bytes = Unit {0}
 IsSettled true bytes = outcome_in bytes ≢ Wants
 
+-- a dialog, if there is one, asked for an end
+abbrev pub HasAsked : Bool → List ℕ → Type 0
+HasAsked false bytes = Unit {0}
+HasAsked true bytes = IsConnect (outcome_in bytes)
+
 -- what a channel that is confirmed keeps: what was said and heard, and, until CLOSE is said, how many
 -- bytes of replies wait, and how much room is to be given back
 pub record IsLive (live : LiveState) (dials : Bool) (acts : List Act) : Type 0 where
@@ -177,6 +182,7 @@ pub record IsLive (live : LiveState) (dials : Bool) (acts : List Act) : Type 0 w
   pub owed : live.close_said ≡ false → adjusted acts + live.owed ≡ taken_data dials acts
   pub most : adjusted acts ≤ taken_data dials acts
   pub settled : IsSettled dials (read acts)
+  pub asked : HasAsked dials (read acts)
 
 -- what is left of a channel that has ended
 pub record IsOver (dials : Bool) (acts : List Act) : Type 0 where
@@ -292,7 +298,7 @@ pub record IsResting (r : Relay) (stream : OwnStream) : Type 0 where
 
 -- what a relay keeps is what is left: of the bytes for the channel those not sent, and of the bytes for
 -- the socket those not taken; and, until CLOSE is said, what it owes is the room that wasn't given
--- back. The end of an OPEN that is to be said is that of the dialog, if there is one
+-- back
 abbrev pub OwesRight : Line → Bool → List Act → Type 0
 OwesRight (Dialing dialog) dials acts = Unit {0}
 OwesRight (Asked host port version) dials acts = Unit {0}
@@ -302,14 +308,16 @@ OwesRight (Live live) dials acts =
     said_close acts ≡ false → live.owed ≡ 0 → adjusted acts ≡ taken_data dials acts
 OwesRight Over dials acts = Unit {0}
 
+-- a channel is that of a dialog that asked for its end, if there is a dialog; one that wants more bytes
+-- is read, and behind one that broke it is over
 abbrev pub AsksRight : Line → Bool → List Act → Type 0
 AsksRight (Dialing dialog) dials acts = outcome_in (read acts) ≡ Wants
 AsksRight (Asked host port version) dials acts =
     dials ≡ true → outcome_in (read acts) ≡ Connects host port
-AsksRight (Opened version) dials acts = Unit {0}
-AsksRight (Offered remote window maximum) dials acts = Unit {0}
-AsksRight (Live live) dials acts = Unit {0}
-AsksRight Over dials acts = Unit {0}
+AsksRight (Opened version) dials acts = HasAsked dials (read acts)
+AsksRight (Offered remote window maximum) dials acts = dials ≡ false
+AsksRight (Live live) dials acts = HasAsked dials (read acts)
+AsksRight Over dials acts = IsSettled dials (read acts)
 
 pub record Keeps (dials : Bool) (acts : List Act) (r : Relay) : Type 0 where
   pub holds : r.held.waiting ≡ held dials acts

@@ -1,12 +1,11 @@
 -- What each call leaves of a relay.
-use Rattle.std.specs.Prelude.{◌≡◌, ℕ, Bool, true, false, List, ◌++◌, length, Option, Some, None}
-use Rattle.proxy_frames.specs.Queued.{with_bytes, without_first}
+use Rattle.std.specs.Prelude.{◌≡◌, ◌&&◌, ℕ, Bool, true, false, not, List, ◌++◌, length, Option, Some, None}
+use Rattle.proxy_frames.specs.Queued.{empty_queue, with_bytes, without_first}
 use Rattle.socks_dialog.specs.declared.outcome.Outcome.{Outcome}
 use Rattle.socks_dialog.specs.declared.outcome.Outcome.TheVariants.{Wants, Connects, Breaks}
 use Rattle.house_relay.specs.Acts.{outcome_in}
 use Rattle.house_relay.specs.Dialing.{IsReading, grant_of, refusal_of}
-use Rattle.house_relay.specs.Line.{in_live, fresh_live, closes, answers, sends, ends, grants, hears_room, hears_eof, hears_close, hears_request, takes_in}
-use Rattle.house_relay.specs.declared.line.Live.{Live as LiveState}
+use Rattle.house_relay.specs.Line.{counts, in_live, fresh_live, closes, answers, sends, ends, grants, hears_room, hears_eof, hears_close, hears_request, takes_in}
 use Rattle.house_relay.specs.declared.line.Line.{Line}
 use Rattle.house_relay.specs.declared.line.Line.TheVariants.{Dialing, Asked, Opened, Offered, Live, Over}
 use Rattle.house_relay.specs.declared.relay.Relay.{Relay}
@@ -14,6 +13,29 @@ use Rattle.house_relay.specs.declared.relay.Saying.{Saying}
 use Rattle.house_relay.specs.declared.relay.Saying.TheVariants.{Open, Confirmation, OpenFailure, Close, Failure, Data, Eof, Adjust}
 use Rattle.house_relay.specs.declared.relay.Socket.{Socket}
 use Rattle.house_relay.specs.declared.relay.Socket.TheVariants as socket
+
+-- a relay in which nothing happened yet
+abbrev pub fresh_relay : ℕ → Line → Socket → Relay
+fresh_relay number line socket = record {
+  number = number;
+  line = line;
+  socket = socket;
+  ended = false;
+  held = empty_queue;
+  queue = empty_queue;
+}
+
+-- whether nothing is left of it
+abbrev pub is_closed : Socket → Bool
+is_closed (socket.Connecting stream) = false
+is_closed (socket.Open stream) = false
+is_closed socket.Unmade = false
+is_closed (socket.Failed stream) = false
+is_closed (socket.Surplus stream) = false
+is_closed socket.Closed = true
+
+abbrev pub is_gone : Relay → Bool
+is_gone r = is_closed r.socket && not (counts r.line)
 
 -- ---- the channel
 

@@ -4,7 +4,9 @@ ghost use Rattle.house_relay.specs.Acts.{Act, Reads, Ends, Takes, Fails, Confirm
 ghost use Rattle.house_relay.specs.Next.{says_of, says_offered, says_live, orders_of};
 ghost use Rattle.house_relay.specs.Relay.{Stands, GoesOn, IsSaying, said_act, SilentIn, is_broken, is_finished, stream_of, delivers, IsOffered, OrdersRight, IsResting, is_stuck, heard_in, answered_in, MayRead, holding};
 ghost use Rattle.house_relay.specs.Line.{owed_in};
-ghost use Rattle.house_relay.specs.Steps.{said_of, made_as, connected, failing, taken_of, confirmed_in, refused_in, on_line, room_heard, eof_heard, close_heard, request_heard, data_heard, surplus_of, Dials};
+ghost use Rattle.house_relay.specs.Steps.{said_of, made_as, connected, failing, taken_of, confirmed_in, refused_in, on_line, room_heard, eof_heard, close_heard, request_heard, data_heard, surplus_of, Dials, fresh_relay, is_gone};
+ghost use Rattle.proxy_frames.specs.Queued.{without_first};
+ghost use Rattle.socks_dialog.specs.State.{new_dialog};
 
 use crate::MAXIMUM;
 use crate::dialing::{Came, Heard, grant, hear, refuse};
@@ -65,11 +67,7 @@ pub struct Relay {
 impl Relay {
     /// A relay in which nothing happened yet.
     fn begun(alloc: Global, number: u32, line: Line, socket: Socket) -> Relay
-        ensures line { result.line ≡ line }
-        ensures socket { result.socket ≡ socket }
-        ensures ended { result.ended ≡ false }
-        ensures held { result.held.waiting ≡ [] }
-        ensures queue { result.queue.waiting ≡ [] }
+        ensures { result ≡ fresh_relay number line socket }
     {
         Relay {
             number,
@@ -84,7 +82,8 @@ impl Relay {
     /// A socket that was joined, and is to be a channel to this end.
     pub fn joined(alloc: Global, number: u32, stream: u64, host: Text, port: u32) -> Relay
         ensures stands { Stands false [] result }
-        ensures asks { result.line ≡ Line.Asked host port None }
+        ensures exact { result
+            ≡ fresh_relay number (Line.Asked host port None) (Socket.Open stream) }
     {
         Relay::begun(
             alloc,
@@ -101,6 +100,8 @@ impl Relay {
     /// A socket that was joined, whose client says in a dialog to which end the channel is to be.
     pub fn dynamic(alloc: Global, number: u32, stream: u64) -> Relay
         ensures stands { Stands true [] result }
+        ensures exact { result
+            ≡ fresh_relay number (Line.Dialing new_dialog) (Socket.Open stream) }
     {
         Relay::begun(
             alloc,
@@ -113,6 +114,7 @@ impl Relay {
     /// A socket that was joined, and for which there is no channel.
     pub fn surplus(alloc: Global, number: u32, stream: u64) -> Relay
         ensures stands { Stands false [] result }
+        ensures exact { result ≡ fresh_relay number Line.Over (Socket.Surplus stream) }
     {
         Relay::begun(alloc, number, Line::Over, Socket::Surplus(stream))
     }
@@ -120,6 +122,8 @@ impl Relay {
     /// An OPEN of the server, for which a socket is to be connected.
     pub fn offered(alloc: Global, number: u32, remote: u32, window: u32, maximum: u32) -> Relay
         ensures stands { Stands false [] result }
+        ensures exact { result
+            ≡ fresh_relay number (Line.Offered remote window maximum) Socket.Unmade }
     {
         Relay::begun(
             alloc,
@@ -147,8 +151,17 @@ impl Relay {
     }
 
     /// Whether nothing is left of it.
-    pub fn is_gone(&self) -> bool {
-        self.socket == Socket::Closed && !self.line.counts()
+    pub fn is_gone(&self) -> bool
+        ensures { result ≡ is_gone self.now }
+    {
+        match self.socket {
+            Socket::Closed => !self.line.counts(),
+            Socket::Unmade
+            | Socket::Connecting(_)
+            | Socket::Open(_)
+            | Socket::Failed(_)
+            | Socket::Surplus(_) => false,
+        }
     }
 
     /// Whether its socket failed, or couldn't be made, or is closed.
@@ -497,6 +510,10 @@ impl Relay {
         ensures stands { owed_in self.old.line + n < 2 ^ 64
             → GoesOn self.old self.new (Takes n) }
         ensures exact { owed_in self.old.line + n < 2 ^ 64 → self.new ≡ taken_of n self.old }
+        ensures others { self.new ≡ record self.old {
+          line = self.new.line;
+          queue = without_first n self.old.queue;
+        } }
     {
         self.queue.took(n);
         self.line.takes_more(n);

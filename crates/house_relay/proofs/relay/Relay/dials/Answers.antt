@@ -1,10 +1,10 @@
-use Rattle.std.proofs.Common.{◌≡◌, ◌∙◌, refl, sym, ap, subst, arith, Bool, true, false, ℕ, List, ◌∷◌, drop, Option, Some, if◌then◌else◌}
+use Rattle.std.proofs.Common.{◌≡◌, ◌∙◌, refl, sym, ap, subst, Bool, true, false, ℕ, List, ◌∷◌, drop, Some, if◌then◌else◌}
 use Rattle.socks_dialog.specs.State.{State}
 use Rattle.house_relay.specs.Acts.{Reads}
 use Rattle.house_relay.specs.Relay.{Stands, holding}
 use Rattle.house_relay.specs.Steps.{surplus_of}
 use Rattle.house_relay.specs.declared.dialing.Came.{Came}
-use Rattle.house_relay.specs.declared.dialing.Came.TheVariants.{Nothing, Connect, Fault}
+use Rattle.house_relay.specs.declared.dialing.Came.TheVariants.{Connect}
 use Rattle.house_relay.specs.declared.line.Line.{Line}
 use Rattle.house_relay.specs.declared.line.Line.TheVariants.{Dialing, Asked, Over}
 use Rattle.house_relay.specs.declared.relay.Relay.{Relay}
@@ -60,10 +60,10 @@ returns-in_ok-host-in-Connect-clause-stands c = λ may dials acts s.
     let line = c.asks.new.self.line in
     let socket = c.asks.new.self.socket in
     let sides = asked c.args.free c.in-Connect.host c.in_ok-host-in-Connect.host c.in-Connect.port c.from.result
-        c.in-Connect.version c.hear.new.dialog c.args.self.now.socket socket line c.asks.ensures.line c.asks.ensures.socket
-        (c.in_ok-host-in-Connect.ensures ∙ c.as_bytes.ensures.value) c.from.ensures in
+    c.in-Connect.version c.hear.new.dialog c.args.self.now.socket socket line c.asks.ensures.line c.asks.ensures.socket
+    (c.in_ok-host-in-Connect.ensures ∙ c.as_bytes.ensures.value) c.from.ensures in
     let after = line-of (Connect c.in-Connect.host c.in-Connect.port c.in-Connect.version) c.args.free c.hear.new.dialog
-        c.args.self.now.socket socket line sides in
+    c.args.self.now.socket socket line sides in
     subst (λ (r : Relay). Stands dials (Reads c.args.bytes.now ∷ acts) (holding (drop c.in_ok-count.field-0.count c.args.bytes.now) r))
     (sym c.asks.ensures.others)
     (reads-dialog c.args.self.now c.in-Dialing.dialog c.hear.new.dialog c.args.bytes.now c.in_ok-count.field-0
@@ -76,8 +76,8 @@ returns-in_ok-host-in-Connect-clause-dials c =
     let line = c.asks.new.self.line in
     let socket = c.asks.new.self.socket in
     let sides = asked c.args.free c.in-Connect.host c.in_ok-host-in-Connect.host c.in-Connect.port c.from.result
-        c.in-Connect.version c.hear.new.dialog c.args.self.now.socket socket line c.asks.ensures.line c.asks.ensures.socket
-        (c.in_ok-host-in-Connect.ensures ∙ c.as_bytes.ensures.value) c.from.ensures in
+    c.in-Connect.version c.hear.new.dialog c.args.self.now.socket socket line c.asks.ensures.line c.asks.ensures.socket
+    (c.in_ok-host-in-Connect.ensures ∙ c.as_bytes.ensures.value) c.from.ensures in
     comes c.in_ok-count.field-0 c.args.free c.args.bytes.now c.in-Dialing.dialog c.hear.new.dialog c.hear.new.queue
     c.args.self.now c.asks.new.self c.in-Dialing.is c.in_ok-count.ensures.heard
     (subst (λ (e : Came). SidesAfter e c.args.free c.hear.new.dialog c.args.self.now.socket line socket) (sym c.in-Connect.is) sides)
