@@ -81,9 +81,7 @@ impl Relays {
         ensures { option_copied result ≡ relay_at stream self.now.streams self.now.all }
     {
         let number = *self.streams.get(&stream)?;
-        self.all
-            .get(&number)
-            .filter(|r| r.stream() == Some(stream))
+        self.all.get(&number).filter(|r| r.stream() == Some(stream))
     }
 
     /// The relay of a stream, to change it.

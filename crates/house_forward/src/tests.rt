@@ -376,9 +376,7 @@ fn a_dialog_of_socks_5_is_granted(rt: HostRuntime) -> Result<(), Fail> {
 fn dialogs_of_socks_4_are_answered(rt: HostRuntime) -> Result<(), Fail> {
     let stream = 0x8000_0000_0000_0001;
     let mut bench = started(&rt, rt.alloc(), 3, b"", 0)?;
-    bench
-        .house
-        .turn(OwnTurn::Got(stream, b"\x04\x01\x00\x50\x0a\x00\x00\x05\x00"))?;
+    bench.house.turn(OwnTurn::Got(stream, b"\x04\x01\x00\x50\x0a\x00\x00\x05\x00"))?;
     bench.settle()?;
     assert_eq!(rt;
         bench.said.as_slice(),
@@ -397,9 +395,7 @@ fn dialogs_of_socks_4_are_answered(rt: HostRuntime) -> Result<(), Fail> {
 fn a_dialog_that_breaks_is_ended(rt: HostRuntime) -> Result<(), Fail> {
     let stream = 0x8000_0000_0000_0001;
     let mut bench = started(&rt, rt.alloc(), 3, b"", 0)?;
-    bench
-        .house
-        .turn(OwnTurn::Got(stream, b"\x05\x01\x02"))?;
+    bench.house.turn(OwnTurn::Got(stream, b"\x05\x01\x02"))?;
     bench.settle()?;
     assert_eq!(rt; bench.said.len(), 0);
     assert_eq!(rt; bench.orders.len(), 0);
