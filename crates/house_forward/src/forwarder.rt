@@ -1,9 +1,9 @@
 //! The house.
-ghost use Rattle.std.specs.Prelude.{◌≡◌, ◌≤◌, ◌++◌, ◌∷◌, ◌&&◌, not, true, [], OnOk, IfOk, IsSome, None, Ok, false};
+ghost use Rattle.std.specs.Prelude.{ℕ, ◌≡◌, ◌≤◌, ◌++◌, ◌∷◌, ◌&&◌, not, true, [], OnOk, IfOk, IsSome, None, Ok, false};
 ghost use Rattle.mux_outside.specs.House.{IsBlank, NoMark, SaysFits, says_nothing};
 ghost use Rattle.mux_outside.specs.OwnStreams.{is_one, is_finished, new_stream, with_end, end_one};
 ghost use Rattle.house_forward.specs.Known.{known_of, open_asks};
-ghost use Rattle.house_forward.specs.Relays.{queue_at, says_none};
+ghost use Rattle.house_forward.specs.Relays.{queue_at, relay_at, says_none};
 
 use crate::asks::{Asked, Asks, Outcome};
 use crate::forwarding::Request;
@@ -102,6 +102,8 @@ impl<N: Notes + Drop> Forwarder<N> {
           relays = self.new.relays;
         } }
         ensures relays { self.new.relays.all ≡ self.old.relays.all }
+        ensures at { (t : ℕ) → relay_at t self.new.relays.streams self.new.relays.all
+            ≡ relay_at t self.old.relays.streams self.old.relays.all }
     {
         let offers = self.offers.len().saturating_add(1);
         let streams = self.streams.len().saturating_add(offers).saturating_mul(4);

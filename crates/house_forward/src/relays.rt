@@ -1,5 +1,5 @@
 //! The relays of the house, by the numbers of their channels and by their streams.
-ghost use Rattle.std.specs.Prelude.{◌≡◌, is_some, IfSome, nat_eq};
+ghost use Rattle.std.specs.Prelude.{◌≡◌, ℕ, is_some, IfSome, nat_eq};
 ghost use Rattle.std.specs.Option.{option_copied};
 ghost use Rattle.std.specs.List.{list_any};
 ghost use Rattle.indexmap.specs.IndexMap.{get, values};
@@ -32,7 +32,11 @@ impl Relays {
     }
 
     /// Room for so many streams more.
-    pub fn reserve(&mut self, streams: usize) -> Result<(), OutOfMemory> {
+    pub fn reserve(&mut self, streams: usize) -> Result<(), OutOfMemory>
+        ensures all { self.new.all ≡ self.old.all }
+        ensures same { (t : ℕ) → relay_at t self.new.streams self.new.all
+            ≡ relay_at t self.old.streams self.old.all }
+    {
         self.streams.reserve(streams)?;
         Ok(())
     }
