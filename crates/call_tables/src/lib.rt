@@ -22,6 +22,6 @@ mod lines;
 #[cfg(test)]
 mod messages;
 #[cfg(test)]
-mod transcripts;
-#[cfg(test)]
 mod relays;
+#[cfg(test)]
+mod transcripts;

@@ -161,10 +161,7 @@ const DIALED: [Row; 10] = [
         b"|open db 5432;||took \x00\x5b\x00\x00\x00\x00\x00\x00;shut;",
     ),
     // A dialog that breaks: its reply first, and then the end; or the end at once.
-    (
-        &[Got(b"\x05\x01\x02"), Took(2)],
-        b"||took \x05\xff;shut;",
-    ),
+    (&[Got(b"\x05\x01\x02"), Took(2)], b"||took \x05\xff;shut;"),
     (&[Got(b"GET / HTTP/1.1")], b"|shut;"),
     // An end within a dialog.
     (
