@@ -1,7 +1,7 @@
 -- The forwardings of the house, and what comes of an ask by those that stand.
 use Rattle.std.specs.Prelude.{◌≡◌, ℕ, Bool, true, false, not, ◌&&◌, if◌then◌else◌, ◌==◌, nat_lt, List, length, filter, find, Option, Some, None}
 use Rattle.std.specs.Str.{bytes_eq}
-use Rattle.house_forward.specs.Rules.{is_local, same_kind}
+use Rattle.house_forward.specs.Rules.{listens_here, same_kind}
 use Rattle.house_forward.specs.declared.asks.Outcome.{Outcome}
 use Rattle.house_forward.specs.declared.asks.Outcome.TheVariants.{Done, Port, Refused}
 use Rattle.house_forward.specs.declared.forwarding.Forwarding.{Forwarding}
@@ -14,7 +14,7 @@ use Rattle.house_forward.specs.declared.rules.TheConstants.{MOST_FORWARDINGS}
 
 -- whether it is asked or live: one that listens here ends as it is asked to close
 abbrev pub counts : Forwarding → Bool
-counts f = not (f.closing && is_local f.kind)
+counts f = not (f.closing && listens_here f.kind)
 
 -- whether it listens where this is to listen
 abbrev pub listens_at : Ends → Forwarding → Bool

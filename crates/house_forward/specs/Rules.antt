@@ -5,12 +5,13 @@ use Rattle.mux_outside.specs.declared.starts.StartAsk.{StartAsk}
 use Rattle.house_forward.specs.declared.rules.Asked.{Asked}
 use Rattle.house_forward.specs.declared.rules.Ends.{Ends}
 use Rattle.house_forward.specs.declared.rules.Kind.{Kind}
-use Rattle.house_forward.specs.declared.rules.Kind.TheVariants.{Local, Remote}
+use Rattle.house_forward.specs.declared.rules.Kind.TheVariants.{Local, Remote, Dynamic}
 use Rattle.house_forward.specs.declared.rules.TheConstants.{LAST_PORT, LONGEST_HOST}
 
 -- the kinds that are served
 abbrev pub kind_of : ℕ → Option Kind
-kind_of kind = if kind == 1 then Some Local else (if kind == 2 then Some Remote else None)
+kind_of kind = if kind == 1 then Some Local else (if kind == 2 then Some Remote
+    else (if kind == 3 then Some Dynamic else None))
 
 -- ---- listen hosts
 
@@ -28,23 +29,37 @@ remote_host host =
 abbrev pub listen_host : Kind → Bool → List ℕ → List ℕ
 listen_host Local gateway host = local_host gateway host
 listen_host Remote gateway host = remote_host host
+listen_host Dynamic gateway host = local_host gateway host
 
 -- ---- refusals
 
-abbrev pub is_local : Kind → Bool
-is_local Local = true
-is_local Remote = false
+-- the house listens
+abbrev pub listens_here : Kind → Bool
+listens_here Local = true
+listens_here Remote = false
+listens_here Dynamic = true
+
+-- where it connects is said when it is asked for
+abbrev pub connects_there : Kind → Bool
+connects_there Local = true
+connects_there Remote = true
+connects_there Dynamic = false
 
 abbrev pub same_kind : Kind → Kind → Bool
 same_kind Local Local = true
 same_kind Local Remote = false
+same_kind Local Dynamic = false
 same_kind Remote Local = false
 same_kind Remote Remote = true
+same_kind Remote Dynamic = false
+same_kind Dynamic Local = false
+same_kind Dynamic Remote = false
+same_kind Dynamic Dynamic = true
 
 -- a port is past the last, or none where one is needed
 abbrev pub has_bad_port : Kind → ℕ → ℕ → Bool
 has_bad_port kind listen connect = nat_lt LAST_PORT listen || (nat_lt LAST_PORT connect
-    || ((connect == 0) || (is_local kind && (listen == 0))))
+    || ((connects_there kind && (connect == 0)) || (listens_here kind && (listen == 0))))
 
 abbrev pub is_refused_of : Option Kind → StartAsk → Bool
 is_refused_of None ask = true

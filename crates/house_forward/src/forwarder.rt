@@ -1,16 +1,16 @@
 //! The house.
-ghost use Rattle.std.specs.Prelude.{◌≡◌, ◌≤◌, ◌++◌, ◌∷◌, ◌&&◌, not, true, [], OnOk, IfOk, IsSome, None, Ok, false};
+ghost use Rattle.std.specs.Prelude.{ℕ, ◌≡◌, ◌≤◌, ◌++◌, ◌∷◌, ◌&&◌, not, true, [], OnOk, IfOk, IsSome, None, Ok, false};
 ghost use Rattle.mux_outside.specs.House.{IsBlank, NoMark, SaysFits, says_nothing};
 ghost use Rattle.mux_outside.specs.OwnStreams.{is_one, is_finished, new_stream, with_end, end_one};
 ghost use Rattle.house_forward.specs.Known.{known_of, open_asks};
-ghost use Rattle.house_forward.specs.Relays.{queue_at, says_none};
+ghost use Rattle.house_forward.specs.Relays.{queue_at, relay_at, says_none};
 
 use crate::asks::{Asked, Asks, Outcome};
 use crate::forwarding::Request;
 use crate::forwardings::{Forwardings, ListenerOrder};
 use crate::hearing::{Offer, hear};
 use crate::relays::Relays;
-use crate::rules::{self, ends_of, of_client};
+use crate::rules::{self, Kind, ends_of, of_client};
 use crate::saying;
 use house_relay::{Line, Relay, Saying};
 use mux_outside::{
@@ -99,7 +99,11 @@ impl<N: Notes + Drop> Forwarder<N> {
           notes = self.new.notes;
           listeners = self.new.listeners;
           streams = self.new.streams;
+          relays = self.new.relays;
         } }
+        ensures relays { self.new.relays.all ≡ self.old.relays.all }
+        ensures at { (t : ℕ) → relay_at t self.new.relays.streams self.new.relays.all
+            ≡ relay_at t self.old.relays.streams self.old.relays.all }
     {
         let offers = self.offers.len().saturating_add(1);
         let streams = self.streams.len().saturating_add(offers).saturating_mul(4);
@@ -110,6 +114,7 @@ impl<N: Notes + Drop> Forwarder<N> {
         self.notes.room(marks.saturating_add(more))?;
         self.listeners.reserve(forwardings)?;
         self.streams.reserve(offers)?;
+        self.relays.reserve(offers)?;
         Ok(())
     }
 
@@ -139,7 +144,7 @@ impl<N: Notes + Drop> Forwarder<N> {
     /// Writes what a relay says.
     fn payload_of(&self, relay: &Relay, saying: Saying) -> Result<Vec<u8>, OutOfMemory> {
         match &relay.line {
-            Line::Asked { host, port } => {
+            Line::Asked { host, port, .. } => {
                 saying::open(self.alloc, relay.number, host.as_bytes(), *port)
             }
             Line::Offered { remote, .. } => match saying {
@@ -152,7 +157,7 @@ impl<N: Notes + Drop> Forwarder<N> {
                 live.remote,
                 relay.held.front(),
             ),
-            Line::Opened | Line::Over => Err(OutOfMemory),
+            Line::Dialing(_) | Line::Opened { .. } | Line::Over => Err(OutOfMemory),
         }
     }
 
@@ -165,7 +170,7 @@ impl<N: Notes + Drop> Forwarder<N> {
         } }
         ensures fits { SaysFits result into.new }
         ensures exact { OnOk result (says_nothing result
-            ≡ says_none self.old.greeted self.old.forwardings.all.items self.old.relays.all.items) }
+            ≡ says_none self.old.greeted self.old.forwardings.all.items self.old.relays) }
         ensures silent { result ≡ Ok false → self.new ≡ self.old }
     {
         if !self.greeted {
@@ -192,14 +197,14 @@ impl<N: Notes + Drop> Forwarder<N> {
             self.forwardings.said(request)?;
             return Ok(true);
         }
-        let Some((i, saying)) = self.relays.next_saying() else {
+        let Some((number, saying)) = self.relays.next_saying() else {
             return Ok(false);
         };
-        let relay = self.relays.get(i).ok_or(OutOfMemory)?;
+        let relay = self.relays.get(number).ok_or(OutOfMemory)?;
         let payload = self.payload_of(relay, saying)?;
         saying::put_frame(self.alloc, into, &payload)?;
-        self.relays.said(i, saying);
-        self.relays.sweep();
+        self.relays.said(number, saying);
+        self.relays.forget(number);
         Ok(true)
     }
 
@@ -231,13 +236,8 @@ impl<N: Notes + Drop> Forwarder<N> {
             Order::Finish(stream) => self.set_finished(*stream),
             Order::Close(stream) => {
                 let stream = *stream;
-                if let Some(i) = self.relays.by_stream(stream) {
-                    if let Some(relay) = self.relays.get_mut(i) {
-                        relay.closed();
-                    }
-                }
+                self.relays.closed(stream);
                 self.streams.retain(|s| s.number != stream);
-                self.relays.sweep();
             }
             Order::Listen { .. } | Order::Connect { .. } => {}
         }
@@ -333,10 +333,13 @@ impl<N: Notes + Drop> Forwarder<N> {
     {
         let number = self.relays.free_number().ok_or(OutOfMemory)?;
         let relay = match self.forwardings.of_listener(listener) {
-            Some(f) if !self.relays.is_full() => {
-                let host = Text::copy(self.alloc, f.connect_host.as_bytes())?;
-                Relay::joined(self.alloc, number, stream, host, f.connect_port)
-            }
+            Some(f) if !self.relays.is_full() => match f.kind {
+                Kind::Dynamic => Relay::dynamic(self.alloc, number, stream),
+                Kind::Local | Kind::Remote => {
+                    let host = Text::copy(self.alloc, f.connect_host.as_bytes())?;
+                    Relay::joined(self.alloc, number, stream, host, f.connect_port)
+                }
+            },
             _ => Relay::surplus(self.alloc, number, stream),
         };
         self.relays.push(relay)?;
@@ -402,12 +405,12 @@ impl<N: Notes + Drop> House for Forwarder<N> {
         f.ordering };
 
     ghost quiet = { λ f. record {
-      says = says_none f.greeted f.forwardings.all.items f.relays.all.items;
+      says = says_none f.greeted f.forwardings.all.items f.relays;
       orders = true;
       answers = true;
     } };
 
-    ghost queue = { λ f t. queue_at f.streams.items f.relays.all.items t };
+    ghost queue = { λ f t. queue_at f.streams.items f.relays t };
 
     ghost refused = { λ f. f.forwardings.refused };
 
@@ -499,7 +502,6 @@ impl<N: Notes + Drop> House for Forwarder<N> {
                 Next::More | Next::Bad(_) => break,
             }
         }
-        self.relays.sweep();
         self.make_room(1)?;
         self.notes.note(HouseMark::HouseTook(bytes.len()));
         Ok(())
@@ -553,11 +555,7 @@ impl<N: Notes + Drop> House for Forwarder<N> {
                 if let Some(stream) = number {
                     self.streams.push_reserved(OwnStream::new(stream));
                 }
-                if let Some(i) = self.relays.unmade(channel) {
-                    if let Some(relay) = self.relays.get_mut(i) {
-                        relay.made(number);
-                    }
-                }
+                self.relays.made(channel, number);
                 mark
             }
         };
@@ -571,7 +569,7 @@ impl<N: Notes + Drop> House for Forwarder<N> {
     fn turn(&mut self, t: OwnTurn<'_>) -> Result<(), OutOfMemory> {
         match t {
             OwnTurn::Joined { listener, stream } => self.joined(listener, stream)?,
-            OwnTurn::Got(stream, bytes) => self.relays.got(stream, bytes)?,
+            OwnTurn::Got(stream, bytes) => self.relays.got(self.alloc, stream, bytes)?,
             OwnTurn::End(stream) => {
                 self.set_ended(stream);
                 self.relays.ends(stream);

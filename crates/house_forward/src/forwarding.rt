@@ -84,7 +84,7 @@ impl Forwarding {
     pub fn counts(&self) -> bool
         ensures { result ≡ counts self.now }
     {
-        !(self.closing && self.kind == Kind::Local)
+        !(self.closing && self.kind.listens_here())
     }
 
     /// Whether it listens where this is to listen.
@@ -188,7 +188,7 @@ fn first_stage(alloc: Global, ends: Ends<'_>) -> Result<Stage, OutOfMemory>
     ensures { IfOk result (λ stage. is_first stage ≡ true) }
 {
     match ends.kind {
-        Kind::Local => {
+        Kind::Local | Kind::Dynamic => {
             let order = Order::Listen {
                 host: Text::copy(alloc, ends.listen_host)?,
                 port: ends.listen_port,

@@ -73,13 +73,12 @@ pub fn hear(
 
 /// The relay whose channel has this number hears a message.
 fn hear_at(relays: &mut Relays, number: u32, message: &Message<'_>) -> Result<(), OutOfMemory> {
-    let Some(i) = relays.by_number(number) else {
-        return Ok(());
-    };
-    match relays.get_mut(i) {
-        Some(relay) => hear_in(relay, message),
-        None => Ok(()),
+    match relays.of_channel(number) {
+        Some(relay) => hear_in(relay, message)?,
+        None => return Ok(()),
     }
+    relays.forget(number);
+    Ok(())
 }
 
 /// A relay hears a message in its channel.
@@ -90,8 +89,8 @@ fn hear_in(relay: &mut Relay, message: &Message<'_>) -> Result<(), OutOfMemory> 
             window,
             maximum,
             ..
-        } => relay.confirmed(*sender, *window, *maximum),
-        Message::OpenFailure { .. } => relay.refused(),
+        } => relay.confirmed(*sender, *window, *maximum)?,
+        Message::OpenFailure { reason, .. } => relay.refused(*reason)?,
         Message::Adjust { add, .. } => relay.hears_room(*add),
         Message::Data { bytes, .. } => {
             relay.hears_data(bytes)?;

@@ -2,7 +2,7 @@
 ghost use Rattle.std.specs.Prelude.{◌≡◌, not, is_some, IfSome};
 ghost use Rattle.mux_outside.specs.House.{ask_of};
 ghost use Rattle.mux_outside.specs.declared.starts.StartAsk.{StartAsk};
-ghost use Rattle.house_forward.specs.Rules.{same_kind, kind_of, local_host, remote_host, listen_host, has_bad_port, is_refused_alone, AreEnds, IsAsk};
+ghost use Rattle.house_forward.specs.Rules.{listens_here, connects_there, same_kind, kind_of, local_host, remote_host, listen_host, has_bad_port, is_refused_alone, AreEnds, IsAsk};
 
 use mux_outside::{FwdAsk, StartAsk as OneAsk};
 
@@ -29,6 +29,30 @@ pub enum Kind {
     Local,
     /// The server listens, and the house connects.
     Remote,
+    /// The house listens, and the server connects to the end that a dialog of SOCKS says.
+    Dynamic,
+}
+
+impl Kind {
+    /// Whether the house listens.
+    pub fn listens_here(self) -> bool
+        ensures { result ≡ listens_here self }
+    {
+        match self {
+            Kind::Local | Kind::Dynamic => true,
+            Kind::Remote => false,
+        }
+    }
+
+    /// Whether where it connects is said when it is asked for; else a dialog says it.
+    pub fn connects_there(self) -> bool
+        ensures { result ≡ connects_there self }
+    {
+        match self {
+            Kind::Local | Kind::Remote => true,
+            Kind::Dynamic => false,
+        }
+    }
 }
 
 /// Whether both are the same.
@@ -38,8 +62,8 @@ pub fn same_kind(a: Kind, b: Kind) -> bool
     match (a, b) {
         (Kind::Local, Kind::Local) => true,
         (Kind::Remote, Kind::Remote) => true,
-        (Kind::Local, Kind::Remote) => false,
-        (Kind::Remote, Kind::Local) => false,
+        (Kind::Dynamic, Kind::Dynamic) => true,
+        (Kind::Local | Kind::Remote | Kind::Dynamic, _) => false,
     }
 }
 
@@ -99,6 +123,7 @@ fn kind_of(kind: u32) -> Option<Kind>
     match kind {
         1 => Some(Kind::Local),
         2 => Some(Kind::Remote),
+        3 => Some(Kind::Dynamic),
         _ => None,
     }
 }
@@ -135,19 +160,20 @@ fn listen_host(kind: Kind, host: &[u8], gateway: bool) -> &[u8]
     ensures { result.now ≡ listen_host kind gateway host.now }
 {
     match kind {
-        Kind::Local => local_host(host, gateway),
+        Kind::Local | Kind::Dynamic => local_host(host, gateway),
         Kind::Remote => remote_host(host),
     }
 }
 
-/// Whether a port is past the last, or missing where one is needed.
+/// Whether a port is past the last, or missing where one is needed. A dialog says where a dynamic
+/// forwarding connects.
 fn has_bad_port(kind: Kind, listen: u32, connect: u32) -> bool
     ensures { result ≡ has_bad_port kind listen connect }
 {
     listen > LAST_PORT
         || connect > LAST_PORT
-        || connect == 0
-        || (kind == Kind::Local && listen == 0)
+        || (kind.connects_there() && connect == 0)
+        || (kind.listens_here() && listen == 0)
 }
 
 /// The two ends that are asked for; None where what is asked is refused whatever stands already:

@@ -118,8 +118,19 @@ const FORWARD: &[u8] =
 
 /// A bench with `LocalForward 8080 db:5432` whose listener is joined.
 fn joined(rt: &impl Abort, alloc: Global) -> Result<Bench<KeptNotes>, OutOfMemory> {
+    started(rt, alloc, 1, b"db", 5432)
+}
+
+/// A bench with a forwarding of this kind whose listener is joined.
+fn started(
+    rt: &impl Abort,
+    alloc: Global,
+    kind: u32,
+    host: &[u8],
+    port: u32,
+) -> Result<Bench<KeptNotes>, OutOfMemory> {
     let mut bench = Bench::new(alloc, KeptNotes::new(alloc))?;
-    bench.begin(1, 8080, b"db", 5432, false)?;
+    bench.begin(kind, 8080, host, port, false)?;
     bench.settle()?;
     assert_eq!(rt; bench.said.len(), 24);
     assert_eq!(rt; bench.orders.len(), 1);
@@ -325,5 +336,77 @@ fn a_listener_that_fails_refuses_its_start(rt: HostRuntime) -> Result<(), Fail> 
     bench.settle()?;
     assert_eq!(rt; bench.house.refused_start(), Some(0));
     assert!(rt; bench.house.must());
+    Ok(())
+}
+
+/// The server confirms the house's channel 0.
+const CONFIRMED: &[u8] =
+    b"\x00\x00\x00\x12\x00\x5b\x00\x00\x00\x00\x00\x00\x00\x05\x00\x00\x00\x64\x00\x00\x80\x00";
+
+#[test]
+fn a_dialog_of_socks_5_is_granted(rt: HostRuntime) -> Result<(), Fail> {
+    let stream = 0x8000_0000_0000_0001;
+    let mut bench = started(&rt, rt.alloc(), 3, b"", 0)?;
+    assert_eq!(rt; bench.said.len(), 0);
+    for byte in b"\x05\x01\x00" {
+        bench.house.turn(OwnTurn::Got(stream, &[*byte]))?;
+        bench.settle()?;
+    }
+    assert_eq!(rt; bench.house.queue_of(stream), b"\x05\x00".as_slice());
+    for byte in b"\x05\x01\x00\x03\x02db\x15\x38" {
+        assert_eq!(rt; bench.said.len(), 0);
+        bench.house.turn(OwnTurn::Got(stream, &[*byte]))?;
+        bench.settle()?;
+    }
+    assert_eq!(rt; bench.said.as_slice(), OPEN_DB);
+    bench.house.takes(CONFIRMED)?;
+    bench.settle()?;
+    assert_eq!(rt;
+        bench.house.queue_of(stream),
+        b"\x05\x00\x05\x00\x00\x01\x00\x00\x00\x00\x00\x00".as_slice()
+    );
+    // No window is given back for the replies.
+    bench.house.took(stream, 12);
+    bench.settle()?;
+    assert_eq!(rt; bench.said.len(), 0);
+    Ok(())
+}
+
+#[test]
+fn dialogs_of_socks_4_are_answered(rt: HostRuntime) -> Result<(), Fail> {
+    let stream = 0x8000_0000_0000_0001;
+    let mut bench = started(&rt, rt.alloc(), 3, b"", 0)?;
+    bench.house.turn(OwnTurn::Got(stream, b"\x04\x01\x00\x50\x0a\x00\x00\x05\x00"))?;
+    bench.settle()?;
+    assert_eq!(rt;
+        bench.said.as_slice(),
+        b"\x00\x00\x00\x3f\x00\x5a\x00\x00\x00\x0cdirect-tcpip\x00\x00\x00\x00\x00\x20\x00\x00\x00\x00\x80\x00\x00\x00\x00\x0810.0.0.5\x00\x00\x00\x50\x00\x00\x00\x09127.0.0.1\x00\x00\x00\x00".as_slice()
+    );
+    bench.house.takes(CONFIRMED)?;
+    bench.settle()?;
+    assert_eq!(rt;
+        bench.house.queue_of(stream),
+        b"\x00\x5a\x00\x00\x00\x00\x00\x00".as_slice()
+    );
+    Ok(())
+}
+
+#[test]
+fn a_dialog_that_breaks_is_ended(rt: HostRuntime) -> Result<(), Fail> {
+    let stream = 0x8000_0000_0000_0001;
+    let mut bench = started(&rt, rt.alloc(), 3, b"", 0)?;
+    bench.house.turn(OwnTurn::Got(stream, b"\x05\x01\x02"))?;
+    bench.settle()?;
+    assert_eq!(rt; bench.said.len(), 0);
+    assert_eq!(rt; bench.orders.len(), 0);
+    assert_eq!(rt; bench.house.queue_of(stream), b"\x05\xff".as_slice());
+    bench.house.took(stream, 2);
+    bench.settle()?;
+    assert!(rt;
+        matches!(
+            bench.orders.get(0),
+            Some(Order::Close(0x8000_0000_0000_0001))
+        )
+    );
     Ok(())
 }

@@ -2,27 +2,57 @@
 use Rattle.std.specs.Prelude.{◌+◌, ◌-◌, ◌^◌, ◌&&◌, ℕ, Bool, true, false, not, min, nat_lt, if◌then◌else◌}
 use Rattle.house_relay.specs.declared.line.Live.{Live as LiveState}
 use Rattle.house_relay.specs.declared.line.Line.{Line}
-use Rattle.house_relay.specs.declared.line.Line.TheVariants.{Asked, Opened, Offered, Live, Over}
+use Rattle.house_relay.specs.declared.line.Line.TheVariants.{Dialing, Asked, Opened, Offered, Live, Over}
 
 -- whether it counts as a channel
 abbrev pub counts : Line → Bool
-counts (Asked host port) = true
-counts Opened = true
+counts (Dialing dialog) = false
+counts (Asked host port version) = true
+counts (Opened version) = true
 counts (Offered remote window maximum) = true
 counts (Live live) = true
 counts Over = false
 
 -- whether the server's EOF came
 abbrev pub hears_end : Line → Bool
-hears_end (Asked host port) = false
-hears_end Opened = false
+hears_end (Dialing dialog) = false
+hears_end (Asked host port version) = false
+hears_end (Opened version) = false
 hears_end (Offered remote window maximum) = false
 hears_end (Live live) = live.eof_heard
 hears_end Over = false
 
--- a channel as it is confirmed
-abbrev pub fresh_live : ℕ → ℕ → ℕ → LiveState
-fresh_live remote window maximum = record {
+-- whether nothing more comes of it: it has ended, or the client ended before its dialog asked for an
+-- end
+abbrev pub has_no_more : Bool → Line → Bool
+has_no_more ended (Dialing dialog) = ended
+has_no_more ended (Asked host port version) = false
+has_no_more ended (Opened version) = false
+has_no_more ended (Offered remote window maximum) = false
+has_no_more ended (Live live) = false
+has_no_more ended Over = true
+
+-- for how many bytes room is to be given back
+abbrev pub owed_in : Line → ℕ
+owed_in (Dialing dialog) = 0
+owed_in (Asked host port version) = 0
+owed_in (Opened version) = 0
+owed_in (Offered remote window maximum) = 0
+owed_in (Live live) = live.owed
+owed_in Over = 0
+
+-- a step of a channel that is confirmed; another stays
+abbrev pub in_live : (LiveState → Line) → Line → Line
+in_live step (Dialing dialog) = Dialing dialog
+in_live step (Asked host port version) = Asked host port version
+in_live step (Opened version) = Opened version
+in_live step (Offered remote window maximum) = Offered remote window maximum
+in_live step (Live live) = step live
+in_live step Over = Over
+
+-- a channel as it is confirmed, while so many bytes of replies wait
+abbrev pub fresh_live : ℕ → ℕ → ℕ → ℕ → LiveState
+fresh_live remote window maximum replies = record {
   remote = remote;
   room = window;
   maximum = maximum;
@@ -32,6 +62,7 @@ fresh_live remote window maximum = record {
   close_heard = false;
   failures = 0;
   owed = 0;
+  replies = replies;
 }
 
 -- how many bytes of data the server takes in one message now
@@ -72,5 +103,13 @@ abbrev pub hears_request : Bool → LiveState → LiveState
 hears_request want live = if want && not live.close_said
     then record live { failures = min (live.failures + 1) (2 ^ 32 - 1) } else live
 
+-- the replies are taken first, and aren't owed
 abbrev pub takes_more : ℕ → LiveState → LiveState
-takes_more n live = if live.close_said then live else record live { owed = live.owed + n }
+takes_more n live = if live.close_said then live else record live {
+  owed = live.owed + (n - live.replies);
+  replies = live.replies - n;
+}
+
+-- the socket took so many bytes
+abbrev pub takes_in : ℕ → Line → Line
+takes_in n = in_live (λ live. Live (takes_more n live))

@@ -1,14 +1,14 @@
 -- What a relay says and orders next, as a function of how it stands.
-use Rattle.std.specs.Prelude.{◌-◌, ◌^◌, ◌&&◌, ◌||◌, ◌==◌, ℕ, Bool, true, false, not, min, nat_lt, if◌then◌else◌, List, length, Option, Some, None}
+use Rattle.std.specs.Prelude.{◌-◌, ◌^◌, ◌&&◌, ◌==◌, ℕ, not, min, nat_lt, if◌then◌else◌, length, Option, Some, None}
 use Rattle.mux_outside.specs.declared.order.Order.{Order}
 use Rattle.mux_outside.specs.declared.order.Order.TheVariants as order
 use Rattle.mux_outside.specs.declared.own_streams.OwnStream.{OwnStream}
-use Rattle.house_relay.specs.Line.{takes, counts, hears_end}
+use Rattle.house_relay.specs.Line.{takes, has_no_more, hears_end}
 use Rattle.house_relay.specs.Relay.{is_finished, is_stuck}
 use Rattle.house_relay.specs.declared.TheConstants.{MAXIMUM}
 use Rattle.house_relay.specs.declared.line.Live.{Live as LiveState}
 use Rattle.house_relay.specs.declared.line.Line.{Line}
-use Rattle.house_relay.specs.declared.line.Line.TheVariants.{Asked, Opened, Offered, Live, Over}
+use Rattle.house_relay.specs.declared.line.Line.TheVariants.{Dialing, Asked, Opened, Offered, Live, Over}
 use Rattle.house_relay.specs.declared.relay.Relay.{Relay}
 use Rattle.house_relay.specs.declared.relay.Saying.{Saying}
 use Rattle.house_relay.specs.declared.relay.Saying.TheVariants as saying
@@ -43,8 +43,9 @@ says_offered (socket.Surplus t) = Some saying.OpenFailure
 says_offered socket.Closed = Some saying.OpenFailure
 
 abbrev pub says_in : Line → Relay → Option Saying
-says_in (Asked host port) r = Some saying.Open
-says_in Opened r = None
+says_in (Dialing dialog) r = None
+says_in (Asked host port version) r = Some saying.Open
+says_in (Opened version) r = None
 says_in (Offered remote window maximum) r = says_offered r.socket
 says_in (Live live) r = says_live r live
 says_in Over r = None
@@ -56,7 +57,7 @@ says_of r = says_in r.line r
 
 abbrev pub orders_open : Relay → OwnStream → Option Order
 orders_open r stream =
-    if not (counts r.line) && (length r.queue.waiting == 0) then Some (order.Close stream.number)
+    if has_no_more r.ended r.line && (length r.queue.waiting == 0) then Some (order.Close stream.number)
     else (if hears_end r.line && ((length r.queue.waiting == 0) && not stream.finished)
     then Some (order.Finish stream.number)
     else (if is_stuck r.line r.held.waiting && not stream.paused then Some (order.Pause stream.number)

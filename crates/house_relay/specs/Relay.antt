@@ -1,15 +1,21 @@
 -- How a relay stands, for what happened in it.
-use Rattle.std.specs.Prelude.{◌≡◌, ◌+◌, ◌≤◌, ◌<◌, ◌⊎◌, ◌&&◌, ◌||◌, ◌==◌, ℕ, Bool, true, false, not, is_some, List, [], ◌∷◌, ◌++◌, length, take, IsTrue, Option, Some, None}
-use Rattle.house_relay.specs.Acts.{Act, Reads, Ends, Takes, Fails, Delivers, HearsEof, HearsClose, SaysData, SaysAdjust, SaysEof, SaysClose, Other}
-use Rattle.house_relay.specs.Acts.{held, waiting, read, sent, delivered, taken, adjusted, has_ended, heard_eof, heard_close, said_eof, said_close}
+use Rattle.std.specs.Prelude.{◌≡◌, ◌≢◌, ◌+◌, ◌-◌, ◌≤◌, ◌<◌, ◌&&◌, ◌||◌, ◌==◌, ℕ, Bool, true, false, not, is_some, List, [], ◌∷◌, ◌++◌, length, take, slice_index, IsTrue, Option, Some, None}
+use Rattle.house_relay.specs.Acts.{Act, SaysData, SaysAdjust, SaysEof, SaysClose, Other}
+use Rattle.house_relay.specs.Acts.{read, sent, delivered, taken, adjusted, has_ended, heard_eof, heard_close, said_eof, said_close}
+use Rattle.house_relay.specs.Acts.{Unanswered, answer, outcome_in, before_in, replies, behind, held, to_take, waiting, taken_data}
 use Rattle.mux_outside.specs.declared.order.Order.{Order}
 use Rattle.mux_outside.specs.declared.order.Order.TheVariants.{Listen, Connect, Unlisten, Pause, Resume, Finish}
 use Rattle.mux_outside.specs.declared.order.Order.TheVariants as close
 use Rattle.mux_outside.specs.declared.own_streams.OwnStream.{OwnStream}
-use Rattle.house_relay.specs.Line.{takes, counts, hears_end}
+use Rattle.mux_outside.specs.declared.piece.TheConstants.{LONGEST_PIECE}
+use Rattle.proxy_frames.specs.Queued.{with_bytes}
+use Rattle.socks_dialog.specs.State.{State, IsConnect}
+use Rattle.socks_dialog.specs.declared.outcome.Outcome.{Outcome}
+use Rattle.socks_dialog.specs.declared.outcome.Outcome.TheVariants.{Wants, Connects}
+use Rattle.house_relay.specs.Line.{takes, has_no_more, hears_end}
 use Rattle.house_relay.specs.declared.line.Live.{Live as LiveState}
 use Rattle.house_relay.specs.declared.line.Line.{Line}
-use Rattle.house_relay.specs.declared.line.Line.TheVariants.{Asked, Opened, Offered, Live, Over}
+use Rattle.house_relay.specs.declared.line.Line.TheVariants.{Dialing, Asked, Opened, Offered, Live, Over}
 use Rattle.house_relay.specs.declared.relay.Relay.{Relay}
 use Rattle.house_relay.specs.declared.relay.Saying.{Saying}
 use Rattle.house_relay.specs.declared.relay.Saying.TheVariants.{Open, Confirmation, OpenFailure, Close, Failure, Data, Eof, Adjust}
@@ -20,22 +26,25 @@ use Rattle.house_relay.specs.declared.relay.Socket.TheVariants as socket
 
 -- a fact of a channel that is confirmed and hasn't ended
 abbrev pub InLive : Line → (LiveState → Type 0) → Type 0
-InLive (Asked host port) P = ⊥
-InLive Opened P = ⊥
+InLive (Dialing dialog) P = ⊥
+InLive (Asked host port version) P = ⊥
+InLive (Opened version) P = ⊥
 InLive (Offered remote window maximum) P = ⊥
 InLive (Live live) P = P live
 InLive Over P = ⊥
 
 abbrev pub IsAsked : Line → Type 0
-IsAsked (Asked host port) = Unit {0}
-IsAsked Opened = ⊥
+IsAsked (Dialing dialog) = ⊥
+IsAsked (Asked host port version) = Unit {0}
+IsAsked (Opened version) = ⊥
 IsAsked (Offered remote window maximum) = ⊥
 IsAsked (Live live) = ⊥
 IsAsked Over = ⊥
 
 abbrev pub IsOffered : Line → Type 0
-IsOffered (Asked host port) = ⊥
-IsOffered Opened = ⊥
+IsOffered (Dialing dialog) = ⊥
+IsOffered (Asked host port version) = ⊥
+IsOffered (Opened version) = ⊥
 IsOffered (Offered remote window maximum) = Unit {0}
 IsOffered (Live live) = ⊥
 IsOffered Over = ⊥
@@ -79,14 +88,6 @@ IsSaying Eof r = InLive r.line (λ live. (live.close_said ≡ false) × (live.eo
     × IsTrue r.ended × (r.held.waiting ≡ []))
 IsSaying (Adjust n) r = InLive r.line (λ live. (live.close_said ≡ false) × (0 < n) × (n ≤ live.owed))
 
--- for how many bytes room is to be given back
-abbrev pub owed_in : Line → ℕ
-owed_in (Asked host port) = 0
-owed_in Opened = 0
-owed_in (Offered remote window maximum) = 0
-owed_in (Live live) = live.owed
-owed_in Over = 0
-
 -- what happens as that is said
 abbrev pub said_act : Saying → Relay → Act
 said_act Open r = Other
@@ -100,59 +101,133 @@ said_act (Adjust n) r = SaysAdjust n
 
 -- what is heard in a channel that is confirmed; in another nothing is
 abbrev pub heard_in : Line → Act → Act
-heard_in (Asked host port) act = Other
-heard_in Opened act = Other
+heard_in (Dialing dialog) act = Other
+heard_in (Asked host port version) act = Other
+heard_in (Opened version) act = Other
 heard_in (Offered remote window maximum) act = Other
 heard_in (Live live) act = act
 heard_in Over act = Other
 
+-- an answer to the OPEN is heard while it is said and unanswered
+abbrev pub answered_in : Line → Act → Act
+answered_in (Dialing dialog) act = Other
+answered_in (Asked host port version) act = Other
+answered_in (Opened version) act = act
+answered_in (Offered remote window maximum) act = Other
+answered_in (Live live) act = Other
+answered_in Over act = Other
+
 -- ---- what it stands for
 
--- nothing went through the channel yet
-pub record NothingYet (acts : List Act) : Type 0 where
+-- the OPEN is unanswered, and nothing went through the channel
+pub record NothingYet (dials : Bool) (acts : List Act) : Type 0 where
+  pub no_answer : answer acts ≡ Unanswered
   pub no_data : delivered acts ≡ []
-  pub no_take : taken acts ≡ 0
+  pub no_take : taken acts ≤ length (replies dials acts)
   pub no_room : adjusted acts ≡ 0
   pub no_eof : said_eof acts ≡ false
   pub no_close : said_close acts ≡ false
   pub none_heard : heard_eof acts ≡ false
   pub none_closed : heard_close acts ≡ false
 
--- what a channel that is confirmed keeps: what was said and heard, and, until CLOSE is said, how much
--- room is to be given back
-pub record IsLive (live : LiveState) (acts : List Act) : Type 0 where
+-- a dialog that is read has all bytes that were read, has given all its replies, and wants more bytes
+pub record IsDialing (dialog : State) (dials : Bool) (acts : List Act) : Type 0 where
+  pub socks : dials ≡ true
+  pub bytes : dialog.bytes ≡ read acts
+  pub given : dialog.given ≡ length (before_in (read acts))
+  pub wants : outcome_in (read acts) ≡ Wants
+  pub nothing : NothingYet dials acts
+
+-- where a dialog waits for the answer, it spoke this version, and asked for an end
+abbrev pub WaitsFor : Option ℕ → Outcome → Bool → List Act → Type 0
+WaitsFor None outcome dials acts = dials ≡ false
+WaitsFor (Some version) outcome dials acts =
+    (dials ≡ true) × (version ≡ slice_index (read acts) 0) × (outcome_in (read acts) ≡ outcome)
+
+-- an OPEN to this end is to be said
+pub record IsToAsk (host : List ℕ) (port : ℕ) (version : Option ℕ) (dials : Bool) (acts : List Act) : Type 0 where
+  pub waits : WaitsFor version (Connects host port) dials acts
+  pub nothing : NothingYet dials acts
+
+-- an OPEN is said and unanswered
+pub record IsOpened (version : Option ℕ) (dials : Bool) (acts : List Act) : Type 0 where
+  pub host : List ℕ
+  pub port : ℕ
+  pub waits : WaitsFor version (Connects host port) dials acts
+  pub nothing : NothingYet dials acts
+
+-- an OPEN of the server is unanswered; it has no dialog
+pub record IsToAnswer (dials : Bool) (acts : List Act) : Type 0 where
+  pub plain : dials ≡ false
+  pub nothing : NothingYet dials acts
+
+-- a dialog, if there is one, came to something
+abbrev pub IsSettled : Bool → List ℕ → Type 0
+IsSettled false bytes = Unit {0}
+IsSettled true bytes = outcome_in bytes ≢ Wants
+
+-- a dialog, if there is one, asked for an end
+abbrev pub HasAsked : Bool → List ℕ → Type 0
+HasAsked false bytes = Unit {0}
+HasAsked true bytes = IsConnect (outcome_in bytes)
+
+-- what a channel that is confirmed keeps: what was said and heard, and, until CLOSE is said, how many
+-- bytes of replies wait, and how much room is to be given back
+pub record IsLive (live : LiveState) (dials : Bool) (acts : List Act) : Type 0 where
   pub eof_said : live.eof_said ≡ said_eof acts
   pub eof_heard : live.eof_heard ≡ heard_eof acts
   pub close_said : live.close_said ≡ said_close acts
   pub close_heard : live.close_heard ≡ heard_close acts
-  pub owed : live.close_said ≡ false → adjusted acts + live.owed ≡ taken acts
-  pub most : adjusted acts ≤ taken acts
+  pub replies : live.close_said ≡ false → live.replies ≡ length (replies dials acts) - taken acts
+  pub owed : live.close_said ≡ false → adjusted acts + live.owed ≡ taken_data dials acts
+  pub most : adjusted acts ≤ taken_data dials acts
+  pub settled : IsSettled dials (read acts)
+  pub asked : HasAsked dials (read acts)
 
-abbrev pub LineStands : Line → List Act → Type 0
-LineStands (Asked host port) acts = NothingYet acts
-LineStands Opened acts = NothingYet acts
-LineStands (Offered remote window maximum) acts = NothingYet acts
-LineStands (Live live) acts = IsLive live acts
-LineStands Over acts = adjusted acts ≤ taken acts
+-- what is left of a channel that has ended
+pub record IsOver (dials : Bool) (acts : List Act) : Type 0 where
+  pub most : adjusted acts ≤ taken_data dials acts
+  pub settled : IsSettled dials (read acts)
 
--- a relay stands for what happened in it
-pub record Stands (acts : List Act) (r : Relay) : Type 0 where
-  pub sends : sent acts ++ r.held.waiting ≡ read acts
-  pub delivers : (before : List ℕ) × (before ++ r.queue.waiting ≡ delivered acts) × (length before ≡ taken acts)
+abbrev pub LineStands : Line → Bool → List Act → Type 0
+LineStands (Dialing dialog) dials acts = IsDialing dialog dials acts
+LineStands (Asked host port version) dials acts = IsToAsk host port version dials acts
+LineStands (Opened version) dials acts = IsOpened version dials acts
+LineStands (Offered remote window maximum) dials acts = IsToAnswer dials acts
+LineStands (Live live) dials acts = IsLive live dials acts
+LineStands Over dials acts = IsOver dials acts
+
+-- a relay stands for what happened in it; it began with a dialog, or not
+pub record Stands (dials : Bool) (acts : List Act) (r : Relay) : Type 0 where
+  pub sends : sent acts ++ r.held.waiting ≡ behind dials acts
+  pub delivers : (before : List ℕ) × (before ++ r.queue.waiting ≡ to_take dials acts)
+      × (length before ≡ taken acts)
   pub ends : r.ended ≡ has_ended acts
   pub last : IsTrue (said_eof acts) → IsTrue (has_ended acts) × (r.held.waiting ≡ [])
-  pub line : LineStands r.line acts
+  pub few : length r.held.waiting ≤ LONGEST_PIECE
+  pub line : LineStands r.line dials acts
 
 -- from all that it stood for, it stands for one thing more
 abbrev pub GoesOn : Relay → Relay → Act → Type 0
-GoesOn old new act = (acts : List Act) → Stands acts old → Stands (act ∷ acts) new
+GoesOn old new act =
+    (dials : Bool) (acts : List Act) → Stands dials acts old → Stands dials (act ∷ acts) new
+
+-- its socket may give these bytes: it hasn't ended, and they are no more than may be held
+pub record MayRead (bytes : List ℕ) (r : Relay) : Type 0 where
+  pub unended : r.ended ≡ false
+  pub room : length r.held.waiting + length bytes ≤ LONGEST_PIECE
+
+-- with these bytes held too
+abbrev pub holding : List ℕ → Relay → Relay
+holding bytes r = record r { held = with_bytes bytes r.held }
 
 -- ---- at rest
 
 -- nothing is to be said
 abbrev pub SilentIn : Line → Relay → Type 0
-SilentIn (Asked host port) r = ⊥
-SilentIn Opened r = Unit {0}
+SilentIn (Dialing dialog) r = Unit {0}
+SilentIn (Asked host port version) r = ⊥
+SilentIn (Opened version) r = Unit {0}
 SilentIn (Offered remote window maximum) r = is_broken r.socket ≡ false
 SilentIn (Live live) r = live.close_said ≡ false
     → (is_finished r.socket r.queue.waiting live ≡ false) × (live.failures ≡ 0)
@@ -171,8 +246,9 @@ stream_of socket.Closed = None
 
 -- whether data that comes in the channel is for the socket
 abbrev pub delivers_in : Line → Socket → Bool
-delivers_in (Asked host port) s = false
-delivers_in Opened s = false
+delivers_in (Dialing dialog) s = false
+delivers_in (Asked host port version) s = false
+delivers_in (Opened version) s = false
 delivers_in (Offered remote window maximum) s = false
 delivers_in (Live live) s = not live.eof_heard && is_some (stream_of s)
 delivers_in Over s = false
@@ -182,8 +258,9 @@ delivers r = delivers_in r.line r.socket
 
 -- whether bytes are held that the channel doesn't take now
 abbrev pub stuck_in : Line → Bool
-stuck_in (Asked host port) = true
-stuck_in Opened = true
+stuck_in (Dialing dialog) = true
+stuck_in (Asked host port version) = true
+stuck_in (Opened version) = true
 stuck_in (Offered remote window maximum) = true
 stuck_in (Live live) = live.close_said || (takes live == 0)
 stuck_in Over = true
@@ -193,9 +270,9 @@ is_stuck line [] = false
 is_stuck line (x ∷ xs) = stuck_in line
 
 -- whether its stream is to be closed: it failed, or there was no channel for it, or the channel has
--- ended and nothing waits
+-- ended, or its dialog never asked for one, and nothing waits
 abbrev pub is_done : Relay → Bool
-is_done r = is_broken r.socket || (not (counts r.line) && (length r.queue.waiting == 0))
+is_done r = is_broken r.socket || (has_no_more r.ended r.line && (length r.queue.waiting == 0))
 
 -- which orders may be given of its stream
 abbrev pub OrdersRight : Order → Relay → OwnStream → Type 0
@@ -219,16 +296,31 @@ pub record IsResting (r : Relay) (stream : OwnStream) : Type 0 where
   pub paused : IsTrue (is_stuck r.line r.held.waiting) → IsTrue stream.paused
   pub holds : IsTrue stream.paused → 0 < length r.held.waiting
 
--- what a relay keeps is what is left: of the bytes read those not sent, and of the bytes delivered those
--- not taken; and, until CLOSE is said, what it owes is the room that wasn't given back
-abbrev pub OwesRight : Line → List Act → Type 0
-OwesRight (Asked host port) acts = Unit {0}
-OwesRight Opened acts = Unit {0}
-OwesRight (Offered remote window maximum) acts = Unit {0}
-OwesRight (Live live) acts = said_close acts ≡ false → live.owed ≡ 0 → adjusted acts ≡ taken acts
-OwesRight Over acts = Unit {0}
+-- what a relay keeps is what is left: of the bytes for the channel those not sent, and of the bytes for
+-- the socket those not taken; and, until CLOSE is said, what it owes is the room that wasn't given
+-- back
+abbrev pub OwesRight : Line → Bool → List Act → Type 0
+OwesRight (Dialing dialog) dials acts = Unit {0}
+OwesRight (Asked host port version) dials acts = Unit {0}
+OwesRight (Opened version) dials acts = Unit {0}
+OwesRight (Offered remote window maximum) dials acts = Unit {0}
+OwesRight (Live live) dials acts =
+    said_close acts ≡ false → live.owed ≡ 0 → adjusted acts ≡ taken_data dials acts
+OwesRight Over dials acts = Unit {0}
 
-pub record Keeps (acts : List Act) (r : Relay) : Type 0 where
-  pub holds : r.held.waiting ≡ held acts
-  pub waits : r.queue.waiting ≡ waiting acts
-  pub owes : OwesRight r.line acts
+-- a channel is that of a dialog that asked for its end, if there is a dialog; one that wants more bytes
+-- is read, and behind one that broke it is over
+abbrev pub AsksRight : Line → Bool → List Act → Type 0
+AsksRight (Dialing dialog) dials acts = outcome_in (read acts) ≡ Wants
+AsksRight (Asked host port version) dials acts =
+    dials ≡ true → outcome_in (read acts) ≡ Connects host port
+AsksRight (Opened version) dials acts = HasAsked dials (read acts)
+AsksRight (Offered remote window maximum) dials acts = dials ≡ false
+AsksRight (Live live) dials acts = HasAsked dials (read acts)
+AsksRight Over dials acts = IsSettled dials (read acts)
+
+pub record Keeps (dials : Bool) (acts : List Act) (r : Relay) : Type 0 where
+  pub holds : r.held.waiting ≡ held dials acts
+  pub waits : r.queue.waiting ≡ waiting dials acts
+  pub owes : OwesRight r.line dials acts
+  pub asks : AsksRight r.line dials acts

@@ -4,6 +4,9 @@
 //! follows from how its sides stand. So a relay at rest is one that wants nothing, and no memory is
 //! taken for what waits.
 //!
+//! - A relay of a dynamic forwarding begins with a dialog of SOCKS, which says to which end the channel
+//!   is. The replies to it stand before what comes in the channel, and the bytes behind it are the first
+//!   that go into the channel.
 //! - Bytes that were read from the socket are held until the channel takes them. While it takes none
 //!   the socket is paused.
 //! - Bytes that came in the channel are queued for the socket. The window is given back as the
@@ -12,6 +15,7 @@
 //!   waits, or a side fails, the channel is closed, and the socket behind it.
 #![tactic(auto)]
 
+mod dialing;
 pub mod laws;
 mod line;
 mod relay;

@@ -1,7 +1,8 @@
 //! The channel's side of a relay.
-ghost use Rattle.std.specs.Prelude.{◌≡◌, ◌≤◌, ◌<◌, ◌+◌, ◌^◌};
-ghost use Rattle.house_relay.specs.Line.{counts, hears_end, fresh_live, takes, closes, answers, sends, ends, grants, hears_room, hears_eof, hears_close, hears_request, takes_more};
+ghost use Rattle.std.specs.Prelude.{◌≡◌, ◌≤◌, ◌<◌, ◌+◌, ◌-◌, ◌^◌};
+ghost use Rattle.house_relay.specs.Line.{counts, has_no_more, hears_end, fresh_live, takes, closes, answers, sends, ends, grants, hears_room, hears_eof, hears_close, hears_request, takes_more, takes_in, owed_in};
 
+use socks_dialog::Dialog;
 use ssh_fields::Text;
 
 /// A channel that is confirmed and hasn't ended.
@@ -21,18 +22,27 @@ pub struct Live {
     pub failures: u32,
     /// Bytes that the socket took and that weren't given back to the window.
     pub owed: u64,
+    /// How many of the bytes that wait for the socket are replies to its dialog.
+    pub replies: usize,
 }
 
 /// How a channel stands.
 #[derive(Drop)]
 pub enum Line {
+    /// A dialog is read, which says to which end the OPEN is.
+    Dialing(Dialog),
     /// The OPEN to this end is to be said.
     Asked {
         host: Text,
         port: u32,
+        /// The version of the dialog that waits for the answer, if one does.
+        version: Option<u8>,
     },
     /// The OPEN is said and unanswered.
-    Opened,
+    Opened {
+        /// The version of the dialog that waits for the answer, if one does.
+        version: Option<u8>,
+    },
     /// The server's OPEN is unanswered, with its number, its window and its maximum.
     Offered {
         remote: u32,
@@ -51,8 +61,20 @@ impl Line {
         ensures { result ≡ counts self.now }
     {
         match self {
-            Line::Over => false,
-            Line::Asked { .. } | Line::Opened | Line::Offered { .. } | Line::Live(_) => true,
+            Line::Dialing(_) | Line::Over => false,
+            Line::Asked { .. } | Line::Opened { .. } | Line::Offered { .. } | Line::Live(_) => true,
+        }
+    }
+
+    /// Whether nothing more comes of it, where the socket has given its end or not.
+    pub fn has_no_more(&self, ended: bool) -> bool
+        ensures { result ≡ has_no_more ended self.now }
+    {
+        match self {
+            Line::Dialing(_) => ended,
+            Line::Over => true,
+            Line::Asked { .. } | Line::Opened { .. } | Line::Offered { .. } | Line::Live(_) =>
+                false,
         }
     }
 
@@ -62,15 +84,28 @@ impl Line {
     {
         match self {
             Line::Live(live) => live.eof_heard,
-            Line::Asked { .. } | Line::Opened | Line::Offered { .. } | Line::Over => false,
+            Line::Dialing(_)
+            | Line::Asked { .. }
+            | Line::Opened { .. }
+            | Line::Offered { .. }
+            | Line::Over => false,
+        }
+    }
+
+    /// The socket took so many bytes.
+    pub fn takes_more(&mut self, n: usize)
+        ensures { owed_in self.old + n < 2 ^ 64 → self.new ≡ takes_in n self.old }
+    {
+        if let Line::Live(live) = self {
+            *live = live.takes_more(n);
         }
     }
 }
 
 impl Live {
-    /// A channel as it is confirmed.
-    pub fn new(remote: u32, window: u32, maximum: u32) -> Live
-        ensures { result ≡ fresh_live remote window maximum }
+    /// A channel as it is confirmed, while so many bytes of replies wait.
+    pub fn new(remote: u32, window: u32, maximum: u32, replies: usize) -> Live
+        ensures { result ≡ fresh_live remote window maximum replies }
     {
         Live {
             remote,
@@ -82,6 +117,7 @@ impl Live {
             close_heard: false,
             failures: 0,
             owed: 0,
+            replies,
         }
     }
 
@@ -202,15 +238,17 @@ impl Live {
         }
     }
 
-    /// The socket took so many bytes.
+    /// The socket took so many bytes: the replies first, and room is owed for those behind them.
     pub fn takes_more(self, n: usize) -> Live
-        ensures { self.owed + n < 2 ^ 64 → result ≡ takes_more n self }
+        ensures { self.owed + (n - self.replies) < 2 ^ 64 → result ≡ takes_more n self }
     {
         if self.close_said {
             self
         } else {
+            let data = n.saturating_sub(self.replies);
             Live {
-                owed: self.owed.saturating_add(n as u64),
+                owed: self.owed.saturating_add(data as u64),
+                replies: self.replies.saturating_sub(n),
                 ..self
             }
         }

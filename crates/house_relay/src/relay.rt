@@ -1,13 +1,19 @@
 //! One relay: a channel and a socket.
-ghost use Rattle.std.specs.Prelude.{◌≡◌, ◌+◌, ◌≤◌, ◌<◌, ◌^◌, ◌++◌, ℕ, List, [], true, false, if◌then◌else◌, length, take, min, IfSome, OnOk, IfOk, None, Some, IsTrue};
-ghost use Rattle.house_relay.specs.Acts.{Act, Reads, Ends, Takes, Fails, Delivers, HearsEof, HearsClose, SaysData, SaysAdjust, SaysEof, SaysClose, Other};
+ghost use Rattle.std.specs.Prelude.{◌≡◌, ◌+◌, ◌≤◌, ◌<◌, ◌^◌, ◌++◌, ℕ, List, [], true, false, if◌then◌else◌, length, take, drop, min, IfSome, OnOk, IfOk, None, Some, IsTrue};
+ghost use Rattle.house_relay.specs.Acts.{Act, Reads, Ends, Takes, Fails, Confirms, Refuses, Delivers, HearsEof, HearsClose, SaysData, SaysAdjust, SaysEof, SaysClose, Other};
 ghost use Rattle.house_relay.specs.Next.{says_of, says_offered, says_live, orders_of};
-ghost use Rattle.house_relay.specs.Relay.{Stands, GoesOn, IsSaying, said_act, SilentIn, owed_in, is_broken, is_finished, stream_of, delivers, IsOffered, OrdersRight, IsResting, is_stuck, heard_in};
+ghost use Rattle.house_relay.specs.Relay.{Stands, GoesOn, IsSaying, said_act, SilentIn, is_broken, is_finished, stream_of, delivers, IsOffered, OrdersRight, IsResting, is_stuck, heard_in, answered_in, MayRead, holding};
+ghost use Rattle.house_relay.specs.Line.{owed_in};
+ghost use Rattle.house_relay.specs.Steps.{said_of, made_as, connected, failing, taken_of, confirmed_in, refused_in, on_line, room_heard, eof_heard, close_heard, request_heard, data_heard, surplus_of, Dials, fresh_relay, is_gone};
+ghost use Rattle.proxy_frames.specs.Queued.{without_first};
+ghost use Rattle.socks_dialog.specs.State.{new_dialog};
 
 use crate::MAXIMUM;
+use crate::dialing::{Came, Heard, grant, hear, refuse};
 use crate::line::{Line, Live};
 use mux_outside::{Order, OwnStream};
 use proxy_frames::Queue;
+use socks_dialog::Dialog;
 use ssh_fields::{OutOfMemory, Text};
 use std::alloc::Global;
 
@@ -61,11 +67,7 @@ pub struct Relay {
 impl Relay {
     /// A relay in which nothing happened yet.
     fn begun(alloc: Global, number: u32, line: Line, socket: Socket) -> Relay
-        ensures line { result.line ≡ line }
-        ensures socket { result.socket ≡ socket }
-        ensures ended { result.ended ≡ false }
-        ensures held { result.held.waiting ≡ [] }
-        ensures queue { result.queue.waiting ≡ [] }
+        ensures { result ≡ fresh_relay number line socket }
     {
         Relay {
             number,
@@ -79,26 +81,49 @@ impl Relay {
 
     /// A socket that was joined, and is to be a channel to this end.
     pub fn joined(alloc: Global, number: u32, stream: u64, host: Text, port: u32) -> Relay
-        ensures stands { Stands [] result }
+        ensures stands { Stands false [] result }
+        ensures exact { result
+            ≡ fresh_relay number (Line.Asked host port None) (Socket.Open stream) }
     {
         Relay::begun(
             alloc,
             number,
-            Line::Asked { host, port },
+            Line::Asked {
+                host,
+                port,
+                version: None,
+            },
+            Socket::Open(stream),
+        )
+    }
+
+    /// A socket that was joined, whose client says in a dialog to which end the channel is to be.
+    pub fn dynamic(alloc: Global, number: u32, stream: u64) -> Relay
+        ensures stands { Stands true [] result }
+        ensures exact { result
+            ≡ fresh_relay number (Line.Dialing new_dialog) (Socket.Open stream) }
+    {
+        Relay::begun(
+            alloc,
+            number,
+            Line::Dialing(Dialog::new()),
             Socket::Open(stream),
         )
     }
 
     /// A socket that was joined, and for which there is no channel.
     pub fn surplus(alloc: Global, number: u32, stream: u64) -> Relay
-        ensures stands { Stands [] result }
+        ensures stands { Stands false [] result }
+        ensures exact { result ≡ fresh_relay number Line.Over (Socket.Surplus stream) }
     {
         Relay::begun(alloc, number, Line::Over, Socket::Surplus(stream))
     }
 
     /// An OPEN of the server, for which a socket is to be connected.
     pub fn offered(alloc: Global, number: u32, remote: u32, window: u32, maximum: u32) -> Relay
-        ensures stands { Stands [] result }
+        ensures stands { Stands false [] result }
+        ensures exact { result
+            ≡ fresh_relay number (Line.Offered remote window maximum) Socket.Unmade }
     {
         Relay::begun(
             alloc,
@@ -126,8 +151,17 @@ impl Relay {
     }
 
     /// Whether nothing is left of it.
-    pub fn is_gone(&self) -> bool {
-        self.socket == Socket::Closed && !self.line.counts()
+    pub fn is_gone(&self) -> bool
+        ensures { result ≡ is_gone self.now }
+    {
+        match self.socket {
+            Socket::Closed => !self.line.counts(),
+            Socket::Unmade
+            | Socket::Connecting(_)
+            | Socket::Open(_)
+            | Socket::Failed(_)
+            | Socket::Surplus(_) => false,
+        }
     }
 
     /// Whether its socket failed, or couldn't be made, or is closed.
@@ -150,7 +184,8 @@ impl Relay {
     {
         match &self.line {
             Line::Asked { .. } => Some(Saying::Open),
-            Line::Opened => None,
+            Line::Dialing(_) => None,
+            Line::Opened { .. } => None,
             Line::Over => None,
             Line::Offered { .. } => self.says_offered(),
             Line::Live(live) => self.says_live(*live),
@@ -218,11 +253,10 @@ impl Relay {
     pub fn said(&mut self, saying: Saying)
         requires { IsSaying saying self.old }
         ensures stands { GoesOn self.old self.new (said_act saying self.old) }
+        ensures exact { self.new ≡ said_of saying self.old }
     {
         match saying {
-            Saying::Open => {
-                self.line = Line::Opened;
-            }
+            Saying::Open => self.said_open(),
             Saying::Confirmation => self.said_confirmation(),
             Saying::OpenFailure => self.line = Line::Over,
             Saying::Close => self.said_close(),
@@ -233,8 +267,18 @@ impl Relay {
         }
     }
 
+    fn said_open(&mut self)
+        ensures stands { IsSaying Saying.Open self.old → GoesOn self.old self.new Other }
+        ensures exact { self.new ≡ said_of Saying.Open self.old }
+    {
+        if let Line::Asked { version, .. } = self.line {
+            self.line = Line::Opened { version };
+        }
+    }
+
     fn said_confirmation(&mut self)
         ensures stands { IsSaying Saying.Confirmation self.old → GoesOn self.old self.new Other }
+        ensures exact { self.new ≡ said_of Saying.Confirmation self.old }
     {
         if let Line::Offered {
             remote,
@@ -242,12 +286,13 @@ impl Relay {
             maximum,
         } = self.line
         {
-            self.line = Line::Live(Live::new(remote, window, maximum));
+            self.line = Line::Live(Live::new(remote, window, maximum, 0));
         }
     }
 
     fn said_close(&mut self)
         ensures stands { IsSaying Saying.Close self.old → GoesOn self.old self.new SaysClose }
+        ensures exact { self.new ≡ said_of Saying.Close self.old }
     {
         if let Line::Live(live) = self.line {
             self.line = live.closes();
@@ -256,36 +301,40 @@ impl Relay {
 
     fn said_failure(&mut self)
         ensures stands { IsSaying Saying.Failure self.old → GoesOn self.old self.new Other }
+        ensures exact { self.new ≡ said_of Saying.Failure self.old }
     {
-        if let Line::Live(live) = self.line {
-            self.line = Line::Live(live.answers());
+        if let Line::Live(live) = &mut self.line {
+            *live = live.answers();
         }
     }
 
     fn said_data(&mut self, count: u32)
         requires { IsSaying (Saying.Data count) self.old }
         ensures stands { GoesOn self.old self.new (SaysData (take count self.old.held.waiting)) }
+        ensures exact { self.new ≡ said_of (Saying.Data count) self.old }
     {
-        if let Line::Live(live) = self.line {
+        if let Line::Live(live) = &mut self.line {
             self.held.took(count as usize);
-            self.line = Line::Live(live.sends(count));
+            *live = live.sends(count);
         }
     }
 
     fn said_eof(&mut self)
         ensures stands { IsSaying Saying.Eof self.old → GoesOn self.old self.new SaysEof }
+        ensures exact { self.new ≡ said_of Saying.Eof self.old }
     {
-        if let Line::Live(live) = self.line {
-            self.line = Line::Live(live.ends());
+        if let Line::Live(live) = &mut self.line {
+            *live = live.ends();
         }
     }
 
     fn said_adjust(&mut self, n: u32)
         requires { IsSaying (Saying.Adjust n) self.old }
         ensures stands { GoesOn self.old self.new (SaysAdjust n) }
+        ensures exact { self.new ≡ said_of (Saying.Adjust n) self.old }
     {
-        if let Line::Live(live) = self.line {
-            self.line = Line::Live(live.grants(n));
+        if let Line::Live(live) = &mut self.line {
+            *live = live.grants(n);
         }
     }
 
@@ -304,7 +353,7 @@ impl Relay {
             Socket::Open(_) | Socket::Connecting(_) => {}
             Socket::Unmade | Socket::Closed => return None,
         }
-        if !self.line.counts() && self.queue.is_empty() {
+        if self.line.has_no_more(self.ended) && self.queue.is_empty() {
             return Some(Order::Close(t));
         }
         if self.line.is_ended() && self.queue.is_empty() && !stream.finished {
@@ -328,13 +377,18 @@ impl Relay {
         }
         match &self.line {
             Line::Live(live) => live.close_said || live.takes() == 0,
-            Line::Asked { .. } | Line::Opened | Line::Offered { .. } | Line::Over => true,
+            Line::Dialing(_)
+            | Line::Asked { .. }
+            | Line::Opened { .. }
+            | Line::Offered { .. }
+            | Line::Over => true,
         }
     }
 
     /// Its stream was ordered to close.
     pub fn closed(&mut self)
         ensures stands { GoesOn self.old self.new Other }
+        ensures exact { self.new ≡ record self.old { socket = Socket.Closed } }
     {
         self.socket = Socket::Closed;
     }
@@ -344,6 +398,7 @@ impl Relay {
     /// Its stream is made, or couldn't be.
     pub fn made(&mut self, stream: Option<u64>)
         ensures stands { GoesOn self.old self.new Other }
+        ensures exact { self.new ≡ record self.old { socket = made_as stream } }
     {
         self.socket = match stream {
             Some(stream) => Socket::Connecting(stream),
@@ -351,17 +406,80 @@ impl Relay {
         };
     }
 
-    /// It gave bytes.
-    pub fn got(&mut self, bytes: &[u8]) -> Result<(), OutOfMemory>
-        ensures stands { OnOk result (self.old.ended ≡ false → GoesOn self.old self.new (Reads bytes.now)) }
-        ensures held { OnOk result (self.new.held.waiting ≡ self.old.held.waiting ++ bytes.now) }
+    /// It gave bytes. A dialog that asks for a channel gets one where one is free.
+    pub fn got(&mut self, alloc: Global, bytes: &[u8], free: bool) -> Result<(), OutOfMemory>
+        ensures stands { OnOk result
+            (MayRead bytes.now self.old → GoesOn self.old self.new (Reads bytes.now)) }
+        ensures dials { OnOk result (Dials free bytes.now self.old self.new) }
+        ensures others { OnOk result (self.new ≡ record self.old {
+          line = self.new.line;
+          socket = self.new.socket;
+          held = self.new.held;
+          queue = self.new.queue;
+        }) }
     {
-        self.held.push_bytes(bytes)
+        let count = self.dials(alloc, bytes, free)?;
+        self.held.push_bytes(&bytes[count..])
+    }
+
+    /// Its dialog, if one is read, hears the bytes first: how many of them belong to it.
+    fn dials(&mut self, alloc: Global, bytes: &[u8], free: bool) -> Result<usize, OutOfMemory>
+        ensures within { IfOk result (λ count. count ≤ length bytes.now) }
+        ensures stands { IfOk result (λ count. MayRead bytes.now self.old
+            → GoesOn self.old (holding (drop count bytes.now) self.new) (Reads bytes.now)) }
+        ensures dials { OnOk result (Dials free bytes.now self.old self.new) }
+        ensures others { OnOk result (self.new ≡ record self.old {
+          line = self.new.line;
+          socket = self.new.socket;
+          queue = self.new.queue;
+        }) }
+    {
+        let Line::Dialing(dialog) = &mut self.line else {
+            return Ok(0);
+        };
+        let Heard { count, came } = hear(dialog, bytes, &mut self.queue)?;
+        match came {
+            Came::Nothing => {}
+            Came::Connect {
+                host,
+                port,
+                version,
+            } => {
+                let host = Text::copy(alloc, host.as_bytes())?;
+                self.asks(host, u32::from(port), version, free);
+            }
+            Came::Fault => self.line = Line::Over,
+        }
+        Ok(count)
+    }
+
+    /// Its dialog asks for a channel to this end, and one is free or not.
+    fn asks(&mut self, host: Text, port: u32, version: u8, free: bool)
+        ensures line { self.new.line
+            ≡ (if free then Line.Asked host port (Some version) else Line.Over) }
+        ensures socket { self.new.socket
+            ≡ (if free then self.old.socket else surplus_of self.old.socket) }
+        ensures others { self.new
+            ≡ record self.old { line = self.new.line; socket = self.new.socket } }
+    {
+        if free {
+            self.line = Line::Asked {
+                host,
+                port,
+                version: Some(version),
+            };
+            return;
+        }
+        self.line = Line::Over;
+        if let Some(stream) = self.stream() {
+            self.socket = Socket::Surplus(stream);
+        }
     }
 
     /// It gave its end.
     pub fn ends(&mut self)
         ensures stands { GoesOn self.old self.new Ends }
+        ensures exact { self.new ≡ record self.old { ended = true } }
     {
         self.ended = true;
     }
@@ -369,6 +487,7 @@ impl Relay {
     /// It takes bytes, or is connected.
     pub fn writable(&mut self)
         ensures stands { GoesOn self.old self.new Other }
+        ensures exact { self.new ≡ record self.old { socket = connected self.old.socket } }
     {
         if let Socket::Connecting(stream) = self.socket {
             self.socket = Socket::Open(stream);
@@ -378,6 +497,7 @@ impl Relay {
     /// It failed.
     pub fn failed(&mut self)
         ensures stands { GoesOn self.old self.new Fails }
+        ensures exact { self.new ≡ record self.old { socket = failing self.old.socket } }
     {
         if let Some(stream) = self.stream() {
             self.socket = Socket::Failed(stream);
@@ -389,43 +509,55 @@ impl Relay {
         requires { n ≤ length self.old.queue.waiting }
         ensures stands { owed_in self.old.line + n < 2 ^ 64
             → GoesOn self.old self.new (Takes n) }
+        ensures exact { owed_in self.old.line + n < 2 ^ 64 → self.new ≡ taken_of n self.old }
+        ensures others { self.new ≡ record self.old {
+          line = self.new.line;
+          queue = without_first n self.old.queue;
+        } }
     {
         self.queue.took(n);
-        match self.line {
-            Line::Live(live) => self.line = Line::Live(live.takes_more(n)),
-            Line::Asked { .. } => {}
-            Line::Opened => {}
-            Line::Offered { .. } => {}
-            Line::Over => {}
-        }
+        self.line.takes_more(n);
     }
 
     // ---- what comes of its channel
 
-    /// The server confirmed its OPEN.
-    pub fn confirmed(&mut self, remote: u32, window: u32, maximum: u32)
-        ensures stands { GoesOn self.old self.new Other }
+    /// The server confirmed its OPEN: a dialog is granted what it asked for.
+    pub fn confirmed(&mut self, remote: u32, window: u32, maximum: u32) -> Result<(), OutOfMemory>
+        ensures stands { OnOk result
+            (GoesOn self.old self.new (answered_in self.old.line Confirms)) }
+        ensures exact { OnOk result
+            (self.new ≡ confirmed_in self.old.line remote window maximum self.old) }
     {
-        if let Line::Opened = self.line {
-            self.line = Line::Live(Live::new(remote, window, maximum));
-        }
+        let Line::Opened { version } = self.line else {
+            return Ok(());
+        };
+        grant(version, &mut self.queue)?;
+        let replies = self.queue.len();
+        self.line = Line::Live(Live::new(remote, window, maximum, replies));
+        Ok(())
     }
 
-    /// The server refused its OPEN.
-    pub fn refused(&mut self)
-        ensures stands { GoesOn self.old self.new Other }
+    /// The server refused its OPEN for this reason (RFC 4254, section 5.1): a dialog is told so.
+    pub fn refused(&mut self, reason: u32) -> Result<(), OutOfMemory>
+        ensures stands { OnOk result
+            (GoesOn self.old self.new (answered_in self.old.line (Refuses reason))) }
+        ensures exact { OnOk result (self.new ≡ refused_in self.old.line reason self.old) }
     {
-        if let Line::Opened = self.line {
-            self.line = Line::Over;
-        }
+        let Line::Opened { version } = self.line else {
+            return Ok(());
+        };
+        refuse(version, reason, &mut self.queue)?;
+        self.line = Line::Over;
+        Ok(())
     }
 
     /// Room for more bytes in the channel.
     pub fn hears_room(&mut self, n: u32)
         ensures stands { GoesOn self.old self.new Other }
+        ensures exact { self.new ≡ on_line (room_heard n) self.old }
     {
-        if let Line::Live(live) = self.line {
-            self.line = Line::Live(live.hears_room(n));
+        if let Line::Live(live) = &mut self.line {
+            *live = live.hears_room(n);
         }
     }
 
@@ -436,7 +568,11 @@ impl Relay {
     {
         match &self.line {
             Line::Live(live) => !live.eof_heard && self.stream().is_some(),
-            Line::Asked { .. } | Line::Opened | Line::Offered { .. } | Line::Over => false,
+            Line::Dialing(_)
+            | Line::Asked { .. }
+            | Line::Opened { .. }
+            | Line::Offered { .. }
+            | Line::Over => false,
         }
     }
 
@@ -445,6 +581,7 @@ impl Relay {
         ensures stands { IfOk result (λ is. GoesOn self.old self.new
             (if is then Delivers bytes.now else Other)) }
         ensures exact { IfOk result (λ is. is ≡ delivers self.old) }
+        ensures queue { IfOk result (λ is. self.new ≡ data_heard is bytes.now self.old) }
     {
         if self.delivers() {
             self.queue.push_bytes(bytes)?;
@@ -456,11 +593,13 @@ impl Relay {
     /// The server ends its data.
     pub fn hears_eof(&mut self)
         ensures stands { GoesOn self.old self.new (heard_in self.old.line HearsEof) }
+        ensures exact { self.new ≡ on_line eof_heard self.old }
     {
-        match self.line {
-            Line::Live(live) => self.line = Line::Live(live.hears_eof()),
+        match &mut self.line {
+            Line::Live(live) => *live = live.hears_eof(),
+            Line::Dialing(_) => {}
             Line::Asked { .. } => {}
-            Line::Opened => {}
+            Line::Opened { .. } => {}
             Line::Offered { .. } => {}
             Line::Over => {}
         }
@@ -469,11 +608,13 @@ impl Relay {
     /// The server closes the channel.
     pub fn hears_close(&mut self)
         ensures stands { GoesOn self.old self.new (heard_in self.old.line HearsClose) }
+        ensures exact { self.new ≡ on_line close_heard self.old }
     {
         match self.line {
             Line::Live(live) => self.line = live.hears_close(),
+            Line::Dialing(_) => {}
             Line::Asked { .. } => {}
-            Line::Opened => {}
+            Line::Opened { .. } => {}
             Line::Offered { .. } => {}
             Line::Over => {}
         }
@@ -482,9 +623,10 @@ impl Relay {
     /// A channel request of the server.
     pub fn hears_request(&mut self, want: bool)
         ensures stands { GoesOn self.old self.new Other }
+        ensures exact { self.new ≡ on_line (request_heard want) self.old }
     {
-        if let Line::Live(live) = self.line {
-            self.line = Line::Live(live.hears_request(want));
+        if let Line::Live(live) = &mut self.line {
+            *live = live.hears_request(want);
         }
     }
 }
