@@ -1,6 +1,9 @@
 //! Talks of the control client, byte for byte: what is asked, what the master says, and then the
 //! answer, what was sent and what is shown.
 
+ghost use Rattle.std.specs.Prelude.{◌≤◌, length, IfOk};
+ghost use Rattle.mux_client.specs.Requests.{HasShortHosts, MayAsk};
+
 use mux_client::{Asks, Talked, talk};
 use mux_outside::{
     Calls, ListSink, ScriptWire, StartAsk, StartAsks, Step, Steps, Wire, WriteEntry, Writes,
@@ -74,7 +77,10 @@ fn ask_of(
     port: u32,
     host: &[u8],
     to: u32,
-) -> Result<StartAsk, OutOfMemory> {
+) -> Result<StartAsk, OutOfMemory>
+    requires short { length host.now ≤ 255 }
+    ensures { IfOk result HasShortHosts }
+{
     Ok(StartAsk {
         kind,
         listen_host: Text::new(alloc),
@@ -85,7 +91,9 @@ fn ask_of(
     })
 }
 
-fn forwards(alloc: Global, opening: bool, both: bool) -> Result<Asks, OutOfMemory> {
+fn forwards(alloc: Global, opening: bool, both: bool) -> Result<Asks, OutOfMemory>
+    ensures { IfOk result MayAsk }
+{
     let mut what = StartAsks::new(alloc);
     what.push(ask_of(alloc, 2, 0, b"web", 80)?)?;
     if both {
@@ -94,7 +102,9 @@ fn forwards(alloc: Global, opening: bool, both: bool) -> Result<Asks, OutOfMemor
     Ok(Asks::Forwards { opening, what })
 }
 
-fn asks_of(alloc: Global, ask: Ask) -> Result<Asks, OutOfMemory> {
+fn asks_of(alloc: Global, ask: Ask) -> Result<Asks, OutOfMemory>
+    ensures { IfOk result MayAsk }
+{
     match ask {
         Ask::Check => Ok(Asks::Check),
         Ask::Exit => Ok(Asks::Exit),
