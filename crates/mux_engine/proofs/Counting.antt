@@ -5,6 +5,7 @@ use Rattle.std.specs.Bool.{MatchBool}
 use Rattle.std.proofs.lemmas.Bool.{eq-eqb}
 use Rattle.mux_outside.specs.Counts.{Rose, counted}
 use Rattle.mux_outside.specs.Seen.{Calls, calls_after_wait, is_starved}
+use Rattle.mux_outside.specs.OwnStreams.{is_own}
 use Rattle.mux_outside.specs.Wire.{SameFaults, TurnFaults}
 use Rattle.mux_outside.specs.declared.mark.Mark.{Mark}
 use Rattle.mux_outside.specs.declared.mark.Mark.TheVariants.{Accepts, Gets, Ends, Fails, WriteFails}
@@ -13,11 +14,11 @@ use Rattle.mux_outside.specs.declared.turn.Turn.TheVariants as turn
 use Rattle.mux_history.specs.declared.ended.Ended.{Ended}
 use Rattle.mux_history.specs.declared.ended.Ended.TheVariants as ended
 use Rattle.mux_machine.specs.declared.event.Event.{Event}
-use Rattle.mux_machine.specs.declared.event.Event.TheVariants.{Accepted, FromClient, ClientEnd, ClientFailed, FromServer, ServerEnd, ServerFailed}
+use Rattle.mux_machine.specs.declared.event.Event.TheVariants.{Accepted, FromClient, ClientEnd, ClientFailed, HouseSays, FromServer, ServerEnd, ServerFailed}
 use Rattle.mux_machine.specs.Events.{MayEnd, Tells}
 use Rattle.mux_engine.specs.Counted.{Counts, Cut, Stops, Waited, Well}
 use Rattle.mux_engine.specs.Serving.{StaysOrFails}
-use Rattle.mux_engine.specs.Turns.{IsNext}
+use Rattle.mux_engine.specs.Turns.{IsEventOf}
 use Rattle.mux_engine.proofs.Arms.{well-wait}
 
 -- ---- calls
@@ -37,15 +38,16 @@ pub cut-wait : (t : Turn) (c : Calls) → Cut 1 c (calls_after_wait t c)
 cut-wait t c = record { few = counted-most c.waits; wants = wants-wait (is_starved t) c; late = late-wait t c }
 
 -- one that found memory, where its turn told an event
-tells-event : (e : Event) (t : Turn) (bytes : List ℕ) → IsNext (Some e) t bytes → is_starved t ≡ false
+tells-event : (e : Event) (t : Turn) (bytes : List ℕ) → IsEventOf e t bytes → is_starved t ≡ false
 tells-event e (turn.Accepted k) bytes next = refl
 tells-event e (turn.Got k) bytes next = refl
 tells-event e (turn.End k) bytes next = refl
 tells-event e (turn.Failed k) bytes next = refl
 tells-event e (turn.Writable k) bytes next = absurd next
+tells-event e (turn.Joined l k) bytes next = absurd next
 tells-event e turn.NoMemory bytes next = absurd next
 
-pub counts-event : {A E : Type 0} (r : Result A E) (e : Event) (t : Turn) (bytes : List ℕ) (c : Calls) → IsNext (Some e) t bytes → Counts 1 r c (calls_after_wait t c)
+pub counts-event : {A E : Type 0} (r : Result A E) (e : Event) (t : Turn) (bytes : List ℕ) (c : Calls) → IsEventOf e t bytes → Counts 1 r c (calls_after_wait t c)
 counts-event (Ok x) e t bytes c next = well-wait t c (tells-event e t bytes next)
 counts-event (Err x) e t bytes c next = cut-wait t c
 
@@ -113,6 +115,7 @@ failed-by ServerFailed o may is = tt
 failed-by (Accepted k) o may is = absurd (let z : None ≡ Some ended.ServerFailed = sym may ∙ is in cc)
 failed-by (ClientEnd k) o may is = absurd (let z : None ≡ Some ended.ServerFailed = sym may ∙ is in cc)
 failed-by (ClientFailed k) o may is = absurd (let z : None ≡ Some ended.ServerFailed = sym may ∙ is in cc)
+failed-by (HouseSays k id reply) o may is = absurd (let z : None ≡ Some ended.ServerFailed = sym may ∙ is in cc)
 failed-by (FromClient k bytes) o may is = absurd (may.0 is)
 failed-by (FromServer bytes) o may is = absurd (may.0 is)
 failed-by ServerEnd o may is = absurd (may.0 is)
@@ -126,6 +129,7 @@ failed-stream ServerFailed k is t = elim t [ inl m ↦ ap stream-of m | inr m �
 failed-stream (Accepted j) k is t = absurd is
 failed-stream (ClientEnd j) k is t = absurd is
 failed-stream (ClientFailed j) k is t = absurd is
+failed-stream (HouseSays j id reply) k is t = absurd is
 failed-stream (FromClient j bytes) k is t = absurd is
 failed-stream (FromServer bytes) k is t = absurd is
 failed-stream ServerEnd k is t = absurd is
@@ -135,24 +139,26 @@ not-told ServerFailed mark is t f g = elim t [ inl m ↦ f m | inr m ↦ g m ]
 not-told (Accepted j) mark is t f g = is
 not-told (ClientEnd j) mark is t f g = is
 not-told (ClientFailed j) mark is t f g = is
+not-told (HouseSays j id reply) mark is t f g = is
 not-told (FromClient j bytes) mark is t f g = is
 not-told (FromServer bytes) mark is t f g = is
 not-told ServerEnd mark is t f g = is
 
 -- its count rose where a turn ended the run so
-rose-by : (e : Event) (t : Turn) (bytes : List ℕ) (a b c d : ℕ) → IsServerFailed e → IsNext (Some e) t bytes → TurnFaults t a b c d → Rose a b
-rose-by e (turn.Failed k) bytes a b c d is next f = by_server (k == 0) (eq-eqb k 0 (failed-stream e k is next)) f
+rose-by : (e : Event) (t : Turn) (bytes : List ℕ) (a b c d : ℕ) → IsServerFailed e → IsEventOf e t bytes → TurnFaults t a b c d → Rose a b
+rose-by e (turn.Failed k) bytes a b c d is next f = by_server (k == 0) (eq-eqb k 0 (failed-stream e k is next.1)) f
   where
-    by_server : (t : Bool) → t ≡ true → MatchBool t (Rose a b × (d ≡ c)) ((b ≡ a) × Rose c d) → Rose a b
+    by_server : (t : Bool) → t ≡ true → MatchBool t (Rose a b × (d ≡ c)) ((b ≡ a) × MatchBool (is_own k) (d ≡ c) (Rose c d)) → Rose a b
     by_server true e f = f.0
     by_server false e f = absurd (cc)
 rose-by e (turn.Accepted k) bytes a b c d is next f = absurd (not-told e (Accepts k) is next (λ z. cc) (λ z. cc))
-rose-by e (turn.Got k) bytes a b c d is next f = absurd (not-told e (Gets k bytes) is next (λ z. cc) (λ z. cc))
-rose-by e (turn.End k) bytes a b c d is next f = absurd (not-told e (Ends k) is next (λ z. cc) (λ z. cc))
+rose-by e (turn.Got k) bytes a b c d is next f = absurd (not-told e (Gets k bytes) is next.1 (λ z. cc) (λ z. cc))
+rose-by e (turn.End k) bytes a b c d is next f = absurd (not-told e (Ends k) is next.1 (λ z. cc) (λ z. cc))
 rose-by e (turn.Writable k) bytes a b c d is next f = absurd next
+rose-by e (turn.Joined l k) bytes a b c d is next f = absurd next
 rose-by e turn.NoMemory bytes a b c d is next f = absurd next
 
-pub turn-rose : (e : Event) (o : Option Ended) (t : Turn) (bytes : List ℕ) (a b c d : ℕ) → MayEnd e o → IsNext (Some e) t bytes → TurnFaults t a b c d → o ≡ Some ended.ServerFailed → Rose a b
+pub turn-rose : (e : Event) (o : Option Ended) (t : Turn) (bytes : List ℕ) (a b c d : ℕ) → MayEnd e o → IsEventOf e t bytes → TurnFaults t a b c d → o ≡ Some ended.ServerFailed → Rose a b
 turn-rose e o t bytes a b c d may next f over = rose-by e t bytes a b c d (failed-by e o may over) next f
 
 same-later : (a b : ℕ) → b ≡ a → a ≤ b
@@ -164,10 +170,11 @@ turn-later (turn.Accepted k) a b c d f = same-later a b f.same_server
 turn-later (turn.Got k) a b c d f = same-later a b f.same_server
 turn-later (turn.End k) a b c d f = same-later a b f.same_server
 turn-later (turn.Writable k) a b c d f = same-later a b f.same_server
+turn-later (turn.Joined l k) a b c d f = same-later a b f.same_server
 turn-later turn.NoMemory a b c d f = same-later a b f.same_server
 turn-later (turn.Failed k) a b c d f = by_server (k == 0) f
   where
-    by_server : (t : Bool) → MatchBool t (Rose a b × (d ≡ c)) ((b ≡ a) × Rose c d) → a ≤ b
+    by_server : (t : Bool) → MatchBool t (Rose a b × (d ≡ c)) ((b ≡ a) × MatchBool (is_own k) (d ≡ c) (Rose c d)) → a ≤ b
     by_server true f = let r : Rose a b = f.0 in r.later
     by_server false f = same-later a b f.0
 
@@ -178,6 +185,7 @@ pub turn-unspent : (e : Event) (o : Option Ended) → MayEnd e o → o ≢ Some 
 turn-unspent (Accepted k) o may is = let z : None ≡ Some ended.Spent = sym may ∙ is in cc
 turn-unspent (ClientEnd k) o may is = let z : None ≡ Some ended.Spent = sym may ∙ is in cc
 turn-unspent (ClientFailed k) o may is = let z : None ≡ Some ended.Spent = sym may ∙ is in cc
+turn-unspent (HouseSays k id reply) o may is = let z : None ≡ Some ended.Spent = sym may ∙ is in cc
 turn-unspent ServerFailed o may is = let z : Some ended.ServerFailed ≡ Some ended.Spent = sym may ∙ is in cc
 turn-unspent (FromClient k bytes) o may is = may.1 is
 turn-unspent (FromServer bytes) o may is = may.1 is

@@ -1,8 +1,10 @@
 //! A run of the master: `serve` drives an engine over a wire.
 #![tactic(auto)]
 
+mod asking;
 mod events;
-mod serving;
+mod housing;
+mod orders;
+mod owned;
+mod room;
 mod settling;
-
-pub use serving::serve;

@@ -148,9 +148,13 @@ fine-unread : (fault : BadControl) → IsFine (first_unread fault)
 fine-unread (bad.Unknown kind id) = tt
 fine-unread fault = tt
 
+fine-maybe : (o : Option Rattle.ssh_grammar.specs.Control.Answer) → IsFine (Rattle.mux_history.specs.Controls.answers_maybe o)
+fine-maybe None = tt
+fine-maybe (Some answer) = tt
+
 fine-ask : (opening : Bool) (id : ℕ) (given : Option HouseReply) → IsFine (Rattle.mux_history.specs.Controls.answers_ask opening id given)
 fine-ask opening id None = tt
-fine-ask opening id (Some reply) = tt
+fine-ask opening id (Some reply) = fine-maybe (Rattle.mux_history.specs.Controls.house_answer opening id reply)
 
 fine-later : (pid k : ℕ) (given : Option HouseReply) (c : Control) → IsFine (later_control pid k given c)
 fine-later pid k given (Terminate id) = (λ e. cc, λ e. cc)

@@ -1,28 +1,38 @@
 use Rattle.std.proofs.Common.{[], ◌∷◌, ◌∙◌, refl, ap, inl, le_trans}
 use Rattle.mux_machine.specs.State.{State, queue_in}
 use Rattle.mux_engine.proofs.Arms.{counts-then, on-err, on-ok, then-stays-or-fails}
-use Rattle.mux_engine.proofs.Loops.{counts-err, server-idle}
+use Rattle.mux_engine.proofs.Loops.{counts-err, more-left, no-zero, server-idle}
+use Rattle.mux_engine.proofs.Places.{places-then}
 use Rattle.mux_engine.proofs.settling.flush.Goals as goal
 
 pub offer-requires-clause-served : goal.offer-requires-clause-served
 offer-requires-clause-served g c = let w = c.requires.served in record {
+  present = w.present;
   before = w.before;
+  now = w.now;
   policy = w.policy;
   pid = w.pid;
   start = w.start;
+  failed = w.failed;
   given = w.given;
-  todo = 0 ∷ [];
-  serving = c.in_ok-offer_clients.ensures.serving w.before w.policy w.pid w.start w.given w.serving;
+  todo = 0 ∷ w.todo;
+  serving = c.in_ok-offer_clients.ensures.serving w.todo w.present w.before w.now w.policy w.pid w.start w.failed w.given (more-left w.todo w.serving);
 }
 
+pub offer-requires-clause-no_house : goal.offer-requires-clause-no_house
+offer-requires-clause-no_house g c = no-zero
+
 pub returns-in_err-offer_clients-clause-serving : goal.returns-in_err-offer_clients-clause-serving
-returns-in_err-offer_clients-clause-serving g c before policy pid start given v = on-err c.from_residual.result _ _ c.from_residual.ensures.0 (c.in_err-offer_clients.ensures.serving before policy pid start given v)
+returns-in_err-offer_clients-clause-serving g c left present before now policy pid start failed given v = on-err c.from_residual.result _ _ c.from_residual.ensures.0 (c.in_err-offer_clients.ensures.serving left present before now policy pid start failed given v)
 
 pub returns-in_err-offer_clients-clause-calls : goal.returns-in_err-offer_clients-clause-calls
 returns-in_err-offer_clients-clause-calls g c = counts-err c.from_residual.result 0 _ _ c.from_residual.ensures.0 c.in_err-offer_clients.ensures.calls
 
 pub returns-clause-serving : goal.returns-clause-serving
-returns-clause-serving g c before policy pid start given v = c.offer.ensures.serving [] refl before policy pid start given (c.in_ok-offer_clients.ensures.serving before policy pid start given v)
+returns-clause-serving g c left present before now policy pid start failed given v = c.offer.ensures.serving left refl present before now policy pid start failed given (c.in_ok-offer_clients.ensures.serving left present before now policy pid start failed given v)
+
+pub returns-clause-places : goal.returns-clause-places
+returns-clause-places g c = places-then _ _ _ c.offer_clients.ensures.places c.offer.ensures.places
 
 pub returns-clause-streams : goal.returns-clause-streams
 returns-clause-streams g c = on-ok c.offer.result (λ e. e ∙ c.in_ok-offer_clients.ensures.streams) c.offer.ensures.streams

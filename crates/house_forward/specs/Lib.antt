@@ -1,0 +1,4 @@
+pub mod Forwardings
+pub mod Known
+pub mod Relays
+pub mod Rules

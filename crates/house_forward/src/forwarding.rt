@@ -1,0 +1,201 @@
+//! One forwarding of the house.
+ghost use Rattle.std.specs.Prelude.{◌≡◌, true, IfOk};
+ghost use Rattle.house_forward.specs.Forwardings.{counts, listens_at, connects_to, outcome_of, bound_of, listener_of, is_first, as_first, has_request, IsAskedFor};
+
+use crate::asks::{Asked, Outcome};
+use crate::rules::{Ends, Kind, same_kind};
+use mux_outside::Order;
+use ssh_fields::{OutOfMemory, Text};
+use std::alloc::Global;
+
+/// A request to the server that has no reply yet.
+#[derive(Clone, Copy, Debug)]
+pub enum Request {
+    /// To listen for this forwarding.
+    Listen(u64),
+    /// To listen for it no longer.
+    Cancel(u64),
+}
+
+/// How far a forwarding is.
+#[derive(Drop)]
+pub enum Stage {
+    /// A listener is to be ordered: the order, and the same for its mark.
+    ToListen { order: Order, mark: Order },
+    /// It is ordered, and its number is awaited.
+    Ordered,
+    /// This listener listens.
+    Listening(u64),
+    /// The request to the server is to be said.
+    ToRequest,
+    /// It is said and unanswered.
+    Requested,
+    /// The server listens on this port.
+    Live(u32),
+    /// The same, and the cancel is said and unanswered.
+    Cancelling(u32),
+}
+
+/// A forwarding that is asked or live, or that is still to be closed.
+#[derive(Drop)]
+pub struct Forwarding {
+    /// A number of its own, never used again.
+    pub serial: u64,
+    pub kind: Kind,
+    /// The listen host as it is used, and the port as it was asked.
+    pub listen_host: Text,
+    pub listen_port: u32,
+    pub connect_host: Text,
+    pub connect_port: u32,
+    pub stage: Stage,
+    /// Whether it was asked to close.
+    pub closing: bool,
+    /// Which of the forwardings asked for at the start it is.
+    pub start: Option<usize>,
+}
+
+impl Forwarding {
+    /// A forwarding that is asked for.
+    pub fn asked(
+        alloc: Global,
+        serial: u64,
+        ends: Ends<'_>,
+        start: Option<usize>,
+    ) -> Result<Forwarding, OutOfMemory>
+        ensures { IfOk result (λ f. IsAskedFor ends.entry serial start f) }
+    {
+        let listen_host = Text::copy(alloc, ends.listen_host)?;
+        let connect_host = Text::copy(alloc, ends.connect_host)?;
+        let stage = first_stage(alloc, ends)?;
+        Ok(Forwarding {
+            serial,
+            kind: ends.kind,
+            listen_host,
+            listen_port: ends.listen_port,
+            connect_host,
+            connect_port: ends.connect_port,
+            stage,
+            closing: false,
+            start,
+        })
+    }
+
+    /// Whether it counts as asked or live: one that listens here ends as it is asked to close.
+    pub fn counts(&self) -> bool
+        ensures { result ≡ counts self.now }
+    {
+        !(self.closing && self.kind.listens_here())
+    }
+
+    /// Whether it listens where this is to listen.
+    pub fn listens_at(&self, ends: Ends<'_>) -> bool
+        ensures { result ≡ listens_at ends.entry self.now }
+    {
+        same_kind(self.kind, ends.kind)
+            && self.listen_port == ends.listen_port
+            && self.listen_host.as_bytes() == ends.listen_host
+    }
+
+    /// Whether it connects where this is to connect.
+    pub fn connects_to(&self, ends: Ends<'_>) -> bool
+        ensures { result ≡ connects_to ends.entry self.now }
+    {
+        self.connect_port == ends.connect_port && self.connect_host.as_bytes() == ends.connect_host
+    }
+
+    /// What those that ask for it come to, once that is known.
+    pub fn outcome(&self) -> Option<Outcome>
+        ensures { result ≡ outcome_of self.now }
+    {
+        match self.stage {
+            Stage::Listening(_) => Some(Outcome::Done),
+            Stage::Live(port) | Stage::Cancelling(port) => {
+                if self.listen_port == 0 {
+                    Some(Outcome::Port(port))
+                } else {
+                    Some(Outcome::Done)
+                }
+            }
+            Stage::ToListen { .. } | Stage::Ordered | Stage::ToRequest | Stage::Requested => None,
+        }
+    }
+
+    /// What comes of the same ask again.
+    pub fn as_first(&self) -> Asked
+        ensures { result ≡ as_first self.now (outcome_of self.now) }
+    {
+        match self.outcome() {
+            None => Asked::Later(self.serial),
+            Some(outcome) => Asked::Now(outcome),
+        }
+    }
+
+    /// Whether a request is to be said for it: to listen, or to do so no longer.
+    pub fn has_request(&self) -> bool
+        ensures { result ≡ has_request self.now }
+    {
+        match self.stage {
+            Stage::ToRequest => true,
+            Stage::Live(_) => self.closing,
+            Stage::ToListen { .. }
+            | Stage::Ordered
+            | Stage::Listening(_)
+            | Stage::Requested
+            | Stage::Cancelling(_) => false,
+        }
+    }
+
+    /// The request that is to be said for it, where there is one.
+    pub fn request(&self) -> Request {
+        match self.stage {
+            Stage::Live(_) => Request::Cancel(self.serial),
+            _ => Request::Listen(self.serial),
+        }
+    }
+
+    /// The port that the server listens on, if it does.
+    pub fn bound(&self) -> Option<u32>
+        ensures { result ≡ bound_of self.now }
+    {
+        match self.stage {
+            Stage::Live(port) | Stage::Cancelling(port) => Some(port),
+            Stage::ToListen { .. }
+            | Stage::Ordered
+            | Stage::Listening(_)
+            | Stage::ToRequest
+            | Stage::Requested => None,
+        }
+    }
+
+    /// The listener, if it listens here.
+    pub fn listener(&self) -> Option<u64>
+        ensures { result ≡ listener_of self.now }
+    {
+        match self.stage {
+            Stage::Listening(listener) => Some(listener),
+            Stage::ToListen { .. }
+            | Stage::Ordered
+            | Stage::ToRequest
+            | Stage::Requested
+            | Stage::Live(_)
+            | Stage::Cancelling(_) => None,
+        }
+    }
+}
+
+/// What is to be done first.
+fn first_stage(alloc: Global, ends: Ends<'_>) -> Result<Stage, OutOfMemory>
+    ensures { IfOk result (λ stage. is_first stage ≡ true) }
+{
+    match ends.kind {
+        Kind::Local | Kind::Dynamic => {
+            let order = Order::Listen {
+                host: Text::copy(alloc, ends.listen_host)?,
+                port: ends.listen_port,
+            };
+            let mark = order.copy(alloc)?;
+            Ok(Stage::ToListen { order, mark })
+        }
+        Kind::Remote => Ok(Stage::ToRequest),
+    }
+}

@@ -1,0 +1,6 @@
+mod Answerings
+mod Comings
+mod Dialings
+mod Readings
+mod Takings
+mod Whole
