@@ -49,7 +49,7 @@ went-over None w cause e over = absurd (let z : went.On ≡ went.Ended cause = s
 -- ---- behind the loop
 
 -- so many turns were given, and all where the run goes on
-pub record Looped {O V : Type 0} (May : HouseReply → Type 0) (house house' : Option (List Asked)) (seen seen' : Seen) (held' : List ℕ) (s s' : State) (turns faults faults' : ℕ) (calls calls' : Calls) (openings openings' : O) (wire wire' : V) : Type 0 where
+pub record Looped {O J V : Type 0} (May : HouseReply → Type 0) (house house' : Option (List Asked)) (seen seen' : Seen) (held' : List ℕ) (s s' : State) (turns faults faults' : ℕ) (calls calls' : Calls) (openings openings' : O) (joinings joinings' : J) (wire wire' : V) : Type 0 where
   pub given : ℕ
   pub fits : given ≤ turns
   pub serving : (before : Option (List Asked)) (policy : Policy) (pid : ℕ) (start : Option (List Mark)) (first : ℕ) → Serving May before house policy pid start seen [] first (0 ∷ here s) s → Serving May before house' policy pid start seen' held' (first + given) (0 ∷ here s') s'
@@ -60,12 +60,13 @@ pub record Looped {O V : Type 0} (May : HouseReply → Type 0) (house house' : O
   pub failed : s'.ended ≡ Some ended.ServerFailed → Rose faults faults'
   pub counts : Well given calls calls'
   pub opened : openings' ≡ openings
+  pub joined : joinings' ≡ joinings
 
 -- all turns were given
-pub looped-spent : {O V : Type 0} {May : HouseReply → Type 0} {house house' : Option (List Asked)} {seen seen' : Seen} {held' : List ℕ} {s s' : State} {turns faults faults' : ℕ} {calls calls' : Calls} {openings openings' : O} {wire wire' : V} (counter : ℕ) → counter ≡ turns
+pub looped-spent : {O J V : Type 0} {May : HouseReply → Type 0} {house house' : Option (List Asked)} {seen seen' : Seen} {held' : List ℕ} {s s' : State} {turns faults faults' : ℕ} {calls calls' : Calls} {openings openings' : O} {joinings joinings' : J} {wire wire' : V} (counter : ℕ) → counter ≡ turns
     → ((before : Option (List Asked)) (policy : Policy) (pid : ℕ) (start : Option (List Mark)) (first : ℕ) → Serving May before house policy pid start seen [] first (0 ∷ here s) s → Serving May before house' policy pid start seen' held' (first + counter) (0 ∷ here s') s')
-    → s'.ended ≡ None → (counter ≡ 0 → (s' ≡ s) × (wire' ≡ wire)) → faults ≤ faults' → Well counter calls calls' → openings' ≡ openings → Looped May house house' seen seen' held' s s' turns faults faults' calls calls' openings openings' wire wire'
-looped-spent {turns = turns} counter all serving on first later counts opened = record {
+    → s'.ended ≡ None → (counter ≡ 0 → (s' ≡ s) × (wire' ≡ wire)) → faults ≤ faults' → Well counter calls calls' → openings' ≡ openings → joinings' ≡ joinings → Looped May house house' seen seen' held' s s' turns faults faults' calls calls' openings openings' joinings joinings' wire wire'
+looped-spent {turns = turns} counter all serving on first later counts opened joined = record {
   given = counter;
   fits = omega arith;
   serving = serving;
@@ -76,13 +77,14 @@ looped-spent {turns = turns} counter all serving on first later counts opened = 
   failed = λ e. let z : None ≡ Some ended.ServerFailed = sym on ∙ e in absurd (let h = z in cc);
   counts = counts;
   opened = opened;
+  joined = joined;
 }
 
 -- or the run ended at one
-pub looped-over : {O V : Type 0} {May : HouseReply → Type 0} {house house' : Option (List Asked)} {seen seen' : Seen} {held' : List ℕ} {s s' : State} {turns faults faults' : ℕ} {calls calls' : Calls} {openings openings' : O} {wire wire' : V} (counter : ℕ) → counter < turns
+pub looped-over : {O J V : Type 0} {May : HouseReply → Type 0} {house house' : Option (List Asked)} {seen seen' : Seen} {held' : List ℕ} {s s' : State} {turns faults faults' : ℕ} {calls calls' : Calls} {openings openings' : O} {joinings joinings' : J} {wire wire' : V} (counter : ℕ) → counter < turns
     → ((before : Option (List Asked)) (policy : Policy) (pid : ℕ) (start : Option (List Mark)) (first : ℕ) → Serving May before house policy pid start seen [] first (0 ∷ here s) s → Serving May before house' policy pid start seen' held' (first + counter + 1) (0 ∷ here s') s')
-    → s'.ended ≢ None → s'.ended ≢ Some ended.Spent → faults ≤ faults' → (s'.ended ≡ Some ended.ServerFailed → Rose faults faults') → Well (counter + 1) calls calls' → openings' ≡ openings → Looped May house house' seen seen' held' s s' turns faults faults' calls calls' openings openings' wire wire'
-looped-over counter less serving over unspent later failed counts opened = record {
+    → s'.ended ≢ None → s'.ended ≢ Some ended.Spent → faults ≤ faults' → (s'.ended ≡ Some ended.ServerFailed → Rose faults faults') → Well (counter + 1) calls calls' → openings' ≡ openings → joinings' ≡ joinings → Looped May house house' seen seen' held' s s' turns faults faults' calls calls' openings openings' joinings joinings' wire wire'
+looped-over counter less serving over unspent later failed counts opened joined = record {
   given = counter + 1;
   fits = omega arith;
   serving = λ before policy pid start first v. given-is (first + counter + 1) (first + (counter + 1)) (one-given first counter) (serving before policy pid start first v);
@@ -93,10 +95,11 @@ looped-over counter less serving over unspent later failed counts opened = recor
   failed = failed;
   counts = counts;
   opened = opened;
+  joined = joined;
 }
 
 -- what a run asks of its last offers
-pub looped-served : {O V : Type 0} {May : HouseReply → Type 0} {house house' : Option (List Asked)} {seen seen' : Seen} {held' : List ℕ} {s s' : State} {turns faults faults' : ℕ} {calls calls' : Calls} {openings openings' : O} {wire wire' : V} → Looped May house house' seen seen' held' s s' turns faults faults' calls calls' openings openings' wire wire'
+pub looped-served : {O J V : Type 0} {May : HouseReply → Type 0} {house house' : Option (List Asked)} {seen seen' : Seen} {held' : List ℕ} {s s' : State} {turns faults faults' : ℕ} {calls calls' : Calls} {openings openings' : O} {joinings joinings' : J} {wire wire' : V} → Looped May house house' seen seen' held' s s' turns faults faults' calls calls' openings openings' joinings joinings' wire wire'
     → IsServedBut May house seen [] (0 ∷ here s) s → IsServedBut May house' seen' held' (0 ∷ here s') s'
 looped-served l w = record { before = w.before; policy = w.policy; pid = w.pid; start = w.start; given = w.given + l.given; serving = l.serving w.before w.policy w.pid w.start w.given w.serving }
 
@@ -105,7 +108,7 @@ fails-on old new a b (inl s) is = sym s.0 ∙ is
 fails-on old new a b (inr f) is = let z : Some ended.ServerFailed ≡ None = sym f.0 ∙ is in absurd (let h = z in cc)
 
 -- the answer behind them
-pub looped-ends : {O V : Type 0} {May : HouseReply → Type 0} {house house' : Option (List Asked)} {seen seen' : Seen} {held' : List ℕ} {s s' : State} {turns faults faults' : ℕ} {calls calls' : Calls} {openings openings' : O} {wire wire' : V} → Looped May house house' seen seen' held' s s' turns faults faults' calls calls' openings openings' wire wire'
+pub looped-ends : {O J V : Type 0} {May : HouseReply → Type 0} {house house' : Option (List Asked)} {seen seen' : Seen} {held' : List ℕ} {s s' : State} {turns faults faults' : ℕ} {calls calls' : Calls} {openings openings' : O} {joinings joinings' : J} {wire wire' : V} → Looped May house house' seen seen' held' s s' turns faults faults' calls calls' openings openings' joinings joinings' wire wire'
     → (before now : Option (List Asked)) (policy : Policy) (pid : ℕ) (start : Option (List Mark)) (seen'' : Seen) (held'' : List ℕ) (s'' : State) (faults'' : ℕ) (l : ℕ) → l ≤ turns → (s'.ended ≡ None → l ≡ turns)
     → Serving May before now policy pid start seen'' held'' l [] s'' → StaysOrFails s'.ended s''.ended faults' faults'' → (answer : Ended) → answer ≡ unwrap_or s''.ended ended.Spent → IsRun May policy pid turns before now start seen''.told answer
 looped-ends {May = May} {s' = s'} {turns = turns} {faults' = faults'} l before now policy pid start seen'' held'' s'' faults'' given le spent v stays answer is =

@@ -1,5 +1,5 @@
 -- The loops over streams that are offered what waits for them, and over clients that are closed.
-use Rattle.std.proofs.Common.{◌≡◌, ◌≢◌, ◌≤◌, ◌<◌, ℕ, Bool, true, false, not, ◌||◌, List, [], ◌∷◌, ◌++◌, length, Option, Some, refl, sym, ap, ◌∙◌, subst, inl, inr, ◌⊎◌, cond, arith}
+use Rattle.std.proofs.Common.{◌≡◌, ◌≢◌, ◌≤◌, ◌<◌, ℕ, Bool, true, false, not, ◌||◌, List, [], ◌∷◌, ◌++◌, length, Option, Some, refl, sym, ap, ◌∙◌, subst, inl, inr, ◌⊎◌, cond, arith, None}
 use Rattle.std.specs.Prelude.{◌==◌, filter, Result, Ok, Err, IsErr}
 use Rattle.std.specs.List.{list_any}
 use Rattle.std.proofs.lemmas.Bool.{eq-eqb, eqb-true}
@@ -236,8 +236,8 @@ first-is k why (l ∷ ls) e = let p : l ≡ (k, why) = cc in ap (λ (x : ℕ × 
 -- ---- clients are accepted no more
 
 pub serve-hushed : {May : HouseReply → Type 0} {before now : Option (List Asked)} {policy : Policy} {pid : ℕ} {start : Option (List Mark)} {seen : Seen} {held : List ℕ} {given : ℕ} {todo : List ℕ} {s : State} (v : Serving May before now policy pid start seen held given todo s)
-    → s.listening ≡ false → Serving May before now policy pid start (record seen { listens = false }) held given todo s
-serve-hushed {todo = todo} v none = serve-with v false todo (λ l. true-false (sym l ∙ none)) (λ t a. inl a)
+    → (s.ended ≡ None → s.listening ≡ false) → Serving May before now policy pid start (record seen { listens = false }) held given todo s
+serve-hushed {todo = todo} v none = serve-with v false todo (λ live l. true-false (sym l ∙ none live)) (λ t a. inl a)
 
 -- ---- where nothing waits
 

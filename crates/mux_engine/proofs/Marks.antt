@@ -1,6 +1,7 @@
 -- One mark more: what holds while a wire is served goes on with it, and is left of it for want of
 -- memory.
-use Rattle.std.proofs.Common.{◌≡◌, ◌≤◌, ◌<◌, ℕ, true, false, List, [], ◌∷◌, ◌++◌, length, Option, None, refl, sym, ap, ◌∙◌, subst, inl, inr, arith, append_assoc, append-nil}
+use Rattle.std.proofs.Common.{◌≡◌, ◌≤◌, ◌<◌, ℕ, true, false, List, [], ◌∷◌, ◌++◌, length, Option, Some, None, refl, sym, ap, ◌∙◌, subst, inl, inr, arith, append_assoc, append-nil}
+use Rattle.std.specs.Prelude.{is_some}
 use Rattle.std.specs.Option.{option_map}
 use Rattle.mux_outside.specs.House.{Asked}
 use Rattle.mux_outside.specs.Seen.{Seen}
@@ -9,6 +10,8 @@ use Rattle.mux_outside.specs.declared.house.HouseReply.{HouseReply}
 use Rattle.mux_outside.specs.declared.mark.Mark.{Mark}
 use Rattle.mux_history.specs.Policy.{Policy}
 use Rattle.mux_history.specs.Rows.{Row, rows_of, is_out}
+use Rattle.mux_history.specs.declared.ended.Ended.{Ended}
+use Rattle.mux_history.specs.Solo.{end_of}
 use Rattle.mux_history.specs.Log.{Setting}
 use Rattle.mux_history.specs.Settings.{by_lists}
 use Rattle.mux_history.specs.Journal.{is_blocked, log_of_journal}
@@ -21,7 +24,9 @@ use Rattle.mux_machine.specs.Events.{here}
 use Rattle.mux_machine.specs.Stands.{GoesBy, RowsFit, Stands, StandsFor, log}
 use Rattle.mux_engine.specs.Run.{IsOfWire}
 use Rattle.mux_engine.specs.Serving.{IsLeft, IsSound, IsUnseen, Kept, Promised, Serving, is_open}
-use Rattle.mux_engine.proofs.Logs.{log-listens}
+use Rattle.mux_machine.proofs.Over.{some-end}
+use Rattle.mux_engine.proofs.Lists.{true-false}
+use Rattle.mux_engine.proofs.Logs.{log-listens, log-live}
 use Rattle.mux_engine.proofs.Told.{may-more, tells-more, tells-none, tells-then}
 
 -- ---- what stood before, with the numbers and replies of now
@@ -90,6 +95,20 @@ hears-before {s = s} {marks = marks} {closed = closed} st s' mark p r picked' re
     let new = st'.at [] [] in
     old.rows.listening_is ∙ log-listens (by_lists s.core.policy s.pid (picked' ++ []) (replies' ++ [])) mark marks (ap Rattle.mux_history.specs.Promises.listens (sym (log-same s s' (picked' ++ []) (replies' ++ []) (mark ∷ marks) g h)) ∙ (sym new.rows.listening_is ∙ l))
 
+-- where the run goes on, it went on before
+none-unended : (o : Option Ended) → is_some o ≡ false → o ≡ None
+none-unended None e = refl
+none-unended (Some cause) e = true-false e
+
+pub live-before : {picked : List ℕ} {replies : List HouseReply} {s : State} {marks : List Mark} {closed : List ℕ} (st : Stands picked replies s marks closed) (s' : State) (mark : Mark) (p : List ℕ) (r : List HouseReply) (picked' : List ℕ) (replies' : List HouseReply)
+    → picked' ≡ picked ++ p → replies' ≡ replies ++ r → s'.core.policy ≡ s.core.policy → s'.pid ≡ s.pid → Stands picked' replies' s' (mark ∷ marks) closed → s'.ended ≡ None → s.ended ≡ None
+live-before {s = s} {marks = marks} {closed = closed} st s' mark p r picked' replies' e f g h st' live =
+    let set : Setting = by_lists s.core.policy s.pid (picked' ++ []) (replies' ++ []) in
+    let old = stood-at st p r picked' replies' e f [] [] in
+    let new = st'.at [] [] in
+    none-unended s.ended (ap is_some old.rows.ended_is ∙ (some-end (log_of_journal set marks) ∙ log-live set mark marks
+    (sym (some-end (log_of_journal set (mark ∷ marks))) ∙ (ap (λ (rows : List Row). is_some (end_of rows)) (sym (log-same s s' (picked' ++ []) (replies' ++ []) (mark ∷ marks) g h)) ∙ (sym (ap is_some new.rows.ended_is) ∙ ap is_some live)))))
+
 -- with so many numbers and replies more, where the house was asked this
 unfoldable pub serve-on : {May : HouseReply → Type 0} {before now : Option (List Asked)} {policy : Policy} {pid : ℕ} {start : Option (List Mark)} {seen : Seen} {held : List ℕ} {given : ℕ} {todo : List ℕ} {s : State} (v : Serving May before now policy pid start seen held given todo s) (now' : Option (List Asked)) (seen' : Seen) (held' : List ℕ) (given' : ℕ) (todo' : List ℕ) (s' : State) (mark : Mark) (p : List ℕ) (r : List HouseReply) (asks : List Asked) (picked' : List ℕ) (replies' : List HouseReply)
     → picked' ≡ v.picked ++ p → replies' ≡ v.replies ++ r → MayGive May r → (st : Stands picked' replies' s' (mark ∷ v.journal) v.closed) → st.asks ≡ v.stands.asks ++ asks → TellsAsks now now' asks
@@ -111,7 +130,8 @@ serve-on {May} {before} {now} {policy} {pid} {start} {seen} {held} {given} {todo
   held_is = n.held_is;
   blocked_is = n.blocked_is;
   unseen = n.unseen;
-  hears = λ l. n.listens (v.hears (hears-before v.stands s' mark p r picked' replies' e f n.policy_is n.pid_is st l));
+  hears = λ live l. n.listens (v.hears (live-before v.stands s' mark p r picked' replies' e f n.policy_is n.pid_is st live)
+      (hears-before v.stands s' mark p r picked' replies' e f n.policy_is n.pid_is st l));
   sound = λ picks later.
       let set : Setting = by_lists policy pid (picked' ++ picks) (replies' ++ later) in
       let at : SoundAt set v.journal mark todo' s' = n.sound picks later in

@@ -233,7 +233,7 @@ cut-starved {now = now} {seen = seen} {given = given} v seen' k bytes e =
 -- clients may be accepted no more where the engine wants none; and other streams are to be offered
 -- what waits for them, where those that are not were so before or are settled
 pub serve-with : {May : HouseReply → Type 0} {before now : Option (List Asked)} {policy : Policy} {pid : ℕ} {start : Option (List Mark)} {seen : Seen} {held : List ℕ} {given : ℕ} {todo : List ℕ} {s : State} (v : Serving May before now policy pid start seen held given todo s) (listens : Bool) (todo' : List ℕ)
-    → (s.listening ≡ true → listens ≡ true)
+    → (s.ended ≡ None → s.listening ≡ true → listens ≡ true)
     → ((t : ℕ) → among t todo' ≡ false → (among t todo ≡ false) ⊎ ((picks : List ℕ) (later : List HouseReply) → IsSettled (by_lists policy pid (v.picked ++ picks) (v.replies ++ later)) v.journal t))
     → Serving May before now policy pid start (record seen { listens = listens }) held given todo' s
 serve-with {May} {before} {now} {policy} {pid} {start} {seen} {held} {given} {todo} {s} v listens todo' hears h = record {

@@ -205,7 +205,7 @@ starts May house policy pid seen s stands e f clients refused streams blocked li
       held_is = sym blocked;
       blocked_is = λ t o. ap (among t) blocked;
       unseen = λ k lt. record { not_accepted = refl; never_blocked = refl; not_blocked = ap (among k) blocked };
-      hears = λ h. listens;
+      hears = λ live h. listens;
       sound = λ picks later. record { kept = of-nothing (by_lists policy pid picks later); failed_out = λ t w live. true-false (sym w); settled = λ t a. inl (nothing-pending t) };
     }
   where

@@ -1,6 +1,6 @@
 -- A call of wait: what is promised of it where each stream was offered what waits for it.
 use Rattle.std.proofs.Common.{◌≡◌, ◌≢◌, ◌≤◌, ◌<◌, ◌+◌, ℕ, Bool, true, false, not, ◌||◌, List, [], ◌∷◌, ◌++◌, length, Option, None, refl, sym, ap, ◌∙◌, subst, inl, inr, ◌⊎◌, cond, arith, append-nil}
-use Rattle.std.specs.Prelude.{◌==◌, filter, nat_lt, All, IsTrue, ◌↔◌}
+use Rattle.std.specs.Prelude.{◌==◌, filter, is_some, nat_lt, All, IsTrue, ◌↔◌}
 use Rattle.std.specs.List.{list_any}
 use Rattle.std.specs.Option.{option_map}
 use Rattle.std.proofs.lemmas.Bool.{eq-eqb, le-ltb, ltb-false}
@@ -28,6 +28,7 @@ use Rattle.mux_clients.specs.State.{ClientState}
 use Rattle.mux_clients.specs.Stands.{is_lost}
 use Rattle.mux_clients.specs.Among.{EachFits, is_present}
 use Rattle.mux_clients.proofs.Stood.{out_is, own_row}
+use Rattle.mux_machine.proofs.Over.{some-end}
 use Rattle.mux_machine.specs.State.{State, is_here, numbers, served_in, waiting_clients}
 use Rattle.mux_machine.specs.Stands.{RowsFit, not_closed}
 use Rattle.mux_engine.specs.Serving.{IsSound, IsUnseen, Serving, is_open}
@@ -231,6 +232,7 @@ module _ {May : HouseReply → Type 0} {before now : Option (List Asked)} {polic
 
   waits-right : (picks : List ℕ) (later : List HouseReply) → WaitsRight (setting picks later) v.journal s.waiting (want_of s) seen.streams
   waits-right picks later = record {
+    goes_on = sym (some-end (rows picks later)) ∙ ap is_some (sym (fits picks later).ended_is ∙ live);
     waits_for = waits-for picks later;
     blocked = all-of (λ t. IsTrue (is_blocked t v.journal)) s.waiting held-back;
     write_only = subst (λ q. ((cond (nat_lt (length s.up.waiting) READING_STOPS_AT) Read WriteOnly) ≡ WriteOnly) ↔ (READING_STOPS_AT ≤ length q)) (fits picks later).fit.up (want-is (length s.up.waiting) READING_STOPS_AT);

@@ -72,7 +72,7 @@ pub record Serving (May : HouseReply → Type 0) (before now : Option (List Aske
   pub held_is : held ≡ seen.blocked
   pub blocked_is : (t : ℕ) → is_open s t ≡ true → among t seen.blocked ≡ is_blocked t journal
   pub unseen : (k : ℕ) → seen.last < k → IsUnseen journal seen.blocked k
-  pub hears : s.listening ≡ true → seen.listens ≡ true
+  pub hears : s.ended ≡ None → s.listening ≡ true → seen.listens ≡ true
   pub sound : (picks : List ℕ) (given_later : List HouseReply)
       → IsSound (by_lists policy pid (picked ++ picks) (replies ++ given_later)) journal todo s
 

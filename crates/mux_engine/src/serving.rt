@@ -63,6 +63,7 @@ fn turn<W: Wire, H: House>(
     ensures later { W.server_faults wire.old ≤ W.server_faults wire.new }
     ensures calls { Counts 1 result (W.calls wire.old) (W.calls wire.new) }
     ensures openings { W.openings wire.new ≡ W.openings wire.old }
+    ensures joinings { W.joinings wire.new ≡ W.joinings wire.old }
 {
     let next = wire.wait(engine.waiting(), wanted(engine), piece);
     match event_of(next, piece.as_bytes()) {
@@ -104,6 +105,7 @@ fn run<W: Wire, H: House>(
         (λ answer. Stops turns answer (W.calls wire.old) (W.calls wire.new))
         (λ e. Stops turns WantOfMemory (W.calls wire.old) (W.calls wire.new)) }
     ensures openings { W.openings wire.new ≡ W.openings wire.old }
+    ensures joinings { W.joinings wire.new ≡ W.joinings wire.old }
     ensures idle { turns ≡ 0
         → SameFaults (W.server_faults wire.old) (W.server_faults wire.new)
         (W.client_faults wire.old) (W.client_faults wire.new) }
@@ -146,6 +148,7 @@ pub fn serve<W: Wire, H: House>(
         → Rose (W.server_faults wire.old) (W.server_faults wire.new) }
     ensures calls { Stops turns result (W.calls wire.old) (W.calls wire.new) }
     ensures openings { W.openings wire.new ≡ W.openings wire.old }
+    ensures joinings { W.joinings wire.new ≡ W.joinings wire.old }
     ensures idle { turns ≡ 0
         → SameFaults (W.server_faults wire.old) (W.server_faults wire.new)
         (W.client_faults wire.old) (W.client_faults wire.new) }

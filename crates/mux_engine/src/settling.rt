@@ -1,7 +1,8 @@
-ghost use Rattle.std.specs.Prelude.{[], ◌∷◌, ◌≡◌, ◌≢◌, ◌≤◌, ◌<◌, length, List, ℕ, true, false, OnOk, IfOk, if◌then◌else◌};
+ghost use Rattle.std.specs.Prelude.{[], ◌∷◌, ◌≡◌, ◌≢◌, ◌≤◌, ◌<◌, length, List, ℕ, true, false, None, OnOk, IfOk, if◌then◌else◌};
 ghost use Rattle.std.specs.declared.option.Option.{Option};
 ghost use Rattle.mux_outside.specs.House.{Asked as TheAsked};
 ghost use Rattle.mux_outside.specs.Streams.{among, without};
+ghost use Rattle.mux_outside.specs.Wire.{SameFaults};
 ghost use Rattle.mux_outside.specs.declared.mark.Mark.{Mark as TheMark};
 ghost use Rattle.mux_history.specs.Policy.{Policy as ThePolicy};
 ghost use Rattle.mux_machine.specs.Events.{here};
@@ -41,6 +42,7 @@ fn offer_once<W: Wire, H: House>(
     ensures later { W.server_faults wire.old ≤ W.server_faults wire.new }
     ensures calls { Counts 0 result (W.calls wire.old) (W.calls wire.new) }
     ensures openings { W.openings wire.new ≡ W.openings wire.old }
+    ensures joinings { W.joinings wire.new ≡ W.joinings wire.old }
     ensures idle { queue_in engine.old stream ≡ [] → (engine.new ≡ engine.old)
         × (wire.new ≡ wire.old) }
 {
@@ -85,6 +87,7 @@ fn offer<W: Wire, H: House>(
     ensures later { W.server_faults wire.old ≤ W.server_faults wire.new }
     ensures calls { Counts 0 result (W.calls wire.old) (W.calls wire.new) }
     ensures openings { W.openings wire.new ≡ W.openings wire.old }
+    ensures joinings { W.joinings wire.new ≡ W.joinings wire.old }
     ensures idle { queue_in engine.old stream ≡ [] → (engine.new ≡ engine.old)
         × (wire.new ≡ wire.old) }
 {
@@ -113,6 +116,7 @@ fn offer_clients<W: Wire, H: House>(
     ensures later { W.server_faults wire.old ≤ W.server_faults wire.new }
     ensures calls { Counts 0 result (W.calls wire.old) (W.calls wire.new) }
     ensures openings { W.openings wire.new ≡ W.openings wire.old }
+    ensures joinings { W.joinings wire.new ≡ W.joinings wire.old }
     ensures idle { engine.old.waiting ≡ [] → (engine.new ≡ engine.old) × (wire.new ≡ wire.old) }
 {
     todo.refill(engine.waiting().as_slice())?;
@@ -123,8 +127,30 @@ fn offer_clients<W: Wire, H: House>(
     Ok(())
 }
 
+// Accepts no more clients where the engine wants none, or its run is over.
+fn hush<W: Wire, H: House>(engine: &Engine, wire: &mut W)
+    requires hears { engine.now.ended ≡ None → engine.now.listening ≡ true
+        → (W.seen wire.old).listens ≡ true }
+    ensures serving { (before now : Option (List TheAsked)) (policy : ThePolicy) (pid : ℕ)
+        (start : Option (List TheMark)) (held : List ℕ) (given : ℕ) (todo : List ℕ) →
+        Serving H.may before now policy pid start (W.seen wire.old) held given todo engine.now →
+        Serving H.may before now policy pid start (W.seen wire.new) held given todo engine.now }
+    ensures hears { engine.now.ended ≡ None → (W.seen wire.new).listens ≡ engine.now.listening }
+    ensures faults { W.server_faults wire.new ≡ W.server_faults wire.old }
+    ensures client { W.client_faults wire.new ≡ W.client_faults wire.old }
+    ensures calls { W.calls wire.new ≡ W.calls wire.old }
+    ensures openings { W.openings wire.new ≡ W.openings wire.old }
+    ensures joinings { W.joinings wire.new ≡ W.joinings wire.old }
+{
+    if engine.listening() && engine.ended().is_none() {
+        return;
+    }
+    wire.stop_listening();
+}
+
 // Offers each stream what waits for it: the server's last, since a client that is lost leaves its
-// farewell to it.
+// farewell to it. Where clients are accepted no more, none is once a client can read the answer to
+// its wish.
 pub fn flush<W: Wire, H: House>(
     engine: &mut Engine,
     wire: &mut W,
@@ -143,8 +169,12 @@ pub fn flush<W: Wire, H: House>(
     ensures later { W.server_faults wire.old ≤ W.server_faults wire.new }
     ensures calls { Counts 0 result (W.calls wire.old) (W.calls wire.new) }
     ensures openings { W.openings wire.new ≡ W.openings wire.old }
-    ensures idle { engine.old.waiting ≡ [] → (engine.new ≡ engine.old) × (wire.new ≡ wire.old) }
+    ensures joinings { W.joinings wire.new ≡ W.joinings wire.old }
+    ensures idle { engine.old.waiting ≡ [] → (engine.new ≡ engine.old)
+        × SameFaults (W.server_faults wire.old) (W.server_faults wire.new)
+        (W.client_faults wire.old) (W.client_faults wire.new) }
 {
+    hush::<W, H>(engine, wire);
     offer_clients(engine, wire, house, held, todo)?;
     offer(engine, wire, house, held, 0)
 }
@@ -161,30 +191,13 @@ fn close_lost<W: Wire, H: House>(engine: &mut Engine, wire: &mut W, held: &mut S
     ensures faults { W.server_faults wire.new ≡ W.server_faults wire.old }
     ensures calls { W.calls wire.new ≡ W.calls wire.old }
     ensures openings { W.openings wire.new ≡ W.openings wire.old }
+    ensures joinings { W.joinings wire.new ≡ W.joinings wire.old }
 {
     while let Some((client, _)) = engine.closing() {
         wire.close(client);
         held.remove(client);
         engine.closed(client);
     }
-}
-
-// Accepts no more clients where the engine wants none.
-fn hush<W: Wire, H: House>(engine: &Engine, wire: &mut W)
-    requires hears { engine.now.listening ≡ true → (W.seen wire.old).listens ≡ true }
-    ensures serving { (before now : Option (List TheAsked)) (policy : ThePolicy) (pid : ℕ)
-        (start : Option (List TheMark)) (held : List ℕ) (given : ℕ) →
-        Serving H.may before now policy pid start (W.seen wire.old) held given [] engine.now →
-        Serving H.may before now policy pid start (W.seen wire.new) held given [] engine.now }
-    ensures hears { (W.seen wire.new).listens ≡ engine.now.listening }
-    ensures faults { W.server_faults wire.new ≡ W.server_faults wire.old }
-    ensures calls { W.calls wire.new ≡ W.calls wire.old }
-    ensures openings { W.openings wire.new ≡ W.openings wire.old }
-{
-    if engine.listening() {
-        return;
-    }
-    wire.stop_listening();
 }
 
 // Makes the wire ready for a turn: each stream is offered what waits for it, and the streams of
@@ -203,12 +216,14 @@ pub fn settle<W: Wire, H: House>(
         engine.old engine.new }
     ensures closed { OnOk result (engine.new.leaving ≡ []) }
     ensures refused { OnOk result (engine.new.refused ≡ []) }
-    ensures hears { OnOk result ((W.seen wire.new).listens ≡ engine.new.listening) }
+    ensures hears { OnOk result (engine.new.ended ≡ None
+        → (W.seen wire.new).listens ≡ engine.new.listening) }
     ensures ended { OnOk result (StaysOrFails engine.old.ended engine.new.ended
         (W.server_faults wire.old) (W.server_faults wire.new)) }
     ensures later { W.server_faults wire.old ≤ W.server_faults wire.new }
     ensures calls { Counts 0 result (W.calls wire.old) (W.calls wire.new) }
     ensures openings { W.openings wire.new ≡ W.openings wire.old }
+    ensures joinings { W.joinings wire.new ≡ W.joinings wire.old }
     ensures idle { OnOk result (engine.old.waiting ≡ [] → engine.new.ended ≡ engine.old.ended) }
 {
     flush(engine, wire, house, held, todo)?;

@@ -9,7 +9,7 @@ use Rattle.ssh_grammar.specs.Said.{Body}
 use Rattle.mux_history.specs.declared.limits.TheConstants.{READING_STOPS_AT}
 use Rattle.mux_history.specs.declared.ended.Ended.{Ended}
 use Rattle.mux_history.specs.declared.ended.Ended.TheVariants.{Spent}
-use Rattle.mux_history.specs.Rows.{Row, rows_of, Says}
+use Rattle.mux_history.specs.Rows.{Row, rows_of, is_ended, Says}
 use Rattle.mux_history.specs.Pending.{pending}
 use Rattle.mux_history.specs.Controls.{greeted, body_stops}
 use Rattle.mux_history.specs.Log.{Setting, goes, served, more_all}
@@ -63,11 +63,12 @@ IsSettled setting marks t =
 abbrev pub has_output : List Row → ℕ → Bool
 has_output rows t = not (is_empty (pending t rows))
 
--- a call of `wait`: the waiting streams are exactly the open ones with output, each of them
--- blocked; no more is read exactly while 4,194,304 bytes or more wait for the server; and every
--- stream that is not waited for is settled
+-- a call of `wait`: the run goes on; the waiting streams are exactly the open ones with output, each
+-- of them blocked; no more is read exactly while 4,194,304 bytes or more wait for the server; and
+-- every stream that is not waited for is settled
 pub record WaitsRight (setting : Setting) (before : List Mark) (waiting : List ℕ) (want : Want)
     (streams : List ℕ) : Type 0 where
+  pub goes_on : is_ended (log_of_journal setting before) ≡ false
   pub waits_for : waiting ≡ filter (has_output (log_of_journal setting before)) streams
   pub blocked : All (λ t. IsTrue (is_blocked t before)) waiting
   pub write_only : (want ≡ WriteOnly) ↔

@@ -6,8 +6,8 @@ ghost use Rattle.mux_outside.specs.declared.turn.Want.TheVariants.{WriteOnly};
 ghost use Rattle.mux_outside.specs.declared.turn.Turn.TheVariants.{NoMemory};
 ghost use Rattle.mux_outside.specs.declared.turn.Wrote.TheVariants.{NoMemory as NoMemoryToWrite};
 ghost use Rattle.mux_outside.specs.Streams.{among};
-ghost use Rattle.mux_outside.specs.Wire.{openings_of, OpenFaults, TurnFits, TurnFaults, WroteFits, WroteFaults};
-ghost use Rattle.mux_outside.specs.Seen.{Seen as TheSeen, seen_after_open, seen_after_turn, seen_after_write, seen_after_close};
+ghost use Rattle.mux_outside.specs.Wire.{openings_of, OpenFaults, joinings_of, JoinFaults, TurnFits, TurnFaults, WroteFits, WroteFaults};
+ghost use Rattle.mux_outside.specs.Seen.{Seen as TheSeen, seen_after_open, seen_after_join, seen_after_turn, seen_after_write, seen_after_close};
 ghost use Rattle.mux_outside.specs.Seen.{Calls as TheCalls, calls_after_wait, calls_after_write};
 
 use crate::file_error::FileError;
@@ -20,6 +20,9 @@ use crate::turn::{Tally, Turn, Want, Wrote};
 pub trait Wire {
     /// The two arguments of each call of `open`, where they are told.
     ghost openings: { Self → Option (List TheOpening) };
+
+    /// The argument of each call of `join`, where they are told.
+    ghost joinings: { Self → Option (List (List ℕ)) };
 
     /// What is seen of it: its marks, where they are told, its streams and its clients.
     ghost seen: { Self → TheSeen };
@@ -41,9 +44,21 @@ pub trait Wire {
         ensures openings { openings self.new
             ≡ option_map (λ os. os ++ openings_of result control.now transport.now)
             (openings self.old) }
+        ensures joinings { joinings self.new ≡ joinings self.old }
         ensures seen { seen self.new ≡ seen_after_open result (seen self.old) }
         ensures calls { calls self.new ≡ calls self.old }
         ensures cause { OpenFaults result (server_faults self.old) (server_faults self.new)
+            (client_faults self.old) (client_faults self.new) };
+
+    /// Connects stream 0 to the control socket of another master. Whatever stood before, it alone is
+    /// open then, no stream is blocked, and no client is accepted.
+    fn join(&mut self, control: &[u8]) -> Result<(), FileError>
+        ensures openings { openings self.new ≡ openings self.old }
+        ensures joinings { joinings self.new
+            ≡ option_map (λ js. js ++ joinings_of result control.now) (joinings self.old) }
+        ensures seen { seen self.new ≡ seen_after_join result (seen self.old) }
+        ensures calls { calls self.new ≡ calls self.old }
+        ensures cause { JoinFaults result (server_faults self.old) (server_faults self.new)
             (client_faults self.old) (client_faults self.new) };
 
     /// Waits for what happens next: of all streams with `Want::Read`, of the waiting ones alone
@@ -56,6 +71,7 @@ pub trait Wire {
         ensures turn { TurnFits result want (seen self.old).listens (seen self.old).last
             (seen self.old).streams (seen self.old).blocked into.new }
         ensures openings { openings self.new ≡ openings self.old }
+        ensures joinings { joinings self.new ≡ joinings self.old }
         ensures seen { seen self.new ≡ seen_after_turn result waiting.now want into.new
             (seen self.old) }
         ensures calls { calls self.new ≡ calls_after_wait result (calls self.old) }
@@ -71,6 +87,7 @@ pub trait Wire {
         requires some { 0 < length bytes.now }
         ensures wrote { WroteFits result (length bytes.now) }
         ensures openings { openings self.new ≡ openings self.old }
+        ensures joinings { joinings self.new ≡ joinings self.old }
         ensures seen { seen self.new ≡ seen_after_write result stream bytes.now (seen self.old) }
         ensures calls { calls self.new ≡ calls_after_write result (calls self.old) }
         ensures cause { WroteFaults result stream (server_faults self.old) (server_faults self.new)
@@ -80,6 +97,7 @@ pub trait Wire {
     /// Accepts no more clients.
     fn stop_listening(&mut self)
         ensures openings { openings self.new ≡ openings self.old }
+        ensures joinings { joinings self.new ≡ joinings self.old }
         ensures seen { seen self.new ≡ record (seen self.old) { listens = false } }
         ensures calls { calls self.new ≡ calls self.old }
         ensures server { server_faults self.new ≡ server_faults self.old }
@@ -89,6 +107,7 @@ pub trait Wire {
     /// Closes a stream.
     fn close(&mut self, stream: u64)
         ensures openings { openings self.new ≡ openings self.old }
+        ensures joinings { joinings self.new ≡ joinings self.old }
         ensures seen { seen self.new ≡ seen_after_close stream (seen self.old) }
         ensures calls { calls self.new ≡ calls self.old }
         ensures server { server_faults self.new ≡ server_faults self.old }

@@ -4,12 +4,14 @@ ghost use Rattle.mux_outside.specs.Marks.{bytes_taken as all_taken};
 ghost use Rattle.mux_outside.specs.declared.turn.Turn.TheVariants.{NoMemory};
 ghost use Rattle.mux_outside.specs.Wire.{WroteFits};
 ghost use Rattle.mux_outside.specs.WireLog.{nothing_logged, turn_kept, answer_kept, OpensAs};
-ghost use Rattle.mux_outside.specs.WireLog.{LogsOpening, LogsTurn, LogsWrite, LogsClose};
+ghost use Rattle.mux_outside.specs.WireLog.{LogsOpening, LogsJoining, LogsTurn, LogsWrite, LogsClose};
 
 use crate::call_counts::CallCounts;
 use crate::counts::{count_fault, raised};
 use crate::file_error::FileError;
 use crate::mark::{Mark, Opening, bytes_taken};
+use crate::marks::Marks;
+use crate::open_streams::OpenStreams;
 use crate::record::{record_wait, record_write};
 use crate::streams::Streams;
 use crate::turn::{Turn, Want, Wrote};
@@ -22,8 +24,9 @@ use std::marker::Model;
 pub struct WireLog {
     alloc: Global,
     openings: Vec<Opening>,
-    marks: Vec<Mark>,
-    streams: Streams,
+    joinings: Vec<Text>,
+    marks: Marks,
+    streams: OpenStreams,
     blocked: Streams,
     listening: bool,
     last: u64,
@@ -39,7 +42,8 @@ impl Model for WireLog {
 
     ghost view = { λ l. record {
       openings = l.openings.items;
-      marks = l.marks.items;
+      joinings = l.joinings.items;
+      marks = l.marks.told.items;
       streams = l.streams;
       blocked = l.blocked;
       listens = l.listening;
@@ -58,8 +62,9 @@ impl WireLog {
         WireLog {
             alloc,
             openings: Vec::new(alloc),
-            marks: Vec::new(alloc),
-            streams: Streams::new(alloc),
+            joinings: Vec::new(alloc),
+            marks: Marks::new(alloc),
+            streams: OpenStreams::new(Streams::new(alloc)),
             blocked: Streams::new(alloc),
             listening: false,
             last: 0,
@@ -73,7 +78,7 @@ impl WireLog {
     pub fn streams(&self) -> &Streams
         ensures { result.now ≡ self.now.streams }
     {
-        &self.streams
+        self.streams.streams()
     }
 
     /// The streams that take no bytes for now.
@@ -101,7 +106,7 @@ impl WireLog {
     pub fn marks(&self) -> &[Mark]
         ensures { result.now ≡ self.now.marks }
     {
-        self.marks.as_slice()
+        self.marks.told.as_slice()
     }
 
     /// The arguments of the calls of `open` so far.
@@ -111,11 +116,18 @@ impl WireLog {
         self.openings.as_slice()
     }
 
+    /// The arguments of the calls of `join` so far.
+    pub fn joinings(&self) -> &[Text]
+        ensures { result.now ≡ self.now.joinings }
+    {
+        self.joinings.as_slice()
+    }
+
     /// All bytes that a stream took.
     pub fn taken(&self, stream: u64) -> Result<Text, OutOfMemory>
         ensures { IfOk result (λ bytes. bytes ≡ all_taken stream self.now.marks) }
     {
-        bytes_taken(self.alloc, &self.marks, stream)
+        bytes_taken(self.alloc, &self.marks.told, stream)
     }
 
     /// Keeps a call of `open` with these arguments, which succeeds or fails. After success the
@@ -137,9 +149,31 @@ impl WireLog {
             self.server_faults = raised(self.server_faults);
             return Err(FileError::Failed);
         }
-        self.streams = streams;
+        self.streams = OpenStreams::new(streams);
         self.blocked = Streams::new(self.alloc);
         self.listening = true;
+        Ok(())
+    }
+
+    /// Keeps a call of `join` with this argument, which succeeds or fails. After success the server's
+    /// stream alone is open, and clients aren't accepted; a failure counts as the server's.
+    pub fn joined(&mut self, control: &[u8], joins: bool) -> Result<(), FileError>
+        ensures joins { OpensAs joins result }
+        ensures logs { LogsJoining result control.now self.old self.new }
+    {
+        let joining = Text::copy(self.alloc, control)?;
+        let mut streams = Streams::new(self.alloc);
+        streams.push(0)?;
+        if self.joinings.push(joining).is_err() {
+            return Err(FileError::OutOfMemory);
+        }
+        if !joins {
+            self.server_faults = raised(self.server_faults);
+            return Err(FileError::Failed);
+        }
+        self.streams = OpenStreams::new(streams);
+        self.blocked = Streams::new(self.alloc);
+        self.listening = false;
         Ok(())
     }
 

@@ -5,7 +5,7 @@ use Rattle.mux_machine.specs.Events.{here}
 use Rattle.mux_machine.specs.State.{State}
 use Rattle.mux_engine.specs.Serving.{Serving}
 use Rattle.mux_engine.proofs.Arms.{on-err, well-none, well-on}
-use Rattle.mux_engine.proofs.Counting.{cut-none, cut-on, fails-live, fails-then, later-on, later-then, more-none, none-more, none-of, rose-behind, same-faults, stops-cut, stops-well}
+use Rattle.mux_engine.proofs.Counting.{cut-none, cut-on, fails-live, faults-then, fails-then, later-on, later-then, more-none, none-more, none-of, rose-behind, same-faults, stops-cut, stops-well}
 use Rattle.mux_engine.proofs.Looped.{Looped, answer-failed, first-given, first-spent, given-is, idle-goes, looped-ends, looped-over, looped-served, looped-spent, none-given, none-spent, offers-unspent, one-given, spent-all, went-on, went-over}
 use Rattle.mux_engine.proofs.Marks.{cut-here}
 use Rattle.mux_engine.proofs.Runs.{ends-over, ends-starved, promised-more}
@@ -23,6 +23,7 @@ loop-init g c = record {
   faults = omega arith;
   calls = well-none (g.W.Wire.calls c.args.wire.now);
   openings = refl;
+  joinings = refl;
 }
 
 pub returns-in_err-piece-clause-ran : goal.returns-in_err-piece-clause-ran
@@ -59,6 +60,9 @@ returns-in_err-settle-clause-idle g c = λ z. absurd (omega arith)
 pub returns-in_err-settle-clause-openings : goal.returns-in_err-settle-clause-openings
 returns-in_err-settle-clause-openings g c = c.settle.ensures.openings ∙ c.loop.invariant.openings
 
+pub returns-in_err-settle-clause-joinings : goal.returns-in_err-settle-clause-joinings
+returns-in_err-settle-clause-joinings g c = c.settle.ensures.joinings ∙ c.loop.invariant.joinings
+
 pub returns-in-Some-clause-ran : goal.returns-in-Some-clause-ran
 returns-in-Some-clause-ran g c before policy pid start v =
     ends-over g.H.House.may before (g.H.House.told c.settle.new.house) policy pid c.args.turns start (g.W.Wire.seen c.settle.new.wire) c.settle.new.held (0 + c.loop.counter) c.settle.new.engine c.in-Some.cause
@@ -82,6 +86,12 @@ returns-in-Some-clause-idle g c = λ z. absurd (omega arith)
 
 pub returns-in-Some-clause-openings : goal.returns-in-Some-clause-openings
 returns-in-Some-clause-openings g c = c.settle.ensures.openings ∙ c.loop.invariant.openings
+
+pub returns-in-Some-clause-joinings : goal.returns-in-Some-clause-joinings
+returns-in-Some-clause-joinings g c = c.settle.ensures.joinings ∙ c.loop.invariant.joinings
+
+pub turn-requires-clause-hears : goal.turn-requires-clause-hears
+turn-requires-clause-hears g c = c.in_ok-settle.ensures.hears (sym c.ended.ensures.exact ∙ c.in_default.is)
 
 pub turn-requires-clause-served : goal.turn-requires-clause-served
 turn-requires-clause-served g c = let w = c.requires.running in record {
@@ -111,6 +121,9 @@ returns-in_err-turn-clause-idle g c = λ z. absurd (omega arith)
 pub returns-in_err-turn-clause-openings : goal.returns-in_err-turn-clause-openings
 returns-in_err-turn-clause-openings g c = c.turn.ensures.openings ∙ (c.settle.ensures.openings ∙ c.loop.invariant.openings)
 
+pub returns-in_err-turn-clause-joinings : goal.returns-in_err-turn-clause-joinings
+returns-in_err-turn-clause-joinings g c = c.turn.ensures.joinings ∙ (c.settle.ensures.joinings ∙ c.loop.invariant.joinings)
+
 pub loop-preserved : goal.loop-preserved
 loop-preserved g c = record {
   serving = λ before policy pid start given v. given-is (given + c.loop.counter + 1) (given + (c.loop.counter + 1)) (one-given given c.loop.counter)
@@ -121,13 +134,14 @@ loop-preserved g c = record {
   calls = well-on c.loop.counter 1 (c.loop.counter + 1) (g.W.Wire.calls c.args.wire.now) (g.W.Wire.calls c.loop.wire) (g.W.Wire.calls c.turn.new.wire) (omega arith) c.loop.invariant.calls
       (well-on 0 1 1 (g.W.Wire.calls c.loop.wire) (g.W.Wire.calls c.settle.new.wire) (g.W.Wire.calls c.turn.new.wire) (omega arith) c.in_ok-settle.ensures.calls c.in_ok-turn.ensures.calls);
   openings = c.turn.ensures.openings ∙ (c.settle.ensures.openings ∙ c.loop.invariant.openings);
+  joinings = c.turn.ensures.joinings ∙ (c.settle.ensures.joinings ∙ c.loop.invariant.joinings);
 }
 
 -- ---- behind the loop, which ends where all turns were given, or where the run ended at one
 
-at-end : (g : Over) (c : goal.After-todo-2-1 g) → Looped g.H.House.may (g.H.House.told c.args.house.now) (g.H.House.told c.loop-test.house) (g.W.Wire.seen c.args.wire.now) (g.W.Wire.seen c.loop-test.wire) c.loop-test.held c.args.engine.now c.loop-test.engine c.args.turns (g.W.Wire.server_faults c.args.wire.now) (g.W.Wire.server_faults c.loop-test.wire) (g.W.Wire.calls c.args.wire.now) (g.W.Wire.calls c.loop-test.wire) (g.W.Wire.openings c.args.wire.now) (g.W.Wire.openings c.loop-test.wire) c.args.wire.now c.loop-test.wire
+at-end : (g : Over) (c : goal.After-todo-2-1 g) → Looped g.H.House.may (g.H.House.told c.args.house.now) (g.H.House.told c.loop-test.house) (g.W.Wire.seen c.args.wire.now) (g.W.Wire.seen c.loop-test.wire) c.loop-test.held c.args.engine.now c.loop-test.engine c.args.turns (g.W.Wire.server_faults c.args.wire.now) (g.W.Wire.server_faults c.loop-test.wire) (g.W.Wire.calls c.args.wire.now) (g.W.Wire.calls c.loop-test.wire) (g.W.Wire.openings c.args.wire.now) (g.W.Wire.openings c.loop-test.wire) (g.W.Wire.joinings c.args.wire.now) (g.W.Wire.joinings c.loop-test.wire) c.args.wire.now c.loop-test.wire
 at-end g c = elim c.loop-test.branch [
-  | else-loop-test w ↦ rw (w.engine-is, w.wire-is, w.house-is, w.held-is) (looped-spent c.loop.counter (omega arith) c.loop.invariant.serving c.loop.invariant.on c.loop.invariant.first c.loop.invariant.faults c.loop.invariant.calls c.loop.invariant.openings)
+  | else-loop-test w ↦ rw (w.engine-is, w.wire-is, w.house-is, w.held-is) (looped-spent c.loop.counter (omega arith) c.loop.invariant.serving c.loop.invariant.on c.loop.invariant.first c.loop.invariant.faults c.loop.invariant.calls c.loop.invariant.openings c.loop.invariant.joinings)
   | then-loop-test+in_ok-settle+in_default+in_ok-turn+in-Ended w ↦ rw (w.engine-is, w.wire-is, w.house-is, w.held-is) (looped-over c.loop.counter w.loop-test.true
       (λ before policy pid start first v. w.in_ok-turn.ensures.serving before policy pid start (first + c.loop.counter) (w.in_ok-settle.ensures.serving before policy pid start (first + c.loop.counter) (c.loop.invariant.serving before policy pid start first v)))
       (went-over w.turn.new.engine.ended w.in_ok-turn.field-0 w.in-Ended.field-0 w.in_ok-turn.ensures.went w.in-Ended.is) w.in_ok-turn.ensures.unspent
@@ -136,15 +150,16 @@ at-end g c = elim c.loop-test.branch [
       (later-on (g.W.Wire.server_faults c.args.wire.now) (g.W.Wire.server_faults c.loop.wire) (g.W.Wire.server_faults w.settle.new.wire) c.loop.invariant.faults w.settle.ensures.later) (w.in_ok-turn.ensures.failed over))
       (well-on c.loop.counter 1 (c.loop.counter + 1) (g.W.Wire.calls c.args.wire.now) (g.W.Wire.calls c.loop.wire) (g.W.Wire.calls w.turn.new.wire) (omega arith) c.loop.invariant.calls
       (well-on 0 1 1 (g.W.Wire.calls c.loop.wire) (g.W.Wire.calls w.settle.new.wire) (g.W.Wire.calls w.turn.new.wire) (omega arith) w.in_ok-settle.ensures.calls w.in_ok-turn.ensures.calls))
-      (w.turn.ensures.openings ∙ (w.settle.ensures.openings ∙ c.loop.invariant.openings)))
+      (w.turn.ensures.openings ∙ (w.settle.ensures.openings ∙ c.loop.invariant.openings))
+      (w.turn.ensures.joinings ∙ (w.settle.ensures.joinings ∙ c.loop.invariant.joinings)))
 ]
 
 pub flush-requires : goal.flush-requires
 flush-requires g c = record { served = looped-served (at-end g c) c.requires.running }
 
-at-starved-end : (g : Over) (c : goal.After-drop-piece-inside-in_err-flush g) → Looped g.H.House.may (g.H.House.told c.args.house.now) (g.H.House.told c.loop-test.house) (g.W.Wire.seen c.args.wire.now) (g.W.Wire.seen c.loop-test.wire) c.loop-test.held c.args.engine.now c.loop-test.engine c.args.turns (g.W.Wire.server_faults c.args.wire.now) (g.W.Wire.server_faults c.loop-test.wire) (g.W.Wire.calls c.args.wire.now) (g.W.Wire.calls c.loop-test.wire) (g.W.Wire.openings c.args.wire.now) (g.W.Wire.openings c.loop-test.wire) c.args.wire.now c.loop-test.wire
+at-starved-end : (g : Over) (c : goal.After-drop-piece-inside-in_err-flush g) → Looped g.H.House.may (g.H.House.told c.args.house.now) (g.H.House.told c.loop-test.house) (g.W.Wire.seen c.args.wire.now) (g.W.Wire.seen c.loop-test.wire) c.loop-test.held c.args.engine.now c.loop-test.engine c.args.turns (g.W.Wire.server_faults c.args.wire.now) (g.W.Wire.server_faults c.loop-test.wire) (g.W.Wire.calls c.args.wire.now) (g.W.Wire.calls c.loop-test.wire) (g.W.Wire.openings c.args.wire.now) (g.W.Wire.openings c.loop-test.wire) (g.W.Wire.joinings c.args.wire.now) (g.W.Wire.joinings c.loop-test.wire) c.args.wire.now c.loop-test.wire
 at-starved-end g c = elim c.loop-test.branch [
-  | else-loop-test w ↦ rw (w.engine-is, w.wire-is, w.house-is, w.held-is) (looped-spent c.loop.counter (omega arith) c.loop.invariant.serving c.loop.invariant.on c.loop.invariant.first c.loop.invariant.faults c.loop.invariant.calls c.loop.invariant.openings)
+  | else-loop-test w ↦ rw (w.engine-is, w.wire-is, w.house-is, w.held-is) (looped-spent c.loop.counter (omega arith) c.loop.invariant.serving c.loop.invariant.on c.loop.invariant.first c.loop.invariant.faults c.loop.invariant.calls c.loop.invariant.openings c.loop.invariant.joinings)
   | then-loop-test+in_ok-settle+in_default+in_ok-turn+in-Ended w ↦ rw (w.engine-is, w.wire-is, w.house-is, w.held-is) (looped-over c.loop.counter w.loop-test.true
       (λ before policy pid start first v. w.in_ok-turn.ensures.serving before policy pid start (first + c.loop.counter) (w.in_ok-settle.ensures.serving before policy pid start (first + c.loop.counter) (c.loop.invariant.serving before policy pid start first v)))
       (went-over w.turn.new.engine.ended w.in_ok-turn.field-0 w.in-Ended.field-0 w.in_ok-turn.ensures.went w.in-Ended.is) w.in_ok-turn.ensures.unspent
@@ -153,7 +168,8 @@ at-starved-end g c = elim c.loop-test.branch [
       (later-on (g.W.Wire.server_faults c.args.wire.now) (g.W.Wire.server_faults c.loop.wire) (g.W.Wire.server_faults w.settle.new.wire) c.loop.invariant.faults w.settle.ensures.later) (w.in_ok-turn.ensures.failed over))
       (well-on c.loop.counter 1 (c.loop.counter + 1) (g.W.Wire.calls c.args.wire.now) (g.W.Wire.calls c.loop.wire) (g.W.Wire.calls w.turn.new.wire) (omega arith) c.loop.invariant.calls
       (well-on 0 1 1 (g.W.Wire.calls c.loop.wire) (g.W.Wire.calls w.settle.new.wire) (g.W.Wire.calls w.turn.new.wire) (omega arith) w.in_ok-settle.ensures.calls w.in_ok-turn.ensures.calls))
-      (w.turn.ensures.openings ∙ (w.settle.ensures.openings ∙ c.loop.invariant.openings)))
+      (w.turn.ensures.openings ∙ (w.settle.ensures.openings ∙ c.loop.invariant.openings))
+      (w.turn.ensures.joinings ∙ (w.settle.ensures.joinings ∙ c.loop.invariant.joinings)))
 ]
 
 pub returns-in_err-flush-clause-ran : goal.returns-in_err-flush-clause-ran
@@ -170,14 +186,17 @@ returns-in_err-flush-clause-calls g c = let l = at-starved-end g c in
 
 pub returns-in_err-flush-clause-idle : goal.returns-in_err-flush-clause-idle
 returns-in_err-flush-clause-idle g c = λ z. let l = at-starved-end g c in let f = l.first (none-of l.given c.args.turns l.fits z) in
-    same-faults g.W.Wire.server_faults g.W.Wire.client_faults c.args.wire.now c.flush.new.wire ((c.flush.ensures.idle (ap (λ (s : State). s.waiting) f.0 ∙ c.requires.quiet)).1 ∙ f.1)
+    faults-then g.W.Wire.server_faults g.W.Wire.client_faults c.args.wire.now c.loop-test.wire c.flush.new.wire f.1 (c.flush.ensures.idle (ap (λ (s : State). s.waiting) f.0 ∙ c.requires.quiet)).1
 
 pub returns-in_err-flush-clause-openings : goal.returns-in_err-flush-clause-openings
 returns-in_err-flush-clause-openings g c = c.flush.ensures.openings ∙ (at-starved-end g c).opened
 
-at-whole-end : (g : Over) (c : goal.After-drop-piece-inside-2 g) → Looped g.H.House.may (g.H.House.told c.args.house.now) (g.H.House.told c.loop-test.house) (g.W.Wire.seen c.args.wire.now) (g.W.Wire.seen c.loop-test.wire) c.loop-test.held c.args.engine.now c.loop-test.engine c.args.turns (g.W.Wire.server_faults c.args.wire.now) (g.W.Wire.server_faults c.loop-test.wire) (g.W.Wire.calls c.args.wire.now) (g.W.Wire.calls c.loop-test.wire) (g.W.Wire.openings c.args.wire.now) (g.W.Wire.openings c.loop-test.wire) c.args.wire.now c.loop-test.wire
+pub returns-in_err-flush-clause-joinings : goal.returns-in_err-flush-clause-joinings
+returns-in_err-flush-clause-joinings g c = c.flush.ensures.joinings ∙ (at-starved-end g c).joined
+
+at-whole-end : (g : Over) (c : goal.After-drop-piece-inside-2 g) → Looped g.H.House.may (g.H.House.told c.args.house.now) (g.H.House.told c.loop-test.house) (g.W.Wire.seen c.args.wire.now) (g.W.Wire.seen c.loop-test.wire) c.loop-test.held c.args.engine.now c.loop-test.engine c.args.turns (g.W.Wire.server_faults c.args.wire.now) (g.W.Wire.server_faults c.loop-test.wire) (g.W.Wire.calls c.args.wire.now) (g.W.Wire.calls c.loop-test.wire) (g.W.Wire.openings c.args.wire.now) (g.W.Wire.openings c.loop-test.wire) (g.W.Wire.joinings c.args.wire.now) (g.W.Wire.joinings c.loop-test.wire) c.args.wire.now c.loop-test.wire
 at-whole-end g c = elim c.loop-test.branch [
-  | else-loop-test w ↦ rw (w.engine-is, w.wire-is, w.house-is, w.held-is) (looped-spent c.loop.counter (omega arith) c.loop.invariant.serving c.loop.invariant.on c.loop.invariant.first c.loop.invariant.faults c.loop.invariant.calls c.loop.invariant.openings)
+  | else-loop-test w ↦ rw (w.engine-is, w.wire-is, w.house-is, w.held-is) (looped-spent c.loop.counter (omega arith) c.loop.invariant.serving c.loop.invariant.on c.loop.invariant.first c.loop.invariant.faults c.loop.invariant.calls c.loop.invariant.openings c.loop.invariant.joinings)
   | then-loop-test+in_ok-settle+in_default+in_ok-turn+in-Ended w ↦ rw (w.engine-is, w.wire-is, w.house-is, w.held-is) (looped-over c.loop.counter w.loop-test.true
       (λ before policy pid start first v. w.in_ok-turn.ensures.serving before policy pid start (first + c.loop.counter) (w.in_ok-settle.ensures.serving before policy pid start (first + c.loop.counter) (c.loop.invariant.serving before policy pid start first v)))
       (went-over w.turn.new.engine.ended w.in_ok-turn.field-0 w.in-Ended.field-0 w.in_ok-turn.ensures.went w.in-Ended.is) w.in_ok-turn.ensures.unspent
@@ -186,7 +205,8 @@ at-whole-end g c = elim c.loop-test.branch [
       (later-on (g.W.Wire.server_faults c.args.wire.now) (g.W.Wire.server_faults c.loop.wire) (g.W.Wire.server_faults w.settle.new.wire) c.loop.invariant.faults w.settle.ensures.later) (w.in_ok-turn.ensures.failed over))
       (well-on c.loop.counter 1 (c.loop.counter + 1) (g.W.Wire.calls c.args.wire.now) (g.W.Wire.calls c.loop.wire) (g.W.Wire.calls w.turn.new.wire) (omega arith) c.loop.invariant.calls
       (well-on 0 1 1 (g.W.Wire.calls c.loop.wire) (g.W.Wire.calls w.settle.new.wire) (g.W.Wire.calls w.turn.new.wire) (omega arith) w.in_ok-settle.ensures.calls w.in_ok-turn.ensures.calls))
-      (w.turn.ensures.openings ∙ (w.settle.ensures.openings ∙ c.loop.invariant.openings)))
+      (w.turn.ensures.openings ∙ (w.settle.ensures.openings ∙ c.loop.invariant.openings))
+      (w.turn.ensures.joinings ∙ (w.settle.ensures.joinings ∙ c.loop.invariant.joinings)))
 ]
 
 pub returns-clause-ran : goal.returns-clause-ran
@@ -210,7 +230,10 @@ returns-clause-calls g c = let l = at-whole-end g c in
 
 pub returns-clause-idle : goal.returns-clause-idle
 returns-clause-idle g c = λ z. let l = at-whole-end g c in let f = l.first (none-of l.given c.args.turns l.fits z) in
-    same-faults g.W.Wire.server_faults g.W.Wire.client_faults c.args.wire.now c.flush.new.wire ((c.flush.ensures.idle (ap (λ (s : State). s.waiting) f.0 ∙ c.requires.quiet)).1 ∙ f.1)
+    faults-then g.W.Wire.server_faults g.W.Wire.client_faults c.args.wire.now c.loop-test.wire c.flush.new.wire f.1 (c.flush.ensures.idle (ap (λ (s : State). s.waiting) f.0 ∙ c.requires.quiet)).1
 
 pub returns-clause-openings : goal.returns-clause-openings
 returns-clause-openings g c = c.flush.ensures.openings ∙ (at-whole-end g c).opened
+
+pub returns-clause-joinings : goal.returns-clause-joinings
+returns-clause-joinings g c = c.flush.ensures.joinings ∙ (at-whole-end g c).joined

@@ -16,4 +16,5 @@ invariant-loop g l = let W = g.W.Wire in record {
   faults : W.server_faults l.fn.wire ≤ W.server_faults l.wire;
   calls : Well l.counter (W.calls l.fn.wire) (W.calls l.wire);
   openings : W.openings l.wire ≡ W.openings l.fn.wire;
+  joinings : W.joinings l.wire ≡ W.joinings l.fn.wire;
 }

@@ -108,4 +108,5 @@ returns-in_default g c =
       later = turn-later c.wait-next.result _ _ _ _ c.wait-next.ensures.cause;
       calls = subst (λ (x : Calls). Cut 1 (W.calls c.args.wire.now) x) (sym c.wait-next.ensures.calls) (cut-wait c.wait-next.result (W.calls c.args.wire.now));
       openings = c.wait-next.ensures.openings;
+      joinings = c.wait-next.ensures.joinings;
     }

@@ -23,6 +23,7 @@ loop-stream-init g c =
       later = le_refl _;
       calls = well-none _;
       openings = refl;
+      joinings = refl;
       none = λ e. items ∙ ap (without 0) (c.waiting.ensures.exact ∙ e);
       idle = λ e. (refl, refl);
     }
@@ -71,6 +72,7 @@ loop-stream-preserved g c =
       later = le_trans c.loop-stream.invariant.later c.offer.ensures.later;
       calls = well-then _ _ _ c.loop-stream.invariant.calls c.in_ok-offer.ensures.calls;
       openings = c.offer.ensures.openings ∙ c.loop-stream.invariant.openings;
+      joinings = c.offer.ensures.joinings ∙ c.loop-stream.invariant.joinings;
       none = c.loop-stream.invariant.none;
       idle = λ e. none-there i items (omega arith) (c.loop-stream.invariant.none e);
     }

@@ -19,7 +19,7 @@ returns-in_err-flush-clause-calls g c = counts-err c.from_residual.result 0 _ _ 
 
 pub returns-clause-serving : goal.returns-clause-serving
 returns-clause-serving g c before policy pid start given v =
-    c.hush.ensures.serving before _ policy pid start _ given (c.close_lost.ensures.serving before _ policy pid start given (c.in_ok-flush.ensures.serving before policy pid start given v))
+    c.hush.ensures.serving before _ policy pid start _ given _ (c.close_lost.ensures.serving before _ policy pid start given (c.in_ok-flush.ensures.serving before policy pid start given v))
 
 pub returns-clause-ended : goal.returns-clause-ended
 returns-clause-ended g c = then-stays-or-fails _ _ _ _ _ _ c.in_ok-flush.ensures.ended (stays _ _ _ _ c.close_lost.ensures.ended (c.hush.ensures.faults ∙ c.close_lost.ensures.faults))
