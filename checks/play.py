@@ -11,8 +11,10 @@ follow what, and a rule that two models share is written twice.
 """
 
 import argparse
+import collections
 import contextlib
 import dataclasses
+import itertools
 import os
 import random
 import resource
@@ -48,8 +50,9 @@ HELLO, VERSION = 0x00000001, 4
 NEW_SESSION, ALIVE_CHECK, TERMINATE = 0x10000002, 0x10000004, 0x10000005
 OPEN_FWD, CLOSE_FWD, NEW_STDIO_FWD = 0x10000006, 0x10000007, 0x10000008
 STOP_LISTENING, PROXY = 0x10000009, 0x1000000F
-S_OK, S_FAILURE, S_EXIT_MESSAGE = 0x80000001, 0x80000003, 0x80000004
-S_ALIVE, S_SESSION_OPENED, S_PROXY = 0x80000005, 0x80000006, 0x8000000F
+S_OK, S_PERMISSION_DENIED, S_FAILURE = 0x80000001, 0x80000002, 0x80000003
+S_EXIT_MESSAGE, S_ALIVE, S_SESSION_OPENED = 0x80000004, 0x80000005, 0x80000006
+S_REMOTE_PORT, S_PROXY = 0x80000007, 0x8000000F
 
 # RFC 4253, section 12, and RFC 4254, section 9. There each name has SSH_MSG_ in front, and from 90
 # on SSH_MSG_CHANNEL_; those of 91 and 93 are OPEN_CONFIRMATION and WINDOW_ADJUST.
@@ -296,6 +299,12 @@ def talk(stream: socket.socket, data: bytes) -> bytes:
     return bytes(heard)
 
 
+def processor_nanoseconds(pid: int) -> int:
+    """How much of the processor's time a process has had."""
+    with open(f"/proc/{pid}/schedstat", encoding="ascii") as stat:
+        return int(stat.read().split()[0])
+
+
 def descriptors(pid: int) -> int:
     """How many descriptors a process has open."""
     return len(os.listdir(f"/proc/{pid}/fd"))
@@ -472,15 +481,54 @@ def parser_with_seed(about: str) -> argparse.ArgumentParser:
     return parser
 
 
-def begin_rounds(about: str, title: str, name: str, count: int) -> tuple[str, range]:
-    """Reads the options of a check of many rounds, so named: the program, and a seed for each."""
+@dataclasses.dataclass(frozen=True)
+class Rounds:
+    """The rounds of a check, so named, each with the seed behind the last one's."""
+
+    name: str
+    seed: int
+    # How many there are, and after how many seconds none begins any more, where that is said.
+    count: int | None
+    seconds: float | None
+
+    @property
+    def extent(self) -> str:
+        told = [] if self.count is None else [f"{self.count} {self.name}s"]
+        told += [] if self.seconds is None else [f"{self.seconds:g} seconds"]
+        return f"{' or '.join(told)}, seed {self.seed}"
+
+    def seeds(self) -> Iterator[int]:
+        began = time.monotonic()
+        for number in itertools.count() if self.count is None else range(self.count):
+            if self.seconds is not None and time.monotonic() - began >= self.seconds:
+                return
+            yield self.seed + number
+
+    def play(self, play: Callable[[int], str | None]) -> tuple[int, int]:
+        """Plays once with each seed, which may tell why that failed: how many passed and failed."""
+        counts = collections.Counter[bool]()
+        for seed in self.seeds():
+            why = play(seed)
+            counts[why is None] += 1
+            if why is not None:
+                say(f"FAILED: the {self.name} of --seed {seed} --{self.name}s 1: {why}")
+        return counts[True], counts[False]
+
+
+def begin_rounds(about: str, title: str, name: str, count: int) -> tuple[str, Rounds]:
+    """Reads the options of a check of many rounds, so named: the program, and the rounds."""
     parser = parser_with_seed(about)
     said = f"how many {name}s, each with the seed behind the last one's; by default {count}"
-    parser.add_argument(f"--{name}s", metavar="N", type=int, default=count, help=said)
+    parser.add_argument(f"--{name}s", metavar="N", type=int, help=f"{said} without --seconds")
+    said = f"begin no {name} once so many seconds are over"
+    parser.add_argument("--seconds", metavar="S", type=float, help=said)
     options, program = begin(parser)
-    count = getattr(options, f"{name}s")
-    say(f"{title}: over {os.path.relpath(program)}, {count} {name}s, seed {options.seed}")
-    return program, range(options.seed, options.seed + count)
+    wanted = getattr(options, f"{name}s")
+    if wanted is None and options.seconds is None:
+        wanted = count
+    rounds = Rounds(name, options.seed, wanted, options.seconds)
+    say(f"{title}: over {os.path.relpath(program)}, {rounds.extent}")
+    return program, rounds
 
 
 def begin(parser: argparse.ArgumentParser) -> tuple[argparse.Namespace, str]:
@@ -518,6 +566,7 @@ def has_paramiko() -> bool:
 # What a case may need beside programs: whether it is here, and what is said where it isn't.
 NEEDS: dict[str, tuple[Callable[[], bool], str]] = {
     "paramiko": (has_paramiko, "this machine has no paramiko for /usr/bin/python3"),
+    "sshd": (lambda: SSHD is not None, "this machine has no sshd"),
     "terminal": (lambda: os.getuid() == 0, "sshd gives terminals only where root starts it"),
 }
 
@@ -533,16 +582,19 @@ def hold_need(name: str) -> None:
 
 @dataclasses.dataclass(frozen=True)
 class Case:
-    """A case: what it does in its room, what it needs, and how its way is to be."""
+    """A case: what it does in its room, what it needs, how its way is to be, and how many tries it
+    has where the report names no other number. One that is a row of a table has a title."""
 
     play: Callable[[Any], None]
     needs: Sequence[str] = ()
     permissions: Sequence[str] = ()
     sshd_settings: str = ""
+    tries: int = 1
+    title: str = ""
 
     @property
     def name(self) -> str:
-        return self.play.__name__.replace("_", " ")
+        return self.title or self.play.__name__.replace("_", " ")
 
 
 RoomFor = Callable[[Case], contextlib.AbstractContextManager[Any]]
@@ -569,6 +621,10 @@ class Cases:
 
         return mark
 
+    def row(self, title: str, play: Callable[[Any], None], **more: Any) -> None:
+        """Adds a case that is a row of a table."""
+        self.cases.append(Case(play, title=title, **more))
+
     def named(self, words: Sequence[str]) -> list[Case]:
         """The cases whose names have one of the words, or all."""
         parts = [word.replace("_", " ") for word in words] or [""]
@@ -592,7 +648,9 @@ class Cases:
             at = f"{os.path.basename(place.filename)} line {place.lineno}"
             return "FAILED", f"{type(why).__name__} at {at}: {why}"
 
-    def report(self, words: Sequence[str], room_for: RoomFor, tries: int = 1) -> bool:
+    def report(
+        self, words: Sequence[str], room_for: RoomFor, tries: int | None = None
+    ) -> bool:
         """Plays the cases that are named, and returns whether there were any and none failed.
 
         One that failed is played again while it has tries left; each failure is told.
@@ -601,7 +659,7 @@ class Cases:
         for case in self.named(words):
             start = time.monotonic()
             said, why = self.outcome(case, room_for)
-            for _ in range(tries - 1):
+            for _ in range((tries or case.tries) - 1):
                 if said == "FAILED":
                     say(f"again: {case.name}: {why}")
                     said, why = self.outcome(case, room_for)
@@ -614,17 +672,6 @@ class Cases:
         tried = f"{counts['ok']} passed, {counts['FAILED']} failed, {counts['skipped']} skipped"
         say(f"{self.title}: {tried}, in {time.monotonic() - began:.1f} s")
         return any(counts.values()) and not counts["FAILED"]
-
-
-def failures(name: str, seeds: range, play: Callable[[int], str | None]) -> int:
-    """Plays once with each seed, which may tell why that failed: how many did."""
-    failed = 0
-    for seed in seeds:
-        why = play(seed)
-        if why is not None:
-            failed += 1
-            say(f"FAILED: the {name} of --seed {seed} --{name}s 1: {why}")
-    return failed
 
 
 # The way to OpenSSH's server.

@@ -1,7 +1,8 @@
 # Completion of ssh-mux for bash. `install` fills in the options, by share/options of the source.
 _ssh_mux() {
   local options='@options@' files='@files@' hosts='@hosts@'
-  local interfaces='@interfaces@' permissions='@permissions@' others='@others@'
+  local interfaces='@interfaces@' permissions='@permissions@' commands='@commands@'
+  local others='@others@'
   local word=${COMP_WORDS[COMP_CWORD]} before=${COMP_WORDS[COMP_CWORD - 1]}
   COMPREPLY=()
   case " $files " in *" $before "*)
@@ -15,6 +16,10 @@ _ssh_mux() {
   esac
   case " $permissions " in *" $before "*)
     mapfile -t COMPREPLY < <(compgen -W 'any none' -- "$word")
+    return
+  esac
+  case " $commands " in *" $before "*)
+    mapfile -t COMPREPLY < <(compgen -W 'check exit stop forward cancel' -- "$word")
     return
   esac
   case " $others " in *" $before "*) return ;; esac

@@ -19,6 +19,7 @@ use Rattle.conf_command.specs.declared.destinations.Destination.{Destination as 
 abbrev pub mode_of : TheMode → Mode
 mode_of modes.Listing = options.Listing
 mode_of modes.Master = options.Master
+mode_of modes.Client = options.Client
 
 -- what a word does
 abbrev pub act_of : Act → options.Act
@@ -27,6 +28,7 @@ act_of (acts.Reads from) = options.Reads from
 act_of (acts.Asks line) = options.Asks line
 act_of (acts.Connects transport) = options.Connects transport
 act_of (acts.Permits listening word entry) = options.Permits listening word entry
+act_of (acts.Controls control) = options.Controls control
 act_of (acts.Goes to) = options.Goes to
 act_of (acts.Fails cause) = options.Fails cause
 
@@ -37,6 +39,7 @@ takes_of (takes.Forward keyword one two) = options.OfForward keyword.now one two
 takes_of takes.Line = options.OfLine
 takes_of takes.File = options.OfFile
 takes_of takes.Transport = options.OfTransport
+takes_of takes.Control = options.OfControl
 takes_of (takes.Permit listening) = options.OfPermit listening
 
 -- what a letter is

@@ -1,4 +1,4 @@
-use conf_rules::{AskedLine, ConfigFrom, Usage};
+use conf_rules::{AskedLine, ConfigFrom, Control, Usage};
 use ssh_fields::Text;
 
 /// What is to be done.
@@ -6,6 +6,8 @@ use ssh_fields::Text;
 pub enum Mode {
     Listing,
     Master,
+    /// The client of a running master.
+    Client,
 }
 
 /// What a word does.
@@ -21,6 +23,8 @@ pub enum Act {
         word: u64,
         entry: Text,
     },
+    /// What a running master is asked.
+    Controls(Control),
     Goes(Text),
     Fails(Usage),
 }

@@ -19,6 +19,8 @@ pub enum Takes {
     Line,
     File,
     Transport,
+    /// What a running master is asked.
+    Control,
     /// A permission to listen, or to open.
     Permit {
         listening: bool,
@@ -80,6 +82,7 @@ pub fn meaning_of(byte: u8) -> Letter
         b'L' => forward(b"localforward", false, true),
         b'R' => forward(b"remoteforward", true, true),
         b'D' => forward(b"dynamicforward", true, false),
+        b'O' => Letter::With(Takes::Control),
         b'o' => Letter::With(Takes::Line),
         b'P' => key(b"tag"),
         b'p' => key(b"port"),

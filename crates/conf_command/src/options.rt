@@ -1,17 +1,17 @@
 ghost use Rattle.std.specs.Prelude.{◌≡◌, ℕ, List, [], ◌∷◌, ◌++◌, IfOk, OnOk};
 ghost use Rattle.conf_rules.specs.declared.asked.AskedLine.TheVariants as asks;
-ghost use Rattle.conf_rules.specs.Options.{step, forward_step, file_named, taken, with_value, by_letters, long_option, dashed, Free, Goes, ValueOf};
+ghost use Rattle.conf_rules.specs.Options.{step, forward_step, file_named, control_among, controls, control_step, taken, with_value, by_letters, long_option, dashed, Free, Goes, ValueOf};
 ghost use Rattle.conf_rules.specs.CommandLine.{free_word, steps_from};
 ghost use Rattle.conf_command.specs.Shown.{act_of, takes_of, next_of};
 ghost use Rattle.conf_command.specs.Words.{word_steps, end_steps};
 
-use crate::act::Act;
+use crate::act::{Act, Mode};
 use crate::bytes::is_same;
 use crate::forwardings::forward_words;
 use crate::letters::{Letter, Takes, meaning_of};
 use crate::step::{Step, Steps};
 use conf_lexer::first;
-use conf_rules::{AskedLine, ConfigFrom, Usage};
+use conf_rules::{AskedLine, ConfigFrom, Control, Usage};
 use ssh_fields::{OutOfMemory, Text, Texts};
 use std::alloc::Global;
 
@@ -86,34 +86,73 @@ fn file_named(alloc: Global, value: &[u8]) -> Result<ConfigFrom, OutOfMemory>
     Ok(ConfigFrom::File(Text::copy(alloc, value)?))
 }
 
+/// What a running master is asked by a value, if it names that.
+fn control_named(value: &[u8]) -> Option<Control>
+    ensures { result ≡ control_among controls value.now }
+{
+    if is_same(value, b"check") {
+        return Some(Control::Check);
+    }
+    if is_same(value, b"exit") {
+        return Some(Control::Exit);
+    }
+    if is_same(value, b"stop") {
+        return Some(Control::Stop);
+    }
+    if is_same(value, b"forward") {
+        return Some(Control::Forward);
+    }
+    if is_same(value, b"cancel") {
+        return Some(Control::Cancel);
+    }
+    None
+}
+
+/// A value that names what a running master is asked, or is bad where it stands.
+fn control_step(at: u64, value: &[u8]) -> Step
+    ensures { result ≡ control_step at (control_among controls value.now) }
+{
+    match control_named(value) {
+        Some(control) => Step::new(at, Act::Controls(control)),
+        None => Step::new(at, Act::Fails(Usage::BadCommand)),
+    }
+}
+
 /// What an option at a word does with its value at another.
-fn taken(alloc: Global, takes: Takes, here: u64, at: u64, value: &[u8]) -> Result<Step, OutOfMemory>
-    ensures { IfOk result (λ s. s ≡ taken (takes_of takes) here at value.now) }
+fn take(
+    alloc: Global,
+    takes: Takes,
+    here: u64,
+    at: u64,
+    value: &[u8],
+    steps: &mut Steps,
+) -> Result<(), OutOfMemory>
+    ensures { OnOk result (steps.new ≡ steps.old ++ taken (takes_of takes) here at value.now) }
 {
     match takes {
         Takes::Key(keyword) => {
             let line = key_line(alloc, at, keyword, value)?;
-            Ok(Step::new(at, Act::Asks(line)))
+            steps.push(Step::new(at, Act::Asks(line)))
         }
         Takes::Forward { keyword, one, two } => {
             let words = forward_words(alloc, one, two, value)?;
-            forward_step(alloc, at, keyword, words)
+            steps.push(forward_step(alloc, at, keyword, words)?)
         }
         Takes::Line => {
             let line = Text::copy(alloc, value)?;
-            Ok(Step::new(at, Act::Asks(AskedLine::Line { word: at, line })))
+            steps.push(Step::new(at, Act::Asks(AskedLine::Line { word: at, line })))
         }
         Takes::File => {
             let from = file_named(alloc, value)?;
-            Ok(Step::new(at, Act::Reads(from)))
+            steps.push(Step::new(at, Act::Reads(from)))
         }
         Takes::Transport => {
             let transport = Text::copy(alloc, value)?;
-            Ok(Step::new(here, Act::Connects(transport)))
+            steps.push(Step::new(here, Act::Connects(transport)))
         }
         Takes::Permit { listening } => {
             let entry = Text::copy(alloc, value)?;
-            Ok(Step::new(
+            steps.push(Step::new(
                 here,
                 Act::Permits {
                     listening,
@@ -121,6 +160,10 @@ fn taken(alloc: Global, takes: Takes, here: u64, at: u64, value: &[u8]) -> Resul
                     entry,
                 },
             ))
+        }
+        Takes::Control => {
+            steps.push(Step::new(here, Act::Chooses(Mode::Client)))?;
+            steps.push(control_step(at, value))
         }
     }
 }
@@ -140,7 +183,7 @@ fn with_value(
     if rest.is_empty() {
         return Ok(Next::ValueOf { here: at, takes });
     }
-    steps.push(taken(alloc, takes, at, at, rest)?)?;
+    take(alloc, takes, at, at, rest, steps)?;
     Ok(Next::Free)
 }
 
@@ -249,7 +292,7 @@ fn word_steps(
             Ok(Next::Ended)
         }
         Next::ValueOf { here, takes } => {
-            steps.push(taken(alloc, takes, here, at, word)?)?;
+            take(alloc, takes, here, at, word, steps)?;
             Ok(Next::Free)
         }
     }

@@ -1,6 +1,7 @@
 ghost use Rattle.std.specs.Prelude.{◌≡◌, ◌+◌, ℕ, false, None, length, bytes_eq, codes};
-ghost use Rattle.conf_rules.specs.CommandLine.{permitted, master_of, mode_command, host_command, command_with, command_of, walked, walk_from, steps_from, transport_in};
+ghost use Rattle.conf_rules.specs.CommandLine.{permitted, master_of, client_of, control_in, mode_command, host_command, command_with, command_of, walked, walk_from, steps_from, transport_in};
 ghost use Rattle.conf_rules.specs.Options.{Free};
+ghost use Rattle.conf_rules.specs.declared.control.Control.TheVariants.{Check};
 ghost use Rattle.conf_rules.specs.Reading.{reading, drill_of};
 ghost use Rattle.conf_command.specs.declared.reader.WordsError.TheVariants as words_errors;
 ghost use Rattle.conf_command.specs.Results.{Gives};
@@ -11,9 +12,11 @@ use crate::bytes::is_same;
 use crate::drill::drill_of;
 use crate::options::steps_of;
 use crate::permits::{bad_entry, earlier, permits_of, texts_of};
-use crate::sound::{asked_of, host_in, transport_in};
+use crate::sound::{
+    asked_of, control_in, host_in, is_about_forwardings, names_forwarding, transport_in,
+};
 use crate::step::Step;
-use crate::walk::{first_mode, not_for_listing, walk_over};
+use crate::walk::{first_mode, not_for_others, walk_over};
 use conf_rules::{Command, Usage, UsageError};
 use ssh_fields::{OutOfMemory, Text, Texts};
 use std::alloc::Global;
@@ -63,6 +66,21 @@ fn master_of(alloc: Global, end: u64, host: &[u8], steps: &[Step]) -> Result<Com
     })
 }
 
+/// The client of a running master; forwardings must be named where they are asked for.
+fn client_of(alloc: Global, end: u64, host: &[u8], steps: &[Step]) -> Result<Command, WordsError>
+    ensures { (n : ℕ) → end ≡ n + 1
+        → Gives result (client_of n host.now steps.now (control_in Check steps.now)) }
+{
+    let control = control_in(steps);
+    if is_about_forwardings(control) && !names_forwarding(steps) {
+        return Err(refused(end, Usage::NoForward));
+    }
+    Ok(Command::Control {
+        asked: asked_of(alloc, host, steps)?,
+        control,
+    })
+}
+
 /// The command of a mode for a host.
 fn mode_command(
     alloc: Global,
@@ -77,6 +95,7 @@ fn mode_command(
     match mode {
         Mode::Listing => Ok(Command::List(asked_of(alloc, host, steps)?)),
         Mode::Master => master_of(alloc, end, host, steps),
+        Mode::Client => client_of(alloc, end, host, steps),
     }
 }
 
@@ -99,7 +118,7 @@ fn walked(alloc: Global, end: u64, steps: &[Step]) -> Result<Command, WordsError
     ensures { (n : ℕ) → end ≡ n + 1 → Gives result (walked n (walk_from None false steps.now)) }
 {
     let walk = walk_over(steps);
-    if let Some(word) = not_for_listing(walk.sound) {
+    if let Some(word) = not_for_others(walk.sound) {
         return Err(refused(word, Usage::OnlyForMaster));
     }
     if let Some(e) = walk.fault {

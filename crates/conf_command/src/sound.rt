@@ -1,16 +1,18 @@
 ghost use Rattle.std.specs.Prelude.{◌≡◌, ℕ, [], ◌∷◌, ◌++◌, List, IfOk, OnOk, None, flat_map};
 ghost use Rattle.std.specs.Option.{option_copied};
+ghost use Rattle.std.specs.List.{list_any};
+ghost use Rattle.conf_rules.specs.declared.control.Control.TheVariants.{Check};
 ghost use Rattle.conf_rules.specs.declared.asked.ConfigFrom.TheVariants.{Standard};
-ghost use Rattle.conf_rules.specs.CommandLine.{line_in, destination_line, from_in, transport_in, host_in, asked_of};
+ghost use Rattle.conf_rules.specs.CommandLine.{line_in, destination_line, from_in, transport_in, control_in, is_forwarding, asks_forwarding, is_about_forwardings, host_in, asked_of};
 ghost use Rattle.conf_rules.specs.Destinations.{destination};
 ghost use Rattle.conf_command.specs.Sound.{from_at, transport_at, host_at};
 
 use crate::act::Act;
-use crate::bytes::copied;
+use crate::bytes::{copied, is_same};
 use crate::destinations::destination_in;
 use crate::options::key_line;
 use crate::step::Step;
-use conf_rules::{Asked, AskedLine, AskedLines, ConfigFrom};
+use conf_rules::{Asked, AskedLine, AskedLines, ConfigFrom, Control};
 use ssh_fields::{OutOfMemory, Text};
 use std::alloc::Global;
 
@@ -128,6 +130,61 @@ pub fn transport_in(alloc: Global, steps: &[Step]) -> Result<Option<Text>, OutOf
         transport = transport_behind(alloc, transport, step)?;
     }
     Ok(transport)
+}
+
+/// What a running master is asked: the last one named counts.
+pub fn control_in(steps: &[Step]) -> Control
+    ensures { result ≡ control_in Check steps.now }
+{
+    let mut control = Control::Check;
+    for step in steps {
+        if let Act::Controls(named) = step.act() {
+            control = *named;
+        }
+    }
+    control
+}
+
+/// Whether a line is a forwarding that a letter names.
+fn is_forwarding(line: &AskedLine) -> bool
+    ensures { result ≡ is_forwarding line.now }
+{
+    match line {
+        AskedLine::Line { .. } => false,
+        AskedLine::Parts { keyword, .. } => {
+            let keyword = keyword.as_bytes();
+            is_same(keyword, b"localforward")
+                || is_same(keyword, b"remoteforward")
+                || is_same(keyword, b"dynamicforward")
+        }
+    }
+}
+
+/// Whether a step names a forwarding.
+fn asks_forwarding(step: &Step) -> bool
+    ensures { result ≡ asks_forwarding step.now }
+{
+    match step.act() {
+        Act::Asks(line) => is_forwarding(line),
+        _ => false,
+    }
+}
+
+/// Whether a forwarding is named.
+pub fn names_forwarding(steps: &[Step]) -> bool
+    ensures { result ≡ list_any asks_forwarding steps.now }
+{
+    steps.iter().any(|step| asks_forwarding(step))
+}
+
+/// Whether a command is about the forwardings that are named.
+pub fn is_about_forwardings(control: Control) -> bool
+    ensures { result ≡ is_about_forwardings control }
+{
+    match control {
+        Control::Forward | Control::Cancel => true,
+        _ => false,
+    }
 }
 
 /// The host to which a step goes.

@@ -1,6 +1,6 @@
 ghost use Rattle.std.specs.Prelude.{◌≡◌, ℕ, false, Some, None, Option};
 ghost use Rattle.std.specs.Option.{option_map};
-ghost use Rattle.conf_rules.specs.CommandLine.{other_mode, or_mode, walk_from, first_mode, first_of_master, not_for_listing};
+ghost use Rattle.conf_rules.specs.CommandLine.{other_mode, or_mode, walk_from, first_mode, first_of_master, not_for_others};
 ghost use Rattle.conf_command.specs.Shown.{mode_of};
 ghost use Rattle.conf_command.specs.Walks.{fault_of, mode_behind, going_behind, mode_in, is_of_master, walk_of};
 
@@ -21,9 +21,11 @@ fn is_other(first: Option<Mode>, mode: Mode) -> bool
     ensures { result ≡ other_mode (option_map mode_of first) (mode_of mode) }
 {
     match (first, mode) {
-        (Some(Mode::Listing), Mode::Master) => true,
-        (Some(Mode::Master), Mode::Listing) => true,
-        _ => false,
+        (Some(Mode::Listing), Mode::Listing) => false,
+        (Some(Mode::Master), Mode::Master) => false,
+        (Some(Mode::Client), Mode::Client) => false,
+        (Some(_), _) => true,
+        (None, _) => false,
     }
 }
 
@@ -139,12 +141,12 @@ fn first_of_master(steps: &[Step]) -> Option<u64>
     None
 }
 
-/// The word of the first option of the master where the listing was named first.
-pub fn not_for_listing(steps: &[Step]) -> Option<u64>
-    ensures { result ≡ not_for_listing (first_mode steps.now) steps.now }
+/// The word of the first option of the master where another mode was named first.
+pub fn not_for_others(steps: &[Step]) -> Option<u64>
+    ensures { result ≡ not_for_others (first_mode steps.now) steps.now }
 {
     match first_mode(steps) {
-        Some(Mode::Listing) => first_of_master(steps),
+        Some(Mode::Listing) | Some(Mode::Client) => first_of_master(steps),
         _ => None,
     }
 }

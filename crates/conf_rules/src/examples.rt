@@ -198,12 +198,36 @@ pub fn refused_words()
         (outcome bare (codes "-G" ∷ codes "-F" ∷ codes "none" ∷ codes "-o" ∷ codes "Host a"
         ∷ codes "x" ∷ [])) ≡ says (codes "command line line 5: not on the command line") }
     ensures modes { written (outcome bare (codes "-G" ∷ codes "-M" ∷ codes "x" ∷ []))
-        ≡ says (codes "word 2: only one of -G and -M is taken") }
+        ≡ says (codes "word 2: only one of -G, -M and -O is taken") }
     ensures master { written
         (outcome bare (codes "-G" ∷ codes "--transport" ∷ codes "/t" ∷ codes "x" ∷ []))
         ≡ says (codes "word 2: only for -M") }
     ensures destinations { written (outcome bare (codes "-G" ∷ codes "a" ∷ codes "b" ∷ []))
         ≡ says (codes "word 3: only one destination is taken") }
+{}
+
+/// What a running master is asked: no such thing, beside another mode, with no forwarding or no
+/// destination, with an option of the master, and twice.
+pub fn words_of_the_client()
+    ensures command { written (outcome bare (codes "-O" ∷ codes "restart" ∷ codes "x" ∷ []))
+        ≡ says (codes "word 2: not a command") }
+    ensures joined { written (outcome bare (codes "-Orestart" ∷ codes "x" ∷ []))
+        ≡ says (codes "word 1: not a command") }
+    ensures modes { written (outcome bare (codes "-G" ∷ codes "-O" ∷ codes "check" ∷ codes "x" ∷ []))
+        ≡ says (codes "word 2: only one of -G, -M and -O is taken") }
+    ensures forwarding { written
+        (outcome bare (codes "-O" ∷ codes "forward" ∷ codes "-o" ∷ codes "LocalForward 1 a:2"
+        ∷ codes "x" ∷ [])) ≡ says (codes "word 6: no forwarding is named") }
+    ensures destination { written (outcome bare (codes "-O" ∷ codes "cancel" ∷ []))
+        ≡ says (codes "word 3: a destination is missing") }
+    ensures master { written
+        (outcome bare (codes "-O" ∷ codes "check" ∷ codes "--transport" ∷ codes "/t" ∷ codes "x" ∷ []))
+        ≡ says (codes "word 3: only for -M") }
+    ensures last { written
+        (outcome bare (codes "-O" ∷ codes "check" ∷ codes "-O" ∷ codes "no" ∷ codes "x" ∷ []))
+        ≡ says (codes "word 4: not a command") }
+    ensures mode { written (outcome bare (codes "x" ∷ []))
+        ≡ says (codes "word 2: -G, -M or -O is missing") }
 {}
 
 /// Included files are read in the order of their paths; a name with a leading dot isn't matched by

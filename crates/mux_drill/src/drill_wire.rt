@@ -1,12 +1,12 @@
-ghost use Rattle.std.specs.Prelude.{◌≡◌, ◌≢◌, ◌<◌, ◌++◌, false, Some, IsTrue, All, length};
+ghost use Rattle.std.specs.Prelude.{◌≡◌, ◌≢◌, ◌<◌, ◌++◌, false, Some, IsErr, IsTrue, All, length};
 ghost use Rattle.std.specs.Option.{option_map};
 ghost use Rattle.mux_outside.specs.Streams.{among};
 ghost use Rattle.mux_outside.specs.declared.turn.Want.TheVariants.{Read, WriteOnly};
 ghost use Rattle.mux_outside.specs.declared.turn.Turn.TheVariants.{End, NoMemory};
 ghost use Rattle.mux_outside.specs.declared.turn.Wrote.TheVariants.{Took, NoMemory as NoMemoryToWrite};
-ghost use Rattle.mux_outside.specs.Wire.{openings_of, OpenFaults, TurnFits, TurnFaults, WroteFits, WroteFaults};
-ghost use Rattle.mux_outside.specs.Seen.{seen_after_open, seen_after_turn, seen_after_write, seen_after_close, calls_after_wait, calls_after_write};
-ghost use Rattle.mux_outside.specs.WireLog.{seen_in, LogsOpening, LogsTurn, LogsWrite, LogsClose};
+ghost use Rattle.mux_outside.specs.Wire.{openings_of, OpenFaults, joinings_of, JoinFaults, TurnFits, TurnFaults, WroteFits, WroteFaults};
+ghost use Rattle.mux_outside.specs.Seen.{seen_after_open, seen_after_join, seen_after_turn, seen_after_write, seen_after_close, calls_after_wait, calls_after_write};
+ghost use Rattle.mux_outside.specs.WireLog.{seen_in, LogsOpening, LogsJoining, LogsTurn, LogsWrite, LogsClose};
 ghost use Rattle.mux_drill.specs.Course.{full_tally};
 ghost use Rattle.mux_drill.specs.DrillWire.{tally_of, IsOver, IsNew, SamePlay, Opens, PlaysNext, TakesAll};
 ghost use Rattle.mux_drill.specs.Plan.{plan_of};
@@ -50,6 +50,8 @@ impl DrillWire {
 impl Wire for DrillWire {
     ghost openings = { λ w. Some w.log.openings };
 
+    ghost joinings = { λ w. Some w.log.joinings };
+
     ghost seen = { λ w. seen_in w.log };
 
     ghost calls = { λ w. w.log.calls };
@@ -71,6 +73,14 @@ impl Wire for DrillWire {
         self.log.opened(control, transport, true)?;
         self.play = play;
         Ok(())
+    }
+
+    fn join(&mut self, control: &[u8]) -> Result<(), FileError>
+        ensures logs { LogsJoining result control.now self.old.log self.new.log }
+        ensures fails { IsErr result }
+        ensures same { SamePlay self.old self.new }
+    {
+        self.log.joined(control, false)
     }
 
     fn wait(&mut self, waiting: &Streams, want: Want, into: &mut Piece) -> Turn

@@ -46,6 +46,7 @@ fn plan_in(command: Result<Command, UsageError>) -> Option<Plan>
         }),
         Ok(Command::List(_)) => None,
         Ok(Command::Master { .. }) => None,
+        Ok(Command::Control { .. }) => None,
         Err(_) => None,
     }
 }

@@ -104,6 +104,13 @@ stops-well given turns answer a b le spent none w =
 pub same-faults : {V : Type 0} (server client : V → ℕ) (old new : V) → new ≡ old → SameFaults (server old) (server new) (client old) (client new)
 same-faults server client old new e = record { same_server = ap server e; same_client = ap client e }
 
+-- the counts stay over what leaves the wire as it was, and what leaves its counts
+pub faults-then : {V : Type 0} (server client : V → ℕ) (old mid new : V) → mid ≡ old → SameFaults (server mid) (server new) (client mid) (client new) → SameFaults (server old) (server new) (client old) (client new)
+faults-then server client old mid new e f = record { same_server = f.same_server ∙ ap server e; same_client = f.same_client ∙ ap client e }
+
+pub then-same : {V : Type 0} (server client : V → ℕ) (old mid new : V) → new ≡ mid → SameFaults (server old) (server mid) (client old) (client mid) → SameFaults (server old) (server new) (client old) (client new)
+then-same server client old mid new e f = record { same_server = ap server e ∙ f.same_server; same_client = ap client e ∙ f.same_client }
+
 -- ---- the server's stream
 
 abbrev IsServerFailed : Event → Type 0

@@ -6,7 +6,7 @@ use Rattle.mux_outside.specs.declared.house.HouseReply.{HouseReply}
 use Rattle.mux_outside.specs.declared.mark.Mark.{Mark}
 use Rattle.mux_outside.specs.declared.mark.Mark.TheVariants.{Waits, Accepts, Gets, Ends, Frees, Fails, Takes, Holds, WriteFails, Joins, House}
 use Rattle.mux_history.specs.Policy.{Policy}
-use Rattle.mux_history.specs.Rows.{Row, rows_of, is_out, is_ended, loses, is_refusal, Item, Gone, Took, ServerFailed}
+use Rattle.mux_history.specs.Rows.{Row, rows_of, is_out, is_end, is_ended, loses, is_refusal, Item, Gone, Took, ServerFailed}
 use Rattle.mux_history.specs.Pending.{pending, pending_down, pending_up}
 use Rattle.mux_history.specs.Steps.{TakeStep, take_row}
 use Rattle.mux_history.specs.Settings.{by_lists}
@@ -55,6 +55,14 @@ and-last false b e = true-false (sym e)
 -- where clients are accepted, they were accepted before
 pub log-listens : (set : Setting) (mark : Mark) (before : List Mark) → listens (log_of_journal set (mark ∷ before)) ≡ true → listens (log_of_journal set before) ≡ true
 log-listens set mark before = log-keeps (λ rows. listens rows ≡ true → listens (log_of_journal set before) ≡ true) (λ row rows h e. h (and-last (not (stops row (rows_of row.client rows))) (listens rows) e)) set mark before (λ e. e)
+
+or-last : (a b : Bool) → (a || b) ≡ false → b ≡ false
+or-last true b e = true-false e
+or-last false b e = e
+
+-- where the run goes on, it went on before
+pub log-live : (set : Setting) (mark : Mark) (before : List Mark) → is_ended (log_of_journal set (mark ∷ before)) ≡ false → is_ended (log_of_journal set before) ≡ false
+log-live set mark before = log-keeps (λ rows. is_ended rows ≡ false → is_ended (log_of_journal set before) ≡ false) (λ row rows h e. h (or-last (is_end row.fate) (is_ended rows) e)) set mark before (λ e. e)
 
 -- ---- bytes that are taken
 

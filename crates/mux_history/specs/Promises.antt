@@ -12,7 +12,7 @@ use Rattle.ssh_grammar.specs.Said.{Body}
 use Rattle.mux_history.specs.declared.limits.TheConstants.{HOUSE, READING_STOPS_AT}
 use Rattle.mux_history.specs.declared.ended.Ended.{Ended}
 use Rattle.mux_history.specs.declared.ended.Ended.TheVariants.{Spent, StartRefused}
-use Rattle.mux_history.specs.Rows.{Row, rows_of, Says}
+use Rattle.mux_history.specs.Rows.{Row, rows_of, is_ended, Says}
 use Rattle.mux_history.specs.Pending.{pending}
 use Rattle.mux_history.specs.Controls.{greeted, body_stops}
 use Rattle.mux_history.specs.Log.{Setting, goes, served, more_all}
@@ -84,12 +84,13 @@ not_own streams = filter (λ t. not (is_own t)) streams
 abbrev pub MayWait : List Mark → ℕ → Type 0
 MayWait before t = IsTrue (is_own t) → has_failed t before ≡ false
 
--- a call of `wait`: of the server's stream and those of clients, the waiting ones are exactly the
--- open ones with output; none of the master's own that waits has failed; each that waits is blocked;
--- no more is read exactly while 4,194,304 bytes or more wait for the server; every stream that is
--- not waited for is settled; and the house was handed all that it is told as a client
+-- a call of `wait`: the run goes on; of the server's stream and those of clients, the waiting ones
+-- are exactly the open ones with output; none of the master's own that waits has failed; each that
+-- waits is blocked; no more is read exactly while 4,194,304 bytes or more wait for the server; every
+-- stream that is not waited for is settled; and the house was handed all that it is told as a client
 pub record WaitsRight (setting : Setting) (before : List Mark) (waiting : List ℕ) (want : Want)
     (streams : List ℕ) : Type 0 where
+  pub goes_on : is_ended (log_of_journal setting before) ≡ false
   pub waits_for : not_own waiting
       ≡ filter (has_output (log_of_journal setting before)) (not_own streams)
   pub own : All (MayWait before) waiting

@@ -50,6 +50,16 @@ seen_after_open (Ok x) seen = record seen {
 }
 seen_after_open (Err e) seen = seen
 
+-- after a call of join: the server's stream alone is open, and clients aren't accepted
+abbrev pub seen_after_join : Result (Unit {0}) FileError → Seen → Seen
+seen_after_join (Ok x) seen = record seen {
+  streams = 0 ∷ [];
+  blocked = [];
+  listens = false;
+  own = [];
+}
+seen_after_join (Err e) seen = seen
+
 -- after a turn
 abbrev pub seen_after_turn : Turn → List ℕ → Want → List ℕ → Seen → Seen
 seen_after_turn turn waiting want bytes seen = record seen {

@@ -56,6 +56,22 @@ OpenFaults (Err FailedFile) server server' client client' = SomeFault server ser
 OpenFaults (Err OutOfMemory) server server' client client' =
     SameFaults server server' client client'
 
+-- ---- join
+
+-- the argument that a call adds to those told: for want of memory none
+abbrev pub joinings_of : Result (Unit {0}) FileError → List ℕ → List (List ℕ)
+joinings_of (Ok x) control = control ∷ []
+joinings_of (Err FailedFile) control = control ∷ []
+joinings_of (Err OutOfMemory) control = []
+
+-- the counts after a call of join: a failure is the server's
+abbrev pub JoinFaults : Result (Unit {0}) FileError → ℕ → ℕ → ℕ → ℕ → Type 0
+JoinFaults (Ok x) server server' client client' = SameFaults server server' client client'
+JoinFaults (Err FailedFile) server server' client client' =
+    Rose server server' × (client' ≡ client)
+JoinFaults (Err OutOfMemory) server server' client client' =
+    SameFaults server server' client client'
+
 -- ---- wait
 
 -- which turns may be given

@@ -1,10 +1,10 @@
 -- What a wire in memory keeps of its calls.
 use Rattle.std.specs.Prelude.{◌≡◌, ◌<◌, ◌≤◌, ◌⊎◌, ℕ, Bool, true, false, List, [], ◌++◌, Some, Result, Ok, Err}
 use Rattle.mux_outside.specs.Seen.{Calls, Seen, no_calls, calls_after_wait, calls_after_write}
-use Rattle.mux_outside.specs.Seen.{seen_after_open, seen_after_turn, seen_after_write, seen_after_close}
+use Rattle.mux_outside.specs.Seen.{seen_after_open, seen_after_join, seen_after_turn, seen_after_write, seen_after_close}
 use Rattle.mux_outside.specs.Counts.{HasCause}
 use Rattle.mux_outside.specs.Script.{Standing}
-use Rattle.mux_outside.specs.Wire.{openings_of, OpenFaults, TurnFaults, WroteFaults, OwnTurnFaults, OwnWroteFaults}
+use Rattle.mux_outside.specs.Wire.{openings_of, OpenFaults, joinings_of, JoinFaults, TurnFaults, WroteFaults, OwnTurnFaults, OwnWroteFaults}
 use Rattle.mux_outside.specs.declared.own_streams.OwnStream.{OwnStream}
 use Rattle.mux_outside.specs.declared.own_streams.TheConstants.{LAST_CLIENT, LAST_OWN}
 use Rattle.mux_outside.specs.declared.file_error.FileError.{FileError}
@@ -21,6 +21,7 @@ use Rattle.mux_outside.specs.declared.turn.Wrote.TheVariants.{NoMemory as NoMemo
 -- and how often it was called and failed
 pub record Logged : Type 0 where
   pub openings : List Opening
+  pub joinings : List (List ℕ)
   pub marks : List Mark
   pub streams : List ℕ
   pub blocked : List ℕ
@@ -38,6 +39,7 @@ pub record Logged : Type 0 where
 abbrev pub nothing_logged : Logged
 nothing_logged = record {
   openings = [];
+  joinings = [];
   marks = [];
   streams = [];
   blocked = [];
@@ -81,9 +83,21 @@ standing_in log = record {
 pub record LogsOpening (answer : Result (Unit {0}) FileError) (control transport : List ℕ)
     (old new : Logged) : Type 0 where
   pub openings : new.openings ≡ old.openings ++ openings_of answer control transport
+  pub joinings : new.joinings ≡ old.joinings
   pub seen : seen_in new ≡ seen_after_open answer (seen_in old)
   pub calls : new.calls ≡ old.calls
   pub cause : OpenFaults answer old.server_faults new.server_faults
+      old.client_faults new.client_faults
+  pub own : new.own_faults ≡ old.own_faults
+
+-- after a call of join with this answer
+pub record LogsJoining (answer : Result (Unit {0}) FileError) (control : List ℕ) (old new : Logged)
+    : Type 0 where
+  pub openings : new.openings ≡ old.openings
+  pub joinings : new.joinings ≡ old.joinings ++ joinings_of answer control
+  pub seen : seen_in new ≡ seen_after_join answer (seen_in old)
+  pub calls : new.calls ≡ old.calls
+  pub cause : JoinFaults answer old.server_faults new.server_faults
       old.client_faults new.client_faults
   pub own : new.own_faults ≡ old.own_faults
 
@@ -91,6 +105,7 @@ pub record LogsOpening (answer : Result (Unit {0}) FileError) (control transport
 pub record LogsTurn (turn : Turn) (waiting : List ℕ) (want : Want) (bytes : List ℕ)
     (old new : Logged) : Type 0 where
   pub openings : new.openings ≡ old.openings
+  pub joinings : new.joinings ≡ old.joinings
   pub seen : seen_in new ≡ seen_after_turn turn waiting want bytes (seen_in old)
   pub calls : new.calls ≡ calls_after_wait turn old.calls
   pub cause : TurnFaults turn old.server_faults new.server_faults
@@ -101,6 +116,7 @@ pub record LogsTurn (turn : Turn) (waiting : List ℕ) (want : Want) (bytes : Li
 pub record LogsWrite (wrote : Wrote) (stream : ℕ) (bytes : List ℕ) (old new : Logged)
     : Type 0 where
   pub openings : new.openings ≡ old.openings
+  pub joinings : new.joinings ≡ old.joinings
   pub seen : seen_in new ≡ seen_after_write wrote stream bytes (seen_in old)
   pub calls : new.calls ≡ calls_after_write wrote old.calls
   pub cause : WroteFaults wrote stream old.server_faults new.server_faults
@@ -110,6 +126,7 @@ pub record LogsWrite (wrote : Wrote) (stream : ℕ) (bytes : List ℕ) (old new 
 -- only what is seen changes, and so
 pub record Shows (after : Seen) (old new : Logged) : Type 0 where
   pub openings : new.openings ≡ old.openings
+  pub joinings : new.joinings ≡ old.joinings
   pub seen : seen_in new ≡ after
   pub calls : new.calls ≡ old.calls
   pub server : new.server_faults ≡ old.server_faults
@@ -120,6 +137,7 @@ pub record Shows (after : Seen) (old new : Logged) : Type 0 where
 pub record ShowsMade (answer : Result ℕ FileError) (after : Seen) (old new : Logged)
     : Type 0 where
   pub openings : new.openings ≡ old.openings
+  pub joinings : new.joinings ≡ old.joinings
   pub seen : seen_in new ≡ after
   pub calls : new.calls ≡ old.calls
   pub server : new.server_faults ≡ old.server_faults

@@ -2,7 +2,7 @@ ghost use Rattle.std.specs.Prelude.{◌≡◌, IfOk};
 
 use crate::house::HouseReply;
 use crate::order::Order;
-use crate::starts::StartAsk;
+use crate::start_ask::StartAsk;
 use ssh_fields::{OutOfMemory, Text};
 use std::alloc::Global;
 

@@ -2,7 +2,7 @@ ghost use Rattle.std.specs.Prelude.{◌≡◌, ◌++◌, IfOk};
 ghost use Rattle.mux_outside.specs.Marks.{bytes_taken as all_taken};
 
 use crate::house_mark::HouseMark;
-use crate::streams::Streams;
+use crate::kept_streams::KeptStreams;
 use crate::turn::Want;
 use ssh_fields::{OutOfMemory, Text};
 use std::alloc::Global;
@@ -20,7 +20,7 @@ pub struct Opening {
 pub enum Mark {
     /// A call of `wait`: the waiting streams, what was wanted, the streams open then, and whether
     /// clients were accepted then.
-    Waits(Streams, Want, Streams, bool),
+    Waits(KeptStreams, Want, KeptStreams, bool),
     /// A client came.
     Accepts(u64),
     /// A stream gave bytes.

@@ -1,8 +1,11 @@
-ghost use Rattle.std.specs.Prelude.{◌≡◌, ◌≤◌, [], length, IfOk, IfSome, unwrap_or};
+ghost use Rattle.std.specs.Prelude.{◌≡◌, ◌≤◌, [], length, IfOk, IfSome, OnErr, OnOk, take, unwrap_or};
 ghost use Rattle.std.specs.Option.{option_map};
+ghost use Rattle.std.specs.Io.KnownBytes.{Consumes, IsAtEnd, Keeps};
 
 use ssh_fields::OutOfMemory;
 use std::alloc::Global;
+use std::io;
+use std::io::Read;
 use std::marker::Model;
 
 /// The most bytes that a turn gives.
@@ -11,18 +14,20 @@ pub const LONGEST_PIECE: usize = 65_536;
 /// A buffer for the bytes of one turn, with room for 65,536 and never more in it.
 #[derive(Debug, Drop)]
 pub struct Piece {
-    bytes: Vec<u8>,
+    room: Vec<u8>,
+    // how many of its bytes count
+    len: usize,
 }
 
 impl Model for Piece {
-    ghost use Rattle.std.specs.Prelude.{List, ℕ};
+    ghost use Rattle.std.specs.Prelude.{List, ℕ, take};
     ghost use Rattle.mux_outside.specs.Piece.{IsPiece};
 
     ghost Value = { List ℕ };
 
-    ghost view = { λ p. p.bytes.items };
+    ghost view = { λ p. take p.len p.room.items };
 
-    ghost invariant = { λ p. IsPiece p.bytes };
+    ghost invariant = { λ p. IsPiece p.room p.len };
 }
 
 impl Piece {
@@ -30,8 +35,8 @@ impl Piece {
     pub fn new(alloc: Global) -> Result<Piece, OutOfMemory>
         ensures { IfOk result (λ piece. piece ≡ []) }
     {
-        let bytes = Vec::with_capacity(alloc, LONGEST_PIECE)?;
-        Ok(Piece { bytes })
+        let room = Vec::from_elem(alloc, 0, LONGEST_PIECE)?;
+        Ok(Piece { room, len: 0 })
     }
 
     /// Puts these bytes in place of those before.
@@ -39,10 +44,26 @@ impl Piece {
         requires { length bytes.now ≤ LONGEST_PIECE }
         ensures { self.new ≡ bytes.now }
     {
-        self.bytes.clear();
-        if self.bytes.extend_from_slice(bytes).is_err() {
-            unreachable!();
-        }
+        put_front(self.room.as_mut_slice(), bytes);
+        self.len = bytes.len();
+    }
+
+    /// Reads once, and puts what comes in place of the bytes before. A read that fails leaves none.
+    pub fn read_from<S: Read>(&mut self, from: &mut S) -> io::Result<usize>
+        ensures count { IfOk result (λ n. n ≡ length self.new) }
+        ensures at_most { length self.new ≤ LONGEST_PIECE }
+        ensures failed { OnErr result (self.new ≡ []) }
+
+        // What a reader that tells its bytes has lost is what the piece holds.
+        ensures bytes { OnOk result
+            (Consumes (S.remaining from.old) (S.remaining from.new) self.new) }
+        ensures end { IfOk result (λ n. n ≡ 0 → IsAtEnd (S.remaining from.new)) }
+        ensures kept { OnErr result (Keeps (S.remaining from.old) (S.remaining from.new)) }
+    {
+        self.len = 0;
+        let count = from.read(self.room.as_mut_slice())?;
+        self.len = count;
+        Ok(count)
     }
 
     // What it holds once these bytes are put in, where there are some.
@@ -69,6 +90,15 @@ impl Piece {
         ensures bytes { result.now ≡ self.now }
         ensures room { length result.now ≤ LONGEST_PIECE }
     {
-        self.bytes.as_slice()
+        &self.room[..self.len]
     }
+}
+
+// Writes over the first bytes.
+fn put_front(room: &mut [u8], bytes: &[u8])
+    requires { length bytes.now ≤ length room.old }
+    ensures len { length room.new ≡ length room.old }
+    ensures front { take (length bytes.now) room.new ≡ bytes.now }
+{
+    room[..bytes.len()].copy_from_slice(bytes);
 }

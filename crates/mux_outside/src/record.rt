@@ -5,6 +5,8 @@ ghost use Rattle.mux_outside.specs.declared.turn.Turn.TheVariants.{NoMemory};
 ghost use Rattle.mux_outside.specs.declared.turn.Wrote.TheVariants.{NoMemory as NoMemoryToWrite};
 
 use crate::mark::Mark;
+use crate::marks::Marks;
+use crate::open_streams::OpenStreams;
 use crate::streams::Streams;
 use crate::turn::{Turn, Want, Wrote};
 use ssh_fields::{OutOfMemory, Text};
@@ -14,28 +16,28 @@ use std::alloc::Global;
 /// that is joined.
 pub fn record_wait(
     alloc: Global,
-    marks: &mut Vec<Mark>,
-    streams: &mut Streams,
+    marks: &mut Marks,
+    streams: &mut OpenStreams,
     turn: Turn,
     waiting: &Streams,
     want: Want,
     listening: bool,
     bytes: &[u8],
 ) -> Result<(), OutOfMemory>
-    ensures ok { OnOk result (marks.new.items
-        ≡ marks.old.items ++ wait_marks turn waiting.now want streams.old listening bytes.now) }
+    ensures ok { OnOk result (marks.new.told.items
+        ≡ marks.old.told.items ++ wait_marks turn waiting.now want streams.old listening bytes.now) }
     ensures opens { OnOk result (streams.new ≡ open_after turn streams.old) }
-    ensures err { OnErr result (marks.new.items ≡ marks.old.items) }
+    ensures err { OnErr result (marks.new.told.items ≡ marks.old.told.items) }
     ensures err_streams { OnErr result (streams.new ≡ streams.old) }
     ensures memory { OnOk result (turn ≢ NoMemory) }
 {
     let gives = mark_of_turn(alloc, turn, bytes)?;
-    let waiting = Streams::copy(alloc, waiting.as_slice())?;
-    let before = Streams::copy(alloc, streams.as_slice())?;
-    marks.reserve(2)?;
+    let open = streams.keep(alloc)?;
+    let waits = marks.wait_mark(alloc, waiting, want, open, listening)?;
+    marks.told.reserve(2)?;
     open_stream(turn, streams)?;
-    marks.push_reserved(Mark::Waits(waiting, want, before, listening));
-    marks.push_reserved(gives);
+    marks.told.push_reserved(waits);
+    marks.told.push_reserved(gives);
     Ok(())
 }
 
@@ -55,7 +57,7 @@ fn mark_of_turn(alloc: Global, turn: Turn, bytes: &[u8]) -> Result<Mark, OutOfMe
 }
 
 // Opens the stream of a client that comes or of a socket that is joined.
-fn open_stream(turn: Turn, streams: &mut Streams) -> Result<(), OutOfMemory>
+fn open_stream(turn: Turn, streams: &mut OpenStreams) -> Result<(), OutOfMemory>
     ensures ok { OnOk result (streams.new ≡ open_after turn streams.old) }
     ensures err { OnErr result (streams.new ≡ streams.old) }
 {
@@ -69,24 +71,24 @@ fn open_stream(turn: Turn, streams: &mut Streams) -> Result<(), OutOfMemory>
 /// Records the answer to a write, and blocks a stream that takes nothing for now.
 pub fn record_write(
     alloc: Global,
-    marks: &mut Vec<Mark>,
+    marks: &mut Marks,
     blocked: &mut Streams,
     wrote: Wrote,
     stream: u64,
     bytes: &[u8],
 ) -> Result<(), OutOfMemory>
     requires { WroteFits wrote (length bytes.now) }
-    ensures ok { OnOk result (marks.new.items ≡ marks.old.items
+    ensures ok { OnOk result (marks.new.told.items ≡ marks.old.told.items
         ++ write_marks wrote stream bytes.now) }
     ensures blocks { OnOk result (blocked.new ≡ blocked_after_write wrote stream blocked.old) }
-    ensures err { OnErr result (marks.new.items ≡ marks.old.items) }
+    ensures err { OnErr result (marks.new.told.items ≡ marks.old.told.items) }
     ensures err_blocked { OnErr result (blocked.new ≡ blocked.old) }
     ensures memory { OnOk result (wrote ≢ NoMemoryToWrite) }
 {
     let mark = mark_of_write(alloc, wrote, stream, bytes)?;
-    marks.reserve(1)?;
+    marks.told.reserve(1)?;
     block_stream(wrote, stream, blocked)?;
-    marks.push_reserved(mark);
+    marks.told.push_reserved(mark);
     Ok(())
 }
 

@@ -5,16 +5,17 @@ ghost use Rattle.mux_outside.specs.Tally.{no_tally};
 ghost use Rattle.mux_outside.specs.declared.turn.Want.TheVariants.{WriteOnly};
 ghost use Rattle.mux_outside.specs.declared.turn.Turn.TheVariants.{NoMemory};
 ghost use Rattle.mux_outside.specs.declared.turn.Wrote.TheVariants.{NoMemory as NoMemoryToWrite};
-ghost use Rattle.mux_outside.specs.Wire.{openings_of, OpenFaults, TurnFits, TurnFaults, WroteFits, WroteFaults};
+ghost use Rattle.mux_outside.specs.Wire.{openings_of, OpenFaults, joinings_of, JoinFaults, TurnFits, TurnFaults, WroteFits, WroteFaults};
 ghost use Rattle.mux_outside.specs.Script.{bytes_in};
-ghost use Rattle.mux_outside.specs.Seen.{seen_after_close, seen_after_open, seen_after_turn, seen_after_write};
+ghost use Rattle.mux_outside.specs.Seen.{seen_after_close, seen_after_join, seen_after_open, seen_after_turn, seen_after_write};
 ghost use Rattle.mux_outside.specs.Seen.{calls_after_wait, calls_after_write};
 ghost use Rattle.mux_outside.specs.Seen.{seen_after_note, seen_after_listen, seen_after_connect, seen_after_unlisten, seen_after_pause, seen_after_finish};
 ghost use Rattle.mux_outside.specs.Counts.{HasCause};
 ghost use Rattle.mux_outside.specs.OwnStreams.{is_finished};
 ghost use Rattle.mux_outside.specs.Wire.{OwnFits, OwnTurnFaults, OwnWroteFaults, NumberFits};
 ghost use Rattle.mux_outside.specs.ScriptWire.{GivesAt, GivesNext, FollowsEntry, OpensByNumber, MakesByNumber, Starts};
-ghost use Rattle.mux_outside.specs.WireLog.{seen_in, Shows, ShowsMade, LogsOpening, LogsTurn, LogsWrite, LogsClose};
+ghost use Rattle.mux_outside.specs.WireLog.{seen_in, Shows, ShowsMade};
+ghost use Rattle.mux_outside.specs.WireLog.{LogsOpening, LogsJoining, LogsTurn, LogsWrite, LogsClose};
 ghost use Rattle.mux_outside.specs.ScriptWire.{KeepsSteps, KeepsWrites, KeepsOpens, SameScript};
 
 use crate::calls::Calls;
@@ -42,14 +43,14 @@ pub struct ScriptWire {
     // how many writes were answered
     written: usize,
     fails: Calls,
-    // how many calls of `open`, `listen` and `connect` were counted
+    // how many calls of `open`, `join`, `listen` and `connect` were counted
     opens: u64,
     log: WireLog,
 }
 
 impl ScriptWire {
-    /// A wire that isn't open. The calls of `open`, `listen` and `connect`, counted together, with
-    /// the given numbers fail.
+    /// A wire that isn't open. The calls of `open`, `join`, `listen` and `connect`, counted
+    /// together, fail that have one of the given numbers.
     pub fn new(alloc: Global, steps: Steps, writes: Writes, fails: Calls) -> ScriptWire
         ensures starts { Starts result steps writes fails }
     {
@@ -116,6 +117,8 @@ fn given<'a>(
 impl Wire for ScriptWire {
     ghost openings = { λ w. Some w.log.openings };
 
+    ghost joinings = { λ w. Some w.log.joinings };
+
     ghost seen = { λ w. seen_in w.log };
 
     ghost calls = { λ w. w.log.calls };
@@ -137,6 +140,19 @@ impl Wire for ScriptWire {
         let answer = self
             .log
             .opened(control, transport, !self.fails.contains(opens));
+        if answer != Err(FileError::OutOfMemory) {
+            self.opens = opens;
+        }
+        answer
+    }
+
+    fn join(&mut self, control: &[u8]) -> Result<(), FileError>
+        ensures logs { LogsJoining result control.now self.old.log self.new.log }
+        ensures exact { OpensByNumber result self.old self.new }
+        ensures script { KeepsSteps self.old self.new × KeepsWrites self.old self.new }
+    {
+        let opens = counted(self.opens);
+        let answer = self.log.joined(control, !self.fails.contains(opens));
         if answer != Err(FileError::OutOfMemory) {
             self.opens = opens;
         }

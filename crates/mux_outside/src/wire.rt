@@ -8,10 +8,10 @@ ghost use Rattle.mux_outside.specs.declared.turn.Wrote.TheVariants.{NoMemory as 
 ghost use Rattle.mux_outside.specs.Streams.{among};
 ghost use Rattle.mux_outside.specs.OwnStreams.{is_finished};
 ghost use Rattle.mux_outside.specs.Counts.{HasCause};
-ghost use Rattle.mux_outside.specs.Wire.{openings_of, OpenFaults, TurnFits, TurnFaults, WroteFits, WroteFaults};
 ghost use Rattle.mux_outside.specs.Wire.{OwnFits, OwnTurnFaults, OwnWroteFaults, NumberFits};
-ghost use Rattle.mux_outside.specs.Seen.{Seen as TheSeen, seen_after_open, seen_after_turn, seen_after_write, seen_after_close};
 ghost use Rattle.mux_outside.specs.Seen.{seen_after_note, seen_after_listen, seen_after_connect, seen_after_unlisten, seen_after_pause, seen_after_finish};
+ghost use Rattle.mux_outside.specs.Wire.{openings_of, OpenFaults, joinings_of, JoinFaults, TurnFits, TurnFaults, WroteFits, WroteFaults};
+ghost use Rattle.mux_outside.specs.Seen.{Seen as TheSeen, seen_after_open, seen_after_join, seen_after_turn, seen_after_write, seen_after_close};
 ghost use Rattle.mux_outside.specs.Seen.{Calls as TheCalls, calls_after_wait, calls_after_write};
 
 use crate::file_error::FileError;
@@ -27,6 +27,9 @@ use ssh_fields::OutOfMemory;
 pub trait Wire {
     /// The two arguments of each call of `open`, where they are told.
     ghost openings: { Self → Option (List TheOpening) };
+
+    /// The argument of each call of `join`, where they are told.
+    ghost joinings: { Self → Option (List (List ℕ)) };
 
     /// What is seen of it: its marks, where they are told, its streams and its clients.
     ghost seen: { Self → TheSeen };
@@ -51,9 +54,22 @@ pub trait Wire {
         ensures openings { openings self.new
             ≡ option_map (λ os. os ++ openings_of result control.now transport.now)
             (openings self.old) }
+        ensures joinings { joinings self.new ≡ joinings self.old }
         ensures seen { seen self.new ≡ seen_after_open result (seen self.old) }
         ensures calls { calls self.new ≡ calls self.old }
         ensures cause { OpenFaults result (server_faults self.old) (server_faults self.new)
+            (client_faults self.old) (client_faults self.new) }
+        ensures own { own_faults self.new ≡ own_faults self.old };
+
+    /// Connects stream 0 to the control socket of another master. Whatever stood before, it alone is
+    /// open then, no stream is blocked, and no client is accepted.
+    fn join(&mut self, control: &[u8]) -> Result<(), FileError>
+        ensures openings { openings self.new ≡ openings self.old }
+        ensures joinings { joinings self.new
+            ≡ option_map (λ js. js ++ joinings_of result control.now) (joinings self.old) }
+        ensures seen { seen self.new ≡ seen_after_join result (seen self.old) }
+        ensures calls { calls self.new ≡ calls self.old }
+        ensures cause { JoinFaults result (server_faults self.old) (server_faults self.new)
             (client_faults self.old) (client_faults self.new) }
         ensures own { own_faults self.new ≡ own_faults self.old };
 
@@ -69,6 +85,7 @@ pub trait Wire {
         ensures own_turn { OwnFits result (seen self.old).listeners (seen self.old).own
             (seen self.old).last_own }
         ensures openings { openings self.new ≡ openings self.old }
+        ensures joinings { joinings self.new ≡ joinings self.old }
         ensures seen { seen self.new ≡ seen_after_turn result waiting.now want into.new
             (seen self.old) }
         ensures calls { calls self.new ≡ calls_after_wait result (calls self.old) }
@@ -86,6 +103,7 @@ pub trait Wire {
         requires some { 0 < length bytes.now }
         ensures wrote { WroteFits result (length bytes.now) }
         ensures openings { openings self.new ≡ openings self.old }
+        ensures joinings { joinings self.new ≡ joinings self.old }
         ensures seen { seen self.new ≡ seen_after_write result stream bytes.now (seen self.old) }
         ensures calls { calls self.new ≡ calls_after_write result (calls self.old) }
         ensures cause { WroteFaults result stream (server_faults self.old) (server_faults self.new)
@@ -96,6 +114,7 @@ pub trait Wire {
     /// Accepts no more clients.
     fn stop_listening(&mut self)
         ensures openings { openings self.new ≡ openings self.old }
+        ensures joinings { joinings self.new ≡ joinings self.old }
         ensures seen { seen self.new ≡ record (seen self.old) { listens = false } }
         ensures calls { calls self.new ≡ calls self.old }
         ensures server { server_faults self.new ≡ server_faults self.old }
@@ -106,6 +125,7 @@ pub trait Wire {
     /// Closes a stream.
     fn close(&mut self, stream: u64)
         ensures openings { openings self.new ≡ openings self.old }
+        ensures joinings { joinings self.new ≡ joinings self.old }
         ensures seen { seen self.new ≡ seen_after_close stream (seen self.old) }
         ensures calls { calls self.new ≡ calls self.old }
         ensures server { server_faults self.new ≡ server_faults self.old }
@@ -116,6 +136,7 @@ pub trait Wire {
     /// Adds a mark of a house to those that are told.
     fn note(&mut self, m: &HouseMark) -> Result<(), OutOfMemory>
         ensures openings { openings self.new ≡ openings self.old }
+        ensures joinings { joinings self.new ≡ joinings self.old }
         ensures seen { seen self.new ≡ seen_after_note result m.now (seen self.old) }
         ensures calls { calls self.new ≡ calls self.old }
         ensures server { server_faults self.new ≡ server_faults self.old }
@@ -127,6 +148,7 @@ pub trait Wire {
     fn listen(&mut self, host: &[u8], port: u32) -> Result<u64, FileError>
         ensures fits { NumberFits result (seen self.old).last_own }
         ensures openings { openings self.new ≡ openings self.old }
+        ensures joinings { joinings self.new ≡ joinings self.old }
         ensures seen { seen self.new ≡ seen_after_listen result (seen self.old) }
         ensures calls { calls self.new ≡ calls self.old }
         ensures server { server_faults self.new ≡ server_faults self.old }
@@ -139,6 +161,7 @@ pub trait Wire {
     fn connect(&mut self, host: &[u8], port: u32) -> Result<u64, FileError>
         ensures fits { NumberFits result (seen self.old).last_own }
         ensures openings { openings self.new ≡ openings self.old }
+        ensures joinings { joinings self.new ≡ joinings self.old }
         ensures seen { seen self.new ≡ seen_after_connect result (seen self.old) }
         ensures calls { calls self.new ≡ calls self.old }
         ensures server { server_faults self.new ≡ server_faults self.old }
@@ -149,6 +172,7 @@ pub trait Wire {
     /// Closes a listener of the master's own.
     fn unlisten(&mut self, listener: u64)
         ensures openings { openings self.new ≡ openings self.old }
+        ensures joinings { joinings self.new ≡ joinings self.old }
         ensures seen { seen self.new ≡ seen_after_unlisten listener (seen self.old) }
         ensures calls { calls self.new ≡ calls self.old }
         ensures server { server_faults self.new ≡ server_faults self.old }
@@ -159,6 +183,7 @@ pub trait Wire {
     /// One of the master's own streams gives nothing for now.
     fn pause(&mut self, stream: u64)
         ensures openings { openings self.new ≡ openings self.old }
+        ensures joinings { joinings self.new ≡ joinings self.old }
         ensures seen { seen self.new ≡ seen_after_pause true stream (seen self.old) }
         ensures calls { calls self.new ≡ calls self.old }
         ensures server { server_faults self.new ≡ server_faults self.old }
@@ -169,6 +194,7 @@ pub trait Wire {
     /// One of the master's own streams gives again what comes.
     fn resume(&mut self, stream: u64)
         ensures openings { openings self.new ≡ openings self.old }
+        ensures joinings { joinings self.new ≡ joinings self.old }
         ensures seen { seen self.new ≡ seen_after_pause false stream (seen self.old) }
         ensures calls { calls self.new ≡ calls self.old }
         ensures server { server_faults self.new ≡ server_faults self.old }
@@ -179,6 +205,7 @@ pub trait Wire {
     /// One of the master's own streams takes no more bytes.
     fn finish(&mut self, stream: u64)
         ensures openings { openings self.new ≡ openings self.old }
+        ensures joinings { joinings self.new ≡ joinings self.old }
         ensures seen { seen self.new ≡ seen_after_finish stream (seen self.old) }
         ensures calls { calls self.new ≡ calls self.old }
         ensures server { server_faults self.new ≡ server_faults self.old }

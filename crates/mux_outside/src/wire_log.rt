@@ -4,18 +4,20 @@ ghost use Rattle.mux_outside.specs.Marks.{bytes_taken as all_taken};
 ghost use Rattle.mux_outside.specs.declared.turn.Turn.TheVariants.{NoMemory};
 ghost use Rattle.mux_outside.specs.Wire.{WroteFits};
 ghost use Rattle.mux_outside.specs.WireLog.{nothing_logged, turn_kept, answer_kept, OpensAs};
-ghost use Rattle.mux_outside.specs.WireLog.{LogsOpening, LogsTurn, LogsWrite, LogsClose};
 ghost use Rattle.mux_outside.specs.WireLog.{seen_in, Shows, ShowsMade, MakesAs};
 ghost use Rattle.mux_outside.specs.Seen.{seen_after_note, seen_after_listen, seen_after_connect, seen_after_unlisten, seen_after_pause, seen_after_finish};
 ghost use Rattle.mux_outside.specs.Wire.{NumberFits, OwnFits};
 ghost use Rattle.mux_outside.specs.OwnStreams.{joined_after};
 ghost use Rattle.mux_outside.specs.declared.own_streams.OwnStream.{OwnStream};
+ghost use Rattle.mux_outside.specs.WireLog.{LogsOpening, LogsJoining, LogsTurn, LogsWrite, LogsClose};
 
 use crate::call_counts::CallCounts;
 use crate::counts::{count_fault, raised};
 use crate::file_error::FileError;
 use crate::house_mark::HouseMark;
 use crate::mark::{Mark, Opening, bytes_taken};
+use crate::marks::Marks;
+use crate::open_streams::OpenStreams;
 use crate::own_streams::{LAST_CLIENT, LAST_OWN, OwnStreams};
 use crate::record::{record_wait, record_write};
 use crate::streams::Streams;
@@ -29,8 +31,9 @@ use std::marker::Model;
 pub struct WireLog {
     alloc: Global,
     openings: Vec<Opening>,
-    marks: Vec<Mark>,
-    streams: Streams,
+    joinings: Vec<Text>,
+    marks: Marks,
+    streams: OpenStreams,
     blocked: Streams,
     listening: bool,
     last: u64,
@@ -52,7 +55,8 @@ impl Model for WireLog {
 
     ghost view = { λ l. record {
       openings = l.openings.items;
-      marks = l.marks.items;
+      joinings = l.joinings.items;
+      marks = l.marks.told.items;
       streams = l.streams;
       blocked = l.blocked;
       listens = l.listening;
@@ -77,8 +81,9 @@ impl WireLog {
         WireLog {
             alloc,
             openings: Vec::new(alloc),
-            marks: Vec::new(alloc),
-            streams: Streams::new(alloc),
+            joinings: Vec::new(alloc),
+            marks: Marks::new(alloc),
+            streams: OpenStreams::new(Streams::new(alloc)),
             blocked: Streams::new(alloc),
             listening: false,
             last: 0,
@@ -96,7 +101,7 @@ impl WireLog {
     pub fn streams(&self) -> &Streams
         ensures { result.now ≡ self.now.streams }
     {
-        &self.streams
+        self.streams.streams()
     }
 
     /// The streams that take no bytes for now.
@@ -146,7 +151,7 @@ impl WireLog {
     pub fn marks(&self) -> &[Mark]
         ensures { result.now ≡ self.now.marks }
     {
-        self.marks.as_slice()
+        self.marks.told.as_slice()
     }
 
     /// The arguments of the calls of `open` so far.
@@ -156,11 +161,18 @@ impl WireLog {
         self.openings.as_slice()
     }
 
+    /// The arguments of the calls of `join` so far.
+    pub fn joinings(&self) -> &[Text]
+        ensures { result.now ≡ self.now.joinings }
+    {
+        self.joinings.as_slice()
+    }
+
     /// All bytes that a stream took.
     pub fn taken(&self, stream: u64) -> Result<Text, OutOfMemory>
         ensures { IfOk result (λ bytes. bytes ≡ all_taken stream self.now.marks) }
     {
-        bytes_taken(self.alloc, &self.marks, stream)
+        bytes_taken(self.alloc, &self.marks.told, stream)
     }
 
     /// Keeps a call of `open` with these arguments, which succeeds or fails. After success the
@@ -182,10 +194,33 @@ impl WireLog {
             self.server_faults = raised(self.server_faults);
             return Err(FileError::Failed);
         }
-        self.streams = streams;
+        self.streams = OpenStreams::new(streams);
         self.blocked = Streams::new(self.alloc);
         self.own = OwnStreams::new(self.alloc);
         self.listening = true;
+        Ok(())
+    }
+
+    /// Keeps a call of `join` with this argument, which succeeds or fails. After success the server's
+    /// stream alone is open, and clients aren't accepted; a failure counts as the server's.
+    pub fn joined(&mut self, control: &[u8], joins: bool) -> Result<(), FileError>
+        ensures joins { OpensAs joins result }
+        ensures logs { LogsJoining result control.now self.old self.new }
+    {
+        let joining = Text::copy(self.alloc, control)?;
+        let mut streams = Streams::new(self.alloc);
+        streams.push(0)?;
+        if self.joinings.push(joining).is_err() {
+            return Err(FileError::OutOfMemory);
+        }
+        if !joins {
+            self.server_faults = raised(self.server_faults);
+            return Err(FileError::Failed);
+        }
+        self.streams = OpenStreams::new(streams);
+        self.blocked = Streams::new(self.alloc);
+        self.own = OwnStreams::new(self.alloc);
+        self.listening = false;
         Ok(())
     }
 
@@ -313,7 +348,7 @@ impl WireLog {
         ensures { Shows (seen_after_note result mark.now (seen_in self.old)) self.old self.new }
     {
         let mark = mark.copy(self.alloc)?;
-        self.marks.push(Mark::House(mark))?;
+        self.marks.told.push(Mark::House(mark))?;
         Ok(())
     }
 
@@ -353,7 +388,7 @@ impl WireLog {
         }
         if self.blocked.push(number).is_err() {
             self.own.pop();
-            let _ = self.streams.pop();
+            self.streams.pop();
             return Err(FileError::OutOfMemory);
         }
         self.last_own = number;

@@ -82,3 +82,12 @@ abbrev pub BytesMakeItems : Type 0
 BytesMakeItems =
     (marks others : List Mark) → ((t : ℕ) → bytes_of t marks ≡ bytes_of t others)
     → order_of marks ≡ order_of others → items marks ≡ items others
+
+-- and so, with the same picks and replies, they made the same rows
+abbrev pub BytesMakeRows : Type 0
+BytesMakeRows =
+    (policy : Policy) (pid : ℕ) (picks : List ℕ) (replies : List HouseReply)
+    (marks others : List Mark) → ((t : ℕ) → bytes_of t marks ≡ bytes_of t others)
+    → order_of marks ≡ order_of others
+    → log_of_journal (by_lists policy pid picks replies) marks
+    ≡ log_of_journal (by_lists policy pid picks replies) others

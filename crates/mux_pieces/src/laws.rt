@@ -1,4 +1,4 @@
-ghost use Rattle.mux_pieces.specs.Pieces.{PartsGiveAlike, JournalsGoOnAlike, ItemsMakeRows, SayingsAreOfBytes, HeardIsOfBytes, BytesMakeItems};
+ghost use Rattle.mux_pieces.specs.Pieces.{PartsGiveAlike, JournalsGoOnAlike, ItemsMakeRows, SayingsAreOfBytes, HeardIsOfBytes, BytesMakeItems, BytesMakeRows};
 
 /// A piece that comes in two parts, with a wait between, gives the items that it gives as a whole.
 pub fn parts_give_alike()
@@ -27,4 +27,10 @@ pub fn sayings_are_of_bytes()
 /// items.
 pub fn bytes_make_items()
     ensures { BytesMakeItems }
+{}
+
+/// The same bytes of each stream, cut in any way and completing in the same order, make the same
+/// rows, with the same picks and replies.
+pub fn bytes_make_rows()
+    ensures { BytesMakeRows }
 {}

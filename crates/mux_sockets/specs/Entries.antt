@@ -1,29 +1,39 @@
 -- Which sockets are those of a stream.
-use Rattle.std.specs.Prelude.{◌≡◌, ◌≢◌, ℕ, Bool, true, ◌==◌, Option, Some, IsSomeAnd, find, option_map}
-use Rattle.slab.specs.Slab.{Slab, entries, get}
-use Rattle.mux_sockets.specs.declared.sockets.Entry.{Entry}
+use Rattle.std.specs.Prelude.{◌≡◌, ◌≢◌, ℕ, true, IsSome, IsSomeAnd, nat_eq}
+use Rattle.indexmap.specs.IndexMap.{IndexMap, get}
+use Rattle.mux_outside.specs.declared.turn.Turn.{Turn}
+use Rattle.mux_outside.specs.declared.turn.Turn.TheVariants.{Accepted, Got, End, Writable, Failed, NoMemory}
+use Rattle.mux_sockets.specs.declared.sockets.ready.Entry.{Entry}
 
--- a socket of the stream of this number
-abbrev pub IsStream : ℕ → Option Entry → Type 0
-IsStream number found = IsSomeAnd found (λ entry. entry.number ≡ number)
+module _ {S : Type 0} where
+  -- the stream of this number has a socket
+  abbrev pub HasEntry : ℕ → IndexMap ℕ Entry S → Type 0
+  HasEntry number entries = IsSome (get nat_eq entries number)
 
--- whether a key and its socket are those of a stream
-abbrev pub is_of : ℕ → ℕ × Entry → Bool
-is_of number found = found.1.number == number
+  -- the sockets of all other streams stay as they are
+  abbrev pub OthersStay : ℕ → IndexMap ℕ Entry S → IndexMap ℕ Entry S → Type 0
+  OthersStay number old new =
+      (other : ℕ) → other ≢ number → get nat_eq new other ≡ get nat_eq old other
 
--- the key of a stream's first socket
-abbrev pub first_key : ℕ → Slab Entry → Option ℕ
-first_key number sockets =
-    option_map (λ (found : ℕ × Entry). found.0) (find (is_of number) (entries sockets))
+  -- a stream's socket is noted as one at which a write would wait
+  abbrev pub IsBlocked : ℕ → IndexMap ℕ Entry S → Type 0
+  IsBlocked number entries =
+      IsSomeAnd (get nat_eq entries number) (λ entry. entry.blocked ≡ true)
 
--- the sockets of all other streams stay as they are
-abbrev pub OthersStay : ℕ → Slab Entry → Slab Entry → Type 0
-OthersStay number old new =
-    (key : ℕ) (entry : Entry) → get old key ≡ Some entry → entry.number ≢ number
-    → get new key ≡ Some entry
+  -- a stream is among those to be read
+  abbrev pub IsNoted : ℕ → IndexMap ℕ Entry S → Type 0
+  IsNoted number entries = IsSomeAnd (get nat_eq entries number) (λ entry. entry.reads ≡ true)
 
--- a stream's socket is noted as one at which a write would wait
-abbrev pub IsBlocked : ℕ → Slab Entry → Type 0
-IsBlocked number sockets =
-    (key : ℕ) × IsSomeAnd (get sockets key)
-    (λ entry. (entry.number ≡ number) × (entry.blocked ≡ true))
+  -- reads of a stream may stop short of what is there
+  abbrev pub StopsShort : ℕ → IndexMap ℕ Entry S → Type 0
+  StopsShort number entries =
+      IsSomeAnd (get nat_eq entries number) (λ entry. entry.stops_short ≡ true)
+
+  -- a client that was accepted has a socket
+  abbrev pub HasClient : Turn → IndexMap ℕ Entry S → Type 0
+  HasClient (Accepted k) entries = HasEntry k entries
+  HasClient (Got t) entries = Unit {0}
+  HasClient (End t) entries = Unit {0}
+  HasClient (Writable t) entries = Unit {0}
+  HasClient (Failed t) entries = Unit {0}
+  HasClient NoMemory entries = Unit {0}

@@ -1,4 +1,8 @@
 //! The control socket and its name in the file system.
+ghost use Rattle.std.specs.Prelude.{◌≡◌};
+ghost use Rattle.std.specs.Fs.{permissions_mode};
+ghost use Rattle.mux_sockets.specs.Control.{owner_reads_and_writes};
+
 use libc::net::listen;
 use mio::net::UnixListener;
 use std::alloc::Global;
@@ -13,11 +17,18 @@ use std::{fs, io};
 // How many clients may wait to be accepted.
 const BACKLOG: i32 = 128;
 
-// How many temporary names are tried.
+// How many temporary names are tried, each with a digit of its own.
 const TRIES: u32 = 16;
 
 // Who may use the socket: its owner alone.
 const OWNER_ONLY: u32 = 0o600;
+
+// Who may use the socket.
+fn owner_only() -> Permissions
+    ensures { permissions_mode result ≡ owner_reads_and_writes }
+{
+    Permissions::from_mode(OWNER_ONLY)
+}
 
 // A name that is removed when this is dropped.
 struct Temporary<R: Files + Drop> {
@@ -76,7 +87,7 @@ pub fn listen_beside<R: Files + Net + Clone + Drop>(
     let (socket, temporary) = bind_beside(rt, alloc, path)?;
     let name = temporary.path.as_str();
     // Before it listens, nobody can connect: so the mode comes first.
-    fs::set_permissions(rt, name, Permissions::from_mode(OWNER_ONLY))?;
+    fs::set_permissions(rt, name, owner_only())?;
     if listen(socket.as_raw_fd(), BACKLOG) < 0 {
         return Err(io::Error::from(io::ErrorKind::Other));
     }
@@ -101,9 +112,11 @@ fn bind_beside<R: Files + Net + Clone + Drop>(
         Some((folder, _)) => format!(in alloc; "{folder}/")?,
         None => String::new(alloc),
     };
-    let pid = libc::getpid();
     for number in 0..TRIES {
-        let name = format!(in alloc; "{}.{pid}.{number}", folder.as_str())?;
+        let name = temporary_name(alloc, folder.as_str(), number)?;
+        if name.as_str() == path {
+            continue;
+        }
         let owner = rt.clone()?;
         let socket = rt.unix_socket()?;
         match rt.bind_unix(socket.as_fd(), &SocketAddr::from_pathname(name.as_str())?) {
@@ -119,6 +132,20 @@ fn bind_beside<R: Files + Net + Clone + Drop>(
         }
     }
     Err(io::Error::from(io::ErrorKind::AddrInUse))
+}
+
+// A temporary name in a folder: with the process's number, and shorter where that fits no address.
+fn temporary_name(alloc: Global, folder: &str, number: u32) -> io::Result<String> {
+    let pid = libc::getpid();
+    let long = format!(in alloc; "{folder}.{pid}.{number}")?;
+    if SocketAddr::from_pathname(long.as_str()).is_ok() {
+        return Ok(long);
+    }
+    let hidden = format!(in alloc; "{folder}.{number:x}")?;
+    if SocketAddr::from_pathname(hidden.as_str()).is_ok() {
+        return Ok(hidden);
+    }
+    Ok(format!(in alloc; "{folder}{number:x}")?)
 }
 
 impl<R: Files + Net + Clone + Drop> Unnamed<R> {

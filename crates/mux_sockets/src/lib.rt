@@ -3,6 +3,7 @@
 #![tactic(auto)]
 
 mod control;
+mod exchange;
 mod faults;
 mod files;
 mod runner;

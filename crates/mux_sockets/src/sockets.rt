@@ -1,20 +1,22 @@
 //! The sockets of a run, and which of them are ready, in the order in which they became so.
-ghost use Rattle.std.specs.Prelude.{◌≡◌, ◌≢◌, ℕ, List, Option, Err, IfOk, IfSome, IsNone, IsSome, IsUtf8, None, OnOk, false};
+ghost use Rattle.std.specs.Prelude.{◌≡◌, ◌≢◌, ℕ, List, Option, Err, IfOk, IfSome, IsErr, IsNone, IsSome, IsUtf8, None, OnOk, false, nat_eq};
 ghost use Rattle.std.specs.IoError.{error_kind};
 ghost use Rattle.mux_sockets.specs.Sockets.{FoundFits};
-ghost use Rattle.mux_sockets.specs.Entries.{IsStream, OthersStay, first_key};
-ghost use Rattle.slab.specs.Slab.{get};
+ghost use Rattle.mux_sockets.specs.Entries.{HasClient, HasEntry, OthersStay, StopsShort};
+ghost use Rattle.indexmap.specs.IndexMap.{get};
 
+mod ready;
 mod served;
 
+use self::ready::{Entry, Queue};
 use crate::control::{Control, Unnamed, listen_beside};
 use crate::stream::Stream;
-use crate::transport::connect;
+use crate::transport::{connect, connect_unix};
+use indexmap::IndexMap;
 use mio::event::Event;
 use mio::net::UnixListener;
 use mio::{Events, Interest, Poll, Token};
-use mux_outside::{LONGEST_PIECE, Piece, Turn, Want};
-use slab::Slab;
+use mux_outside::{Piece, Turn, Want};
 use std::alloc::{AllocError, Global};
 use std::fs::Files;
 use std::io::ErrorKind;
@@ -31,23 +33,6 @@ pub enum Fault {
 }
 
 #[derive(Drop)]
-struct Entry {
-    number: u64,
-    stream: Stream,
-    // nothing more is read
-    ended: bool,
-    // a write would wait, as far as is known
-    blocked: bool,
-}
-
-#[derive(Clone, Copy, PartialEq, Eq)]
-enum Ready {
-    Accept,
-    Read(usize),
-    Write(usize),
-}
-
-#[derive(Drop)]
 struct Listening<R: Files + Drop> {
     // the name, which goes away with the listening, and first: as long as the listener stands, no
     // other file has the same number
@@ -55,19 +40,33 @@ struct Listening<R: Files + Drop> {
     listener: UnixListener,
 }
 
+/// The sockets of a run, each under its stream's number, which is the system's token for it too.
+///
+/// The system tells once that bytes came, and not again while they are there. So a stream stays
+/// noted until a read shows that none are left: one that would wait, or one that doesn't fill the
+/// piece (epoll(7)). Such a short read shows nothing where descriptors may be passed, since a read
+/// of a Unix socket stops at them: so nothing on the streams of clients. Nobody passes any on the
+/// server's stream. There a read stops short at urgent bytes over TCP, and before the end: once the
+/// system told of one, or of an error, a short read shows nothing any more.
+///
+/// What becomes ready goes behind what was ready before, and the system is asked again when all
+/// that was ready then was served at most twice. So no stream is passed over for longer than that.
 #[derive(Drop)]
 pub struct Sockets<R: Files + Drop> {
+    // `None`: no client comes, as after `stop_listening` and after `join`. It stands first, so that
+    // the name goes first.
+    listening: Option<Listening<R>>,
     poll: Poll,
     events: Events,
-    entries: Slab<Entry>,
-    listening: Option<Listening<R>>,
+    entries: IndexMap<u64, Entry>,
     // an accept failed for want of descriptors or memory, and is tried again
     pauses: bool,
-    // each once, so at most twice as many as there are entries, and one
-    ready: Vec<Ready>,
-    buf: Vec<u8>,
+    ready: Queue,
+    // what is read into
+    spare: Piece,
 }
 
+// No stream has this number.
 const LISTENER: Token = Token(usize::MAX);
 
 // How many events one look takes.
@@ -107,23 +106,51 @@ impl<R: Files + Net + Clone + Drop> Sockets<R> {
         Ok(sockets)
     }
 
+    /// Connects to another master's control socket. Nothing listens, and nothing has a name.
+    pub fn join(rt: &R, alloc: Global, control: &[u8]) -> Result<Sockets<R>, Fault>
+        ensures not_text { ¬ (IsUtf8 control.now) → IsErr result }
+        ensures deaf { IfOk result (λ sockets. IsNone sockets.listening) }
+    {
+        Sockets::joined(rt, alloc, control).map_err(|e| fault_of(&e, Fault::Transport))
+    }
+
+    // The other master's stream alone.
+    fn joined(rt: &R, alloc: Global, control: &[u8]) -> io::Result<Sockets<R>>
+        ensures not_text { ¬ (IsUtf8 control.now) → IsErr result }
+        ensures deaf { IfOk result (λ sockets. IsNone sockets.listening) }
+    {
+        let stream = connect_unix(rt, control)?;
+        Sockets::alone(rt, alloc, stream)
+    }
+
     // The server's stream alone.
-    fn connected(rt: &R, alloc: Global, transport: &[u8]) -> io::Result<Sockets<R>> {
+    fn connected(rt: &R, alloc: Global, transport: &[u8]) -> io::Result<Sockets<R>>
+        ensures { IfOk result (λ sockets. IsNone sockets.listening) }
+    {
         let stream = connect(rt, alloc, transport)?;
+        Sockets::alone(rt, alloc, stream)
+    }
+
+    // Stream 0 alone.
+    fn alone(rt: &R, alloc: Global, stream: Stream) -> io::Result<Sockets<R>>
+        ensures { IfOk result (λ sockets. IsNone sockets.listening) }
+    {
         let mut sockets = Sockets::new(rt, alloc)?;
         sockets.add(0, stream)?;
         Ok(sockets)
     }
 
-    fn new(rt: &R, alloc: Global) -> io::Result<Sockets<R>> {
+    fn new(rt: &R, alloc: Global) -> io::Result<Sockets<R>>
+        ensures { IfOk result (λ sockets. IsNone sockets.listening) }
+    {
         Ok(Sockets {
+            listening: None,
             poll: Poll::new(rt)?,
             events: Events::with_capacity(alloc, EVENTS)?,
-            entries: Slab::new(alloc),
-            listening: None,
+            entries: IndexMap::new(alloc),
             pauses: false,
-            ready: Vec::new(alloc),
-            buf: Vec::from_elem(alloc, 0, LONGEST_PIECE)?,
+            ready: Queue::new(alloc),
+            spare: Piece::new(alloc).map_err(|_| AllocError)?,
         })
     }
 
@@ -139,48 +166,32 @@ impl<R: Files + Net + Clone + Drop> Sockets<R> {
         Ok(())
     }
 
-    // Takes a stream in, with room for all that can be ready.
-    fn add(&mut self, number: u64, mut stream: Stream) -> io::Result<()> {
-        let entries = self.entries.len().saturating_add(1);
-        self.ready
-            .reserve(entries.saturating_mul(2).saturating_add(1))?;
-        self.entries.reserve(1)?;
-        let key = self.entries.vacant_key();
-        stream.register(self.poll.registry(), Token(key))?;
-        let _ = self.entries.insert_reserved(Entry {
-            number,
-            stream,
-            ended: false,
-            blocked: false,
-        });
-        Ok(())
-    }
-
-    // The key of a stream.
-    fn key_of(&self, number: u64) -> Option<usize>
-        ensures held { IfSome result (λ key. IsStream number (get self.now.entries key)) }
-        ensures first { result ≡ first_key number self.now.entries }
+    // Takes a stream in, with room for all that can be ready. Whoever is a client may pass
+    // descriptors.
+    fn add(&mut self, number: u64, mut stream: Stream) -> io::Result<()>
+        ensures there { OnOk result (HasEntry number self.new.entries) }
+        ensures client { OnOk result (number ≢ 0 → StopsShort number self.new.entries) }
+        ensures others { OthersStay number self.old.entries self.new.entries }
+        ensures listening { self.new.listening ≡ self.old.listening }
     {
-        for (key, entry) in self.entries.iter() {
-            if entry.number == number {
-                return Some(key);
-            }
-        }
-        None
+        self.ready.reserve(self.entries.len().saturating_add(1))?;
+        self.entries.reserve(1)?;
+        stream.register(self.poll.registry(), Token(number as usize))?;
+        let entry = Entry::new(stream, number != 0);
+        self.entries.insert(number, entry).map_err(|_| AllocError)?;
+        Ok(())
     }
 
     /// Lets go of a stream.
     pub fn remove(&mut self, number: u64)
-        ensures gone { IfSome (first_key number self.old.entries)
-            (λ key. get self.new.entries key ≡ None) }
+        ensures gone { get nat_eq self.new.entries number ≡ None }
         ensures others { OthersStay number self.old.entries self.new.entries }
+        ensures listening { self.new.listening ≡ self.old.listening }
     {
-        let Some(key) = self.key_of(number) else {
+        let Some(entry) = self.entries.swap_remove(&number) else {
             return;
         };
-        let _ = self.entries.try_remove(key);
-        self.ready
-            .retain(|r| *r != Ready::Read(key) && *r != Ready::Write(key));
+        self.ready.drop_stream(number, &entry);
         if self.pauses {
             self.resume();
         }
@@ -194,19 +205,21 @@ impl<R: Files + Net + Clone + Drop> Sockets<R> {
     {
         self.listening = None;
         self.pauses = false;
-        self.ready.retain(|r| *r != Ready::Accept);
+        self.ready.drop_accept();
     }
 
     // Tries to accept again.
     fn resume(&mut self)
-        ensures { self.new.entries ≡ self.old.entries }
+        ensures entries { self.new.entries ≡ self.old.entries }
+        ensures listening { self.new.listening ≡ self.old.listening }
     {
-        if note(&mut self.ready, Ready::Accept).is_ok() {
+        if self.ready.note_accept().is_ok() {
             self.pauses = false;
         }
     }
 
-    /// What happens next: of what is ready, the first that became so. A client that comes gets the
+    /// What happens next. A turn is given for the writes of the waiting streams alone, or for all
+    /// that can be read too; and for what was written, whatever is waited for. A client gets the
     /// given number; without one none is accepted.
     pub fn next(
         &mut self,
@@ -215,15 +228,19 @@ impl<R: Files + Net + Clone + Drop> Sockets<R> {
         client: Option<u64>,
         into: &mut Piece,
     ) -> Turn
-        ensures { FoundFits result client into.old into.new }
+        ensures fits { FoundFits result client into.old into.new }
+        ensures client { HasClient result self.new.entries }
+        ensures listening { self.new.listening ≡ self.old.listening }
     {
         for _ in 0..u64::MAX {
-            // What became ready meanwhile goes behind what was ready before, so nobody starves.
-            let some = self.first(waiting, want, client).is_some();
-            if let Err(e) = self.look(some) {
-                return failure_of(&e);
+            let at = self.ready.first(waiting, want, client.is_some());
+            if at.is_none() || self.ready.is_round_over() {
+                if let Err(e) = self.look(at.is_some()) {
+                    return failure_of(&e);
+                }
+                continue;
             }
-            let Some(ready) = self.take_first(waiting, want, client) else {
+            let Some(ready) = self.ready.take(at) else {
                 continue;
             };
             if let Some(turn) = self.go_on(ready, client, into) {
@@ -233,8 +250,10 @@ impl<R: Files + Net + Clone + Drop> Sockets<R> {
         Turn::Failed(0)
     }
 
-    // Notes what became ready, and waits for it where nothing is.
-    fn look(&mut self, some: bool) -> io::Result<()> {
+    // Notes what became ready, and waits for it where nothing is. A round begins.
+    fn look(&mut self, some: bool) -> io::Result<()>
+        ensures { self.new.listening ≡ self.old.listening }
+    {
         let timeout = if some {
             Some(Duration::from_millis(0))
         } else {
@@ -242,63 +261,37 @@ impl<R: Files + Net + Clone + Drop> Sockets<R> {
         };
         self.poll.poll(&mut self.events, timeout)?;
         for event in self.events.iter() {
-            note_event(event, &self.entries, &mut self.ready)?;
+            note_event(event, &mut self.entries, &mut self.ready)?;
         }
         if self.pauses {
             self.resume();
         }
+        self.ready.begin_round();
         Ok(())
     }
-
-    fn first(&self, waiting: &[u64], want: Want, client: Option<u64>) -> Option<usize> {
-        self.ready.iter().position(|r| match *r {
-            Ready::Accept => want == Want::Read && client.is_some(),
-            Ready::Read(_) => want == Want::Read,
-            Ready::Write(key) => match self.entries.get(key) {
-                Some(entry) => waiting.contains(&entry.number),
-                None => false,
-            },
-        })
-    }
-
-    fn take_first(&mut self, waiting: &[u64], want: Want, client: Option<u64>) -> Option<Ready> {
-        let at = self.first(waiting, want, client)?;
-        if at < self.ready.len() {
-            Some(self.ready.remove(at))
-        } else {
-            None
-        }
-    }
-}
-
-// Puts what is ready behind what was ready before. There is room for it since its stream was added.
-fn note(ready: &mut Vec<Ready>, what: Ready) -> Result<(), AllocError> {
-    if !ready.contains(&what) {
-        ready.push(what)?;
-    }
-    Ok(())
 }
 
 fn note_event(
     event: &Event,
-    entries: &Slab<Entry>,
-    ready: &mut Vec<Ready>,
+    entries: &mut IndexMap<u64, Entry>,
+    ready: &mut Queue,
 ) -> Result<(), AllocError> {
     if event.token() == LISTENER {
-        return note(ready, Ready::Accept);
+        return ready.note_accept();
     }
-    let key = event.token().0;
-    let Some(entry) = entries.get(key) else {
+    let number = event.token().0 as u64;
+    let Some(entry) = entries.get_mut(&number) else {
         return Ok(());
     };
     // An error and a peer that went away show at the next read or write.
-    let reads = event.is_readable() || event.is_read_closed() || event.is_error();
-    if reads && !entry.ended {
-        note(ready, Ready::Read(key))?;
+    let ends = event.is_read_closed() || event.is_error();
+    entry.stops_short |= ends || event.is_priority();
+    if (event.is_readable() || ends) && !entry.ended {
+        ready.note_read(number, entry)?;
     }
     let writes = event.is_writable() || event.is_write_closed() || event.is_error();
     if writes && entry.blocked {
-        note(ready, Ready::Write(key))?;
+        ready.note_write(number, entry)?;
     }
     Ok(())
 }

@@ -1,5 +1,5 @@
 //! The connection to the server.
-ghost use Rattle.std.specs.Prelude.{IfOk};
+ghost use Rattle.std.specs.Prelude.{IfOk, IsErr, IsUtf8};
 ghost use Rattle.mux_sockets.specs.Transport.{IsOver, IsOverUnix};
 
 use crate::stream::Stream;
@@ -31,8 +31,10 @@ pub fn connect<R: Files + Net>(rt: &R, alloc: Global, transport: &[u8]) -> io::R
     Ok(Stream::Tcp(stream))
 }
 
-fn connect_unix<R: Files + Net>(rt: &R, path: &[u8]) -> io::Result<Stream>
-    ensures { IfOk result (λ stream. IsOverUnix stream) }
+/// Connects to a Unix socket's path.
+pub fn connect_unix<R: Files + Net>(rt: &R, path: &[u8]) -> io::Result<Stream>
+    ensures over { IfOk result (λ stream. IsOverUnix stream) }
+    ensures not_text { ¬ (IsUtf8 path.now) → IsErr result }
 {
     let Ok(path) = str::from_utf8(path) else {
         return Err(io::Error::from(io::ErrorKind::InvalidInput));

@@ -1,12 +1,14 @@
-ghost use Rattle.std.specs.Prelude.{◌≡◌, ◌<◌, ◌+◌, ◌++◌, ℕ, List, [], length, false, true, IfSome, IsErr, IsNone, IsSome, IsSomeAnd, IsTrue, IsUtf8, None, OnOk};
-ghost use Rattle.mux_outside.specs.Seen.{no_calls, seen_after_open};
+ghost use Rattle.std.specs.Prelude.{◌≡◌, ◌≢◌, ◌<◌, ◌+◌, ◌++◌, ℕ, List, [], length, false, true, IfSome, IsErr, IsNone, IsSome, IsSomeAnd, IsTrue, IsUtf8, None, OnOk, nat_eq, option_map};
+ghost use Rattle.mux_outside.specs.Seen.{no_calls, seen_after_join, seen_after_open};
 ghost use Rattle.mux_outside.specs.Streams.{among};
 ghost use Rattle.mux_outside.specs.Tally.{no_tally};
-ghost use Rattle.mux_outside.specs.Wire.{OpenFaults, TurnFits, TurnFaults, open_after, blocked_after, last_after};
+ghost use Rattle.mux_outside.specs.Wire.{JoinFaults, OpenFaults, TurnFits, TurnFaults, open_after, blocked_after, last_after};
 ghost use Rattle.mux_outside.specs.Wire.{WroteFits, WroteFaults, blocked_after_write};
 ghost use Rattle.mux_outside.specs.declared.turn.Want.TheVariants.{Read as WantsAll};
 ghost use Rattle.mux_outside.specs.declared.turn.Turn.TheVariants.{NoMemory};
-ghost use Rattle.mux_sockets.specs.Sockets.{FoundFits};
+ghost use Rattle.indexmap.specs.IndexMap.{get};
+ghost use Rattle.mux_sockets.specs.Entries.{HasClient};
+ghost use Rattle.mux_sockets.specs.Sockets.{FoundFits, Tells};
 ghost use Rattle.mux_sockets.specs.Untold.{untold};
 
 use crate::sockets::{Fault, Sockets};
@@ -16,6 +18,9 @@ use mux_outside::{
 use std::alloc::Global;
 use std::fs::Files;
 use std::net::Net;
+
+// The sockets have no stream of the number behind it.
+const LAST_CLIENT: u64 = u64::MAX - 1;
 
 /// A wire over the system's sockets: a Unix socket for the clients, and a Unix socket or TCP for
 /// the server. A client that fails, resets or takes its bytes slowly is that client's matter alone;
@@ -64,7 +69,7 @@ impl<R: Files + Net + Clone + Drop> RealWire<R> {
         ensures { IfSome result (λ k.
             (want ≡ WantsAll) × (self.now.listening ≡ true) × (k ≡ self.now.last + 1)) }
     {
-        if want == Want::Read && self.listening && self.last < u64::MAX {
+        if want == Want::Read && self.listening && self.last < LAST_CLIENT {
             Some(self.last + 1)
         } else {
             None
@@ -81,8 +86,12 @@ impl<R: Files + Net + Clone + Drop> RealWire<R> {
         ensures turn { (before now : List ℕ) → FoundFits found client before now
             → TurnFits result want self.old.listening self.old.last self.old.streams
             self.old.blocked now }
+        ensures told { (before now : List ℕ) → FoundFits found client before now
+            → TurnFits found want self.old.listening self.old.last self.old.streams
+            self.old.blocked now → Tells found result }
         ensures kept { (before now : List ℕ) → FoundFits found client before now
             → result ≡ NoMemory → now ≡ before }
+        ensures sockets { result ≢ NoMemory → self.new.sockets ≡ self.old.sockets }
         ensures streams { self.new.streams ≡ open_after result self.old.streams }
         ensures blocked { self.new.blocked ≡ blocked_after result self.old.blocked }
         ensures listens { self.new.listening ≡ self.old.listening }
@@ -160,6 +169,8 @@ impl<R: Files + Net + Clone + Drop> RealWire<R> {
 impl<R: Files + Net + Clone + Drop> Wire for RealWire<R> {
     ghost openings = { λ _. None };
 
+    ghost joinings = { λ _. None };
+
     ghost seen = { λ w. untold w.streams w.blocked w.listening w.last };
 
     ghost calls = { λ w. w.calls };
@@ -200,6 +211,35 @@ impl<R: Files + Net + Clone + Drop> Wire for RealWire<R> {
                 Err(FileError::Failed)
             }
             Err(Fault::Memory) => Err(FileError::OutOfMemory),
+        }
+    }
+
+    fn join(&mut self, control: &[u8]) -> Result<(), FileError>
+        ensures not_text { ¬ (IsUtf8 control.now) → IsErr result }
+        ensures deaf { OnOk result
+            (IsSomeAnd self.new.sockets (λ sockets. IsNone sockets.listening)) }
+        ensures seen { untold self.new.streams self.new.blocked self.new.listening self.new.last
+            ≡ seen_after_join result
+            (untold self.old.streams self.old.blocked self.old.listening self.old.last) }
+        ensures calls { self.new.calls ≡ self.old.calls }
+        ensures cause { JoinFaults result self.old.server_faults self.new.server_faults
+            self.old.client_faults self.new.client_faults }
+    {
+        let mut streams = Streams::new(self.alloc);
+        streams.push(0)?;
+        match Sockets::join(&self.rt, self.alloc, control) {
+            Ok(sockets) => {
+                self.sockets = Some(sockets);
+                self.streams = streams;
+                self.blocked = Streams::new(self.alloc);
+                self.listening = false;
+                Ok(())
+            }
+            Err(Fault::Memory) => Err(FileError::OutOfMemory),
+            Err(_) => {
+                self.server_faults = raised(self.server_faults);
+                Err(FileError::Failed)
+            }
         }
     }
 
@@ -250,7 +290,10 @@ fn found_next<R: Files + Net + Clone + Drop>(
     client: Option<u64>,
     into: &mut Piece,
 ) -> Turn
-    ensures { FoundFits result client into.old into.new }
+    ensures fits { FoundFits result client into.old into.new }
+    ensures client { IfSome sockets.new (λ s. HasClient result s.entries) }
+    ensures listening { option_map (λ s. s.listening) sockets.new
+        ≡ option_map (λ s. s.listening) sockets.old }
 {
     match sockets {
         Some(sockets) => sockets.next(waiting.as_slice(), want, client, into),
@@ -259,7 +302,11 @@ fn found_next<R: Files + Net + Clone + Drop>(
 }
 
 // Lets go of a stream's socket.
-fn drop_socket<R: Files + Net + Clone + Drop>(sockets: &mut Option<Sockets<R>>, stream: u64) {
+fn drop_socket<R: Files + Net + Clone + Drop>(sockets: &mut Option<Sockets<R>>, stream: u64)
+    ensures gone { IfSome sockets.new (λ s. get nat_eq s.entries stream ≡ None) }
+    ensures listening { option_map (λ s. s.listening) sockets.new
+        ≡ option_map (λ s. s.listening) sockets.old }
+{
     if let Some(sockets) = sockets {
         sockets.remove(stream);
     }

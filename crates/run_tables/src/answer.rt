@@ -18,7 +18,8 @@ pub fn lines_of(alloc: Global, played: &Played, log: &WireLog) -> Result<Texts, 
     Ok(lines)
 }
 
-/// The status, what both outputs took, which commands were run, and how the wire was opened.
+/// The status, what both outputs took, which commands were run, and how the wire was opened or
+/// joined.
 pub fn summary_of(alloc: Global, played: &Played, log: &WireLog) -> Result<Texts, OutOfMemory> {
     let mut lines = Texts::new(alloc);
     let status = format!(in alloc; "status {}", played.status.code())?;
@@ -30,6 +31,9 @@ pub fn summary_of(alloc: Global, played: &Played, log: &WireLog) -> Result<Texts
     }
     for opening in log.openings() {
         lines.push(opening_line(alloc, opening)?)?;
+    }
+    for joining in log.joinings() {
+        lines.push(joining_line(alloc, joining)?)?;
     }
     Ok(lines)
 }
@@ -53,9 +57,16 @@ fn opening_line(alloc: Global, opening: &Opening) -> Result<Text, OutOfMemory> {
     Ok(line)
 }
 
+// Where the wire was joined.
+fn joining_line(alloc: Global, joining: &Text) -> Result<Text, OutOfMemory> {
+    let mut line = Text::copy(alloc, b"joined ")?;
+    escape(&mut line, joining.as_bytes())?;
+    Ok(line)
+}
+
 // What each stream took, and the streams that are open.
 fn add_taken(lines: &mut Texts, alloc: Global, log: &WireLog) -> Result<(), OutOfMemory> {
-    if log.openings().is_empty() {
+    if log.openings().is_empty() && log.joinings().is_empty() {
         return Ok(());
     }
     for stream in 0..=log.last() {

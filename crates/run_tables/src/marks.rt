@@ -1,5 +1,5 @@
 //! The marks of a wire as lines.
-use mux_outside::{Mark, Streams, Want};
+use mux_outside::{KeptStreams, Mark, Want};
 use ssh_fields::{OutOfMemory, Text, Texts};
 use std::alloc::Global;
 
@@ -32,9 +32,9 @@ fn mark_line(alloc: Global, mark: &Mark) -> Result<Text, OutOfMemory> {
 // where nothing else is wanted; `deaf` where no client is accepted.
 fn wait_line(
     alloc: Global,
-    waiting: &Streams,
+    waiting: &KeptStreams,
     want: Want,
-    open: &Streams,
+    open: &KeptStreams,
     listens: bool,
 ) -> Result<Text, OutOfMemory> {
     let mut line = Text::copy(alloc, b"waits")?;
@@ -53,7 +53,7 @@ fn wait_line(
 }
 
 // Adds the numbers of streams.
-fn add_numbers(line: &mut Text, alloc: Global, streams: &Streams) -> Result<(), OutOfMemory> {
+fn add_numbers(line: &mut Text, alloc: Global, streams: &KeptStreams) -> Result<(), OutOfMemory> {
     for stream in streams.as_slice() {
         let number = format!(in alloc; " {stream}")?;
         line.add(number.as_bytes())?;

@@ -8,8 +8,8 @@ use mux_outside::{
 use ssh_fields::{OutOfMemory, Text, Texts};
 use std::alloc::Global;
 
-/// What a scripted wire does: its steps, how its writes are answered, and which calls of `open`
-/// fail.
+/// What a scripted wire does: its steps, how its writes are answered, and which calls of `open` and
+/// `join` fail.
 #[derive(Drop)]
 pub struct Script {
     pub steps: Steps,

@@ -2,7 +2,7 @@
 use Rattle.std.proofs.Common.{◌≡◌, ◌⊎◌, inl, inr, ℕ, Bool, true, false, List, [], Option, None, Result, Ok, Err, refl, sym, subst, ◌∙◌, arith}
 use Rattle.std.specs.Bool.{OnTrue}
 use Rattle.conf_rules.specs.declared.causes.Cause.TheVariants.{ReadFault, RunFault}
-use Rattle.conf_rules.specs.Outcome.{Ends, Writes, Opens, Drills}
+use Rattle.conf_rules.specs.Outcome.{Ends, Writes, Opens, Drills, Joins}
 use Rattle.conf_rules.specs.Texts.{Bytes}
 use Rattle.mux_history.specs.Policy.{any_policy}
 use Rattle.mux_outside.specs.declared.mark.Mark.{Mark}
@@ -20,7 +20,7 @@ use Rattle.ssh_mux.specs.Ending.{shown}
 use Rattle.ssh_mux.specs.Err.{Reports}
 use Rattle.ssh_mux.specs.Master.{EndsMaster}
 use Rattle.ssh_mux.specs.Out.{HandsOver, OutTakes}
-use Rattle.ssh_mux.specs.Outcomes.{Known, Certain, Listing, Master, drills}
+use Rattle.ssh_mux.specs.Outcomes.{Known, Certain, Listing, Master, Client, drills}
 use Rattle.ssh_mux.specs.Sharing.{CallsEnd, IdleCause, IsShared, OpensAt, Shares, WaitsFor, WireCause, told_as}
 use Rattle.ssh_mux.specs.Status.{status_of}
 use Rattle.ssh_mux.proofs.EndLemmas.{reported}
@@ -176,6 +176,8 @@ still-drill (Certain (Ends due)) meant words turns openings start tally out h = 
 still-drill (Certain (Writes text)) meant words turns openings start tally out h = tt
 still-drill (Certain (Opens control transport os ls)) meant words turns openings start tally out h = tt
 still-drill Listing meant words turns openings start tally out h = tt
+still-drill (Certain (Joins control asked what)) meant words turns openings start tally out h = tt
+still-drill (Client asked what) meant words turns openings start tally out h = tt
 still-drill (Master transport os ls) meant words turns openings start tally out h = tt
 still-drill (Certain (Drills seed clients messages)) endings.NoMemory words turns openings start tally out h =
     record { ends = refl; opened = inl refl; shared = inl (record { same_wire = refl; same_house = refl }, refl) }

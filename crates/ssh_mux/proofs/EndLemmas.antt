@@ -3,7 +3,7 @@ use Rattle.std.proofs.Common.{◌≡◌, ◌⊎◌, ◌&&◌, ◌||◌, inl, inr
 use Rattle.std.specs.Bool.{OnFalse, OnTrue}
 use Rattle.conf_resolve.specs.Faults.{FailedPaths}
 use Rattle.conf_rules.specs.Diagnostics.{Ending}
-use Rattle.conf_rules.specs.Outcome.{Ends, Writes, Opens, Drills}
+use Rattle.conf_rules.specs.Outcome.{Ends, Writes, Opens, Drills, Joins}
 use Rattle.conf_rules.specs.Texts.{Bytes}
 use Rattle.conf_rules.specs.Told.{Told}
 use Rattle.mux_outside.specs.House.{Asked}
@@ -17,13 +17,13 @@ use Rattle.ssh_mux.specs.declared.ending.Ending.{Ending as MeantEnding}
 use Rattle.ssh_mux.specs.declared.ending.Ending.TheVariants as endings
 use Rattle.ssh_mux.specs.declared.status.Status.{Status}
 use Rattle.ssh_mux.specs.declared.status.Status.TheVariants as statuses
-use Rattle.ssh_mux.specs.Answers.{IsDue, IsWell, is_silent, may_write, may_open, may_share, touches}
+use Rattle.ssh_mux.specs.Answers.{IsDue, IsWell, is_silent, may_show, may_open, may_share, reaches, touches}
 use Rattle.ssh_mux.specs.Causes.{EndCause, FaultCause, OutCause}
 use Rattle.ssh_mux.specs.Commands.{RunsFor}
 use Rattle.ssh_mux.specs.Ending.{shown}
 use Rattle.ssh_mux.specs.Err.{Reports, Ended}
-use Rattle.ssh_mux.specs.Out.{OutTakes}
-use Rattle.ssh_mux.specs.Outcomes.{Known, Certain, Listing, Master, drills, opens}
+use Rattle.ssh_mux.specs.Out.{OutStays, OutTakes}
+use Rattle.ssh_mux.specs.Outcomes.{Known, Certain, Listing, Master, Client, asks, drills, opens}
 use Rattle.ssh_mux.specs.Master.{ends_sharing}
 use Rattle.ssh_mux.specs.Places.{EndPlace}
 use Rattle.ssh_mux.specs.Sharing.{CallsEnd, IdleCause, IsServed, IsShared, OpensOnce, Serves, Shares, TellsEnd, WaitsFor, WireCause}
@@ -73,16 +73,28 @@ told_after P status ending b n f f' r = carried (λ s. OnTrue (is_silent s) P) s
 
 -- ---- what else holds of it
 
-unwritten : (status : Status) (k : Known) (before now : Option (List ℕ)) → is_silent status ≡ false → OutTakes status k before now → now ≡ before
+-- what wasn't written stays so for want of memory, and a client's output is another clause's
+unwritten-stays : (status : Status) (k : Known) (before now : Option (List ℕ)) → OutStays status k before now → OutStays statuses.Memory k before now
+unwritten-stays status (Certain (Joins control asked what)) before now t = tt
+unwritten-stays status (Client asked what) before now t = tt
+unwritten-stays status (Certain (Ends due)) before now t = t
+unwritten-stays status (Certain (Writes text)) before now t = t
+unwritten-stays status (Certain (Opens control transport os ls)) before now t = t
+unwritten-stays status (Certain (Drills seed clients messages)) before now t = t
+unwritten-stays status Listing before now t = t
+unwritten-stays status (Master transport os ls) before now t = t
+
+unwritten : (status : Status) (k : Known) (before now : Option (List ℕ)) → is_silent status ≡ false → OutTakes status k before now → OutTakes statuses.Memory k before now
 unwritten statuses.Done k before now e t = absurd cc
 unwritten statuses.Write k before now e t = absurd cc
-unwritten status k before now e t = t
+unwritten status k before now e t = unwritten-stays status k before now t
 
 pub out_after : (k : Known) (status : Status) (ending : Ending) (b n : Option (List ℕ)) (f f' : ℕ) (before now : Option (List ℕ)) → Reports status ending b n f f' → OutTakes (status_of ending) k before now → OutTakes status k before now
 out_after k status ending b n f f' before now r t = carried (λ s. OutTakes s k before now) status ending (reported status ending b n f f' r) (unwritten (status_of ending) k before now (loud ending) t) t
 
-pub untouched_after : (P : Type 0) (status : Status) (ending : Ending) (b n : Option (List ℕ)) (f f' : ℕ) → Reports status ending b n f f' → OnFalse (may_write (status_of ending)) P → OnFalse (may_write status) P
-untouched_after P status ending b n f f' r h = carried (λ s. OnFalse (may_write s) P) status ending (reported status ending b n f f' r) tt h
+-- what stays where nothing may have been written
+pub untouched_after : (k : Known) (P : Type 0) (status : Status) (ending : Ending) (b n : Option (List ℕ)) (f f' : ℕ) → Reports status ending b n f f' → OnFalse (may_show k (status_of ending)) P → OnFalse (may_show k status) P
+untouched_after k P status ending b n f f' r h = carried (λ s. OnFalse (may_show k s) P) status ending (reported status ending b n f f' r) tt h
 
 pub fault_after : (status : Status) (ending : Ending) (b n : Option (List ℕ)) (f f' files files' runner runner' : ℕ) → Reports status ending b n f f' → EndCause ending files files' runner runner' → FaultCause status files files' runner runner'
 fault_after status ending b n f f' files files' runner runner' r c =
@@ -109,6 +121,8 @@ unopened (Certain (Ends ending)) status before now h = h
 unopened (Certain (Writes text)) status before now h = h
 unopened (Certain (Drills seed clients messages)) status before now h = tt
 unopened Listing status before now h = h
+unopened (Certain (Joins control asked what)) status before now h = h
+unopened (Client asked what) status before now h = h
 unopened (Master transport os ls) statuses.Memory before now h = h
 unopened (Master transport os ls) statuses.Config before now h = inl h
 unopened (Master transport os ls) statuses.Outside before now h = inl h
@@ -157,22 +171,24 @@ module _ (May : HouseReply → Type 0) (policy : Policy) (pid turns : ℕ) (befo
   own-serves (endings.BadLine file line cause) h r = absurd (none-ends (endings.BadLine file line cause) refl h)
   own-serves (endings.BadListing key error) h r = absurd (none-ends (endings.BadListing key error) refl h)
   own-serves endings.NoControlPath h r = absurd (none-ends endings.NoControlPath refl h)
+  own-serves endings.MasterRefused h r = absurd (none-ends endings.MasterRefused refl h)
+  own-serves endings.MasterBroke h r = absurd (none-ends endings.MasterBroke refl h)
 
   -- a wire that wasn't touched is served by nobody
-  memory-by : (opened shares drilled : Bool) (meant : MeantEnding) → OnTrue (opened && shares) (Shared (Err meant)) → OnFalse (opened && (shares || drilled)) (told ≡ start) → OnFalse (opened && shares) (now ≡ before) → Reports statuses.Memory (shown meant) b n f f' → OnTrue shares (Served statuses.Memory)
-  memory-by opened false drilled meant h w g r = tt
-  memory-by true true drilled meant h w g r = memory-serves meant h r
-  memory-by false true drilled meant h w g r = inl (record { same_wire = w; same_house = g })
+  memory-by : (opened shares drilled asked : Bool) (meant : MeantEnding) → OnTrue (opened && shares) (Shared (Err meant)) → OnFalse ((opened && (shares || drilled)) || (opened && asked)) (told ≡ start) → OnFalse (opened && shares) (now ≡ before) → Reports statuses.Memory (shown meant) b n f f' → OnTrue shares (Served statuses.Memory)
+  memory-by opened false drilled asked meant h w g r = tt
+  memory-by true true drilled asked meant h w g r = memory-serves meant h r
+  memory-by false true drilled asked meant h w g r = inl (record { same_wire = w; same_house = g })
 
   own-by : (b' : Bool) (meant : MeantEnding) → OnTrue b' (Shared (Err meant)) → Reports (status_of (shown meant)) (shown meant) b n f f' → OnTrue b' (Served (status_of (shown meant)))
   own-by false meant h r = tt
   own-by true meant h r = own-serves meant h r
 
-  shared-by : (k : Known) (status : Status) (meant : MeantEnding) → (status ≡ statuses.Memory) ⊎ (status ≡ status_of (shown meant)) → Reports status (shown meant) b n f f' → OnTrue (may_share k (status_of (shown meant))) (Shared (Err meant)) → OnFalse (touches k (status_of (shown meant))) (told ≡ start) → OnFalse (may_share k (status_of (shown meant))) (now ≡ before) → OnTrue (may_share k status) (Served status)
-  shared-by k status meant (inl e) r h w g = subst (λ s. OnTrue (may_share k s) (Served s)) (sym e) (memory-by (may_open (status_of (shown meant))) (opens k) (drills k) meant h w g (subst (λ s. Reports s (shown meant) b n f f') e r))
+  shared-by : (k : Known) (status : Status) (meant : MeantEnding) → (status ≡ statuses.Memory) ⊎ (status ≡ status_of (shown meant)) → Reports status (shown meant) b n f f' → OnTrue (may_share k (status_of (shown meant))) (Shared (Err meant)) → OnFalse (reaches k (status_of (shown meant))) (told ≡ start) → OnFalse (may_share k (status_of (shown meant))) (now ≡ before) → OnTrue (may_share k status) (Served status)
+  shared-by k status meant (inl e) r h w g = subst (λ s. OnTrue (may_share k s) (Served s)) (sym e) (memory-by (may_open (status_of (shown meant))) (opens k) (drills k) (asks k) meant h w g (subst (λ s. Reports s (shown meant) b n f f') e r))
   shared-by k status meant (inr e) r h w g = subst (λ s. OnTrue (may_share k s) (Served s)) (sym e) (own-by (may_share k (status_of (shown meant))) meant h (subst (λ s. Reports s (shown meant) b n f f') e r))
 
-  pub shared_after : (k : Known) (status : Status) (meant : MeantEnding) → Reports status (shown meant) b n f f' → OnTrue (may_share k (status_of (shown meant))) (Shared (Err meant)) → OnFalse (touches k (status_of (shown meant))) (told ≡ start) → OnFalse (may_share k (status_of (shown meant))) (now ≡ before) → OnTrue (may_share k status) (Served status)
+  pub shared_after : (k : Known) (status : Status) (meant : MeantEnding) → Reports status (shown meant) b n f f' → OnTrue (may_share k (status_of (shown meant))) (Shared (Err meant)) → OnFalse (reaches k (status_of (shown meant))) (told ≡ start) → OnFalse (may_share k (status_of (shown meant))) (now ≡ before) → OnTrue (may_share k status) (Served status)
   shared_after k status meant r h w g = shared-by k status meant (reported status (shown meant) b n f f' r) r h w g
 
 -- an end without a line
@@ -198,7 +214,7 @@ shared_well May policy pid turns before now start told b f true status h = share
 pub calls_after : (turns : ℕ) (status : Status) (ending : Ending) (b n : Option (List ℕ)) (f f' : ℕ) (old calls : Calls) → Reports status ending b n f f' → CallsEnd turns (status_of ending) old calls → CallsEnd turns status old calls
 calls_after turns status ending b n f f' old calls r h = carried (λ s. CallsEnd turns s old calls) status ending (reported status ending b n f f' r) (record { few = h.few; wants = h.wants; starved = λ ne. refl; late = h.late }) h
 
-on-memory : (b : Bool) → OnTrue b Unit
+pub on-memory : (b : Bool) → OnTrue b Unit
 on-memory true = tt
 on-memory false = tt
 
@@ -219,6 +235,16 @@ unshared false false P h = h
 -- what stays where nothing may have been opened; `shares` says whether something may be
 pub stays_after : (shares : Bool) (P : Type 0) (status : Status) (ending : Ending) (b n : Option (List ℕ)) (f f' : ℕ) → Reports status ending b n f f' → OnFalse (may_open (status_of ending) && shares) P → OnFalse (may_open status && shares) P
 stays_after shares P status ending b n f f' r h = carried (λ s. OnFalse (may_open s && shares) P) status ending (reported status ending b n f f' r) (unshared (may_open (status_of ending)) shares P h) h
+
+unreached : (opened a b : Bool) (P : Type 0) → OnFalse ((opened && a) || (opened && b)) P → OnFalse (a || b) P
+unreached true a b P h = h
+unreached false true b P h = tt
+unreached false false true P h = tt
+unreached false false false P h = h
+
+-- the same of the wire
+pub wire_stays_after : (k : Known) (P : Type 0) (status : Status) (ending : Ending) (b n : Option (List ℕ)) (f f' : ℕ) → Reports status ending b n f f' → OnFalse (reaches k (status_of ending)) P → OnFalse (reaches k status) P
+wire_stays_after k P status ending b n f f' r h = carried (λ s. OnFalse (reaches k s) P) status ending (reported status ending b n f f' r) (unreached (may_open (status_of ending)) (opens k || drills k) (asks k) P h) h
 
 -- what is told of what stays
 pub same_told : {X Y : Type 0} (b : Bool) (told : X → Y) (before now : X) → OnFalse b (now ≡ before) → OnFalse b (told now ≡ told before)

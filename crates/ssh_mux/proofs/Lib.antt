@@ -1,9 +1,13 @@
+pub mod AnswerLemmas
+pub mod AskLemmas
 pub mod CauseLemmas
 pub mod DrillLemmas
 pub mod EndLemmas
+pub mod JoinLemmas
 pub mod LineLemmas
 pub mod ListLemmas
 pub mod MisreadLemmas
+pub mod NamedLemmas
 pub mod PermitParts
 pub mod PermitWords
 pub mod Permits
@@ -12,3 +16,4 @@ pub mod PolicyLemmas
 pub mod RefusalLemmas
 pub mod SharingLemmas
 pub mod StillLemmas
+pub mod TalkLemmas

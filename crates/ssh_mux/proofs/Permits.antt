@@ -1,15 +1,18 @@
 -- Words that are read give lists that a policy reads.
 use Rattle.std.proofs.Common.{◌≡◌, ℕ, ◌+◌, Bool, true, false, List, [], ◌∷◌, length, Option, Some, None, Result, Ok, Err, refl, sym, subst, ◌∙◌}
-use Rattle.std.specs.Prelude.{◌||◌, nat_lt, if◌then◌else◌, bytes_eq, codes, is_some}
+use Rattle.std.specs.Prelude.{◌||◌, ◌&&◌, not, nat_lt, if◌then◌else◌, bytes_eq, codes, is_some}
 use Rattle.conf_rules.specs.declared.asked.Asked.{Asked}
 use Rattle.conf_rules.specs.declared.command.Command.TheVariants as commands
+use Rattle.std.specs.List.{list_any}
+use Rattle.conf_rules.specs.declared.control.Control.{Control}
+use Rattle.conf_rules.specs.declared.control.Control.TheVariants.{Check}
 use Rattle.conf_rules.specs.declared.usage.UsageError.{UsageError}
-use Rattle.conf_rules.specs.declared.usage.Usage.TheVariants.{BadEntry, OnlyForMaster}
+use Rattle.conf_rules.specs.declared.usage.Usage.TheVariants.{BadEntry, NoForward, OnlyForMaster}
 use Rattle.conf_rules.specs.Results.{◌>>=◌}
 use Rattle.conf_rules.specs.Texts.{Bytes}
-use Rattle.conf_rules.specs.Options.{Mode, Listing, Master, Step, Free}
+use Rattle.conf_rules.specs.Options.{Mode, Listing, Master, Client, Step, Free}
 use Rattle.conf_rules.specs.Permissions.{PermitWord, is_alone, is_entry, first_not_entry, bad_entry, earlier}
-use Rattle.conf_rules.specs.CommandLine.{ReadCommand, refused, Walk, walk_from, steps_from, walked, not_for_listing, first_mode, host_in, transport_in, command_of, command_with, host_command, master_of, permitted, permits, texts_of, asked_of}
+use Rattle.conf_rules.specs.CommandLine.{ReadCommand, refused, Walk, walk_from, steps_from, walked, not_for_others, first_mode, host_in, transport_in, command_of, command_with, host_command, master_of, client_of, control_in, is_about_forwardings, asks_forwarding, permitted, permits, texts_of, asked_of}
 use Rattle.conf_rules.specs.Reading.{reading, drill_of, drill_number, seed_limit, no_more}
 use Rattle.mux_history.specs.Policy.{Allow, Anything, Entries, Entry, Policy, read_entry, read_entries, read_word, read_list}
 use Rattle.forward_rules.specs.Allows.{read_policy, read_listens}
@@ -129,17 +132,25 @@ command-master n steps = by_mode (first_mode steps)
     by_transport host None = tt
     by_transport host (Some t) = permitted-master steps (asked_of host steps) t
 
+    by_control : (host : Bytes) (control : Control) → OfMaster (client_of n host steps control)
+    by_control host control = by_named (is_about_forwardings control && not (list_any asks_forwarding steps))
+      where
+        by_named : (t : Bool) → OfMaster (if t then refused (n + 1) NoForward else Ok (commands.Control (asked_of host steps) control))
+        by_named true = tt
+        by_named false = tt
+
     by_host : (mode : Mode) (host : Option Bytes) → OfMaster (host_command n steps mode host)
     by_host mode None = tt
     by_host Listing (Some host) = tt
     by_host Master (Some host) = by_transport host (transport_in None steps)
+    by_host Client (Some host) = by_control host (control_in Check steps)
 
     by_mode : (mode : Option Mode) → OfMaster (command_with n steps mode)
     by_mode None = tt
     by_mode (Some mode) = by_host mode (host_in steps)
 
 walked-master : (n : ℕ) (walk : Walk) → OfMaster (walked n walk)
-walked-master n walk = by_word (not_for_listing (first_mode walk.sound) walk.sound)
+walked-master n walk = by_word (not_for_others (first_mode walk.sound) walk.sound)
   where
     by_fault : (fault : Option UsageError) → OfMaster (elim fault as (λ _. ReadCommand) [ Some e ↦ Err e | None ↦ command_of n walk.sound ])
     by_fault (Some e) = tt

@@ -11,6 +11,7 @@ use Rattle.conf_rules.specs.declared.causes.ListError.TheVariants as list_errors
 use Rattle.conf_rules.specs.declared.causes.ResolveError.{ResolveError}
 use Rattle.conf_rules.specs.declared.causes.ResolveError.TheVariants as errors
 use Rattle.conf_rules.specs.declared.command.Command.TheVariants as commands
+use Rattle.conf_rules.specs.declared.control.Control.{Control}
 use Rattle.conf_rules.specs.Outcome.{Machine}
 use Rattle.conf_rules.specs.Reading.{reading}
 use Rattle.conf_rules.specs.Resolution.{all_rows}
@@ -47,7 +48,7 @@ misread-place None e before now failed failed-now = tt
 misread-place (Some told) (words_errors.Refused e) before now failed failed-now = tt
 misread-place (Some told) words_errors.OutOfMemory before now failed failed-now = tt
 
--- what is told of words that ask for a listing, or for a master
+-- what is told of words that ask for a listing, for a master or for a client
 pub list-told : (m : Option Machine) (words : List Bytes) (asked : Asked) → reading words ≡ Ok (commands.List asked) → told_for m words ≡ told_over m asked
 unfolding told_for
 list-told m words asked e = ap (told_by m) e
@@ -55,3 +56,7 @@ list-told m words asked e = ap (told_by m) e
 pub master-told : (m : Option Machine) (words : List Bytes) (asked : Asked) (transport : Bytes) (opens listens : List Bytes) → reading words ≡ Ok (commands.Master asked transport opens listens) → told_for m words ≡ told_over m asked
 unfolding told_for
 master-told m words asked transport opens listens e = ap (told_by m) e
+
+pub client-told : (m : Option Machine) (words : List Bytes) (asked : Asked) (what : Control) → reading words ≡ Ok (commands.Control asked what) → told_for m words ≡ told_over m asked
+unfolding told_for
+client-told m words asked what e = ap (told_by m) e

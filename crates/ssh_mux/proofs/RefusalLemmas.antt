@@ -12,7 +12,7 @@ use Rattle.conf_rules.specs.declared.causes.ResolveError.{ResolveError}
 use Rattle.conf_rules.specs.declared.causes.ResolveError.TheVariants as errors
 use Rattle.conf_rules.specs.Diagnostics.{Ending, BadLine, BadListing, NoControlPath, is_fault}
 use Rattle.conf_rules.specs.Listing.{listing_over, control_path_at}
-use Rattle.conf_rules.specs.Outcome.{Outcome, Ends, Writes, Opens, Drills, told_of, listed_end, opened_end, unrefused, Machine}
+use Rattle.conf_rules.specs.Outcome.{Outcome, Ends, Writes, Opens, Drills, Joins, told_of, listed_end, opened_end, unrefused, Machine}
 use Rattle.conf_rules.specs.Resolution.{all_rows, refusal_in, refusal}
 use Rattle.conf_rules.specs.Rows.{Row}
 use Rattle.conf_rules.specs.Texts.{Bytes}
@@ -28,19 +28,19 @@ use Rattle.mux_outside.specs.declared.pairs.Pair.{Pair}
 use Rattle.mux_outside.specs.declared.statuses.CommandStatus.{CommandStatus}
 use Rattle.ssh_mux.specs.Answers.{IsRefused, is_refusal, refuses_master}
 use Rattle.ssh_mux.specs.Ending.{shown, refused_as, unlisted_as}
-use Rattle.ssh_mux.specs.Outcomes.{Known, Certain, Listing, Master, machine, machine_of, of_command, opens_at, looks, writes_out, opens, drills}
+use Rattle.ssh_mux.specs.Outcomes.{Known, Certain, Listing, Master, Client, machine, machine_of, of_command, opens_at, looks, writes_out, opens, drills}
 
 -- ---- outcomes of rows
 
 -- an outcome of rows for whose command files are read
-looks-rows : (rows : List Row) (x : Outcome) → looks (Certain x) ≡ true → looks (Certain (unrefused rows x)) ≡ true
+pub looks-rows : (rows : List Row) (x : Outcome) → looks (Certain x) ≡ true → looks (Certain (unrefused rows x)) ≡ true
 looks-rows rows x h = on (refusal_in rows) where
   on : (r : Option ResolveError) → looks (Certain (elim r [ Some e ↦ Ends (BadLine e) | None ↦ x ])) ≡ true
   on (Some e) = refl
   on None = h
 
 -- one that opens no wire
-shut-rows : (rows : List Row) (x : Outcome) → opens (Certain x) ≡ false → opens (Certain (unrefused rows x)) ≡ false
+pub shut-rows : (rows : List Row) (x : Outcome) → opens (Certain x) ≡ false → opens (Certain (unrefused rows x)) ≡ false
 shut-rows rows x h = on (refusal_in rows) where
   on : (r : Option ResolveError) → opens (Certain (elim r [ Some e ↦ Ends (BadLine e) | None ↦ x ])) ≡ false
   on (Some e) = refl
@@ -54,7 +54,7 @@ quiet-rows rows x h = on (refusal_in rows) where
   on None = h
 
 -- one that is no drill
-undrilled-rows : (rows : List Row) (x : Outcome) → drills (Certain x) ≡ false → drills (Certain (unrefused rows x)) ≡ false
+pub undrilled-rows : (rows : List Row) (x : Outcome) → drills (Certain x) ≡ false → drills (Certain (unrefused rows x)) ≡ false
 undrilled-rows rows x h = on (refusal_in rows) where
   on : (r : Option ResolveError) → drills (Certain (elim r [ Some e ↦ Ends (BadLine e) | None ↦ x ])) ≡ false
   on (Some e) = refl
@@ -127,16 +127,19 @@ Plain (Certain (Ends due)) ending = ending ≡ due
 Plain (Certain other) ending = ⊥
 Plain Listing ending = IsTrue (is_refusal ending)
 Plain (Master transport os ls) ending = IsTrue (refuses_master ending)
+Plain (Client asked what) ending = IsTrue (refuses_master ending)
 
-by-cause : (k : Known) (file : Bytes) (line : ℕ) (cause : Cause) → looks k ≡ true → (is_fault cause ≡ false → Plain k (BadLine (errors.At file line cause))) → IsRefused k (BadLine (errors.At file line cause))
+pub by-cause : (k : Known) (file : Bytes) (line : ℕ) (cause : Cause) → looks k ≡ true → (is_fault cause ≡ false → Plain k (BadLine (errors.At file line cause))) → IsRefused k (BadLine (errors.At file line cause))
 by-cause k file line ReadFault l h = l
 by-cause k file line RunFault l h = l
 by-cause (Certain (Ends due)) file line cause l h = h refl
 by-cause (Certain (Writes text)) file line cause l h = h refl
 by-cause (Certain (Opens control transport os ls)) file line cause l h = h refl
 by-cause (Certain (Drills seed clients messages)) file line cause l h = absurd (h refl)
+by-cause (Certain (Joins control asked what)) file line cause l h = absurd (h refl)
 by-cause Listing file line cause l h = h refl
 by-cause (Master transport os ls) file line cause l h = h refl
+by-cause (Client asked what) file line cause l h = h refl
 
 plain-rows : (rows : List Row) (x : Outcome) (e : ResolveError) → refusal_in rows ≡ Some e → Plain (Certain (unrefused rows x)) (BadLine e)
 plain-rows rows x e h = subst (λ o. Plain (Certain o) (BadLine e)) (sym (ap (λ (r : Option ResolveError). elim r [ Some e ↦ Ends (BadLine e) | None ↦ x ]) h)) refl
@@ -146,10 +149,10 @@ abbrev pub Promise : Option (List Pair) → Option (List CommandStatus) → Fact
 Promise files statuses facts asked P = (told : Told) → told.asked ≡ asked → told.facts ≡ known facts → TellsFiles files told → TellsStatus statuses told.status → P told
 
 -- it is a promise of the machine
-kept : (files : List Pair) (statuses : List CommandStatus) (facts : Facts) (asked : Asked) (P : Told → Type 0) → Promise (Some files) (Some statuses) facts asked P → P (told_of (machine_of files statuses facts) asked)
+pub kept : (files : List Pair) (statuses : List CommandStatus) (facts : Facts) (asked : Asked) (P : Told → Type 0) → Promise (Some files) (Some statuses) facts asked P → P (told_of (machine_of files statuses facts) asked)
 kept files statuses facts asked P h = h (told_of (machine_of files statuses facts) asked) refl refl (refl, refl) refl
 
-refused-rows : (told : Told) (x : Outcome) (e : ResolveError) → looks (Certain x) ≡ true → Resolved told (Err e) → IsRefused (Certain (unrefused (all_rows told) x)) (shown (refused_as e))
+pub refused-rows : (told : Told) (x : Outcome) (e : ResolveError) → looks (Certain x) ≡ true → Resolved told (Err e) → IsRefused (Certain (unrefused (all_rows told) x)) (shown (refused_as e))
 refused-rows told x errors.OutOfMemory l h = tt
 refused-rows told x (errors.At file line cause) l h = by-cause (Certain (unrefused (all_rows told) x)) file line cause (looks-rows (all_rows told) x l) (λ plain. plain-rows (all_rows told) x (errors.At file line cause) (h plain))
 
@@ -181,11 +184,11 @@ master-refused (Some files) (Some statuses) facts asked transport os ls e h =
 
 -- ---- settings
 
-settled : (files : List Pair) (statuses : List CommandStatus) (facts : Facts) (asked : Asked) (settings : List Given) → Promise (Some files) (Some statuses) facts asked (λ told. Resolved told (Ok settings)) → Settled (told_of (machine_of files statuses facts) asked) (all_rows (told_of (machine_of files statuses facts) asked)) settings asked.original facts
+pub settled : (files : List Pair) (statuses : List CommandStatus) (facts : Facts) (asked : Asked) (settings : List Given) → Promise (Some files) (Some statuses) facts asked (λ told. Resolved told (Ok settings)) → Settled (told_of (machine_of files statuses facts) asked) (all_rows (told_of (machine_of files statuses facts) asked)) settings asked.original facts
 settled files statuses facts asked settings h =
     record { name = refl; facts = refl; keeps = (kept files statuses facts asked (λ t. Resolved t (Ok settings)) h).1 }
 
-unrefused-rows : (rows : List Row) (x : Outcome) → refusal_in rows ≡ None → unrefused rows x ≡ x
+pub unrefused-rows : (rows : List Row) (x : Outcome) → refusal_in rows ≡ None → unrefused rows x ≡ x
 unrefused-rows rows x h = ap (λ (r : Option ResolveError). elim r [ Some e ↦ Ends (BadLine e) | None ↦ x ]) h
 
 pub list-found : (files : Option (List Pair)) (statuses : Option (List CommandStatus)) (facts : Facts) (asked : Asked) (settings : List Given) (text : Bytes) → Promise files statuses facts asked (λ told. Resolved told (Ok settings)) → Lists (Ok text) settings asked.original facts → (of_command (machine files statuses facts) (commands.List asked) ≡ Certain (Writes text)) ⊎ (of_command (machine files statuses facts) (commands.List asked) ≡ Listing)

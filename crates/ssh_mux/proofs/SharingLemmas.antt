@@ -1,6 +1,6 @@
 -- What a master leaves behind that was opened, and what others leave.
 use Rattle.std.proofs.Common.{◌≡◌, ◌⊎◌, inl, inr, ℕ, true, false, List, Option, Some, None, unwrap_or, Result, Ok, Err, refl, sym, subst, ◌∙◌}
-use Rattle.conf_rules.specs.Outcome.{Ends, Writes, Drills, Opens}
+use Rattle.conf_rules.specs.Outcome.{Ends, Writes, Drills, Opens, Joins}
 use Rattle.conf_rules.specs.Texts.{Bytes}
 use Rattle.mux_engine.specs.Counted.{Stops}
 use Rattle.mux_engine.specs.Run.{IsRun}
@@ -22,7 +22,7 @@ use Rattle.ssh_mux.specs.Causes.{OutCause}
 use Rattle.ssh_mux.specs.Ending.{shown}
 use Rattle.ssh_mux.specs.Master.{EndsMaster}
 use Rattle.ssh_mux.specs.Out.{OutTakes}
-use Rattle.ssh_mux.specs.Outcomes.{Known, Certain, Listing, Master, opens_at, opens, writes_out}
+use Rattle.ssh_mux.specs.Outcomes.{Known, Certain, Listing, Master, Client, opens_at, opens, writes_out}
 use Rattle.ssh_mux.specs.Sharing.{IdleCause, OpensAt, OpensOnce, Shares, WaitsFor, pid_of, told_as}
 use Rattle.ssh_mux.specs.Status.{status_of}
 use Rattle.ssh_mux.proofs.StillLemmas.{loud, quiet-count}
@@ -135,12 +135,16 @@ none-opened (Certain (Ends ending)) status before e = refl
 none-opened (Certain (Writes text)) status before e = refl
 none-opened (Certain (Drills seed clients messages)) status before e = tt
 none-opened Listing status before e = refl
+none-opened (Certain (Joins control asked what)) status before e = refl
+none-opened (Client asked what) status before e = refl
 none-opened (Master transport os ls) status before e = absurd cc
 
 -- one that writes nothing to the output
 pub none-taken : (k : Known) (status : Status) (before : Option (List ℕ)) → writes_out k ≡ false → OutTakes status k before before
 none-taken (Certain (Writes text)) status before e = absurd cc
 none-taken Listing status before e = absurd cc
+none-taken (Certain (Joins control asked what)) status before e = absurd cc
+none-taken (Client asked what) status before e = absurd cc
 none-taken (Certain (Ends ending)) statuses.Done before e = refl
 none-taken (Certain (Ends ending)) statuses.Write before e = refl
 none-taken (Certain (Ends ending)) status before e = refl

@@ -6,7 +6,7 @@ use Rattle.conf_rules.specs.declared.causes.ListError.TheVariants as list_errors
 use Rattle.conf_rules.specs.declared.causes.ResolveError.TheVariants.{At, OutOfMemory}
 use Rattle.conf_rules.specs.Diagnostics as ends
 use Rattle.conf_rules.specs.Diagnostics.{Ending}
-use Rattle.conf_rules.specs.Outcome.{Ends, Writes, Opens, Drills}
+use Rattle.conf_rules.specs.Outcome.{Ends, Writes, Opens, Drills, Joins}
 use Rattle.mux_history.specs.Policy.{Policy}
 use Rattle.mux_outside.specs.Seen.{Calls}
 use Rattle.mux_outside.specs.House.{Asked}
@@ -17,11 +17,11 @@ use Rattle.ssh_mux.specs.declared.ending.Ending.{Ending as MeantEnding}
 use Rattle.ssh_mux.specs.declared.ending.Ending.TheVariants as endings
 use Rattle.ssh_mux.specs.declared.status.Status.{Status}
 use Rattle.ssh_mux.specs.declared.status.Status.TheVariants as statuses
-use Rattle.ssh_mux.specs.Answers.{IsDue, IsRefused, is_silent, may_open, may_share, touches, refuses_master, ends_master}
+use Rattle.ssh_mux.specs.Answers.{IsDue, IsRefused, is_silent, may_open, may_share, touches, refuses_master, ends_client, ends_master}
 use Rattle.ssh_mux.specs.Causes.{OutCause}
 use Rattle.ssh_mux.specs.Ending.{shown}
-use Rattle.ssh_mux.specs.Out.{OutTakes}
-use Rattle.ssh_mux.specs.Outcomes.{Known, Certain, Listing, Master, drills, opens}
+use Rattle.ssh_mux.specs.Out.{OutStays, OutTakes}
+use Rattle.ssh_mux.specs.Outcomes.{Known, Certain, Listing, Master, Client, drills, opens}
 use Rattle.ssh_mux.specs.Sharing.{CallsEnd, IdleCause, OpensOnce, Shares, WaitsFor, WireCause}
 use Rattle.ssh_mux.specs.Status.{status_of, refusal_status, listing_status}
 
@@ -40,6 +40,16 @@ not_false b P e = subst (λ x. OnFalse x P) (sym e) tt
 
 pub not_true : (b : Bool) (P : Type 0) → b ≡ false → OnTrue b P
 not_true b P e = subst (λ x. OnTrue x P) (sym e) tt
+
+-- what stays where one of two things is not
+pub or-else : (a b : Bool) (P : Type 0) → OnFalse a P → OnFalse (a || b) P
+or-else true b P h = tt
+or-else false true P h = tt
+or-else false false P h = h
+
+pub else-or : (a b : Bool) (P : Type 0) → OnFalse b P → OnFalse (a || b) P
+else-or true b P h = tt
+else-or false b P h = h
 
 or-left : (a b : Bool) → a ≡ true → (a || b) ≡ true
 or-left true b e = refl
@@ -81,6 +91,8 @@ loud ends.NotOpened = refl
 loud ends.TransportFailed = refl
 loud (ends.ServerBroke index why) = refl
 loud ends.TurnsSpent = refl
+loud ends.MasterRefused = refl
+loud ends.MasterBroke = refl
 loud ends.NoMemory = refl
 
 -- ---- what it leaves
@@ -94,12 +106,25 @@ still-due (Certain (Writes text)) ending h = h
 still-due (Certain (Opens control transport os ls)) ending h = absurd h
 still-due (Certain (Drills seed clients messages)) ending h = absurd h
 still-due Listing ending h = h
+still-due (Certain (Joins control asked what)) ending h = absurd h
 still-due (Master transport os ls) ending h = or-left (refuses_master ending) (ends_master ending) h
+still-due (Client asked what) ending h = or-left (refuses_master ending) (ends_client ending) h
+
+-- nothing more was taken
+pub out-stays : (status : Status) (k : Known) (before : Option (List ℕ)) → OutStays status k before before
+out-stays status (Certain (Joins control asked what)) before = on_false (may_open status) before
+out-stays status (Client asked what) before = on_false (may_open status) before
+out-stays status (Certain (Ends due)) before = refl
+out-stays status (Certain (Writes text)) before = refl
+out-stays status (Certain (Opens control transport os ls)) before = refl
+out-stays status (Certain (Drills seed clients messages)) before = refl
+out-stays status Listing before = refl
+out-stays status (Master transport os ls) before = refl
 
 pub quiet-out : (status : Status) (k : Known) (before : Option (List ℕ)) → is_silent status ≡ false → OutTakes status k before before
 quiet-out statuses.Done k before e = absurd cc
 quiet-out statuses.Write k before e = absurd cc
-quiet-out status k before e = refl
+quiet-out status k before e = out-stays status k before
 
 pub quiet-count : (status : Status) (count : ℕ) → is_silent status ≡ false → OutCause status count count
 quiet-count statuses.Write count e = absurd cc
@@ -110,6 +135,8 @@ still-opened (Certain (Ends due)) ending before h = refl
 still-opened (Certain (Writes text)) ending before h = refl
 still-opened (Certain (Drills seed clients messages)) ending before h = tt
 still-opened Listing ending before h = refl
+still-opened (Certain (Joins control asked what)) ending before h = refl
+still-opened (Client asked what) ending before h = refl
 still-opened (Certain (Opens control transport os ls)) ends.NoMemory before h = inl refl
 still-opened (Certain (Opens control transport os ls)) (ends.BadLine (At file line ReadFault)) before h = refl
 still-opened (Certain (Opens control transport os ls)) (ends.BadLine (At file line RunFault)) before h = refl
@@ -133,6 +160,8 @@ unshared (Certain (Ends due)) ending h = inl (shut (Certain (Ends due)) (status_
 unshared (Certain (Writes text)) ending h = inl (shut (Certain (Writes text)) (status_of ending) refl)
 unshared (Certain (Drills seed clients messages)) ending h = inl (shut (Certain (Drills seed clients messages)) (status_of ending) refl)
 unshared Listing ending h = inl (shut Listing (status_of ending) refl)
+unshared (Certain (Joins control asked what)) ending h = inl (shut (Certain (Joins control asked what)) (status_of ending) refl)
+unshared (Client asked what) ending h = inl (shut (Client asked what) (status_of ending) refl)
 unshared (Certain (Opens control transport os ls)) ends.NoMemory h = inr refl
 unshared (Certain (Opens control transport os ls)) (ends.BadLine (At file line ReadFault)) h = inl refl
 unshared (Certain (Opens control transport os ls)) (ends.BadLine (At file line RunFault)) h = inl refl
@@ -148,7 +177,7 @@ unshared (Master transport os ls) ends.NoControlPath h = inl refl
 unshared (Master transport os ls) ending h = absurd cc
 
 -- only want of memory has its status
-only-memory : (meant : MeantEnding) → status_of (shown meant) ≡ statuses.Memory → meant ≡ endings.NoMemory
+pub only-memory : (meant : MeantEnding) → status_of (shown meant) ≡ statuses.Memory → meant ≡ endings.NoMemory
 only-memory endings.NoMemory e = refl
 only-memory (endings.BadWords e) h = absurd cc
 only-memory (endings.BadLine file line ReadFault) h = absurd cc
@@ -160,6 +189,8 @@ only-memory endings.NotOpened h = absurd cc
 only-memory endings.TransportFailed h = absurd cc
 only-memory (endings.ServerBroke index why) h = absurd cc
 only-memory endings.TurnsSpent h = absurd cc
+only-memory endings.MasterRefused h = absurd cc
+only-memory endings.MasterBroke h = absurd cc
 
 pub still-shared : (k : Known) (meant : MeantEnding) (May : HouseReply → Type 0) (policy : Policy) (pid turns : ℕ) (told : Option (List Asked)) (start : Option (List Mark)) → IsRefused k (shown meant) → OnTrue (may_share k (status_of (shown meant))) (Shares May policy pid turns told told start start (Err meant))
 still-shared k meant May policy pid turns told start h = on (unshared k (shown meant) h) where
@@ -175,6 +206,8 @@ starved-due (Certain (Writes text)) = tt
 starved-due (Certain (Opens control transport os ls)) = tt
 starved-due (Certain (Drills seed clients messages)) = tt
 starved-due Listing = tt
+starved-due (Certain (Joins control asked what)) = tt
+starved-due (Client asked what) = tt
 starved-due (Master transport os ls) = tt
 
 -- the wire wasn't called
@@ -203,6 +236,8 @@ drill-starved (Certain (Ends due)) ending h d = absurd cc
 drill-starved (Certain (Writes text)) ending h d = absurd cc
 drill-starved (Certain (Opens control transport os ls)) ending h d = absurd cc
 drill-starved Listing ending h d = absurd cc
+drill-starved (Certain (Joins control asked what)) ending h d = absurd cc
+drill-starved (Client asked what) ending h d = absurd cc
 drill-starved (Master transport os ls) ending h d = absurd cc
 
 -- what holds where a wire may have been opened for a master

@@ -2,17 +2,21 @@
 use Rattle.std.specs.Prelude.{◌≡◌, ◌⊎◌, ◌&&◌, ◌||◌, Bool, true, false, IsTrue, Result, Ok, Err}
 use Rattle.std.specs.Bool.{OnFalse}
 use Rattle.conf_rules.specs.declared.causes.Cause.TheVariants.{ReadFault, RunFault}
+use Rattle.conf_rules.specs.declared.causes.ResolveError.{ResolveError}
 use Rattle.conf_rules.specs.declared.causes.ResolveError.TheVariants.{At}
 use Rattle.conf_rules.specs.Diagnostics.{Ending, BadLine, BadListing, NoControlPath}
 use Rattle.conf_rules.specs.Diagnostics.{NotOpened, TransportFailed, ServerBroke, TurnsSpent, NoMemory}
-use Rattle.conf_rules.specs.Outcome.{Outcome, Ends, Writes, Opens, Drills}
+use Rattle.conf_rules.specs.Diagnostics.{MasterRefused, MasterBroke}
+use Rattle.conf_rules.specs.Outcome.{Outcome, Ends, Writes, Opens, Drills, Joins}
+use Rattle.mux_client.specs.declared.asks.Asks.{Asks}
 use Rattle.ssh_mux.specs.declared.ending.Ending.{Ending as MeantEnding}
 use Rattle.ssh_mux.specs.declared.status.Status.{Status}
 use Rattle.ssh_mux.specs.declared.status.Status.TheVariants.{Done, Usage, Config, Outside}
 use Rattle.ssh_mux.specs.declared.status.Status.TheVariants.{Write, Memory}
+use Rattle.ssh_mux.specs.Asks.{asks_for}
 use Rattle.ssh_mux.specs.Ending.{shown}
-use Rattle.ssh_mux.specs.Outcomes.{Known, Certain, Listing, Master, looks, writes_out, opens}
-use Rattle.ssh_mux.specs.Outcomes.{drills, succeeds}
+use Rattle.ssh_mux.specs.Outcomes.{Known, Certain, Listing, Master, Client, looks, writes_out, opens}
+use Rattle.ssh_mux.specs.Outcomes.{asks, drills, succeeds}
 use Rattle.ssh_mux.specs.Status.{status_of}
 
 -- ---- endings
@@ -23,7 +27,7 @@ is_refusal (BadLine e) = true
 is_refusal (BadListing e) = true
 is_refusal other = false
 
--- whether a master may end so before it opens its sockets
+-- whether a master or a client may end so before it opens its sockets
 abbrev pub refuses_master : Ending → Bool
 refuses_master NoControlPath = true
 refuses_master ending = is_refusal ending
@@ -36,6 +40,20 @@ ends_master (ServerBroke index why) = true
 ends_master TurnsSpent = true
 ends_master other = false
 
+-- whether a client may end so: its sockets weren't opened, or it asked a running master
+abbrev pub ends_client : Ending → Bool
+ends_client NotOpened = true
+ends_client TransportFailed = true
+ends_client TurnsSpent = true
+ends_client MasterRefused = true
+ends_client MasterBroke = true
+ends_client other = false
+
+-- the ending of a client that asks this, or the refusal of a forwarding
+abbrev pub IsAskDue : Result Asks ResolveError → Ending → Type 0
+IsAskDue (Ok what) ending = IsTrue (ends_client ending)
+IsAskDue (Err e) ending = ending ≡ BadLine e
+
 -- The ending is that of the outcome. Want of memory is free, and a fault has its count; where the
 -- outcome isn't known, it is some ending of such a command.
 abbrev pub IsDue : Known → Ending → Type 0
@@ -46,10 +64,12 @@ IsDue (Certain (Ends due)) ending = ending ≡ due
 IsDue (Certain (Writes text)) ending = ⊥
 IsDue (Certain (Opens control transport opens listens)) ending = IsTrue (ends_master ending)
 IsDue (Certain (Drills seed clients messages)) ending = IsTrue (ends_master ending)
+IsDue (Certain (Joins control asked what)) ending = IsAskDue (asks_for asked what) ending
 IsDue Listing ending = IsTrue (is_refusal ending)
 IsDue (Master transport opens listens) ending = IsTrue (refuses_master ending || ends_master ending)
+IsDue (Client asked what) ending = IsTrue (refuses_master ending || ends_client ending)
 
--- the same before a listing is written or a wire is opened
+-- the same before a listing is written, a wire is opened or the forwardings of a client are read
 abbrev pub IsRefused : Known → Ending → Type 0
 IsRefused known NoMemory = Unit
 IsRefused known (BadLine (At file line ReadFault)) = IsTrue (looks known)
@@ -58,8 +78,10 @@ IsRefused (Certain (Ends due)) ending = ending ≡ due
 IsRefused (Certain (Writes text)) ending = ⊥
 IsRefused (Certain (Opens control transport opens listens)) ending = ⊥
 IsRefused (Certain (Drills seed clients messages)) ending = ⊥
+IsRefused (Certain (Joins control asked what)) ending = ⊥
 IsRefused Listing ending = IsTrue (is_refusal ending)
 IsRefused (Master transport opens listens) ending = IsTrue (refuses_master ending)
+IsRefused (Client asked what) ending = IsTrue (refuses_master ending)
 
 -- what was found is what the outcome shows, or the outcome isn't known; or the ending is due
 abbrev pub Finds : {A : Type 0} → (A → Outcome) → Known → Known → Result A MeantEnding → Type 0
@@ -108,20 +130,32 @@ may_open other = true
 abbrev pub may_share : Known → Status → Bool
 may_share known status = may_open status && opens known
 
--- whether one may have been opened at all: for a master or a drill
+-- whether one may have been opened at all, for a master or a drill
 abbrev pub touches : Known → Status → Bool
 touches known status = may_open status && (opens known || drills known)
+
+-- whether one may have been joined, for a client
+abbrev pub may_ask : Known → Status → Bool
+may_ask known status = may_open status && asks known
+
+-- whether one may have been used
+abbrev pub reaches : Known → Status → Bool
+reaches known status = touches known status || may_ask known status
+
+-- whether something may have been written: a client shows each answer as it comes
+abbrev pub may_show : Known → Status → Bool
+may_show known status = may_write status || may_ask known status
 
 -- ---- what stays
 
 -- What a run leaves as it was, by facts that say so of what it was handed: what takes the listing,
 -- where nothing is written; files and commands, where no configuration is read; the wire, where it
--- isn't opened; the house, where no master opens it.
+-- isn't opened or joined; the house, where no master opens it.
 pub record Leaves (known : Known) (status : Status) (Out Files Runner Wire House : Type 0) :
     Type 0 where
-  pub unwritten : OnFalse (may_write status) Out
+  pub unwritten : OnFalse (may_show known status) Out
   pub unlisted : OnFalse (writes_out known) Out
   pub files : OnFalse (looks known) Files
   pub runner : OnFalse (looks known) Runner
-  pub wire : OnFalse (touches known status) Wire
+  pub wire : OnFalse (reaches known status) Wire
   pub house : OnFalse (may_share known status) House

@@ -10,4 +10,6 @@ pub mod Err
 pub mod Master
 pub mod Places
 pub mod Sharing
+pub mod Asks
+pub mod Client
 pub mod Drill

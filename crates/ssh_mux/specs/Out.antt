@@ -1,6 +1,7 @@
 -- What the standard output has taken.
 use Rattle.std.specs.Prelude.{◌≡◌, ℕ, List, Option, Result, Ok, Err}
-use Rattle.conf_rules.specs.Outcome.{Writes, Drills}
+use Rattle.std.specs.Bool.{OnFalse}
+use Rattle.conf_rules.specs.Outcome.{Writes, Drills, Joins}
 use Rattle.conf_rules.specs.Texts.{Bytes}
 use Rattle.mux_outside.specs.declared.file_error.FileError.TheVariants.{Failed}
 use Rattle.mux_outside.specs.Sink.{TakesTold}
@@ -8,7 +9,8 @@ use Rattle.ssh_mux.specs.declared.ending.Ending.{Ending}
 use Rattle.ssh_mux.specs.declared.ending.Ending.TheVariants as endings
 use Rattle.ssh_mux.specs.declared.status.Status.{Status}
 use Rattle.ssh_mux.specs.declared.status.Status.TheVariants.{Done, Write}
-use Rattle.ssh_mux.specs.Outcomes.{Known, Certain, Listing}
+use Rattle.ssh_mux.specs.Answers.{may_open}
+use Rattle.ssh_mux.specs.Outcomes.{Known, Certain, Listing, Client}
 
 -- a text was handed over: all of it was taken, a prefix where that failed, or nothing for want of
 -- memory
@@ -19,6 +21,13 @@ HandsOver (Ok Write) text before now = TakesTold (Err Failed) before now text
 HandsOver (Err endings.NoMemory) text before now = now ≡ before
 HandsOver result text before now = ⊥
 
+-- nothing more; but for a client that may have joined its wire, of which `AnswersFor` says what
+abbrev pub OutStays : Status → Known → Option (List ℕ) → Option (List ℕ) → Type 0
+OutStays status (Certain (Joins control asked what)) before now =
+    OnFalse (may_open status) (now ≡ before)
+OutStays status (Client asked what) before now = OnFalse (may_open status) (now ≡ before)
+OutStays status known before now = now ≡ before
+
 -- the listing, of which a prefix where it failed, and nothing with any other status; where it isn't
 -- known, some listing; of a drill that writes, `IsDrill` says what
 abbrev pub OutTakes : Status → Known → Option (List ℕ) → Option (List ℕ) → Type 0
@@ -28,4 +37,4 @@ OutTakes Done (Certain (Drills seed clients messages)) before now = Unit
 OutTakes Write (Certain (Drills seed clients messages)) before now = Unit
 OutTakes Done Listing before now = Unit
 OutTakes Write Listing before now = Unit
-OutTakes status known before now = now ≡ before
+OutTakes status known before now = OutStays status known before now

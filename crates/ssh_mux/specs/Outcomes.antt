@@ -1,10 +1,12 @@
 -- What comes of words, as far as it is known.
 use Rattle.std.specs.Prelude.{Bool, true, false, List, Option, Some, None, Ok, Err}
+use Rattle.conf_rules.specs.declared.asked.Asked.{Asked}
 use Rattle.conf_rules.specs.declared.command.Command.{Command}
 use Rattle.conf_rules.specs.declared.command.Command.TheVariants as commands
+use Rattle.conf_rules.specs.declared.control.Control.{Control}
 use Rattle.conf_rules.specs.CommandLine.{ReadCommand}
 use Rattle.conf_rules.specs.Diagnostics.{BadWords}
-use Rattle.conf_rules.specs.Outcome.{Outcome, Ends, Writes, Opens, Drills, Machine}
+use Rattle.conf_rules.specs.Outcome.{Outcome, Ends, Writes, Opens, Drills, Joins, Machine}
 use Rattle.conf_rules.specs.Outcome.{command_outcome, outcome}
 use Rattle.conf_rules.specs.Reading.{reading}
 use Rattle.conf_rules.specs.Texts.{Bytes}
@@ -15,12 +17,13 @@ use Rattle.mux_outside.specs.declared.statuses.CommandStatus.{CommandStatus}
 use Rattle.mux_outside.specs.Files.{content_at, names_in}
 use Rattle.mux_outside.specs.Runner.{status_of}
 
--- what is known: all that comes of words, or only that they ask for a listing, or for a master over
--- a transport with these permissions
+-- what is known: all that comes of words, or only that they ask for a listing, for a master over a
+-- transport with these permissions, or for a client that asks a running master
 pub data Known : Type 0 where
   Certain : Outcome → Known
   Listing : Known
   Master : (transport : Bytes) (opens listens : List Bytes) → Known
+  Client : (asked : Asked) (what : Control) → Known
 
 -- ---- the machine
 
@@ -45,6 +48,7 @@ machine files statuses facts = None
 abbrev pub untold : Command → Known
 untold (commands.List asked) = Listing
 untold (commands.Master asked transport opens listens) = Master transport opens listens
+untold (commands.Control asked what) = Client asked what
 untold (commands.Drill seed clients messages) = Certain (Drills seed clients messages)
 
 -- what is known of a command over a machine
@@ -71,6 +75,10 @@ known_of files statuses facts words = of_words (machine files statuses facts) wo
 abbrev pub opens_at : Bytes → List Bytes → List Bytes → Bytes → Outcome
 opens_at transport opens listens control = Opens control transport opens listens
 
+-- a client that asks at its control path
+abbrev pub joins_at : Asked → Control → Bytes → Outcome
+joins_at asked what control = Joins control asked what
+
 -- ---- what it uses
 
 -- whether files are read and commands are run
@@ -79,11 +87,13 @@ looks (Certain (Ends (BadWords e))) = false
 looks (Certain (Drills seed clients messages)) = false
 looks other = true
 
--- whether a listing or the summary of a drill may be written
+-- whether a listing, the summary of a drill or what a running master answers may be written
 abbrev pub writes_out : Known → Bool
 writes_out (Certain (Writes text)) = true
 writes_out (Certain (Drills seed clients messages)) = true
+writes_out (Certain (Joins control asked what)) = true
 writes_out Listing = true
+writes_out (Client asked what) = true
 writes_out other = false
 
 -- whether a drill was asked for
@@ -96,6 +106,12 @@ abbrev pub opens : Known → Bool
 opens (Certain (Opens control transport permitted_opens permitted_listens)) = true
 opens (Master transport permitted_opens permitted_listens) = true
 opens other = false
+
+-- whether a wire may be joined, and a running master asked
+abbrev pub asks : Known → Bool
+asks (Certain (Joins control asked what)) = true
+asks (Client asked what) = true
+asks other = false
 
 -- whether it may succeed
 abbrev pub succeeds : Known → Bool

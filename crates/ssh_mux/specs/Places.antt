@@ -22,6 +22,7 @@ told_over None asked = None
 abbrev pub told_by : Option Machine → ReadCommand → Option Told
 told_by m (Ok (commands.List asked)) = told_over m asked
 told_by m (Ok (commands.Master asked transport opens listens)) = told_over m asked
+told_by m (Ok (commands.Control asked what)) = told_over m asked
 told_by m reading = None
 
 unfoldable pub told_for : Option Machine → List Bytes → Option Told

@@ -24,16 +24,18 @@ pub fn usage_text(cause: Usage) -> &'static [u8]
     match cause {
         Usage::UnknownOption => b"unknown option",
         Usage::NoValue => b"a value is missing",
-        Usage::TwoModes => b"only one of -G and -M is taken",
+        Usage::TwoModes => b"only one of -G, -M and -O is taken",
         Usage::OnlyForMaster => b"only for -M",
         Usage::TwoDestinations => b"only one destination is taken",
         Usage::BadDestination => b"not a destination",
         Usage::BadForward => b"not a forwarding",
         Usage::BadEntry => b"not a permission",
         Usage::BadDrill => b"not a drill number",
-        Usage::NoMode => b"-G or -M is missing",
+        Usage::NoMode => b"-G, -M or -O is missing",
         Usage::NoDestination => b"a destination is missing",
         Usage::NoTransport => b"--transport is missing",
+        Usage::BadCommand => b"not a command",
+        Usage::NoForward => b"no forwarding is named",
     }
 }
 

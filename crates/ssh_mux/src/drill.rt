@@ -32,6 +32,7 @@ pub fn drill<W: Wire, S: Sink>(
     ensures goes { DrillGoes words.now turns result (W.openings wire.old) (W.openings wire.new)
         (W.seen wire.old).told (W.seen wire.new).told (W.tally wire.new)
         (S.told out.old) (S.told out.new) }
+    ensures joinings { W.joinings wire.new ≡ W.joinings wire.old }
     ensures cause { WireCause (so_far result) (W.server_faults wire.old) (W.server_faults wire.new)
         (W.client_faults wire.old) (W.client_faults wire.new) }
     ensures unwritten { OnFalse (may_write (so_far result)) (out.new ≡ out.old) }
@@ -59,6 +60,7 @@ fn serve_drill<W: Wire>(
         (W.openings wire.old) (W.openings wire.new) }
     ensures served { Shares RefusesAll any_policy 0 turns None None
         (W.seen wire.old).told (W.seen wire.new).told result }
+    ensures joinings { W.joinings wire.new ≡ W.joinings wire.old }
     ensures cause { WireCause (so_far result) (W.server_faults wire.old) (W.server_faults wire.new)
         (W.client_faults wire.old) (W.client_faults wire.new) }
     ensures calls { CallsEnd turns (so_far result) (W.calls wire.old) (W.calls wire.new) }

@@ -25,12 +25,16 @@ pub enum Ending {
     NoControlPath,
     /// The sockets could not be opened.
     NotOpened,
-    /// The connection to the server failed.
+    /// The connection to the server, or to the running master, failed.
     TransportFailed,
     /// The server broke the protocol, by its message with this number, counted from 1.
     ServerBroke { index: u64, why: Break },
     /// All turns were taken.
     TurnsSpent,
+    /// The running master refused.
+    MasterRefused,
+    /// The running master broke the protocol.
+    MasterBroke,
     /// There was no memory.
     NoMemory,
 }
@@ -94,6 +98,8 @@ impl Ending {
             Ending::TransportFailed => Status::Transport,
             Ending::ServerBroke { .. } => Status::Broke,
             Ending::TurnsSpent => Status::Spent,
+            Ending::MasterRefused => Status::Refused,
+            Ending::MasterBroke => Status::BadMaster,
             Ending::NoMemory => Status::Memory,
         }
     }
@@ -139,6 +145,8 @@ impl Ending {
                 put_break_text(alloc, out, why)
             }
             Ending::TurnsSpent => out.add(b"turns are spent"),
+            Ending::MasterRefused => out.add(b"the master refused"),
+            Ending::MasterBroke => out.add(b"the master broke the protocol"),
             Ending::NoMemory => out.add(b"out of memory"),
         }
     }

@@ -1,13 +1,14 @@
 ghost use Rattle.std.specs.Prelude.{◌≡◌, List, IfOk, IsOk};
 ghost use Rattle.std.specs.Bool.{OnTrue, OnFalse};
 ghost use Rattle.conf_rules.specs.declared.command.Command.TheVariants as commands;
+ghost use Rattle.conf_rules.specs.declared.control.Control.{Control};
 ghost use Rattle.conf_rules.specs.Texts.{Bytes};
 ghost use Rattle.forward_rules.specs.Allows.{read_policy};
 ghost use Rattle.ssh_mux.specs.Answers.{Comes, Finds, so_far, may_share};
 ghost use Rattle.ssh_mux.specs.Causes.{Caused};
 ghost use Rattle.ssh_mux.specs.Commands.{RunsFor, RunsUnless, commands_of};
 ghost use Rattle.ssh_mux.specs.Master.{EndsMaster, OnlyStarves};
-ghost use Rattle.ssh_mux.specs.Outcomes.{Master, machine, of_command, opens_at};
+ghost use Rattle.ssh_mux.specs.Outcomes.{Client, Master, joins_at, machine, of_command, opens_at};
 ghost use Rattle.ssh_mux.specs.Places.{Placed, told_over};
 ghost use Rattle.ssh_mux.specs.Sharing.{CallsEnd, IdleCause, OpensAt, OpensOnce, Shares};
 ghost use Rattle.ssh_mux.specs.Sharing.{WaitsFor, WireCause, pid_of, policy_of as the_policy_of, told_as};
@@ -47,6 +48,7 @@ pub fn share<W: Wire, F: Files, R: Runner, H: House>(
         (of_command (machine (F.told files.old) (R.told runner.old) facts.now)
         (commands.Master asked.now transport.now opens.now listens.now)) (so_far result)
         (W.openings wire.old) (W.openings wire.new) }
+    ensures joinings { W.joinings wire.new ≡ W.joinings wire.old }
     ensures served { OnTrue (may_share
         (of_command (machine (F.told files.old) (R.told runner.old) facts.now)
         (commands.Master asked.now transport.now opens.now listens.now)) (so_far result))
@@ -91,8 +93,8 @@ pub fn share<W: Wire, F: Files, R: Runner, H: House>(
     open_and_serve(alloc, &control, transport, policy, pid, wire, house, turns)
 }
 
-// The control path of what the words ask for.
-fn control_of<F: Files, R: Runner>(
+/// The control path of what the words ask for: of a master, and of a client of one.
+pub fn control_of<F: Files, R: Runner>(
     alloc: Global,
     asked: &Asked,
     facts: &Facts,
@@ -107,6 +109,12 @@ fn control_of<F: Files, R: Runner>(
         RunsUnless (commands_of (machine (F.told files.old) (R.told runner.old) facts.now)
         (commands.Master asked.now transport opens listens)) result
         (R.ran runner.old) (R.ran runner.new) }
+    ensures client { (what : Control) → Finds (joins_at asked.now what) (Client asked.now what)
+        (of_command (machine (F.told files.old) (R.told runner.old) facts.now)
+        (commands.Control asked.now what)) result }
+    ensures client_ran { (what : Control) → RunsUnless
+        (commands_of (machine (F.told files.old) (R.told runner.old) facts.now)
+        (commands.Control asked.now what)) result (R.ran runner.old) (R.ran runner.new) }
     ensures place { Placed
         (told_over (machine (F.told files.old) (R.told runner.old) facts.now) asked.now)
         result (R.ran runner.old) (R.ran runner.new)
@@ -149,6 +157,7 @@ pub fn open_and_serve<W: Wire, H: House>(
     ensures ends { EndsMaster result }
     ensures opened { OpensAt control.now transport.now (so_far result)
         (W.openings wire.old) (W.openings wire.new) }
+    ensures joinings { W.joinings wire.new ≡ W.joinings wire.old }
     ensures served { Shares H.may policy pid turns (H.told house.old) (H.told house.new)
         (W.seen wire.old).told (W.seen wire.new).told result }
     ensures cause { WireCause (so_far result) (W.server_faults wire.old) (W.server_faults wire.new)

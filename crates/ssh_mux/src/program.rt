@@ -1,7 +1,8 @@
 ghost use Rattle.std.specs.Prelude.{◌≡◌};
 ghost use Rattle.std.specs.Bool.{OnTrue};
-ghost use Rattle.ssh_mux.specs.Answers.{Comes, Leaves, is_silent, so_far, touches};
+ghost use Rattle.ssh_mux.specs.Answers.{Comes, Leaves, is_silent, may_ask, so_far, touches};
 ghost use Rattle.ssh_mux.specs.Causes.{Caused, FaultCause, OutCause};
+ghost use Rattle.ssh_mux.specs.Client.{AnswersFor, ConversesFor, JoinsOnce, TalksFor};
 ghost use Rattle.ssh_mux.specs.Commands.{RunsFor, commands_for};
 ghost use Rattle.ssh_mux.specs.Drill.{DrillGoes, IsDrill};
 ghost use Rattle.ssh_mux.specs.Err.{Ended};
@@ -11,6 +12,7 @@ ghost use Rattle.ssh_mux.specs.Places.{Placed, told_for};
 ghost use Rattle.ssh_mux.specs.Sharing.{CallsEnd, IdleCause, OpensOnce, ServesFor, SharesFor};
 ghost use Rattle.ssh_mux.specs.Sharing.{WaitsFor, WireCause, pid_of};
 
+use crate::client::ask_master;
 use crate::drill::drill;
 use crate::ending::Ending;
 use crate::listing::list;
@@ -27,11 +29,13 @@ use std::alloc::Global;
 ///
 /// `words` are the program's words without its name. What they ask for is resolved over `files`,
 /// whose commands `runner` runs. The listing of `-G` goes to `out` in one `put`, once it is
-/// complete. `-M` opens the wire and serves it for at most `turns` turns. `--drill` does so too,
-/// for clients that are permitted anything but forwardings of the master's own, and where its run
-/// ends well the summary of what the wire has counted goes to `out` in one `put`. A status other
-/// than that of success or of a failed `out` has its one line, which goes to `err` in one `put`;
-/// where there is no memory for it the status is that of want of memory.
+/// complete. `-M` opens the wire and serves it for at most `turns` turns. `-O` joins the wire to the
+/// socket of a running master, asks it for at most `turns` turns, and hands each line of what it
+/// answers to `out` in one `put`. `--drill` serves as `-M` does, for clients that are permitted
+/// anything but forwardings of the master's own, and where its run ends well the summary of what
+/// the wire has counted goes to `out` in one `put`. A status other than that of success or of a
+/// failed `out` has its one line, which goes to `err` in one `put`; where there is no memory for it
+/// the status is that of want of memory.
 pub fn run<W: Wire, F: Files, R: Runner, S: Sink, H: House>(
     alloc: Global,
     words: &Texts,
@@ -62,6 +66,9 @@ pub fn run<W: Wire, F: Files, R: Runner, S: Sink, H: House>(
     ensures opened { OpensOnce
         (known_of (F.told files.old) (R.told runner.old) facts.now words.now)
         result (W.openings wire.old) (W.openings wire.new) }
+    ensures joined { JoinsOnce
+        (known_of (F.told files.old) (R.told runner.old) facts.now words.now)
+        result (W.joinings wire.old) (W.joinings wire.new) }
     ensures shared { ServesFor H.may
         (known_of (F.told files.old) (R.told runner.old) facts.now words.now)
         (pid_of facts.now.pid) turns (H.told house.old) (H.told house.new)
@@ -71,6 +78,17 @@ pub fn run<W: Wire, F: Files, R: Runner, S: Sink, H: House>(
         (known_of (F.told files.old) (R.told runner.old) facts.now words.now)
         result) (WireCause result (W.server_faults wire.old) (W.server_faults wire.new)
         (W.client_faults wire.old) (W.client_faults wire.new)) }
+    ensures asked { AnswersFor
+        (known_of (F.told files.old) (R.told runner.old) facts.now words.now)
+        (W.seen wire.old).told (W.seen wire.new).told (S.told out.old) (S.told out.new) result
+        (S.told err.old) (S.told err.new) (S.faults err.old) (S.faults err.new) }
+    ensures asked_cause { OnTrue (may_ask
+        (known_of (F.told files.old) (R.told runner.old) facts.now words.now)
+        result) (WireCause result (W.server_faults wire.old) (W.server_faults wire.new)
+        (W.client_faults wire.old) (W.client_faults wire.new)) }
+    ensures asked_waits { OnTrue (may_ask
+        (known_of (F.told files.old) (R.told runner.old) facts.now words.now)
+        result) (TalksFor turns result (W.calls wire.old) (W.calls wire.new)) }
     ensures calls { CallsEnd turns result (W.calls wire.old) (W.calls wire.new) }
     ensures waited { OnTrue (touches
         (known_of (F.told files.old) (R.told runner.old) facts.now words.now)
@@ -127,6 +145,9 @@ fn obey<W: Wire, F: Files, R: Runner, S: Sink, H: House>(
     ensures opened { OpensOnce
         (known_of (F.told files.old) (R.told runner.old) facts.now words.now)
         (so_far result) (W.openings wire.old) (W.openings wire.new) }
+    ensures joined { JoinsOnce
+        (known_of (F.told files.old) (R.told runner.old) facts.now words.now)
+        (so_far result) (W.joinings wire.old) (W.joinings wire.new) }
     ensures shared { SharesFor H.may
         (known_of (F.told files.old) (R.told runner.old) facts.now words.now)
         (pid_of facts.now.pid) turns (H.told house.old) (H.told house.new)
@@ -136,6 +157,17 @@ fn obey<W: Wire, F: Files, R: Runner, S: Sink, H: House>(
         (so_far result)) (WireCause (so_far result)
         (W.server_faults wire.old) (W.server_faults wire.new)
         (W.client_faults wire.old) (W.client_faults wire.new)) }
+    ensures asked { ConversesFor
+        (known_of (F.told files.old) (R.told runner.old) facts.now words.now)
+        (W.seen wire.old).told (W.seen wire.new).told (S.told out.old) (S.told out.new) result }
+    ensures asked_cause { OnTrue (may_ask
+        (known_of (F.told files.old) (R.told runner.old) facts.now words.now)
+        (so_far result)) (WireCause (so_far result)
+        (W.server_faults wire.old) (W.server_faults wire.new)
+        (W.client_faults wire.old) (W.client_faults wire.new)) }
+    ensures asked_waits { OnTrue (may_ask
+        (known_of (F.told files.old) (R.told runner.old) facts.now words.now)
+        (so_far result)) (TalksFor turns (so_far result) (W.calls wire.old) (W.calls wire.new)) }
     ensures calls { CallsEnd turns (so_far result) (W.calls wire.old) (W.calls wire.new) }
     ensures waited { OnTrue (touches
         (known_of (F.told files.old) (R.told runner.old) facts.now words.now)
@@ -163,6 +195,9 @@ fn obey<W: Wire, F: Files, R: Runner, S: Sink, H: House>(
             listens,
         } => share(
             alloc, &asked, &transport, &opens, &listens, facts, wire, files, runner, house, turns,
+        ),
+        Command::Control { asked, control } => ask_master(
+            alloc, &asked, control, facts, wire, files, runner, out, turns,
         ),
         Command::Drill { .. } => drill(alloc, words, wire, out, turns),
     }

@@ -4,8 +4,8 @@ ghost use Rattle.ssh_mux.specs.Status.{code_of};
 /// How a run ended. The program's exit status is its `code`.
 #[derive(Clone, Copy, Debug, PartialEq, Eq)]
 pub enum Status {
-    /// The listing, or the summary of a drill, was written, or the server or a client ended the
-    /// connection.
+    /// The listing, or the summary of a drill, was written, the server or a client ended the
+    /// connection, or a running master granted all that it was asked.
     Done,
     /// The words have no reading.
     Usage,
@@ -13,11 +13,11 @@ pub enum Status {
     Config,
     /// A file could not be read, or a command could not be run.
     Outside,
-    /// The listing or the summary of a drill could not be written.
+    /// The listing, the summary of a drill or what a running master answered could not be written.
     Write,
     /// The sockets could not be opened.
     Open,
-    /// The connection to the server failed.
+    /// The connection to the server, or to the running master, failed.
     Transport,
     /// The server broke the protocol.
     Broke,
@@ -25,6 +25,10 @@ pub enum Status {
     Spent,
     /// There was no memory.
     Memory,
+    /// The running master refused.
+    Refused,
+    /// The running master broke the protocol.
+    BadMaster,
 }
 
 impl Status {
@@ -42,6 +46,8 @@ impl Status {
             Status::Broke => 7,
             Status::Spent => 8,
             Status::Memory => 9,
+            Status::Refused => 11,
+            Status::BadMaster => 12,
         }
     }
 }

@@ -1,5 +1,6 @@
-//! ssh-mux: the settings of `ssh_config(5)` for a host, and the master of connection sharing
-//! (PROTOCOL.mux version 4). The program is `run` of ssh_mux; `main` hands it its outside.
+//! ssh-mux: the settings of `ssh_config(5)` for a host, the master of connection sharing
+//! (PROTOCOL.mux version 4), and the client that asks a running master. The program is `run` of
+//! ssh_mux; `main` hands it its outside.
 #![tactic(auto)]
 
 mod machine;

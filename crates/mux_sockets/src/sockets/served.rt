@@ -1,10 +1,13 @@
 //! What is done with a socket that is ready, and the write to one.
-ghost use Rattle.std.specs.Prelude.{◌≡◌, ◌<◌, length, ℕ, Option, IfSome, IfNone};
+ghost use Rattle.std.specs.Prelude.{◌≡◌, ◌<◌, ◌⊎◌, length, ℕ, Option, Some, IfSome, IfNone, OnSome};
 ghost use Rattle.mux_outside.specs.Wire.{WroteFits};
-ghost use Rattle.mux_sockets.specs.Sockets.{FoundFits};
-ghost use Rattle.mux_sockets.specs.Entries.{IsBlocked, OthersStay};
+ghost use Rattle.mux_sockets.specs.Sockets.{FoundFits, IsOf, Serves};
+ghost use Rattle.mux_sockets.specs.Entries.{HasClient, HasEntry, IsBlocked, IsNoted, OthersStay, StopsShort};
+ghost use Rattle.mux_sockets.specs.Ready.{IsFull};
 
-use super::{Ready, Sockets, note};
+use super::Sockets;
+use super::ready::Ready;
+use crate::exchange::{Sent, hear, send};
 use crate::stream::Stream;
 use mux_outside::{LONGEST_PIECE, Piece, Turn, Wrote};
 use std::fs::Files;
@@ -20,23 +23,25 @@ impl<R: Files + Net + Clone + Drop> Sockets<R> {
         client: Option<u64>,
         into: &mut Piece,
     ) -> Option<Turn>
+        ensures serves { IfSome result (Serves ready client) }
         ensures fits { IfSome result (λ turn. FoundFits turn client into.old into.new) }
         ensures kept { IfNone result (into.new ≡ into.old) }
+        ensures client { IfSome result (λ turn. HasClient turn self.new.entries) }
+        ensures listening { self.new.listening ≡ self.old.listening }
     {
         match ready {
             Ready::Accept => self.accept(client?),
-            Ready::Read(key) => self.read(key, into),
-            Ready::Write(key) => {
-                let entry = self.entries.get_mut(key)?;
-                entry.blocked = false;
-                Some(Turn::Writable(entry.number))
-            }
+            Ready::Read(number) => self.read(number, into),
+            Ready::Write(number) => self.free(number),
         }
     }
 
     // Accepts a client under this number.
     fn accept(&mut self, number: u64) -> Option<Turn>
-        ensures { IfSome result (λ turn. turn ≡ Turn.Accepted number) }
+        ensures turn { IfSome result (λ turn. turn ≡ Turn.Accepted number) }
+        ensures there { OnSome result (HasEntry number self.new.entries) }
+        ensures others { OthersStay number self.old.entries self.new.entries }
+        ensures listening { self.new.listening ≡ self.old.listening }
     {
         let listening = self.listening.as_ref()?;
         match listening.listener.accept() {
@@ -46,7 +51,7 @@ impl<R: Files + Net + Clone + Drop> Sockets<R> {
                     return None;
                 }
                 // More clients may wait.
-                let _ = note(&mut self.ready, Ready::Accept);
+                let _ = self.ready.note_accept();
                 Some(Turn::Accepted(number))
             }
             Err(e) => {
@@ -57,7 +62,10 @@ impl<R: Files + Net + Clone + Drop> Sockets<R> {
     }
 
     // A client that could not be accepted is no fault of the run.
-    fn not_accepted(&mut self, e: &io::Error) {
+    fn not_accepted(&mut self, e: &io::Error)
+        ensures entries { self.new.entries ≡ self.old.entries }
+        ensures listening { self.new.listening ≡ self.old.listening }
+    {
         match e.kind() {
             ErrorKind::WouldBlock => {}
             ErrorKind::Interrupted | ErrorKind::ConnectionAborted => self.resume(),
@@ -65,39 +73,42 @@ impl<R: Files + Net + Clone + Drop> Sockets<R> {
         }
     }
 
-    fn read(&mut self, key: usize, into: &mut Piece) -> Option<Turn>
+    // Reads a stream once.
+    fn read(&mut self, number: u64, into: &mut Piece) -> Option<Turn>
+        ensures turn { IfSome result (IsOf number) }
+
+        // More may wait, so it stays noted: its note finds room, since that was made for it.
+        ensures full_piece { result ≡ Some (Turn.Got number) → length into.new ≡ LONGEST_PIECE
+            → IsNoted number self.new.entries ⊎ IsFull self.old.ready }
+        ensures short { result ≡ Some (Turn.Got number) → StopsShort number self.old.entries
+            → IsNoted number self.new.entries ⊎ IsFull self.old.ready }
+
         ensures fits { IfSome result (λ turn.
             (client : Option ℕ) → FoundFits turn client into.old into.new) }
         ensures kept { IfNone result (into.new ≡ into.old) }
+        ensures others { OthersStay number self.old.entries self.new.entries }
+        ensures listening { self.new.listening ≡ self.old.listening }
     {
-        let entry = self.entries.get_mut(key)?;
-        let number = entry.number;
-        match entry.stream.read(&mut self.buf) {
-            Ok(0) => {
-                entry.ended = true;
-                Some(Turn::End(number))
-            }
-            Ok(count) => {
-                // More bytes may wait: the system tells only once that some came.
-                let _ = note(&mut self.ready, Ready::Read(key));
-                let Some(bytes) = self.buf.get(..count.min(LONGEST_PIECE)) else {
-                    return Some(Turn::Failed(number));
-                };
-                into.set(bytes);
-                Some(Turn::Got(number))
-            }
-            Err(e) => match e.kind() {
-                ErrorKind::WouldBlock => None,
-                ErrorKind::Interrupted => {
-                    let _ = note(&mut self.ready, Ready::Read(key));
-                    None
-                }
-                _ => {
-                    entry.ended = true;
-                    Some(Turn::Failed(number))
-                }
-            },
+        let entry = self.entries.get_mut(&number)?;
+        entry.reads = false;
+        let heard = hear(&mut entry.stream, &mut self.spare, into);
+        entry.ended = heard.is_last();
+        if heard.leaves_more(entry.stops_short) {
+            let _ = self.ready.note_read(number, entry);
         }
+        heard.turn(number)
+    }
+
+    // Notes that a stream can be written to.
+    fn free(&mut self, number: u64) -> Option<Turn>
+        ensures turn { IfSome result (λ turn. turn ≡ Turn.Writable number) }
+        ensures others { OthersStay number self.old.entries self.new.entries }
+        ensures listening { self.new.listening ≡ self.old.listening }
+    {
+        let entry = self.entries.get_mut(&number)?;
+        entry.writes = false;
+        entry.blocked = false;
+        Some(Turn::Writable(number))
     }
 
     /// Hands bytes to a stream, which takes one of them at least, or none for now.
@@ -106,28 +117,16 @@ impl<R: Files + Net + Clone + Drop> Sockets<R> {
         ensures fits { WroteFits result (length bytes.now) }
         ensures waits { result ≡ Wrote.Later → IsBlocked number self.new.entries }
         ensures others { OthersStay number self.old.entries self.new.entries }
+        ensures listening { self.new.listening ≡ self.old.listening }
     {
-        let Some(key) = self.key_of(number) else {
+        let Some(entry) = self.entries.get_mut(&number) else {
             return Wrote::Failed;
         };
-        let Some(entry) = self.entries.get_mut(key) else {
-            return Wrote::Failed;
-        };
-        match entry.stream.write(bytes) {
-            Ok(0) => Wrote::Failed,
-            Ok(count) => Wrote::Took(count),
-            Err(e) => match e.kind() {
-                ErrorKind::WouldBlock => {
-                    entry.blocked = true;
-                    Wrote::Later
-                }
-                ErrorKind::Interrupted => {
-                    entry.blocked = true;
-                    let _ = note(&mut self.ready, Ready::Write(key));
-                    Wrote::Later
-                }
-                _ => Wrote::Failed,
-            },
+        let sent = send(&mut entry.stream, bytes);
+        entry.blocked = sent.wrote() == Wrote::Later;
+        if sent == Sent::Interrupted {
+            let _ = self.ready.note_write(number, entry);
         }
+        sent.wrote()
     }
 }

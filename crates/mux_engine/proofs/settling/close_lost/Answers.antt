@@ -32,4 +32,5 @@ loop-client-preserved g c =
       faults = c.close.ensures.server ∙ c.loop-client.invariant.faults;
       calls = c.close.ensures.calls ∙ c.loop-client.invariant.calls;
       openings = c.close.ensures.openings ∙ c.loop-client.invariant.openings;
+      joinings = c.close.ensures.joinings ∙ c.loop-client.invariant.joinings;
     }

@@ -16,6 +16,7 @@ invariant-loop-client g l = let W = g.W.Wire in let H = g.H.House in record {
   faults : W.server_faults l.wire ≡ W.server_faults l.fn.wire;
   calls : W.calls l.wire ≡ W.calls l.fn.wire;
   openings : W.openings l.wire ≡ W.openings l.fn.wire;
+  joinings : W.joinings l.wire ≡ W.joinings l.fn.wire;
 }
 
 abbrev pub decreases-loop-client : goal.decreases-loop-client

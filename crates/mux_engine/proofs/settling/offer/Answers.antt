@@ -18,6 +18,7 @@ loop-init g c = let w = c.requires.served in record {
   later = le_refl _;
   calls = well-none _;
   openings = refl;
+  joinings = refl;
   idle = λ none. (refl, refl);
 }
 
@@ -63,6 +64,7 @@ loop-preserved g c = record {
   later = le_trans c.loop.invariant.later c.offer_once.ensures.later;
   calls = well-then _ _ _ c.loop.invariant.calls c.in_ok-offer_once.ensures.calls;
   openings = c.offer_once.ensures.openings ∙ c.loop.invariant.openings;
+  joinings = c.offer_once.ensures.joinings ∙ c.loop.invariant.joinings;
   idle = idle-then c.args.stream c.args.engine.now c.loop.engine c.offer_once.new.engine c.args.wire.now c.loop.wire c.offer_once.new.wire c.loop.invariant.idle c.offer_once.ensures.idle;
 }
 

@@ -22,6 +22,7 @@ invariant-loop g l = let W = g.W.Wire in let H = g.H.House in record {
   later : W.server_faults l.fn.wire ≤ W.server_faults l.wire;
   calls : Well 0 (W.calls l.fn.wire) (W.calls l.wire);
   openings : W.openings l.wire ≡ W.openings l.fn.wire;
+  joinings : W.joinings l.wire ≡ W.joinings l.fn.wire;
   idle : queue_in l.fn.engine l.stream ≡ [] → (l.engine ≡ l.fn.engine) × (l.wire ≡ l.fn.wire);
 }
 

@@ -1,17 +1,21 @@
 use Rattle.std.proofs.Common.{◌≡◌, refl}
 use Rattle.std.proofs.lemmas.Result.{err_from_is_err_and}
 use Rattle.conf_rules.specs.declared.command.Command.TheVariants as commands
-use Rattle.ssh_mux.specs.Answers.{may_open, so_far}
+use Rattle.ssh_mux.specs.Answers.{may_ask, may_open, may_write, so_far, touches}
 use Rattle.conf_rules.specs.Outcome.{Drills}
-use Rattle.ssh_mux.specs.Outcomes.{Certain, drills, machine, of_command, opens}
+use Rattle.ssh_mux.specs.Outcomes.{Certain, drills, known_of, machine, of_command, opens}
 use Rattle.ssh_mux.specs.Sharing.{Shares, WaitsFor, WireCause, pid_of}
 use Rattle.ssh_mux.proofs.DrillLemmas.{drill-cause, drill-comes, drill-takes, drill-touches, still-drill}
+use Rattle.ssh_mux.proofs.EndLemmas.{same_told}
+use Rattle.ssh_mux.proofs.JoinLemmas.{client-looks, client-shut, client-taken, client-undrilled, list-unasked, master-unasked, unlisted-client}
+use Rattle.ssh_mux.proofs.NamedLemmas.{names-forwards}
 use Rattle.ssh_mux.proofs.PolicyLemmas.{are-permitted, with-policy}
 use Rattle.ssh_mux.proofs.RefusalLemmas.{list-looks, list-shut, list-undrilled, master-looks, master-quiet, master-undrilled}
 use Rattle.ssh_mux.proofs.SharingLemmas.{none-opened, none-taken, none-counted}
 use Rattle.ssh_mux.proofs.MisreadLemmas.{of-drill, of-read, for-read, misread, misread-runs, misread-cause, drilled-runs}
-use Rattle.ssh_mux.proofs.StillLemmas.{on_false, not_false, not_true, shut, loud, quiet-out, quiet-count, still-due, still-opened, still-shared, still-caused, still-calls, still-idle, still-waited, shut-all, for-master, on_true, untouched}
-use Rattle.ssh_mux.proofs.PlaceLemmas.{misread-place, list-told, master-told}
+use Rattle.ssh_mux.proofs.StillLemmas.{on_false, not_false, not_true, shut, loud, quiet-out, quiet-count, still-due, still-opened, still-shared, still-caused, still-calls, still-idle, still-waited, shut-all, for-master, on_true, or-else, else-or, untouched}
+use Rattle.ssh_mux.proofs.PlaceLemmas.{client-told, misread-place, list-told, master-told}
+use Rattle.ssh_mux.proofs.TalkLemmas.{none-joined, refused-unjoined, still-asked-cause, still-asked-waits, still-joined, still-talked, unasked}
 use Rattle.ssh_mux.proofs.program.obey.Goals as goal
 
 pub returns-in_err-command-clause-exact : goal.returns-in_err-command-clause-exact
@@ -158,7 +162,7 @@ returns-in_err-command-clause-leaves g c = record {
 
 pub returns-in-List-clause-leaves : goal.returns-in-List-clause-leaves
 returns-in-List-clause-leaves g c = record {
-  unwritten = c.list.ensures.unwritten;
+  unwritten = or-else (may_write (so_far c.list.result)) (may_ask (known_of (g.F.Files.told c.args.files.now) (g.R.Runner.told c.args.runner.now) c.args.facts.now c.args.words.now) (so_far c.list.result)) (c.list.new.out ≡ c.args.out.now) c.list.ensures.unwritten;
   unlisted = rw (of-read _ _ _ (rw c.in-List.is at c.in_ok-command.ensures.exact)) c.list.ensures.unlisted;
   files = rw (of-read _ _ _ (rw c.in-List.is at c.in_ok-command.ensures.exact)) (not_false _ _ (list-looks _ _));
   runner = rw (of-read _ _ _ (rw c.in-List.is at c.in_ok-command.ensures.exact)) (not_false _ _ (list-looks _ _));
@@ -172,16 +176,116 @@ returns-in-Master-clause-leaves g c = record {
   unlisted = on_false _ _;
   files = rw (of-read _ _ _ (rw c.in-Master.is at c.in_ok-command.ensures.exact)) (not_false _ _ (master-looks _ _ _ _ _));
   runner = rw (of-read _ _ _ (rw c.in-Master.is at c.in_ok-command.ensures.exact)) (not_false _ _ (master-looks _ _ _ _ _));
-  wire = rw (of-read _ _ _ (rw c.in-Master.is at c.in_ok-command.ensures.exact)) (untouched (may_open (so_far c.share.result)) (opens (of_command (machine (g.F.Files.told c.args.files.now) (g.R.Runner.told c.args.runner.now) c.args.facts.now) (commands.Master c.in-Master.asked c.in-Master.transport c.in-Master.opens c.in-Master.listens))) (drills (of_command (machine (g.F.Files.told c.args.files.now) (g.R.Runner.told c.args.runner.now) c.args.facts.now) (commands.Master c.in-Master.asked c.in-Master.transport c.in-Master.opens c.in-Master.listens))) (c.share.new.wire ≡ c.args.wire.now) c.share.ensures.wire);
+  wire = rw (of-read _ _ _ (rw c.in-Master.is at c.in_ok-command.ensures.exact)) (or-else (touches (of_command (machine (g.F.Files.told c.args.files.now) (g.R.Runner.told c.args.runner.now) c.args.facts.now) (commands.Master c.in-Master.asked c.in-Master.transport c.in-Master.opens c.in-Master.listens)) (so_far c.share.result)) (may_ask (of_command (machine (g.F.Files.told c.args.files.now) (g.R.Runner.told c.args.runner.now) c.args.facts.now) (commands.Master c.in-Master.asked c.in-Master.transport c.in-Master.opens c.in-Master.listens)) (so_far c.share.result)) (c.share.new.wire ≡ c.args.wire.now) (untouched (may_open (so_far c.share.result)) (opens (of_command (machine (g.F.Files.told c.args.files.now) (g.R.Runner.told c.args.runner.now) c.args.facts.now) (commands.Master c.in-Master.asked c.in-Master.transport c.in-Master.opens c.in-Master.listens))) (drills (of_command (machine (g.F.Files.told c.args.files.now) (g.R.Runner.told c.args.runner.now) c.args.facts.now) (commands.Master c.in-Master.asked c.in-Master.transport c.in-Master.opens c.in-Master.listens))) (c.share.new.wire ≡ c.args.wire.now) c.share.ensures.wire));
   house = rw (of-read _ _ _ (rw c.in-Master.is at c.in_ok-command.ensures.exact)) c.share.ensures.house;
 }
 
 pub returns-in-Drill-clause-leaves : goal.returns-in-Drill-clause-leaves
 returns-in-Drill-clause-leaves g c = record {
-  unwritten = c.drill.ensures.unwritten;
+  unwritten = or-else (may_write (so_far c.drill.result)) (may_ask (known_of (g.F.Files.told c.args.files.now) (g.R.Runner.told c.args.runner.now) c.args.facts.now c.args.words.now) (so_far c.drill.result)) (c.drill.new.out ≡ c.args.out.now) c.drill.ensures.unwritten;
   unlisted = rw (of-drill _ _ _ _ _ (rw c.in-Drill.is at c.in_ok-command.ensures.exact)) tt;
   files = on_false _ _;
   runner = on_false _ _;
-  wire = rw (of-drill _ _ _ _ _ (rw c.in-Drill.is at c.in_ok-command.ensures.exact)) (not_false _ _ (drill-touches c.in-Drill.seed c.in-Drill.clients c.in-Drill.messages c.drill.result c.drill.ensures.goes.ends));
+  wire = rw (of-drill _ _ _ _ _ (rw c.in-Drill.is at c.in_ok-command.ensures.exact)) (or-else (touches (Certain (Drills c.in-Drill.seed c.in-Drill.clients c.in-Drill.messages)) (so_far c.drill.result)) (may_ask (Certain (Drills c.in-Drill.seed c.in-Drill.clients c.in-Drill.messages)) (so_far c.drill.result)) (c.drill.new.wire ≡ c.args.wire.now) (not_false (touches (Certain (Drills c.in-Drill.seed c.in-Drill.clients c.in-Drill.messages)) (so_far c.drill.result)) (c.drill.new.wire ≡ c.args.wire.now) (drill-touches c.in-Drill.seed c.in-Drill.clients c.in-Drill.messages c.drill.result c.drill.ensures.goes.ends)));
+  house = on_false _ _;
+}
+
+pub returns-in_err-command-clause-joined : goal.returns-in_err-command-clause-joined
+returns-in_err-command-clause-joined g c = let p = err_from_is_err_and c.from_residual.result c.from_residual.ensures.1 in rw (p.1, p.2) (still-joined _ _ _ (misread _ _ _ c.in_err-command.ensures.exact))
+
+pub returns-in_err-command-clause-asked : goal.returns-in_err-command-clause-asked
+returns-in_err-command-clause-asked g c = let p = err_from_is_err_and c.from_residual.result c.from_residual.ensures.1 in rw (p.1, p.2) (still-talked _ _ _ _ (refused-unjoined _ _ (misread _ _ _ c.in_err-command.ensures.exact)))
+
+pub returns-in_err-command-clause-asked_cause : goal.returns-in_err-command-clause-asked_cause
+returns-in_err-command-clause-asked_cause g c = let p = err_from_is_err_and c.from_residual.result c.from_residual.ensures.1 in rw (p.1, p.2) (still-asked-cause _ _ _ _ _ _ (refused-unjoined _ _ (misread _ _ _ c.in_err-command.ensures.exact)))
+
+pub returns-in_err-command-clause-asked_waits : goal.returns-in_err-command-clause-asked_waits
+returns-in_err-command-clause-asked_waits g c = let p = err_from_is_err_and c.from_residual.result c.from_residual.ensures.1 in rw (p.1, p.2) (still-asked-waits _ _ _ _ _ (refused-unjoined _ _ (misread _ _ _ c.in_err-command.ensures.exact)))
+
+pub returns-in-List-clause-joined : goal.returns-in-List-clause-joined
+returns-in-List-clause-joined g c = rw (of-read _ _ _ (rw c.in-List.is at c.in_ok-command.ensures.exact)) (none-joined _ _ _ _ (list-unasked _ _) refl)
+
+pub returns-in-List-clause-asked : goal.returns-in-List-clause-asked
+returns-in-List-clause-asked g c = rw (of-read _ _ _ (rw c.in-List.is at c.in_ok-command.ensures.exact)) (not_true _ _ (unasked _ _ (list-unasked _ _)))
+
+pub returns-in-List-clause-asked_cause : goal.returns-in-List-clause-asked_cause
+returns-in-List-clause-asked_cause g c = rw (of-read _ _ _ (rw c.in-List.is at c.in_ok-command.ensures.exact)) (not_true _ _ (unasked _ _ (list-unasked _ _)))
+
+pub returns-in-List-clause-asked_waits : goal.returns-in-List-clause-asked_waits
+returns-in-List-clause-asked_waits g c = rw (of-read _ _ _ (rw c.in-List.is at c.in_ok-command.ensures.exact)) (not_true _ _ (unasked _ _ (list-unasked _ _)))
+
+pub returns-in-Master-clause-joined : goal.returns-in-Master-clause-joined
+returns-in-Master-clause-joined g c = rw (of-read _ _ _ (rw c.in-Master.is at c.in_ok-command.ensures.exact)) (none-joined _ _ _ _ (master-unasked _ _ _ _ _) c.share.ensures.joinings)
+
+pub returns-in-Master-clause-asked : goal.returns-in-Master-clause-asked
+returns-in-Master-clause-asked g c = rw (of-read _ _ _ (rw c.in-Master.is at c.in_ok-command.ensures.exact)) (not_true _ _ (unasked _ _ (master-unasked _ _ _ _ _)))
+
+pub returns-in-Master-clause-asked_cause : goal.returns-in-Master-clause-asked_cause
+returns-in-Master-clause-asked_cause g c = rw (of-read _ _ _ (rw c.in-Master.is at c.in_ok-command.ensures.exact)) (not_true _ _ (unasked _ _ (master-unasked _ _ _ _ _)))
+
+pub returns-in-Master-clause-asked_waits : goal.returns-in-Master-clause-asked_waits
+returns-in-Master-clause-asked_waits g c = rw (of-read _ _ _ (rw c.in-Master.is at c.in_ok-command.ensures.exact)) (not_true _ _ (unasked _ _ (master-unasked _ _ _ _ _)))
+
+pub returns-in-Drill-clause-joined : goal.returns-in-Drill-clause-joined
+returns-in-Drill-clause-joined g c = rw (of-drill _ _ _ _ _ (rw c.in-Drill.is at c.in_ok-command.ensures.exact)) (none-joined (Certain (Drills c.in-Drill.seed c.in-Drill.clients c.in-Drill.messages)) (so_far c.drill.result) (g.W.Wire.joinings c.args.wire.now) (g.W.Wire.joinings c.drill.new.wire) refl c.drill.ensures.joinings)
+
+pub returns-in-Drill-clause-asked : goal.returns-in-Drill-clause-asked
+returns-in-Drill-clause-asked g c = rw (of-drill _ _ _ _ _ (rw c.in-Drill.is at c.in_ok-command.ensures.exact)) (not_true _ _ (unasked (Certain (Drills c.in-Drill.seed c.in-Drill.clients c.in-Drill.messages)) (so_far c.drill.result) refl))
+
+pub returns-in-Drill-clause-asked_cause : goal.returns-in-Drill-clause-asked_cause
+returns-in-Drill-clause-asked_cause g c = rw (of-drill _ _ _ _ _ (rw c.in-Drill.is at c.in_ok-command.ensures.exact)) (not_true _ _ (unasked (Certain (Drills c.in-Drill.seed c.in-Drill.clients c.in-Drill.messages)) (so_far c.drill.result) refl))
+
+pub returns-in-Drill-clause-asked_waits : goal.returns-in-Drill-clause-asked_waits
+returns-in-Drill-clause-asked_waits g c = rw (of-drill _ _ _ _ _ (rw c.in-Drill.is at c.in_ok-command.ensures.exact)) (not_true _ _ (unasked (Certain (Drills c.in-Drill.seed c.in-Drill.clients c.in-Drill.messages)) (so_far c.drill.result) refl))
+
+pub ask_master-requires : goal.ask_master-requires
+ask_master-requires g c = record { named = names-forwards _ _ _ (rw c.in-Control.is at c.in_ok-command.ensures.exact) }
+
+pub returns-in-Control-clause-exact : goal.returns-in-Control-clause-exact
+returns-in-Control-clause-exact g c = rw (of-read _ _ _ (rw c.in-Control.is at c.in_ok-command.ensures.exact)) c.ask_master.ensures.exact
+
+pub returns-in-Control-clause-out : goal.returns-in-Control-clause-out
+returns-in-Control-clause-out g c = rw (of-read _ _ _ (rw c.in-Control.is at c.in_ok-command.ensures.exact)) (client-taken (machine (g.F.Files.told c.args.files.now) (g.R.Runner.told c.args.runner.now) c.args.facts.now) c.in-Control.asked c.in-Control.control (so_far c.ask_master.result) (g.S.Sink.told c.args.out.now) (g.S.Sink.told c.ask_master.new.out) (same_told _ g.S.Sink.told _ _ c.ask_master.ensures.unwritten))
+
+pub returns-in-Control-clause-ran : goal.returns-in-Control-clause-ran
+returns-in-Control-clause-ran g c = rw (for-read _ _ _ (rw c.in-Control.is at c.in_ok-command.ensures.exact)) c.ask_master.ensures.ran
+
+pub returns-in-Control-clause-opened : goal.returns-in-Control-clause-opened
+returns-in-Control-clause-opened g c = rw (of-read _ _ _ (rw c.in-Control.is at c.in_ok-command.ensures.exact)) (rw c.ask_master.ensures.openings (none-opened _ _ _ (client-shut _ _ _)))
+
+pub returns-in-Control-clause-joined : goal.returns-in-Control-clause-joined
+returns-in-Control-clause-joined g c = rw (of-read _ _ _ (rw c.in-Control.is at c.in_ok-command.ensures.exact)) c.ask_master.ensures.joined
+
+pub returns-in-Control-clause-asked : goal.returns-in-Control-clause-asked
+returns-in-Control-clause-asked g c = rw (of-read _ _ _ (rw c.in-Control.is at c.in_ok-command.ensures.exact)) c.ask_master.ensures.talked
+
+pub returns-in-Control-clause-asked_cause : goal.returns-in-Control-clause-asked_cause
+returns-in-Control-clause-asked_cause g c = rw (of-read _ _ _ (rw c.in-Control.is at c.in_ok-command.ensures.exact)) c.ask_master.ensures.wire_cause
+
+pub returns-in-Control-clause-asked_waits : goal.returns-in-Control-clause-asked_waits
+returns-in-Control-clause-asked_waits g c = rw (of-read _ _ _ (rw c.in-Control.is at c.in_ok-command.ensures.exact)) c.ask_master.ensures.waited
+
+pub returns-in-Control-clause-shared : goal.returns-in-Control-clause-shared
+returns-in-Control-clause-shared g c = rw (of-read _ _ _ (rw c.in-Control.is at c.in_ok-command.ensures.exact)) (not_true _ _ (shut _ _ (client-shut _ _ _)))
+
+pub returns-in-Control-clause-wire_cause : goal.returns-in-Control-clause-wire_cause
+returns-in-Control-clause-wire_cause g c = rw (of-read _ _ _ (rw c.in-Control.is at c.in_ok-command.ensures.exact)) (not_true _ _ (shut-all _ _ (client-shut _ _ _) (client-undrilled _ _ _)))
+
+pub returns-in-Control-clause-waited : goal.returns-in-Control-clause-waited
+returns-in-Control-clause-waited g c = rw (of-read _ _ _ (rw c.in-Control.is at c.in_ok-command.ensures.exact)) (not_true _ _ (shut-all _ _ (client-shut _ _ _) (client-undrilled _ _ _)))
+
+pub returns-in-Control-clause-drill : goal.returns-in-Control-clause-drill
+returns-in-Control-clause-drill g c = rw (of-read _ _ _ (rw c.in-Control.is at c.in_ok-command.ensures.exact)) (not_true _ _ (client-undrilled _ _ _))
+
+pub returns-in-Control-clause-place : goal.returns-in-Control-clause-place
+returns-in-Control-clause-place g c = rw (client-told _ _ _ _ (rw c.in-Control.is at c.in_ok-command.ensures.exact)) c.ask_master.ensures.place
+
+pub returns-in-Control-clause-leaves : goal.returns-in-Control-clause-leaves
+returns-in-Control-clause-leaves g c = record {
+  unwritten = rw (of-read _ _ _ (rw c.in-Control.is at c.in_ok-command.ensures.exact)) (else-or (may_write (so_far c.ask_master.result)) (may_ask (of_command (machine (g.F.Files.told c.args.files.now) (g.R.Runner.told c.args.runner.now) c.args.facts.now) (commands.Control c.in-Control.asked c.in-Control.control)) (so_far c.ask_master.result)) (c.ask_master.new.out ≡ c.args.out.now) c.ask_master.ensures.unwritten);
+  unlisted = rw (of-read _ _ _ (rw c.in-Control.is at c.in_ok-command.ensures.exact)) (unlisted-client (machine (g.F.Files.told c.args.files.now) (g.R.Runner.told c.args.runner.now) c.args.facts.now) c.in-Control.asked c.in-Control.control (so_far c.ask_master.result) (c.ask_master.new.out ≡ c.args.out.now) c.ask_master.ensures.unwritten);
+  files = rw (of-read _ _ _ (rw c.in-Control.is at c.in_ok-command.ensures.exact)) (not_false _ _ (client-looks _ _ _));
+  runner = rw (of-read _ _ _ (rw c.in-Control.is at c.in_ok-command.ensures.exact)) (not_false _ _ (client-looks _ _ _));
+  wire = rw (of-read _ _ _ (rw c.in-Control.is at c.in_ok-command.ensures.exact)) (else-or (touches (of_command (machine (g.F.Files.told c.args.files.now) (g.R.Runner.told c.args.runner.now) c.args.facts.now) (commands.Control c.in-Control.asked c.in-Control.control)) (so_far c.ask_master.result)) (may_ask (of_command (machine (g.F.Files.told c.args.files.now) (g.R.Runner.told c.args.runner.now) c.args.facts.now) (commands.Control c.in-Control.asked c.in-Control.control)) (so_far c.ask_master.result)) (c.ask_master.new.wire ≡ c.args.wire.now) c.ask_master.ensures.wire);
   house = on_false _ _;
 }

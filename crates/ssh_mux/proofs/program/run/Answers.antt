@@ -1,6 +1,8 @@
 use Rattle.std.proofs.Common.{refl}
+use Rattle.ssh_mux.specs.Outcomes.{known_of}
+use Rattle.ssh_mux.proofs.AnswerLemmas.{asked_after, asked_cause_after, asked_waits_after, asked_well, joined_after}
 use Rattle.ssh_mux.proofs.DrillLemmas.{drill_after, drill_well}
-use Rattle.ssh_mux.proofs.EndLemmas.{ended, ended-well, well-cause, out_after, untouched_after, fault_after, runs_after, sink_after, opened_after, shared_after, shared_well, calls_after, idle_after, waits_after, wire_after, stays_after, same_told, told_after}
+use Rattle.ssh_mux.proofs.EndLemmas.{ended, ended-well, well-cause, out_after, untouched_after, fault_after, runs_after, sink_after, opened_after, shared_after, shared_well, calls_after, idle_after, waits_after, wire_after, wire_stays_after, stays_after, same_told, told_after}
 use Rattle.ssh_mux.proofs.StillLemmas.{on_true}
 use Rattle.ssh_mux.proofs.program.run.Goals as goal
 
@@ -54,11 +56,11 @@ returns-in-Err-clause-idle g c = λ z. idle_after _ _ _ _ _ _ _ _ _ _ c.report.e
 
 pub returns-in-Err-clause-leaves : goal.returns-in-Err-clause-leaves
 returns-in-Err-clause-leaves g c = record {
-  unwritten = untouched_after _ _ _ _ _ _ _ c.report.ensures c.in-Err.ensures.leaves.unwritten;
+  unwritten = untouched_after _ _ _ _ _ _ _ _ c.report.ensures c.in-Err.ensures.leaves.unwritten;
   unlisted = c.in-Err.ensures.leaves.unlisted;
   files = c.in-Err.ensures.leaves.files;
   runner = c.in-Err.ensures.leaves.runner;
-  wire = stays_after _ _ _ _ _ _ _ _ c.report.ensures c.in-Err.ensures.leaves.wire;
+  wire = wire_stays_after _ _ _ _ _ _ _ _ c.report.ensures c.in-Err.ensures.leaves.wire;
   house = stays_after _ _ _ _ _ _ _ _ c.report.ensures c.in-Err.ensures.leaves.house;
 }
 
@@ -67,3 +69,18 @@ returns-in-Ok-clause-silent g c = on_true _ _ refl
 
 pub returns-in-Err-clause-silent : goal.returns-in-Err-clause-silent
 returns-in-Err-clause-silent g c = told_after _ _ _ _ _ _ _ c.report.ensures
+
+pub returns-in-Err-clause-joined : goal.returns-in-Err-clause-joined
+returns-in-Err-clause-joined g c = joined_after _ _ _ _ _ _ _ _ _ c.report.ensures c.in-Err.ensures.joined
+
+pub returns-in-Ok-clause-asked : goal.returns-in-Ok-clause-asked
+returns-in-Ok-clause-asked g c = asked_well (g.W.Wire.seen c.args.wire.now).told (g.W.Wire.seen c.obey.new.wire).told (g.S.Sink.told c.args.out.now) (g.S.Sink.told c.obey.new.out) (g.S.Sink.told c.args.err.now) (g.S.Sink.faults c.args.err.now) (known_of (g.F.Files.told c.args.files.now) (g.R.Runner.told c.args.runner.now) c.args.facts.now c.args.words.now) c.in-Ok.status c.in-Ok.ensures.asked
+
+pub returns-in-Err-clause-asked : goal.returns-in-Err-clause-asked
+returns-in-Err-clause-asked g c = asked_after _ _ _ _ _ _ _ _ _ _ _ c.report.ensures c.in-Err.ensures.asked (same_told _ (λ w. (g.W.Wire.seen w).told) _ _ c.in-Err.ensures.leaves.wire) (same_told _ g.S.Sink.told _ _ c.in-Err.ensures.leaves.unwritten)
+
+pub returns-in-Err-clause-asked_cause : goal.returns-in-Err-clause-asked_cause
+returns-in-Err-clause-asked_cause g c = asked_cause_after _ _ _ _ _ _ _ _ _ _ _ c.report.ensures c.in-Err.ensures.asked_cause
+
+pub returns-in-Err-clause-asked_waits : goal.returns-in-Err-clause-asked_waits
+returns-in-Err-clause-asked_waits g c = asked_waits_after _ _ _ _ _ _ _ _ _ _ c.report.ensures c.in-Err.ensures.asked_waits

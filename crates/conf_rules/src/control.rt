@@ -1,0 +1,14 @@
+/// What a running master is asked.
+#[derive(Clone, Copy, Debug, Drop, PartialEq, Eq)]
+pub enum Control {
+    /// Whether it is there.
+    Check,
+    /// That it ends.
+    Exit,
+    /// That it accepts no more clients.
+    Stop,
+    /// That it opens the forwardings that the words name.
+    Forward,
+    /// That it closes them.
+    Cancel,
+}

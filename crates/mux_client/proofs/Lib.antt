@@ -1,0 +1,11 @@
+pub mod AnswerKinds
+pub mod Counts
+pub mod ForwardFrames
+pub mod JournalGrows
+pub mod ReadFrames
+pub mod ShowLines
+pub mod Talks
+pub mod TalkSteps
+pub mod TalkTurns
+pub mod WholeTalks
+pub mod VerdictLemmas

@@ -1,0 +1,369 @@
+-- A talk goes on mark by mark, or is over.
+use Rattle.std.proofs.Common.{◌≡◌, ◌≢◌, ◌∙◌, refl, sym, ap, subst, ℕ, Bool, true, false, ◌||◌, List, [], ◌∷◌, ◌++◌, take, drop, Option, Some, None, ◌⊎◌, inl, inr, append_assoc}
+use Rattle.std.specs.Prelude.{Result, Ok, Err, IsErrAnd}
+use Rattle.std.specs.Option.{option_map}
+use Rattle.std.proofs.lemmas.List.{append-nil, append_cancel_left, take-append-drop}
+use Rattle.ssh_grammar.specs.declared.framing.Framing.TheVariants.{Control}
+use Rattle.ssh_grammar.specs.Frames.{More, first_frame, cut}
+use Rattle.ssh_grammar.proofs.Cuts.{cut-at}
+use Rattle.mux_outside.specs.Marks.{bytes_taken, taken_at}
+use Rattle.mux_outside.specs.declared.mark.Mark.{Mark}
+use Rattle.mux_outside.specs.declared.mark.Mark.TheVariants.{Waits, Accepts, Gets, Ends, Frees, Fails, Takes, Holds, WriteFails}
+use Rattle.mux_outside.specs.declared.turn.Want.TheVariants.{Read}
+use Rattle.mux_client.specs.declared.asks.Asks.{Asks}
+use Rattle.mux_client.specs.declared.stage.Stage.{Stage}
+use Rattle.mux_client.specs.declared.stage.Stage.TheVariants.{Greets, Asks as Asked, Granted, Refused, Broken}
+use Rattle.mux_client.specs.declared.talked.Talked.{Talked}
+use Rattle.mux_client.specs.declared.talked.Talked.TheVariants as talked
+use Rattle.mux_client.specs.declared.verdict.Line.{Line}
+use Rattle.mux_client.specs.Verdicts.{text_of_some}
+use Rattle.mux_client.specs.Requests.{requests_of}
+use Rattle.mux_client.specs.Talk.{Outcome, BrokenAt, Talk, talk, stops, sending, showing, tail_outcome}
+use Rattle.mux_client.specs.Journal.{given_at, bytes_given, ends_at, has_ended, held_by, is_held, held_streams, talk_of, TookFront, TookAll, WaitsRight, WaitOpen, Answers, Shows}
+use Rattle.mux_client.specs.Client.{ClientState, heard, without_sent, place_of, later_by, later, HasRequest, Stands, IsSettled, IsSettledAt, outcome_of, ReadsNextTo}
+use Rattle.mux_client.specs.Talking.{IsGoing, IsAnswerAt, IsOffered, IsJournal, Talking, IsTalk, TalksOn}
+use Rattle.mux_client.proofs.JournalGrows.{given-more, taken-more, ended-more, held-more, journal-more, told-one}
+use Rattle.mux_client.proofs.ReadFrames.{replied-none}
+
+-- want of memory that a `?` hands on
+pub want-of-memory : {A : Type 0} (r : Result A Talked) (On : A → Type 0) (Over : Talked → Type 0) → IsErrAnd r (λ e. e ≡ talked.OutOfMemory) → Over talked.OutOfMemory → TalksOn r On Over
+want-of-memory (Ok x) On Over h o = absurd h
+want-of-memory (Err e) On Over h o = subst Over (sym h) o
+
+-- an answer that a `?` hands on
+pub handed-on : {A : Type 0} (r : Result A Talked) (answer : Talked) (On : A → Type 0) (Over : Talked → Type 0) → IsErrAnd r (λ e. e ≡ answer) → Over answer → TalksOn r On Over
+handed-on (Ok x) answer On Over h o = absurd h
+handed-on (Err e) answer On Over h o = subst Over (sym h) o
+
+-- ---- the talk that a client stands for
+
+pub talk-now : {asks : Asks} {bytes taken shown : List ℕ} {s : ClientState} (h : Stands asks bytes taken shown s) (ended : Bool)
+    → talk asks bytes ended ≡ sending (taken ++ s.queue) (showing shown (later s asks [] ended))
+talk-now {asks} {bytes} h ended = ap (λ b. talk asks b ended) (sym (append-nil bytes)) ∙ h.goes [] ended
+
+nothing-cut : (rest : List ℕ) → first_frame Control rest ≡ More → cut Control (rest ++ []) ≡ record { frames = []; rest = rest; fault = None }
+nothing-cut rest e = ap (cut Control) (append-nil rest) ∙ cut-at Control rest More e
+
+-- nothing is to come once all frames were read
+later-settled : (asks : Asks) (stage : Stage) (rest : List ℕ) (ended : Bool) → IsSettledAt stage rest → HasRequest asks stage → (ended ≡ true → place_of stage ≡ None)
+    → later_by stage (requests_of asks) (cut Control (rest ++ [])) ended ≡ stops (outcome_of stage)
+later-settled asks stage rest ended settled request over = by_stage stage settled request over
+  where
+    by_end : (ended : Bool) (at : ℕ) → (ended ≡ true → Some at ≡ None) → tail_outcome ended at ≡ None
+    by_end true at over = absurd (let z : Some at ≡ None = over refl in cc)
+    by_end false at over = refl
+
+    by_stage : (stage : Stage) → IsSettledAt stage rest → HasRequest asks stage → (ended ≡ true → place_of stage ≡ None) → later_by stage (requests_of asks) (cut Control (rest ++ [])) ended ≡ stops (outcome_of stage)
+    by_stage Greets e h over = ap (λ c. later_by Greets (requests_of asks) c ended) (nothing-cut rest e) ∙ ap stops (by_end ended 0 over)
+    by_stage (Asked id at) e h over = ap (λ c. later_by (Asked id at) (requests_of asks) c ended) (nothing-cut rest e) ∙ replied-none asks id at ended h.0 h.1 ∙ ap stops (by_end ended at over)
+    by_stage Granted e h over = refl
+    by_stage (Refused id) e h over = refl
+    by_stage (Broken at) e h over = refl
+
+-- what was sent, what was shown and the outcome then
+abbrev pub talk_at : List ℕ → List ℕ → Option Outcome → Talk
+talk_at sent out outcome = record { sent = sent; out = out; outcome = outcome }
+
+stopped : (sent out : List ℕ) (outcome : Option Outcome) → sending sent (showing out (stops outcome)) ≡ talk_at sent out outcome
+stopped sent out outcome = ap (λ s. talk_at s (out ++ []) outcome) (append-nil sent) ∙ ap (λ o. talk_at sent o outcome) (append-nil out)
+
+pub settled-talk : {asks : Asks} {bytes taken shown : List ℕ} {s : ClientState} (h : Stands asks bytes taken shown s) (ended : Bool) → IsSettled s → (ended ≡ true → place_of s.stage ≡ None)
+    → talk asks bytes ended ≡ talk_at (taken ++ s.queue) shown (outcome_of s.stage)
+settled-talk {asks} {bytes} {taken} {shown} {s} h ended settled over =
+    talk-now h ended ∙ ap (λ t. sending (taken ++ s.queue) (showing shown t)) (later-settled asks s.stage s.framer.rest ended settled h.request over)
+    ∙ stopped (taken ++ s.queue) shown (outcome_of s.stage)
+
+-- ---- the calls of a client
+
+pub stands-hears : {asks : Asks} {bytes taken shown : List ℕ} {s : ClientState} (piece : List ℕ) → Stands asks bytes taken shown s → Stands asks (bytes ++ piece) taken shown (heard piece s)
+stands-hears {asks} {bytes} {taken} {shown} {s} piece h = record {
+  goes = λ more ended. ap (λ b. talk asks b ended) (append_assoc bytes piece more) ∙ h.goes (piece ++ more) ended
+      ∙ ap (λ r. sending (taken ++ s.queue) (showing shown (later_by s.stage (requests_of asks) (cut Control r) ended))) (sym (append_assoc s.framer.rest piece more));
+  request = h.request;
+}
+
+pub stands-took : {asks : Asks} {bytes taken shown : List ℕ} {s : ClientState} (n : ℕ) → Stands asks bytes taken shown s → Stands asks bytes (taken ++ take n s.queue) shown (without_sent n s)
+stands-took {asks} {bytes} {taken} {shown} {s} n h = record {
+  goes = λ more ended. h.goes more ended
+      ∙ ap (λ q. sending q (showing shown (later s asks more ended)))
+      (ap (λ q. taken ++ q) (sym (take-append-drop n s.queue)) ∙ sym (append_assoc taken (take n s.queue) (drop n s.queue)));
+  request = h.request;
+}
+
+-- ---- one mark more
+
+-- what holds of it
+pub record NextMark (asks : Asks) (marks : List Mark) (shown : List ℕ) (s : ClientState) (m : Mark) : Type 0 where
+  pub right : WaitsRight asks marks m
+  pub opens : WaitOpen asks marks m
+  pub stands : Stands asks (bytes_given marks ++ given_at m) (bytes_taken 0 marks ++ taken_at 0 m) shown s
+
+stands-there : {asks : Asks} {marks : List Mark} {shown : List ℕ} {s : ClientState} {m : Mark} → NextMark asks marks shown s m
+    → Stands asks (bytes_given (marks ++ m ∷ [])) (bytes_taken 0 (marks ++ m ∷ [])) shown s
+stands-there {asks} {marks} {shown} {s} {m} n =
+    subst (λ b. Stands asks b (bytes_taken 0 (marks ++ m ∷ [])) shown s) (sym (given-more marks m))
+    (subst (λ t. Stands asks (bytes_given marks ++ given_at m) t shown s) (sym (taken-more marks m)) n.stands)
+
+front-of : {asks : Asks} {marks : List Mark} {shown : List ℕ} {s : ClientState} → Stands asks (bytes_given marks) (bytes_taken 0 marks) shown s → TookFront asks marks
+front-of {asks} {marks} {shown} {s} h = let l = later s asks [] (has_ended marks) in record {
+  rest = s.queue ++ l.sent;
+  whole = ap (λ (t : Talk). t.sent) (talk-now h (has_ended marks)) ∙ append_assoc (bytes_taken 0 marks) s.queue l.sent;
+}
+
+journal-next : {asks : Asks} {marks : List Mark} {shown : List ℕ} {s : ClientState} {m : Mark} → IsJournal asks marks → NextMark asks marks shown s m → IsJournal asks (marks ++ m ∷ [])
+journal-next {asks} {marks} {shown} {s} {m} j n = journal-more asks marks m j n.right n.opens (front-of (stands-there n))
+
+-- the talk goes on with it
+pub talking-next : {asks : Asks} {start told : Option (List Mark)} {held shown : List ℕ} {s : ClientState} (v : Talking asks start told held shown s) (held' shown' : List ℕ) (s' : ClientState) (m : Mark)
+    → NextMark asks v.marks shown' s' m → ((has_ended v.marks || ends_at m) ≡ true → place_of s'.stage ≡ None) → held' ≡ held_streams (held_by (is_held v.marks) m)
+    → Talking asks start (option_map (λ l. l ++ m ∷ []) told) held' shown' s'
+talking-next {asks} {start} {told} v held' shown' s' m n ended held = record {
+  marks = v.marks ++ m ∷ [];
+  tells = told-one start told v.marks m v.tells;
+  journal = journal-next v.journal n;
+  stands = stands-there n;
+  ended = λ e. ended (sym (ended-more v.marks m) ∙ e);
+  held_is = held ∙ ap held_streams (sym (held-more v.marks m));
+}
+
+-- a mark that is no wait and of which the client hears nothing
+abbrev IsOther : Mark → Type 0
+IsOther (Waits waiting want streams listens) = ⊥
+IsOther (Accepts k) = Unit {0}
+IsOther (Gets k bytes) = Unit {0}
+IsOther (Ends k) = Unit {0}
+IsOther (Frees k) = Unit {0}
+IsOther (Fails k) = Unit {0}
+IsOther (Takes k bytes) = Unit {0}
+IsOther (Holds k) = Unit {0}
+IsOther (WriteFails k) = Unit {0}
+
+right-other : (asks : Asks) (marks : List Mark) (m : Mark) → IsOther m → WaitsRight asks marks m
+right-other asks marks (Waits waiting want streams listens) o = absurd o
+right-other asks marks (Accepts k) o = tt
+right-other asks marks m o = tt
+
+open-other : (asks : Asks) (marks : List Mark) (m : Mark) → IsOther m → WaitOpen asks marks m
+open-other asks marks (Waits waiting want streams listens) o = absurd o
+open-other asks marks (Accepts k) o = tt
+open-other asks marks m o = tt
+
+pub next-other : {asks : Asks} {marks : List Mark} {shown : List ℕ} {s : ClientState} (m : Mark) → IsOther m → Stands asks (bytes_given marks ++ given_at m) (bytes_taken 0 marks ++ taken_at 0 m) shown s → NextMark asks marks shown s m
+next-other {asks} {marks} m o h = record { right = right-other asks marks m o; opens = open-other asks marks m o; stands = h }
+
+-- nothing came, and nothing was taken
+pub same-stands : {asks : Asks} {bytes taken shown : List ℕ} {s : ClientState} → Stands asks bytes taken shown s → Stands asks (bytes ++ []) (taken ++ []) shown s
+same-stands {asks} {bytes} {taken} {shown} {s} h =
+    subst (λ b. Stands asks b (taken ++ []) shown s) (sym (append-nil bytes)) (subst (λ t. Stands asks bytes t shown s) (sym (append-nil taken)) h)
+
+or-none : {P : Type 0} (b : Bool) → (b ≡ true → P) → (b || false) ≡ true → P
+or-none true f e = f refl
+or-none false f e = absurd (let z : false ≡ true = e in cc)
+
+-- ---- a write
+
+pub talk-takes : {asks : Asks} {start told : Option (List Mark)} {held shown : List ℕ} {s : ClientState} (n : ℕ) → Talking asks start told held shown s
+    → Talking asks start (option_map (λ l. l ++ Takes 0 (take n s.queue) ∷ []) told) held shown (without_sent n s)
+talk-takes {asks = asks} {held = held} {shown = shown} {s = s} n v = talking-next v held shown (without_sent n s) (Takes 0 (take n s.queue))
+    (next-other (Takes 0 (take n s.queue)) tt (subst (λ b. Stands asks b (bytes_taken 0 v.marks ++ take n s.queue) shown (without_sent n s)) (sym (append-nil (bytes_given v.marks))) (stands-took n v.stands)))
+    (or-none (has_ended v.marks) v.ended) v.held_is
+
+pub talk-holds : {asks : Asks} {start told : Option (List Mark)} {held shown : List ℕ} {s : ClientState} → Talking asks start told held shown s
+    → Talking asks start (option_map (λ l. l ++ Holds 0 ∷ []) told) (0 ∷ []) shown s
+talk-holds {shown = shown} {s = s} v = talking-next v (0 ∷ []) shown s (Holds 0) (next-other (Holds 0) tt (same-stands v.stands)) (or-none (has_ended v.marks) v.ended) refl
+
+-- ---- it is over
+
+-- for want of memory, whatever was shown of what was due
+pub talk-starved : {asks : Asks} {start told : Option (List Mark)} {held shown : List ℕ} {s : ClientState} → Talking asks start told held shown s → (more rest : List ℕ) → shown ≡ more ++ rest
+    → IsTalk asks talked.OutOfMemory start told more shown
+talk-starved {asks} {shown = shown} {s = s} v more rest e = let l = later s asks [] (has_ended v.marks) in
+    let out : (talk_of asks v.marks).out ≡ shown ++ l.out = ap (λ (t : Talk). t.out) (talk-now v.stands (has_ended v.marks)) in record {
+      marks = v.marks;
+      tells = v.tells;
+      journal = v.journal;
+      answers = tt;
+      shows = record { rest = rest ++ l.out; whole = out ∙ ap (λ b. b ++ l.out) e ∙ append_assoc more rest l.out };
+      due_front = record { rest = l.out; whole = out };
+      fault = λ z. absurd (let w : talked.OutOfMemory ≡ talked.WriteFault = z in cc);
+      offered = λ z. absurd (let w : talked.OutOfMemory ≡ talked.Spent = z in cc);
+    }
+
+-- for a fault of the sink
+pub talk-faulted : {asks : Asks} {start told : Option (List Mark)} {held shown : List ℕ} {s : ClientState} → Talking asks start told held shown s → (more rest : List ℕ) → shown ≡ more ++ rest → shown ≢ []
+    → IsTalk asks talked.WriteFault start told more shown
+talk-faulted {asks} {shown = shown} {s = s} v more rest e some = let l = later s asks [] (has_ended v.marks) in
+    let out : (talk_of asks v.marks).out ≡ shown ++ l.out = ap (λ (t : Talk). t.out) (talk-now v.stands (has_ended v.marks)) in record {
+      marks = v.marks;
+      tells = v.tells;
+      journal = v.journal;
+      answers = tt;
+      shows = record { rest = rest ++ l.out; whole = out ∙ ap (λ b. b ++ l.out) e ∙ append_assoc more rest l.out };
+      due_front = record { rest = l.out; whole = out };
+      fault = λ z. some;
+      offered = λ z. absurd (let w : talked.WriteFault ≡ talked.Spent = z in cc);
+    }
+
+-- for a fault of the stream
+pub talk-failed : {asks : Asks} {start told : Option (List Mark)} {held shown : List ℕ} {s : ClientState} → Talking asks start told held shown s → IsSettled s → IsTalk asks talked.ServerFailed start told shown shown
+talk-failed {asks} {shown = shown} {s = s} v settled =
+    let out : (talk_of asks v.marks).out ≡ shown = ap (λ (t : Talk). t.out) (settled-talk v.stands (has_ended v.marks) settled v.ended) in record {
+      marks = v.marks;
+      tells = v.tells;
+      journal = v.journal;
+      answers = tt;
+      shows = sym out;
+      due_front = record { rest = []; whole = out ∙ sym (append-nil shown) };
+      fault = λ z. absurd (let w : talked.ServerFailed ≡ talked.WriteFault = z in cc);
+      offered = λ z. absurd (let w : talked.ServerFailed ≡ talked.Spent = z in cc);
+    }
+
+-- by what the master said
+answers-at : (asks : Asks) (marks : List Mark) (answer : Talked) (queue shown : List ℕ) (stage : Stage) → talk_of asks marks ≡ talk_at (bytes_taken 0 marks ++ queue) shown (outcome_of stage) → IsAnswerAt answer stage queue
+    → Answers answer asks marks × (Shows answer shown (talk_of asks marks).out) × (answer ≢ talked.WriteFault) × (answer ≢ talked.Spent)
+answers-at asks marks talked.Done queue shown stage t a =
+    ((ap (λ (k : Talk). k.outcome) t ∙ ap outcome_of a.0, sym (ap (λ (k : Talk). k.sent) t ∙ ap (λ q. bytes_taken 0 marks ++ q) a.1 ∙ append-nil (bytes_taken 0 marks))), sym (ap (λ (k : Talk). k.out) t), (λ z. cc), (λ z. cc))
+answers-at asks marks (talked.Refused id) queue shown stage t a = (ap (λ (k : Talk). k.outcome) t ∙ ap outcome_of a, sym (ap (λ (k : Talk). k.out) t), (λ z. cc), (λ z. cc))
+answers-at asks marks (talked.BadMaster at) queue shown stage t a = (ap (λ (k : Talk). k.outcome) t ∙ ap outcome_of a, sym (ap (λ (k : Talk). k.out) t), (λ z. cc), (λ z. cc))
+answers-at asks marks talked.WriteFault queue shown stage t a = absurd a
+answers-at asks marks talked.ServerFailed queue shown stage t a = absurd a
+answers-at asks marks talked.Spent queue shown stage t a = absurd a
+answers-at asks marks talked.OutOfMemory queue shown stage t a = absurd a
+
+pub talk-decided : {asks : Asks} {start told : Option (List Mark)} {held shown : List ℕ} {s : ClientState} → Talking asks start told held shown s → IsSettled s → (answer : Talked) → IsAnswerAt answer s.stage s.queue
+    → IsTalk asks answer start told shown shown
+talk-decided {asks} {shown = shown} {s = s} v settled answer a =
+    let t : talk_of asks v.marks ≡ talk_at (bytes_taken 0 v.marks ++ s.queue) shown (outcome_of s.stage) = settled-talk v.stands (has_ended v.marks) settled v.ended in
+    let k = answers-at asks v.marks answer s.queue shown s.stage t a in record {
+      marks = v.marks;
+      tells = v.tells;
+      journal = v.journal;
+      answers = k.0;
+      shows = k.1;
+      due_front = record { rest = []; whole = ap (λ (x : Talk). x.out) t ∙ sym (append-nil shown) };
+      fault = λ z. absurd (k.2 z);
+      offered = λ z. absurd (k.3 z);
+    }
+
+-- with all turns given
+open-at : (asks : Asks) (marks : List Mark) (queue shown : List ℕ) (stage : Stage) → talk_of asks marks ≡ talk_at (bytes_taken 0 marks ++ queue) shown (outcome_of stage) → IsGoing stage queue → Answers talked.Spent asks marks
+open-at asks marks queue shown Greets t g = inl (ap (λ (k : Talk). k.outcome) t)
+open-at asks marks queue shown (Asked id at) t g = inl (ap (λ (k : Talk). k.outcome) t)
+open-at asks marks queue shown Granted t g =
+    inr (ap (λ (k : Talk). k.outcome) t, λ all. g (append_cancel_left (bytes_taken 0 marks) queue [] (sym (all ∙ ap (λ (k : Talk). k.sent) t) ∙ sym (append-nil (bytes_taken 0 marks)))))
+open-at asks marks queue shown (Refused id) t g = absurd g
+open-at asks marks queue shown (Broken at) t g = absurd g
+
+pub talk-open : {asks : Asks} {start told : Option (List Mark)} {held shown : List ℕ} {s : ClientState} (v : Talking asks start told held shown s) → IsSettled s → IsGoing s.stage s.queue → Answers talked.Spent asks v.marks
+talk-open {asks} {shown = shown} {s = s} v settled going = open-at asks v.marks s.queue shown s.stage (settled-talk v.stands (has_ended v.marks) settled v.ended) going
+
+held-true : (b : Bool) → held_streams b ≡ 0 ∷ [] → b ≡ true
+held-true true e = refl
+held-true false e = absurd (let z : [] ≡ 0 ∷ [] = e in cc)
+
+-- what was offered was taken, or stream 0 is blocked
+talk-offered : {asks : Asks} {start told : Option (List Mark)} {held shown : List ℕ} {s : ClientState} (v : Talking asks start told held shown s) → IsSettled s → IsOffered held s → TookAll asks v.marks ⊎ (is_held v.marks ≡ true)
+talk-offered v settled (inl none) =
+    inl (sym (ap (λ (k : Talk). k.sent) (settled-talk v.stands (has_ended v.marks) settled v.ended) ∙ ap (λ q. bytes_taken 0 v.marks ++ q) none ∙ append-nil (bytes_taken 0 v.marks)))
+talk-offered v settled (inr blocked) = inr (held-true (is_held v.marks) (sym v.held_is ∙ blocked))
+
+pub talk-spent : {asks : Asks} {start told : Option (List Mark)} {held shown : List ℕ} {s : ClientState} (v : Talking asks start told held shown s) → IsSettled s → IsGoing s.stage s.queue → (v.marks ≢ [] → IsOffered held s)
+    → IsTalk asks talked.Spent start told shown shown
+talk-spent {asks} {shown = shown} {s = s} v settled going offered =
+    let t : talk_of asks v.marks ≡ talk_at (bytes_taken 0 v.marks ++ s.queue) shown (outcome_of s.stage) = settled-talk v.stands (has_ended v.marks) settled v.ended in record {
+      marks = v.marks;
+      tells = v.tells;
+      journal = v.journal;
+      answers = talk-open v settled going;
+      shows = sym (ap (λ (x : Talk). x.out) t);
+      due_front = record { rest = []; whole = ap (λ (x : Talk). x.out) t ∙ sym (append-nil shown) };
+      fault = λ z. absurd (let w : talked.Spent ≡ talked.WriteFault = z in cc);
+      offered = λ z some. talk-offered v settled (offered some);
+    }
+
+pub talk-write-fails : {asks : Asks} {start told : Option (List Mark)} {held shown : List ℕ} {s : ClientState} → Talking asks start told held shown s → IsSettled s
+    → IsTalk asks talked.ServerFailed start (option_map (λ l. l ++ WriteFails 0 ∷ []) told) shown shown
+talk-write-fails {held = held} {shown = shown} {s = s} v settled =
+    talk-failed (talking-next v held shown s (WriteFails 0) (next-other (WriteFails 0) tt (same-stands v.stands)) (or-none (has_ended v.marks) v.ended) v.held_is) settled
+
+-- ---- a turn
+
+-- what it waits for
+pub talk-waits : {asks : Asks} {start told : Option (List Mark)} {held shown : List ℕ} {s : ClientState} → Talking asks start told held shown s → IsSettled s → IsOffered held s → IsGoing s.stage s.queue
+    → (streams : List ℕ) (listens : Bool) → Talking asks start (option_map (λ l. l ++ Waits held Read streams listens ∷ []) told) held shown s
+talk-waits {asks} {held = held} {shown = shown} {s = s} v settled offered going streams listens =
+    talking-next v held shown s (Waits held Read streams listens) (record {
+      right = talk-offered v settled offered;
+      opens = record { opens = talk-open v settled going; reads = refl; waits_for = v.held_is };
+      stands = same-stands v.stands;
+    }) (or-none (has_ended v.marks) v.ended) v.held_is
+
+pub talk-gets : {asks : Asks} {start told : Option (List Mark)} {held shown : List ℕ} {s : ClientState} → Talking asks start told held shown s → (bytes : List ℕ)
+    → Talking asks start (option_map (λ l. l ++ Gets 0 bytes ∷ []) told) held shown (heard bytes s)
+talk-gets {asks = asks} {held = held} {shown = shown} {s = s} v bytes = talking-next v held shown (heard bytes s) (Gets 0 bytes)
+    (next-other (Gets 0 bytes) tt (subst (λ t. Stands asks (bytes_given v.marks ++ bytes) t shown (heard bytes s)) (sym (append-nil (bytes_taken 0 v.marks))) (stands-hears bytes v.stands)))
+    (or-none (has_ended v.marks) v.ended) v.held_is
+
+pub talk-frees : {asks : Asks} {start told : Option (List Mark)} {held shown : List ℕ} {s : ClientState} → Talking asks start told held shown s
+    → Talking asks start (option_map (λ l. l ++ Frees 0 ∷ []) told) [] shown s
+talk-frees {shown = shown} {s = s} v = talking-next v [] shown s (Frees 0) (next-other (Frees 0) tt (same-stands v.stands)) (or-none (has_ended v.marks) v.ended) refl
+
+pub talk-fails : {asks : Asks} {start told : Option (List Mark)} {held shown : List ℕ} {s : ClientState} → Talking asks start told held shown s → IsSettled s
+    → IsTalk asks talked.ServerFailed start (option_map (λ l. l ++ Fails 0 ∷ []) told) shown shown
+talk-fails {held = held} {shown = shown} {s = s} v settled =
+    talk-failed (talking-next v held shown s (Fails 0) (next-other (Fails 0) tt (same-stands v.stands)) (or-none (has_ended v.marks) v.ended) v.held_is) settled
+
+-- the master's bytes end, and the last reply came before
+pub talk-ends : {asks : Asks} {start told : Option (List Mark)} {held shown : List ℕ} {s : ClientState} → Talking asks start told held shown s → place_of s.stage ≡ None
+    → Talking asks start (option_map (λ l. l ++ Ends 0 ∷ []) told) held shown s
+talk-ends {held = held} {shown = shown} {s = s} v none = talking-next v held shown s (Ends 0) (next-other (Ends 0) tt (same-stands v.stands)) (λ e. none) v.held_is
+
+or-true : (b : Bool) → (b || true) ≡ true
+or-true true = refl
+or-true false = refl
+
+later-broken : (asks : Asks) (stage : Stage) (rest : List ℕ) (at : ℕ) → IsSettledAt stage rest → HasRequest asks stage → place_of stage ≡ Some at
+    → later_by stage (requests_of asks) (cut Control (rest ++ [])) true ≡ stops (Some (BrokenAt at))
+later-broken asks stage rest at settled request place = by_stage stage settled request place
+  where
+    by_stage : (stage : Stage) → IsSettledAt stage rest → HasRequest asks stage → place_of stage ≡ Some at → later_by stage (requests_of asks) (cut Control (rest ++ [])) true ≡ stops (Some (BrokenAt at))
+    by_stage Greets e h p = ap (λ c. later_by Greets (requests_of asks) c true) (nothing-cut rest e) ∙ ap (λ n. stops (Some (BrokenAt n))) (let z : Some 0 ≡ Some at = p in cc)
+    by_stage (Asked id n) e h p = ap (λ c. later_by (Asked id n) (requests_of asks) c true) (nothing-cut rest e) ∙ replied-none asks id n true h.0 h.1 ∙ ap (λ m. stops (Some (BrokenAt m))) (let z : Some n ≡ Some at = p in cc)
+    by_stage Granted e h p = absurd (let z : None ≡ Some at = p in cc)
+    by_stage (Refused id) e h p = absurd (let z : None ≡ Some at = p in cc)
+    by_stage (Broken n) e h p = absurd (let z : None ≡ Some at = p in cc)
+
+-- they end before it
+pub talk-breaks-off : {asks : Asks} {start told : Option (List Mark)} {held shown : List ℕ} {s : ClientState} → Talking asks start told held shown s → IsSettled s → (at : ℕ) → place_of s.stage ≡ Some at
+    → IsTalk asks (talked.BadMaster at) start (option_map (λ l. l ++ Ends 0 ∷ []) told) shown shown
+talk-breaks-off {asks} {start} {told} {shown = shown} {s = s} v settled at place =
+    let m : Mark = Ends 0 in
+    let n : NextMark asks v.marks shown s m = next-other m tt (same-stands v.stands) in
+    let stands = stands-there n in
+    let over : has_ended (v.marks ++ m ∷ []) ≡ true = ended-more v.marks m ∙ or-true (has_ended v.marks) in
+    let t : talk_of asks (v.marks ++ m ∷ []) ≡ talk_at (bytes_taken 0 (v.marks ++ m ∷ []) ++ s.queue) shown (Some (BrokenAt at)) =
+    ap (talk asks (bytes_given (v.marks ++ m ∷ []))) over ∙ talk-now stands true
+    ∙ ap (λ k. sending (bytes_taken 0 (v.marks ++ m ∷ []) ++ s.queue) (showing shown k)) (later-broken asks s.stage s.framer.rest at settled v.stands.request place)
+    ∙ stopped (bytes_taken 0 (v.marks ++ m ∷ []) ++ s.queue) shown (Some (BrokenAt at)) in record {
+      marks = v.marks ++ m ∷ [];
+      tells = told-one start told v.marks m v.tells;
+      journal = journal-next v.journal n;
+      answers = ap (λ (x : Talk). x.outcome) t;
+      shows = sym (ap (λ (x : Talk). x.out) t);
+      due_front = record { rest = []; whole = ap (λ (x : Talk). x.out) t ∙ sym (append-nil shown) };
+      fault = λ z. absurd (let w : talked.BadMaster at ≡ talked.WriteFault = z in cc);
+      offered = λ z. absurd (let w : talked.BadMaster at ≡ talked.Spent = z in cc);
+    }
+
+-- ---- a frame is read
+
+pub talk-reads : {asks : Asks} {start told : Option (List Mark)} {held shown : List ℕ} {s s' : ClientState} {line : Option Line} → Talking asks start told held shown s → ReadsNextTo asks s s' line
+    → Talking asks start told held (shown ++ text_of_some line) s'
+talk-reads v r = record {
+  marks = v.marks;
+  tells = v.tells;
+  journal = v.journal;
+  stands = r.stands _ _ _ v.stands;
+  ended = λ e. r.over (v.ended e);
+  held_is = v.held_is;
+}

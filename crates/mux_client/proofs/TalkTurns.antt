@@ -1,0 +1,112 @@
+-- A talk at a turn.
+use Rattle.std.proofs.Common.{◌≡◌, ◌∙◌, refl, sym, ap, subst, ℕ, Bool, true, false, List, [], ◌∷◌, ◌++◌, Option, Some, None, inl, inr}
+use Rattle.std.specs.Prelude.{Result, Ok, Err, IfErr, IsTrue, ◌==◌, ◌||◌}
+use Rattle.std.specs.Option.{option_map}
+use Rattle.std.proofs.lemmas.Bool.{eqb-true}
+use Rattle.std.proofs.lemmas.List.{append-nil}
+use Rattle.mux_outside.specs.Seen.{Seen, seen_after_turn}
+use Rattle.mux_outside.specs.Streams.{among, without}
+use Rattle.mux_outside.specs.Wire.{SameFaults}
+use Rattle.mux_outside.specs.declared.mark.Mark.{Mark}
+use Rattle.mux_outside.specs.declared.mark.Mark.TheVariants.{Waits, Gets, Ends, Frees, Fails}
+use Rattle.mux_outside.specs.declared.turn.Turn.TheVariants as turn
+use Rattle.mux_outside.specs.declared.turn.Want.TheVariants.{Read}
+use Rattle.mux_client.specs.declared.asks.Asks.{Asks}
+use Rattle.mux_client.specs.declared.talked.Talked.{Talked}
+use Rattle.mux_client.specs.declared.talked.Talked.TheVariants as talked
+use Rattle.mux_client.specs.Client.{ClientState, heard, place_of, IsSettled}
+use Rattle.mux_client.specs.Counted.{StepFaults, WireFaults}
+use Rattle.mux_client.specs.Talking.{IsHeld, IsGoing, IsOffered, IsOfSink, BreaksOff, Talking, IsTalk, TalksOn}
+use Rattle.mux_client.proofs.JournalGrows.{told-two, told-none}
+use Rattle.mux_client.proofs.TalkSteps.{talk-breaks-off, talk-ends, talk-fails, talk-frees, talk-gets, talk-starved, talk-waits}
+
+-- ---- stream 0 alone
+
+zero-test : (k : ℕ) (b : Bool) → (0 == k) ≡ b → (b || false) ≡ true → k ≡ 0
+zero-test k true e f = sym (eqb-true 0 k e)
+zero-test k false e f = absurd (let z : false ≡ true = f in cc)
+
+pub is-zero : (k : ℕ) (streams : List ℕ) → streams ≡ 0 ∷ [] → IsTrue (among k streams) → k ≡ 0
+is-zero k streams e found = zero-test k (0 == k) refl (subst (λ l. among k l ≡ true) e found)
+
+pub without-held : (held : List ℕ) → IsHeld held → without 0 held ≡ []
+without-held held (inl e) = ap (without 0) e
+without-held held (inr e) = ap (without 0) e
+
+-- ---- nothing more was shown
+
+pub still-talking : {asks : Asks} {start told : Option (List Mark)} {held shown : List ℕ} {s : ClientState} → Talking asks start told held shown s → Talking asks start told held (shown ++ []) s
+still-talking {asks} {start} {told} {held} {shown} {s} v = subst (λ x. Talking asks start told held x s) (sym (append-nil shown)) v
+
+pub still-over : {asks : Asks} {start told : Option (List Mark)} {answer : Talked} (shown : List ℕ) → IsTalk asks answer start told shown shown → IsTalk asks answer start told (shown ++ []) (shown ++ [])
+still-over {asks} {start} {told} {answer} shown t = subst (λ x. IsTalk asks answer start told x x) (sym (append-nil shown)) t
+
+pub starved : {asks : Asks} {start told : Option (List Mark)} {held shown : List ℕ} {s : ClientState} → Talking asks start told held shown s → IsTalk asks talked.OutOfMemory start told (shown ++ []) (shown ++ [])
+starved {shown = shown} v = still-over shown (talk-starved v shown [] (sym (append-nil shown)))
+
+-- ---- a turn
+
+module _ {asks : Asks} {start : Option (List Mark)} (seen : Seen) {held shown : List ℕ} {s : ClientState}
+    (v : Talking asks start seen.told held shown s) (settled : IsSettled s) (offered : IsOffered held s) (going : IsGoing s.stage s.queue) (now : Seen) where
+  -- with the call of wait
+  abbrev told-waiting : Option (List Mark)
+  told-waiting = option_map (λ m. m ++ Waits held Read seen.streams seen.listens ∷ []) seen.told
+
+  waiting : Talking asks start told-waiting held shown s
+  waiting = talk-waits v settled offered going seen.streams seen.listens
+
+  pub turn-gets : (k : ℕ) (bytes : List ℕ) → k ≡ 0 → now ≡ seen_after_turn (turn.Got k) held Read bytes seen → Talking asks start now.told held shown (heard bytes s)
+  turn-gets k bytes zero e =
+      subst (λ t. Talking asks start t held shown (heard bytes s))
+      (sym (ap (λ (x : Seen). x.told) e ∙ told-two (Waits held Read seen.streams seen.listens) (Gets k bytes) seen.told ∙ ap (λ n. option_map (λ m. m ++ Gets n bytes ∷ []) told-waiting) zero))
+      (talk-gets waiting bytes)
+
+  pub turn-ends : (k : ℕ) (bytes : List ℕ) → k ≡ 0 → now ≡ seen_after_turn (turn.End k) held Read bytes seen → place_of s.stage ≡ None → Talking asks start now.told held shown s
+  turn-ends k bytes zero e none =
+      subst (λ t. Talking asks start t held shown s)
+      (sym (ap (λ (x : Seen). x.told) e ∙ told-two (Waits held Read seen.streams seen.listens) (Ends k) seen.told ∙ ap (λ n. option_map (λ m. m ++ Ends n ∷ []) told-waiting) zero))
+      (talk-ends waiting none)
+
+  pub turn-breaks : (k : ℕ) (bytes : List ℕ) → k ≡ 0 → now ≡ seen_after_turn (turn.End k) held Read bytes seen → (at : ℕ) → place_of s.stage ≡ Some at → IsTalk asks (talked.BadMaster at) start now.told shown shown
+  turn-breaks k bytes zero e at place =
+      subst (λ t. IsTalk asks (talked.BadMaster at) start t shown shown)
+      (sym (ap (λ (x : Seen). x.told) e ∙ told-two (Waits held Read seen.streams seen.listens) (Ends k) seen.told ∙ ap (λ n. option_map (λ m. m ++ Ends n ∷ []) told-waiting) zero))
+      (talk-breaks-off waiting settled at place)
+
+  pub turn-frees : (k : ℕ) (bytes : List ℕ) → k ≡ 0 → now ≡ seen_after_turn (turn.Writable k) held Read bytes seen → Talking asks start now.told [] shown s
+  turn-frees k bytes zero e =
+      subst (λ t. Talking asks start t [] shown s)
+      (sym (ap (λ (x : Seen). x.told) e ∙ told-two (Waits held Read seen.streams seen.listens) (Frees k) seen.told ∙ ap (λ n. option_map (λ m. m ++ Frees n ∷ []) told-waiting) zero))
+      (talk-frees waiting)
+
+  pub turn-fails : (k : ℕ) (bytes : List ℕ) → k ≡ 0 → now ≡ seen_after_turn (turn.Failed k) held Read bytes seen → IsTalk asks talked.ServerFailed start now.told shown shown
+  turn-fails k bytes zero e =
+      subst (λ t. IsTalk asks talked.ServerFailed start t shown shown)
+      (sym (ap (λ (x : Seen). x.told) e ∙ told-two (Waits held Read seen.streams seen.listens) (Fails k) seen.told ∙ ap (λ n. option_map (λ m. m ++ Fails n ∷ []) told-waiting) zero))
+      (talk-fails waiting settled)
+
+  pub turn-starved : (bytes : List ℕ) → now ≡ seen_after_turn turn.NoMemory held Read bytes seen → IsTalk asks talked.OutOfMemory start now.told (shown ++ []) (shown ++ [])
+  turn-starved bytes e =
+      subst (λ t. IsTalk asks talked.OutOfMemory start t (shown ++ []) (shown ++ [])) (sym (ap (λ (x : Seen). x.told) e ∙ told-none seen.told)) (starved v)
+
+-- ---- the end of the master's bytes
+
+pub off-or-on : (s : ClientState) (r : Result (Unit {0}) Talked) (On : Unit {0} → Type 0) (Over : Talked → Type 0) → BreaksOff s r → (place_of s.stage ≡ None → On tt) → ((at : ℕ) → place_of s.stage ≡ Some at → Over (talked.BadMaster at))
+    → TalksOn r On Over
+off-or-on s (Ok x) On Over b on over = on b
+off-or-on s (Err answer) On Over b on over = subst Over (sym b.2) (over b.0 b.1)
+
+-- ---- faults
+
+no-fault : (answer : Talked) (a b c d : ℕ) → IsOfSink answer → SameFaults a b c d → WireFaults answer a b c d
+no-fault talked.WriteFault a b c d own same = same
+no-fault talked.OutOfMemory a b c d own same = same
+no-fault talked.ServerFailed a b c d own same = absurd own
+no-fault talked.Done a b c d own same = absurd own
+no-fault (talked.Refused id) a b c d own same = absurd own
+no-fault (talked.BadMaster at) a b c d own same = absurd own
+no-fault talked.Spent a b c d own same = absurd own
+
+pub no-faults : {A : Type 0} (r : Result A Talked) (a b c d : ℕ) → IfErr r IsOfSink → SameFaults a b c d → StepFaults r a b c d
+no-faults (Ok x) a b c d own same = same
+no-faults (Err answer) a b c d own same = no-fault answer a b c d own same

@@ -1,0 +1,86 @@
+-- Whole talks, from their beginning.
+use Rattle.std.proofs.Common.{◌≡◌, ◌∙◌, refl, sym, subst, ℕ, true, false, List, [], Option, ◌++◌, Some, None}
+use Rattle.std.specs.Option.{option_map}
+use Rattle.std.specs.Prelude.{Result, Ok, Err, IsErrAnd}
+use Rattle.mux_outside.specs.declared.mark.Mark.{Mark}
+use Rattle.mux_outside.specs.Seen.{Seen}
+use Rattle.mux_outside.specs.Wire.{SameFaults}
+use Rattle.mux_client.specs.declared.asks.Asks.{Asks}
+use Rattle.mux_client.specs.declared.talked.Talked.{Talked}
+use Rattle.mux_client.specs.declared.talked.Talked.TheVariants as talked
+use Rattle.mux_client.specs.Client.{ClientState, new_client, Stands, IsSettled}
+use Rattle.mux_client.specs.Talking.{AcceptsNone, IsDecided, IsOffered, Talking, IsTalk, WholeTalk, talked_of}
+use Rattle.mux_client.specs.Journal.{TalksTold, ShowsTold}
+use Rattle.mux_client.proofs.JournalGrows.{told-none}
+use Rattle.mux_client.proofs.TalkSteps.{talk-decided, talk-spent, talk-starved}
+
+-- an answer that a `?` hands on
+pub handed-as : (r : Result (Unit {0}) Talked) (answer : Talked) (P : Talked → Type 0) → IsErrAnd r (λ e. e ≡ answer) → P answer → P (talked_of r)
+handed-as (Ok x) answer P h p = absurd h
+handed-as (Err e) answer P h p = subst P (sym h) p
+
+-- one step, and then one more
+pub accepts-then : {a b c : Seen} → AcceptsNone a b → AcceptsNone b c → AcceptsNone a c
+accepts-then x y = record { streams = y.streams ∙ x.streams; listens = y.listens ∙ x.listens; last = y.last ∙ x.last }
+
+pub same-then : {a b c d e f : ℕ} → SameFaults a b d e → SameFaults b c e f → SameFaults a c d f
+same-then x y = record { same_server = y.same_server ∙ x.same_server; same_client = y.same_client ∙ x.same_client }
+
+stands-new : (asks : Asks) → Stands asks [] [] [] new_client
+stands-new asks = record { goes = λ more ended. refl; request = tt }
+
+pub talk-starts : (asks : Asks) (start : Option (List Mark)) → Talking asks start start [] [] new_client
+talk-starts asks start = record {
+  marks = [];
+  tells = sym (told-none start);
+  journal = record { throughout = tt; opens = tt };
+  stands = stands-new asks;
+  ended = λ e. absurd (let z : false ≡ true = e in cc);
+  held_is = refl;
+}
+
+pub starts-starved : (asks : Asks) (start : Option (List Mark)) → IsTalk asks talked.OutOfMemory start start [] []
+starts-starved asks start = talk-starved (talk-starts asks start) [] [] refl
+
+-- and with no turn at all
+pub starts-spent : (asks : Asks) (start : Option (List Mark)) → IsTalk asks talked.Spent start start [] []
+unfolding talk-starts
+starts-spent asks start = talk-spent (talk-starts asks start) refl tt (λ some. absurd (some refl))
+
+-- what was decided, and what wasn't with all turns given
+pub decided-talk : {asks : Asks} {start told : Option (List Mark)} {held shown : List ℕ} {s : ClientState} → Talking asks start told held shown s → IsSettled s → IsOffered held s → (r : Result (Unit {0}) Talked) → IsDecided s r
+    → IsTalk asks (talked_of r) start told shown shown
+decided-talk v settled offered (Ok x) d = talk-spent v settled d (λ some. offered)
+decided-talk v settled offered (Err answer) d = talk-decided v settled answer d
+
+-- ---- where the wire tells, and the sink
+
+pub talks-told : (asks : Asks) (answer : Talked) (start told : Option (List Mark)) (shown due : List ℕ) → IsTalk asks answer start told shown due → TalksTold asks answer start told
+talks-told asks answer None None shown due t = tt
+talks-told asks answer None (Some new) shown due t = absurd (let z : Some new ≡ None = t.tells in cc)
+talks-told asks answer (Some old) None shown due t = absurd (let z : None ≡ Some (old ++ t.marks) = t.tells in cc)
+talks-told asks answer (Some old) (Some new) shown due t = record {
+  marks = t.marks;
+  added = let z : Some new ≡ Some (old ++ t.marks) = t.tells in cc;
+  throughout = t.journal.throughout;
+  answers = t.answers;
+}
+
+shows-told : (asks : Asks) (answer : Talked) (start told : Option (List Mark)) (before now : Option (List ℕ)) (shown due : List ℕ) → IsTalk asks answer start told shown due → now ≡ option_map (λ b. b ++ shown) before → ShowsTold asks answer start told before now
+shows-told asks answer (Some old) (Some new) (Some before) (Some now) shown due t e = record {
+  marks = t.marks;
+  shown = shown;
+  added = let z : Some new ≡ Some (old ++ t.marks) = t.tells in cc;
+  put = let z : Some now ≡ Some (before ++ shown) = e in cc;
+  shows = t.shows;
+}
+shows-told asks answer None told before now shown due t e = tt
+shows-told asks answer (Some old) None before now shown due t e = tt
+shows-told asks answer (Some old) (Some new) None now shown due t e = tt
+shows-told asks answer (Some old) (Some new) (Some before) None shown due t e = tt
+
+pub whole-talks : {V : Type 0} (asks : Asks) (answer : Talked) (start told : Option (List Mark)) (before now : Option (List ℕ)) (old new : V) → WholeTalk asks answer start told before now old new → TalksTold asks answer start told
+whole-talks asks answer start told before now old new w = talks-told asks answer start told w.more w.due w.holds
+
+pub whole-shows : {V : Type 0} (asks : Asks) (answer : Talked) (start told : Option (List Mark)) (before now : Option (List ℕ)) (old new : V) → WholeTalk asks answer start told before now old new → ShowsTold asks answer start told before now
+whole-shows asks answer start told before now old new w = shows-told asks answer start told before now w.more w.due w.holds w.put

@@ -1,0 +1,81 @@
+use Rattle.std.proofs.Common.{◌≡◌, ◌∙◌, ◌+◌, [], refl, sym, ap, subst, ℕ, List, inl, arith}
+use Rattle.mux_client.specs.declared.talked.Talked.TheVariants.{OutOfMemory}
+use Rattle.mux_client.specs.Client.{ClientState}
+use Rattle.mux_client.specs.Talking.{IsTalk, Talking, WholeTalk}
+use Rattle.mux_client.proofs.Counts.{well-none, well-on}
+use Rattle.mux_client.proofs.ShowLines.{last-here, last-none, last-then, shows-none, shows-then}
+use Rattle.mux_client.proofs.TalkSteps.{talk-decided}
+use Rattle.mux_client.proofs.WholeTalks.{accepts-then, decided-talk, handed-as, same-then, starts-starved, talk-starts}
+use Rattle.mux_client.proofs.talking.converse.Goals as goal
+
+pub returns-in_err-client-clause-talks : goal.returns-in_err-client-clause-talks
+returns-in_err-client-clause-talks g c =
+    let told = (g.W.Wire.seen c.args.wire.now).told in
+    let out = g.S.Sink.told c.args.out.now in
+    handed-as c.from_residual.result OutOfMemory (λ answer. WholeTalk c.args.asks.now answer told told out out c.args.out.now c.args.out.now) c.from_residual.ensures.1
+    (last-none out c.args.out.now (λ shown due. IsTalk c.args.asks.now OutOfMemory told told shown due) (starts-starved c.args.asks.now told))
+
+pub returns-in_err-piece-clause-talks : goal.returns-in_err-piece-clause-talks
+returns-in_err-piece-clause-talks g c =
+    let told = (g.W.Wire.seen c.args.wire.now).told in
+    let out = g.S.Sink.told c.args.out.now in
+    handed-as c.from_residual-in_err-piece.result OutOfMemory (λ answer. WholeTalk c.args.asks.now answer told told out out c.args.out.now c.args.out.now) c.from_residual-in_err-piece.ensures.1
+    (last-none out c.args.out.now (λ shown due. IsTalk c.args.asks.now OutOfMemory told told shown due) (starts-starved c.args.asks.now told))
+
+pub loop-init : goal.loop-init
+loop-init g c = let told = (g.W.Wire.seen c.args.wire.now).told in record {
+  talking = shows-none (g.S.Sink.told c.args.out.now) c.args.out.now (λ shown. Talking c.args.asks.now told told c.new-held.result shown c.in_ok-client.client)
+      (subst (λ (h : List ℕ). Talking c.args.asks.now told told h [] c.in_ok-client.client) (sym c.new-held.ensures)
+      (subst (Talking c.args.asks.now told told [] []) (sym c.in_ok-client.ensures.new) (talk-starts c.args.asks.now told)));
+  settled = c.in_ok-client.ensures.settled;
+  blocked = c.requires.none_blocked ∙ sym c.new-held.ensures;
+  held = inl c.new-held.ensures;
+  first = λ z. ap (λ (s : ClientState). s.stage) c.in_ok-client.ensures.new;
+  none_accepted = record { streams = refl; listens = refl; last = refl };
+  calls = well-none (g.W.Wire.calls c.args.wire.now);
+  cause = record { same_server = refl; same_client = refl };
+  sink = refl;
+  openings = refl;
+  joinings = refl;
+}
+
+pub returns-in_err-decided-clause-talks : goal.returns-in_err-decided-clause-talks
+returns-in_err-decided-clause-talks g c =
+    let told = (g.W.Wire.seen c.args.wire.now).told in
+    let f = c.loop.invariant.talking in
+    handed-as c.from_residual-in_err-decided.result c.in_err-decided.field-0.0
+    (λ answer. WholeTalk c.args.asks.now answer told (g.W.Wire.seen c.offer.new.wire).told (g.S.Sink.told c.args.out.now) (g.S.Sink.told c.loop.out) c.args.out.now c.loop.out) c.from_residual-in_err-decided.ensures.1
+    (last-here f (talk-decided (c.in_ok-offer.ensures.talking c.args.asks.now told f.more f.holds) c.in_ok-offer.ensures.settled c.in_err-decided.field-0.0 c.in_err-decided.ensures))
+
+pub returns-in_err-turn-clause-talks : goal.returns-in_err-turn-clause-talks
+returns-in_err-turn-clause-talks g c =
+    let told = (g.W.Wire.seen c.args.wire.now).told in
+    let f = c.loop.invariant.talking in
+    handed-as c.from_residual-in_err-turn.result c.in_err-turn.field-0.0
+    (λ answer. WholeTalk c.args.asks.now answer told (g.W.Wire.seen c.turn.new.wire).told (g.S.Sink.told c.args.out.now) (g.S.Sink.told c.turn.new.out) c.args.out.now c.turn.new.out) c.from_residual-in_err-turn.ensures.1
+    (last-then f (c.in_err-turn.ensures.talking told f.more (c.in_ok-offer.ensures.talking c.args.asks.now told f.more f.holds)))
+
+pub loop-preserved : goal.loop-preserved
+loop-preserved g c =
+    let told = (g.W.Wire.seen c.args.wire.now).told in
+    let i = c.loop.invariant in
+    let o = c.in_ok-offer.ensures in
+    let t = c.in_ok-turn.ensures in record {
+      talking = shows-then i.talking (t.talking told i.talking.more (o.talking c.args.asks.now told i.talking.more i.talking.holds));
+      settled = t.settled;
+      blocked = t.blocked;
+      held = t.held;
+      first = λ z. absurd (let w : c.loop.counter + 1 ≡ 0 = z in omega arith);
+      none_accepted = accepts-then (accepts-then i.none_accepted c.offer.ensures.none_accepted) c.turn.ensures.none_accepted;
+      calls = well-on c.loop.counter 1 (c.loop.counter + 1) _ _ _ (omega arith) (well-on c.loop.counter 0 c.loop.counter _ _ _ (omega arith) i.calls o.calls) t.calls;
+      cause = same-then (same-then i.cause o.cause) t.cause;
+      sink = t.sink ∙ i.sink;
+      openings = c.turn.ensures.openings ∙ (c.offer.ensures.openings ∙ i.openings);
+      joinings = c.turn.ensures.joinings ∙ (c.offer.ensures.joinings ∙ i.joinings);
+    }
+
+pub returns-clause-talks : goal.returns-clause-talks
+returns-clause-talks g c =
+    let told = (g.W.Wire.seen c.args.wire.now).told in
+    let f = c.loop.invariant.talking in
+    last-here f (decided-talk (c.in_ok-offer-2.ensures.talking c.args.asks.now told f.more f.holds) c.in_ok-offer-2.ensures.settled c.in_ok-offer-2.ensures.offered c.decided-2.result c.decided-2.ensures)

@@ -1,0 +1,30 @@
+-- A master's answer as the code reads it.
+use Rattle.std.specs.Prelude.{◌≡◌, ℕ, List, Option, Some, None}
+use Rattle.ssh_grammar.specs.Control.{Answer, Greets, Okay, PermissionDenied, Failed, Alive, RemotePort, Proxies}
+use Rattle.mux_client.specs.declared.answer.Answer.{Answer as Read}
+use Rattle.mux_client.specs.declared.answer.Answer.TheVariants as read
+
+-- the code tells no reason, and no message that answers nothing
+abbrev pub shown_of : Answer → Read
+shown_of (Okay id) = read.Okay id
+shown_of (PermissionDenied id reason) = read.Refusal id
+shown_of (Failed id reason) = read.Refusal id
+shown_of (Alive id pid) = read.Alive id pid
+shown_of (RemotePort id port) = read.RemotePort id port
+shown_of (Greets version) = read.Other
+shown_of (Proxies id) = read.Other
+
+-- what was read is what the body is
+abbrev pub GivesAnswer : Option Read → Option Answer → Type 0
+GivesAnswer None reading = reading ≡ None
+GivesAnswer (Some r) reading = (answer : Answer) × (reading ≡ Some answer) × (r ≡ shown_of answer)
+
+-- the fields that were read, seen by view, are what reading gives
+abbrev pub Reads : {X : Type 0} → (X → Answer) → Option X → Option Answer → Type 0
+Reads view None reading = reading ≡ None
+Reads view (Some x) reading = reading ≡ Some (view x)
+
+-- the same of a number and a text, of which the code keeps the number
+abbrev pub ReadsReason : (ℕ → List ℕ → Answer) → Option ℕ → Option Answer → Type 0
+ReadsReason answer None reading = reading ≡ None
+ReadsReason answer (Some n) reading = (reason : List ℕ) × (reading ≡ Some (answer n reason))

@@ -1,0 +1,163 @@
+-- What contracts see of a client, and the talk that it stands for.
+use Rattle.std.specs.Prelude.{◌≡◌, ◌≤◌, ◌<◌, ℕ, ◌+◌, ◌*◌, Bool, ⊤, List, [], ◌∷◌, ◌++◌, length, drop, Option, Some, None, IsSome, Result, Ok, Err}
+use Rattle.ssh_fields.specs.declared.out_of_memory.OutOfMemory.{OutOfMemory}
+use Rattle.ssh_grammar.specs.declared.fault.BadFrame.{BadFrame}
+use Rattle.ssh_grammar.specs.declared.framing.Framing.TheVariants.{Control}
+use Rattle.ssh_grammar.specs.Frames.{Front, Frame, More, Faulty, first_frame, Cut, cut}
+use Rattle.proxy_frames.specs.State.{FramerState}
+use Rattle.proxy_frames.specs.Steps.{new_framer, pushed, after_front}
+use Rattle.mux_client.specs.declared.asks.Asks.{Asks}
+use Rattle.mux_client.specs.declared.stage.Stage.{Stage}
+use Rattle.mux_client.specs.declared.stage.Stage.TheVariants.{Greets, Asks as Asked, Granted, Refused, Broken}
+use Rattle.mux_client.specs.declared.verdict.Line.{Line}
+use Rattle.mux_client.specs.Requests.{Request, requests_of, request_at, frame_due, hello_frame}
+use Rattle.mux_client.specs.Replies.{verdict}
+use Rattle.mux_client.specs.Verdicts.{text_of_some}
+use Rattle.mux_client.specs.Talk.{Outcome, Finished, RefusedAt, BrokenAt, Talk, talk, talk_on, stops, sending, showing, behind, broken_by, tail_outcome, on_reply, greeted}
+
+-- the master's bytes that aren't read yet, what is still to be sent, and how far the talk is
+pub record ClientState : Type 0 where
+  pub framer : FramerState
+  pub queue : List ℕ
+  pub stage : Stage
+
+-- ---- each client
+
+-- while a reply is awaited its place is not far behind: a frame has 262,148 bytes at most
+abbrev pub IsPlaced : Stage → Type 0
+IsPlaced (Asked id at) = at ≤ (id + 1) * 262148
+IsPlaced Greets = ⊤
+IsPlaced Granted = ⊤
+IsPlaced (Refused id) = ⊤
+IsPlaced (Broken at) = ⊤
+
+-- and no fault was told
+abbrev pub IsFaultless : Stage → Option BadFrame → Type 0
+IsFaultless Greets fault = fault ≡ None
+IsFaultless (Asked id at) fault = fault ≡ None
+IsFaultless Granted fault = ⊤
+IsFaultless (Refused id) fault = ⊤
+IsFaultless (Broken at) fault = ⊤
+
+-- the place of the reply that is awaited, or of the hello, if one is
+abbrev pub place_of : Stage → Option ℕ
+place_of Greets = Some 0
+place_of (Asked id at) = Some at
+place_of Granted = None
+place_of (Refused id) = None
+place_of (Broken at) = None
+
+-- ---- what the calls leave
+
+-- a client that heard nothing
+abbrev pub new_client : ClientState
+new_client = record { framer = new_framer Control; queue = hello_frame; stage = Greets }
+
+-- with more bytes of the master
+abbrev pub heard : List ℕ → ClientState → ClientState
+heard piece s = record s { framer = pushed piece s.framer }
+
+-- without the first bytes of what is to be sent
+abbrev pub without_sent : ℕ → ClientState → ClientState
+without_sent n s = record s { queue = drop n s.queue }
+
+-- the stage behind a front: a fault breaks the talk at this place
+abbrev pub stage_behind : Front → ℕ → Stage → Stage
+stage_behind (Frame content rest) at stage = stage
+stage_behind More at stage = stage
+stage_behind (Faulty fault) at stage = Broken at
+
+-- behind the next front, whose place this is
+abbrev pub after_cut : Front → ℕ → ClientState → ClientState
+after_cut front at s = record s {
+  framer = after_front front s.framer;
+  stage = stage_behind front at s.stage;
+}
+
+-- the stage where this request is due, if there is one, whose reply stands at this place
+abbrev pub stage_due : Option Request → ℕ → ℕ → Stage
+stage_due (Some request) id at = Asked id at
+stage_due None id at = Granted
+
+-- it is sent
+abbrev pub asked : Option Request → ℕ → ℕ → ClientState → ClientState
+asked request id at s = record s {
+  queue = s.queue ++ frame_due id request;
+  stage = stage_due request id at;
+}
+
+-- ---- the talk
+
+-- what follows a request that was sent: the reply, and what comes then
+abbrev pub replied : List Request → ℕ → ℕ → List (List ℕ) → Bool → Talk
+replied [] id at bodies broken = stops (Some Finished)
+replied (request ∷ requests) id at [] broken = stops (tail_outcome broken at)
+replied (request ∷ requests) id at (body ∷ bodies) broken =
+    on_reply (verdict request id body) id at
+    (talk_on requests (id + 1) (behind at body) bodies broken)
+
+-- what is still to come at a stage, by the frames that aren't read yet
+abbrev pub later_at : Stage → List Request → List (List ℕ) → Bool → Talk
+later_at Greets requests bodies broken = greeted requests bodies broken
+later_at (Asked id at) requests bodies broken = replied (drop id requests) id at bodies broken
+later_at Granted requests bodies broken = stops (Some Finished)
+later_at (Refused id) requests bodies broken = stops (Some (RefusedAt id))
+later_at (Broken at) requests bodies broken = stops (Some (BrokenAt at))
+
+abbrev pub later_by : Stage → List Request → Cut → Bool → Talk
+later_by stage requests c ended = later_at stage requests c.frames (broken_by c.fault ended)
+
+-- the same with more bytes of the master
+abbrev pub later : ClientState → Asks → List ℕ → Bool → Talk
+later s asks more ended =
+    later_by s.stage (requests_of asks) (cut Control (s.framer.rest ++ more)) ended
+
+-- there is a request whose reply is awaited, if one is
+abbrev pub HasRequest : Asks → Stage → Type 0
+HasRequest asks (Asked id at) = (request : Request) × (request_at asks id ≡ Some request)
+HasRequest asks Greets = ⊤
+HasRequest asks Granted = ⊤
+HasRequest asks (Refused id) = ⊤
+HasRequest asks (Broken at) = ⊤
+
+-- of a talk the master's bytes so far were these, these were sent and these were shown: whatever
+-- bytes follow, the others are sent and shown that the client has still to send and to show
+pub record Stands (asks : Asks) (bytes taken shown : List ℕ) (s : ClientState) : Type 0 where
+  pub goes : (more : List ℕ) (ended : Bool)
+      → talk asks (bytes ++ more) ended
+      ≡ sending (taken ++ s.queue) (showing shown (later s asks more ended))
+  pub request : HasRequest asks s.stage
+
+-- no frame can be read now
+abbrev pub IsSettledAt : Stage → List ℕ → Type 0
+IsSettledAt Greets rest = first_frame Control rest ≡ More
+IsSettledAt (Asked id at) rest = first_frame Control rest ≡ More
+IsSettledAt Granted rest = ⊤
+IsSettledAt (Refused id) rest = ⊤
+IsSettledAt (Broken at) rest = ⊤
+
+abbrev pub IsSettled : ClientState → Type 0
+IsSettled s = IsSettledAt s.stage s.framer.rest
+
+-- how the talk is over at a stage, if it is
+abbrev pub outcome_of : Stage → Option Outcome
+outcome_of Greets = None
+outcome_of (Asked id at) = None
+outcome_of Granted = Some Finished
+outcome_of (Refused id) = Some (RefusedAt id)
+outcome_of (Broken at) = Some (BrokenAt at)
+
+-- ---- a frame is read
+
+-- whatever came before: the line is shown, and where there is none no frame can be read now; with
+-- each frame less is left to be read, and no reply is awaited where none was
+pub record ReadsNextTo (asks : Asks) (old new : ClientState) (line : Option Line) : Type 0 where
+  pub stands : (bytes taken shown : List ℕ) → Stands asks bytes taken shown old
+      → Stands asks bytes taken (shown ++ text_of_some line) new
+  pub settled : line ≡ None → IsSettled new
+  pub less : IsSome line → length new.framer.rest < length old.framer.rest
+  pub over : place_of old.stage ≡ None → place_of new.stage ≡ None
+
+abbrev pub ReadsNext : Asks → ClientState → ClientState → Result (Option Line) OutOfMemory → Type 0
+ReadsNext asks old new (Ok line) = ReadsNextTo asks old new line
+ReadsNext asks old new (Err e) = ⊤

@@ -1,0 +1,79 @@
+-- The calls of a wire and the faults that a talk counts.
+use Rattle.std.specs.Prelude.{◌≡◌, ◌≢◌, ◌≤◌, ◌<◌, ◌+◌, ◌-◌, ◌^◌, min, ℕ, Result, Ok, Err}
+use Rattle.mux_outside.specs.Counts.{Rose, counted}
+use Rattle.mux_outside.specs.Seen.{Calls}
+use Rattle.mux_outside.specs.Wire.{SameFaults}
+use Rattle.mux_client.specs.declared.talked.Talked.{Talked}
+use Rattle.mux_client.specs.declared.talked.Talked.TheVariants.{Done, Refused, BadMaster, WriteFault, ServerFailed, Spent, OutOfMemory}
+
+-- ---- calls
+
+-- so many calls of `wait` were counted, whose count stays at the end of its type
+pub record Waited (waits old new : ℕ) : Type 0 where
+  pub most : new ≤ old + waits
+  pub least : min (old + waits) (2 ^ 64 - 1) ≤ new
+  pub fits : old < 2 ^ 64 → new < 2 ^ 64
+
+-- so many calls of `wait`, none that wanted memory, and none behind one that did
+pub record Well (waits : ℕ) (old new : Calls) : Type 0 where
+  pub waited : Waited waits old.waits new.waits
+  pub wants : new.wants ≡ old.wants
+  pub late : old.wants ≡ 0 → new.late ≡ old.late
+
+-- so many calls of `wait`, and at most one call that wanted memory, which was the last, and behind
+-- which the talk is over for want of memory
+pub record Cut (waits : ℕ) (answer : Talked) (old new : Calls) : Type 0 where
+  pub waited : Waited waits old.waits new.waits
+  pub wants : new.wants ≤ old.wants + 1
+  pub starved : new.wants ≢ old.wants → answer ≡ OutOfMemory
+  pub late : old.wants ≡ 0 → new.late ≡ old.late
+
+-- an answer cuts a call short
+abbrev pub Counts : {A : Type 0} → ℕ → Result A Talked → Calls → Calls → Type 0
+Counts waits (Ok x) old new = Well waits old new
+Counts waits (Err answer) old new = Cut waits answer old new
+
+-- of a whole talk: with its turns spent it made as many calls of `wait` as it has turns, and no
+-- answer of the master, no fault of the sink comes without one; where a call wanted memory it was
+-- the last, and the talk ended for want of memory
+pub record Stops (turns : ℕ) (answer : Talked) (old new : Calls) : Type 0 where
+  pub few : new.waits ≤ old.waits + turns
+  pub spent : answer ≡ Spent → old.waits < 2 ^ 64 → new.waits ≡ min (old.waits + turns) (2 ^ 64 - 1)
+  pub ends : answer ≢ Spent → answer ≢ OutOfMemory → answer ≢ ServerFailed
+      → counted old.waits ≤ new.waits
+  pub wants : new.wants ≤ old.wants + 1
+  pub starved : new.wants ≢ old.wants → answer ≡ OutOfMemory
+  pub late : old.wants ≡ 0 → new.late ≡ old.late
+
+-- ---- faults
+
+-- the server's count rose where its stream failed, and stays with any other answer; that of the
+-- clients stays
+abbrev pub WireFaults : Talked → ℕ → ℕ → ℕ → ℕ → Type 0
+WireFaults ServerFailed server server' client client' = Rose server server' × (client' ≡ client)
+WireFaults Done server server' client client' = SameFaults server server' client client'
+WireFaults (Refused id) server server' client client' = SameFaults server server' client client'
+WireFaults (BadMaster at) server server' client client' = SameFaults server server' client client'
+WireFaults WriteFault server server' client client' = SameFaults server server' client client'
+WireFaults Spent server server' client client' = SameFaults server server' client client'
+WireFaults OutOfMemory server server' client client' = SameFaults server server' client client'
+
+-- no call that goes on has a fault
+abbrev pub StepFaults : {A : Type 0} → Result A Talked → ℕ → ℕ → ℕ → ℕ → Type 0
+StepFaults (Ok x) server server' client client' = SameFaults server server' client client'
+StepFaults (Err answer) server server' client client' =
+    WireFaults answer server server' client client'
+
+-- the sink's count rose where it failed, and stays with any other answer
+abbrev pub SinkFaults : Talked → ℕ → ℕ → Type 0
+SinkFaults WriteFault faults faults' = Rose faults faults'
+SinkFaults Done faults faults' = faults' ≡ faults
+SinkFaults (Refused id) faults faults' = faults' ≡ faults
+SinkFaults (BadMaster at) faults faults' = faults' ≡ faults
+SinkFaults ServerFailed faults faults' = faults' ≡ faults
+SinkFaults Spent faults faults' = faults' ≡ faults
+SinkFaults OutOfMemory faults faults' = faults' ≡ faults
+
+abbrev pub StepSinkFaults : {A : Type 0} → Result A Talked → ℕ → ℕ → Type 0
+StepSinkFaults (Ok x) faults faults' = faults' ≡ faults
+StepSinkFaults (Err answer) faults faults' = SinkFaults answer faults faults'

@@ -1,0 +1,145 @@
+-- A talk over a wire that tells its marks: what stream 0 gave and took, and what it must have taken
+-- at each wait.
+use Rattle.std.specs.Prelude.{◌≡◌, ◌⊎◌, ℕ, ◌==◌, Bool, true, false, ◌||◌, List, [], ◌∷◌, ◌++◌, flat_map, Option, Some, None}
+use Rattle.std.specs.List.{list_any}
+use Rattle.mux_outside.specs.Marks.{bytes_taken}
+use Rattle.mux_outside.specs.declared.mark.Mark.{Mark}
+use Rattle.mux_outside.specs.declared.mark.Mark.TheVariants.{Waits, Gets, Ends, Frees, Holds}
+use Rattle.mux_outside.specs.declared.turn.Want.{Want}
+use Rattle.mux_outside.specs.declared.turn.Want.TheVariants.{Read}
+use Rattle.mux_client.specs.declared.asks.Asks.{Asks}
+use Rattle.mux_client.specs.declared.talked.Talked.{Talked}
+use Rattle.mux_client.specs.declared.talked.Talked.TheVariants.{Done, Refused, BadMaster, WriteFault, ServerFailed, Spent, OutOfMemory}
+use Rattle.mux_client.specs.Talk.{Talk, talk, Finished, RefusedAt, BrokenAt}
+
+-- ---- what the marks say of stream 0
+
+-- the bytes that it gave
+abbrev pub given_at : Mark → List ℕ
+given_at (Gets t bytes) = elim (t == 0) [ true ↦ bytes | false ↦ [] ]
+given_at _ = []
+
+abbrev pub bytes_given : List Mark → List ℕ
+bytes_given marks = flat_map given_at marks
+
+-- whether it ended
+abbrev pub ends_at : Mark → Bool
+ends_at (Ends t) = t == 0
+ends_at _ = false
+
+abbrev pub has_ended : List Mark → Bool
+has_ended marks = list_any ends_at marks
+
+-- whether it takes nothing for now: by the last mark that says so, or that it takes again
+abbrev pub held_by : Bool → Mark → Bool
+held_by held (Holds t) = t == 0 || held
+held_by held (Frees t) = elim (t == 0) [ true ↦ false | false ↦ held ]
+held_by held _ = held
+
+abbrev pub is_held_from : Bool → List Mark → Bool
+is_held_from held [] = held
+is_held_from held (mark ∷ marks) = is_held_from (held_by held mark) marks
+
+abbrev pub is_held : List Mark → Bool
+is_held marks = is_held_from false marks
+
+-- ---- the talk of a journal
+
+abbrev pub talk_of : Asks → List Mark → Talk
+talk_of asks marks = talk asks (bytes_given marks) (has_ended marks)
+
+-- what it took is a front of what is sent
+pub record TookFront (asks : Asks) (marks : List Mark) : Type 0 where
+  pub rest : List ℕ
+  pub whole : (talk_of asks marks).sent ≡ bytes_taken 0 marks ++ rest
+
+-- it took all of it
+abbrev pub TookAll : Asks → List Mark → Type 0
+TookAll asks marks = bytes_taken 0 marks ≡ (talk_of asks marks).sent
+
+-- at one mark: at a wait all was taken that is sent for the bytes read so far, or stream 0 is
+-- blocked
+abbrev pub WaitsRight : Asks → List Mark → Mark → Type 0
+WaitsRight asks before (Waits waiting want streams listens) =
+    TookAll asks before ⊎ (is_held before ≡ true)
+WaitsRight asks before _ = Unit {0}
+
+-- at each mark behind some others
+abbrev pub Throughout : Asks → List Mark → List Mark → Type 0
+Throughout asks before [] = Unit {0}
+Throughout asks before (mark ∷ marks) =
+    WaitsRight asks before mark × TookFront asks (before ++ mark ∷ [])
+    × Throughout asks (before ++ mark ∷ []) marks
+
+-- at each mark, behind some others
+abbrev pub AtEach : (List Mark → Mark → Type 0) → List Mark → List Mark → Type 0
+AtEach P before [] = Unit {0}
+AtEach P before (mark ∷ marks) = P before mark × AtEach P (before ++ mark ∷ []) marks
+
+-- ---- how it ended
+
+-- this answer is that of the talk: the last reply came and all was taken, a refusal, or a breach;
+-- with any other answer the talk has no outcome, or not all was taken
+abbrev pub Answers : Talked → Asks → List Mark → Type 0
+Answers Done asks marks = ((talk_of asks marks).outcome ≡ Some Finished) × TookAll asks marks
+Answers (Refused id) asks marks = (talk_of asks marks).outcome ≡ Some (RefusedAt id)
+Answers (BadMaster at) asks marks = (talk_of asks marks).outcome ≡ Some (BrokenAt at)
+Answers Spent asks marks = ((talk_of asks marks).outcome ≡ None)
+    ⊎ (((talk_of asks marks).outcome ≡ Some Finished) × (TookAll asks marks → ⊥))
+Answers WriteFault asks marks = Unit {0}
+Answers ServerFailed asks marks = Unit {0}
+Answers OutOfMemory asks marks = Unit {0}
+
+-- the streams that take no bytes for now: stream 0, or none
+abbrev pub held_streams : Bool → List ℕ
+held_streams true = 0 ∷ []
+held_streams false = []
+
+-- a call of wait behind these marks: it reads, and waits for stream 0 where that is blocked; and a
+-- talk that is over waits no more, so it has no outcome yet, or not all was taken
+pub record IsOpenWait (asks : Asks) (before : List Mark) (waiting : List ℕ) (want : Want) : Type 0
+  where
+    pub opens : Answers Spent asks before
+    pub reads : want ≡ Read
+    pub waits_for : waiting ≡ held_streams (is_held before)
+
+abbrev pub WaitOpen : Asks → List Mark → Mark → Type 0
+WaitOpen asks before (Waits waiting want streams listens) = IsOpenWait asks before waiting want
+WaitOpen asks before _ = Unit {0}
+
+-- a front of what is shown, and all of it but for a fault of the sink and want of memory
+pub record ShowsFront (shown out : List ℕ) : Type 0 where
+  pub rest : List ℕ
+  pub whole : out ≡ shown ++ rest
+
+abbrev pub Shows : Talked → List ℕ → List ℕ → Type 0
+Shows WriteFault shown out = ShowsFront shown out
+Shows OutOfMemory shown out = ShowsFront shown out
+Shows _ shown out = shown ≡ out
+
+-- a whole talk, where the wire tells: the marks and the bytes of the sink before it and after it
+pub record Talks (asks : Asks) (answer : Talked) (old new : List Mark) : Type 0 where
+  pub marks : List Mark
+  pub added : new ≡ old ++ marks
+  pub throughout : Throughout asks [] marks
+  pub answers : Answers answer asks marks
+
+abbrev pub TalksTold : Asks → Talked → Option (List Mark) → Option (List Mark) → Type 0
+TalksTold asks answer (Some old) (Some new) = Talks asks answer old new
+TalksTold asks answer None None = Unit {0}
+TalksTold asks answer _ _ = ⊥
+
+-- the same of the sink, where both tell
+pub record ShowsTalk (asks : Asks) (answer : Talked) (old new : List Mark) (before now : List ℕ)
+    : Type 0 where
+  pub marks : List Mark
+  pub shown : List ℕ
+  pub added : new ≡ old ++ marks
+  pub put : now ≡ before ++ shown
+  pub shows : Shows answer shown (talk_of asks marks).out
+
+abbrev pub ShowsTold : Asks → Talked → Option (List Mark) → Option (List Mark)
+    → Option (List ℕ) → Option (List ℕ) → Type 0
+ShowsTold asks answer (Some old) (Some new) (Some before) (Some now) =
+    ShowsTalk asks answer old new before now
+ShowsTold asks answer _ _ _ _ = Unit {0}

@@ -1,0 +1,10 @@
+pub mod Requests
+pub mod Replies
+pub mod Answers
+pub mod Talk
+pub mod Verdicts
+pub mod Client
+pub mod Journal
+pub mod Counted
+pub mod Talking
+pub mod Laws

@@ -1,0 +1,88 @@
+-- A talk with a master, by what is asked, the master's bytes and whether they ended (PROTOCOL.mux):
+-- what is sent, what is shown, and how it ends.
+use Rattle.std.specs.Prelude.{ℕ, ◌+◌, Bool, true, false, List, [], ◌∷◌, ◌++◌, length, Option, Some, None}
+use Rattle.ssh_grammar.specs.declared.fault.BadFrame.{BadFrame}
+use Rattle.ssh_grammar.specs.declared.framing.Framing.TheVariants as framing
+use Rattle.ssh_grammar.specs.Frames.{Cut, cut}
+use Rattle.mux_client.specs.declared.asks.Asks.{Asks}
+use Rattle.mux_client.specs.Requests.{Request, requests_of, request_frame, hello_frame}
+use Rattle.mux_client.specs.Replies.{Verdict, Grants, Refuses, Breaks, verdict, is_hello}
+
+-- each request had its reply; the request with this id was refused; or the master broke the
+-- protocol at this place of its bytes
+pub data Outcome : Type 0 where
+  Finished : Outcome
+  RefusedAt : (id : ℕ) → Outcome
+  BrokenAt : (at : ℕ) → Outcome
+
+-- what is sent, what is shown, and the outcome, if there is one yet
+pub record Talk : Type 0 where
+  pub sent : List ℕ
+  pub out : List ℕ
+  pub outcome : Option Outcome
+
+-- ---- parts
+
+-- it is over, or waits
+abbrev pub stops : Option Outcome → Talk
+stops outcome = record { sent = []; out = []; outcome = outcome }
+
+-- these bytes are sent first
+abbrev pub sending : List ℕ → Talk → Talk
+sending bytes t = record { sent = bytes ++ t.sent; out = t.out; outcome = t.outcome }
+
+-- these bytes are shown first
+abbrev pub showing : List ℕ → Talk → Talk
+showing line t = record { sent = t.sent; out = line ++ t.out; outcome = t.outcome }
+
+-- the place behind a frame
+abbrev pub behind : ℕ → List ℕ → ℕ
+behind at body = at + (4 + length body)
+
+-- ---- frame by frame
+
+-- behind the last whole frame: broken where a fault stands there or the bytes ended, and else it
+-- waits
+abbrev pub broken_by : Option BadFrame → Bool → Bool
+broken_by (Some fault) ended = true
+broken_by None ended = ended
+
+abbrev pub tail_outcome : Bool → ℕ → Option Outcome
+tail_outcome true at = Some (BrokenAt at)
+tail_outcome false at = None
+
+-- what follows a reply: the other requests where it grants, and the end where it doesn't
+abbrev pub on_reply : Verdict → ℕ → ℕ → Talk → Talk
+on_reply (Grants line) id at later = showing line later
+on_reply Refuses id at later = stops (Some (RefusedAt id))
+on_reply Breaks id at later = stops (Some (BrokenAt at))
+
+-- the requests from this one on, with its id, the place of the next frame, the frames from there
+-- on, and whether the talk is broken behind them
+abbrev pub talk_on : List Request → ℕ → ℕ → List (List ℕ) → Bool → Talk
+talk_on [] id at bodies broken = stops (Some Finished)
+talk_on (request ∷ requests) id at [] broken =
+    sending (request_frame id request) (stops (tail_outcome broken at))
+talk_on (request ∷ requests) id at (body ∷ bodies) broken =
+    sending (request_frame id request)
+    (on_reply (verdict request id body) id at
+    (talk_on requests (id + 1) (behind at body) bodies broken))
+
+-- a hello comes first
+abbrev pub on_hello : Bool → Talk → Talk
+on_hello true later = later
+on_hello false later = stops (Some (BrokenAt 0))
+
+abbrev pub greeted : List Request → List (List ℕ) → Bool → Talk
+greeted requests [] broken = stops (tail_outcome broken 0)
+greeted requests (body ∷ bodies) broken =
+    on_hello (is_hello body) (talk_on requests 0 (behind 0 body) bodies broken)
+
+-- by the frames of the bytes
+abbrev pub talk_by : Asks → Cut → Bool → Talk
+talk_by asks c ended =
+    sending hello_frame (greeted (requests_of asks) c.frames (broken_by c.fault ended))
+
+-- by the bytes
+abbrev pub talk : Asks → List ℕ → Bool → Talk
+talk asks bytes ended = talk_by asks (cut framing.Control bytes) ended

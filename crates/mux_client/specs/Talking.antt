@@ -1,0 +1,164 @@
+-- What holds between a client, its wire and its sink while it talks, and once the talk is over.
+use Rattle.std.specs.Prelude.{◌≡◌, ◌≢◌, ◌⊎◌, ℕ, true, false, ⊤, List, [], ◌∷◌, ◌++◌, Option, Some, None, Result, Ok, Err}
+use Rattle.std.specs.Option.{option_map}
+use Rattle.mux_outside.specs.Marks.{bytes_taken}
+use Rattle.mux_outside.specs.Seen.{Seen}
+use Rattle.mux_outside.specs.declared.mark.Mark.{Mark}
+use Rattle.mux_client.specs.declared.asks.Asks.{Asks}
+use Rattle.mux_client.specs.declared.stage.Stage.{Stage}
+use Rattle.mux_client.specs.declared.stage.Stage.TheVariants as stage
+use Rattle.mux_client.specs.declared.talked.Talked.{Talked}
+use Rattle.mux_client.specs.declared.talked.Talked.TheVariants.{Done, Refused, BadMaster, WriteFault, ServerFailed, Spent, OutOfMemory}
+use Rattle.mux_client.specs.Journal.{bytes_given, has_ended, is_held, held_streams, talk_of, TookAll, Throughout, WaitOpen, AtEach, Answers, Shows, ShowsFront}
+use Rattle.mux_client.specs.Client.{ClientState, Stands, place_of}
+
+-- ---- the wire
+
+-- stream 0 alone is open, and no client is accepted
+pub record IsAlone (seen : Seen) : Type 0 where
+  pub streams : seen.streams ≡ 0 ∷ []
+  pub listens : seen.listens ≡ false
+
+-- no client came
+pub record AcceptsNone (old new : Seen) : Type 0 where
+  pub streams : new.streams ≡ old.streams
+  pub listens : new.listens ≡ old.listens
+  pub last : new.last ≡ old.last
+
+-- where stream 0 takes no bytes for now it is one of these, and else none is
+abbrev pub IsHeld : List ℕ → Type 0
+IsHeld held = (held ≡ []) ⊎ (held ≡ 0 ∷ [])
+
+-- ---- how far a talk is
+
+-- the talk isn't over: a reply is awaited, or not all was taken
+abbrev pub IsGoing : Stage → List ℕ → Type 0
+IsGoing stage.Greets queue = ⊤
+IsGoing (stage.Asks id at) queue = ⊤
+IsGoing stage.Granted queue = queue ≢ []
+IsGoing (stage.Refused id) queue = ⊥
+IsGoing (stage.Broken at) queue = ⊥
+
+-- it is over with this answer
+abbrev pub IsAnswerAt : Talked → Stage → List ℕ → Type 0
+IsAnswerAt Done at queue = (at ≡ stage.Granted) × (queue ≡ [])
+IsAnswerAt (Refused id) at queue = at ≡ stage.Refused id
+IsAnswerAt (BadMaster n) at queue = at ≡ stage.Broken n
+IsAnswerAt WriteFault at queue = ⊥
+IsAnswerAt ServerFailed at queue = ⊥
+IsAnswerAt Spent at queue = ⊥
+IsAnswerAt OutOfMemory at queue = ⊥
+
+abbrev pub IsDecided : ClientState → Result (Unit {0}) Talked → Type 0
+IsDecided s (Ok x) = IsGoing s.stage s.queue
+IsDecided s (Err answer) = IsAnswerAt answer s.stage s.queue
+
+-- where the master's bytes end a talk breaks off at the place of the reply that is awaited
+abbrev pub BreaksOff : ClientState → Result (Unit {0}) Talked → Type 0
+BreaksOff s (Ok x) = place_of s.stage ≡ None
+BreaksOff s (Err answer) = (at : ℕ) × (place_of s.stage ≡ Some at) × (answer ≡ BadMaster at)
+
+-- all was taken that is to be sent, or stream 0 takes no more for now
+abbrev pub IsOffered : List ℕ → ClientState → Type 0
+IsOffered held s = (s.queue ≡ []) ⊎ (held ≡ 0 ∷ [])
+
+-- an answer that writes to the wire give, and one that the sink gives
+abbrev pub IsOfWire : Talked → Type 0
+IsOfWire ServerFailed = ⊤
+IsOfWire OutOfMemory = ⊤
+IsOfWire Done = ⊥
+IsOfWire (Refused id) = ⊥
+IsOfWire (BadMaster at) = ⊥
+IsOfWire WriteFault = ⊥
+IsOfWire Spent = ⊥
+
+abbrev pub IsOfSink : Talked → Type 0
+IsOfSink WriteFault = ⊤
+IsOfSink OutOfMemory = ⊤
+IsOfSink Done = ⊥
+IsOfSink (Refused id) = ⊥
+IsOfSink (BadMaster at) = ⊥
+IsOfSink ServerFailed = ⊥
+IsOfSink Spent = ⊥
+
+-- ---- the marks
+
+-- the wire told these marks more
+abbrev pub Tells : Option (List Mark) → Option (List Mark) → List Mark → Type 0
+Tells start told marks = told ≡ option_map (λ m. m ++ marks) start
+
+-- the marks so far are those of a talk
+pub record IsJournal (asks : Asks) (marks : List Mark) : Type 0 where
+  pub throughout : Throughout asks [] marks
+  pub opens : AtEach (WaitOpen asks) [] marks
+
+-- the client stands for what the wire told since the start, and for what was shown
+pub record Talking (asks : Asks) (start told : Option (List Mark)) (held shown : List ℕ)
+    (s : ClientState) : Type 0 where
+  pub marks : List Mark
+  pub tells : Tells start told marks
+  pub journal : IsJournal asks marks
+  pub stands : Stands asks (bytes_given marks) (bytes_taken 0 marks) shown s
+  pub ended : has_ended marks ≡ true → place_of s.stage ≡ None
+  pub held_is : held ≡ held_streams (is_held marks)
+
+-- a talk that is over: these bytes were shown, and these were to be shown until then; a fault of the
+-- sink comes at a line; and with its turns spent the master took all that is sent by then, or takes
+-- no more for now
+pub record IsTalk (asks : Asks) (answer : Talked) (start told : Option (List Mark))
+    (shown due : List ℕ) : Type 0 where
+  pub marks : List Mark
+  pub tells : Tells start told marks
+  pub journal : IsJournal asks marks
+  pub answers : Answers answer asks marks
+  pub shows : Shows answer shown (talk_of asks marks).out
+  pub due_front : ShowsFront due (talk_of asks marks).out
+  pub fault : answer ≡ WriteFault → due ≢ []
+  pub offered : answer ≡ Spent → marks ≢ [] → TookAll asks marks ⊎ (is_held marks ≡ true)
+
+-- it goes on, or is over with an answer
+abbrev pub TalksOn : {A : Type 0} → Result A Talked → (A → Type 0) → (Talked → Type 0) → Type 0
+TalksOn (Ok x) On Over = On x
+TalksOn (Err answer) On Over = Over answer
+
+-- ---- the sink
+
+-- it took these bytes more, and where there are none it wasn't called
+pub record ShowsOn {V : Type 0} (before now : Option (List ℕ)) (old new : V)
+    (Holds : List ℕ → Type 0) : Type 0 where
+  pub more : List ℕ
+  pub put : now ≡ option_map (λ b. b ++ more) before
+  pub quiet : more ≡ [] → new ≡ old
+  pub holds : Holds more
+
+-- it took these bytes more of those that were to be shown, and where there are none of these it
+-- wasn't called
+pub record ShowsLast {V : Type 0} (before now : Option (List ℕ)) (old new : V)
+    (Holds : List ℕ → List ℕ → Type 0) : Type 0 where
+  pub more : List ℕ
+  pub due : List ℕ
+  pub put : now ≡ option_map (λ b. b ++ more) before
+  pub quiet : due ≡ [] → new ≡ old
+  pub holds : Holds more due
+
+-- a line that wasn't shown whole: for a fault of the sink a front of it, which has some bytes, and
+-- else nothing of it
+abbrev pub IsCutLine : Talked → List ℕ → List ℕ → List ℕ → Type 0
+IsCutLine WriteFault line more due = (due ≡ line) × (due ≢ []) × ShowsFront more line
+IsCutLine OutOfMemory line more due = (due ≡ line) × (more ≡ [])
+IsCutLine Done line more due = ⊥
+IsCutLine (Refused id) line more due = ⊥
+IsCutLine (BadMaster at) line more due = ⊥
+IsCutLine ServerFailed line more due = ⊥
+IsCutLine Spent line more due = ⊥
+
+-- a whole talk
+abbrev pub WholeTalk : {V : Type 0} → Asks → Talked → Option (List Mark) → Option (List Mark)
+    → Option (List ℕ) → Option (List ℕ) → V → V → Type 0
+WholeTalk asks answer start told before now old new =
+    ShowsLast before now old new (λ shown due. IsTalk asks answer start told shown due)
+
+-- how a talk ended whose turns were spent, if it wasn't over before
+abbrev pub talked_of : Result (Unit {0}) Talked → Talked
+talked_of (Ok x) = Spent
+talked_of (Err answer) = answer

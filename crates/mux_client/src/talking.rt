@@ -1,0 +1,329 @@
+ghost use Rattle.std.specs.Prelude.{◌≡◌, ◌≢◌, ◌++◌, ◌+◌, ◌<◌, [], ◌∷◌, ℕ, List, length, true, false, IsTrue, IfOk, IfErr, OnOk, Option};
+ghost use Rattle.mux_outside.specs.Counts.{Rose};
+ghost use Rattle.mux_outside.specs.declared.mark.Mark.{Mark as TheMark};
+ghost use Rattle.mux_client.specs.declared.asks.Asks.{Asks as TheAsks};
+ghost use Rattle.mux_client.specs.declared.talked.Talked.TheVariants.{ServerFailed as FailedServer, WriteFault as FailedSink, Spent as SpentTurns};
+ghost use Rattle.mux_client.specs.Requests.{MayAsk};
+ghost use Rattle.mux_client.specs.Verdicts.{text_of_line};
+ghost use Rattle.mux_client.specs.Client.{IsSettled};
+ghost use Rattle.mux_client.specs.Journal.{TalksTold, ShowsTold};
+ghost use Rattle.mux_client.specs.Counted.{Counts, Stops, WireFaults, StepFaults, SinkFaults, StepSinkFaults};
+ghost use Rattle.mux_client.specs.Talking.{IsAlone, AcceptsNone, IsHeld, IsDecided, BreaksOff, IsGoing, IsOffered, IsOfWire, IsOfSink, IsCutLine, talked_of, Talking, IsTalk, TalksOn, ShowsOn, ShowsLast, WholeTalk};
+
+use crate::asks::Asks;
+use crate::client::Client;
+use crate::stage::Stage;
+use crate::talked::Talked;
+use crate::verdict::{Line, text_of};
+use mux_outside::{FileError, Piece, Sink, Streams, Turn, Want, Wire, Wrote};
+use std::alloc::Global;
+
+// In what follows an `Err` says how the talk is over.
+
+// Offers the master what is to be sent, once: whether it took some and can be offered the rest.
+fn offer_once<W: Wire>(
+    client: &mut Client,
+    wire: &mut W,
+    held: &mut Streams,
+) -> Result<bool, Talked>
+    requires alone { IsAlone (W.seen wire.old) }
+    requires blocked { (W.seen wire.old).blocked ≡ [] }
+    requires held { held.old ≡ [] }
+    requires settled { IsSettled client.old }
+    ensures talking { (asks : TheAsks) (start : Option (List TheMark)) (shown : List ℕ)
+        → Talking asks start (W.seen wire.old).told held.old shown client.old
+        → TalksOn result
+        (λ more. Talking asks start (W.seen wire.new).told held.new shown client.new)
+        (λ answer. IsTalk asks answer start (W.seen wire.new).told shown shown) }
+    ensures settled { OnOk result (IsSettled client.new) }
+    ensures blocked { OnOk result ((W.seen wire.new).blocked ≡ held.new) }
+    ensures held { OnOk result (IsHeld held.new) }
+    ensures more { IfOk result (λ more. more ≡ true → held.new ≡ []) }
+    ensures less { IfOk result (λ more. more ≡ true
+        → length client.new.queue < length client.old.queue) }
+    ensures offered { IfOk result (λ more. more ≡ false → IsOffered held.new client.new) }
+    ensures own { IfErr result IsOfWire }
+    ensures stage { OnOk result (client.new.stage ≡ client.old.stage) }
+    ensures none_accepted { AcceptsNone (W.seen wire.old) (W.seen wire.new) }
+    ensures calls { Counts 0 result (W.calls wire.old) (W.calls wire.new) }
+    ensures cause { StepFaults result (W.server_faults wire.old) (W.server_faults wire.new)
+        (W.client_faults wire.old) (W.client_faults wire.new) }
+    ensures openings { W.openings wire.new ≡ W.openings wire.old }
+    ensures joinings { W.joinings wire.new ≡ W.joinings wire.old }
+{
+    let bytes = client.front();
+    if bytes.is_empty() {
+        return Ok(false);
+    }
+    match wire.write(0, bytes) {
+        Wrote::Took(n) => {
+            client.took(n);
+            Ok(true)
+        }
+        Wrote::Later => {
+            held.push(0)?;
+            Ok(false)
+        }
+        Wrote::Failed => Err(Talked::ServerFailed),
+        Wrote::NoMemory => Err(Talked::OutOfMemory),
+    }
+}
+
+// Offers the master what is to be sent, until all is taken, or it takes no more for now, or its
+// stream fails.
+fn offer<W: Wire>(client: &mut Client, wire: &mut W, held: &mut Streams) -> Result<(), Talked>
+    requires alone { IsAlone (W.seen wire.old) }
+    requires blocked { (W.seen wire.old).blocked ≡ held.old }
+    requires held { IsHeld held.old }
+    requires settled { IsSettled client.old }
+    ensures talking { (asks : TheAsks) (start : Option (List TheMark)) (shown : List ℕ)
+        → Talking asks start (W.seen wire.old).told held.old shown client.old
+        → TalksOn result
+        (λ done. Talking asks start (W.seen wire.new).told held.new shown client.new)
+        (λ answer. IsTalk asks answer start (W.seen wire.new).told shown shown) }
+    ensures settled { OnOk result (IsSettled client.new) }
+    ensures blocked { OnOk result ((W.seen wire.new).blocked ≡ held.new) }
+    ensures held { OnOk result (IsHeld held.new) }
+    ensures offered { OnOk result (IsOffered held.new client.new) }
+    ensures own { IfErr result IsOfWire }
+    ensures stage { OnOk result (client.new.stage ≡ client.old.stage) }
+    ensures none_accepted { AcceptsNone (W.seen wire.old) (W.seen wire.new) }
+    ensures calls { Counts 0 result (W.calls wire.old) (W.calls wire.new) }
+    ensures cause { StepFaults result (W.server_faults wire.old) (W.server_faults wire.new)
+        (W.client_faults wire.old) (W.client_faults wire.new) }
+    ensures openings { W.openings wire.new ≡ W.openings wire.old }
+    ensures joinings { W.joinings wire.new ≡ W.joinings wire.old }
+{
+    if held.len() > 0 {
+        return Ok(());
+    }
+    while offer_once(client, wire, held)? {}
+    Ok(())
+}
+
+// How the talk is over, if it is: each request was granted and all was sent, or one was refused, or
+// the master broke the protocol.
+fn decided(client: &Client) -> Result<(), Talked>
+    ensures { IsDecided client.now result }
+{
+    match client.stage() {
+        Stage::Granted if client.front().is_empty() => Err(Talked::Done),
+        Stage::Refused { id } => Err(Talked::Refused { id }),
+        Stage::Broken { at } => Err(Talked::BadMaster { at }),
+        _ => Ok(()),
+    }
+}
+
+// How the talk is over, if it is, where the master's bytes end: before the last reply they break
+// the protocol.
+fn broken_off(client: &Client) -> Result<(), Talked>
+    ensures { BreaksOff client.now result }
+{
+    match client.stage() {
+        Stage::Greets => Err(Talked::BadMaster { at: 0 }),
+        Stage::Asks { at, .. } => Err(Talked::BadMaster { at }),
+        _ => Ok(()),
+    }
+}
+
+// Shows a line, if it has some bytes.
+fn show<S: Sink>(alloc: Global, line: Line, out: &mut S) -> Result<(), Talked>
+    ensures shows { TalksOn result
+        (λ done. ShowsOn (S.told out.old) (S.told out.new) out.old out.new
+        (λ more. more ≡ text_of_line line))
+        (λ answer. ShowsLast (S.told out.old) (S.told out.new) out.old out.new
+        (IsCutLine answer (text_of_line line))) }
+    ensures own { IfErr result IsOfSink }
+    ensures cause { StepSinkFaults result (S.faults out.old) (S.faults out.new) }
+{
+    if line == Line::Nothing {
+        return Ok(());
+    }
+    let text = text_of(alloc, line)?;
+    match out.put(text.as_bytes()) {
+        Ok(()) => Ok(()),
+        Err(FileError::Failed) => Err(Talked::WriteFault),
+        Err(FileError::OutOfMemory) => Err(Talked::OutOfMemory),
+    }
+}
+
+// Reads the next frame, and shows what it shows: whether there was one.
+fn read_once<S: Sink>(
+    alloc: Global,
+    client: &mut Client,
+    asks: &Asks,
+    out: &mut S,
+) -> Result<bool, Talked>
+    requires { MayAsk asks.now }
+    ensures talking { (start told : Option (List TheMark)) (held shown : List ℕ)
+        → Talking asks.now start told held shown client.old
+        → TalksOn result
+        (λ some. ShowsOn (S.told out.old) (S.told out.new) out.old out.new
+        (λ more. Talking asks.now start told held (shown ++ more) client.new))
+        (λ answer. ShowsLast (S.told out.old) (S.told out.new) out.old out.new
+        (λ more due. IsTalk asks.now answer start told (shown ++ more) (shown ++ due))) }
+    ensures settled { IfOk result (λ some. some ≡ false → IsSettled client.new) }
+    ensures less { IfOk result (λ some. some ≡ true
+        → length client.new.framer.rest < length client.old.framer.rest) }
+    ensures own { IfErr result IsOfSink }
+    ensures cause { StepSinkFaults result (S.faults out.old) (S.faults out.new) }
+{
+    match client.next(asks)? {
+        None => Ok(false),
+        Some(line) => {
+            show(alloc, line, out)?;
+            Ok(true)
+        }
+    }
+}
+
+// Reads all frames that are there, and shows what they show.
+fn read<S: Sink>(alloc: Global, client: &mut Client, asks: &Asks, out: &mut S) -> Result<(), Talked>
+    requires { MayAsk asks.now }
+    ensures talking { (start told : Option (List TheMark)) (held shown : List ℕ)
+        → Talking asks.now start told held shown client.old
+        → TalksOn result
+        (λ done. ShowsOn (S.told out.old) (S.told out.new) out.old out.new
+        (λ more. Talking asks.now start told held (shown ++ more) client.new))
+        (λ answer. ShowsLast (S.told out.old) (S.told out.new) out.old out.new
+        (λ more due. IsTalk asks.now answer start told (shown ++ more) (shown ++ due))) }
+    ensures settled { OnOk result (IsSettled client.new) }
+    ensures own { IfErr result IsOfSink }
+    ensures cause { StepSinkFaults result (S.faults out.old) (S.faults out.new) }
+{
+    while read_once(alloc, client, asks, out)? {}
+    Ok(())
+}
+
+// One turn.
+fn turn<W: Wire, S: Sink>(
+    alloc: Global,
+    client: &mut Client,
+    wire: &mut W,
+    out: &mut S,
+    asks: &Asks,
+    held: &mut Streams,
+    piece: &mut Piece,
+) -> Result<(), Talked>
+    requires may { MayAsk asks.now }
+    requires alone { IsAlone (W.seen wire.old) }
+    requires blocked { (W.seen wire.old).blocked ≡ held.old }
+    requires held { IsHeld held.old }
+    requires settled { IsSettled client.old }
+    requires offered { IsOffered held.old client.old }
+    requires going { IsGoing client.old.stage client.old.queue }
+    ensures talking { (start : Option (List TheMark)) (shown : List ℕ)
+        → Talking asks.now start (W.seen wire.old).told held.old shown client.old
+        → TalksOn result
+        (λ done. ShowsOn (S.told out.old) (S.told out.new) out.old out.new
+        (λ more. Talking asks.now start (W.seen wire.new).told held.new (shown ++ more) client.new))
+        (λ answer. ShowsLast (S.told out.old) (S.told out.new) out.old out.new
+        (λ more due. IsTalk asks.now answer start (W.seen wire.new).told (shown ++ more)
+        (shown ++ due))) }
+    ensures settled { OnOk result (IsSettled client.new) }
+    ensures blocked { OnOk result ((W.seen wire.new).blocked ≡ held.new) }
+    ensures held { OnOk result (IsHeld held.new) }
+    ensures unspent { IfErr result (λ answer. answer ≢ SpentTurns) }
+    ensures none_accepted { AcceptsNone (W.seen wire.old) (W.seen wire.new) }
+    ensures calls { Counts 1 result (W.calls wire.old) (W.calls wire.new) }
+    ensures cause { StepFaults result (W.server_faults wire.old) (W.server_faults wire.new)
+        (W.client_faults wire.old) (W.client_faults wire.new) }
+    ensures sink { StepSinkFaults result (S.faults out.old) (S.faults out.new) }
+    ensures openings { W.openings wire.new ≡ W.openings wire.old }
+    ensures joinings { W.joinings wire.new ≡ W.joinings wire.old }
+{
+    match wire.wait(held, Want::Read, piece) {
+        Turn::Got(_) => {
+            client.hears(piece.as_bytes())?;
+            read(alloc, client, asks, out)
+        }
+        Turn::End(_) => broken_off(client),
+        Turn::Writable(stream) => {
+            held.remove(stream);
+            Ok(())
+        }
+        Turn::Failed(_) => Err(Talked::ServerFailed),
+        Turn::Accepted(_) => Ok(()),
+        Turn::NoMemory => Err(Talked::OutOfMemory),
+    }
+}
+
+// Talks for so many turns at most.
+fn converse<W: Wire, S: Sink>(
+    alloc: Global,
+    wire: &mut W,
+    out: &mut S,
+    asks: &Asks,
+    turns: u64,
+) -> Result<(), Talked>
+    requires may { MayAsk asks.now }
+    requires alone { IsAlone (W.seen wire.old) }
+    requires none_blocked { (W.seen wire.old).blocked ≡ [] }
+    ensures talks { WholeTalk asks.now (talked_of result) (W.seen wire.old).told
+        (W.seen wire.new).told (S.told out.old) (S.told out.new) out.old out.new }
+    ensures none_accepted { AcceptsNone (W.seen wire.old) (W.seen wire.new) }
+    ensures calls { Stops turns (talked_of result) (W.calls wire.old) (W.calls wire.new) }
+    ensures cause { WireFaults (talked_of result) (W.server_faults wire.old)
+        (W.server_faults wire.new) (W.client_faults wire.old) (W.client_faults wire.new) }
+    ensures sink { SinkFaults (talked_of result) (S.faults out.old) (S.faults out.new) }
+    ensures openings { W.openings wire.new ≡ W.openings wire.old }
+    ensures joinings { W.joinings wire.new ≡ W.joinings wire.old }
+{
+    let mut client = Client::new(alloc)?;
+    let mut piece = Piece::new(alloc)?;
+    let mut held = Streams::new(alloc);
+    for _ in 0..turns {
+        offer(&mut client, wire, &mut held)?;
+        decided(&client)?;
+        turn(alloc, &mut client, wire, out, asks, &mut held, &mut piece)?;
+    }
+    offer(&mut client, wire, &mut held)?;
+    decided(&client)
+}
+
+/// Asks a master over stream 0, and shows what it answers, for so many turns at most: how it ended.
+/// What the wire tells of it is the talk by the master's bytes: what stream 0 took is a front of
+/// what is sent, and at each wait all of it, or the stream is blocked.
+pub fn talk<W: Wire, S: Sink>(
+    alloc: Global,
+    wire: &mut W,
+    out: &mut S,
+    asks: &Asks,
+    turns: u64,
+) -> Talked
+    requires asks { MayAsk asks.now }
+    requires server_alone { (W.seen wire.old).streams ≡ 0 ∷ [] }
+    requires none_blocked { (W.seen wire.old).blocked ≡ [] }
+    requires silent { (W.seen wire.old).listens ≡ false }
+
+    // What was told, and what was shown.
+    ensures whole { WholeTalk asks.now result (W.seen wire.old).told (W.seen wire.new).told
+        (S.told out.old) (S.told out.new) out.old out.new }
+    ensures talks { TalksTold asks.now result (W.seen wire.old).told (W.seen wire.new).told }
+    ensures shows { ShowsTold asks.now result (W.seen wire.old).told (W.seen wire.new).told
+        (S.told out.old) (S.told out.new) }
+
+    // The calls, and whose fault it was.
+    ensures calls { Stops turns result (W.calls wire.old) (W.calls wire.new) }
+    ensures cause { WireFaults result (W.server_faults wire.old) (W.server_faults wire.new)
+        (W.client_faults wire.old) (W.client_faults wire.new) }
+    ensures sink { SinkFaults result (S.faults out.old) (S.faults out.new) }
+    ensures failed { result ≡ FailedServer
+        → Rose (W.server_faults wire.old) (W.server_faults wire.new) }
+    ensures fault { result ≡ FailedSink → Rose (S.faults out.old) (S.faults out.new) }
+
+    // What stays.
+    ensures none_accepted { AcceptsNone (W.seen wire.old) (W.seen wire.new) }
+    ensures openings { W.openings wire.new ≡ W.openings wire.old }
+    ensures joinings { W.joinings wire.new ≡ W.joinings wire.old }
+    ensures idle { turns ≡ 0 → (wire.new ≡ wire.old) × (out.new ≡ out.old) }
+{
+    // Without a turn nothing is written, so nothing can fail.
+    if turns == 0 {
+        return Talked::Spent;
+    }
+    match converse(alloc, wire, out, asks, turns) {
+        Ok(()) => Talked::Spent,
+        Err(talked) => talked,
+    }
+}

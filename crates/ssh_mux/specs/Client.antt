@@ -1,0 +1,178 @@
+-- What a client of a running master joins, and how its talk goes.
+use Rattle.std.specs.Prelude.{◌≡◌, ◌<◌, ◌≤◌, ◌+◌, ◌-◌, ◌^◌, min, ℕ, ◌⊎◌, Bool, true, false, IsTrue, List, [], ◌∷◌, ◌++◌, Option, Some, None, option_map, Result, Ok, Err}
+use Rattle.std.specs.Bool.{OnTrue}
+use Rattle.conf_rules.specs.declared.causes.ResolveError.{ResolveError}
+use Rattle.conf_rules.specs.Outcome.{Joins}
+use Rattle.conf_rules.specs.Texts.{Bytes}
+use Rattle.mux_client.specs.declared.asks.Asks.{Asks}
+use Rattle.mux_client.specs.declared.talked.Talked.{Talked}
+use Rattle.mux_client.specs.declared.talked.Talked.TheVariants as talks
+use Rattle.mux_client.specs.Journal.{TalksTold, ShowsTold}
+use Rattle.mux_outside.specs.Counts.{counted}
+use Rattle.mux_outside.specs.declared.mark.Mark.{Mark}
+use Rattle.mux_outside.specs.Seen.{Calls}
+use Rattle.ssh_mux.specs.declared.ending.Ending.{Ending as MeantEnding}
+use Rattle.ssh_mux.specs.declared.ending.Ending.TheVariants as endings
+use Rattle.ssh_mux.specs.declared.status.Status.{Status}
+use Rattle.ssh_mux.specs.declared.status.Status.TheVariants.{Done, Config, Outside, Write}
+use Rattle.ssh_mux.specs.declared.status.Status.TheVariants.{Open, Spent, Memory, Refused, BadMaster}
+use Rattle.ssh_mux.specs.Answers.{is_silent, may_ask, so_far}
+use Rattle.ssh_mux.specs.Asks.{asks_for}
+use Rattle.ssh_mux.specs.Outcomes.{Known, Certain, Client}
+use Rattle.ssh_mux.specs.Sharing.{TellsEnd}
+
+-- ---- the joining
+
+-- one joining more
+abbrev pub joined : Bytes → Option (List Bytes) → Option (List Bytes)
+joined control before = option_map (λ js. js ++ control ∷ []) before
+
+-- the wire was joined once, at this control path, but for want of memory
+abbrev pub JoinsAt : Bytes → Status → Option (List Bytes) → Option (List Bytes) → Type 0
+JoinsAt control Memory before now = (now ≡ before) ⊎ (now ≡ joined control before)
+JoinsAt control status before now = now ≡ joined control before
+
+-- the wire was joined once, at some control path
+pub record JoinsBy (before now : Option (List Bytes)) : Type 0 where
+  pub control : Bytes
+  pub once : now ≡ joined control before
+
+-- it was joined so, unless the configuration is refused, a fault came before or memory was wanting
+abbrev pub JoinsSome : Status → Option (List Bytes) → Option (List Bytes) → Type 0
+JoinsSome Config before now = now ≡ before
+JoinsSome Outside before now = now ≡ before
+JoinsSome Memory before now = (now ≡ before) ⊎ JoinsBy before now
+JoinsSome status before now = JoinsBy before now
+
+-- the same of what comes of words: only a client joins the wire, and none whose forwardings are
+-- refused or behind a fault
+abbrev pub JoinsOnce : Known → Status → Option (List Bytes) → Option (List Bytes) → Type 0
+JoinsOnce (Certain (Joins control asked what)) Config before now = now ≡ before
+JoinsOnce (Certain (Joins control asked what)) Outside before now = now ≡ before
+JoinsOnce (Certain (Joins control asked what)) status before now =
+    JoinsAt control status before now
+JoinsOnce (Client asked what) status before now = JoinsSome status before now
+JoinsOnce known status before now = now ≡ before
+
+-- ---- the talk
+
+-- how the end of a talk is told
+abbrev pub talk_told : Talked → Result Status MeantEnding
+talk_told talks.Done = Ok Done
+talk_told (talks.Refused id) = Err endings.MasterRefused
+talk_told (talks.BadMaster at) = Err endings.MasterBroke
+talk_told talks.WriteFault = Ok Write
+talk_told talks.ServerFailed = Err endings.TransportFailed
+talk_told talks.Spent = Err endings.TurnsSpent
+talk_told talks.OutOfMemory = Err endings.NoMemory
+
+-- whether a client ends so that found the control path and what it asks
+abbrev pub ends_asking : MeantEnding → Bool
+ends_asking endings.NotOpened = true
+ends_asking endings.TransportFailed = true
+ends_asking endings.TurnsSpent = true
+ends_asking endings.MasterRefused = true
+ends_asking endings.MasterBroke = true
+ends_asking endings.NoMemory = true
+ends_asking ending = false
+
+-- it ends without a line, or by such an ending
+abbrev pub EndsClient : Result Status MeantEnding → Type 0
+EndsClient (Ok status) = IsTrue (is_silent status)
+EndsClient (Err ending) = IsTrue (ends_asking ending)
+
+-- nobody was asked: the wire and the output tell what they told before
+pub record IsUnasked (start told : Option (List Mark)) (out out' : Option (List ℕ)) : Type 0 where
+  pub same_wire : told ≡ start
+  pub same_out : out' ≡ out
+
+-- A talk that keeps its promises, and its very end; `start` and `told` are what the wire tells, `out`
+-- and `out'` what the output does.
+pub record IsAsked (asks : Asks) (start told : Option (List Mark)) (out out' : Option (List ℕ))
+    (result : Result Status MeantEnding) : Type 0 where
+  pub answer : Talked
+  pub is_told : result ≡ talk_told answer
+  pub talks : TalksTold asks answer start told
+  pub shows : ShowsTold asks answer start told out out'
+
+-- where the wire wasn't joined nobody was asked
+abbrev pub Converses : Asks → Option (List Mark) → Option (List Mark)
+    → Option (List ℕ) → Option (List ℕ) → Result Status MeantEnding → Type 0
+Converses asks start told out out' (Err endings.NotOpened) = IsUnasked start told out out'
+Converses asks start told out out' (Err endings.NoMemory) =
+    IsUnasked start told out out' ⊎ IsAsked asks start told out out' (Err endings.NoMemory)
+Converses asks start told out out' result = IsAsked asks start told out out' result
+
+-- the same of what words ask, unless that is refused
+abbrev pub ConversesOn : Result Asks ResolveError → Option (List Mark) → Option (List Mark)
+    → Option (List ℕ) → Option (List ℕ) → Result Status MeantEnding → Type 0
+ConversesOn (Ok asks) start told out out' result = Converses asks start told out out' result
+ConversesOn (Err e) start told out out' result = IsUnasked start told out out'
+
+-- what a client asks: others ask nothing
+abbrev pub asks_in : Known → Option (Result Asks ResolveError)
+asks_in (Certain (Joins control asked what)) = Some (asks_for asked what)
+asks_in (Client asked what) = Some (asks_for asked what)
+asks_in known = None
+
+-- the same of what comes of words: only a client asks
+abbrev pub ConversesBy : Option (Result Asks ResolveError) → Option (List Mark)
+    → Option (List Mark) → Option (List ℕ) → Option (List ℕ) → Result Status MeantEnding → Type 0
+ConversesBy (Some asks) start told out out' result = ConversesOn asks start told out out' result
+ConversesBy None start told out out' result = Unit
+
+abbrev pub ConversesFor : Known → Option (List Mark) → Option (List Mark)
+    → Option (List ℕ) → Option (List ℕ) → Result Status MeantEnding → Type 0
+ConversesFor known start told out out' result =
+    OnTrue (may_ask known (so_far result)) (ConversesBy (asks_in known) start told out out' result)
+
+-- ---- the talk and its line
+
+-- a talk that keeps its promises, and the line of its very end
+pub record IsAnswered (asks : Asks) (start told : Option (List Mark)) (out out' : Option (List ℕ))
+    (status : Status) (err err' : Option (List ℕ)) (faults faults' : ℕ) : Type 0 where
+  pub answer : Talked
+  pub talks : TalksTold asks answer start told
+  pub shows : ShowsTold asks answer start told out out'
+  pub line : TellsEnd (talk_told answer) status err err' faults faults'
+
+-- the same of the program: where its wire wasn't joined nobody was asked
+abbrev pub Answers : Asks → Option (List Mark) → Option (List Mark) → Option (List ℕ)
+    → Option (List ℕ) → Status → Option (List ℕ) → Option (List ℕ) → ℕ → ℕ → Type 0
+Answers asks start told out out' Open err err' faults faults' = IsUnasked start told out out'
+Answers asks start told out out' Memory err err' faults faults' =
+    IsUnasked start told out out'
+    ⊎ IsAnswered asks start told out out' Memory err err' faults faults'
+Answers asks start told out out' status err err' faults faults' =
+    IsAnswered asks start told out out' status err err' faults faults'
+
+-- the same of what words ask
+abbrev pub AnswersBy : Option (Result Asks ResolveError) → Option (List Mark)
+    → Option (List Mark) → Option (List ℕ) → Option (List ℕ) → Status → Option (List ℕ)
+    → Option (List ℕ) → ℕ → ℕ → Type 0
+AnswersBy (Some (Ok asks)) start told out out' status err err' faults faults' =
+    Answers asks start told out out' status err err' faults faults'
+AnswersBy (Some (Err e)) start told out out' status err err' faults faults' =
+    IsUnasked start told out out'
+AnswersBy None start told out out' status err err' faults faults' = Unit
+
+-- the same of what comes of words: only a client asks
+abbrev pub AnswersFor : Known → Option (List Mark) → Option (List Mark) → Option (List ℕ)
+    → Option (List ℕ) → Status → Option (List ℕ) → Option (List ℕ) → ℕ → ℕ → Type 0
+AnswersFor known start told out out' status err err' faults faults' =
+    OnTrue (may_ask known status)
+    (AnswersBy (asks_in known) start told out out' status err err' faults faults')
+
+-- ---- turns
+
+-- Where all turns were taken `wait` was called once for each, and a talk with another end but for
+-- want of memory or a failed connection called it at least once; its count stays at the end of its
+-- type.
+abbrev pub TalksFor : ℕ → Status → Calls → Calls → Type 0
+TalksFor turns Spent old new =
+    old.waits < 2 ^ 64 → new.waits ≡ min (old.waits + turns) (2 ^ 64 - 1)
+TalksFor turns Done old new = counted old.waits ≤ new.waits
+TalksFor turns Write old new = counted old.waits ≤ new.waits
+TalksFor turns Refused old new = counted old.waits ≤ new.waits
+TalksFor turns BadMaster old new = counted old.waits ≤ new.waits
+TalksFor turns status old new = Unit
