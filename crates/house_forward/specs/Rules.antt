@@ -1,7 +1,7 @@
 -- What is asked of the house, as it is compared, and why it is refused whatever stands already.
 use Rattle.std.specs.Prelude.{◌≡◌, ℕ, Bool, true, false, not, ◌&&◌, ◌||◌, if◌then◌else◌, ◌==◌, nat_lt, List, [], ◌∷◌, length, codes, Option, Some, None}
 use Rattle.std.specs.Str.{bytes_eq}
-use Rattle.mux_outside.specs.declared.starts.StartAsk.{StartAsk}
+use Rattle.mux_outside.specs.declared.start_ask.StartAsk.{StartAsk}
 use Rattle.house_forward.specs.declared.rules.Asked.{Asked}
 use Rattle.house_forward.specs.declared.rules.Ends.{Ends}
 use Rattle.house_forward.specs.declared.rules.Kind.{Kind}

@@ -1,7 +1,7 @@
 //! What is asked of the house, as it is compared and as it is refused at once.
 ghost use Rattle.std.specs.Prelude.{◌≡◌, not, is_some, IfSome};
 ghost use Rattle.mux_outside.specs.House.{ask_of};
-ghost use Rattle.mux_outside.specs.declared.starts.StartAsk.{StartAsk};
+ghost use Rattle.mux_outside.specs.declared.start_ask.StartAsk.{StartAsk};
 ghost use Rattle.house_forward.specs.Rules.{listens_here, connects_there, same_kind, kind_of, local_host, remote_host, listen_host, has_bad_port, is_refused_alone, AreEnds, IsAsk};
 
 use mux_outside::{FwdAsk, StartAsk as OneAsk};

@@ -8,7 +8,7 @@ use Rattle.mux_outside.specs.declared.mark.Mark.TheVariants as wire
 use Rattle.ssh_grammar.specs.Said.{InControl, InProxy, parse}
 use Rattle.mux_outside.specs.declared.house_mark.HouseMark.{HouseMark}
 use Rattle.mux_outside.specs.declared.house_mark.HouseMark.TheVariants.{HouseAnswer, HouseAsked, HouseIn, HouseOrder, HouseSaid, HouseTook}
-use Rattle.mux_outside.specs.declared.starts.StartAsk.{StartAsk}
+use Rattle.mux_outside.specs.declared.start_ask.StartAsk.{StartAsk}
 use Rattle.mux_history.specs.declared.limits.TheConstants.{HOUSE}
 use Rattle.mux_history.specs.Kept.{AtEach}
 use Rattle.mux_history.specs.Journal.{items, IsLawful, LawfulMark, bytes_of, is_own_stream, items_in, log_of_journal, new_heard, new_sayings, server_end, unless_own}

@@ -8,7 +8,7 @@ use Rattle.mux_outside.specs.declared.house_mark.HouseMark.{HouseMark}
 use Rattle.mux_outside.specs.declared.house_mark.HouseMark.TheVariants.{HouseIn, HouseSaid, HouseTook, HouseAsked, HouseAnswer, HouseOrder}
 use Rattle.mux_outside.specs.declared.mark.Mark.{Mark}
 use Rattle.mux_outside.specs.declared.mark.Mark.TheVariants.{House}
-use Rattle.mux_outside.specs.declared.starts.StartAsk.{StartAsk}
+use Rattle.mux_outside.specs.declared.start_ask.StartAsk.{StartAsk}
 use Rattle.mux_history.specs.Policy.{Policy}
 use Rattle.mux_history.proofs.Wires.{wire-keeps}
 use Rattle.mux_machine.specs.State.{State}

@@ -5,7 +5,7 @@ use Rattle.mux_outside.specs.declared.house_mark.HouseMark.TheVariants.{HouseIn,
 use Rattle.mux_outside.specs.declared.mark.Mark.{Mark}
 use Rattle.mux_outside.specs.declared.mark.Mark.TheVariants.{Accepts, Gets, Ends, Fails, Takes, WriteFails, Joins, House}
 use Rattle.mux_outside.specs.declared.order.Order.{Order}
-use Rattle.mux_outside.specs.declared.starts.StartAsk.{StartAsk}
+use Rattle.mux_outside.specs.declared.start_ask.StartAsk.{StartAsk}
 use Rattle.mux_history.specs.declared.limits.TheConstants.{HOUSE}
 use Rattle.mux_history.specs.Journal.{bytes_of, is_accepted, is_own_stream, log_of_journal}
 use Rattle.mux_history.specs.Log.{Setting}

@@ -14,7 +14,7 @@ use Rattle.mux_outside.specs.declared.own_streams.OwnStream.{OwnStream}
 use Rattle.mux_outside.specs.declared.own_turn.OwnTurn.{OwnTurn}
 use Rattle.mux_outside.specs.declared.own_turn.OwnTurn.TheVariants.{Joined, Got, End, Writable, Failed}
 use Rattle.mux_outside.specs.declared.piece.TheConstants.{LONGEST_PIECE}
-use Rattle.mux_outside.specs.declared.starts.StartAsk.{StartAsk}
+use Rattle.mux_outside.specs.declared.start_ask.StartAsk.{StartAsk}
 
 -- ---- what is always known
 
