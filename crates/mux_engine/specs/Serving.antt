@@ -101,7 +101,7 @@ pub record Serving (May : HouseReply → Type 0) (Rest : Option (List HouseMark)
   pub unused : (k : ℕ) → IsFree seen.last_own k → IsUnused journal seen k
   pub failed_are : (t : ℕ) → IsTrue (is_own t) → among t seen.streams ≡ true
       → has_failed t journal ≡ true → among t failed ≡ true
-  pub hears : s.listening ≡ true → seen.listens ≡ true
+  pub hears : s.ended ≡ None → s.listening ≡ true → seen.listens ≡ true
   pub sound : (picks : List ℕ) (given_later : List HouseReply)
       → IsSound (by_lists policy pid (picked ++ picks) (replies ++ given_later)) journal todo s
 
@@ -119,6 +119,16 @@ pub record IsServed (May : HouseReply → Type 0)
   pub given : ℕ
   pub todo : List ℕ
   pub serving : Serving May (Rest present) before now policy pid start seen held failed given todo s
+
+-- the same with this house, whatever came before it
+pub record ServedWith (May : HouseReply → Type 0) (Rest : Option (List HouseMark) → Type 0)
+    (now : Side) (seen : Seen) (held failed todo : List ℕ) (s : State) : Type 0 where
+  pub before : Option (List HouseMark)
+  pub policy : Policy
+  pub pid : ℕ
+  pub start : Option (List Mark)
+  pub given : ℕ
+  pub serving : Serving May Rest before now policy pid start seen held failed given todo s
 
 -- ---- want of memory
 
@@ -197,6 +207,25 @@ RunsOn result May Rest now now' seen seen' held held' failed failed' most more t
     (λ x. Serving May Rest before now' policy pid start seen' held' failed' (given + more x)
     (rest x) s')
     (λ e. Promised May Rest before now'.told policy pid start seen'.told (given + most))
+
+-- behind a turn of the run, which was given; where the run doesn't go on perhaps none was
+abbrev pub EndsTurn :
+    Bool → ℕ → (HouseReply → Type 0) → (Option (List HouseMark) → Type 0)
+    → Option (List HouseMark) → Side → Policy → ℕ → Option (List Mark) → Seen → List ℕ → List ℕ
+    → List ℕ → State → Type 0
+EndsTurn on given May Rest before now policy pid start seen held failed todo s =
+    Serving May Rest before now policy pid start seen held failed (given + 1) todo s
+    ⊎ ((on ≡ false) × Serving May Rest before now policy pid start seen held failed given todo s)
+
+-- behind the turns of a run, which were all given unless it doesn't go on
+pub record Spends (all : Bool) (turns : ℕ) (May : HouseReply → Type 0)
+    (Rest : Option (List HouseMark) → Type 0) (before : Option (List HouseMark)) (now : Side)
+    (policy : Policy) (pid : ℕ) (start : Option (List Mark)) (seen : Seen) (held failed : List ℕ)
+    (todo : List ℕ) (s : State) : Type 0 where
+  pub given : ℕ
+  pub most : given ≤ turns
+  pub all_given : all ≡ true → given ≡ turns
+  pub serving : Serving May Rest before now policy pid start seen held failed given todo s
 
 -- ---- the end
 

@@ -1,6 +1,7 @@
 -- What turns are wanted, and what they tell.
-use Rattle.std.specs.Prelude.{◌≡◌, ℕ, true, false, List, length, nat_lt, if◌then◌else◌, IsTrue}
+use Rattle.std.specs.Prelude.{◌≡◌, ℕ, true, false, List, [], ◌∷◌, ◌++◌, length, nat_lt, if◌then◌else◌, IsTrue}
 use Rattle.mux_outside.specs.OwnStreams.{is_own}
+use Rattle.mux_outside.specs.Streams.{without}
 use Rattle.mux_outside.specs.declared.mark.Mark.TheVariants.{Accepts, Gets, Ends, Fails}
 use Rattle.mux_outside.specs.declared.own_turn.OwnTurn.{OwnTurn}
 use Rattle.mux_outside.specs.declared.own_turn.OwnTurn.TheVariants as own
@@ -45,3 +46,16 @@ IsNext (next.Event e) given bytes = IsEventOf e given bytes
 IsNext (next.Own o) given bytes = IsOwnOf o given bytes
 IsNext (next.Freed t) given bytes = (is_own t ≡ false) × (given ≡ turn.Writable t)
 IsNext next.NoMemory given bytes = given ≡ turn.NoMemory
+
+-- the house's streams then, those that are blocked, and those that failed
+abbrev pub own_heard : OwnTurn → List ℕ → List ℕ
+own_heard (own.Joined l t) streams = streams ++ t ∷ []
+own_heard told streams = streams
+
+abbrev pub held_heard : OwnTurn → List ℕ → List ℕ
+held_heard (own.Writable t) held = without t held
+held_heard told held = held
+
+abbrev pub failed_heard : OwnTurn → List ℕ → List ℕ
+failed_heard (own.Failed t) failed = failed ++ t ∷ []
+failed_heard told failed = failed

@@ -25,6 +25,7 @@ pub fn heed<W: Wire, H: House>(
     ensures faults { W.server_faults wire.new ≡ W.server_faults wire.old }
     ensures clients { W.client_faults wire.new ≡ W.client_faults wire.old }
     ensures openings { W.openings wire.new ≡ W.openings wire.old }
+    ensures joinings { W.joinings wire.new ≡ W.joinings wire.old }
 {
     asks.clear();
     let went = engine.event(e, house, asks)?;

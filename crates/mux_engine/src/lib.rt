@@ -7,4 +7,7 @@ mod housing;
 mod orders;
 mod owned;
 mod room;
+mod serving;
 mod settling;
+
+pub use serving::serve;

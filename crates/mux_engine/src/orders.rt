@@ -53,6 +53,7 @@ fn add_stream<W: Wire, H: House>(
     ensures faults { W.server_faults wire.new ≡ W.server_faults wire.old }
     ensures clients { W.client_faults wire.new ≡ W.client_faults wire.old }
     ensures openings { W.openings wire.new ≡ W.openings wire.old }
+    ensures joinings { W.joinings wire.new ≡ W.joinings wire.old }
 {
     let made = made_by(wire.connect(host.as_bytes(), port))?;
     if let Some(stream) = made {
@@ -92,6 +93,7 @@ fn carry_out<W: Wire, H: House>(
     ensures faults { W.server_faults wire.new ≡ W.server_faults wire.old }
     ensures clients { W.client_faults wire.new ≡ W.client_faults wire.old }
     ensures openings { W.openings wire.new ≡ W.openings wire.old }
+    ensures joinings { W.joinings wire.new ≡ W.joinings wire.old }
 {
     match order {
         Order::Listen { host, port } => {
@@ -136,6 +138,7 @@ fn obey<W: Wire, H: House>(
     ensures faults { W.server_faults wire.new ≡ W.server_faults wire.old }
     ensures clients { W.client_faults wire.new ≡ W.client_faults wire.old }
     ensures openings { W.openings wire.new ≡ W.openings wire.old }
+    ensures joinings { W.joinings wire.new ≡ W.joinings wire.old }
 {
     let number = carry_out(wire, house, lists, &order)?;
     wire.note(&HouseMark::HouseOrder { order, number })
@@ -167,6 +170,7 @@ pub fn next_order<W: Wire, H: House>(
     ensures faults { W.server_faults wire.new ≡ W.server_faults wire.old }
     ensures clients { W.client_faults wire.new ≡ W.client_faults wire.old }
     ensures openings { W.openings wire.new ≡ W.openings wire.old }
+    ensures joinings { W.joinings wire.new ≡ W.joinings wire.old }
 {
     let Some(order) = house.order() else {
         return Ok(false);

@@ -25,6 +25,7 @@ fn hand<W: Wire>(wire: &mut W, stream: u64, bytes: &[u8]) -> Wrote
     ensures cause { WroteFaults result stream (W.server_faults wire.old)
         (W.server_faults wire.new) (W.client_faults wire.old) (W.client_faults wire.new) }
     ensures openings { W.openings wire.new ≡ W.openings wire.old }
+    ensures joinings { W.joinings wire.new ≡ W.joinings wire.old }
 {
     wire.write(stream, bytes)
 }
@@ -65,6 +66,7 @@ fn own_once<W: Wire, H: House>(
     ensures clients { W.client_faults wire.new ≡ W.client_faults wire.old }
     ensures calls { Counts 0 result (W.calls wire.old) (W.calls wire.new) }
     ensures openings { W.openings wire.new ≡ W.openings wire.old }
+    ensures joinings { W.joinings wire.new ≡ W.joinings wire.old }
 {
     if held.contains(stream) || failed.contains(stream) {
         return Ok(false);
@@ -124,6 +126,7 @@ fn offer_own<W: Wire, H: House>(
     ensures clients { W.client_faults wire.new ≡ W.client_faults wire.old }
     ensures calls { Counts 0 result (W.calls wire.old) (W.calls wire.new) }
     ensures openings { W.openings wire.new ≡ W.openings wire.old }
+    ensures joinings { W.joinings wire.new ≡ W.joinings wire.old }
 {
     while own_once(wire, house, held, failed, stream)? {}
     Ok(())
@@ -163,6 +166,7 @@ fn own_round<W: Wire, H: House>(
     ensures clients { W.client_faults wire.new ≡ W.client_faults wire.old }
     ensures calls { Counts 0 result (W.calls wire.old) (W.calls wire.new) }
     ensures openings { W.openings wire.new ≡ W.openings wire.old }
+    ensures joinings { W.joinings wire.new ≡ W.joinings wire.old }
 {
     while let Some(stream) = todo.get(0) {
         offer_own(wire, house, held, failed, stream)?;
@@ -196,6 +200,7 @@ pub fn own_rounds<W: Wire, H: House>(
     ensures clients { W.client_faults wire.new ≡ W.client_faults wire.old }
     ensures calls { Counts 0 result (W.calls wire.old) (W.calls wire.new) }
     ensures openings { W.openings wire.new ≡ W.openings wire.old }
+    ensures joinings { W.joinings wire.new ≡ W.joinings wire.old }
 {
     loop {
         let before = failed.len();

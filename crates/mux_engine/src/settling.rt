@@ -1,7 +1,8 @@
-ghost use Rattle.std.specs.Prelude.{[], ◌∷◌, ◌++◌, ◌≡◌, ◌≢◌, ◌≤◌, ◌<◌, length, List, ℕ, Bool, true, false, OnOk, IfOk, if◌then◌else◌};
+ghost use Rattle.std.specs.Prelude.{[], ◌∷◌, ◌++◌, ◌≡◌, ◌≢◌, ◌≤◌, ◌<◌, length, List, ℕ, Bool, true, false, None, OnOk, IfOk, if◌then◌else◌};
 ghost use Rattle.std.specs.declared.option.Option.{Option};
 ghost use Rattle.mux_outside.specs.House.{Known as TheKnown};
 ghost use Rattle.mux_outside.specs.Streams.{among, without};
+ghost use Rattle.mux_outside.specs.Wire.{SameFaults};
 ghost use Rattle.mux_outside.specs.declared.house_mark.HouseMark.{HouseMark as TheHouseMark};
 ghost use Rattle.mux_outside.specs.declared.mark.Mark.{Mark as TheMark};
 ghost use Rattle.mux_history.specs.Policy.{Policy as ThePolicy};
@@ -39,6 +40,7 @@ fn offer_once<W: Wire, H: House>(
         held.new todo (λ more. if more then stream ∷ todo else without stream todo)
         engine.old engine.new }
     ensures streams { OnOk result (here engine.new ≡ here engine.old) }
+    ensures holds { OnOk result ((t : ℕ) → among t held.old ≡ true → among t held.new ≡ true) }
     ensures places { SamePlaces (W.seen wire.old) (W.seen wire.new) }
     ensures less { IfOk result (λ more. more ≡ true →
         length (queue_in engine.new stream) < length (queue_in engine.old stream)) }
@@ -50,6 +52,7 @@ fn offer_once<W: Wire, H: House>(
     ensures later { W.server_faults wire.old ≤ W.server_faults wire.new }
     ensures calls { Counts 0 result (W.calls wire.old) (W.calls wire.new) }
     ensures openings { W.openings wire.new ≡ W.openings wire.old }
+    ensures joinings { W.joinings wire.new ≡ W.joinings wire.old }
     ensures idle { queue_in engine.old stream ≡ [] → (engine.new ≡ engine.old)
         × (wire.new ≡ wire.old) }
 {
@@ -90,6 +93,7 @@ fn offer<W: Wire, H: House>(
         ServesOn result H.may (RestsOf H.told H.quiet) (W.seen wire.old) (W.seen wire.new) held.old
         held.new (stream ∷ todo) (λ done. todo) engine.old engine.new }
     ensures streams { OnOk result (here engine.new ≡ here engine.old) }
+    ensures holds { OnOk result ((t : ℕ) → among t held.old ≡ true → among t held.new ≡ true) }
     ensures places { SamePlaces (W.seen wire.old) (W.seen wire.new) }
     ensures ended { OnOk result (StaysOrFails engine.old.ended engine.new.ended
         (W.server_faults wire.old) (W.server_faults wire.new)) }
@@ -97,6 +101,7 @@ fn offer<W: Wire, H: House>(
     ensures later { W.server_faults wire.old ≤ W.server_faults wire.new }
     ensures calls { Counts 0 result (W.calls wire.old) (W.calls wire.new) }
     ensures openings { W.openings wire.new ≡ W.openings wire.old }
+    ensures joinings { W.joinings wire.new ≡ W.joinings wire.old }
     ensures idle { queue_in engine.old stream ≡ [] → (engine.new ≡ engine.old)
         × (wire.new ≡ wire.old) }
 {
@@ -121,11 +126,13 @@ fn offer_clients<W: Wire, H: House>(
         (W.seen wire.old) (W.seen wire.new) held.old held.new
         (0 ∷ (without TheHouse (here engine.old) ++ left)) (λ done. 0 ∷ left) engine.old engine.new }
     ensures streams { OnOk result (here engine.new ≡ here engine.old) }
+    ensures holds { OnOk result ((t : ℕ) → among t held.old ≡ true → among t held.new ≡ true) }
     ensures places { SamePlaces (W.seen wire.old) (W.seen wire.new) }
     ensures ended { OnOk result (engine.new.ended ≡ engine.old.ended) }
     ensures later { W.server_faults wire.old ≤ W.server_faults wire.new }
     ensures calls { Counts 0 result (W.calls wire.old) (W.calls wire.new) }
     ensures openings { W.openings wire.new ≡ W.openings wire.old }
+    ensures joinings { W.joinings wire.new ≡ W.joinings wire.old }
     ensures idle { engine.old.waiting ≡ [] → (engine.new ≡ engine.old) × (wire.new ≡ wire.old) }
 {
     todo.refill(engine.waiting().as_slice())?;
@@ -137,8 +144,34 @@ fn offer_clients<W: Wire, H: House>(
     Ok(())
 }
 
+// Accepts no more clients where the engine wants none, or its run is over.
+pub fn hush<W: Wire, H: House>(engine: &Engine, wire: &mut W)
+    requires hears { engine.now.ended ≡ None → engine.now.listening ≡ true
+        → (W.seen wire.old).listens ≡ true }
+    ensures serving { (present : Bool) (before : Option (List TheHouseMark)) (now : TheSide)
+        (policy : ThePolicy) (pid : ℕ) (start : Option (List TheMark)) (held failed : List ℕ)
+        (given : ℕ) (todo : List ℕ) →
+        Serving H.may (RestsOf H.told H.quiet present) before now policy pid start
+        (W.seen wire.old) held failed given todo engine.now →
+        Serving H.may (RestsOf H.told H.quiet present) before now policy pid start
+        (W.seen wire.new) held failed given todo engine.now }
+    ensures hears { engine.now.ended ≡ None → (W.seen wire.new).listens ≡ engine.now.listening }
+    ensures places { SamePlaces (W.seen wire.old) (W.seen wire.new) }
+    ensures faults { W.server_faults wire.new ≡ W.server_faults wire.old }
+    ensures client { W.client_faults wire.new ≡ W.client_faults wire.old }
+    ensures calls { W.calls wire.new ≡ W.calls wire.old }
+    ensures openings { W.openings wire.new ≡ W.openings wire.old }
+    ensures joinings { W.joinings wire.new ≡ W.joinings wire.old }
+{
+    if engine.listening() && engine.ended().is_none() {
+        return;
+    }
+    wire.stop_listening();
+}
+
 // Offers each stream what waits for it: the server's last, since a client that is lost leaves its
-// farewell to it. The house was handed over what waits for it before.
+// farewell to it. The house was handed over what waits for it before. Where clients are accepted no
+// more, none is once a client can read the answer to its wish.
 pub fn flush<W: Wire, H: House>(
     engine: &mut Engine,
     wire: &mut W,
@@ -152,14 +185,19 @@ pub fn flush<W: Wire, H: House>(
         (W.seen wire.old) (W.seen wire.new) held.old held.new
         (0 ∷ (without TheHouse (here engine.old) ++ left)) (λ done. left) engine.old engine.new }
     ensures streams { OnOk result (here engine.new ≡ here engine.old) }
+    ensures holds { OnOk result ((t : ℕ) → among t held.old ≡ true → among t held.new ≡ true) }
     ensures places { SamePlaces (W.seen wire.old) (W.seen wire.new) }
     ensures ended { OnOk result (StaysOrFails engine.old.ended engine.new.ended
         (W.server_faults wire.old) (W.server_faults wire.new)) }
     ensures later { W.server_faults wire.old ≤ W.server_faults wire.new }
     ensures calls { Counts 0 result (W.calls wire.old) (W.calls wire.new) }
     ensures openings { W.openings wire.new ≡ W.openings wire.old }
-    ensures idle { engine.old.waiting ≡ [] → (engine.new ≡ engine.old) × (wire.new ≡ wire.old) }
+    ensures joinings { W.joinings wire.new ≡ W.joinings wire.old }
+    ensures idle { engine.old.waiting ≡ [] → (engine.new ≡ engine.old)
+        × SameFaults (W.server_faults wire.old) (W.server_faults wire.new)
+        (W.client_faults wire.old) (W.client_faults wire.new) }
 {
+    hush::<W, H>(engine, wire);
     offer_clients::<W, H>(engine, wire, held, todo, asks)?;
     offer::<W, H>(engine, wire, held, asks, 0)
 }
@@ -183,32 +221,11 @@ pub fn close_lost<W: Wire, H: House>(engine: &mut Engine, wire: &mut W, held: &m
     ensures faults { W.server_faults wire.new ≡ W.server_faults wire.old }
     ensures calls { W.calls wire.new ≡ W.calls wire.old }
     ensures openings { W.openings wire.new ≡ W.openings wire.old }
+    ensures joinings { W.joinings wire.new ≡ W.joinings wire.old }
 {
     while let Some((client, _)) = engine.closing() {
         wire.close(client);
         held.remove(client);
         engine.closed(client);
     }
-}
-
-// Accepts no more clients where the engine wants none.
-pub fn hush<W: Wire, H: House>(engine: &Engine, wire: &mut W)
-    requires hears { engine.now.listening ≡ true → (W.seen wire.old).listens ≡ true }
-    ensures serving { (present : Bool) (before : Option (List TheHouseMark)) (now : TheSide)
-        (policy : ThePolicy) (pid : ℕ) (start : Option (List TheMark)) (held failed : List ℕ)
-        (given : ℕ) (todo : List ℕ) →
-        Serving H.may (RestsOf H.told H.quiet present) before now policy pid start
-        (W.seen wire.old) held failed given todo engine.now →
-        Serving H.may (RestsOf H.told H.quiet present) before now policy pid start
-        (W.seen wire.new) held failed given todo engine.now }
-    ensures hears { (W.seen wire.new).listens ≡ engine.now.listening }
-    ensures places { SamePlaces (W.seen wire.old) (W.seen wire.new) }
-    ensures faults { W.server_faults wire.new ≡ W.server_faults wire.old }
-    ensures calls { W.calls wire.new ≡ W.calls wire.old }
-    ensures openings { W.openings wire.new ≡ W.openings wire.old }
-{
-    if engine.listening() {
-        return;
-    }
-    wire.stop_listening();
 }

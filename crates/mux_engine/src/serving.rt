@@ -1,0 +1,361 @@
+ghost use Rattle.std.specs.Prelude.{[], ◌∷◌, ◌≡◌, ◌≢◌, ◌≤◌, ◌+◌, List, ℕ, true, false, OnOk, IfOk, MatchResult, Some, None, unwrap_or};
+ghost use Rattle.std.specs.declared.option.Option.{Option};
+ghost use Rattle.mux_outside.specs.Counts.{Rose};
+ghost use Rattle.mux_outside.specs.House.{OwnTurnFits, known_after_own_turn, nothing_known};
+ghost use Rattle.mux_outside.specs.Wire.{SameFaults};
+ghost use Rattle.mux_outside.specs.declared.house_mark.HouseMark.{HouseMark as TheHouseMark};
+ghost use Rattle.mux_outside.specs.declared.mark.Mark.{Mark as TheMark};
+ghost use Rattle.mux_outside.specs.declared.own_streams.TheConstants.{LAST_CLIENT as LastClient};
+ghost use Rattle.mux_history.specs.declared.ended.Ended.TheVariants.{ServerFailed, OutOfMemory as WantOfMemory, Spent as TurnsSpent, StartRefused as StartWasRefused};
+ghost use Rattle.mux_history.specs.Policy.{Policy as ThePolicy};
+ghost use Rattle.mux_machine.specs.Events.{went_of, here};
+ghost use Rattle.mux_engine.specs.Counted.{Counts, Cut, Spent, Stops, Turned, Well};
+ghost use Rattle.mux_engine.specs.Rests.{IsAlone, IsReady, ended_as, refused_if};
+ghost use Rattle.mux_engine.specs.Run.{IsRun};
+ghost use Rattle.mux_engine.specs.Serving.{EndsTurn, Promised, RunsOn, ServedWith, Serving, Spends};
+ghost use Rattle.mux_engine.specs.Sides.{Housed, RestsOf, noted};
+ghost use Rattle.mux_engine.specs.Turns.{failed_heard, held_heard, own_heard};
+
+use crate::asking::heed;
+use crate::events::{Next, next_of};
+use crate::housing::{let_in, reply_all, step_house, wanted};
+use crate::owned::list_waiting;
+use crate::room::Lists;
+use crate::settling::{close_lost, flush, hush};
+use forward_rules::Policy;
+use mux_history::Ended;
+use mux_machine::{Engine, Went};
+use mux_outside::{House, OwnTurn, Piece, Wire};
+use ssh_fields::OutOfMemory;
+use std::alloc::Global;
+
+// Keeps what one of the master's own listeners and streams told, and hands it on.
+fn hear<H: House>(
+    house: &mut H,
+    lists: &mut Lists,
+    told: OwnTurn<'_>,
+) -> Result<(), OutOfMemory>
+    requires ordering { (H.known house.old).ordering ≡ None }
+    requires fits { OwnTurnFits told (H.known house.old) (H.quiet house.old) }
+    ensures known { OnOk result (H.known house.new
+        ≡ known_after_own_turn told.entry (H.known house.old)) }
+    ensures own { OnOk result (lists.new.own ≡ own_heard told lists.old.own) }
+    ensures held { OnOk result (lists.new.held ≡ held_heard told lists.old.held) }
+    ensures failed { OnOk result (lists.new.failed ≡ failed_heard told lists.old.failed) }
+    ensures must { H.must house.new ≡ H.must house.old }
+    ensures told { H.told house.new ≡ H.told house.old }
+{
+    match told {
+        OwnTurn::Joined { stream, .. } => lists.own.push(stream)?,
+        OwnTurn::Writable(stream) => lists.held.remove(stream),
+        OwnTurn::Failed(stream) => lists.failed.push(stream)?,
+        _ => {}
+    }
+    house.turn(told)
+}
+
+// One call of `wait`: what the wire tells next goes into the engine, or to the house.
+fn turn<W: Wire, H: House>(
+    engine: &mut Engine,
+    wire: &mut W,
+    house: &mut H,
+    lists: &mut Lists,
+    piece: &mut Piece,
+) -> Result<Went, OutOfMemory>
+    requires served { ServedWith H.may (RestsOf H.told H.quiet (H.known house.old).present)
+        (noted (H.told house.old) (H.known house.old)) (W.seen wire.old) lists.old.held
+        lists.old.failed [] engine.old }
+    requires housed { Housed (H.known house.old) (W.seen wire.old) lists.old.own }
+    requires alone { IsAlone (H.known house.old) }
+    requires ready { IsReady (H.known house.old) (H.quiet house.old) (H.queue house.old)
+        lists.old.held lists.old.failed lists.old.own engine.old }
+    requires closed { engine.old.leaving ≡ [] }
+    requires refused { engine.old.refused ≡ [] }
+    requires on { engine.old.ended ≡ None }
+    requires hears { (W.seen wire.old).listens ≡ engine.old.listening }
+    ensures serving { RunsOn result H.may (RestsOf H.told H.quiet (H.known house.old).present)
+        (noted (H.told house.old) (H.known house.old))
+        (noted (H.told house.new) (H.known house.new)) (W.seen wire.old) (W.seen wire.new)
+        lists.old.held lists.new.held lists.old.failed lists.new.failed 1 (λ went. 1) []
+        (λ went. 0 ∷ here engine.new) engine.old engine.new }
+    ensures housed { OnOk result (Housed (H.known house.new) (W.seen wire.new) lists.new.own) }
+    ensures alone { OnOk result (IsAlone (H.known house.new)) }
+    ensures held_is { OnOk result (lists.new.held ≡ (W.seen wire.new).blocked) }
+    ensures present { OnOk result ((H.known house.new).present ≡ (H.known house.old).present) }
+    ensures must { H.must house.new ≡ H.must house.old }
+    ensures went { IfOk result (λ went. went ≡ went_of engine.new.ended) }
+    ensures failed { OnOk result (engine.new.ended ≡ Some ServerFailed
+        → Rose (W.server_faults wire.old) (W.server_faults wire.new)) }
+    ensures unspent { OnOk result (engine.new.ended ≢ Some TurnsSpent) }
+    ensures permitted { OnOk result ((index : ℕ)
+        → engine.new.ended ≢ Some (StartWasRefused index)) }
+    ensures later { W.server_faults wire.old ≤ W.server_faults wire.new }
+    ensures calls { Counts 1 result (W.calls wire.old) (W.calls wire.new) }
+    ensures openings { W.openings wire.new ≡ W.openings wire.old }
+    ensures joinings { W.joinings wire.new ≡ W.joinings wire.old }
+{
+    list_waiting(house, engine.waiting(), &lists.own, &lists.failed, &mut lists.todo)?;
+    let told = wire.wait(&lists.todo, wanted(engine), piece);
+    match next_of(told, piece.as_bytes()) {
+        Next::Event(e) => heed(engine, wire, house, &mut lists.asks, e),
+        Next::Own(told) => {
+            hear(house, lists, told)?;
+            Ok(Went::On)
+        }
+        Next::Freed(stream) => {
+            lists.held.remove(stream);
+            Ok(Went::On)
+        }
+        Next::NoMemory => Err(OutOfMemory),
+    }
+}
+
+// The forwarding of the start that ends the run, since it was refused.
+fn refusal<H: House>(house: &H) -> Option<usize>
+    ensures { result ≡ refused_if (H.known house.now).present (H.must house.now)
+        (H.refused house.now) }
+{
+    if !house.present() || !house.must() {
+        return None;
+    }
+    house.refused_start()
+}
+
+// A turn of the run, which is an order of the house, a piece that it said, or a wait: whether the run
+// goes on.
+fn one_turn<W: Wire, H: House>(
+    alloc: Global,
+    engine: &mut Engine,
+    wire: &mut W,
+    house: &mut H,
+    lists: &mut Lists,
+    piece: &mut Piece,
+) -> Result<bool, OutOfMemory>
+    requires served { ServedWith H.may (RestsOf H.told H.quiet (H.known house.old).present)
+        (noted (H.told house.old) (H.known house.old)) (W.seen wire.old) lists.old.held
+        lists.old.failed (0 ∷ here engine.old) engine.old }
+    requires housed { Housed (H.known house.old) (W.seen wire.old) lists.old.own }
+    requires alone { IsAlone (H.known house.old) }
+    requires on { engine.old.ended ≡ None }
+    ensures serving { (before : Option (List TheHouseMark)) (policy : ThePolicy) (pid : ℕ)
+        (start : Option (List TheMark)) (given : ℕ) →
+        Serving H.may (RestsOf H.told H.quiet (H.known house.old).present) before
+        (noted (H.told house.old) (H.known house.old)) policy pid start (W.seen wire.old)
+        lists.old.held lists.old.failed given (0 ∷ here engine.old) engine.old →
+        MatchResult result
+        (λ on. EndsTurn on given H.may (RestsOf H.told H.quiet (H.known house.old).present) before
+        (noted (H.told house.new) (H.known house.new)) policy pid start (W.seen wire.new)
+        lists.new.held lists.new.failed (0 ∷ here engine.new) engine.new)
+        (λ e. Promised H.may (RestsOf H.told H.quiet (H.known house.old).present) before
+        (H.told house.new) policy pid start (W.seen wire.new).told (given + 1)) }
+    ensures housed { OnOk result (Housed (H.known house.new) (W.seen wire.new) lists.new.own) }
+    ensures alone { OnOk result (IsAlone (H.known house.new)) }
+    ensures held_is { OnOk result (lists.new.held ≡ (W.seen wire.new).blocked) }
+    ensures present { OnOk result ((H.known house.new).present ≡ (H.known house.old).present) }
+    ensures must { H.must house.new ≡ H.must house.old }
+    ensures on { IfOk result (λ on. on ≡ true → engine.new.ended ≡ None) }
+    ensures over { IfOk result (λ on. on ≡ false → engine.new.ended ≡ None
+        → refused_if (H.known house.new).present (H.must house.new) (H.refused house.new) ≢ None) }
+    ensures failed { OnOk result (engine.new.ended ≡ Some ServerFailed
+        → Rose (W.server_faults wire.old) (W.server_faults wire.new)) }
+    ensures unspent { OnOk result (engine.new.ended ≢ Some TurnsSpent) }
+    ensures permitted { OnOk result ((index : ℕ)
+        → engine.new.ended ≢ Some (StartWasRefused index)) }
+    ensures idle { engine.old.waiting ≡ [] → (H.known house.old).present ≡ false
+        → IfOk result (λ on. Well 1 (W.calls wire.old) (W.calls wire.new)) }
+    ensures later { W.server_faults wire.old ≤ W.server_faults wire.new }
+    ensures calls { MatchResult result
+        (λ on. Turned (H.known house.old).present on (W.calls wire.old) (W.calls wire.new))
+        (λ e. Cut 1 (W.calls wire.old) (W.calls wire.new)) }
+    ensures openings { W.openings wire.new ≡ W.openings wire.old }
+    ensures joinings { W.joinings wire.new ≡ W.joinings wire.old }
+{
+    if step_house(alloc, engine, wire, house, lists, piece)? {
+        return Ok(engine.ended().is_none());
+    }
+    close_lost::<W, H>(engine, wire, &mut lists.held);
+    hush::<W, H>(engine, wire);
+    if engine.ended().is_some() || refusal(house).is_some() {
+        return Ok(false);
+    }
+    let went = turn(engine, wire, house, lists, piece)?;
+    Ok(went == Went::On)
+}
+
+// The turns of a run: whether all were given and it goes on.
+fn turns_of<W: Wire, H: House>(
+    alloc: Global,
+    engine: &mut Engine,
+    wire: &mut W,
+    house: &mut H,
+    lists: &mut Lists,
+    turns: u64,
+) -> Result<bool, OutOfMemory>
+    requires served { ServedWith H.may (RestsOf H.told H.quiet (H.known house.old).present)
+        (noted (H.told house.old) (H.known house.old)) (W.seen wire.old) lists.old.held
+        lists.old.failed (0 ∷ here engine.old) engine.old }
+    requires housed { Housed (H.known house.old) (W.seen wire.old) lists.old.own }
+    requires alone { IsAlone (H.known house.old) }
+    requires on { engine.old.ended ≡ None }
+    requires quiet { (H.known house.old).present ≡ false → engine.old.waiting ≡ [] }
+    ensures serving { (before : Option (List TheHouseMark)) (policy : ThePolicy) (pid : ℕ)
+        (start : Option (List TheMark)) →
+        Serving H.may (RestsOf H.told H.quiet (H.known house.old).present) before
+        (noted (H.told house.old) (H.known house.old)) policy pid start (W.seen wire.old)
+        lists.old.held lists.old.failed 0 (0 ∷ here engine.old) engine.old →
+        MatchResult result
+        (λ all. Spends all turns H.may (RestsOf H.told H.quiet (H.known house.old).present) before
+        (noted (H.told house.new) (H.known house.new)) policy pid start (W.seen wire.new)
+        lists.new.held lists.new.failed (0 ∷ here engine.new) engine.new)
+        (λ e. Promised H.may (RestsOf H.told H.quiet (H.known house.old).present) before
+        (H.told house.new) policy pid start (W.seen wire.new).told turns) }
+    ensures housed { OnOk result (Housed (H.known house.new) (W.seen wire.new) lists.new.own) }
+    ensures held_is { OnOk result (lists.new.held ≡ (W.seen wire.new).blocked) }
+    ensures present { OnOk result ((H.known house.new).present ≡ (H.known house.old).present) }
+    ensures must { H.must house.new ≡ H.must house.old }
+    ensures on { IfOk result (λ all. all ≡ true → engine.new.ended ≡ None) }
+    ensures over { IfOk result (λ all. all ≡ false → engine.new.ended ≡ None
+        → refused_if (H.known house.new).present (H.must house.new) (H.refused house.new) ≢ None) }
+    ensures failed { OnOk result (engine.new.ended ≡ Some ServerFailed
+        → Rose (W.server_faults wire.old) (W.server_faults wire.new)) }
+    ensures unspent { OnOk result (engine.new.ended ≢ Some TurnsSpent) }
+    ensures permitted { OnOk result ((index : ℕ)
+        → engine.new.ended ≢ Some (StartWasRefused index)) }
+    ensures later { W.server_faults wire.old ≤ W.server_faults wire.new }
+    ensures calls { MatchResult result
+        (λ all. Spent (H.known house.old).present all turns (W.calls wire.old) (W.calls wire.new))
+        (λ e. Cut turns (W.calls wire.old) (W.calls wire.new)) }
+    ensures idle { turns ≡ 0 → (house.new ≡ house.old) × (engine.new ≡ engine.old)
+        × SameFaults (W.server_faults wire.old) (W.server_faults wire.new)
+        (W.client_faults wire.old) (W.client_faults wire.new) }
+    ensures openings { W.openings wire.new ≡ W.openings wire.old }
+    ensures joinings { W.joinings wire.new ≡ W.joinings wire.old }
+{
+    let mut piece = Piece::new(alloc)?;
+    for _ in 0..turns {
+        if !one_turn(alloc, engine, wire, house, lists, &mut piece)? {
+            return Ok(false);
+        }
+    }
+    Ok(true)
+}
+
+// Why a run ended, with its turns spent unless something else ended it.
+fn answer_of<H: House>(engine: &Engine, house: &H) -> Ended
+    ensures { result ≡ ended_as engine.now.ended
+        (refused_if (H.known house.now).present (H.must house.now) (H.refused house.now)) }
+{
+    if let Some(cause) = engine.ended() {
+        return cause;
+    }
+    match refusal(house) {
+        Some(index) => Ended::StartRefused { index },
+        None => Ended::Spent,
+    }
+}
+
+// Serves a wire for so many turns: why it ended.
+fn run<W: Wire, H: House>(
+    alloc: Global,
+    engine: &mut Engine,
+    wire: &mut W,
+    house: &mut H,
+    turns: u64,
+) -> Result<Ended, OutOfMemory>
+    requires running { ServedWith H.may (RestsOf H.told H.quiet (H.known house.old).present)
+        (record (noted (H.told house.old) (H.known house.old)) { let_in = false }) (W.seen wire.old)
+        [] [] (0 ∷ here engine.old) engine.old }
+    requires blank { H.known house.old ≡ nothing_known (H.known house.old).present }
+    requires own { (W.seen wire.old).own ≡ [] }
+    requires listeners { (W.seen wire.old).listeners ≡ [] }
+    requires on { engine.old.ended ≡ None }
+    requires refused { engine.old.refused ≡ [] }
+    requires quiet { engine.old.waiting ≡ [] }
+    ensures ran { (before : Option (List TheHouseMark)) (policy : ThePolicy) (pid : ℕ)
+        (start : Option (List TheMark)) →
+        (v : Serving H.may (RestsOf H.told H.quiet (H.known house.old).present) before
+        (record (noted (H.told house.old) (H.known house.old)) { let_in = false }) policy pid start
+        (W.seen wire.old) [] [] 0 (0 ∷ here engine.old) engine.old) → v.journal ≡ [] →
+        IsRun H.may (RestsOf H.told H.quiet (H.known house.old).present) policy pid turns before
+        (H.told house.new) start (W.seen wire.new).told
+        (refused_if (H.known house.old).present (H.must house.new) (H.refused house.new))
+        (unwrap_or result WantOfMemory) }
+    ensures failed { IfOk result (λ answer. answer ≡ ServerFailed
+        → Rose (W.server_faults wire.old) (W.server_faults wire.new)) }
+    ensures calls { Stops (H.known house.old).present turns (unwrap_or result WantOfMemory)
+        (W.calls wire.old) (W.calls wire.new) }
+    ensures places { OnOk result (((W.seen wire.new).listeners ≡ (H.known house.new).listeners)
+        × ((W.seen wire.new).own ≡ (H.known house.new).streams)) }
+    ensures openings { W.openings wire.new ≡ W.openings wire.old }
+    ensures joinings { W.joinings wire.new ≡ W.joinings wire.old }
+    ensures idle { turns ≡ 0 → (H.known house.old).present ≡ false
+        → SameFaults (W.server_faults wire.old) (W.server_faults wire.new)
+        (W.client_faults wire.old) (W.client_faults wire.new) }
+{
+    let mut lists = Lists::new(alloc);
+    if house.present() {
+        let_in::<W, H>(engine, wire, &mut lists.asks)?;
+    }
+    let all = turns_of(alloc, engine, wire, house, &mut lists, turns)?;
+    if all && house.present() {
+        reply_all(engine, wire, house, &mut lists)?;
+    }
+    flush::<W, H>(
+        engine,
+        wire,
+        &mut lists.held,
+        &mut lists.todo,
+        &mut lists.asks,
+    )?;
+    Ok(answer_of(engine, house))
+}
+
+/// Serves an open wire until the run ends, for so many turns at most: why it ended. It permits what
+/// the policy does, and tells the process id to clients that check. What the wire tells of this run
+/// is written and kept open as it must be, and ends as it must. A turn is a call of `wait`, an order
+/// of the house that is carried out, or a piece that the house said; without a house it waits once
+/// for each turn, and writes nothing before. The house is told each ask of its clients; where it is
+/// present it is let in as a client, and is at rest at each wait at which more is read: what is so of
+/// each house at rest by what it told is so there. Behind a call that wanted memory none is made.
+/// But for want of memory the wire's own listeners and streams are at the end those that the house
+/// knows, as it ordered them.
+pub fn serve<W: Wire, H: House>(
+    alloc: Global,
+    policy: Policy,
+    pid: u32,
+    wire: &mut W,
+    house: &mut H,
+    turns: u64,
+) -> Ended
+    requires server_alone { (W.seen wire.old).streams ≡ 0 ∷ [] }
+    requires none_blocked { (W.seen wire.old).blocked ≡ [] }
+    requires listens { (W.seen wire.old).listens ≡ true }
+    requires own { (W.seen wire.old).own ≡ [] }
+    requires listeners { (W.seen wire.old).listeners ≡ [] }
+    requires last { (W.seen wire.old).last ≤ LastClient }
+    requires numbers { LastClient ≤ (W.seen wire.old).last_own }
+    requires blank { H.known house.old ≡ nothing_known (H.known house.old).present }
+    ensures kept { IsRun H.may (RestsOf H.told H.quiet (H.known house.old).present) policy pid turns
+        (H.told house.old) (H.told house.new) (W.seen wire.old).told (W.seen wire.new).told
+        (refused_if (H.known house.old).present (H.must house.new) (H.refused house.new)) result }
+    ensures failed { result ≡ ServerFailed
+        → Rose (W.server_faults wire.old) (W.server_faults wire.new) }
+    ensures calls { Stops (H.known house.old).present turns result (W.calls wire.old)
+        (W.calls wire.new) }
+    ensures places { result ≢ WantOfMemory
+        → ((W.seen wire.new).listeners ≡ (H.known house.new).listeners)
+        × ((W.seen wire.new).own ≡ (H.known house.new).streams) }
+    ensures openings { W.openings wire.new ≡ W.openings wire.old }
+    ensures joinings { W.joinings wire.new ≡ W.joinings wire.old }
+    ensures idle { turns ≡ 0 → (H.known house.old).present ≡ false
+        → SameFaults (W.server_faults wire.old) (W.server_faults wire.new)
+        (W.client_faults wire.old) (W.client_faults wire.new) }
+{
+    let Ok(mut engine) = Engine::new(alloc, policy, pid) else {
+        return Ended::OutOfMemory;
+    };
+    match run(alloc, &mut engine, wire, house, turns) {
+        Ok(ended) => ended,
+        Err(_) => Ended::OutOfMemory,
+    }
+}
