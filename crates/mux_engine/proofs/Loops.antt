@@ -1,5 +1,5 @@
 -- The loops over streams that are offered what waits for them.
-use Rattle.std.proofs.Common.{◌≡◌, ◌≢◌, ℕ, Bool, true, false, not, ◌||◌, List, [], ◌∷◌, ◌++◌, length, Option, refl, sym, ap, ◌∙◌, subst, inl, inr, ◌⊎◌, cond, arith}
+use Rattle.std.proofs.Common.{◌≡◌, ◌≢◌, ℕ, Bool, true, false, not, ◌||◌, List, [], ◌∷◌, ◌++◌, length, Option, refl, sym, ap, ◌∙◌, subst, inl, inr, ◌⊎◌, cond, arith, None}
 use Rattle.std.specs.Prelude.{◌==◌, Result, Ok, Err, IsErr}
 use Rattle.std.proofs.lemmas.Bool.Decides.{eqb_tells}
 use Rattle.std.proofs.lemmas.List.Folds.{list_any-append}
@@ -158,8 +158,8 @@ todo-is {May} {Rest} {before} {now} {policy} {pid} {start} {seen} {held} {failed
 -- ---- clients are accepted no more
 
 pub serve-hushed : {May : HouseReply → Type 0} {Rest : Option (List HouseMark) → Type 0} {before : Option (List HouseMark)} {now : Side} {policy : Policy} {pid : ℕ} {start : Option (List Mark)} {seen : Seen} {held failed : List ℕ} {given : ℕ} {todo : List ℕ} {s : State} (v : Serving May Rest before now policy pid start seen held failed given todo s)
-    → s.listening ≡ false → Serving May Rest before now policy pid start (record seen { listens = false }) held failed given todo s
-serve-hushed {todo = todo} v none = serve-with v false todo (λ l. true-false (sym l ∙ none)) (λ t a. inl a)
+    → (s.ended ≡ None → s.listening ≡ false) → Serving May Rest before now policy pid start (record seen { listens = false }) held failed given todo s
+serve-hushed {todo = todo} v none = serve-with v false todo (λ live l. true-false (sym l ∙ none live)) (λ t a. inl a)
 
 -- ---- where nothing waits
 

@@ -1,6 +1,6 @@
 -- One mark more: what holds while a wire is served goes on with it.
-use Rattle.std.proofs.Common.{◌≡◌, ◌≤◌, ◌<◌, ℕ, true, false, List, [], ◌∷◌, ◌++◌, length, Option, None, refl, sym, ap, ◌∙◌, subst, append_assoc, append-nil}
-use Rattle.std.specs.Prelude.{All, IsTrue}
+use Rattle.std.proofs.Common.{◌≡◌, ◌≤◌, ◌<◌, ℕ, true, false, List, [], ◌∷◌, ◌++◌, length, Option, Some, None, refl, sym, ap, ◌∙◌, subst, append_assoc, append-nil}
+use Rattle.std.specs.Prelude.{All, IsTrue, is_some}
 use Rattle.std.specs.Option.{option_map}
 use Rattle.std.proofs.lemmas.List.Elements.{filter-append}
 use Rattle.mux_outside.specs.House.{OpenAsk}
@@ -13,7 +13,9 @@ use Rattle.mux_outside.specs.declared.mark.Mark.{Mark}
 use Rattle.mux_outside.specs.declared.own_streams.TheConstants.{LAST_CLIENT}
 use Rattle.mux_history.specs.declared.limits.TheConstants.{HOUSE}
 use Rattle.mux_history.specs.Policy.{Policy}
-use Rattle.mux_history.specs.Rows.{rows_of, is_out}
+use Rattle.mux_history.specs.declared.ended.Ended.{Ended}
+use Rattle.mux_history.specs.Rows.{Row, rows_of, is_out}
+use Rattle.mux_history.specs.Solo.{end_of}
 use Rattle.mux_history.specs.Log.{Setting}
 use Rattle.mux_history.specs.Settings.{by_lists}
 use Rattle.mux_history.specs.Journal.{is_accepted, is_blocked, is_own_stream, log_of_journal}
@@ -26,7 +28,9 @@ use Rattle.mux_machine.specs.Stands.{GoesBy, Stands, StandsFor, log}
 use Rattle.mux_engine.specs.Run.{RestedAt}
 use Rattle.mux_engine.specs.Serving.{IsFree, IsSound, IsUnseen, IsUnused, Kept, Serving}
 use Rattle.mux_engine.specs.Sides.{Side, asks_in, house_mark, house_marks}
-use Rattle.mux_engine.proofs.Logs.{log-listens}
+use Rattle.mux_machine.proofs.Over.{some-end}
+use Rattle.mux_engine.proofs.Lists.{true-false}
+use Rattle.mux_engine.proofs.Logs.{log-listens, log-live}
 use Rattle.mux_engine.proofs.Told.{may-more, tells-more, tells-then}
 
 -- ---- what stood before, with the numbers and replies of now
@@ -109,6 +113,20 @@ pub record Next (Rest : Option (List HouseMark) → Type 0) (before : Option (Li
 
 -- ---- one mark more
 
+-- where the run goes on, it went on before
+none-unended : (o : Option Ended) → is_some o ≡ false → o ≡ None
+none-unended None e = refl
+none-unended (Some cause) e = true-false e
+
+pub live-before : {picked : List ℕ} {replies : List HouseReply} {s : State} {marks : List Mark} {closed : List ℕ} (st : Stands picked replies s marks closed) (s' : State) (mark : Mark) (p : List ℕ) (r : List HouseReply) (picked' : List ℕ) (replies' : List HouseReply)
+    → picked' ≡ picked ++ p → replies' ≡ replies ++ r → s'.core.policy ≡ s.core.policy → s'.pid ≡ s.pid → Stands picked' replies' s' (mark ∷ marks) closed → s'.ended ≡ None → s.ended ≡ None
+live-before {s = s} {marks = marks} {closed = closed} st s' mark p r picked' replies' e f g h st' live =
+    let set : Setting = by_lists s.core.policy s.pid (picked' ++ []) (replies' ++ []) in
+    let old = stood-at st p r picked' replies' e f [] [] in
+    let new = st'.at [] [] in
+    none-unended s.ended (ap is_some old.rows.ended_is ∙ (some-end (log_of_journal set marks) ∙ log-live set mark marks
+    (sym (some-end (log_of_journal set (mark ∷ marks))) ∙ (ap (λ (rows : List Row). is_some (end_of rows)) (sym (log-same s s' (picked' ++ []) (replies' ++ []) (mark ∷ marks) g h)) ∙ (sym (ap is_some new.rows.ended_is) ∙ ap is_some live)))))
+
 -- where clients are accepted, they were accepted before
 pub hears-before : {picked : List ℕ} {replies : List HouseReply} {s : State} {marks : List Mark} {closed : List ℕ} (st : Stands picked replies s marks closed) (s' : State) (mark : Mark) (p : List ℕ) (r : List HouseReply) (picked' : List ℕ) (replies' : List HouseReply)
     → picked' ≡ picked ++ p → replies' ≡ replies ++ r → s'.core.policy ≡ s.core.policy → s'.pid ≡ s.pid → Stands picked' replies' s' (mark ∷ marks) closed → s'.listening ≡ true → s.listening ≡ true
@@ -151,7 +169,8 @@ serve-on {May} {Rest} {before} {now} {policy} {pid} {start} {seen} {held} {faile
       unseen = n.placed.unseen;
       unused = n.placed.unused;
       failed_are = n.placed.failed_are;
-      hears = λ l. n.placed.listens (v.hears (hears-before v.stands s' mark p r picked' replies' e f n.policy_is n.pid_is st l));
+      hears = λ live l. n.placed.listens (v.hears (live-before v.stands s' mark p r picked' replies' e f n.policy_is n.pid_is st live)
+          (hears-before v.stands s' mark p r picked' replies' e f n.policy_is n.pid_is st l));
       sound = λ picks later.
           let set : Setting = by_lists policy pid (picked' ++ picks) (replies' ++ later) in
           let at : SoundAt set v.journal mark todo' s' = n.sound picks later in

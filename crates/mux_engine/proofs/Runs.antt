@@ -213,7 +213,7 @@ starts May Rest now policy pid seen s stands e f clients refused unasked noted o
       unseen = λ k lt le. record { not_accepted = refl; never_blocked = refl; not_blocked = ap (among k) blocked };
       unused = λ k free. record { not_open = ap (among k) streams ∙ no-server k free; never_blocked = refl; not_blocked = ap (among k) blocked; never_failed = refl };
       failed_are = λ t own a f. true-false (sym f);
-      hears = λ h. listens;
+      hears = λ live h. listens;
       sound = λ picks later. record { kept = of-nothing (by_lists policy pid picks later); failed_out = λ t client w live. true-false (sym w); settled = λ t client a. inl (nothing-pending t) };
     }
   where

@@ -1,5 +1,5 @@
 -- The streams that are left to be offered what waits for them.
-use Rattle.std.proofs.Common.{◌≡◌, ◌≢◌, ℕ, Bool, true, false, ◌||◌, List, [], ◌∷◌, ◌++◌, Option, refl, sym, ap, ◌∙◌, subst, inl, inr, ◌⊎◌}
+use Rattle.std.proofs.Common.{◌≡◌, ◌≢◌, ℕ, Bool, true, false, ◌||◌, List, [], ◌∷◌, ◌++◌, Option, None, refl, sym, ap, ◌∙◌, subst, inl, inr, ◌⊎◌}
 use Rattle.std.proofs.lemmas.Bool.Decides.{eqb_tells}
 use Rattle.mux_outside.specs.Seen.{Seen}
 use Rattle.mux_outside.specs.Streams.{among, without}
@@ -21,10 +21,9 @@ use Rattle.mux_engine.proofs.Offers.{Waiting}
 use Rattle.mux_engine.proofs.Places.{stream-open}
 
 -- clients may be accepted no more where the engine wants none; and other streams are to be offered
--- clients may be accepted no more where the engine wants none; and other streams are to be offered
 -- what waits for them, where those that are not were so before or are settled
 pub serve-with : {May : HouseReply → Type 0} {Rest : Option (List HouseMark) → Type 0} {before : Option (List HouseMark)} {now : Side} {policy : Policy} {pid : ℕ} {start : Option (List Mark)} {seen : Seen} {held failed : List ℕ} {given : ℕ} {todo : List ℕ} {s : State} (v : Serving May Rest before now policy pid start seen held failed given todo s) (listens : Bool) (todo' : List ℕ)
-    → (s.listening ≡ true → listens ≡ true)
+    → (s.ended ≡ None → s.listening ≡ true → listens ≡ true)
     → ((t : ℕ) → among t todo' ≡ false → (among t todo ≡ false) ⊎ ((picks : List ℕ) (later : List HouseReply) → IsSettled (by_lists policy pid (v.picked ++ picks) (v.replies ++ later)) v.journal t))
     → Serving May Rest before now policy pid start (record seen { listens = listens }) held failed given todo' s
 serve-with {May} {Rest} {before} {now} {policy} {pid} {start} {seen} {held} {failed} {given} {todo} {s} v listens todo' hears h = record {

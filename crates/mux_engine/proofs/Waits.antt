@@ -1,6 +1,6 @@
 -- A call of wait: what is promised of it where each stream was offered what waits for it.
 use Rattle.std.proofs.Common.{◌≡◌, ◌≢◌, ◌≤◌, ◌<◌, ◌+◌, ℕ, Bool, true, false, not, ◌||◌, ◌&&◌, List, [], ◌∷◌, ◌++◌, length, length-append, Option, None, refl, sym, ap, ◌∙◌, subst, inl, inr, ◌⊎◌, cond, arith, append-nil}
-use Rattle.std.specs.Prelude.{◌==◌, filter, nat_lt, All, IsTrue, ◌↔◌}
+use Rattle.std.specs.Prelude.{is_some, ◌==◌, filter, nat_lt, All, IsTrue, ◌↔◌}
 use Rattle.std.specs.Option.{option_map}
 use Rattle.std.proofs.lemmas.Bool.Decides.{eqb_tells}
 use Rattle.std.proofs.lemmas.List.Elements.{filter-append}
@@ -24,6 +24,7 @@ use Rattle.mux_history.specs.Settings.{by_lists}
 use Rattle.mux_history.specs.Log.{Setting, served}
 use Rattle.mux_history.specs.Journal.{is_blocked, is_own_stream, log_of_journal}
 use Rattle.mux_history.specs.Promises.{MayWait, WaitsRight, OpenRight, has_failed, has_output, is_empty, not_own, write_failed}
+use Rattle.mux_machine.proofs.Over.{some-end}
 use Rattle.mux_machine.specs.State.{State, numbers, waiting_clients}
 use Rattle.mux_machine.specs.Events.{here}
 use Rattle.mux_machine.specs.Stands.{RowsFit}
@@ -253,6 +254,7 @@ module _ {May : HouseReply → Type 0} {Rest : Option (List HouseMark) → Type 
 
   pub waits-right : (picks : List ℕ) (later : List HouseReply) → WaitsRight (setting picks later) v.journal all-waiting (want_of s) seen.streams
   waits-right picks later = record {
+    goes_on = sym (some-end (rows picks later)) ∙ ap is_some (sym (fits picks later).ended_is ∙ live);
     waits_for = filter-append (λ (t : ℕ). not (is_own t)) s.waiting own-waiting
         ∙ (ap (λ l. not_own s.waiting ++ l) own-none ∙ (append-nil (not_own s.waiting)
         ∙ (ap not_own (waits-are picks later) ∙ (both-tests (λ t. not (is_own t)) (has_output (rows picks later)) (0 ∷ numbers s.clients) ∙ ap (filter (has_output (rows picks later))) (sym streams-are)))));

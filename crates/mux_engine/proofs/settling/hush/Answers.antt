@@ -1,14 +1,23 @@
-use Rattle.std.proofs.Common.{refl, sym, subst}
+use Rattle.std.proofs.Common.{◌≡◌, ◌∙◌, None, false, refl, sym, ap, subst}
+use Rattle.std.specs.Prelude.{is_some}
 use Rattle.mux_outside.specs.Seen.{Seen}
 use Rattle.mux_engine.specs.Serving.{Serving}
 use Rattle.mux_engine.specs.Sides.{RestsOf, SamePlaces}
+use Rattle.mux_engine.proofs.Lists.{true-false}
 use Rattle.mux_engine.proofs.Loops.{serve-hushed}
-use Rattle.mux_engine.proofs.Places.{places-same}
+use Rattle.mux_engine.proofs.settling.hush.Goals.{else-listening-via-then-listening+else-is_none, else-listening-via-else-listening}
+use Rattle.mux_engine.proofs.settling.hush.Given.{Over}
 use Rattle.mux_engine.proofs.settling.hush.Goals as goal
+
+silent : (g : Over) (c : goal.After-stop_listening g) → c.args.engine.now.ended ≡ None → c.args.engine.now.listening ≡ false
+silent g c live = elim c.else-listening.branch [
+  | else-listening-via-then-listening+else-is_none w ↦ true-false (sym w.if-is_none.ensures ∙ ap is_some (w.ended.ensures.exact ∙ live))
+  | else-listening-via-else-listening w ↦ sym w.if-listening.ensures.exact
+]
 
 pub returns-clause-serving : goal.returns-clause-serving
 returns-clause-serving g c present before now policy pid start held failed given todo v =
-    subst (λ (x : Seen). Serving g.H.House.may (RestsOf g.H.House.told g.H.House.quiet present) before now policy pid start x held failed given todo c.args.engine.now) (sym c.stop_listening.ensures.seen) (serve-hushed v (sym c.if-listening.ensures.exact))
+    subst (λ (x : Seen). Serving g.H.House.may (RestsOf g.H.House.told g.H.House.quiet present) before now policy pid start x held failed given todo c.args.engine.now) (sym c.stop_listening.ensures.seen) (serve-hushed v (silent g c))
 
 pub returns-clause-places : goal.returns-clause-places
 returns-clause-places g c = subst (SamePlaces (g.W.Wire.seen c.args.wire.now)) (sym c.stop_listening.ensures.seen) record { streams = refl; listeners = refl; own = refl; last_own = refl }
