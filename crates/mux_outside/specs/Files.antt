@@ -4,8 +4,9 @@ use Rattle.std.specs.List.{list_any, before_first}
 use Rattle.std.specs.Option.{option_and_then, option_map}
 use Rattle.std.specs.Str.{bytes_eq}
 use Rattle.mux_outside.specs.declared.file_error.FileError.{FileError}
-use Rattle.mux_outside.specs.declared.file_error.FileError.TheVariants.{Failed}
+use Rattle.mux_outside.specs.declared.file_error.FileError.TheVariants.{Failed, OutOfMemory}
 use Rattle.mux_outside.specs.declared.pairs.Pair.{Pair}
+use Rattle.mux_outside.specs.declared.reading.Reading.{Reading}
 
 -- the value under a name, of equal names the first
 abbrev pub value_at : List Pair → List ℕ → Option (List ℕ)
@@ -81,3 +82,10 @@ abbrev pub NotesFailed : {X : Type 0} → Result X FileError → List ℕ → Op
     → Option (List (List ℕ)) → Type 0
 NotesFailed (Err Failed) path before now = now ≡ option_map (λ paths. paths ++ path ∷ []) before
 NotesFailed answer path before now = now ≡ before
+
+-- the calls of `read` after one: its own too, but where there was no memory for it
+abbrev pub NotesReading : {X : Type 0} → Result X FileError → List ℕ → ℕ → Option (List Reading)
+    → Option (List Reading) → Type 0
+NotesReading (Err OutOfMemory) path most before now = now ≡ before
+NotesReading answer path most before now =
+    now ≡ option_map (λ readings. readings ++ record { path = path; most = most } ∷ []) before

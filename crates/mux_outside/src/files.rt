@@ -1,7 +1,8 @@
 ghost use Rattle.std.specs.Prelude.{◌≡◌, ◌≤◌, ℕ, List, length, Option, IfOk, IfSome};
 ghost use Rattle.mux_outside.specs.declared.pairs.Pair.{Pair as ThePair};
+ghost use Rattle.mux_outside.specs.declared.reading.Reading.{Reading as TheReading};
 ghost use Rattle.mux_outside.specs.Counts.{HasCause};
-ghost use Rattle.mux_outside.specs.Files.{Reads, Lists, NotesFailed};
+ghost use Rattle.mux_outside.specs.Files.{Reads, Lists, NotesFailed, NotesReading};
 
 use crate::file_error::FileError;
 use ssh_fields::{Text, Texts};
@@ -17,6 +18,10 @@ pub trait Files {
     /// The paths that the calls which failed were given, in their order, where they are told.
     ghost failed: { Self → Option (List (List ℕ)) };
 
+    /// The calls of `read`, in their order, where they are told: each but those for which there was
+    /// no memory.
+    ghost readings: { Self → Option (List TheReading) };
+
     /// The first `most` bytes of a file, fewer where it is shorter. `None`: there is no such file,
     /// or the path names a directory.
     fn read(&mut self, path: &[u8], most: usize) -> Result<Option<Text>, FileError>
@@ -24,6 +29,7 @@ pub trait Files {
         ensures at_most { IfOk result (λ found. IfSome found (λ text. length text ≤ most)) }
         ensures cause { HasCause result (faults self.old) (faults self.new) }
         ensures failed { NotesFailed result path.now (failed self.old) (failed self.new) }
+        ensures noted { NotesReading result path.now most (readings self.old) (readings self.new) }
         ensures told { told self.new ≡ told self.old };
 
     /// The names in a directory, in any order. `None`: there is no such directory.
@@ -31,5 +37,6 @@ pub trait Files {
         ensures lists { Lists (told self.old) dir.now result }
         ensures cause { HasCause result (faults self.old) (faults self.new) }
         ensures failed { NotesFailed result dir.now (failed self.old) (failed self.new) }
+        ensures noted { readings self.new ≡ readings self.old }
         ensures told { told self.new ≡ told self.old };
 }

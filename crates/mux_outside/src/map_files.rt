@@ -1,7 +1,7 @@
 ghost use Rattle.std.specs.Prelude.{◌≡◌, ◌≤◌, ◌++◌, ◌∷◌, [], length, Some, IfOk, IfErr, IfSome, OnOk};
 ghost use Rattle.mux_outside.specs.Calls.{FailsWhereNoted, calls_after};
 ghost use Rattle.mux_outside.specs.Counts.{HasCause, Rose};
-ghost use Rattle.mux_outside.specs.Files.{Reads, Lists, ListsNames, NotesFailed, content_at};
+ghost use Rattle.mux_outside.specs.Files.{Reads, Lists, ListsNames, NotesFailed, NotesReading, content_at};
 ghost use Rattle.std.specs.Prelude.{take};
 ghost use Rattle.std.specs.Option.{option_map};
 
@@ -11,6 +11,7 @@ use crate::directories::{is_directory, names_in, value_at};
 use crate::file_error::FileError;
 use crate::files::Files;
 use crate::pairs::{Pair, Pairs};
+use crate::reading::{Reading, Readings};
 use ssh_fields::{OutOfMemory, Text, Texts};
 use std::alloc::Global;
 
@@ -22,17 +23,19 @@ pub struct MapFiles {
     files: Pairs,
     fails: Calls,
     failed: Texts,
+    readings: Readings,
     calls: u64,
     faults: u64,
 }
 
 impl MapFiles {
     /// These files. The calls that fail are counted over reads and listings, and their paths are
-    /// kept.
+    /// kept, and so are all reads.
     pub fn new(alloc: Global, files: Pairs, fails: Calls) -> MapFiles
         ensures files { result.files ≡ files }
         ensures fails { result.fails ≡ fails }
         ensures failed { result.failed ≡ [] }
+        ensures readings { result.readings ≡ [] }
         ensures calls { result.calls ≡ 0 }
         ensures faults { result.faults ≡ 0 }
     {
@@ -41,6 +44,7 @@ impl MapFiles {
             files,
             fails,
             failed: Texts::new(alloc),
+            readings: Readings::new(alloc),
             calls: 0,
             faults: 0,
         }
@@ -52,11 +56,30 @@ impl MapFiles {
         ensures faults { OnOk result (Rose self.old.faults self.new.faults) }
         ensures calls { OnOk result (self.new.calls ≡ call) }
         ensures kept { (self.new.files ≡ self.old.files) × (self.new.fails ≡ self.old.fails) }
+        ensures readings { self.new.readings ≡ self.old.readings }
         ensures unchanged { IfErr result (λ e. self.new ≡ self.old) }
     {
         self.failed.push(Text::copy(self.alloc, path)?)?;
         self.calls = call;
         self.faults = raised(self.faults);
+        Ok(())
+    }
+
+    // Fails the read of this number, and keeps it.
+    fn fail_read(&mut self, call: u64, path: &[u8], reading: Reading) -> Result<(), OutOfMemory>
+        ensures failed { OnOk result (self.new.failed ≡ self.old.failed ++ path.now ∷ []) }
+        ensures readings { OnOk result (self.new.readings ≡ self.old.readings ++ reading ∷ []) }
+        ensures faults { OnOk result (Rose self.old.faults self.new.faults) }
+        ensures calls { OnOk result (self.new.calls ≡ call) }
+        ensures kept { (self.new.files ≡ self.old.files) × (self.new.fails ≡ self.old.fails) }
+        ensures unchanged { IfErr result (λ e. self.new ≡ self.old) }
+    {
+        let count = self.readings.len();
+        self.readings.push(reading)?;
+        if let Err(e) = self.fail(call, path) {
+            self.readings.truncate(count);
+            return Err(e);
+        }
         Ok(())
     }
 }
@@ -98,22 +121,31 @@ impl Files for MapFiles {
 
     ghost failed = { λ f. Some f.failed };
 
+    ghost readings = { λ f. Some f.readings };
+
     fn read(&mut self, path: &[u8], most: usize) -> Result<Option<Text>, FileError>
         ensures reads { Reads (Some self.old.files) path.now most result }
         ensures at_most { IfOk result (λ found. IfSome found (λ text. length text ≤ most)) }
         ensures cause { HasCause result self.old.faults self.new.faults }
         ensures told { Some self.new.files ≡ Some self.old.files }
         ensures failed { NotesFailed result path.now (Some self.old.failed) (Some self.new.failed) }
+        ensures noted { NotesReading result path.now most (Some self.old.readings)
+            (Some self.new.readings) }
         ensures exact { FailsWhereNoted result self.old.calls self.old.fails }
         ensures calls { self.new.calls ≡ calls_after result self.old.calls }
         ensures fails { self.new.fails ≡ self.old.fails }
     {
+        let reading = Reading {
+            path: Text::copy(self.alloc, path)?,
+            most,
+        };
         let call = counted(self.calls);
         if self.fails.contains(call) {
-            self.fail(call, path)?;
+            self.fail_read(call, path, reading)?;
             return Err(FileError::Failed);
         }
         let found = read_first(self.alloc, self.files.as_slice(), path, most)?;
+        self.readings.push(reading)?;
         self.calls = call;
         Ok(found)
     }
@@ -123,6 +155,7 @@ impl Files for MapFiles {
         ensures cause { HasCause result self.old.faults self.new.faults }
         ensures told { Some self.new.files ≡ Some self.old.files }
         ensures failed { NotesFailed result dir.now (Some self.old.failed) (Some self.new.failed) }
+        ensures noted { Some self.new.readings ≡ Some self.old.readings }
         ensures exact { FailsWhereNoted result self.old.calls self.old.fails }
         ensures calls { self.new.calls ≡ calls_after result self.old.calls }
         ensures fails { self.new.fails ≡ self.old.fails }

@@ -43,6 +43,8 @@ impl<R: System + AllocGlobal + Clone + Drop> Files for RealFiles<R> {
 
     ghost failed = { λ _. None };
 
+    ghost readings = { λ _. None };
+
     fn read(&mut self, path: &[u8], most: usize) -> Result<Option<Text>, FileError>
         ensures at_most { IfOk result (λ found. IfSome found (λ text. length text ≤ most)) }
         ensures not_text { ¬ (IsUtf8 path.now) → result ≡ Err FileError.Failed }
