@@ -40,22 +40,25 @@ pub record Calls : Type 0 where
 
 -- ---- what is seen
 
--- after a call of open: the server's stream alone is open, and clients are accepted
+-- after a call of open: the server's stream alone is open, no listener is, and clients are accepted
 abbrev pub seen_after_open : Result (Unit {0}) FileError → Seen → Seen
 seen_after_open (Ok x) seen = record seen {
   streams = 0 ∷ [];
   blocked = [];
   listens = true;
+  listeners = [];
   own = [];
 }
 seen_after_open (Err e) seen = seen
 
--- after a call of join: the server's stream alone is open, and clients aren't accepted
+-- after a call of join: the server's stream alone is open, no listener is, and clients aren't
+-- accepted
 abbrev pub seen_after_join : Result (Unit {0}) FileError → Seen → Seen
 seen_after_join (Ok x) seen = record seen {
   streams = 0 ∷ [];
   blocked = [];
   listens = false;
+  listeners = [];
   own = [];
 }
 seen_after_join (Err e) seen = seen

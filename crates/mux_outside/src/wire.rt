@@ -62,7 +62,7 @@ pub trait Wire {
         ensures own { own_faults self.new ≡ own_faults self.old };
 
     /// Connects stream 0 to the control socket of another master. Whatever stood before, it alone is
-    /// open then, no stream is blocked, and no client is accepted.
+    /// open then, with no listener, no stream is blocked, and no client is accepted.
     fn join(&mut self, control: &[u8]) -> Result<(), FileError>
         ensures openings { openings self.new ≡ openings self.old }
         ensures joinings { joinings self.new

@@ -176,7 +176,8 @@ impl WireLog {
     }
 
     /// Keeps a call of `open` with these arguments, which succeeds or fails. After success the
-    /// server's stream alone is open, and clients are accepted; a failure counts as the server's.
+    /// server's stream alone is open, no listener is, and clients are accepted; a failure counts as the
+    /// server's.
     pub fn opened(&mut self, control: &[u8], transport: &[u8], opens: bool) -> Result<(), FileError>
         ensures opens { OpensAs opens result }
         ensures logs { LogsOpening result control.now transport.now self.old self.new }
@@ -196,13 +197,15 @@ impl WireLog {
         }
         self.streams = OpenStreams::new(streams);
         self.blocked = Streams::new(self.alloc);
+        self.listeners = Streams::new(self.alloc);
         self.own = OwnStreams::new(self.alloc);
         self.listening = true;
         Ok(())
     }
 
     /// Keeps a call of `join` with this argument, which succeeds or fails. After success the server's
-    /// stream alone is open, and clients aren't accepted; a failure counts as the server's.
+    /// stream alone is open, no listener is, and clients aren't accepted; a failure counts as the
+    /// server's.
     pub fn joined(&mut self, control: &[u8], joins: bool) -> Result<(), FileError>
         ensures joins { OpensAs joins result }
         ensures logs { LogsJoining result control.now self.old self.new }
@@ -219,6 +222,7 @@ impl WireLog {
         }
         self.streams = OpenStreams::new(streams);
         self.blocked = Streams::new(self.alloc);
+        self.listeners = Streams::new(self.alloc);
         self.own = OwnStreams::new(self.alloc);
         self.listening = false;
         Ok(())
