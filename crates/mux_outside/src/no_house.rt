@@ -66,9 +66,13 @@ impl House for NoHouse {
         None
     }
 
-    fn ordered(&mut self, _number: Option<u64>) {}
+    fn ordered(&mut self, _number: Option<u64>)
+        ensures { self.new ≡ self.old }
+    {}
 
-    fn turn(&mut self, _t: OwnTurn<'_>) -> Result<(), OutOfMemory> {
+    fn turn(&mut self, _t: OwnTurn<'_>) -> Result<(), OutOfMemory>
+        ensures { self.new ≡ self.old }
+    {
         Ok(())
     }
 
