@@ -13,6 +13,8 @@ use Rattle.conf_reader.specs.declared.reader.Lines.{Lines}
 use Rattle.conf_reader.specs.Blocks.{Blocks}
 use Rattle.conf_reader.specs.Left.{open_left, left, firsts_left}
 use Rattle.conf_reader.specs.Between.{is_ended, ends_where}
+use Rattle.conf_reader.specs.ToRead.{all_read}
+use Rattle.conf_reader.proofs.ToReadLemmas.{ended-reads}
 
 both : (a b : Bool) → (a && b) ≡ true → (a ≡ true) × (b ≡ true)
 both true b e = (refl, e)
@@ -47,3 +49,11 @@ is-ended told place blocks r e =
 pub over-left : (told : Told) (place : ℕ) (blocks : Blocks) (over : Bool) (r : Lines) → ends_where over r ≡ true → over ≡ true → left told place blocks r ≡ []
 over-left told place blocks true r e o = is-ended told place blocks r e
 over-left told place blocks false r e o = absurd cc
+
+-- nor anything to read
+pub over-reads : (told : Told) (over : Bool) (r : Lines) → ends_where over r ≡ true → over ≡ true → all_read told r ≡ []
+over-reads told true r e o =
+    let below = both (is_empty r.open_files.below.items) _ e in
+    let top = both (is_none r.open_files.top) _ below.1 in
+    ended-reads told r (no-top r.open_files.top top.0) (none-below r.open_files.below.items below.0) (leb-true (length r.firsts.items) r.next_first top.1)
+over-reads told false r e o = absurd cc

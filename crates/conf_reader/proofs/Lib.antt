@@ -12,3 +12,4 @@ pub mod OrderLemmas
 pub mod PathLemmas
 pub mod RefusalLemmas
 pub mod TakeLemmas
+pub mod ToReadLemmas

@@ -8,3 +8,4 @@ pub mod Moving
 pub mod Paths
 pub mod Reads
 pub mod Results
+pub mod ToRead

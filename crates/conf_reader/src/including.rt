@@ -16,6 +16,7 @@ impl OpenFiles {
     ghost use Rattle.conf_reader.specs.Moving.{KeepsBounds, ExpandsOver};
     ghost use Rattle.conf_reader.specs.Results.{Refuses, HasFilesCause};
     ghost use Rattle.conf_reader.specs.Looking.{ExpandsLooks};
+    ghost use Rattle.conf_reader.specs.ToRead.{ExpandNotes};
 
     /// Notes the paths that the last line names.
     pub fn name(&mut self, paths: Texts)
@@ -69,6 +70,8 @@ impl OpenFiles {
         ensures bounded { OnOk result (KeepsBounds self.old self.new) }
         ensures looks { ExpandsLooks (F.told files.old) (known facts.now) original.now
             (F.failed files.old) (F.failed files.new) self.old self.new result }
+        ensures noted { ExpandNotes (F.told files.old) (known facts.now) original.now
+            (F.readings files.old) (F.readings files.new) self.old self.new result }
     {
         let found = match self.include() {
             None => return Ok(()),

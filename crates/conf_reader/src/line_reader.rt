@@ -129,6 +129,8 @@ impl LineReader {
     ghost use Rattle.conf_reader.specs.Reads.{IsGivenFrom, IsOver, open_count, is_spent};
     ghost use Rattle.conf_reader.specs.Results.{HasReadCause, is_run_fault};
     ghost use Rattle.conf_reader.specs.Looking.{Test, passes, Looks};
+    ghost use Rattle.conf_reader.specs.ToRead.{NextNotesFor, all_read};
+    ghost use Rattle.conf_rules.specs.ReadOrder.{read_once};
 
     /// A reader of the files that are asked for.
     pub fn new(alloc: Global, asked: &Asked, facts: &Facts) -> Result<LineReader, OutOfMemory>
@@ -143,6 +145,8 @@ impl LineReader {
             ≡ firsts_of facts.now.home asked.now.from) }
         ensures looks { IfOk result (λ reader. (test : Test) (told : Told)
             → passes test told reader.lines.open_files ≡ true) }
+        ensures reads { IfOk result (λ reader. (told : Told) → told.facts ≡ known facts.now
+            → all_read told reader.lines ≡ read_once told asked.now.from) }
         ensures read { IfOk result (λ reader. reader.lines.read ≡ 0) }
         ensures fresh { IfOk result (λ reader. is_spent reader ≡ false) }
     {
@@ -176,6 +180,8 @@ impl LineReader {
         ensures no_run_fault { IfErr result (λ e. is_run_fault e ≡ false) }
         ensures looks { Looks (F.told files.old) (known self.old.facts) self.old.original
             (F.failed files.old) (F.failed files.new) self.old.lines self.new.lines result }
+        ensures noted { NextNotesFor (F.told files.old) (known self.old.facts) self.old.original
+            (F.readings files.old) (F.readings files.new) self.old.lines self.new.lines result }
         ensures firsts { self.new.lines.firsts ≡ self.old.lines.firsts }
     {
         if self.over {

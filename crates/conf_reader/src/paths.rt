@@ -183,6 +183,7 @@ fn put_below<F: Files>(
     ensures cause { HasCause result (F.faults files.old) (F.faults files.new) }
     ensures failed { FileFails (if is_glob component.now then or_root base.now ∷ [] else []) result
         (F.failed files.old) (F.failed files.new) }
+    ensures noted { F.readings files.new ≡ F.readings files.old }
     ensures told { F.told files.new ≡ F.told files.old }
 {
     if !is_glob(component) {
@@ -209,6 +210,7 @@ fn with_component<F: Files>(
     ensures cause { HasCause result (F.faults files.old) (F.faults files.new) }
     ensures failed { FileFails (if is_glob component.now then map or_root bases.items else [])
         result (F.failed files.old) (F.failed files.new) }
+    ensures noted { F.readings files.new ≡ F.readings files.old }
     ensures told { F.told files.new ≡ F.told files.old }
 {
     if component.is_empty() {
@@ -230,6 +232,7 @@ fn along<F: Files>(alloc: Global, path: &[u8], files: &mut F) -> Result<Vec<Text
     ensures failed { (told : Told) → TellsFiles (F.told files.old) told
         → FileFails (folders_along told (components_of path.now) ([] ∷ [])) result
         (F.failed files.old) (F.failed files.new) }
+    ensures noted { F.readings files.new ≡ F.readings files.old }
     ensures told { F.told files.new ≡ F.told files.old }
 {
     let mut paths = Vec::new(alloc);
@@ -268,6 +271,7 @@ fn globbed<F: Files>(alloc: Global, path: &[u8], files: &mut F) -> Result<Texts,
     ensures cause { HasCause result (F.faults files.old) (F.faults files.new) }
     ensures failed { (told : Told) → TellsFiles (F.told files.old) told
         → FileFails (folders_of told path.now) result (F.failed files.old) (F.failed files.new) }
+    ensures noted { F.readings files.new ≡ F.readings files.old }
     ensures told { F.told files.new ≡ F.told files.old }
 {
     let mut found = Texts::new(alloc);
@@ -292,6 +296,7 @@ fn all_globbed<F: Files>(alloc: Global, paths: &Texts, files: &mut F) -> Result<
     ensures failed { (told : Told) → TellsFiles (F.told files.old) told
         → FileFails (flat_map (folders_of told) paths.now) result (F.failed files.old)
         (F.failed files.new) }
+    ensures noted { F.readings files.new ≡ F.readings files.old }
     ensures told { F.told files.new ≡ F.told files.old }
 {
     let mut all = Texts::new(alloc);
@@ -321,6 +326,7 @@ pub fn named_paths<F: Files>(
         → told.facts ≡ known facts.now → told.asked.original ≡ original.now
         → LineFails (looks_in (source_of system) told (words_of rest.now)) result
         (F.failed files.old) (F.failed files.new) }
+    ensures noted { F.readings files.new ≡ F.readings files.old }
     ensures told { F.told files.new ≡ F.told files.old }
 {
     let words = match split_words(alloc, rest) {

@@ -1,4 +1,4 @@
-ghost use Rattle.std.specs.Prelude.{◌≡◌, ◌<◌, ◌≤◌, ◌+◌, ℕ, IfOk, IfSome, OnOk, IsSome, true, false, length, None, [], slice_get};
+ghost use Rattle.std.specs.Prelude.{◌≡◌, ◌<◌, ◌≤◌, ◌+◌, ◌∷◌, ℕ, IfOk, IfSome, OnOk, IsSome, true, false, length, Some, None, [], slice_get};
 ghost use Rattle.std.specs.Option.{option_copied};
 ghost use Rattle.std.specs.Bool.{MatchBool};
 ghost use Rattle.std.specs.List.{list_all};
@@ -51,6 +51,7 @@ impl Lines {
     ghost use Rattle.conf_reader.specs.Moving.{IsAtLine, Settles, KeepsBounds, AllMove};
     ghost use Rattle.conf_reader.specs.Results.{Refuses, HasFilesCause};
     ghost use Rattle.conf_reader.specs.Looking.{KeepsLooks, AllLook};
+    ghost use Rattle.conf_reader.specs.ToRead.{AllNote, all_read};
 
     /// The lines of first files, of which none is opened yet.
     pub fn new(alloc: Global, firsts: Vec<FirstFile>) -> Lines
@@ -89,6 +90,10 @@ impl Lines {
         ensures next { OnOk result (self.new.next_first ≡ self.old.next_first + 1) }
         ensures bounded { OnOk result (KeepsBounds self.old.open_files self.new.open_files) }
         ensures looks { OnOk result (KeepsLooks self.old.open_files self.new.open_files) }
+        ensures reads { OnOk result ((told : Told)
+            → IfSome (slice_get self.old.firsts.items self.old.next_first) (λ f.
+            told.content f.path ≡ Some text
+            → all_read told self.old ≡ f.path ∷ all_read told self.new)) }
         ensures count { self.new.read ≡ self.old.read }
     {
         let Some(first) = self.next_file() else {
@@ -110,6 +115,10 @@ impl Lines {
         requires next { self.old.next_first < length self.old.firsts.items }
         ensures left { (told : Told) (place : ℕ) (blocks : Blocks) → IsLacking told self.old
             → left told place blocks self.old ≡ left told place blocks self.new }
+        ensures reads { (told : Told)
+            → IfSome (slice_get self.old.firsts.items self.old.next_first) (λ f.
+            told.content f.path ≡ None
+            → all_read told self.old ≡ f.path ∷ all_read told self.new) }
         ensures others { self.new ≡ record self.old { next_first = self.old.next_first + 1 } }
     {
         if self.next_first < self.firsts.len() {
@@ -150,6 +159,8 @@ impl Lines {
         ensures cause { HasFilesCause result (F.faults files.old) (F.faults files.new) }
         ensures bounded { OnOk result (KeepsBounds self.old.open_files self.new.open_files) }
         ensures looks { AllLook (F.failed files.old) (F.failed files.new) self.old self.new result }
+        ensures noted { AllNote (F.told files.old) (F.readings files.old) (F.readings files.new)
+            self.old self.new result }
         ensures count { self.new.read ≡ self.old.read }
     {
         let Some(first) = self.next_file() else {
@@ -189,6 +200,8 @@ impl Lines {
         ensures cause { HasFilesCause result (F.faults files.old) (F.faults files.new) }
         ensures bounded { OnOk result (KeepsBounds self.old.open_files self.new.open_files) }
         ensures looks { AllLook (F.failed files.old) (F.failed files.new) self.old self.new result }
+        ensures noted { AllNote (F.told files.old) (F.readings files.old) (F.readings files.new)
+            self.old self.new result }
         ensures count { self.new.read ≡ self.old.read }
     {
         loop {
@@ -212,6 +225,8 @@ impl Lines {
         ensures cause { HasFilesCause result (F.faults files.old) (F.faults files.new) }
         ensures bounded { OnOk result (KeepsBounds self.old.open_files self.new.open_files) }
         ensures looks { AllLook (F.failed files.old) (F.failed files.new) self.old self.new result }
+        ensures noted { AllNote (F.told files.old) (F.readings files.old) (F.readings files.new)
+            self.old self.new result }
     {
         self.open_files.settle(files)
     }

@@ -1,4 +1,4 @@
-ghost use Rattle.std.specs.Prelude.{◌≡◌, ◌<◌, ◌≤◌, ℕ, IfOk, IfErr, IfSome, OnOk, IsSome, nat_lt, false, length, Some, None, []};
+ghost use Rattle.std.specs.Prelude.{◌≡◌, ◌<◌, ◌≤◌, ◌∷◌, ℕ, IfOk, IfErr, IfSome, OnOk, IsSome, nat_lt, false, length, Some, None, []};
 ghost use Rattle.conf_rules.specs.declared.causes.Cause.TheVariants as causes;
 ghost use Rattle.conf_rules.specs.Sources.{depth_limit, size_limit};
 ghost use Rattle.conf_rules.specs.Told.{Told};
@@ -40,6 +40,7 @@ impl OpenFiles {
     ghost use Rattle.conf_reader.specs.Moving.{NamesPath, Settles, KeepsLeft, KeepsBounds, MovesOver};
     ghost use Rattle.conf_reader.specs.Results.{HasFilesCause, is_fault_at};
     ghost use Rattle.conf_reader.specs.Looking.{KeepsLooks, MovesLooks};
+    ghost use Rattle.conf_reader.specs.ToRead.{OpenNotes, open_reads};
 
     /// No file.
     pub fn new(alloc: Global) -> OpenFiles
@@ -65,6 +66,7 @@ impl OpenFiles {
         ensures less { work self.new < work self.old }
         ensures bounded { KeepsBounds self.old self.new }
         ensures looks { KeepsLooks self.old self.new }
+        ensures reads { (told : Told) → open_reads told self.old ≡ open_reads told self.new }
     {
         self.top = self.below.pop();
         self.fresh = false;
@@ -82,6 +84,8 @@ impl OpenFiles {
         ensures less { work self.new < work self.old }
         ensures bounded { KeepsBounds self.old self.new }
         ensures looks { KeepsLooks self.old self.new }
+        ensures reads { (told : Told) → Names self.old.top (λ path. told.content path ≡ None
+            → open_reads told self.old ≡ path ∷ open_reads told self.new) }
     {
         if let Some(top) = &mut self.top {
             top.pass();
@@ -102,6 +106,9 @@ impl OpenFiles {
         ensures less { OnOk result (work self.new < work self.old) }
         ensures bounded { OnOk result (KeepsBounds self.old self.new) }
         ensures looks { OnOk result (KeepsLooks self.old self.new) }
+        ensures reads { OnOk result ((told : Told)
+            → Names self.old.top (λ path. told.content path ≡ Some text
+            → open_reads told self.old ≡ path ∷ open_reads told self.new)) }
     {
         let Some(mut top) = self.top.take() else {
             unreachable!()
@@ -163,6 +170,9 @@ impl OpenFiles {
         ensures bounded { OnOk result (KeepsBounds self.old self.new) }
         ensures looks { OnOk result (KeepsLooks self.old self.new) }
         ensures quiet { IfErr result (λ e. is_fault_at e ≡ false) }
+        ensures reads { OnOk result ((told : Told)
+            → Names self.old.top (λ path. IsFound found (told.content path)
+            → open_reads told self.old ≡ path ∷ open_reads told self.new)) }
     {
         match found {
             Found::Nothing => {
@@ -198,6 +208,8 @@ impl OpenFiles {
         ensures bounded { OnOk result (KeepsBounds self.old self.new) }
         ensures looks { MovesLooks (F.failed files.old) (F.failed files.new) self.old self.new
             result }
+        ensures noted { OpenNotes (F.told files.old) (F.readings files.old) (F.readings files.new)
+            self.old self.new result }
     {
         let Some(top) = &self.top else {
             return Ok(Stand::End);
@@ -232,6 +244,8 @@ impl OpenFiles {
         ensures bounded { OnOk result (KeepsBounds self.old self.new) }
         ensures looks { MovesLooks (F.failed files.old) (F.failed files.new) self.old self.new
             result }
+        ensures noted { OpenNotes (F.told files.old) (F.readings files.old) (F.readings files.new)
+            self.old self.new result }
     {
         loop {
             match self.advance(files)? {

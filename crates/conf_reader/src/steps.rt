@@ -21,6 +21,7 @@ impl Lines {
     ghost use Rattle.conf_reader.specs.Results.{HasFilesCause};
     ghost use Rattle.conf_reader.specs.Between.{is_ended};
     ghost use Rattle.conf_reader.specs.Looking.{Test, passes, StepLooks, LineLooks, AllExpandLooks, Looks};
+    ghost use Rattle.conf_reader.specs.ToRead.{StepNotes, NextNotes, AllExpandNotes, NextNotesFor, all_read};
 
     /// Takes one line of all files.
     fn one<F: Files>(&mut self, files: &mut F) -> Result<Step, ResolveError>
@@ -35,6 +36,8 @@ impl Lines {
         ensures given { IfOk result (λ step. GivenStep step self.old self.new) }
         ensures looks { StepLooks (F.failed files.old) (F.failed files.new) self.old self.new
             result }
+        ensures noted { StepNotes (F.told files.old) (F.readings files.old) (F.readings files.new)
+            self.old self.new result }
         ensures told { F.told files.new ≡ F.told files.old }
         ensures cause { HasFilesCause result (F.faults files.old) (F.faults files.new) }
     {
@@ -62,6 +65,8 @@ impl Lines {
         ensures given { IfOk result (λ given. IfSome given (IsGivenFrom self.old self.new)) }
         ensures looks { LineLooks (F.failed files.old) (F.failed files.new) self.old self.new
             result }
+        ensures noted { NextNotes (F.told files.old) (F.readings files.old) (F.readings files.new)
+            self.old self.new result }
         ensures firsts { self.new.firsts ≡ self.old.firsts }
         ensures told { F.told files.new ≡ F.told files.old }
         ensures cause { HasFilesCause result (F.faults files.old) (F.faults files.new) }
@@ -92,6 +97,8 @@ impl Lines {
         ensures bounded { OnOk result (KeepsBounds self.old.open_files self.new.open_files) }
         ensures looks { AllExpandLooks (F.told files.old) (known facts.now) original.now
             (F.failed files.old) (F.failed files.new) self.old self.new result }
+        ensures noted { AllExpandNotes (F.told files.old) (known facts.now) original.now
+            (F.readings files.old) (F.readings files.new) self.old self.new result }
     {
         self.open_files.expand(facts, original, files)
     }
@@ -110,6 +117,8 @@ impl Lines {
         ensures given { IfOk result (λ given. IfSome given (IsGivenFrom self.old self.new)) }
         ensures looks { Looks (F.told files.old) (known facts.now) original.now
             (F.failed files.old) (F.failed files.new) self.old self.new result }
+        ensures noted { NextNotesFor (F.told files.old) (known facts.now) original.now
+            (F.readings files.old) (F.readings files.new) self.old self.new result }
         ensures firsts { self.new.firsts ≡ self.old.firsts }
         ensures told { F.told files.new ≡ F.told files.old }
         ensures cause { HasFilesCause result (F.faults files.old) (F.faults files.new) }
@@ -128,6 +137,7 @@ impl Lines {
         ensures bounded { Bounded self.new.open_files 0 }
         ensures looks { (told : Told) (test : Test)
             → passes test told self.new.open_files ≡ true }
+        ensures reads { (told : Told) → all_read told self.new ≡ [] }
     {
         self.open_files = OpenFiles::new(self.alloc);
         self.next_first = self.firsts.len();

@@ -1,6 +1,6 @@
 //! The next line of the files that are being read.
 
-ghost use Rattle.std.specs.Prelude.{◌≡◌, ◌<◌, ◌≤◌, ◌+◌, ℕ, IfOk, IfErr, IfSome, IsSome, false, length, None, Ok};
+ghost use Rattle.std.specs.Prelude.{◌≡◌, ◌<◌, ◌≤◌, ◌+◌, ℕ, IfOk, IfErr, IfSome, IsSome, OnOk, false, length, None, Ok};
 ghost use Rattle.std.specs.Option.{option_map};
 ghost use Rattle.conf_rules.specs.Sources.{depth_limit};
 ghost use Rattle.conf_rules.specs.Told.{Told};
@@ -18,6 +18,7 @@ impl OpenFiles {
     ghost use Rattle.conf_reader.specs.Moving.{IsAtLine, KeepsBounds};
     ghost use Rattle.conf_reader.specs.Results.{Refuses, is_fault_at};
     ghost use Rattle.conf_reader.specs.Looking.{TakesLooks};
+    ghost use Rattle.conf_reader.specs.ToRead.{open_reads};
 
     /// The line that the last file says, as it is given.
     pub fn given(&self, said: Said) -> Result<ConfLine, OutOfMemory>
@@ -87,6 +88,8 @@ impl OpenFiles {
             × (length (stack self.new) ≡ l.depth + 1))) }
         ensures bounded { result ≡ Ok None → KeepsBounds self.old self.new }
         ensures looks { TakesLooks self.old self.new result }
+        ensures reads { OnOk result ((told : Told)
+            → open_reads told self.old ≡ open_reads told self.new) }
         ensures quiet { IfErr result (λ e. is_fault_at e ≡ false) }
     {
         let Next { next, said } = match self.head() {

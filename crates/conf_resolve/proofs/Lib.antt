@@ -6,4 +6,5 @@ pub mod IdleLemmas
 pub mod IncludeLemmas
 pub mod PartsLemmas
 pub mod PassLemmas
+pub mod ReadingLemmas
 pub mod ResolveLemmas

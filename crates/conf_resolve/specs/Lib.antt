@@ -1,4 +1,5 @@
 pub mod Causes
 pub mod Faults
 pub mod Passes
+pub mod Readings
 pub mod Telling

@@ -1,6 +1,7 @@
 ghost use Rattle.std.specs.Prelude.{◌≡◌, List, [], Ok, IfErr};
 ghost use Rattle.conf_rules.specs.Rows.{Row, Pass, First};
 ghost use Rattle.conf_rules.specs.Resolution.{all_rows, execs, refusal_in};
+ghost use Rattle.conf_rules.specs.ReadOrder.{all_reads, read_once};
 ghost use Rattle.conf_tokens.specs.Known.{known};
 ghost use Rattle.conf_match.specs.Evaluated.{RanAll};
 ghost use Rattle.conf_fold.specs.Results.{RanUnless, breaks_off};
@@ -9,6 +10,7 @@ ghost use Rattle.conf_fold.specs.Begins.{asked_rows};
 ghost use Rattle.conf_resolve.specs.Passes.{Commands, commands, Begins, Passes, final_rows, BothPass, Resolved};
 ghost use Rattle.conf_resolve.specs.Causes.{HasCauses};
 ghost use Rattle.conf_resolve.specs.Faults.{FaultStands, NoneFails};
+ghost use Rattle.conf_resolve.specs.Readings.{ReadsUnless};
 ghost use Rattle.conf_resolve.specs.Telling.{WhereTold};
 
 use conf_fold::Fold;
@@ -42,6 +44,9 @@ fn pass<F: Files, R: Runner>(
         (R.ran runner.new) (F.failed files.old) (F.failed files.new))) }
     ensures failed { WhereTold asked.now (known facts.now) (F.told files.old) (R.told runner.old)
         (λ told. NoneFails result (F.failed files.old) (F.failed files.new)) }
+    ensures noted { WhereTold asked.now (known facts.now) (F.told files.old) (R.told runner.old)
+        (λ told. ReadsUnless (read_once told told.asked.from) result (F.readings files.old)
+        (F.readings files.new)) }
     ensures cause { HasCauses result (F.faults files.old) (F.faults files.new) (R.faults runner.old)
         (R.faults runner.new) }
     ensures files { F.told files.new ≡ F.told files.old }
@@ -78,6 +83,10 @@ fn passes<F: Files, R: Runner>(
         (F.failed files.old) (F.failed files.new))) }
     ensures failed { WhereTold asked.now (known facts.now) (F.told files.old) (R.told runner.old)
         (λ told. NoneFails result (F.failed files.old) (F.failed files.new)) }
+    ensures noted { WhereTold asked.now (known facts.now) (F.told files.old) (R.told runner.old)
+        (λ told. Stands told First fold.old (asked_rows told) []
+        → refusal_in (asked_rows told) ≡ None
+        → ReadsUnless (all_reads told) result (F.readings files.old) (F.readings files.new)) }
     ensures cause { HasCauses result (F.faults files.old) (F.faults files.new) (R.faults runner.old)
         (R.faults runner.new) }
     ensures files { F.told files.new ≡ F.told files.old }
@@ -92,8 +101,8 @@ fn passes<F: Files, R: Runner>(
 }
 
 /// The settings of the command line and of all files that are asked for, or the first refusal in
-/// reading order. Exactly the commands are run that the criteria of active `Match` lines reach. A
-/// fault comes only where the count of faults of `files` or `runner` rose, and no rise is passed
+/// reading order. Exactly the commands are run that the criteria of active `Match` lines reach, and
+/// exactly the files are read that the lines name, in their order, once in each pass. A fault comes only where the count of faults of `files` or `runner` rose, and no rise is passed
 /// over. A failed read is told at an Include line that looks at the path that failed, or at line 0
 /// of this path, a file that no line includes; a command that could not be run at the line that
 /// asks for it.
@@ -114,6 +123,9 @@ pub fn resolve<F: Files, R: Runner>(
         (F.failed files.old) (F.failed files.new))) }
     ensures failed { WhereTold asked.now (known facts.now) (F.told files.old) (R.told runner.old)
         (λ told. NoneFails result (F.failed files.old) (F.failed files.new)) }
+    ensures noted { WhereTold asked.now (known facts.now) (F.told files.old) (R.told runner.old)
+        (λ told.
+        ReadsUnless (all_reads told) result (F.readings files.old) (F.readings files.new)) }
     ensures cause { HasCauses result (F.faults files.old) (F.faults files.new) (R.faults runner.old)
         (R.faults runner.new) }
     ensures files { F.told files.new ≡ F.told files.old }

@@ -9,5 +9,6 @@ invariant-loop-path g l = record {
   told : g.F.Files.told l.files ≡ g.F.Files.told l.initial.files;
   faults : g.F.Files.faults l.files ≡ g.F.Files.faults l.initial.files;
   failed : (told : Told) → TellsFiles (g.F.Files.told l.initial.files) told → g.F.Files.failed l.files ≡ g.F.Files.failed l.initial.files;
+  noted : g.F.Files.readings l.files ≡ g.F.Files.readings l.initial.files;
   found : (told : Told) → TellsFiles (g.F.Files.told l.initial.files) told → l.all ≡ all_globbed told (take l.path-index l.paths);
 }

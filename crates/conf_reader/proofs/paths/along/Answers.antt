@@ -14,6 +14,7 @@ loop-component-preserved g c = record {
   told = c.in_ok-paths.ensures.told ∙ c.loop-component.invariant.told;
   faults = c.in_ok-paths.ensures.cause ∙ c.loop-component.invariant.faults;
   failed = c.in_ok-paths.ensures.failed ∙ c.loop-component.invariant.failed;
+  noted = c.with_component.ensures.noted ∙ c.loop-component.invariant.noted;
   found = λ told t f.
       same-along told (components_of c.in-Some.rest.now) (with_component told c.in-Some.component.now c.loop-component.paths.items) c.in_ok-paths.paths.items (c.in_ok-paths.ensures.found told (subst (λ x. TellsFiles x told) (sym c.loop-component.invariant.told) t)) f
       ∙ sym (ap (sum_by f) (some-component told c.loop-component.left.now c.in-Some.component.now c.in-Some.rest.now c.loop-component.paths.items c.in-Some.ensures.parts))

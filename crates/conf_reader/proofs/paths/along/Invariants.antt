@@ -12,6 +12,7 @@ invariant-loop-component g l = record {
   told : g.F.Files.told l.files ≡ g.F.Files.told l.initial.files;
   faults : g.F.Files.faults l.files ≡ g.F.Files.faults l.initial.files;
   failed : g.F.Files.failed l.files ≡ g.F.Files.failed l.initial.files;
+  noted : g.F.Files.readings l.files ≡ g.F.Files.readings l.initial.files;
   found : (told : Told) → TellsFiles (g.F.Files.told l.initial.files) told → SameTexts (along told (components_of l.path) ([] ∷ [])) (along told (components_of l.left) l.paths.items);
   looks : (told : Told) → TellsFiles (g.F.Files.told l.initial.files) told → Among (folders_along told (components_of l.left) l.paths.items) (folders_along told (components_of l.path) ([] ∷ []));
 }

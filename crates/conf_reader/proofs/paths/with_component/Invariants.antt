@@ -11,5 +11,6 @@ invariant-loop-base g l = record {
   told : g.F.Files.told l.files ≡ g.F.Files.told l.initial.files;
   faults : g.F.Files.faults l.files ≡ g.F.Files.faults l.initial.files;
   failed : g.F.Files.failed l.files ≡ g.F.Files.failed l.initial.files;
+  noted : g.F.Files.readings l.files ≡ g.F.Files.readings l.initial.files;
   found : (told : Told) → TellsFiles (g.F.Files.told l.initial.files) told → SameTexts (flat_map (below told l.component) (take l.base-index l.fn.bases.items)) l.paths.items;
 }

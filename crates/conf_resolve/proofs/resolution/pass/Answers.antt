@@ -10,6 +10,9 @@ use Rattle.conf_resolve.proofs.PassLemmas.{goes-on, line-fails, reader-fails, al
 use Rattle.conf_resolve.proofs.ResolveLemmas.{underway}
 use Rattle.conf_resolve.proofs.FaultLemmas.{read-stands, run-stands, none-fails, none-told}
 use Rattle.conf_resolve.proofs.IncludeLemmas.{any_place, any-passes}
+use Rattle.conf_rules.specs.ReadOrder.{read_once}
+use Rattle.conf_reader.proofs.ToReadLemmas.{none-read, stays-read, then-read, then-some}
+use Rattle.conf_resolve.proofs.ReadingLemmas.{no-line, to-all}
 use Rattle.conf_resolve.proofs.resolution.pass.Goals as goal
 
 pub returns-in_err-reader-clause-passes : goal.returns-in_err-reader-clause-passes
@@ -36,6 +39,7 @@ loop-reader-init g c = record {
       (c.in_ok-reader.ensures.left told (length told.asked.lines) facts ∙ ap (λ (a : Asked). Rattle.conf_rules.specs.Sources.lines_from told (length told.asked.lines) a.from) (sym asked)) c.in_ok-reader.ensures.read c.in_ok-reader.ensures.none.1 c.in_ok-reader.ensures.looks;
   firsts = c.in_ok-reader.ensures.firsts;
   failed = λ told asked facts tells. refl;
+  notes = λ told asked facts tells. stays-read _ _ _ _ (sym (c.in_ok-reader.ensures.reads told facts ∙ ap (λ (a : Asked). read_once told a.from) (sym asked))) refl;
 }
 
 pub line-requires-clause-known : goal.line-requires-clause-known
@@ -86,6 +90,8 @@ loop-reader-preserved g c =
       failed = λ told asked facts tells.
           (c.in_ok-line.ensures.looks told any_place (rw c.loop-reader.invariant.files tells) (facts ∙ sym c.loop-reader.invariant.facts) (ap (λ (a : Asked). a.original) asked ∙ sym c.loop-reader.invariant.original) (any-passes told c.loop-reader.reader.lines)).0
           ∙ c.loop-reader.invariant.failed told asked facts tells;
+      notes = λ told asked facts tells.
+          then-read _ _ _ _ _ _ (c.loop-reader.invariant.notes told asked facts tells) (rw c.in-Some.is at (c.in_ok-line.ensures.noted told (rw c.loop-reader.invariant.files tells) (facts ∙ sym c.loop-reader.invariant.facts) (ap (λ (a : Asked). a.original) asked ∙ sym c.loop-reader.invariant.original)));
       fits = bounded;
       underway = λ told pass rows asked facts tells status begins.
           let u = c.loop-reader.invariant.underway told pass rows asked facts tells status begins in
@@ -176,3 +182,22 @@ pub returns-clause-failed : goal.returns-clause-failed
 returns-clause-failed g c = λ told asked facts tells status.
     (c.in_ok-line.ensures.looks told any_place (rw c.loop-reader.invariant.files tells) (facts ∙ sym c.loop-reader.invariant.facts) (ap (λ (a : Asked). a.original) asked ∙ sym c.loop-reader.invariant.original) (any-passes told c.loop-reader.reader.lines)).0
     ∙ c.loop-reader.invariant.failed told asked facts tells
+
+pub returns-in_err-reader-clause-noted : goal.returns-in_err-reader-clause-noted
+returns-in_err-reader-clause-noted g c = λ told asked facts tells status.
+    let p = err_from_is_err_and c.from_residual.result c.from_residual.ensures.1 in
+    rw p.1 (none-read _ _ _ refl)
+
+pub returns-in_err-line-clause-noted : goal.returns-in_err-line-clause-noted
+returns-in_err-line-clause-noted g c = λ told asked facts tells status.
+    let p = err_from_is_err_and c.from_residual-in_err-line.result c.from_residual-in_err-line.ensures.1 in
+    rw p.1 (then-some _ _ _ _ _ (c.loop-reader.invariant.notes told asked facts tells) (c.in_err-line.ensures.noted told (rw c.loop-reader.invariant.files tells) (facts ∙ sym c.loop-reader.invariant.facts) (ap (λ (a : Asked). a.original) asked ∙ sym c.loop-reader.invariant.original)))
+
+pub returns-in_err-line-2-clause-noted : goal.returns-in_err-line-2-clause-noted
+returns-in_err-line-2-clause-noted g c = λ told asked facts tells status.
+    let p = err_from_is_err_and c.from_residual-in_err-line-2.result c.from_residual-in_err-line-2.ensures.1 in
+    rw p.1 (_, then-read _ _ _ _ _ _ (c.loop-reader.invariant.notes told asked facts tells) (rw c.in-Some.is at (c.in_ok-line.ensures.noted told (rw c.loop-reader.invariant.files tells) (facts ∙ sym c.loop-reader.invariant.facts) (ap (λ (a : Asked). a.original) asked ∙ sym c.loop-reader.invariant.original))))
+
+pub returns-clause-noted : goal.returns-clause-noted
+returns-clause-noted g c = λ told asked facts tells status.
+    to-all _ _ _ (then-read _ _ _ _ _ _ (c.loop-reader.invariant.notes told asked facts tells) (no-line _ _ _ _ _ c.in_default.not-Some (c.in_ok-line.ensures.noted told (rw c.loop-reader.invariant.files tells) (facts ∙ sym c.loop-reader.invariant.facts) (ap (λ (a : Asked). a.original) asked ∙ sym c.loop-reader.invariant.original))))

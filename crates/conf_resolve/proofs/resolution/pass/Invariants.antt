@@ -6,6 +6,8 @@ use Rattle.conf_match.specs.Evaluated.{TellsStatus}
 use Rattle.conf_reader.specs.Known.{TellsFiles}
 use Rattle.conf_reader.specs.Firsts.{firsts_of}
 use Rattle.conf_reader.specs.Left.{Bounded}
+use Rattle.conf_rules.specs.ReadOrder.{read_once}
+use Rattle.conf_reader.specs.ToRead.{all_read, ReadsTo}
 use Rattle.conf_tokens.specs.Known.{known}
 use Rattle.conf_resolve.specs.Passes.{Begins, final_rows}
 use Rattle.conf_resolve.proofs.PassLemmas.{Underway}
@@ -21,6 +23,7 @@ invariant-loop-reader g l = record {
   original : l.reader.original ≡ l.asked.original;
   firsts : l.reader.lines.firsts.items ≡ firsts_of l.facts.home l.asked.from;
   failed : (told : Told) → told.asked ≡ l.asked → told.facts ≡ known l.facts → TellsFiles (g.F.Files.told l.fn.files) told → g.F.Files.failed l.files ≡ g.F.Files.failed l.fn.files;
+  notes : (told : Told) → told.asked ≡ l.asked → told.facts ≡ known l.facts → TellsFiles (g.F.Files.told l.fn.files) told → ReadsTo (read_once told told.asked.from) (all_read told l.reader.lines) (g.F.Files.readings l.fn.files) (g.F.Files.readings l.files);
   fits : Bounded l.reader.lines.open_files (length l.fold.applies);
   underway : (told : Told) (pass : Pass) (rows : List Row) → told.asked ≡ l.asked → told.facts ≡ known l.facts → TellsFiles (g.F.Files.told l.fn.files) told → TellsStatus (g.R.Runner.told l.fn.runner) told.status
       → Begins told pass l.fn.fold rows → Underway told pass l.fold l.reader.lines (final_rows told pass rows) rows (g.R.Runner.ran l.fn.runner) (g.R.Runner.ran l.runner);

@@ -6,6 +6,7 @@ use Rattle.conf_fold.specs.Results.{breaks_off}
 use Rattle.conf_resolve.specs.Passes.{first_rows}
 use Rattle.conf_resolve.proofs.ResolveLemmas.{first-begins, first-refused, first-stands, behind-asked, once, second-begins, twice, asked-start, first-broken, first-ran, once-ran, second-start, twice-ran}
 use Rattle.conf_resolve.proofs.FaultLemmas as faults
+use Rattle.conf_resolve.proofs.ReadingLemmas as readings
 use Rattle.conf_resolve.proofs.resolution.passes.Goals as goal
 
 pub returns-in_err-pass-clause-passes : goal.returns-in_err-pass-clause-passes
@@ -89,3 +90,25 @@ pub returns-then-branch-clause-failed : goal.returns-then-branch-clause-failed
 returns-then-branch-clause-failed g c = λ told asked facts tells status.
     faults.none-again c.pass-then-branch.result _ _ _ (c.in_ok-pass.ensures.failed told asked facts tells status)
     (c.pass-then-branch.ensures.failed told asked facts (rw c.pass.ensures.files tells) (rw c.pass.ensures.runner status))
+
+pub returns-in_err-pass-clause-noted : goal.returns-in_err-pass-clause-noted
+returns-in_err-pass-clause-noted g c = λ told asked facts tells status stands none.
+    let p = err_from_is_err_and c.from_residual.result c.from_residual.ensures.1 in
+    rw p.1 (readings.first-some told _ _ (c.in_err-pass.ensures.noted told asked facts tells status))
+
+pub returns-in_err-second-clause-noted : goal.returns-in_err-second-clause-noted
+returns-in_err-second-clause-noted g c = λ told asked facts tells status stands none.
+    let p = err_from_is_err_and c.from_residual-in_err-second.result c.from_residual-in_err-second.ensures.1 in
+    rw p.1 (readings.first-all told _ _ (c.in_ok-pass.ensures.noted told asked facts tells status))
+
+pub returns-then-branch-clause-noted : goal.returns-then-branch-clause-noted
+returns-then-branch-clause-noted g c = λ told asked facts tells status stands none.
+    let first = first-stands told c.pass.new.fold none (c.in_ok-pass.ensures.passes told asked facts tells status First (asked_rows told) (first-begins told c.args.fold.now stands none)) in
+    let again : SecondBegins told (first_rows told) c.second.new.self true = rw c.if-branch.true at (c.in_ok-second.ensures.second told (first_rows told) first.blocks first.stands (behind-asked told none first.none)) in
+    readings.twice-read told c.pass-then-branch.result _ _ _ first.none again.0 (c.in_ok-pass.ensures.noted told asked facts tells status)
+    (c.pass-then-branch.ensures.noted told asked facts (rw c.pass.ensures.files tells) (rw c.pass.ensures.runner status))
+
+pub returns-else-branch-clause-noted : goal.returns-else-branch-clause-noted
+returns-else-branch-clause-noted g c = λ told asked facts tells status stands none.
+    let first = first-stands told c.pass.new.fold none (c.in_ok-pass.ensures.passes told asked facts tells status First (asked_rows told) (first-begins told c.args.fold.now stands none)) in
+    readings.once-all told _ _ first.none (rw c.if-branch.false at (c.in_ok-second.ensures.second told (first_rows told) first.blocks first.stands (behind-asked told none first.none))) (c.in_ok-pass.ensures.noted told asked facts tells status)

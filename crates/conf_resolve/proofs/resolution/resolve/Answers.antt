@@ -1,6 +1,8 @@
 use Rattle.std.proofs.lemmas.Result.{err_from_is_err_and}
 use Rattle.conf_resolve.proofs.ResolveLemmas.{begin-refused, begin-ran, over, over-err}
 use Rattle.conf_resolve.proofs.FaultLemmas.{plain-stands}
+use Rattle.std.proofs.Common.{refl}
+use Rattle.conf_reader.proofs.ToReadLemmas.{none-read}
 use Rattle.conf_resolve.proofs.resolution.resolve.Goals as goal
 
 pub returns-in_err-fold-clause-exact : goal.returns-in_err-fold-clause-exact
@@ -46,3 +48,19 @@ returns-in_err-passes-clause-fault g c = λ told asked facts tells status.
     let p = err_from_is_err_and c.from_residual-in_err-passes.result c.from_residual-in_err-passes.ensures.1 in
     let b = c.in_ok-fold.ensures.begins told asked in
     rw (p.1, p.2) (c.in_err-passes.ensures.fault told asked facts tells status b.0 b.1)
+
+pub returns-in_err-fold-clause-noted : goal.returns-in_err-fold-clause-noted
+returns-in_err-fold-clause-noted g c = λ told asked facts tells status.
+    let p = err_from_is_err_and c.from_residual.result c.from_residual.ensures.1 in
+    rw p.1 (none-read _ _ _ refl)
+
+pub returns-clause-noted : goal.returns-clause-noted
+returns-clause-noted g c = λ told asked facts tells status.
+    let b = c.in_ok-fold.ensures.begins told asked in
+    c.in_ok-passes.ensures.noted told asked facts tells status b.0 b.1
+
+pub returns-in_err-passes-clause-noted : goal.returns-in_err-passes-clause-noted
+returns-in_err-passes-clause-noted g c = λ told asked facts tells status.
+    let p = err_from_is_err_and c.from_residual-in_err-passes.result c.from_residual-in_err-passes.ensures.1 in
+    let b = c.in_ok-fold.ensures.begins told asked in
+    rw p.1 (c.in_err-passes.ensures.noted told asked facts tells status b.0 b.1)

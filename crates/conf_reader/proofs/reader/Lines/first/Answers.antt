@@ -1,4 +1,5 @@
 use Rattle.std.proofs.Common.{◌≡◌, Bool, sym, ap, subst, refl, Some, [], ◌∷◌}
+use Rattle.std.proofs.lemmas.Result.{err_from_is_err_and}
 use Rattle.std.specs.List.{slice_get}
 use Rattle.conf_rules.specs.declared.causes.Cause.TheVariants as causes
 use Rattle.conf_reader.specs.declared.reader.Lines.{Lines}
@@ -7,6 +8,7 @@ use Rattle.conf_reader.proofs.RefusalLemmas.{moves-refused}
 use Rattle.conf_reader.proofs.FirstLemmas.{lack-refused, size-moves, plain-at, below-end}
 use Rattle.conf_reader.specs.Looking.{FailsAmong}
 use Rattle.conf_reader.proofs.LookingLemmas.{first-tells}
+use Rattle.conf_reader.proofs.ToReadLemmas.{fails-behind, first-at, first-some, none-read, one-read, stays-read}
 use Rattle.conf_reader.proofs.reader.Lines.first.Goals as goal
 
 pub returns-then-required-clause-moves : goal.returns-then-required-clause-moves
@@ -43,3 +45,47 @@ returns-in-Err-Failed-clause-looks g c = λ told test h.
     let named : slice_get c.args.self.now.firsts.items c.args.self.now.next_first ≡ Some f = sym c.in-Some.ensures in
     let fails : FailsAmong (f.path ∷ []) (g.F.Files.failed c.args.files.now) (g.F.Files.failed c.read_file.new.files) = subst (λ p. FailsAmong (p ∷ []) (g.F.Files.failed c.args.files.now) (g.F.Files.failed c.read_file.new.files)) c.as_bytes.ensures (rw c.in-Err-Failed.field-0-is at c.in-Err-Failed.ensures.failed) in
     (first-tells Bool test told c.args.self.now f c.file_refusal-in-Err-Failed.result _ _ named (rw named at c.file_refusal-in-Err-Failed.ensures) fails h, tt)
+
+pub returns-in_default-clause-noted : goal.returns-in_default-clause-noted
+returns-in_default-clause-noted g c = λ told tells. stays-read _ _ _ _ refl refl
+
+pub returns-then-required-clause-noted : goal.returns-then-required-clause-noted
+returns-then-required-clause-noted g c = λ told tells.
+    let f = c.in-Some.first.now in
+    let some = first-some told c.args.self.now f c.requires.none (c.requires.ready.none c.requires.none) (sym c.in-Some.ensures) in
+    fails-behind f.path _ some.0 _ _ some.1 (rw c.as_bytes.ensures at c.in-Ok-Nothing.ensures.noted)
+
+pub returns-else-required-clause-noted : goal.returns-else-required-clause-noted
+returns-else-required-clause-noted g c = λ told tells.
+    let f = c.in-Some.first.now in
+    let none = rw (c.in-Ok-Nothing.field-0-is, c.as_bytes.ensures) at (c.in-Ok-Nothing.ensures.found told tells) in
+    one-read f.path _ _ _ _ (first-at c.args.self.now f _ (sym c.in-Some.ensures) (c.pass.ensures.reads told) none) (rw c.as_bytes.ensures at c.in-Ok-Nothing.ensures.noted)
+
+pub returns-in-Ok-TooLarge-clause-noted : goal.returns-in-Ok-TooLarge-clause-noted
+returns-in-Ok-TooLarge-clause-noted g c = λ told tells.
+    let f = c.in-Some.first.now in
+    let some = first-some told c.args.self.now f c.requires.none (c.requires.ready.none c.requires.none) (sym c.in-Some.ensures) in
+    fails-behind f.path _ some.0 _ _ some.1 (rw c.as_bytes.ensures at c.in-Ok-TooLarge.ensures.noted)
+
+pub returns-in_ok-begin-in-Ok-Holds-clause-noted : goal.returns-in_ok-begin-in-Ok-Holds-clause-noted
+returns-in_ok-begin-in-Ok-Holds-clause-noted g c = λ told tells.
+    let f = c.in-Some.first.now in
+    let found = rw (c.in-Ok-Holds.field-0-is, c.as_bytes.ensures) at (c.in-Ok-Holds.ensures.found told tells) in
+    one-read f.path _ _ _ _ (first-at c.args.self.now f _ (sym c.in-Some.ensures) (c.in_ok-begin-in-Ok-Holds.ensures.reads told) found.0) (rw c.as_bytes.ensures at c.in-Ok-Holds.ensures.noted)
+
+pub returns-in_err-begin-in-Ok-Holds-clause-noted : goal.returns-in_err-begin-in-Ok-Holds-clause-noted
+returns-in_err-begin-in-Ok-Holds-clause-noted g c =
+    let p = err_from_is_err_and c.from_residual.result c.from_residual.ensures.1 in
+    rw p.1 (λ told tells.
+        let f = c.in-Some.first.now in
+        let some = first-some told c.args.self.now f c.requires.none (c.requires.ready.none c.requires.none) (sym c.in-Some.ensures) in
+        fails-behind f.path _ some.0 _ _ some.1 (rw c.as_bytes.ensures at c.in-Ok-Holds.ensures.noted))
+
+pub returns-in-Err-Failed-clause-noted : goal.returns-in-Err-Failed-clause-noted
+returns-in-Err-Failed-clause-noted g c = λ told tells.
+    let f = c.in-Some.first.now in
+    let some = first-some told c.args.self.now f c.requires.none (c.requires.ready.none c.requires.none) (sym c.in-Some.ensures) in
+    fails-behind f.path _ some.0 _ _ some.1 (rw (c.in-Err-Failed.field-0-is, c.as_bytes.ensures) at c.in-Err-Failed.ensures.noted)
+
+pub returns-in-Err-OutOfMemory-clause-noted : goal.returns-in-Err-OutOfMemory-clause-noted
+returns-in-Err-OutOfMemory-clause-noted g c = λ told tells. none-read _ _ _ (rw c.in-Err-OutOfMemory.field-0-is at c.in-Err-OutOfMemory.ensures.noted)

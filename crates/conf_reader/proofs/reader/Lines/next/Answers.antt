@@ -7,6 +7,7 @@ use Rattle.conf_reader.proofs.NextLemmas.{reads-from, given-from, one-reads}
 use Rattle.std.specs.Prelude.{Option}
 use Rattle.conf_reader.specs.declared.line.ConfLine.{ConfLine}
 use Rattle.conf_reader.proofs.LookingLemmas.{tells-err, looks-on}
+use Rattle.conf_reader.proofs.ToReadLemmas.{then-line}
 use Rattle.conf_reader.proofs.reader.Lines.next.Goals as goal
 
 pub returns-clause-reads : goal.returns-clause-reads
@@ -33,3 +34,12 @@ returns-in_err-expand-clause-looks g c = λ told test tells facts original h.
     let step = c.in_err-expand.ensures.looks told test tells facts original h in
     let p = err_from_is_err_and c.from_residual.result c.from_residual.ensures.1 in
     rw (p.1, p.2) ((tells-err (Unit {0}) (Option ConfLine) test _ _ _ step.0, tt))
+
+pub returns-clause-noted : goal.returns-clause-noted
+returns-clause-noted g c = λ told tells facts original. then-line _ _ _ c.next_line.result _ _ _ (c.in_ok-expand.ensures.noted told tells facts original) (c.next_line.ensures.noted told (subst (λ x. TellsFiles x told) (sym c.expand.ensures.told) tells))
+
+pub returns-in_err-expand-clause-noted : goal.returns-in_err-expand-clause-noted
+returns-in_err-expand-clause-noted g c =
+    let p = err_from_is_err_and c.from_residual.result c.from_residual.ensures.1 in
+    rw p.1 (λ told tells facts original.
+        c.in_err-expand.ensures.noted told tells facts original)

@@ -6,6 +6,7 @@ use Rattle.conf_reader.specs.Blocks.{Blocks}
 use Rattle.conf_reader.specs.Left.{IsReady, Bounded}
 use Rattle.conf_reader.specs.Reads.{SoFar}
 use Rattle.conf_reader.specs.Looking.{Test, all_pass}
+use Rattle.conf_reader.specs.ToRead.{all_read, ReadsTo}
 use Rattle.conf_reader.proofs.reader.Lines.next_line.Given as goal
 
 abbrev pub invariant-loop-line : goal.invariant-loop-line
@@ -17,6 +18,7 @@ invariant-loop-line g l = record {
   counted : l.initial.self.read ≤ l.self.read;
   looks : (told : Told) (test : Test) → all_pass test told l.initial.self ≡ true → (g.F.Files.failed l.files ≡ g.F.Files.failed l.initial.files) × (all_pass test told l.self ≡ true);
   firsts : l.self.firsts ≡ l.initial.self.firsts;
+  notes : (told : Told) → TellsFiles (g.F.Files.told l.initial.files) told → ReadsTo (all_read told l.initial.self) (all_read told l.self) (g.F.Files.readings l.initial.files) (g.F.Files.readings l.files);
   far : (told : Told) (place : ℕ) (blocks : Blocks) → TellsFiles (g.F.Files.told l.initial.files) told → place ≡ length told.asked.lines + l.initial.self.read → Bounded l.initial.self.open_files (length blocks) → SoFar told place blocks l.initial.self l.self;
 }
 

@@ -4,6 +4,8 @@ use Rattle.conf_reader.specs.declared.reader.Lines.{Lines}
 use Rattle.conf_reader.specs.Left.{left}
 use Rattle.conf_reader.specs.Blocks.{open_behind}
 use Rattle.conf_reader.proofs.OneLemmas.{reach-failed, limit-reached, head-failed, same-line, comment-idle, left-on, within-limit}
+use Rattle.conf_reader.specs.ToRead.{all_read}
+use Rattle.conf_reader.proofs.ToReadLemmas.{reached-end, taken-all}
 use Rattle.conf_reader.proofs.reader.Lines.one.Goals as goal
 
 pub returns-in_err-reach-clause-one : goal.returns-in_err-reach-clause-one
@@ -49,3 +51,30 @@ returns-in-Some-clause-one g c = λ told place blocks tells at bounded.
     let size : length r.open_files.below.items ≤ length blocks = omega (arith, few) in
     let t = rw c.in-Some.is at (c.in_ok-take_line.ensures.takes told place blocks size) in
     (t.line, (same ∙ left-on told place blocks (open_behind c.in-Some.line place blocks) r new t.line t.left refl refl, (t.is_line, (within-limit told t.line place r.read at' c.if-self-ge-MAX_LINES.false, t.source))))
+
+pub returns-then-not-branch-clause-noted : goal.returns-then-not-branch-clause-noted
+returns-then-not-branch-clause-noted g c = λ told tells.
+    let r = c.reach.new.self in
+    let line = rw c.if-not-branch.true at c.in_ok-reach.ensures.line in
+    reached-end told r (all_read told c.args.self.now) _ _ line.0 (c.in_ok-reach.ensures.ready.none line.0) line.1 (c.in_ok-reach.ensures.noted told tells)
+
+pub returns-in_err-reach-clause-noted : goal.returns-in_err-reach-clause-noted
+returns-in_err-reach-clause-noted g c =
+    let p = err_from_is_err_and c.from_residual.result c.from_residual.ensures.1 in
+    rw p.1 (λ told tells.
+        c.in_err-reach.ensures.noted told tells)
+
+pub returns-then-self-ge-MAX_LINES-clause-noted : goal.returns-then-self-ge-MAX_LINES-clause-noted
+returns-then-self-ge-MAX_LINES-clause-noted g c = λ told tells. (all_read told c.reach.new.self, c.in_ok-reach.ensures.noted told tells)
+
+pub returns-in_err-take_line-clause-noted : goal.returns-in_err-take_line-clause-noted
+returns-in_err-take_line-clause-noted g c =
+    let p = err_from_is_err_and c.from_residual-in_err-take_line.result c.from_residual-in_err-take_line.ensures.1 in
+    rw p.1 (λ told tells.
+        (all_read told c.reach.new.self, c.in_ok-reach.ensures.noted told tells))
+
+pub returns-in-None-clause-noted : goal.returns-in-None-clause-noted
+returns-in-None-clause-noted g c = λ told tells. taken-all told c.reach.new.self c.take_line.new.self (c.reach.new.self.read + 1) _ _ _ (c.in_ok-take_line.ensures.reads told) (c.in_ok-reach.ensures.noted told tells)
+
+pub returns-in-Some-clause-noted : goal.returns-in-Some-clause-noted
+returns-in-Some-clause-noted g c = λ told tells. taken-all told c.reach.new.self c.take_line.new.self (c.reach.new.self.read + 1) _ _ _ (c.in_ok-take_line.ensures.reads told) (c.in_ok-reach.ensures.noted told tells)

@@ -1,10 +1,11 @@
-use Rattle.std.proofs.Common.{◌∙◌, Bool, ap}
+use Rattle.std.proofs.Common.{◌∙◌, Bool, ap, refl}
 use Rattle.std.proofs.lemmas.Result.{err_from_is_err_and}
 use Rattle.conf_reader.proofs.RefusalLemmas.{moved-before}
 use Rattle.conf_reader.specs.Known.{TellsFiles}
 use Rattle.conf_reader.specs.declared.reader.Lines.{Lines}
 use Rattle.conf_reader.specs.Left.{left}
 use Rattle.conf_reader.proofs.LookingLemmas.{tells-on}
+use Rattle.conf_reader.proofs.ToReadLemmas.{stays-read, then-read, then-some}
 use Rattle.conf_reader.proofs.reader.Lines.reach.Goals as goal
 
 pub returns-in_err-settle-clause-moves : goal.returns-in_err-settle-clause-moves
@@ -32,6 +33,9 @@ loop-self-preserved g c = record {
       let later = c.in_ok-first.ensures.looks told test step.1 in
       (later.0 ∙ step.0 ∙ before.0, later.1);
   bounded = λ n b. c.in_ok-first.ensures.bounded n (c.in_ok-settle.ensures.bounded n (c.loop-self.invariant.bounded n b));
+  notes = λ told tells.
+      let here : TellsFiles (g.F.Files.told c.loop-self.files) told = rw c.loop-self.invariant.told tells in
+      then-read _ _ _ _ _ _ (then-read _ _ _ _ _ _ (c.loop-self.invariant.notes told tells) (c.in_ok-settle.ensures.noted told here)) (c.in_ok-first.ensures.noted told (rw c.settle.ensures.told here));
   left = λ told place blocks tells.
       let here : TellsFiles (g.F.Files.told c.loop-self.files) told = rw c.loop-self.invariant.told tells in
       c.loop-self.invariant.left told place blocks tells ∙ c.in_ok-settle.ensures.moves told place blocks here ∙ c.in_ok-first.ensures.moves told place blocks (rw c.settle.ensures.told here);
@@ -57,3 +61,40 @@ returns-in_err-first-clause-looks g c = λ told test h.
     let later = c.in_err-first.ensures.looks told test step.1 in
     let p = err_from_is_err_and c.from_residual-in_err-first.result c.from_residual-in_err-first.ensures.1 in
     rw (p.1, p.2) ((tells-on Bool Bool test _ _ _ _ (step.0 ∙ before.0) later.0, tt))
+
+pub loop-self-init : goal.loop-self-init
+loop-self-init g c = record {
+  ready = c.requires.ready;
+  told = refl;
+  faults = refl;
+  count = refl;
+  firsts = refl;
+  looks = λ told test h. (refl, h);
+  bounded = λ n b. b;
+  notes = λ told tells. stays-read _ _ _ _ refl refl;
+  left = λ told place blocks tells. refl;
+}
+
+pub returns-then-branch-clause-noted : goal.returns-then-branch-clause-noted
+returns-then-branch-clause-noted g c = λ told tells.
+    let here : TellsFiles (g.F.Files.told c.loop-self.files) told = rw c.loop-self.invariant.told tells in
+    then-read _ _ _ _ _ _ (c.loop-self.invariant.notes told tells) (c.in_ok-settle.ensures.noted told here)
+
+pub returns-then-not-branch-clause-noted : goal.returns-then-not-branch-clause-noted
+returns-then-not-branch-clause-noted g c = λ told tells.
+    let here : TellsFiles (g.F.Files.told c.loop-self.files) told = rw c.loop-self.invariant.told tells in
+    then-read _ _ _ _ _ _ (then-read _ _ _ _ _ _ (c.loop-self.invariant.notes told tells) (c.in_ok-settle.ensures.noted told here)) (c.in_ok-first.ensures.noted told (rw c.settle.ensures.told here))
+
+pub returns-in_err-settle-clause-noted : goal.returns-in_err-settle-clause-noted
+returns-in_err-settle-clause-noted g c =
+    let p = err_from_is_err_and c.from_residual.result c.from_residual.ensures.1 in
+    rw p.1 (λ told tells.
+        let here : TellsFiles (g.F.Files.told c.loop-self.files) told = rw c.loop-self.invariant.told tells in
+        then-some _ _ _ _ _ (c.loop-self.invariant.notes told tells) (c.in_err-settle.ensures.noted told here))
+
+pub returns-in_err-first-clause-noted : goal.returns-in_err-first-clause-noted
+returns-in_err-first-clause-noted g c =
+    let p = err_from_is_err_and c.from_residual-in_err-first.result c.from_residual-in_err-first.ensures.1 in
+    rw p.1 (λ told tells.
+        let here : TellsFiles (g.F.Files.told c.loop-self.files) told = rw c.loop-self.invariant.told tells in
+        then-some _ _ _ _ _ (then-read _ _ _ _ _ _ (c.loop-self.invariant.notes told tells) (c.in_ok-settle.ensures.noted told here)) (c.in_err-first.ensures.noted told (rw c.settle.ensures.told here)))

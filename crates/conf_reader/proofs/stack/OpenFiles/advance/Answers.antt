@@ -5,6 +5,9 @@ use Rattle.conf_reader.specs.declared.stack.Stand.{Stand}
 use Rattle.conf_reader.proofs.RefusalLemmas.{ready-top, none-left, one-left-path, found-names}
 use Rattle.conf_reader.specs.Looking.{FailsAmong}
 use Rattle.conf_reader.proofs.LookingLemmas.{top-tells}
+use Rattle.conf_reader.specs.Left.{IsFound}
+use Rattle.conf_reader.specs.ToRead.{open_reads, reading_of, ReadsSome}
+use Rattle.conf_reader.proofs.ToReadLemmas.{fails-behind, names-at, none-read, one-read, path-first, stays-read}
 use Rattle.conf_reader.proofs.stack.OpenFiles.advance.Goals as goal
 
 pub open-requires-clause-named : goal.open-requires-clause-named
@@ -31,3 +34,38 @@ returns-in-Err-Failed-clause-looks g c = λ told test h.
     let named : slice_get f.named f.next ≡ Some c.in-Some-next_path.path.now = sym c.in-Some-next_path.ensures in
     let fails : FailsAmong (c.in-Some-next_path.path.now ∷ []) (g.F.Files.failed c.args.files.now) (g.F.Files.failed c.read_file.new.files) = subst (λ p. FailsAmong (p ∷ []) (g.F.Files.failed c.args.files.now) (g.F.Files.failed c.read_file.new.files)) c.as_bytes.ensures (rw c.in-Err-Failed.field-0-is at c.in-Err-Failed.ensures.failed) in
     (top-tells Stand test told c.args.self.now f c.in-Some-next_path.path.now c.refusal.result _ _ c.in-Some.is (ready-top c.args.self.now f c.requires.ready c.in-Some.is) named (rw c.in-Some.is at c.refusal.ensures) fails h, tt)
+
+pub returns-in_default-clause-noted : goal.returns-in_default-clause-noted
+returns-in_default-clause-noted g c = λ told tells. stays-read _ _ _ _ refl refl
+
+pub returns-then-top-as_bytes-clause-noted : goal.returns-then-top-as_bytes-clause-noted
+returns-then-top-as_bytes-clause-noted g c = λ told tells. stays-read _ _ _ _ refl refl
+
+pub returns-else-top-as_bytes-clause-noted : goal.returns-else-top-as_bytes-clause-noted
+returns-else-top-as_bytes-clause-noted g c = λ told tells. stays-read _ _ _ _ (c.close.ensures.reads told) refl
+
+pub returns-in_ok-open-in-Ok-clause-noted : goal.returns-in_ok-open-in-Ok-clause-noted
+returns-in_ok-open-in-Ok-clause-noted g c = λ told tells.
+    let f = c.in-Some.top in
+    let path = c.in-Some-next_path.path.now in
+    let found : IsFound c.in-Ok.found (told.content path) = rw c.as_bytes.ensures at (c.in-Ok.ensures.found told tells) in
+    one-read path _ _ _ _ (names-at c.args.self.now.top f path _ c.in-Some.is (sym c.in-Some-next_path.ensures) (c.in_ok-open-in-Ok.ensures.reads told) found) (rw c.as_bytes.ensures at c.in-Ok.ensures.noted)
+
+pub returns-in_err-open-in-Ok-clause-noted : goal.returns-in_err-open-in-Ok-clause-noted
+returns-in_err-open-in-Ok-clause-noted g c =
+    let p = err_from_is_err_and c.from_residual.result c.from_residual.ensures.1 in
+    rw p.1 (λ told tells.
+        let f = c.in-Some.top in
+        let path = c.in-Some-next_path.path.now in
+        let first = path-first told c.args.self.now f path c.in-Some.is (ready-top c.args.self.now f c.requires.ready c.in-Some.is) (sym c.in-Some-next_path.ensures) in
+        fails-behind path _ first.0 _ _ first.1 (rw c.as_bytes.ensures at c.in-Ok.ensures.noted))
+
+pub returns-in-Err-Failed-clause-noted : goal.returns-in-Err-Failed-clause-noted
+returns-in-Err-Failed-clause-noted g c = λ told tells.
+    let f = c.in-Some.top in
+    let path = c.in-Some-next_path.path.now in
+    let first = path-first told c.args.self.now f path c.in-Some.is (ready-top c.args.self.now f c.requires.ready c.in-Some.is) (sym c.in-Some-next_path.ensures) in
+    fails-behind path _ first.0 _ _ first.1 (rw (c.in-Err-Failed.field-0-is, c.as_bytes.ensures) at c.in-Err-Failed.ensures.noted)
+
+pub returns-in-Err-OutOfMemory-clause-noted : goal.returns-in-Err-OutOfMemory-clause-noted
+returns-in-Err-OutOfMemory-clause-noted g c = λ told tells. none-read _ _ _ (rw c.in-Err-OutOfMemory.field-0-is at c.in-Err-OutOfMemory.ensures.noted)

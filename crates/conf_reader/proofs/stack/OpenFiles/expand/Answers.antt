@@ -1,9 +1,11 @@
-use Rattle.std.proofs.Common.{◌∙◌, ℕ, List, sym, ap}
+use Rattle.std.proofs.Common.{◌∙◌, ℕ, List, sym, ap, refl}
 use Rattle.std.specs.Option.{option_map}
 use Rattle.conf_reader.specs.declared.stack.OpenFiles.{OpenFiles}
 use Rattle.conf_reader.specs.Left.{open_left, named_as}
 use Rattle.conf_reader.proofs.ExpandLemmas.{names-left, include-refused, top-include}
 use Rattle.conf_reader.proofs.LookingLemmas.{named-looks, include-tells}
+use Rattle.conf_reader.specs.ToRead.{open_reads}
+use Rattle.conf_reader.proofs.ToReadLemmas.{named-reads, none-read, stays-read}
 use Rattle.conf_reader.proofs.stack.OpenFiles.expand.Goals as goal
 
 pub returns-in-Ok-clause-moves : goal.returns-in-Ok-clause-moves
@@ -28,3 +30,14 @@ pub returns-in-Err-clause-looks : goal.returns-in-Err-clause-looks
 returns-in-Err-clause-looks g c = λ told test tells facts original h.
     let t = top-include c.args.self.now.top c.in-Some.rest.now c.in-Some.ensures in
     (include-tells (List (List ℕ)) (Unit {0}) test told c.args.self.now t.0 c.in-Some.rest.now c.as_bytes.result.now c.in-Err.e c.include_refusal.result _ _ t.1.0 t.1.1 c.as_bytes.ensures (rw t.1.0 at c.include_refusal.ensures) (c.in-Err.ensures.failed told tells facts original) h, tt)
+
+pub returns-in-Ok-clause-noted : goal.returns-in-Ok-clause-noted
+returns-in-Ok-clause-noted g c = λ told tells facts original.
+    let t = top-include c.args.self.now.top c.in-Some.rest.now c.in-Some.ensures in
+    stays-read _ _ _ _ (
+      named-reads told c.args.self.now t.0 c.in-Some.rest.now c.in-Ok.paths t.1.0 t.1.1 (rw c.as_bytes.ensures at (c.in-Ok.ensures.found told tells facts original))
+      ∙ ap (λ x. open_reads told (record c.args.self.now { top = x })) (sym (ap (option_map (named_as c.in-Ok.paths)) t.1.0))
+      ∙ ap (λ (n : OpenFiles). open_reads told n) (sym c.name.ensures)) c.named_paths-found.ensures.noted
+
+pub returns-in-Err-clause-noted : goal.returns-in-Err-clause-noted
+returns-in-Err-clause-noted g c = λ told tells facts original. none-read _ _ _ c.named_paths-found.ensures.noted

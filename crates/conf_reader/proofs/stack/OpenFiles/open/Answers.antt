@@ -1,5 +1,6 @@
 use Rattle.std.proofs.Common.{[], refl, arith}
 use Rattle.conf_reader.proofs.RefusalLemmas.{moves-deep, moves-large, holds-names}
+use Rattle.conf_reader.proofs.ToReadLemmas.{names-map}
 use Rattle.conf_reader.proofs.stack.OpenFiles.open.Goals as goal
 
 pub returns-then-len-lt-MAX_DEPTH-clause-moves : goal.returns-then-len-lt-MAX_DEPTH-clause-moves
@@ -18,3 +19,9 @@ pub returns-in_ok-enter-in-Holds-clause-moves : goal.returns-in_ok-enter-in-Hold
 returns-in_ok-enter-in-Holds-clause-moves c = λ told place blocks names.
     let h = holds-names told c.in-Holds.text c.args.self.now.top c.requires.some c.requires.named (rw c.in-Holds.is at names) in
     c.in_ok-enter-in-Holds.ensures.left told place blocks h.0 h.1
+
+pub returns-in-Nothing-clause-reads : goal.returns-in-Nothing-clause-reads
+returns-in-Nothing-clause-reads c = λ told. names-map c.args.self.now.top _ _ (λ path reads found. reads (rw c.in-Nothing.is at found)) (c.skip.ensures.reads told)
+
+pub returns-in_ok-enter-in-Holds-clause-reads : goal.returns-in_ok-enter-in-Holds-clause-reads
+returns-in_ok-enter-in-Holds-clause-reads c = λ told. names-map c.args.self.now.top _ _ (λ path reads found. reads (rw c.in-Holds.is at found).0) (c.in_ok-enter-in-Holds.ensures.reads told)

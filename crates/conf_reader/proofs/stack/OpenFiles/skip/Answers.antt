@@ -1,5 +1,7 @@
-use Rattle.std.proofs.Common.{◌≡◌, ◌∙◌, ◌<◌, length, None, Some, sym, ap, refl}
-use Rattle.conf_reader.specs.Left.{open_left, source_of}
+use Rattle.std.proofs.Common.{◌≡◌, ◌∙◌, ◌<◌, ◌∷◌, length, None, Some, sym, ap, subst, refl}
+use Rattle.conf_reader.specs.Left.{open_left, source_of, Names}
+use Rattle.conf_reader.specs.ToRead.{open_reads}
+use Rattle.conf_reader.proofs.ToReadLemmas.{skips-reads, names-each}
 use Rattle.conf_reader.proofs.OpenLemmas.{skips-top}
 use Rattle.conf_reader.proofs.LookingLemmas.{next-passes, changed-passes}
 use Rattle.conf_reader.proofs.stack.OpenFiles.skip.Goals as goal
@@ -15,3 +17,12 @@ returns-in-Some-clause-looks c = λ told test h.
     let f = c.in-Some.top in
     let named : (f.include ≡ None) × (f.next < length f.named) = rw c.in-Some.is at c.requires.named in
     changed-passes test told c.args.self.now c.args.self.now.below.items (Some c.pass.new.self) f c.pass.new.self c.in-Some.is refl refl (next-passes test told (source_of c.args.self.now.system) f c.pass.new.self c.pass.ensures named.0) h
+
+pub returns-in-Some-clause-reads : goal.returns-in-Some-clause-reads
+returns-in-Some-clause-reads c = λ told.
+    let o = c.args.self.now in
+    let f = c.in-Some.top in
+    let named : (f.include ≡ None) × (f.next < length f.named) = rw c.in-Some.is at c.requires.named in
+    subst (λ t. Names t (λ path. told.content path ≡ None → open_reads told o ≡ path ∷ open_reads told (record o { top = Some c.pass.new.self }))) (sym c.in-Some.is)
+    (names-each f (λ path. told.content path ≡ None → open_reads told o ≡ path ∷ open_reads told (record o { top = Some c.pass.new.self }))
+    (λ path at none. skips-reads told o f path c.in-Some.is named.0 at none ∙ ap (λ g. path ∷ open_reads told (record o { top = Some g })) (sym c.pass.ensures)))

@@ -4,6 +4,8 @@ use Rattle.conf_reader.specs.declared.stack.OpenFiles.{OpenFiles}
 use Rattle.conf_reader.specs.Left.{PassesComment, GivesLine, gone, include_of}
 use Rattle.conf_reader.specs.Looking.{TakesLooks}
 use Rattle.conf_reader.proofs.LookingLemmas.{given-looks}
+use Rattle.conf_reader.specs.ToRead.{open_reads}
+use Rattle.conf_reader.proofs.ToReadLemmas.{passes-reads, gives-reads}
 use Rattle.conf_reader.proofs.TakeLemmas.{passes-top, gives-top, refused-top}
 use Rattle.conf_reader.proofs.stack.OpenFiles.take_line.Goals as goal
 
@@ -27,3 +29,13 @@ returns-in_ok-line-in-Some-clause-looks c =
     let include : c.in_ok-include-in-Some.include ≡ include_of c.in-Some.said = let k = c.in_ok-include-in-Some.ensures in cc in
     subst (λ (n : OpenFiles). TakesLooks c.args.self.now (record n { fresh = false }) (Ok (Some c.in_ok-line-in-Some.line))) (sym (c.go-in-Some.ensures ∙ ap (λ i. record c.args.self.now { top = option_map (gone c.in-Ok.next.next i) c.args.self.now.top }) include))
     (λ told test h looks. given-looks test told c.args.self.now c.args.self.now.top c.in-Ok.next.next c.in-Some.said c.in_ok-line-in-Some.line refl c.requires.line c.in_ok-line-in-Some.ensures looks h)
+
+pub returns-in-None-clause-reads : goal.returns-in-None-clause-reads
+returns-in-None-clause-reads c = λ told.
+    passes-reads told c.args.self.now c.args.self.now.top c.in-Ok.next refl c.requires.some c.requires.line c.in-Ok.ensures c.in-None.is ∙ ap (λ (n : OpenFiles). open_reads told n) (sym c.go.ensures)
+
+pub returns-in_ok-line-in-Some-clause-reads : goal.returns-in_ok-line-in-Some-clause-reads
+returns-in_ok-line-in-Some-clause-reads c = λ told.
+    let include : c.in_ok-include-in-Some.include ≡ include_of c.in-Some.said = let k = c.in_ok-include-in-Some.ensures in cc in
+    gives-reads told c.args.self.now c.args.self.now.top c.in-Ok.next c.in-Some.said refl c.requires.some c.requires.line c.in-Ok.ensures c.in-Some.is
+    ∙ ap (λ (n : OpenFiles). open_reads told (record n { fresh = false })) (sym (c.go-in-Some.ensures ∙ ap (λ i. record c.args.self.now { top = option_map (gone c.in-Ok.next.next i) c.args.self.now.top }) include))

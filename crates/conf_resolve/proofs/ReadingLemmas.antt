@@ -1,0 +1,69 @@
+-- Which files are read in a pass, and in both.
+use Rattle.std.proofs.Common.{◌≡◌, Bool, true, false, List, [], ◌++◌, Option, Some, None, Result, Ok, Err, refl, sym, ap, subst, ◌∙◌}
+use Rattle.std.specs.Prelude.{map}
+use Rattle.std.specs.List.{list_any}
+use Rattle.std.specs.Option.{option_map}
+use Rattle.std.proofs.lemmas.List.{append-nil}
+use Rattle.conf_rules.specs.declared.causes.ResolveError.{ResolveError}
+use Rattle.conf_rules.specs.Texts.{Bytes}
+use Rattle.conf_rules.specs.Told.{Told}
+use Rattle.conf_rules.specs.Resolution.{wants_second, refusal_in}
+use Rattle.conf_rules.specs.ReadOrder.{all_reads, asks_second, read_once}
+use Rattle.conf_reader.specs.declared.line.ConfLine.{ConfLine}
+use Rattle.conf_reader.specs.ToRead.{reading_of, LineNotes, ReadsSome, ReadsTo}
+use Rattle.conf_reader.proofs.ToReadLemmas.{more-left, then-read, then-some}
+use Rattle.conf_resolve.specs.Passes.{first_rows}
+use Rattle.conf_resolve.specs.Readings.{Readings, ReadsAll, ReadsUnless}
+use Rattle.conf_resolve.proofs.PartsLemmas.{none-refused}
+
+-- nothing is left
+pub to-all : (paths : List Bytes) (before now : Readings) → ReadsTo paths [] before now → ReadsAll paths before now
+to-all paths before now h = h.noted ∙ ap (λ ps. option_map (λ rs. rs ++ map reading_of ps) before) (sym (h.parts ∙ append-nil h.read))
+
+of-all : (paths : List Bytes) (before now : Readings) → ReadsAll paths before now → ReadsTo paths [] before now
+of-all paths before now h = record { read = paths; parts = sym (append-nil paths); noted = h }
+
+-- no line is left
+pub no-line : (a b : List Bytes) (v : Option ConfLine) (before now : Readings) → ((line : ConfLine) → v ≡ Some line → ⊥) → LineNotes a b (Ok v) before now → ReadsTo a [] before now
+no-line a b None before now n h = h
+no-line a b (Some line) before now n h = absurd (n line refl)
+
+some-more : (a b : List Bytes) (before now : Readings) → ReadsSome a before now → ReadsSome (a ++ b) before now
+some-more a b before now h = (h.0 ++ b, more-left a h.0 b before now h.1)
+
+-- what is read in the first pass stands in front
+front : (told : Told) → (more : List Bytes) × (all_reads told ≡ read_once told told.asked.from ++ more)
+unfolding all_reads
+front told = (_, refl)
+
+pub first-some : (told : Told) (before now : Readings) → ReadsSome (read_once told told.asked.from) before now → ReadsSome (all_reads told) before now
+first-some told before now h =
+    let f = front told in
+    subst (λ ps. ReadsSome ps before now) (sym f.1) (some-more (read_once told told.asked.from) f.0 before now h)
+
+pub first-all : (told : Told) (before now : Readings) → ReadsAll (read_once told told.asked.from) before now → ReadsSome (all_reads told) before now
+first-all told before now h = first-some told before now ([], of-all (read_once told told.asked.from) before now h)
+
+second-asked : (told : Told) (t : Bool) → refusal_in (first_rows told) ≡ None → list_any wants_second (first_rows told) ≡ t → asks_second (first_rows told) ≡ t
+second-asked told t none e = rw (none-refused (first_rows told) none) e
+
+-- where there is no second pass
+pub once-all : (told : Told) (before now : Readings) → refusal_in (first_rows told) ≡ None → list_any wants_second (first_rows told) ≡ false → ReadsAll (read_once told told.asked.from) before now → ReadsAll (all_reads told) before now
+unfolding all_reads
+once-all told before now none e h = rw (second-asked told false none e, append-nil (read_once told told.asked.from)) h
+
+both-reads : (told : Told) → refusal_in (first_rows told) ≡ None → list_any wants_second (first_rows told) ≡ true → all_reads told ≡ read_once told told.asked.from ++ read_once told told.asked.from
+unfolding all_reads
+both-reads told none e = rw (second-asked told true none e) refl
+
+-- where there is one
+pub twice-read : {A : Type 0} (told : Told) (result : Result A ResolveError) (before mid now : Readings) → refusal_in (first_rows told) ≡ None → list_any wants_second (first_rows told) ≡ true
+    → ReadsAll (read_once told told.asked.from) before mid → ReadsUnless (read_once told told.asked.from) result mid now → ReadsUnless (all_reads told) result before now
+twice-read told (Ok x) before mid now none e h k =
+    let once = read_once told told.asked.from in
+    let first = more-left once [] once before mid (of-all once before mid h) in
+    subst (λ ps. ReadsAll ps before now) (sym (both-reads told none e)) (to-all (once ++ once) before now (then-read (once ++ once) once [] before mid now first (of-all once mid now k)))
+twice-read told (Err x) before mid now none e h k =
+    let once = read_once told told.asked.from in
+    let first = more-left once [] once before mid (of-all once before mid h) in
+    subst (λ ps. ReadsSome ps before now) (sym (both-reads told none e)) (then-some (once ++ once) once before mid now first k)
