@@ -20,6 +20,9 @@ use Rattle.conf_resolve.proofs.PartsLemmas.{none-refused}
 pub to-all : (paths : List Bytes) (before now : Readings) → ReadsTo paths [] before now → ReadsAll paths before now
 to-all paths before now h = h.noted ∙ ap (λ ps. option_map (λ rs. rs ++ map reading_of ps) before) (sym (h.parts ∙ append-nil h.read))
 
+pub all-some : (paths : List Bytes) (before now : Readings) → ReadsAll paths before now → ReadsSome paths before now
+all-some paths before now h = ([], record { read = paths; parts = sym (append-nil paths); noted = h })
+
 of-all : (paths : List Bytes) (before now : Readings) → ReadsAll paths before now → ReadsTo paths [] before now
 of-all paths before now h = record { read = paths; parts = sym (append-nil paths); noted = h }
 

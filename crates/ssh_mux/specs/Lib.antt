@@ -9,6 +9,7 @@ pub mod Out
 pub mod Err
 pub mod Master
 pub mod Places
+pub mod Reads
 pub mod Sharing
 pub mod Asks
 pub mod Client

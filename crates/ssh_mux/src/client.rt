@@ -10,6 +10,7 @@ ghost use Rattle.ssh_mux.specs.Client.{TalksFor, talk_told};
 ghost use Rattle.ssh_mux.specs.Commands.{RunsFor, commands_of};
 ghost use Rattle.ssh_mux.specs.Outcomes.{machine, of_command};
 ghost use Rattle.ssh_mux.specs.Places.{Placed, told_over};
+ghost use Rattle.ssh_mux.specs.Reads.{ReadsFor};
 ghost use Rattle.ssh_mux.specs.Sharing.{CallsEnd, IdleCause, WireCause};
 
 use crate::asks::asks_of;
@@ -76,6 +77,9 @@ pub fn ask_master<W: Wire, F: Files, R: Runner, S: Sink>(
         (told_over (machine (F.told files.old) (R.told runner.old) facts.now) asked.now)
         result (R.ran runner.old) (R.ran runner.new)
         (F.failed files.old) (F.failed files.new) }
+    ensures read { ReadsFor
+        (told_over (machine (F.told files.old) (R.told runner.old) facts.now) asked.now)
+        (so_far result) (F.readings files.old) (F.readings files.new) }
     ensures cause { Caused result (F.faults files.old) (F.faults files.new)
         (R.faults runner.old) (R.faults runner.new) }
 {

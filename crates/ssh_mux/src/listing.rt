@@ -8,6 +8,7 @@ ghost use Rattle.ssh_mux.specs.Commands.{RunsFor, RunsUnless, commands_of};
 ghost use Rattle.ssh_mux.specs.Out.{HandsOver, OutTakes};
 ghost use Rattle.ssh_mux.specs.Outcomes.{Listing, machine, of_command, writes_out};
 ghost use Rattle.ssh_mux.specs.Places.{Placed, told_over};
+ghost use Rattle.ssh_mux.specs.Reads.{ReadsFor, ReadsUnless};
 
 use crate::ending::Ending;
 use crate::status::Status;
@@ -43,6 +44,9 @@ pub fn list<F: Files, R: Runner, S: Sink>(
         (told_over (machine (F.told files.old) (R.told runner.old) facts.now) asked.now)
         result (R.ran runner.old) (R.ran runner.new)
         (F.failed files.old) (F.failed files.new) }
+    ensures read { ReadsFor
+        (told_over (machine (F.told files.old) (R.told runner.old) facts.now) asked.now)
+        (so_far result) (F.readings files.old) (F.readings files.new) }
     ensures cause { Caused result (F.faults files.old) (F.faults files.new)
         (R.faults runner.old) (R.faults runner.new) }
 {
@@ -67,6 +71,9 @@ fn listing_of<F: Files, R: Runner>(
         (told_over (machine (F.told files.old) (R.told runner.old) facts.now) asked.now)
         result (R.ran runner.old) (R.ran runner.new)
         (F.failed files.old) (F.failed files.new) }
+    ensures read { ReadsUnless
+        (told_over (machine (F.told files.old) (R.told runner.old) facts.now) asked.now)
+        result (F.readings files.old) (F.readings files.new) }
     ensures cause { Caused result (F.faults files.old) (F.faults files.new)
         (R.faults runner.old) (R.faults runner.new) }
 {

@@ -10,6 +10,7 @@ ghost use Rattle.ssh_mux.specs.Commands.{RunsFor, RunsUnless, commands_of};
 ghost use Rattle.ssh_mux.specs.Master.{EndsMaster, OnlyStarves};
 ghost use Rattle.ssh_mux.specs.Outcomes.{Client, Master, joins_at, machine, of_command, opens_at};
 ghost use Rattle.ssh_mux.specs.Places.{Placed, told_over};
+ghost use Rattle.ssh_mux.specs.Reads.{ReadsFor, ReadsUnless};
 ghost use Rattle.ssh_mux.specs.Sharing.{CallsEnd, IdleCause, OpensAt, OpensOnce, Shares};
 ghost use Rattle.ssh_mux.specs.Sharing.{WaitsFor, WireCause, pid_of, policy_of as the_policy_of, told_as};
 
@@ -84,6 +85,9 @@ pub fn share<W: Wire, F: Files, R: Runner, H: House>(
         (told_over (machine (F.told files.old) (R.told runner.old) facts.now) asked.now)
         result (R.ran runner.old) (R.ran runner.new)
         (F.failed files.old) (F.failed files.new) }
+    ensures read { ReadsFor
+        (told_over (machine (F.told files.old) (R.told runner.old) facts.now) asked.now)
+        (so_far result) (F.readings files.old) (F.readings files.new) }
     ensures cause { Caused result (F.faults files.old) (F.faults files.new)
         (R.faults runner.old) (R.faults runner.new) }
 {
@@ -119,6 +123,9 @@ pub fn control_of<F: Files, R: Runner>(
         (told_over (machine (F.told files.old) (R.told runner.old) facts.now) asked.now)
         result (R.ran runner.old) (R.ran runner.new)
         (F.failed files.old) (F.failed files.new) }
+    ensures read { ReadsUnless
+        (told_over (machine (F.told files.old) (R.told runner.old) facts.now) asked.now)
+        result (F.readings files.old) (F.readings files.new) }
     ensures cause { Caused result (F.faults files.old) (F.faults files.new)
         (R.faults runner.old) (R.faults runner.new) }
 {

@@ -9,6 +9,7 @@ ghost use Rattle.ssh_mux.specs.Err.{Ended};
 ghost use Rattle.ssh_mux.specs.Out.{OutTakes};
 ghost use Rattle.ssh_mux.specs.Outcomes.{machine, known_of, drills};
 ghost use Rattle.ssh_mux.specs.Places.{Placed, told_for};
+ghost use Rattle.ssh_mux.specs.Reads.{ReadsFor};
 ghost use Rattle.ssh_mux.specs.Sharing.{CallsEnd, IdleCause, OpensOnce, ServesFor, SharesFor};
 ghost use Rattle.ssh_mux.specs.Sharing.{WaitsFor, WireCause, pid_of};
 
@@ -63,6 +64,9 @@ pub fn run<W: Wire, F: Files, R: Runner, S: Sink, H: House>(
     ensures ran { RunsFor
         (commands_for (machine (F.told files.old) (R.told runner.old) facts.now) words.now)
         result (R.ran runner.old) (R.ran runner.new) }
+    ensures read { ReadsFor
+        (told_for (machine (F.told files.old) (R.told runner.old) facts.now) words.now)
+        result (F.readings files.old) (F.readings files.new) }
     ensures opened { OpensOnce
         (known_of (F.told files.old) (R.told runner.old) facts.now words.now)
         result (W.openings wire.old) (W.openings wire.new) }
@@ -142,6 +146,9 @@ fn obey<W: Wire, F: Files, R: Runner, S: Sink, H: House>(
     ensures ran { RunsFor
         (commands_for (machine (F.told files.old) (R.told runner.old) facts.now) words.now)
         (so_far result) (R.ran runner.old) (R.ran runner.new) }
+    ensures read { ReadsFor
+        (told_for (machine (F.told files.old) (R.told runner.old) facts.now) words.now)
+        (so_far result) (F.readings files.old) (F.readings files.new) }
     ensures opened { OpensOnce
         (known_of (F.told files.old) (R.told runner.old) facts.now words.now)
         (so_far result) (W.openings wire.old) (W.openings wire.new) }

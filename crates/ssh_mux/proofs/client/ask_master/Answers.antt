@@ -1,4 +1,5 @@
 use Rattle.std.proofs.lemmas.Result.{err_from_is_err_and}
+use Rattle.ssh_mux.proofs.ReadLemmas.{all-read}
 use Rattle.ssh_mux.proofs.StillLemmas.{still-due}
 use Rattle.ssh_mux.proofs.TalkLemmas.{refused-unjoined, still-asked-cause, still-asked-waits, still-joined, still-talked}
 use Rattle.ssh_mux.proofs.client.ask_master.Goals as goal
@@ -23,3 +24,12 @@ returns-in_err-path-clause-ran g c = let p = err_from_is_err_and c.from_residual
 
 pub returns-in_err-path-clause-cause : goal.returns-in_err-path-clause-cause
 returns-in_err-path-clause-cause g c = let p = err_from_is_err_and c.from_residual.result c.from_residual.ensures.1 in rw (p.1, p.2) c.in_err-path.ensures.cause
+
+pub returns-in_err-path-clause-read : goal.returns-in_err-path-clause-read
+returns-in_err-path-clause-read g c = let p = err_from_is_err_and c.from_residual.result c.from_residual.ensures.1 in rw (p.1, p.2) c.in_err-path.ensures.read
+
+pub returns-in_err-asks-clause-read : goal.returns-in_err-asks-clause-read
+returns-in_err-asks-clause-read g c = all-read _ _ _ _ _ c.in_ok-path.ensures.read
+
+pub returns-clause-read : goal.returns-clause-read
+returns-clause-read g c = all-read _ _ _ _ _ c.in_ok-path.ensures.read

@@ -1,5 +1,6 @@
 use Rattle.std.proofs.lemmas.Result.{err_from_is_err_and}
 use Rattle.ssh_mux.proofs.CauseLemmas.{written-cause, all-ran}
+use Rattle.ssh_mux.proofs.ReadLemmas.{all-read}
 use Rattle.ssh_mux.proofs.ListLemmas.{handed-comes, handed-taken, handed-tried, list-comes, list-taken, list-writes}
 use Rattle.ssh_mux.proofs.StillLemmas.{on_false, not_false, still-due, quiet-out, quiet-count, loud}
 use Rattle.ssh_mux.proofs.listing.list.Goals as goal
@@ -45,3 +46,9 @@ returns-clause-cause g c = written-cause _ _ _ _ _ (handed-tried _ _ _ _ c.hand_
 
 pub returns-in_err-text-clause-place : goal.returns-in_err-text-clause-place
 returns-in_err-text-clause-place g c = let p = err_from_is_err_and c.from_residual.result c.from_residual.ensures.1 in rw (p.1, p.2) c.in_err-text.ensures.place
+
+pub returns-in_err-text-clause-read : goal.returns-in_err-text-clause-read
+returns-in_err-text-clause-read g c = let p = err_from_is_err_and c.from_residual.result c.from_residual.ensures.1 in rw (p.1, p.2) c.in_err-text.ensures.read
+
+pub returns-clause-read : goal.returns-clause-read
+returns-clause-read g c = all-read _ _ _ _ _ c.in_ok-text.ensures.read

@@ -4,6 +4,7 @@ use Rattle.std.proofs.lemmas.Result.{err_from_is_err_and}
 use Rattle.ssh_mux.proofs.CauseLemmas.{refused-cause, unlisted-cause, refused-runs, resolved-runs, all-ran}
 use Rattle.ssh_mux.proofs.RefusalLemmas.{list-refused, list-unlisted, list-found}
 use Rattle.ssh_mux.proofs.PlaceLemmas.{failed-place, unlisted-place}
+use Rattle.ssh_mux.proofs.ReadLemmas.{all-read, refused-reads, resolved-reads}
 use Rattle.ssh_mux.proofs.listing.listing_of.Goals as goal
 
 pub returns-in_err-settings-clause-exact : goal.returns-in_err-settings-clause-exact
@@ -35,3 +36,12 @@ returns-in_err-settings-clause-place g c = let p = err_from_is_err_and c.from_re
 
 pub returns-in_err-text-clause-place : goal.returns-in_err-text-clause-place
 returns-in_err-text-clause-place g c = let p = err_from_is_err_and c.from_residual-in_err-text.result c.from_residual-in_err-text.ensures.1 in rw (p.1, p.2) (unlisted-place _ _ _ _ _ _)
+
+pub returns-in_err-settings-clause-read : goal.returns-in_err-settings-clause-read
+returns-in_err-settings-clause-read g c = let p = err_from_is_err_and c.from_residual.result c.from_residual.ensures.1 in rw (p.1, p.2) (refused-reads (g.F.Files.told c.args.files.now) (g.R.Runner.told c.args.runner.now) c.args.facts.now c.args.asked.now _ _ _ c.in_err-settings.ensures.noted)
+
+pub returns-in_err-text-clause-read : goal.returns-in_err-text-clause-read
+returns-in_err-text-clause-read g c = let p = err_from_is_err_and c.from_residual-in_err-text.result c.from_residual-in_err-text.ensures.1 in rw (p.1, p.2) (all-read (tt {0}) _ _ _ _ (resolved-reads (tt {0}) (g.F.Files.told c.args.files.now) (g.R.Runner.told c.args.runner.now) c.args.facts.now c.args.asked.now _ _ c.in_ok-settings.ensures.noted))
+
+pub returns-clause-read : goal.returns-clause-read
+returns-clause-read g c = resolved-reads _ (g.F.Files.told c.args.files.now) (g.R.Runner.told c.args.runner.now) c.args.facts.now c.args.asked.now _ _ c.in_ok-settings.ensures.noted

@@ -5,6 +5,7 @@ use Rattle.ssh_mux.proofs.CauseLemmas.{refused-cause, unlisted-cause, refused-ru
 use Rattle.ssh_mux.proofs.JoinLemmas.{client-refused, client-unlisted, client-found, client-unset}
 use Rattle.ssh_mux.proofs.RefusalLemmas.{master-refused, path-unlisted, path-found, path-unset}
 use Rattle.ssh_mux.proofs.PlaceLemmas.{failed-place, unlisted-place}
+use Rattle.ssh_mux.proofs.ReadLemmas.{all-read, refused-reads, resolved-reads}
 use Rattle.ssh_mux.proofs.master.control_of.Goals as goal
 
 pub returns-in_err-settings-clause-exact : goal.returns-in_err-settings-clause-exact
@@ -66,3 +67,15 @@ returns-clause-client g c = λ what. client-unset (g.F.Files.told c.args.files.n
 
 pub returns-clause-client_ran : goal.returns-clause-client_ran
 returns-clause-client_ran g c = λ what. all-ran (tt {0}) _ _ _ _ (resolved-runs (tt {0}) (g.F.Files.told c.args.files.now) (g.R.Runner.told c.args.runner.now) c.args.facts.now c.args.asked.now (commands.Control c.args.asked.now what) _ _ (λ m. refl) c.in_ok-settings.ensures.ran)
+
+pub returns-in_err-settings-clause-read : goal.returns-in_err-settings-clause-read
+returns-in_err-settings-clause-read g c = let p = err_from_is_err_and c.from_residual.result c.from_residual.ensures.1 in rw (p.1, p.2) (refused-reads (g.F.Files.told c.args.files.now) (g.R.Runner.told c.args.runner.now) c.args.facts.now c.args.asked.now _ _ _ c.in_err-settings.ensures.noted)
+
+pub returns-in_err-found-clause-read : goal.returns-in_err-found-clause-read
+returns-in_err-found-clause-read g c = let p = err_from_is_err_and c.from_residual-in_err-found.result c.from_residual-in_err-found.ensures.1 in rw (p.1, p.2) (all-read (tt {0}) _ _ _ _ (resolved-reads (tt {0}) (g.F.Files.told c.args.files.now) (g.R.Runner.told c.args.runner.now) c.args.facts.now c.args.asked.now _ _ c.in_ok-settings.ensures.noted))
+
+pub returns-in-Some-clause-read : goal.returns-in-Some-clause-read
+returns-in-Some-clause-read g c = resolved-reads _ (g.F.Files.told c.args.files.now) (g.R.Runner.told c.args.runner.now) c.args.facts.now c.args.asked.now _ _ c.in_ok-settings.ensures.noted
+
+pub returns-clause-read : goal.returns-clause-read
+returns-clause-read g c = all-read (tt {0}) _ _ _ _ (resolved-reads (tt {0}) (g.F.Files.told c.args.files.now) (g.R.Runner.told c.args.runner.now) c.args.facts.now c.args.asked.now _ _ c.in_ok-settings.ensures.noted)

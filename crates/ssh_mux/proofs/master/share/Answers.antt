@@ -6,6 +6,7 @@ use Rattle.ssh_mux.specs.declared.ending.Ending.TheVariants as endings
 use Rattle.ssh_mux.specs.Outcomes.{machine, of_command}
 use Rattle.ssh_mux.specs.Sharing.{pid_of, policy_of}
 use Rattle.ssh_mux.proofs.CauseLemmas.{shared-cause, all-ran}
+use Rattle.ssh_mux.proofs.ReadLemmas.{all-read}
 use Rattle.ssh_mux.proofs.SharingLemmas.{pid_is, master-comes, master-opens, master-opened, master-shares}
 use Rattle.ssh_mux.proofs.StillLemmas.{on_false, on_true, not_false, still-due, still-opened, still-shared, still-wire, still-calls, still-idle, still-waits, starved-due}
 use Rattle.ssh_mux.proofs.master.share.Goals as goal
@@ -105,3 +106,12 @@ returns-clause-waited g c = on_true _ _ c.open_and_serve.ensures.waited
 
 pub returns-in_err-control-clause-place : goal.returns-in_err-control-clause-place
 returns-in_err-control-clause-place g c = let p = err_from_is_err_and c.from_residual.result c.from_residual.ensures.1 in rw (p.1, p.2) c.in_err-control.ensures.place
+
+pub returns-in_err-control-clause-read : goal.returns-in_err-control-clause-read
+returns-in_err-control-clause-read g c = let p = err_from_is_err_and c.from_residual.result c.from_residual.ensures.1 in rw (p.1, p.2) c.in_err-control.ensures.read
+
+pub returns-in_err-policy-clause-read : goal.returns-in_err-policy-clause-read
+returns-in_err-policy-clause-read g c = all-read _ _ _ _ _ c.in_ok-control.ensures.read
+
+pub returns-clause-read : goal.returns-clause-read
+returns-clause-read g c = all-read _ _ _ _ _ c.in_ok-control.ensures.read

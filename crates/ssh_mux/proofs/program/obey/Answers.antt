@@ -15,6 +15,7 @@ use Rattle.ssh_mux.proofs.SharingLemmas.{none-opened, none-taken, none-counted}
 use Rattle.ssh_mux.proofs.MisreadLemmas.{of-drill, of-read, for-read, misread, misread-runs, misread-cause, drilled-runs}
 use Rattle.ssh_mux.proofs.StillLemmas.{on_false, not_false, not_true, shut, loud, quiet-out, quiet-count, still-due, still-opened, still-shared, still-caused, still-calls, still-idle, still-waited, shut-all, for-master, on_true, or-else, else-or, untouched}
 use Rattle.ssh_mux.proofs.PlaceLemmas.{client-told, misread-place, list-told, master-told}
+use Rattle.ssh_mux.proofs.ReadLemmas.{drilled-reads, misread-reads}
 use Rattle.ssh_mux.proofs.TalkLemmas.{none-joined, refused-unjoined, still-asked-cause, still-asked-waits, still-joined, still-talked, unasked}
 use Rattle.ssh_mux.proofs.program.obey.Goals as goal
 
@@ -289,3 +290,18 @@ returns-in-Control-clause-leaves g c = record {
   wire = rw (of-read _ _ _ (rw c.in-Control.is at c.in_ok-command.ensures.exact)) (else-or (touches (of_command (machine (g.F.Files.told c.args.files.now) (g.R.Runner.told c.args.runner.now) c.args.facts.now) (commands.Control c.in-Control.asked c.in-Control.control)) (so_far c.ask_master.result)) (may_ask (of_command (machine (g.F.Files.told c.args.files.now) (g.R.Runner.told c.args.runner.now) c.args.facts.now) (commands.Control c.in-Control.asked c.in-Control.control)) (so_far c.ask_master.result)) (c.ask_master.new.wire ≡ c.args.wire.now) c.ask_master.ensures.wire);
   house = on_false _ _;
 }
+
+pub returns-in_err-command-clause-read : goal.returns-in_err-command-clause-read
+returns-in_err-command-clause-read g c = let p = err_from_is_err_and c.from_residual.result c.from_residual.ensures.1 in rw (p.1, p.2) (misread-reads _ _ _ _ c.in_err-command.ensures.exact)
+
+pub returns-in-List-clause-read : goal.returns-in-List-clause-read
+returns-in-List-clause-read g c = rw (list-told _ _ _ (rw c.in-List.is at c.in_ok-command.ensures.exact)) c.list.ensures.read
+
+pub returns-in-Master-clause-read : goal.returns-in-Master-clause-read
+returns-in-Master-clause-read g c = rw (master-told _ _ _ _ _ _ (rw c.in-Master.is at c.in_ok-command.ensures.exact)) c.share.ensures.read
+
+pub returns-in-Control-clause-read : goal.returns-in-Control-clause-read
+returns-in-Control-clause-read g c = rw (client-told _ _ _ _ (rw c.in-Control.is at c.in_ok-command.ensures.exact)) c.ask_master.ensures.read
+
+pub returns-in-Drill-clause-read : goal.returns-in-Drill-clause-read
+returns-in-Drill-clause-read g c = drilled-reads _ _ _ _ _ _ _ (rw c.in-Drill.is at c.in_ok-command.ensures.exact)

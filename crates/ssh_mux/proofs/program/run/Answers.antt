@@ -2,6 +2,7 @@ use Rattle.std.proofs.Common.{refl}
 use Rattle.ssh_mux.specs.Outcomes.{known_of}
 use Rattle.ssh_mux.proofs.AnswerLemmas.{asked_after, asked_cause_after, asked_waits_after, asked_well, joined_after}
 use Rattle.ssh_mux.proofs.DrillLemmas.{drill_after, drill_well}
+use Rattle.ssh_mux.proofs.ReadLemmas.{reads_after}
 use Rattle.ssh_mux.proofs.EndLemmas.{ended, ended-well, well-cause, out_after, untouched_after, fault_after, runs_after, sink_after, opened_after, shared_after, shared_well, calls_after, idle_after, waits_after, wire_after, wire_stays_after, stays_after, same_told, told_after}
 use Rattle.ssh_mux.proofs.StillLemmas.{on_true}
 use Rattle.ssh_mux.proofs.program.run.Goals as goal
@@ -84,3 +85,6 @@ returns-in-Err-clause-asked_cause g c = asked_cause_after _ _ _ _ _ _ _ _ _ _ _ 
 
 pub returns-in-Err-clause-asked_waits : goal.returns-in-Err-clause-asked_waits
 returns-in-Err-clause-asked_waits g c = asked_waits_after _ _ _ _ _ _ _ _ _ _ c.report.ensures c.in-Err.ensures.asked_waits
+
+pub returns-in-Err-clause-read : goal.returns-in-Err-clause-read
+returns-in-Err-clause-read g c = reads_after _ _ _ _ _ _ _ _ _ c.report.ensures c.in-Err.ensures.read
