@@ -51,7 +51,7 @@ use Rattle.mux_engine.proofs.Turned.{EventAt, came, goes-twin, stayed}
 
 -- ---- whoever was accepted is no server
 
-accepted-zero : (journal : List Mark) → IsLawful journal → is_accepted 0 journal ≡ false
+pub accepted-zero : (journal : List Mark) → IsLawful journal → is_accepted 0 journal ≡ false
 accepted-zero [] l = refl
 accepted-zero (Accepts k ∷ j) l = let lt = l.0 in ap (λ b. cond b true (is_accepted 0 j)) (test-other k 0 (λ e. absurd (omega (arith, lt.0, e)))) ∙ accepted-zero j l.1
 accepted-zero (House HouseIn ∷ j) l = accepted-zero j l.1

@@ -5,8 +5,11 @@ mod Counting
 mod Cuts
 mod First
 mod Happened
+mod Heeding
+mod Holding
 mod HouseTakes
 mod HouseTurns
+mod Housing
 mod Keeps
 mod Left
 mod Lists

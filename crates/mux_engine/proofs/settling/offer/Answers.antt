@@ -11,6 +11,7 @@ pub loop-init : goal.loop-init
 loop-init g c = let w = c.requires.served in record {
   serving = λ todo zero present before now policy pid start failed given v. v;
   streams = refl;
+  holds = λ t a. a;
   places = places-same _ _ refl;
   free = ap (among c.args.stream) (sym w.serving.held_is) ∙ sym c.if-contains.ensures;
   ended = stays _ _ _ _ refl refl;
@@ -57,6 +58,7 @@ pub loop-preserved : goal.loop-preserved
 loop-preserved g c = record {
   serving = λ todo zero present before now policy pid start failed given v. on-more c.args.stream todo _ c.if-branch.true (c.in_ok-offer_once.ensures.serving (c.args.stream ∷ todo) (twice-among c.args.stream todo zero) present before now policy pid start failed given (c.loop.invariant.serving todo zero present before now policy pid start failed given v));
   streams = c.in_ok-offer_once.ensures.streams ∙ c.loop.invariant.streams;
+  holds = λ t a. c.in_ok-offer_once.ensures.holds t (c.loop.invariant.holds t a);
   places = places-then _ _ _ c.loop.invariant.places c.offer_once.ensures.places;
   free = c.in_ok-offer_once.ensures.free c.if-branch.true;
   ended = then-stays-or-fails _ _ _ _ _ _ c.loop.invariant.ended c.in_ok-offer_once.ensures.ended;
@@ -78,6 +80,9 @@ returns-clause-ended g c = then-stays-or-fails _ _ _ _ _ _ c.loop.invariant.ende
 
 pub returns-clause-client : goal.returns-clause-client
 returns-clause-client g c = λ nz. c.in_ok-offer_once.ensures.client nz ∙ c.loop.invariant.client nz
+
+pub returns-clause-holds : goal.returns-clause-holds
+returns-clause-holds g c = λ t a. c.in_ok-offer_once.ensures.holds t (c.loop.invariant.holds t a)
 
 pub returns-clause-later : goal.returns-clause-later
 returns-clause-later g c = le_trans c.loop.invariant.later c.offer_once.ensures.later

@@ -10,6 +10,7 @@ use Rattle.mux_engine.specs.Serving.{Serving}
 use Rattle.mux_engine.specs.Sides.{RestsOf}
 use Rattle.mux_engine.proofs.Arms.{Failing, empty-is, failing, fault-ended, fault-later, le-of, on-err, some-bytes, stays, unless-empty, well-one}
 use Rattle.mux_engine.proofs.Asks.{goes-asked, goes-unasked, none-asked, unasked-none}
+use Rattle.mux_engine.proofs.Holding.{held-more}
 use Rattle.mux_engine.proofs.Lists.{not-own-stream}
 use Rattle.mux_engine.proofs.Marks.{serve-alone, serve-next}
 use Rattle.mux_engine.proofs.Offers.{SameRun, cut-fails, cut-holds, cut-starved, next-fails, next-holds, next-takes}
@@ -83,6 +84,9 @@ returns-in_ok-push-in-Later-clause-serving g c todo zero present before now poli
     (serve-alone v now (seen_after_write wrote.Later k bytes (g.W.Wire.seen c.args.wire.now)) (c.args.held.now ++ k ∷ []) failed given (without k todo) s (Holds k)
     (stands-alike v.journal (Holds k ∷ v.journal) v.picked v.replies s v.closed (holds-alike k v.journal) v.stands) (λ picks replies. refl)
     (next-holds v k bytes c.requires.stream_open c.requires.no_house c.queue_of-bytes.ensures.bytes (some-bytes c.queue_of-bytes.result.now (sym c.if-is_empty.ensures)))))
+
+pub returns-in_ok-push-in-Later-clause-holds : goal.returns-in_ok-push-in-Later-clause-holds
+returns-in_ok-push-in-Later-clause-holds g c = λ t a. ap (among t) c.in_ok-push-in-Later.ensures.ok ∙ held-more c.args.stream t c.args.held.now a
 
 pub returns-in_err-push-in-Later-clause-serving : goal.returns-in_err-push-in-Later-clause-serving
 returns-in_err-push-in-Later-clause-serving g c todo zero present before now policy pid start failed given v = on-err c.from_residual.result _ _ c.from_residual.ensures.0
