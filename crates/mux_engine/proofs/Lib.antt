@@ -7,9 +7,9 @@ mod First
 mod Happened
 mod Heeding
 mod Holding
+mod HouseCalls
 mod HouseTakes
 mod HouseTurns
-mod Housing
 mod Keeps
 mod Left
 mod Lists

@@ -1,4 +1,5 @@
 use Rattle.std.proofs.Common.{[], ◌∷◌, ◌∙◌, refl, sym, ap, inl, subst, le_trans}
+use Rattle.mux_outside.specs.OwnStreams.{is_one}
 use Rattle.mux_outside.specs.Seen.{Calls}
 use Rattle.mux_machine.specs.State.{State, queue_in}
 use Rattle.mux_engine.specs.Counted.{Cut, Well}
@@ -25,6 +26,7 @@ offer_clients-requires g c = let w = c.requires.served in record {
     todo = w.todo;
     serving = c.hush.ensures.serving w.present w.before w.now w.policy w.pid w.start _ w.failed w.given w.todo w.serving;
   };
+  numbered = λ t one. c.requires.numbered t (ap (is_one t) (sym c.hush.ensures.places.own) ∙ one);
 }
 
 pub offer-requires-clause-served : goal.offer-requires-clause-served
@@ -41,6 +43,9 @@ offer-requires-clause-served g c = let w = c.requires.served in record {
   serving = c.in_ok-offer_clients.ensures.serving w.todo w.present w.before w.now w.policy w.pid w.start w.failed w.given
       (more-left w.todo (c.hush.ensures.serving w.present w.before w.now w.policy w.pid w.start _ w.failed w.given w.todo w.serving));
 }
+
+pub offer-requires-clause-numbered : goal.offer-requires-clause-numbered
+offer-requires-clause-numbered g c = λ t one. c.requires.numbered t (ap (is_one t) (sym (c.offer_clients.ensures.places.own ∙ c.hush.ensures.places.own)) ∙ one)
 
 pub offer-requires-clause-no_house : goal.offer-requires-clause-no_house
 offer-requires-clause-no_house g c = no-zero

@@ -1,4 +1,5 @@
 use Rattle.std.proofs.Common.{◌∷◌, ◌∙◌, sym, ap, refl, le_trans, le_refl}
+use Rattle.mux_outside.specs.OwnStreams.{is_one}
 use Rattle.mux_outside.specs.Streams.{among}
 use Rattle.mux_engine.proofs.Arms.{cut-then, idle-then, on-err, stays, then-stays-or-fails, well-none, well-then}
 use Rattle.mux_engine.proofs.Lists.{same-open}
@@ -39,6 +40,9 @@ offer_once-requires-clause-served g c = let w = c.requires.served in record {
 
 pub offer_once-requires-clause-stream_open : goal.offer_once-requires-clause-stream_open
 offer_once-requires-clause-stream_open g c = same-open c.args.engine.now c.loop.engine c.args.stream c.loop.invariant.streams ∙ c.requires.stream_open
+
+pub offer_once-requires-clause-numbered : goal.offer_once-requires-clause-numbered
+offer_once-requires-clause-numbered g c = λ t one. c.requires.numbered t (ap (is_one t) (sym c.loop.invariant.places.own) ∙ one)
 
 -- ---- want of memory
 

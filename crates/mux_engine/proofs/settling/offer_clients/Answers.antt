@@ -1,4 +1,5 @@
 use Rattle.std.proofs.Common.{◌≡◌, ◌≢◌, ◌+◌, [], ◌∷◌, ◌++◌, ◌∙◌, sym, ap, subst, refl, ℕ, List, get_or, drop, true, le_trans, le_refl, arith}
+use Rattle.mux_outside.specs.OwnStreams.{is_one}
 use Rattle.mux_outside.specs.Streams.{among, without}
 use Rattle.mux_history.specs.declared.limits.TheConstants.{HOUSE}
 use Rattle.mux_machine.specs.State.{State, waiting_in}
@@ -53,6 +54,9 @@ pub offer-requires-clause-no_house : goal.offer-requires-clause-no_house
 offer-requires-clause-no_house g c =
     let items : List ℕ = c.as_slice-stream-items.result.now in let i : ℕ = c.loop-stream.stream-index in
     (c.loop-stream.invariant.clients (get_or items i 0) (element-among i items (omega arith))).no_house
+
+pub offer-requires-clause-numbered : goal.offer-requires-clause-numbered
+offer-requires-clause-numbered g c = λ t one. c.requires.numbered t (ap (is_one t) (sym c.loop-stream.invariant.places.own) ∙ one)
 
 pub returns-in_err-offer-clause-serving : goal.returns-in_err-offer-clause-serving
 returns-in_err-offer-clause-serving g c left present before now policy pid start failed given v =
