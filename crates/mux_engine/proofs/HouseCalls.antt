@@ -23,7 +23,6 @@ use Rattle.mux_machine.specs.Events.{EndsBy, Keeps, Tells, here}
 use Rattle.mux_machine.specs.Stands.{GoesAlone, GoesOn, Stands}
 use Rattle.mux_engine.specs.Serving.{Promised, Serving}
 use Rattle.mux_engine.specs.Sides.{Housed, OwnPlaces, SameHouse, SamePlaces, Side, noted, noting}
-use Rattle.mux_engine.proofs.Counting.{more-none}
 use Rattle.mux_engine.proofs.Cuts.{cut-here, serve-told}
 use Rattle.mux_engine.proofs.HouseTakes.{house-idle, house-takes}
 use Rattle.mux_engine.proofs.HouseTurns.{accepted-zero, cut-answers, cut-let-in, house-answers, house-let-in, reply-asked, rest-asked}
@@ -80,6 +79,9 @@ house-then a b c x y = record { present = y.present ∙ x.present; ordering = y.
 
 -- ---- no turn is given meanwhile
 
+more-none : (given : ℕ) → given + 0 ≡ given
+more-none given = omega arith
+
 module _ {May : HouseReply → Type 0} {Rest : Option (List HouseMark) → Type 0} {before : Option (List HouseMark)} {policy : Policy} {pid : ℕ} {start : Option (List Mark)} {given : ℕ} where
   pub no-turns : {now : Side} {seen : Seen} {held failed : List ℕ} {todo : List ℕ} {s : State} → Serving May Rest before now policy pid start seen held failed given todo s → Serving May Rest before now policy pid start seen held failed (given + 0) todo s
   no-turns {now} {seen} {held} {failed} {todo} {s} v = subst (λ (n : ℕ). Serving May Rest before now policy pid start seen held failed n todo s) (sym (more-none given)) v
@@ -89,6 +91,20 @@ module _ {May : HouseReply → Type 0} {Rest : Option (List HouseMark) → Type 
 
   pub no-turns-left : {now : Option (List HouseMark)} {told : Option (List Mark)} → Promised May Rest before now policy pid start told given → Promised May Rest before now policy pid start told (given + 0)
   no-turns-left {now} {told} p = subst (λ (n : ℕ). Promised May Rest before now policy pid start told n) (sym (more-none given)) p
+
+-- ---- the same house rests
+
+pub same-rests : {May : HouseReply → Type 0} (Rest : Bool → Option (List HouseMark) → Type 0) {before : Option (List HouseMark)} {now : Side} {policy : Policy} {pid : ℕ} {start : Option (List Mark)} {seen : Seen} {held failed : List ℕ} {given : ℕ} {todo : List ℕ} {s : State} (b b' : Bool) → b ≡ b' → Serving May (Rest b) before now policy pid start seen held failed given todo s → Serving May (Rest b') before now policy pid start seen held failed given todo s
+same-rests {May} Rest {before} {now} {policy} {pid} {start} {seen} {held} {failed} {given} {todo} {s} b b' e v = subst (λ (c : Bool). Serving May (Rest c) before now policy pid start seen held failed given todo s) e v
+
+pub same-rests-left : {May : HouseReply → Type 0} (Rest : Bool → Option (List HouseMark) → Type 0) {before now : Option (List HouseMark)} {policy : Policy} {pid : ℕ} {start told : Option (List Mark)} {given : ℕ} (b b' : Bool) → b ≡ b' → Promised May (Rest b) before now policy pid start told given → Promised May (Rest b') before now policy pid start told given
+same-rests-left {May} Rest {before} {now} {policy} {pid} {start} {told} {given} b b' e p = subst (λ (c : Bool). Promised May (Rest c) before now policy pid start told given) e p
+
+-- the house told nothing meanwhile, and as much is known of it
+pub same-noted : {May : HouseReply → Type 0} {Rest : Option (List HouseMark) → Type 0} {before : Option (List HouseMark)} {policy : Policy} {pid : ℕ} {start : Option (List Mark)} {seen : Seen} {held failed : List ℕ} {given : ℕ} {todo : List ℕ} {s : State} (told told' : Option (List HouseMark)) (known known' : Known) → told' ≡ told → known' ≡ known → Serving May Rest before (noted told known) policy pid start seen held failed given todo s → Serving May Rest before (noted told' known') policy pid start seen held failed given todo s
+same-noted {May} {Rest} {before} {policy} {pid} {start} {seen} {held} {failed} {given} {todo} {s} told told' known known' t k v =
+    subst (λ (x : Option (List HouseMark)). Serving May Rest before (noted x known') policy pid start seen held failed given todo s) (sym t)
+    (subst (λ (x : Known). Serving May Rest before (noted told x) policy pid start seen held failed given todo s) (sym k) v)
 
 -- ---- other asks are open
 
@@ -145,7 +161,7 @@ module _ {May : HouseReply → Type 0} {Rest : Option (List HouseMark) → Type 
 
   -- to a client that was accepted
   pub answer-asked : {told told' : Option (List HouseMark)} (known : Known) (client id : ℕ) (reply : HouseReply) (v : Serving May Rest before (noted told known) policy pid start seen held failed given todo s) (h : TellsAsks told told' (HouseAnswer client id reply ∷ [])) → ReplyFits reply client id known.asks → is_accepted client (answer-told known client id reply v h).journal ≡ true
-  unfolding answer-told, serve-asks
+  unfolding answer-told serve-asks
   answer-asked {told} {told'} known client id reply v h fits =
       let w = serve-told v (noting (HouseAnswer client id reply ∷ []) told' known) (HouseAnswer client id reply ∷ []) h refl refl refl refl in
       reply-asked w.journal reply client id known.asks fits w.askers
