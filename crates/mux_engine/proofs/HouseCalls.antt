@@ -1,10 +1,10 @@
 -- The house is let in, is handed what waits for it, and answers.
-use Rattle.std.proofs.Common.{◌≡◌, ◌≢◌, ◌≤◌, ◌<◌, ◌+◌, ℕ, Bool, true, false, ◌||◌, List, [], ◌∷◌, ◌++◌, length, Option, Some, None, refl, sym, ap, ◌∙◌, subst, inl, inr, ◌⊎◌, arith}
+use Rattle.std.proofs.Common.{◌≡◌, ◌≢◌, ◌≤◌, ◌<◌, ◌+◌, ℕ, Bool, true, false, ◌||◌, List, [], ◌∷◌, ◌++◌, length, Option, Some, None, refl, sym, ap, ◌∙◌, subst, inl, inr, ◌⊎◌, cond, arith}
 use Rattle.std.specs.Prelude.{◌==◌, All, IsTrue}
 use Rattle.std.proofs.lemmas.List.Folds.{list_any-append}
 use Rattle.mux_outside.specs.House.{Known, OpenAsk, ReplyFits, without_ask}
 use Rattle.mux_outside.specs.OwnStreams.{is_one, is_own, numbers_of}
-use Rattle.mux_outside.specs.Seen.{Seen}
+use Rattle.mux_outside.specs.Seen.{Calls, Seen}
 use Rattle.mux_outside.specs.Streams.{among, without}
 use Rattle.mux_outside.specs.declared.house.HouseReply.{HouseReply}
 use Rattle.mux_outside.specs.declared.house_mark.HouseMark.{HouseMark}
@@ -21,8 +21,10 @@ use Rattle.mux_machine.specs.State.{State, is_here, queue_in, taken}
 use Rattle.mux_machine.specs.declared.event.Event.TheVariants.{Accepted, HouseSays}
 use Rattle.mux_machine.specs.Events.{EndsBy, Keeps, Tells, here}
 use Rattle.mux_machine.specs.Stands.{GoesAlone, GoesOn, Stands}
+use Rattle.mux_engine.specs.Counted.{Cut, Well}
 use Rattle.mux_engine.specs.Serving.{Promised, Serving}
 use Rattle.mux_engine.specs.Sides.{Housed, OwnPlaces, SameHouse, SamePlaces, Side, noted, noting}
+use Rattle.mux_engine.proofs.Arms.{cut-then}
 use Rattle.mux_engine.proofs.Cuts.{cut-here, serve-told}
 use Rattle.mux_engine.proofs.HouseTakes.{house-idle, house-takes}
 use Rattle.mux_engine.proofs.HouseTurns.{accepted-zero, cut-answers, cut-let-in, house-answers, house-let-in, reply-asked, rest-asked}
@@ -105,6 +107,19 @@ pub same-noted : {May : HouseReply → Type 0} {Rest : Option (List HouseMark) �
 same-noted {May} {Rest} {before} {policy} {pid} {start} {seen} {held} {failed} {given} {todo} {s} told told' known known' t k v =
     subst (λ (x : Option (List HouseMark)). Serving May Rest before (noted x known') policy pid start seen held failed given todo s) (sym t)
     (subst (λ (x : Known). Serving May Rest before (noted told x) policy pid start seen held failed given todo s) (sym k) v)
+
+-- one list or the other is to be offered what waits
+pub replied : {May : HouseReply → Type 0} {Rest : Option (List HouseMark) → Type 0} {before : Option (List HouseMark)} {now : Side} {policy : Policy} {pid : ℕ} {start : Option (List Mark)} {seen : Seen} {held failed : List ℕ} {given : ℕ} {s : State} (xs ys : List ℕ) (more b : Bool) → more ≡ b → Serving May Rest before now policy pid start seen held failed given (cond more xs ys) s → Serving May Rest before now policy pid start seen held failed given (cond b xs ys) s
+replied {May} {Rest} {before} {now} {policy} {pid} {start} {seen} {held} {failed} {given} {s} xs ys more b e v = subst (λ (c : Bool). Serving May Rest before now policy pid start seen held failed given (cond c xs ys) s) e v
+
+-- ---- calls
+
+-- calls that ended well, before one that made none and found no memory
+pub cut-well : (a b c : Calls) → Well 0 a b → c ≡ b → Cut 0 a c
+cut-well a b c w e = subst (Cut 0 a) (sym e) (cut-then a b b w (record { few = omega arith; wants = omega arith; late = λ z. refl }))
+
+pub well-still : (a b c : Calls) → Well 0 a b → c ≡ b → Well 0 a c
+well-still a b c w e = subst (Well 0 a) (sym e) w
 
 -- ---- other asks are open
 
