@@ -1,6 +1,6 @@
 use Rattle.std.proofs.Common.{◌<◌, ◌∙◌, ◌∷◌, sym, ap, refl, subst, ℕ, List, Option, true, false, length}
 use Rattle.mux_outside.specs.House.{Known}
-use Rattle.mux_outside.specs.Streams.{among, without}
+use Rattle.mux_outside.specs.Streams.{without}
 use Rattle.mux_outside.specs.declared.house_mark.HouseMark.{HouseMark}
 use Rattle.mux_history.specs.declared.limits.TheConstants.{HOUSE}
 use Rattle.mux_machine.specs.Events.{here}

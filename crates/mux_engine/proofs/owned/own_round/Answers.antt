@@ -1,5 +1,4 @@
-use Rattle.std.proofs.Common.{◌≡◌, ◌<◌, ◌≤◌, ◌+◌, ◌∙◌, ℕ, List, Some, None, true, inl, inr, sym, ap, subst, refl, arith, length, IsTrue, le_trans, le_refl}
-use Rattle.std.specs.Prelude.{slice_get}
+use Rattle.std.proofs.Common.{◌<◌, ◌∙◌, ℕ, List, inl, inr, sym, ap, subst, refl, arith, length, IsTrue, le_trans, le_refl}
 use Rattle.mux_outside.specs.House.{Known}
 use Rattle.mux_outside.specs.OwnStreams.{is_one}
 use Rattle.mux_outside.specs.Streams.{among}
