@@ -1,5 +1,4 @@
 use Rattle.std.proofs.Common.{◌≡◌, ◌≤◌, ◌+◌, ℕ, Bool, List, Option, true, length}
-use Rattle.std.specs.Prelude.{◌⊎◌}
 use Rattle.mux_outside.specs.Streams.{among}
 use Rattle.mux_outside.specs.declared.house_mark.HouseMark.{HouseMark}
 use Rattle.mux_outside.specs.declared.mark.Mark.{Mark}
@@ -29,6 +28,7 @@ invariant-loop g l = let W = g.W.Wire in let H = g.H.House in record {
   clients : W.client_faults l.wire ≡ W.client_faults l.fn.wire;
   calls : Well 0 (W.calls l.fn.wire) (W.calls l.wire);
   openings : W.openings l.wire ≡ W.openings l.fn.wire;
+  joinings : W.joinings l.wire ≡ W.joinings l.fn.wire;
 }
 
 abbrev pub decreases-loop : goal.decreases-loop

@@ -1,11 +1,10 @@
-use Rattle.std.proofs.Common.{◌≡◌, ◌∙◌, refl, sym, ap, subst, ℕ, List, IsTrue, true, arith}
+use Rattle.std.proofs.Common.{◌∙◌, refl, sym, ap, arith}
 use Rattle.mux_outside.specs.House.{Known}
 use Rattle.mux_outside.specs.OwnStreams.{is_one}
 use Rattle.mux_outside.specs.Streams.{among}
-use Rattle.mux_engine.proofs.Arms.{cut-then, on-err, well-none, well-then}
+use Rattle.mux_engine.proofs.Arms.{on-err, well-none, well-then}
 use Rattle.mux_engine.proofs.Cuts.{cut-still}
 use Rattle.mux_engine.proofs.Left.{own-known, own-one}
-use Rattle.mux_engine.proofs.Loops.{counts-err}
 use Rattle.mux_engine.proofs.Places.{places-same, places-then}
 use Rattle.mux_engine.proofs.owned.own_rounds.Goals as goal
 
@@ -21,6 +20,7 @@ loop-wire-init g c = record {
   clients = refl;
   calls = well-none _;
   openings = refl;
+  joinings = refl;
 }
 
 pub loop-wire-preserved : goal.loop-wire-preserved
@@ -35,6 +35,7 @@ loop-wire-preserved g c = let v = c.loop-wire.invariant in let o = c.in_ok-own_r
   clients = c.own_round.ensures.clients ∙ v.clients;
   calls = well-then _ _ _ v.calls o.calls;
   openings = c.own_round.ensures.openings ∙ v.openings;
+  joinings = c.own_round.ensures.joinings ∙ v.joinings;
 }
 
 pub returns-in_err-own_round-clause-serving : goal.returns-in_err-own_round-clause-serving
