@@ -1,4 +1,5 @@
-ghost use Rattle.std.specs.Prelude.{[], ◌∷◌, ◌≡◌, ◌≢◌, ◌≤◌, ◌+◌, List, ℕ, true, false, OnOk, IfOk, MatchResult, Some, None, unwrap_or};
+ghost use Rattle.std.specs.Prelude.{[], ◌∷◌, ◌≡◌, ◌≢◌, ◌≤◌, ◌+◌, List, ℕ, true, false, OnOk, IfOk, MatchResult, Some, None};
+ghost use Rattle.std.specs.Result.{result_unwrap_or};
 ghost use Rattle.std.specs.declared.option.Option.{Option};
 ghost use Rattle.mux_outside.specs.Counts.{Rose};
 ghost use Rattle.mux_outside.specs.House.{OwnTurnFits, known_after_own_turn, nothing_known};
@@ -39,9 +40,9 @@ fn hear<H: House>(
     requires fits { OwnTurnFits told (H.known house.old) (H.quiet house.old) }
     ensures known { OnOk result (H.known house.new
         ≡ known_after_own_turn told.entry (H.known house.old)) }
-    ensures own { OnOk result (lists.new.own ≡ own_heard told lists.old.own) }
-    ensures held { OnOk result (lists.new.held ≡ held_heard told lists.old.held) }
-    ensures failed { OnOk result (lists.new.failed ≡ failed_heard told lists.old.failed) }
+    ensures own { OnOk result (lists.new.own ≡ own_heard told.entry lists.old.own) }
+    ensures held { OnOk result (lists.new.held ≡ held_heard told.entry lists.old.held) }
+    ensures failed { OnOk result (lists.new.failed ≡ failed_heard told.entry lists.old.failed) }
     ensures must { H.must house.new ≡ H.must house.old }
     ensures told { H.told house.new ≡ H.told house.old }
 {
@@ -279,10 +280,10 @@ fn run<W: Wire, H: House>(
         IsRun H.may (RestsOf H.told H.quiet (H.known house.old).present) policy pid turns before
         (H.told house.new) start (W.seen wire.new).told
         (refused_if (H.known house.old).present (H.must house.new) (H.refused house.new))
-        (unwrap_or result WantOfMemory) }
+        (result_unwrap_or result WantOfMemory) }
     ensures failed { IfOk result (λ answer. answer ≡ ServerFailed
         → Rose (W.server_faults wire.old) (W.server_faults wire.new)) }
-    ensures calls { Stops (H.known house.old).present turns (unwrap_or result WantOfMemory)
+    ensures calls { Stops (H.known house.old).present turns (result_unwrap_or result WantOfMemory)
         (W.calls wire.old) (W.calls wire.new) }
     ensures places { OnOk result (((W.seen wire.new).listeners ≡ (H.known house.new).listeners)
         × ((W.seen wire.new).own ≡ (H.known house.new).streams)) }
