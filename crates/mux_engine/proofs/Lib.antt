@@ -5,6 +5,9 @@ mod Counting
 mod Cuts
 mod First
 mod Happened
+mod Heeding
+mod Holding
+mod HouseCalls
 mod HouseTakes
 mod HouseTurns
 mod Keeps
