@@ -25,6 +25,7 @@ mod OwnMarks
 mod OwnTurns
 mod Places
 mod Quiet
+mod Readied
 mod Runs
 mod Silent
 mod Taken
