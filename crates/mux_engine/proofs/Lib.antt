@@ -3,6 +3,7 @@ mod Asks
 mod Closed
 mod Counting
 mod Cuts
+mod Ending
 mod First
 mod Happened
 mod Heeding
@@ -26,8 +27,10 @@ mod OwnTurns
 mod Places
 mod Quiet
 mod Readied
+mod Running
 mod Runs
 mod Silent
+mod Spending
 mod Taken
 mod Todo
 mod Told
