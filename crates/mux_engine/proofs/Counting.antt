@@ -16,7 +16,7 @@ use Rattle.mux_history.specs.declared.ended.Ended.TheVariants as ended
 use Rattle.mux_machine.specs.declared.event.Event.{Event}
 use Rattle.mux_machine.specs.declared.event.Event.TheVariants.{Accepted, FromClient, ClientEnd, ClientFailed, HouseSays, FromServer, ServerEnd, ServerFailed}
 use Rattle.mux_machine.specs.Events.{MayEnd, Tells}
-use Rattle.mux_engine.specs.Counted.{Counts, Cut, Stops, Waited, Well}
+use Rattle.mux_engine.specs.Counted.{Counts, Cut, Well}
 use Rattle.mux_engine.specs.Serving.{StaysOrFails}
 use Rattle.mux_engine.specs.Turns.{IsEventOf}
 use Rattle.mux_engine.proofs.Arms.{well-wait}
@@ -69,36 +69,6 @@ more-none given = omega arith
 
 pub none-of : (given turns : ℕ) → given ≤ turns → turns ≡ 0 → given ≡ 0
 none-of given turns le z = omega arith
-
-all-waited : (n a b : ℕ) → Waited n a b → a < 2 ^ 64 → b ≡ min (a + n) (2 ^ 64 - 1)
-all-waited n a b w h = let m : b ≤ a + n = w.most in let l : min (a + n) (2 ^ 64 - 1) ≤ b = w.least in let f : b < 2 ^ 64 = w.fits h in omega arith
-
-some-waited : (n a b : ℕ) → n ≢ 0 → Waited n a b → counted a ≤ b
-some-waited n a b nz w = let l : min (a + n) (2 ^ 64 - 1) ≤ b = w.least in omega arith
-
--- one that want of memory cut short
-pub stops-cut : (turns : ℕ) (a b : Calls) → Cut turns a b → Stops turns ended.OutOfMemory a b
-stops-cut turns a b c = record {
-  few = c.few;
-  spent = λ e h. absurd (let z : ended.OutOfMemory ≡ ended.Spent = e in cc);
-  ends = λ s o. absurd (o refl);
-  wants = c.wants;
-  starved = λ n. refl;
-  late = c.late;
-}
-
--- one that waited so often
-pub stops-well : (given turns : ℕ) (answer : Ended) (a b : Calls) → given ≤ turns → (answer ≡ ended.Spent → given ≡ turns) → (given ≡ 0 → answer ≡ ended.Spent) → Well given a b → Stops turns answer a b
-stops-well given turns answer a b le spent none w =
-    let m : b.waits ≤ a.waits + given = w.waited.most in let e : b.wants ≡ a.wants = w.wants in
-    record {
-      few = omega arith;
-      spent = λ s h. all-waited turns a.waits b.waits (subst (λ n. Waited n a.waits b.waits) (spent s) w.waited) h;
-      ends = λ ns no. some-waited given a.waits b.waits (λ z. ns (none z)) w.waited;
-      wants = omega arith;
-      starved = λ n. absurd (n e);
-      late = w.late;
-    }
 
 -- one that gave no turn: no count of faults rose
 pub same-faults : {V : Type 0} (server client : V → ℕ) (old new : V) → new ≡ old → SameFaults (server old) (server new) (client old) (client new)

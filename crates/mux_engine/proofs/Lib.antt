@@ -3,6 +3,7 @@ mod Asks
 mod Closed
 mod Counting
 mod Cuts
+mod Ending
 mod First
 mod Happened
 mod Heeding
@@ -25,8 +26,11 @@ mod OwnMarks
 mod OwnTurns
 mod Places
 mod Quiet
+mod Readied
+mod Running
 mod Runs
 mod Silent
+mod Spending
 mod Taken
 mod Todo
 mod Told

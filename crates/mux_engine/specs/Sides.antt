@@ -1,5 +1,5 @@
 -- What is kept of a house, and what its marks and the wire's streams are to each other.
-use Rattle.std.specs.Prelude.{◌≡◌, ◌≤◌, ℕ, Bool, List, [], ◌∷◌, ◌++◌, filter, Option, Some, None, IsTrue}
+use Rattle.std.specs.Prelude.{◌≡◌, ◌≤◌, ℕ, Bool, false, List, [], ◌∷◌, ◌++◌, filter, Option, Some, None, IsTrue}
 use Rattle.mux_outside.specs.House.{IsAtRest, Known, OpenAsk, Quiet}
 use Rattle.mux_outside.specs.OwnStreams.{is_one, is_own, numbers_of}
 use Rattle.mux_outside.specs.Seen.{Seen}
@@ -47,6 +47,10 @@ noting unnoted told known =
 -- all of it is noted
 abbrev pub noted : Option (List HouseMark) → Known → Side
 noted told known = noting [] told known
+
+-- one that was not let in yet
+abbrev pub outside : Option (List HouseMark) → Known → Side
+outside told known = record (noted told known) { let_in = false }
 
 -- there is a house at rest that has told this, unless none is present
 abbrev pub RestsOf : {T : Type 0} → (T → Option (List HouseMark)) → (T → Quiet) → Bool

@@ -1,4 +1,5 @@
-ghost use Rattle.std.specs.Prelude.{[], ◌∷◌, ◌≡◌, ◌≢◌, ◌≤◌, ◌+◌, List, ℕ, true, false, OnOk, IfOk, MatchResult, Some, None, unwrap_or};
+ghost use Rattle.std.specs.Prelude.{[], ◌∷◌, ◌≡◌, ◌≢◌, ◌≤◌, ◌+◌, List, ℕ, true, false, OnOk, IfOk, MatchResult, Some, None};
+ghost use Rattle.std.specs.Result.{result_unwrap_or};
 ghost use Rattle.std.specs.declared.option.Option.{Option};
 ghost use Rattle.mux_outside.specs.Counts.{Rose};
 ghost use Rattle.mux_outside.specs.House.{OwnTurnFits, known_after_own_turn, nothing_known};
@@ -7,13 +8,14 @@ ghost use Rattle.mux_outside.specs.declared.house_mark.HouseMark.{HouseMark as T
 ghost use Rattle.mux_outside.specs.declared.mark.Mark.{Mark as TheMark};
 ghost use Rattle.mux_outside.specs.declared.own_streams.TheConstants.{LAST_CLIENT as LastClient};
 ghost use Rattle.mux_history.specs.declared.ended.Ended.TheVariants.{ServerFailed, OutOfMemory as WantOfMemory, Spent as TurnsSpent, StartRefused as StartWasRefused};
+ghost use Rattle.mux_history.specs.declared.limits.TheConstants.{HOUSE as TheHouse};
 ghost use Rattle.mux_history.specs.Policy.{Policy as ThePolicy};
 ghost use Rattle.mux_machine.specs.Events.{went_of, here};
 ghost use Rattle.mux_engine.specs.Counted.{Counts, Cut, Spent, Stops, Turned, Well};
 ghost use Rattle.mux_engine.specs.Rests.{IsAlone, IsReady, ended_as, refused_if};
 ghost use Rattle.mux_engine.specs.Run.{IsRun};
-ghost use Rattle.mux_engine.specs.Serving.{EndsTurn, Promised, RunsOn, ServedWith, Serving, Spends};
-ghost use Rattle.mux_engine.specs.Sides.{Housed, RestsOf, noted};
+ghost use Rattle.mux_engine.specs.Serving.{EndsTurn, Promised, RunsOn, ServedWith, Serving, Spends, StaysOrFails};
+ghost use Rattle.mux_engine.specs.Sides.{Housed, RestsOf, SameHouse, SamePlaces, noted, outside};
 ghost use Rattle.mux_engine.specs.Turns.{failed_heard, held_heard, own_heard};
 
 use crate::asking::heed;
@@ -23,6 +25,7 @@ use crate::owned::list_waiting;
 use crate::room::Lists;
 use crate::settling::{close_lost, flush, hush};
 use forward_rules::Policy;
+use mux_clients::Asks;
 use mux_history::Ended;
 use mux_machine::{Engine, Went};
 use mux_outside::{House, OwnTurn, Piece, Wire};
@@ -39,9 +42,9 @@ fn hear<H: House>(
     requires fits { OwnTurnFits told (H.known house.old) (H.quiet house.old) }
     ensures known { OnOk result (H.known house.new
         ≡ known_after_own_turn told.entry (H.known house.old)) }
-    ensures own { OnOk result (lists.new.own ≡ own_heard told lists.old.own) }
-    ensures held { OnOk result (lists.new.held ≡ held_heard told lists.old.held) }
-    ensures failed { OnOk result (lists.new.failed ≡ failed_heard told lists.old.failed) }
+    ensures own { OnOk result (lists.new.own ≡ own_heard told.entry lists.old.own) }
+    ensures held { OnOk result (lists.new.held ≡ held_heard told.entry lists.old.held) }
+    ensures failed { OnOk result (lists.new.failed ≡ failed_heard told.entry lists.old.failed) }
     ensures must { H.must house.new ≡ H.must house.old }
     ensures told { H.told house.new ≡ H.told house.old }
 {
@@ -254,6 +257,86 @@ fn answer_of<H: House>(engine: &Engine, house: &H) -> Ended
     }
 }
 
+// Lets the house in as a client where it is present, before all else.
+fn enter<W: Wire, H: House>(
+    engine: &mut Engine,
+    wire: &mut W,
+    house: &H,
+    asks: &mut Asks,
+) -> Result<(), OutOfMemory>
+    requires on { engine.old.ended ≡ None }
+    requires refused { engine.old.refused ≡ [] }
+    ensures serving { (before : Option (List TheHouseMark)) (policy : ThePolicy) (pid : ℕ)
+        (start : Option (List TheMark)) (held failed : List ℕ) (given : ℕ) →
+        (v : Serving H.may (RestsOf H.told H.quiet (H.known house.now).present) before
+        (outside (H.told house.now) (H.known house.now)) policy pid start (W.seen wire.old) held
+        failed given (0 ∷ here engine.old) engine.old) → v.journal ≡ [] →
+        MatchResult result
+        (λ done. Serving H.may (RestsOf H.told H.quiet (H.known house.now).present) before
+        (noted (H.told house.now) (H.known house.now)) policy pid start (W.seen wire.new) held
+        failed given (0 ∷ here engine.new) engine.new × (engine.new.ended ≡ None))
+        (λ e. Promised H.may (RestsOf H.told H.quiet (H.known house.now).present) before
+        (H.told house.now) policy pid start (W.seen wire.new).told given) }
+    ensures places { SamePlaces (W.seen wire.old) (W.seen wire.new) }
+    ensures alone { (H.known house.now).present ≡ false → (engine.new ≡ engine.old)
+        × (wire.new ≡ wire.old) }
+    ensures calls { W.calls wire.new ≡ W.calls wire.old }
+    ensures faults { W.server_faults wire.new ≡ W.server_faults wire.old }
+    ensures openings { W.openings wire.new ≡ W.openings wire.old }
+    ensures joinings { W.joinings wire.new ≡ W.joinings wire.old }
+{
+    if house.present() {
+        let_in::<W, H>(engine, wire, asks)?;
+    }
+    Ok(())
+}
+
+// Behind the turns of a run: where all were given a house is asked for its replies once more, and
+// each stream is offered what waits for it.
+fn finish<W: Wire, H: House>(
+    engine: &mut Engine,
+    wire: &mut W,
+    house: &mut H,
+    lists: &mut Lists,
+    all: bool,
+) -> Result<(), OutOfMemory>
+    requires served { ServedWith H.may (RestsOf H.told H.quiet (H.known house.old).present)
+        (noted (H.told house.old) (H.known house.old)) (W.seen wire.old) lists.old.held
+        lists.old.failed (0 ∷ here engine.old) engine.old }
+    requires housed { Housed (H.known house.old) (W.seen wire.old) lists.old.own }
+    requires held_is { lists.old.held ≡ (W.seen wire.old).blocked }
+    requires on { all ≡ true → engine.old.ended ≡ None }
+    ensures serving { RunsOn result H.may (RestsOf H.told H.quiet (H.known house.old).present)
+        (noted (H.told house.old) (H.known house.old))
+        (noted (H.told house.new) (H.known house.new)) (W.seen wire.old) (W.seen wire.new)
+        lists.old.held lists.new.held lists.old.failed lists.new.failed 0 (λ done. 0)
+        (0 ∷ here engine.old) (λ done. TheHouse ∷ []) engine.old engine.new }
+    ensures known { OnOk result (SameHouse (H.known house.old) (H.known house.new)) }
+    ensures places { SamePlaces (W.seen wire.old) (W.seen wire.new) }
+    ensures unasked { all ≡ false → house.new ≡ house.old }
+    ensures must { H.must house.new ≡ H.must house.old }
+    ensures ended { OnOk result (StaysOrFails engine.old.ended engine.new.ended
+        (W.server_faults wire.old) (W.server_faults wire.new)) }
+    ensures calls { Counts 0 result (W.calls wire.old) (W.calls wire.new) }
+    ensures openings { W.openings wire.new ≡ W.openings wire.old }
+    ensures joinings { W.joinings wire.new ≡ W.joinings wire.old }
+    ensures idle { engine.old.waiting ≡ [] → (H.known house.old).present ≡ false
+        → (engine.new ≡ engine.old)
+        × SameFaults (W.server_faults wire.old) (W.server_faults wire.new)
+        (W.client_faults wire.old) (W.client_faults wire.new) }
+{
+    if all && house.present() {
+        reply_all(engine, wire, house, lists)?;
+    }
+    flush::<W, H>(
+        engine,
+        wire,
+        &mut lists.held,
+        &mut lists.todo,
+        &mut lists.asks,
+    )
+}
+
 // Serves a wire for so many turns: why it ended.
 fn run<W: Wire, H: House>(
     alloc: Global,
@@ -262,27 +345,25 @@ fn run<W: Wire, H: House>(
     house: &mut H,
     turns: u64,
 ) -> Result<Ended, OutOfMemory>
-    requires running { ServedWith H.may (RestsOf H.told H.quiet (H.known house.old).present)
-        (record (noted (H.told house.old) (H.known house.old)) { let_in = false }) (W.seen wire.old)
-        [] [] (0 ∷ here engine.old) engine.old }
-    requires blank { H.known house.old ≡ nothing_known (H.known house.old).present }
-    requires own { (W.seen wire.old).own ≡ [] }
-    requires listeners { (W.seen wire.old).listeners ≡ [] }
+    requires running { (v : ServedWith H.may (RestsOf H.told H.quiet (H.known house.old).present)
+        (outside (H.told house.old) (H.known house.old)) (W.seen wire.old) [] []
+        (0 ∷ here engine.old) engine.old) × (v.serving.journal ≡ []) }
+    requires housed { Housed (H.known house.old) (W.seen wire.old) [] }
+    requires alone { IsAlone (H.known house.old) }
     requires on { engine.old.ended ≡ None }
     requires refused { engine.old.refused ≡ [] }
     requires quiet { engine.old.waiting ≡ [] }
     ensures ran { (before : Option (List TheHouseMark)) (policy : ThePolicy) (pid : ℕ)
         (start : Option (List TheMark)) →
         (v : Serving H.may (RestsOf H.told H.quiet (H.known house.old).present) before
-        (record (noted (H.told house.old) (H.known house.old)) { let_in = false }) policy pid start
-        (W.seen wire.old) [] [] 0 (0 ∷ here engine.old) engine.old) → v.journal ≡ [] →
+        (outside (H.told house.old) (H.known house.old)) policy pid start (W.seen wire.old) [] [] 0 (0 ∷ here engine.old) engine.old) → v.journal ≡ [] →
         IsRun H.may (RestsOf H.told H.quiet (H.known house.old).present) policy pid turns before
         (H.told house.new) start (W.seen wire.new).told
         (refused_if (H.known house.old).present (H.must house.new) (H.refused house.new))
-        (unwrap_or result WantOfMemory) }
+        (result_unwrap_or result WantOfMemory) }
     ensures failed { IfOk result (λ answer. answer ≡ ServerFailed
         → Rose (W.server_faults wire.old) (W.server_faults wire.new)) }
-    ensures calls { Stops (H.known house.old).present turns (unwrap_or result WantOfMemory)
+    ensures calls { Stops (H.known house.old).present turns (result_unwrap_or result WantOfMemory)
         (W.calls wire.old) (W.calls wire.new) }
     ensures places { OnOk result (((W.seen wire.new).listeners ≡ (H.known house.new).listeners)
         × ((W.seen wire.new).own ≡ (H.known house.new).streams)) }
@@ -293,20 +374,9 @@ fn run<W: Wire, H: House>(
         (W.client_faults wire.old) (W.client_faults wire.new) }
 {
     let mut lists = Lists::new(alloc);
-    if house.present() {
-        let_in::<W, H>(engine, wire, &mut lists.asks)?;
-    }
+    enter(engine, wire, house, &mut lists.asks)?;
     let all = turns_of(alloc, engine, wire, house, &mut lists, turns)?;
-    if all && house.present() {
-        reply_all(engine, wire, house, &mut lists)?;
-    }
-    flush::<W, H>(
-        engine,
-        wire,
-        &mut lists.held,
-        &mut lists.todo,
-        &mut lists.asks,
-    )?;
+    finish(engine, wire, house, &mut lists, all)?;
     Ok(answer_of(engine, house))
 }
 

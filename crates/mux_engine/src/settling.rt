@@ -1,6 +1,6 @@
 ghost use Rattle.std.specs.Prelude.{[], ◌∷◌, ◌++◌, ◌≡◌, ◌≢◌, ◌≤◌, ◌<◌, length, List, ℕ, Bool, true, false, None, OnOk, IfOk, IsTrue, if◌then◌else◌};
 ghost use Rattle.std.specs.declared.option.Option.{Option};
-ghost use Rattle.mux_outside.specs.House.{Known as TheKnown};
+ghost use Rattle.mux_outside.specs.House.{Known as TheKnown, Quiet as TheQuiet};
 ghost use Rattle.mux_outside.specs.OwnStreams.{is_one, is_own};
 ghost use Rattle.mux_outside.specs.Streams.{among, without};
 ghost use Rattle.mux_outside.specs.Wire.{SameFaults};
@@ -11,6 +11,7 @@ ghost use Rattle.mux_history.specs.declared.limits.TheConstants.{HOUSE as TheHou
 ghost use Rattle.mux_machine.specs.Events.{here};
 ghost use Rattle.mux_machine.specs.State.{queue_in};
 ghost use Rattle.mux_engine.specs.Counted.{Counts};
+ghost use Rattle.mux_engine.specs.Rests.{IsReady};
 ghost use Rattle.mux_engine.specs.Serving.{IsServed, Serving, ServesOn, StaysOrFails, is_open};
 ghost use Rattle.mux_engine.specs.Sides.{Housed, RestsOf, SamePlaces, Side as TheSide};
 
@@ -220,6 +221,10 @@ pub fn close_lost<W: Wire, H: House>(engine: &mut Engine, wire: &mut W, held: &m
         (W.seen wire.new) held.new failed given todo engine.new }
     ensures housed { (known : TheKnown) (own : List ℕ) → Housed known (W.seen wire.old) own
         → Housed known (W.seen wire.new) own }
+    ensures ready { (known : TheKnown) (quiet : TheQuiet) (queue : ℕ → List ℕ)
+        (failed own : List ℕ) → Housed known (W.seen wire.old) own
+        → IsReady known quiet queue held.old failed own engine.old
+        → IsReady known quiet queue held.new failed own engine.new }
     ensures closed { engine.new.leaving ≡ [] }
     ensures refused { engine.new.refused ≡ [] }
     ensures ended { engine.new.ended ≡ engine.old.ended }

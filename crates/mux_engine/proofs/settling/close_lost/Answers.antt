@@ -3,9 +3,11 @@ use Rattle.mux_outside.specs.Seen.{Seen, seen_after_close}
 use Rattle.mux_outside.specs.Streams.{without}
 use Rattle.mux_machine.specs.State.{State, closed_by}
 use Rattle.mux_machine.specs.Stands.{Closes, IsFirst}
+use Rattle.mux_engine.specs.Rests.{IsReady}
 use Rattle.mux_engine.specs.Serving.{Serving}
 use Rattle.mux_engine.specs.Sides.{Housed, RestsOf}
 use Rattle.mux_engine.proofs.Closed.{fewer, first-is, housed-closed, serve-closed}
+use Rattle.mux_engine.proofs.Readied.{ready-closed}
 use Rattle.mux_engine.proofs.settling.close_lost.Goals as goal
 
 pub loop-client-smaller : goal.loop-client-smaller
@@ -28,6 +30,10 @@ loop-client-preserved g c =
       housed = λ known own h. let w = c.requires.served in
           subst (λ (x : Seen). Housed known x own) (sym c.close.ensures.seen)
           (housed-closed (c.loop-client.invariant.serving w.present w.before w.now w.policy w.pid w.start w.failed w.given w.todo w.serving) k first known own (c.loop-client.invariant.housed known own h));
+      ready = λ known quiet queue failed own h r. let w = c.requires.served in
+          subst (λ x. IsReady known quiet queue x failed own c.closed.new.self) (sym c.remove.ensures)
+          (subst (λ (t : State). IsReady known quiet queue (without k c.loop-client.held) failed own t) (sym c.closed.ensures.exact)
+          (ready-closed (c.loop-client.invariant.serving w.present w.before w.now w.policy w.pid w.start w.failed w.given w.todo w.serving) k first known quiet queue failed own (c.loop-client.invariant.housed known own h) (c.loop-client.invariant.ready known quiet queue failed own h r)));
       ended = ap (λ (t : State). t.ended) c.closed.ensures.exact ∙ c.loop-client.invariant.ended;
       faults = c.close.ensures.server ∙ c.loop-client.invariant.faults;
       calls = c.close.ensures.calls ∙ c.loop-client.invariant.calls;

@@ -1,0 +1,63 @@
+-- The turns of a run, one after the other.
+use Rattle.std.proofs.Common.{◌≡◌, ◌≢◌, ◌≤◌, ◌<◌, ◌+◌, ℕ, Bool, true, false, List, [], ◌∷◌, Option, None, refl, sym, ap, ◌∙◌, subst, inl, inr, arith}
+use Rattle.std.specs.Prelude.{if◌then◌else◌}
+use Rattle.mux_outside.specs.Seen.{Seen}
+use Rattle.mux_outside.specs.Streams.{among}
+use Rattle.mux_outside.specs.declared.house.HouseReply.{HouseReply}
+use Rattle.mux_outside.specs.declared.house_mark.HouseMark.{HouseMark}
+use Rattle.mux_outside.specs.declared.mark.Mark.{Mark}
+use Rattle.mux_outside.specs.OwnStreams.{is_own}
+use Rattle.mux_history.specs.declared.limits.TheConstants.{HOUSE}
+use Rattle.mux_history.specs.Policy.{Policy}
+use Rattle.mux_machine.specs.State.{State}
+use Rattle.mux_machine.specs.Events.{here}
+use Rattle.mux_engine.specs.Serving.{EndsTurn, Promised, Serving, Spends}
+use Rattle.mux_engine.specs.Sides.{Side}
+use Rattle.mux_engine.proofs.Lists.{true-false}
+use Rattle.mux_engine.proofs.Runs.{promised-more}
+use Rattle.mux_engine.proofs.Todo.{serve-todo}
+
+module _ {May : HouseReply → Type 0} {before : Option (List HouseMark)} {policy : Policy} {pid : ℕ} {start : Option (List Mark)} where
+  -- with a house that is present just so
+  pub present-is : {now : Side} {seen : Seen} {held failed : List ℕ} {given : ℕ} {todo : List ℕ} {s : State} (R : Bool → Option (List HouseMark) → Type 0) (p q : Bool) → p ≡ q → Serving May (R p) before now policy pid start seen held failed given todo s → Serving May (R q) before now policy pid start seen held failed given todo s
+  present-is {now} {seen} {held} {failed} {given} {todo} {s} R p q e v = subst (λ (b : Bool). Serving May (R b) before now policy pid start seen held failed given todo s) e v
+
+  pub promised-is : {now : Option (List HouseMark)} {told : Option (List Mark)} {given : ℕ} (R : Bool → Option (List HouseMark) → Type 0) (p q : Bool) → p ≡ q → Promised May (R p) before now policy pid start told given → Promised May (R q) before now policy pid start told given
+  promised-is {now} {told} {given} R p q e v = subst (λ (b : Bool). Promised May (R b) before now policy pid start told given) e v
+
+  pub ends-is : {on : Bool} {now : Side} {seen : Seen} {held failed : List ℕ} {given : ℕ} {todo : List ℕ} {s : State} (R : Bool → Option (List HouseMark) → Type 0) (p q : Bool) → p ≡ q → EndsTurn on given May (R p) before now policy pid start seen held failed todo s → EndsTurn on given May (R q) before now policy pid start seen held failed todo s
+  ends-is {on} {now} {seen} {held} {failed} {given} {todo} {s} R p q e v = subst (λ (b : Bool). EndsTurn on given May (R b) before now policy pid start seen held failed todo s) e v
+
+module _ {May : HouseReply → Type 0} {Rest : Option (List HouseMark) → Type 0} {before : Option (List HouseMark)} {policy : Policy} {pid : ℕ} {start : Option (List Mark)} where
+  -- with so many turns
+  pub given-is : {now : Side} {seen : Seen} {held failed : List ℕ} {todo : List ℕ} {s : State} (given given' : ℕ) → given ≡ given' → Serving May Rest before now policy pid start seen held failed given todo s → Serving May Rest before now policy pid start seen held failed given' todo s
+  given-is {now} {seen} {held} {failed} {todo} {s} given given' e v = subst (λ n. Serving May Rest before now policy pid start seen held failed n todo s) e v
+
+  pub side-is : {seen : Seen} {held failed : List ℕ} {given : ℕ} {todo : List ℕ} {s : State} (now now' : Side) → now ≡ now' → Serving May Rest before now policy pid start seen held failed given todo s → Serving May Rest before now' policy pid start seen held failed given todo s
+  side-is {seen} {held} {failed} {given} {todo} {s} now now' e v = subst (λ (x : Side). Serving May Rest before x policy pid start seen held failed given todo s) e v
+
+  -- the house took a turn, or it took none
+  pub step-took : {now : Side} {seen : Seen} {held failed : List ℕ} {s : State} (given : ℕ) (todo : List ℕ) (more : Bool) → more ≡ true → Serving May Rest before now policy pid start seen held failed (given + (if more then 1 else 0)) (if more then todo else []) s → Serving May Rest before now policy pid start seen held failed (given + 1) todo s
+  step-took given todo true e v = v
+  step-took given todo false e v = true-false (sym e)
+
+  pub step-waits : {now : Side} {seen : Seen} {held failed : List ℕ} {s : State} (given : ℕ) (todo : List ℕ) (more : Bool) → more ≡ false → Serving May Rest before now policy pid start seen held failed (given + (if more then 1 else 0)) (if more then todo else []) s → Serving May Rest before now policy pid start seen held failed given [] s
+  step-waits given todo true e v = true-false e
+  step-waits given todo false e v = given-is (given + 0) given (omega arith) v
+
+  -- more may be left to be offered
+  pub all-left : {now : Side} {seen : Seen} {held failed : List ℕ} {given : ℕ} {s : State} (todo : List ℕ) → Serving May Rest before now policy pid start seen held failed given [] s → Serving May Rest before now policy pid start seen held failed given todo s
+  all-left todo v = serve-todo v todo (λ t a. inl refl)
+
+  -- a turn that the run goes on behind was given
+  pub went-on : {now : Side} {seen : Seen} {held failed : List ℕ} {given : ℕ} {todo : List ℕ} {s : State} (on : Bool) → on ≡ true → EndsTurn on given May Rest before now policy pid start seen held failed todo s → Serving May Rest before now policy pid start seen held failed (given + 1) todo s
+  went-on on e (inl v) = v
+  went-on on e (inr w) = true-false (sym e ∙ w.0)
+
+  -- the last one perhaps
+  pub went-over : {now : Side} {seen : Seen} {held failed : List ℕ} {todo : List ℕ} {s : State} (given turns : ℕ) (on : Bool) → given < turns → EndsTurn on given May Rest before now policy pid start seen held failed todo s → Spends false turns May Rest before now policy pid start seen held failed todo s
+  went-over given turns on less (inl v) = record { given = given + 1; most = omega arith; all_given = λ e. true-false (sym e); serving = v }
+  went-over given turns on less (inr w) = record { given = given; most = omega arith; all_given = λ e. true-false (sym e); serving = w.1 }
+
+  pub all-spent : {now : Side} {seen : Seen} {held failed : List ℕ} {todo : List ℕ} {s : State} (given turns : ℕ) → given ≡ turns → Serving May Rest before now policy pid start seen held failed given todo s → Spends true turns May Rest before now policy pid start seen held failed todo s
+  all-spent given turns e v = record { given = given; most = omega arith; all_given = λ t. e; serving = v }
