@@ -2,6 +2,7 @@ pub mod Asking
 pub mod Counted
 pub mod Orders
 pub mod Owned
+pub mod Rests
 pub mod Run
 pub mod Serving
 pub mod Sides
