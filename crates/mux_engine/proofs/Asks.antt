@@ -190,9 +190,10 @@ goes-unasked {May} {May'} {replies = replies} st g none = record {
     size : length g.replies ≡ 0
     size = let a : length (st.asks ++ []) ≡ length st.asks = ap length (append-nil st.asks) in let b : length st.asks ≡ length replies = st.each in let c : length (replies ++ g.replies) ≡ length replies + length g.replies = length-append replies g.replies in omega (arith, a, b, c, same)
 
-pub unasked-none : {May May' : HouseReply → Type 0} {told told' : Option (List HouseMark)} {picked : List ℕ} {replies : List HouseReply} {s s' : State} {mark : Mark} {marks : List Mark} {closed : List ℕ} (st : Stands picked replies s marks closed) (g : GoesBy May' told told' picked replies s s' mark marks closed)
+pub unasked-none : (May : HouseReply → Type 0) {May' : HouseReply → Type 0} {told told' : Option (List HouseMark)} {picked : List ℕ} {replies : List HouseReply} {s s' : State} {mark : Mark} {marks : List Mark} {closed : List ℕ} (st : Stands picked replies s marks closed) (g : GoesBy May' told told' picked replies s s' mark marks closed)
     → (none : g.asks ≡ []) → (goes-unasked {May = May} st g none).asks ≡ []
-unasked-none st g none = none
+unfolding goes-unasked
+unasked-none May st g none = none
 
 -- ---- the open asks behind these
 

@@ -51,7 +51,7 @@ use Rattle.mux_engine.proofs.Turned.{EventAt, came, goes-twin, stayed}
 
 -- ---- whoever was accepted is no server
 
-accepted-zero : (journal : List Mark) → IsLawful journal → is_accepted 0 journal ≡ false
+pub accepted-zero : (journal : List Mark) → IsLawful journal → is_accepted 0 journal ≡ false
 accepted-zero [] l = refl
 accepted-zero (Accepts k ∷ j) l = let lt = l.0 in ap (λ b. cond b true (is_accepted 0 j)) (test-other k 0 (λ e. absurd (omega (arith, lt.0, e)))) ∙ accepted-zero j l.1
 accepted-zero (House HouseIn ∷ j) l = accepted-zero j l.1
@@ -136,7 +136,7 @@ module _ {May : HouseReply → Type 0} {Rest : Option (List HouseMark) → Type 
       let g = goes-unasked {May = May} v.stands g1 none in
       serve-event v (House HouseIn) g (record now { let_in = true }) (seen-with (HouseIn ∷ []) seen) held failed given keeps.policy keeps.pid live tt covers
       (λ j c e. true-false (sym c ∙ (ap (λ i. among i v.closed) (sym e) ∙ ((v.stands.at [] []).bytes.strange HOUSE (alone first)).not_closed_yet))) (λ picks later. tt)
-      (subst (Notes now (record now { let_in = true }) (House HouseIn)) (sym (unasked-none {May = May} v.stands g1 none)) (record { more = []; told_is = tells-none now.told; noted_is = sym (append-nil now.unnoted); asks_are = refl }))
+      (subst (Notes now (record now { let_in = true }) (House HouseIn)) (sym (unasked-none May v.stands g1 none)) (record { more = []; told_is = tells-none now.told; noted_is = sym (append-nil now.unnoted); asks_are = refl }))
       (askers-more v (House HouseIn)) refl tt v.turns refl
       (placed-house-in v (seen-with (HouseIn ∷ []) seen) s' ((wire-keeps seen.streams seen.blocked seen.last seen.listeners seen.own seen.last_own v.journal).note HouseIn first refl v.of_wire) refl refl refl refl refl (came (Accepted HOUSE) HOUSE s s' refl admitted (keeps.streams live)))
 
@@ -157,7 +157,7 @@ module _ {May : HouseReply → Type 0} {Rest : Option (List HouseMark) → Type 
       let none = none-asked g1.asks (goes-asked (λ j. ⊥) g1 keeps.policy keeps.pid tt) in
       let g = goes-unasked {May = May} v.stands g1 none in
       serve-event v (House m) g (record now { unnoted = rest }) (seen-with (m ∷ []) seen) held failed given keeps.policy keeps.pid live tt covers (λ j c. tt) (λ picks later. tt)
-      (subst (Notes now (record now { unnoted = rest }) (House m)) (sym (unasked-none {May = May} v.stands g1 none)) (record { more = []; told_is = tells-none now.told; noted_is = sym e ∙ sym (append-nil now.unnoted); asks_are = refl }))
+      (subst (Notes now (record now { unnoted = rest }) (House m)) (sym (unasked-none May v.stands g1 none)) (record { more = []; told_is = tells-none now.told; noted_is = sym e ∙ sym (append-nil now.unnoted); asks_are = refl }))
       (askers-more v (House m)) v.house_in tt v.turns refl
       (placed-still v (House m) (seen-with (m ∷ []) seen) s' ((wire-keeps seen.streams seen.blocked seen.last seen.listeners seen.own seen.last_own v.journal).note m asked refl v.of_wire) refl refl refl refl refl (stayed (HouseSays client id reply) (House m) s s' (nz, refl) tt (keeps.streams live)) (λ t. refl) (λ t. refl) (λ t. refl))
 

@@ -4,6 +4,7 @@ mod Closed
 mod Counting
 mod Cuts
 mod First
+mod Handed
 mod Happened
 mod HouseTakes
 mod HouseTurns

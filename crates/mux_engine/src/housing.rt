@@ -48,7 +48,12 @@ pub fn let_in<W: Wire, H: House>(
         (λ e. Promised H.may (RestsOf H.told H.quiet present) before now.told policy pid start
         (W.seen wire.new).told given) }
     ensures places { SamePlaces (W.seen wire.old) (W.seen wire.new) }
-    ensures on { OnOk result (engine.new.ended ≡ None) }
+    ensures on { (present : Bool) (before : Option (List TheHouseMark)) (now : TheSide)
+        (policy : ThePolicy) (pid : ℕ) (start : Option (List TheMark)) (held failed : List ℕ)
+        (given : ℕ) →
+        (v : Serving H.may (RestsOf H.told H.quiet present) before now policy pid start
+        (W.seen wire.old) held failed given (0 ∷ here engine.old) engine.old) → v.journal ≡ [] →
+        OnOk result (engine.new.ended ≡ None) }
     ensures calls { W.calls wire.new ≡ W.calls wire.old }
     ensures faults { W.server_faults wire.new ≡ W.server_faults wire.old }
     ensures clients { W.client_faults wire.new ≡ W.client_faults wire.old }
@@ -118,7 +123,10 @@ fn reply<W: Wire, H: House>(
     ensures queues { IfOk result (λ more. more ≡ false
         → (t : ℕ) → H.queue house.new t ≡ H.queue house.old t) }
     ensures must { H.must house.new ≡ H.must house.old }
-    ensures on { OnOk result (engine.new.ended ≡ None) }
+    ensures on { (held failed todo : List ℕ) →
+        ServedWith H.may (RestsOf H.told H.quiet (H.known house.old).present)
+        (noted (H.told house.old) (H.known house.old)) (W.seen wire.old) held failed todo
+        engine.old → OnOk result (engine.new.ended ≡ None) }
     ensures places { SamePlaces (W.seen wire.old) (W.seen wire.new) }
     ensures blocked { (W.seen wire.new).blocked ≡ (W.seen wire.old).blocked }
     ensures calls { W.calls wire.new ≡ W.calls wire.old }
@@ -147,6 +155,9 @@ pub fn reply_all<W: Wire, H: House>(
     house: &mut H,
     lists: &mut Lists,
 ) -> Result<(), OutOfMemory>
+    requires served { ServedWith H.may (RestsOf H.told H.quiet (H.known house.old).present)
+        (noted (H.told house.old) (H.known house.old)) (W.seen wire.old) lists.old.held
+        lists.old.failed (0 ∷ here engine.old) engine.old }
     requires housed { Housed (H.known house.old) (W.seen wire.old) lists.old.own }
     requires held_is { lists.old.held ≡ (W.seen wire.old).blocked }
     requires on { engine.old.ended ≡ None }
