@@ -6,6 +6,9 @@ mod Cuts
 mod First
 mod Handed
 mod Happened
+mod Heeding
+mod Holding
+mod HouseCalls
 mod HouseTakes
 mod HouseTurns
 mod Keeps

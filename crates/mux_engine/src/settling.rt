@@ -1,6 +1,7 @@
-ghost use Rattle.std.specs.Prelude.{[], ◌∷◌, ◌++◌, ◌≡◌, ◌≢◌, ◌≤◌, ◌<◌, length, List, ℕ, Bool, true, false, None, OnOk, IfOk, if◌then◌else◌};
+ghost use Rattle.std.specs.Prelude.{[], ◌∷◌, ◌++◌, ◌≡◌, ◌≢◌, ◌≤◌, ◌<◌, length, List, ℕ, Bool, true, false, None, OnOk, IfOk, IsTrue, if◌then◌else◌};
 ghost use Rattle.std.specs.declared.option.Option.{Option};
 ghost use Rattle.mux_outside.specs.House.{Known as TheKnown};
+ghost use Rattle.mux_outside.specs.OwnStreams.{is_one, is_own};
 ghost use Rattle.mux_outside.specs.Streams.{among, without};
 ghost use Rattle.mux_outside.specs.Wire.{SameFaults};
 ghost use Rattle.mux_outside.specs.declared.house_mark.HouseMark.{HouseMark as TheHouseMark};
@@ -35,6 +36,7 @@ fn offer_once<W: Wire, H: House>(
     requires stream_open { is_open engine.old stream ≡ true }
     requires no_house { stream ≢ TheHouse }
     requires free { among stream (W.seen wire.old).blocked ≡ false }
+    requires numbered { (t : ℕ) → IsTrue (is_one t (W.seen wire.old).own) → IsTrue (is_own t) }
     ensures serving { (todo : List ℕ) → among 0 (stream ∷ todo) ≡ true →
         ServesOn result H.may (RestsOf H.told H.quiet) (W.seen wire.old) (W.seen wire.new) held.old
         held.new todo (λ more. if more then stream ∷ todo else without stream todo)
@@ -89,6 +91,7 @@ fn offer<W: Wire, H: House>(
         engine.old }
     requires stream_open { is_open engine.old stream ≡ true }
     requires no_house { stream ≢ TheHouse }
+    requires numbered { (t : ℕ) → IsTrue (is_one t (W.seen wire.old).own) → IsTrue (is_own t) }
     ensures serving { (todo : List ℕ) → among 0 (stream ∷ todo) ≡ true →
         ServesOn result H.may (RestsOf H.told H.quiet) (W.seen wire.old) (W.seen wire.new) held.old
         held.new (stream ∷ todo) (λ done. todo) engine.old engine.new }
@@ -122,6 +125,7 @@ fn offer_clients<W: Wire, H: House>(
 ) -> Result<(), OutOfMemory>
     requires served { IsServed H.may (RestsOf H.told H.quiet) (W.seen wire.old) held.old
         engine.old }
+    requires numbered { (t : ℕ) → IsTrue (is_one t (W.seen wire.old).own) → IsTrue (is_own t) }
     ensures serving { (left : List ℕ) → ServesOn result H.may (RestsOf H.told H.quiet)
         (W.seen wire.old) (W.seen wire.new) held.old held.new
         (0 ∷ (without TheHouse (here engine.old) ++ left)) (λ done. 0 ∷ left) engine.old engine.new }
@@ -181,6 +185,7 @@ pub fn flush<W: Wire, H: House>(
 ) -> Result<(), OutOfMemory>
     requires served { IsServed H.may (RestsOf H.told H.quiet) (W.seen wire.old) held.old
         engine.old }
+    requires numbered { (t : ℕ) → IsTrue (is_one t (W.seen wire.old).own) → IsTrue (is_own t) }
     ensures serving { (left : List ℕ) → ServesOn result H.may (RestsOf H.told H.quiet)
         (W.seen wire.old) (W.seen wire.new) held.old held.new
         (0 ∷ (without TheHouse (here engine.old) ++ left)) (λ done. left) engine.old engine.new }

@@ -24,6 +24,7 @@ loop-init g c = record {
   clients = refl;
   calls = well-none _;
   openings = refl;
+  joinings = refl;
   keeps = λ same t q. q;
   fewer = λ own a. le_refl _;
 }
@@ -42,6 +43,7 @@ loop-preserved g c = let v = c.loop.invariant in let o = c.in_ok-own_once.ensure
   clients = c.own_once.ensures.clients ∙ v.clients;
   calls = well-then _ _ _ v.calls o.calls;
   openings = c.own_once.ensures.openings ∙ v.openings;
+  joinings = c.own_once.ensures.joinings ∙ v.joinings;
   grows = le_trans v.grows o.grows;
   keeps = λ same t q. o.keeps (omega (arith, v.grows, o.grows, same)) t (v.keeps (omega (arith, v.grows, o.grows, same)) t q);
   fewer = λ own a. le_trans (o.fewer own a) (v.fewer own a);
@@ -68,6 +70,9 @@ returns-in_err-own_once-clause-calls g c = counts-err c.from_residual.result 0 _
 pub returns-in_err-own_once-clause-openings : goal.returns-in_err-own_once-clause-openings
 returns-in_err-own_once-clause-openings g c = c.own_once.ensures.openings ∙ c.loop.invariant.openings
 
+pub returns-in_err-own_once-clause-joinings : goal.returns-in_err-own_once-clause-joinings
+returns-in_err-own_once-clause-joinings g c = c.own_once.ensures.joinings ∙ c.loop.invariant.joinings
+
 pub returns-in_err-own_once-clause-serving : goal.returns-in_err-own_once-clause-serving
 returns-in_err-own_once-clause-serving g c present before now policy pid start given todo s v = on-err c.from_residual.result _ _ c.from_residual.ensures.0
     (c.in_err-own_once.ensures.serving present before now policy pid start given todo s (c.loop.invariant.serving present before now policy pid start given todo s v))
@@ -92,6 +97,9 @@ returns-clause-calls g c = well-then _ _ _ c.loop.invariant.calls c.in_ok-own_on
 
 pub returns-clause-openings : goal.returns-clause-openings
 returns-clause-openings g c = c.own_once.ensures.openings ∙ c.loop.invariant.openings
+
+pub returns-clause-joinings : goal.returns-clause-joinings
+returns-clause-joinings g c = c.own_once.ensures.joinings ∙ c.loop.invariant.joinings
 
 pub returns-clause-serving : goal.returns-clause-serving
 returns-clause-serving g c present before now policy pid start given todo s v = c.in_ok-own_once.ensures.serving present before now policy pid start given todo s (c.loop.invariant.serving present before now policy pid start given todo s v)

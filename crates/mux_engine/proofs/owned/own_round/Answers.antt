@@ -34,6 +34,7 @@ loop-stream-init g c = record {
   clients = refl;
   calls = well-none _;
   openings = refl;
+  joinings = refl;
   within = λ t h. h;
   offered = λ same t h. inl h;
   fewer = λ own a. le_refl _;
@@ -53,6 +54,7 @@ loop-stream-preserved g c = let v = c.loop-stream.invariant in let o = c.in_ok-o
   clients = c.offer_own.ensures.clients ∙ v.clients;
   calls = well-then _ _ _ v.calls o.calls;
   openings = c.offer_own.ensures.openings ∙ v.openings;
+  joinings = c.offer_own.ensures.joinings ∙ v.joinings;
   within = λ t h. v.within t (was-among c.in-Some.stream t c.loop-stream.todo (ap (among t) (sym c.remove.ensures) ∙ h));
   offered = λ same t h. elim (v.offered (omega (arith, v.grows, o.grows, same)) t h) [
     | inl a ↦ elim (rest-or c.in-Some.stream t c.loop-stream.todo a) [
@@ -95,6 +97,9 @@ returns-in_err-offer_own-clause-calls g c = counts-err c.from_residual.result 0 
 pub returns-in_err-offer_own-clause-openings : goal.returns-in_err-offer_own-clause-openings
 returns-in_err-offer_own-clause-openings g c = c.offer_own.ensures.openings ∙ c.loop-stream.invariant.openings
 
+pub returns-in_err-offer_own-clause-joinings : goal.returns-in_err-offer_own-clause-joinings
+returns-in_err-offer_own-clause-joinings g c = c.offer_own.ensures.joinings ∙ c.loop-stream.invariant.joinings
+
 pub returns-in_err-offer_own-clause-serving : goal.returns-in_err-offer_own-clause-serving
 returns-in_err-offer_own-clause-serving g c present before now policy pid start given todo s v = on-err c.from_residual.result _ _ c.from_residual.ensures.0
     (c.in_err-offer_own.ensures.serving present before now policy pid start given todo s (c.loop-stream.invariant.serving present before now policy pid start given todo s v))
@@ -119,6 +124,9 @@ returns-clause-calls g c = c.loop-stream.invariant.calls
 
 pub returns-clause-openings : goal.returns-clause-openings
 returns-clause-openings g c = c.loop-stream.invariant.openings
+
+pub returns-clause-joinings : goal.returns-clause-joinings
+returns-clause-joinings g c = c.loop-stream.invariant.joinings
 
 pub returns-clause-fewer : goal.returns-clause-fewer
 returns-clause-fewer g c = c.loop-stream.invariant.fewer

@@ -30,6 +30,7 @@ invariant-loop-stream g l = let W = g.W.Wire in let H = g.H.House in record {
   clients : W.client_faults l.wire ≡ W.client_faults l.fn.wire;
   calls : Well 0 (W.calls l.fn.wire) (W.calls l.wire);
   openings : W.openings l.wire ≡ W.openings l.fn.wire;
+  joinings : W.joinings l.wire ≡ W.joinings l.fn.wire;
 }
 
 abbrev pub decreases-loop-stream : goal.decreases-loop-stream

@@ -21,6 +21,7 @@ loop-wire-init g c = record {
   clients = refl;
   calls = well-none _;
   openings = refl;
+  joinings = refl;
 }
 
 pub loop-wire-preserved : goal.loop-wire-preserved
@@ -35,6 +36,7 @@ loop-wire-preserved g c = let v = c.loop-wire.invariant in let o = c.in_ok-own_r
   clients = c.own_round.ensures.clients ∙ v.clients;
   calls = well-then _ _ _ v.calls o.calls;
   openings = c.own_round.ensures.openings ∙ v.openings;
+  joinings = c.own_round.ensures.joinings ∙ v.joinings;
 }
 
 pub returns-in_err-own_round-clause-serving : goal.returns-in_err-own_round-clause-serving

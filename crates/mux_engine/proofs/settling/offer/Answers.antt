@@ -1,4 +1,5 @@
 use Rattle.std.proofs.Common.{◌∷◌, ◌∙◌, sym, ap, refl, le_trans, le_refl}
+use Rattle.mux_outside.specs.OwnStreams.{is_one}
 use Rattle.mux_outside.specs.Streams.{among}
 use Rattle.mux_engine.proofs.Arms.{cut-then, idle-then, on-err, stays, then-stays-or-fails, well-none, well-then}
 use Rattle.mux_engine.proofs.Lists.{same-open}
@@ -11,6 +12,7 @@ pub loop-init : goal.loop-init
 loop-init g c = let w = c.requires.served in record {
   serving = λ todo zero present before now policy pid start failed given v. v;
   streams = refl;
+  holds = λ t a. a;
   places = places-same _ _ refl;
   free = ap (among c.args.stream) (sym w.serving.held_is) ∙ sym c.if-contains.ensures;
   ended = stays _ _ _ _ refl refl;
@@ -39,6 +41,9 @@ offer_once-requires-clause-served g c = let w = c.requires.served in record {
 pub offer_once-requires-clause-stream_open : goal.offer_once-requires-clause-stream_open
 offer_once-requires-clause-stream_open g c = same-open c.args.engine.now c.loop.engine c.args.stream c.loop.invariant.streams ∙ c.requires.stream_open
 
+pub offer_once-requires-clause-numbered : goal.offer_once-requires-clause-numbered
+offer_once-requires-clause-numbered g c = λ t one. c.requires.numbered t (ap (is_one t) (sym c.loop.invariant.places.own) ∙ one)
+
 -- ---- want of memory
 
 pub returns-in_err-offer_once-clause-serving : goal.returns-in_err-offer_once-clause-serving
@@ -57,6 +62,7 @@ pub loop-preserved : goal.loop-preserved
 loop-preserved g c = record {
   serving = λ todo zero present before now policy pid start failed given v. on-more c.args.stream todo _ c.if-branch.true (c.in_ok-offer_once.ensures.serving (c.args.stream ∷ todo) (twice-among c.args.stream todo zero) present before now policy pid start failed given (c.loop.invariant.serving todo zero present before now policy pid start failed given v));
   streams = c.in_ok-offer_once.ensures.streams ∙ c.loop.invariant.streams;
+  holds = λ t a. c.in_ok-offer_once.ensures.holds t (c.loop.invariant.holds t a);
   places = places-then _ _ _ c.loop.invariant.places c.offer_once.ensures.places;
   free = c.in_ok-offer_once.ensures.free c.if-branch.true;
   ended = then-stays-or-fails _ _ _ _ _ _ c.loop.invariant.ended c.in_ok-offer_once.ensures.ended;
@@ -78,6 +84,9 @@ returns-clause-ended g c = then-stays-or-fails _ _ _ _ _ _ c.loop.invariant.ende
 
 pub returns-clause-client : goal.returns-clause-client
 returns-clause-client g c = λ nz. c.in_ok-offer_once.ensures.client nz ∙ c.loop.invariant.client nz
+
+pub returns-clause-holds : goal.returns-clause-holds
+returns-clause-holds g c = λ t a. c.in_ok-offer_once.ensures.holds t (c.loop.invariant.holds t a)
 
 pub returns-clause-later : goal.returns-clause-later
 returns-clause-later g c = le_trans c.loop.invariant.later c.offer_once.ensures.later

@@ -1,4 +1,5 @@
 use Rattle.std.proofs.Common.{◌≡◌, ◌≢◌, ◌+◌, [], ◌∷◌, ◌++◌, ◌∙◌, sym, ap, subst, refl, ℕ, List, get_or, drop, true, le_trans, le_refl, arith}
+use Rattle.mux_outside.specs.OwnStreams.{is_one}
 use Rattle.mux_outside.specs.Streams.{among, without}
 use Rattle.mux_history.specs.declared.limits.TheConstants.{HOUSE}
 use Rattle.mux_machine.specs.State.{State, waiting_in}
@@ -18,12 +19,14 @@ loop-stream-init g c =
     record {
       serving = λ left present before now policy pid start failed given v. todo-is (clients-of c.waiting.result.now ++ (0 ∷ left)) (c.as_slice-stream-items.result.now ++ (0 ∷ left)) (ap (λ l. l ++ (0 ∷ left)) (sym items)) (only-waiting left v c.waiting.result.now (c.waiting.ensures.waits v.picked v.replies v.journal v.closed v.stands));
       streams = refl;
+      holds = λ t a. a;
       places = places-same _ _ refl;
       clients = λ t a. waits-open s t (subst (λ (l : List ℕ). among t l ≡ true) (items ∙ ap clients-of listed) a);
       ended = refl;
       later = le_refl _;
       calls = well-none _;
       openings = refl;
+      joinings = refl;
       none = λ e. items ∙ ap clients-of (c.waiting.ensures.exact ∙ e);
       idle = λ e. (refl, refl);
     }
@@ -52,6 +55,9 @@ offer-requires-clause-no_house g c =
     let items : List ℕ = c.as_slice-stream-items.result.now in let i : ℕ = c.loop-stream.stream-index in
     (c.loop-stream.invariant.clients (get_or items i 0) (element-among i items (omega arith))).no_house
 
+pub offer-requires-clause-numbered : goal.offer-requires-clause-numbered
+offer-requires-clause-numbered g c = λ t one. c.requires.numbered t (ap (is_one t) (sym c.loop-stream.invariant.places.own) ∙ one)
+
 pub returns-in_err-offer-clause-serving : goal.returns-in_err-offer-clause-serving
 returns-in_err-offer-clause-serving g c left present before now policy pid start failed given v =
     let items : List ℕ = c.as_slice-stream-items.result.now in let i : ℕ = c.loop-stream.stream-index in
@@ -77,12 +83,14 @@ loop-stream-preserved g c =
       serving = λ left present before now policy pid start failed given v. c.in_ok-offer.ensures.serving (drop (i + 1) items ++ (0 ∷ left)) (server-behind (k ∷ drop (i + 1) items) left) present before now policy pid start failed given
           (todo-is (drop i items ++ (0 ∷ left)) (k ∷ (drop (i + 1) items ++ (0 ∷ left))) (ap (λ l. l ++ (0 ∷ left)) (drop-next i items (omega arith))) (c.loop-stream.invariant.serving left present before now policy pid start failed given v));
       streams = c.in_ok-offer.ensures.streams ∙ c.loop-stream.invariant.streams;
+      holds = λ t a. c.in_ok-offer.ensures.holds t (c.loop-stream.invariant.holds t a);
       places = places-then _ _ _ c.loop-stream.invariant.places c.offer.ensures.places;
       clients = c.loop-stream.invariant.clients;
       ended = c.in_ok-offer.ensures.client (c.loop-stream.invariant.clients k (element-among i items (omega arith))).no_server ∙ c.loop-stream.invariant.ended;
       later = le_trans c.loop-stream.invariant.later c.offer.ensures.later;
       calls = well-then _ _ _ c.loop-stream.invariant.calls c.in_ok-offer.ensures.calls;
       openings = c.offer.ensures.openings ∙ c.loop-stream.invariant.openings;
+      joinings = c.offer.ensures.joinings ∙ c.loop-stream.invariant.joinings;
       none = c.loop-stream.invariant.none;
       idle = λ e. none-there i items (omega arith) (c.loop-stream.invariant.none e);
     }

@@ -10,6 +10,7 @@ use Rattle.mux_engine.specs.Serving.{Serving}
 use Rattle.mux_engine.specs.Sides.{RestsOf}
 use Rattle.mux_engine.proofs.Arms.{Failing, empty-is, failing, fault-ended, fault-later, le-of, on-err, some-bytes, stays, unless-empty, well-one}
 use Rattle.mux_engine.proofs.Asks.{goes-asked, goes-unasked, none-asked, unasked-none}
+use Rattle.mux_engine.proofs.Holding.{client-unfinished, held-more}
 use Rattle.mux_engine.proofs.Lists.{not-own-stream}
 use Rattle.mux_engine.proofs.Marks.{serve-alone, serve-next}
 use Rattle.mux_engine.proofs.Offers.{SameRun, cut-fails, cut-holds, cut-starved, next-fails, next-holds, next-takes}
@@ -27,6 +28,10 @@ returns-then-is_empty-clause-serving g c todo zero present before now policy pid
 
 pub write-requires-clause-stream_open : goal.write-requires-clause-stream_open
 write-requires-clause-stream_open g c = let w = c.requires.served in stream-open w.serving c.args.stream c.requires.stream_open c.requires.no_house
+
+pub write-requires-clause-not_finished : goal.write-requires-clause-not_finished
+write-requires-clause-not_finished g c = let w = c.requires.served in
+    client-unfinished c.args.stream (g.W.Wire.seen c.args.wire.now).own c.requires.numbered (open-own w.serving c.args.stream c.requires.stream_open c.requires.no_house)
 
 -- ---- bytes that were taken
 
@@ -84,6 +89,9 @@ returns-in_ok-push-in-Later-clause-serving g c todo zero present before now poli
     (stands-alike v.journal (Holds k ∷ v.journal) v.picked v.replies s v.closed (holds-alike k v.journal) v.stands) (λ picks replies. refl)
     (next-holds v k bytes c.requires.stream_open c.requires.no_house c.queue_of-bytes.ensures.bytes (some-bytes c.queue_of-bytes.result.now (sym c.if-is_empty.ensures)))))
 
+pub returns-in_ok-push-in-Later-clause-holds : goal.returns-in_ok-push-in-Later-clause-holds
+returns-in_ok-push-in-Later-clause-holds g c = λ t a. ap (among t) c.in_ok-push-in-Later.ensures.ok ∙ held-more c.args.stream t c.args.held.now a
+
 pub returns-in_err-push-in-Later-clause-serving : goal.returns-in_err-push-in-Later-clause-serving
 returns-in_err-push-in-Later-clause-serving g c todo zero present before now policy pid start failed given v = on-err c.from_residual.result _ _ c.from_residual.ensures.0
     (cut-holds v _ c.args.stream c.queue_of-bytes.result.now (stream-open v c.args.stream c.requires.stream_open c.requires.no_house) c.queue_of-bytes.ensures.bytes (some-bytes c.queue_of-bytes.result.now (sym c.if-is_empty.ensures)) c.in-Later.ensures.seen)
@@ -108,7 +116,7 @@ returns-in_ok-event-in-Failed-clause-serving g c todo zero present before now po
     let on = goes-unasked {May = g.H.House.may} v.stands said none in
     subst (λ (x : Seen). Serving g.H.House.may (RestsOf g.H.House.told g.H.House.quiet present) before now policy pid start x c.args.held.now failed given (without k todo) c.event.new.self) (sym c.in-Failed.ensures.seen)
     (serve-next v now (seen_after_write wrote.Failed k bytes (g.W.Wire.seen c.args.wire.now)) c.args.held.now failed given (without k todo) c.event.new.self (WriteFails k) on
-    (next-fails v k bytes on (unasked-none {May = g.H.House.may} v.stands said none) c.requires.stream_open c.requires.no_house c.queue_of-bytes.ensures.bytes (some-bytes c.queue_of-bytes.result.now (sym c.if-is_empty.ensures)) zero f.policy f.pid f.streams f.live f.over))
+    (next-fails v k bytes on (unasked-none g.H.House.may v.stands said none) c.requires.stream_open c.requires.no_house c.queue_of-bytes.ensures.bytes (some-bytes c.queue_of-bytes.result.now (sym c.if-is_empty.ensures)) zero f.policy f.pid f.streams f.live f.over))
 
 pub returns-in_err-event-in-Failed-clause-serving : goal.returns-in_err-event-in-Failed-clause-serving
 returns-in_err-event-in-Failed-clause-serving g c todo zero present before now policy pid start failed given v = on-err c.from_residual-in_err-event-in-Failed.result _ _ c.from_residual-in_err-event-in-Failed.ensures.0
