@@ -104,6 +104,27 @@ after-asks (HouseTook size ∷ asks) known = after-asks asks known
 after-asks (HouseAnswer client id reply ∷ asks) known = after-asks asks known
 after-asks (HouseOrder order number ∷ asks) known = after-asks asks known
 
+-- ---- an event that was told
+
+module _ {May : HouseReply → Type 0} {Rest : Option (List HouseMark) → Type 0} {before : Option (List HouseMark)} {now : Side} {policy : Policy} {pid : ℕ} {start : Option (List Mark)} {seen : Seen} {held failed : List ℕ} {given : ℕ} {s : State}
+    (v : Serving May Rest before now policy pid start seen held failed given [] s) (live : s.ended ≡ None) (e : Event) (seen' : Seen) (given' : ℕ) (at : EventAt v live e seen' given') where
+  -- it was taken in, and all asks were noted; or there was no memory for that
+  pub event-heeds : {A E : Type 0} (r : Result A E) (s' : State) (asks : List HouseMark) (told told' : Option (List HouseMark)) (known known' : Known) (seen0 seen'' : Seen) → seen0 ≡ seen' → now.told ≡ told → now.asks ≡ known.asks → now.let_in ≡ known.present
+      → Heeded r May e s s' asks told told' known known' seen0 seen'' → MatchResult r (λ x. Serving May Rest before (noted told' known') policy pid start seen'' held failed given' (0 ∷ here s') s') (λ x. Promised May Rest before told' policy pid start seen''.told given')
+  event-heeds (Ok x) s' asks told told' known known' seen0 seen'' is same_told same_asks same_present h =
+      let h' : HeedsSo May e s s' asks told told' known known' seen' seen'' (length asks) = subst (λ (y : Seen). HeedsSo May e s s' asks told told' known known' y seen'' (length asks)) is h in
+      let goes : Serving May Rest before (record { told = told'; asks = known'.asks; unnoted = drop (length asks) asks; let_in = now.let_in }) policy pid start seen'' held failed given' (0 ∷ here s') s' =
+          event-goes v live e seen' given' at s' asks told told' known known' seen'' (length asks) same_told same_asks h' in
+      let within : now.let_in ≡ known'.present = same_present ∙ sym (ap (λ (k : Known). k.present) h.known_is ∙ (after-asks asks known).present) in
+      subst (λ (b : Bool). Serving May Rest before (record { told = told'; asks = known'.asks; unnoted = []; let_in = b }) policy pid start seen'' held failed given' (0 ∷ here s') s') within
+      (subst (λ (l : List HouseMark). Serving May Rest before (record { told = told'; asks = known'.asks; unnoted = l; let_in = now.let_in }) policy pid start seen'' held failed given' (0 ∷ here s') s') (drop-all asks) goes)
+  event-heeds (Err x) s' asks told told' known known' seen0 seen'' is same_told same_asks same_present (inl u) =
+      subst (λ (y : Seen). Promised May Rest before told' policy pid start y.told given') (sym (u.seen_is ∙ is))
+      (event-cut v live e seen' given' at told' u.more (subst (λ (o : Option (List HouseMark)). TellsAsks o told' u.more) (sym same_told) u.told_is))
+  event-heeds (Err x) s' asks told told' known known' seen0 seen'' is same_told same_asks same_present (inr p) =
+      let h' : HeedsSo May e s s' asks told told' known known' seen' seen'' p.0 = subst (λ (y : Seen). HeedsSo May e s s' asks told told' known known' y seen'' p.0) is p.1 in
+      cut-still (event-goes v live e seen' given' at s' asks told told' known known' seen'' p.0 same_told same_asks h') seen''.told refl
+
 -- ---- all that holds then
 
 module _ {May : HouseReply → Type 0} {Rest : Option (List HouseMark) → Type 0} {before : Option (List HouseMark)} {now : Side} {policy : Policy} {pid : ℕ} {start : Option (List Mark)} {seen : Seen} {held failed : List ℕ} {given : ℕ} {s : State}
@@ -121,19 +142,8 @@ module _ {May : HouseReply → Type 0} {Rest : Option (List HouseMark) → Type 
     -- the engine took in an event
     pub turn-heeds : {A E : Type 0} (r : Result A E) (e : Event) → IsEventOf e t bytes → (s' : State) (asks : List HouseMark) (told told' : Option (List HouseMark)) (known known' : Known) (seen'' : Seen) → now.told ≡ told → now.asks ≡ known.asks → now.let_in ≡ known.present
         → Heeded r May e s s' asks told told' known known' seen' seen'' → MatchResult r (λ x. Serving May Rest before (noted told' known') policy pid start seen'' held failed (given + 1) (0 ∷ here s') s') (λ x. Promised May Rest before told' policy pid start seen''.told (given + 1))
-    turn-heeds (Ok x) e next s' asks told told' known known' seen'' same_told same_asks same_present h =
-        let h' : HeedsSo May e s s' asks told told' known known' (seen-then t bytes) seen'' (length asks) = subst (λ (x : Seen). HeedsSo May e s s' asks told told' known known' x seen'' (length asks)) w.seen_is h in
-        let goes : Serving May Rest before (record { told = told'; asks = known'.asks; unnoted = drop (length asks) asks; let_in = now.let_in }) policy pid start seen'' held failed (given + 1) (0 ∷ here s') s' =
-            event-goes (now-waiting v a.none a.admitted a.live a.offered a.hears a.all_noted a.rests) a.live e (seen-then t bytes) (given + 1) (event-there e next) s' asks told told' known known' seen'' (length asks) same_told same_asks h' in
-        let within : now.let_in ≡ known'.present = same_present ∙ sym (ap (λ (k : Known). k.present) h.known_is ∙ (after-asks asks known).present) in
-        subst (λ (b : Bool). Serving May Rest before (record { told = told'; asks = known'.asks; unnoted = []; let_in = b }) policy pid start seen'' held failed (given + 1) (0 ∷ here s') s') within
-        (subst (λ (l : List HouseMark). Serving May Rest before (record { told = told'; asks = known'.asks; unnoted = l; let_in = now.let_in }) policy pid start seen'' held failed (given + 1) (0 ∷ here s') s') (drop-all asks) goes)
-    turn-heeds (Err x) e next s' asks told told' known known' seen'' same_told same_asks same_present (inl u) =
-        subst (λ (y : Seen). Promised May Rest before told' policy pid start y.told (given + 1)) (sym (u.seen_is ∙ w.seen_is))
-        (event-cut (now-waiting v a.none a.admitted a.live a.offered a.hears a.all_noted a.rests) a.live e (seen-then t bytes) (given + 1) (event-there e next) told' u.more (subst (λ (o : Option (List HouseMark)). TellsAsks o told' u.more) (sym same_told) u.told_is))
-    turn-heeds (Err x) e next s' asks told told' known known' seen'' same_told same_asks same_present (inr p) =
-        let h' : HeedsSo May e s s' asks told told' known known' (seen-then t bytes) seen'' p.0 = subst (λ (y : Seen). HeedsSo May e s s' asks told told' known known' y seen'' p.0) w.seen_is p.1 in
-        cut-still (event-goes (now-waiting v a.none a.admitted a.live a.offered a.hears a.all_noted a.rests) a.live e (seen-then t bytes) (given + 1) (event-there e next) s' asks told told' known known' seen'' p.0 same_told same_asks h') seen''.told refl
+    turn-heeds r e next s' asks told told' known known' seen'' same_told same_asks same_present h =
+        event-heeds told-waiting a.live e (seen-then t bytes) (given + 1) (event-there e next) r s' asks told told' known known' seen' seen'' w.seen_is same_told same_asks same_present h
 
     -- it may end so
     pub turn-ends : {A E : Type 0} (r : Result A E) (e : Event) → IsEventOf e t bytes → (s' : State) (asks : List HouseMark) (told told' : Option (List HouseMark)) (known known' : Known) (seen'' : Seen) → Heeded r May e s s' asks told told' known known' seen' seen'' → OnOk r (MayEnd e s'.ended)

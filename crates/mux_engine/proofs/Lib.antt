@@ -28,6 +28,7 @@ mod Places
 mod Quiet
 mod Runs
 mod Silent
+mod Spoken
 mod Taken
 mod Todo
 mod Told
