@@ -29,6 +29,7 @@ mod Quiet
 mod Runs
 mod Silent
 mod Spoken
+mod Stepping
 mod Taken
 mod Todo
 mod Told

@@ -1,5 +1,5 @@
 -- What the house says as a client makes of all that holds while a wire is served.
-use Rattle.std.proofs.Common.{◌≡◌, ◌≢◌, ◌≤◌, ◌<◌, ◌+◌, ℕ, Bool, true, false, List, [], ◌∷◌, ◌++◌, length, Option, Some, None, refl, sym, ap, ◌∙◌, subst, cond, arith, append-nil, MatchResult, OnOk, Bor}
+use Rattle.std.proofs.Common.{◌≡◌, ◌≢◌, ◌≤◌, ◌<◌, ◌+◌, ℕ, Bool, true, false, List, [], ◌∷◌, ◌++◌, length, Option, Some, None, refl, sym, ap, ◌∙◌, subst, inl, inr, cond, arith, append-nil, MatchResult, OnOk}
 use Rattle.std.specs.Prelude.{nat_lt, Result, Ok, Err}
 use Rattle.std.specs.Option.{option_map}
 use Rattle.std.proofs.lemmas.Bool.Decides.{nat_tests}
@@ -21,7 +21,7 @@ use Rattle.mux_clients.specs.Asked.{TellsAsks}
 use Rattle.mux_machine.specs.State.{State, queue_in}
 use Rattle.mux_machine.specs.Events.{MayEnd, Tells, here}
 use Rattle.mux_machine.specs.declared.event.Event.{Event}
-use Rattle.mux_machine.specs.declared.event.Event.TheVariants.{FromClient}
+use Rattle.mux_machine.specs.declared.event.Event.TheVariants.{Accepted, FromClient, ClientEnd, ClientFailed, HouseSays, FromServer, ServerEnd, ServerFailed}
 use Rattle.mux_engine.specs.Asking.{Heeded}
 use Rattle.mux_engine.specs.Rests.{EndsByAsk}
 use Rattle.mux_engine.specs.Serving.{Promised, Serving}
@@ -55,8 +55,16 @@ ok-serves r P Q is m = subst (λ (q : Result _ _). MatchResult q P Q) is m
 pub err-serves : {A E : Type 0} (r : Result A E) {x : E} (P : A → Type 0) (Q : E → Type 0) → r ≡ Err x → MatchResult r P Q → Q x
 err-serves r P Q is m = subst (λ (q : Result _ _). MatchResult q P Q) is m
 
-pub asks-ends : (k : ℕ) (bytes : Bor (List ℕ)) (o : Option Ended) → MayEnd (FromClient k bytes) o → EndsByAsk o
-asks-ends k bytes o may = record { lives = may.0; unspent = may.1 }
+-- a run that ends by what a stream said
+pub asks-ends : (e : Event) (bytes : List ℕ) (o : Option Ended) → Tells e (Gets HOUSE bytes) → MayEnd e o → EndsByAsk o
+asks-ends (FromClient k said) bytes o t may = record { lives = may.0; unspent = may.1 }
+asks-ends (FromServer said) bytes o t may = record { lives = may.0; unspent = may.1 }
+asks-ends ServerEnd bytes o t may = record { lives = may.0; unspent = may.1 }
+asks-ends (Accepted k) bytes o t may = absurd (let z = t in cc)
+asks-ends (ClientEnd k) bytes o t may = absurd (let z = t.1 in cc)
+asks-ends (ClientFailed k) bytes o t may = absurd (elim t.1 [ inl z ↦ cc | inr z ↦ cc ])
+asks-ends (HouseSays k id reply) bytes o t may = absurd (let z = t.1 in cc)
+asks-ends ServerFailed bytes o t may = absurd (elim t [ inl z ↦ cc | inr z ↦ cc ])
 
 -- what was told with what it said
 pub told-nothing : {E : Type 0} (r : Result Bool E) (bytes : List ℕ) (told told' : Option (List HouseMark)) → r ≡ Ok false → told' ≡ option_map (λ marks. marks ++ says_marks r bytes) told → TellsAsks told told' []

@@ -17,6 +17,7 @@ ghost use Rattle.mux_engine.specs.Sides.{Housed, RestsOf, SameHouse, SamePlaces,
 ghost use Rattle.mux_engine.specs.Turns.{want_of};
 
 use crate::asking::heed;
+use crate::events::event_of_bytes;
 use crate::orders::next_order;
 use crate::owned::own_rounds;
 use crate::room::Lists;
@@ -253,7 +254,8 @@ fn speak<W: Wire, H: House>(
     }
     let bytes = Text::copy(alloc, piece.as_bytes())?;
     wire.note(&HouseMark::HouseSaid(bytes))?;
-    heed(engine, wire, house, asks, Event::FromClient(HOUSE, piece.as_bytes()))?;
+    let said = event_of_bytes(HOUSE, piece.as_bytes());
+    heed(engine, wire, house, asks, said)?;
     Ok(true)
 }
 

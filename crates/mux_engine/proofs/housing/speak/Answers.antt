@@ -1,4 +1,4 @@
-use Rattle.std.proofs.Common.{◌≡◌, ◌≤◌, ◌++◌, ◌+◌, ◌∙◌, ◌∷◌, [], refl, sym, ap, subst, ℕ, Bool, true, List, Option, length, arith, rules}
+use Rattle.std.proofs.Common.{◌≡◌, ◌≤◌, ◌++◌, ◌+◌, ◌∙◌, ◌∷◌, [], refl, sym, ap, subst, ℕ, Bool, true, List, Option, length, arith}
 use Rattle.std.specs.Prelude.{Ok}
 use Rattle.ssh_fields.specs.Fields.{AreBytes}
 use Rattle.mux_outside.specs.House.{Known}
@@ -9,7 +9,6 @@ use Rattle.mux_history.specs.declared.limits.TheConstants.{HOUSE}
 use Rattle.mux_clients.specs.Asked.{TellsAsks}
 use Rattle.mux_machine.specs.Events.{Tells}
 use Rattle.mux_machine.specs.declared.event.Event.{Event}
-use Rattle.mux_machine.specs.declared.event.Event.TheVariants.{FromClient}
 use Rattle.mux_engine.specs.Sides.{SameHouse}
 use Rattle.mux_engine.proofs.Arms.{on-err}
 use Rattle.mux_engine.proofs.Cuts.{cut-here}
@@ -59,10 +58,10 @@ returns-in_err-heed-clause-serving g c held failed before policy pid start given
     let tells : TellsAsks told (H.told c.says.new.self) (HouseSaid bytes ∷ []) = told-said c.says.result bytes told (H.told c.says.new.self) is c.says.ensures.told in
     let same : H.known c.says.new.self ≡ known = c.in_ok-says.ensures.known in
     let e : c.as_bytes-2.result.now ≡ bytes = c.as_bytes-2.ensures.bytes in
-    let event : Event = FromClient HOUSE c.as_bytes-2.result in
-    let there : Tells event (Gets HOUSE bytes) = ((λ z. absurd (omega (arith, z))), ap (λ (l : List ℕ). Gets HOUSE l) (sym e)) in
+    let event : Event = c.event_of_bytes-said.result in
+    let there : Tells event (Gets HOUSE bytes) = subst (λ (l : List ℕ). Tells event (Gets HOUSE l)) e c.event_of_bytes-said.ensures.tells in
     let few : length bytes ≤ 65536 = subst (λ (l : List ℕ). length l ≤ 65536) e c.as_bytes-2.ensures.room in
-    let are : AreBytes c.as_bytes-2.result.now = search rules in
+    let are : AreBytes c.as_bytes-2.result.now = c.event_of_bytes-said.ensures.bytes in
     let after : W.seen c.note.new.self ≡ seen-with (HouseSaid bytes ∷ []) (W.seen c.args.wire.now) = c.in_ok-note.ensures.seen ∙ ap (λ (l : List ℕ). seen-with (HouseSaid l ∷ []) (W.seen c.args.wire.now)) (c.in_ok-bytes.ensures ∙ c.as_bytes.ensures.bytes) in
     on-err c.from_residual-in_err-heed.result _ _ c.from_residual-in_err-heed.ensures.0
     (err-serves c.heed.result _ _ c.in_err-heed.was (said-heeds told known v c.requires.on c.requires.present c.requires.room (H.told c.says.new.self) (H.known c.says.new.self) bytes tells same event there (some-said c.says.result bytes is c.says.ensures.fits) few (subst AreBytes e are) c.heed.result c.heed.new.engine c.heed.new.asks (H.told c.heed.new.house) (H.known c.heed.new.house) (W.seen c.note.new.self) (W.seen c.heed.new.wire) after c.heed.ensures.heeded))
@@ -78,10 +77,10 @@ returns-clause-serving g c held failed before policy pid start given v =
     let tells : TellsAsks told (H.told c.says.new.self) (HouseSaid bytes ∷ []) = told-said c.says.result bytes told (H.told c.says.new.self) is c.says.ensures.told in
     let same : H.known c.says.new.self ≡ known = c.in_ok-says.ensures.known in
     let e : c.as_bytes-2.result.now ≡ bytes = c.as_bytes-2.ensures.bytes in
-    let event : Event = FromClient HOUSE c.as_bytes-2.result in
-    let there : Tells event (Gets HOUSE bytes) = ((λ z. absurd (omega (arith, z))), ap (λ (l : List ℕ). Gets HOUSE l) (sym e)) in
+    let event : Event = c.event_of_bytes-said.result in
+    let there : Tells event (Gets HOUSE bytes) = subst (λ (l : List ℕ). Tells event (Gets HOUSE l)) e c.event_of_bytes-said.ensures.tells in
     let few : length bytes ≤ 65536 = subst (λ (l : List ℕ). length l ≤ 65536) e c.as_bytes-2.ensures.room in
-    let are : AreBytes c.as_bytes-2.result.now = search rules in
+    let are : AreBytes c.as_bytes-2.result.now = c.event_of_bytes-said.ensures.bytes in
     let after : W.seen c.note.new.self ≡ seen-with (HouseSaid bytes ∷ []) (W.seen c.args.wire.now) = c.in_ok-note.ensures.seen ∙ ap (λ (l : List ℕ). seen-with (HouseSaid l ∷ []) (W.seen c.args.wire.now)) (c.in_ok-bytes.ensures ∙ c.as_bytes.ensures.bytes) in
     ok-serves c.heed.result _ _ c.in_ok-heed.was (said-heeds told known v c.requires.on c.requires.present c.requires.room (H.told c.says.new.self) (H.known c.says.new.self) bytes tells same event there (some-said c.says.result bytes is c.says.ensures.fits) few (subst AreBytes e are) c.heed.result c.heed.new.engine c.heed.new.asks (H.told c.heed.new.house) (H.known c.heed.new.house) (W.seen c.note.new.self) (W.seen c.heed.new.wire) after c.heed.ensures.heeded)
 
@@ -89,7 +88,7 @@ pub returns-clause-known : goal.returns-clause-known
 returns-clause-known g c =
     let H = g.H.House in
     subst (λ (k : Known). SameHouse k (H.known c.heed.new.house)) c.in_ok-says.ensures.known
-    (ok-serves c.heed.result _ _ c.in_ok-heed.was (turn-house c.heed.result H.may (FromClient HOUSE c.as_bytes-2.result) _ _ c.heed.new.asks _ _ (H.known c.says.new.self) (H.known c.heed.new.house) _ _ c.heed.ensures.heeded))
+    (ok-serves c.heed.result _ _ c.in_ok-heed.was (turn-house c.heed.result H.may c.event_of_bytes-said.result _ _ c.heed.new.asks _ _ (H.known c.says.new.self) (H.known c.heed.new.house) _ _ c.heed.ensures.heeded))
 
 pub returns-clause-ends : goal.returns-clause-ends
 returns-clause-ends g c held failed served =
@@ -103,9 +102,9 @@ returns-clause-ends g c held failed served =
     let tells : TellsAsks told (H.told c.says.new.self) (HouseSaid bytes ∷ []) = told-said c.says.result bytes told (H.told c.says.new.self) is c.says.ensures.told in
     let same : H.known c.says.new.self ≡ known = c.in_ok-says.ensures.known in
     let e : c.as_bytes-2.result.now ≡ bytes = c.as_bytes-2.ensures.bytes in
-    let event : Event = FromClient HOUSE c.as_bytes-2.result in
-    let there : Tells event (Gets HOUSE bytes) = ((λ z. absurd (omega (arith, z))), ap (λ (l : List ℕ). Gets HOUSE l) (sym e)) in
+    let event : Event = c.event_of_bytes-said.result in
+    let there : Tells event (Gets HOUSE bytes) = subst (λ (l : List ℕ). Tells event (Gets HOUSE l)) e c.event_of_bytes-said.ensures.tells in
     let few : length bytes ≤ 65536 = subst (λ (l : List ℕ). length l ≤ 65536) e c.as_bytes-2.ensures.room in
-    let are : AreBytes c.as_bytes-2.result.now = search rules in
+    let are : AreBytes c.as_bytes-2.result.now = c.event_of_bytes-said.ensures.bytes in
     let after : W.seen c.note.new.self ≡ seen-with (HouseSaid bytes ∷ []) (W.seen c.args.wire.now) = c.in_ok-note.ensures.seen ∙ ap (λ (l : List ℕ). seen-with (HouseSaid l ∷ []) (W.seen c.args.wire.now)) (c.in_ok-bytes.ensures ∙ c.as_bytes.ensures.bytes) in
-    asks-ends HOUSE c.as_bytes-2.result _ (ok-serves c.heed.result _ _ c.in_ok-heed.was (said-ends told known v c.requires.on c.requires.present c.requires.room (H.told c.says.new.self) (H.known c.says.new.self) bytes tells same event there (some-said c.says.result bytes is c.says.ensures.fits) few (subst AreBytes e are) c.heed.result c.heed.new.engine c.heed.new.asks (H.told c.heed.new.house) (H.known c.heed.new.house) (W.seen c.note.new.self) (W.seen c.heed.new.wire) c.heed.ensures.heeded))
+    asks-ends event bytes _ there (ok-serves c.heed.result _ _ c.in_ok-heed.was (said-ends told known v c.requires.on c.requires.present c.requires.room (H.told c.says.new.self) (H.known c.says.new.self) bytes tells same event there (some-said c.says.result bytes is c.says.ensures.fits) few (subst AreBytes e are) c.heed.result c.heed.new.engine c.heed.new.asks (H.told c.heed.new.house) (H.known c.heed.new.house) (W.seen c.note.new.self) (W.seen c.heed.new.wire) c.heed.ensures.heeded))
