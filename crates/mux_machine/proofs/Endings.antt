@@ -25,7 +25,7 @@ use Rattle.mux_machine.proofs.Unfailed.{NotFailed, hears-unfailed, says-unfailed
 -- ---- a piece
 
 none-unfailed : (o : Option Ended) → o ≡ None → NotFailed o
-none-unfailed o e = (λ f. let z : None ≡ Some ended.ServerFailed = sym e ∙ f in cc, λ f. let z : None ≡ Some ended.Spent = sym e ∙ f in cc)
+none-unfailed o e = (λ f. let z : None ≡ Some ended.ServerFailed = sym e ∙ f in cc, λ f. let z : None ≡ Some ended.Spent = sym e ∙ f in cc, λ index f. let z : None ≡ Some (ended.StartRefused index) = sym e ∙ f in cc)
 
 piece-unfailed : (s : State) (picks : List ℕ) (replies : List HouseReply) (k : ℕ) (bytes : List ℕ) (marks : List Mark) → NotFailed (end_of (log s picks replies marks)) → NotFailed (end_of (log s picks replies (Gets k bytes ∷ marks)))
 piece-unfailed s picks replies k bytes marks n = by_stream (k == 0)

@@ -185,6 +185,13 @@ server-unspent s = by_rest s.server.rest
     by_rest [] e = cc
     by_rest (b ∷ more) e = cc
 
+server-permitted : (s : State) (index : ℕ) → server_cause s ≢ ended.StartRefused index
+server-permitted s index = by_rest s.server.rest
+  where
+    by_rest : (rest : List ℕ) → (elim rest as (λ _. Ended) [ [] ↦ ended.ServerEnd | b ∷ more ↦ ended.Broke s.server.index (broke.Cut (length (b ∷ more))) ]) ≢ ended.StartRefused index
+    by_rest [] e = cc
+    by_rest (b ∷ more) e = cc
+
 over-keeps : (s new : State) (e : Event) (cause : Ended) → s.ended ≡ None → new ≡ over s cause → Rattle.mux_machine.specs.Events.LeavesOthers e s (over s cause) → Arrives e s (over s cause) → Keeps e s new
 over-keeps s new e cause live is others arrives = subst (λ (t : State). Keeps e s t) (sym is) record {
   pid = refl;
@@ -244,6 +251,7 @@ did-ends s new (event.FromServer bytes) live d server = server bytes refl
 did-ends s new event.ServerEnd live d server = (
   λ e. server-cause s (let f : Some (server_cause s) ≡ Some ended.ServerFailed = sym (ap (λ (t : State). t.ended) d) ∙ e in cc),
   λ e. server-unspent s (let f : Some (server_cause s) ≡ Some ended.Spent = sym (ap (λ (t : State). t.ended) d) ∙ e in cc),
+  λ index e. server-permitted s index (let f : Some (server_cause s) ≡ Some (ended.StartRefused index) = sym (ap (λ (t : State). t.ended) d) ∙ e in cc),
 )
 did-ends s new event.ServerFailed live d server = ap (λ (t : State). t.ended) d
 

@@ -68,7 +68,8 @@ LeavesOthers ServerEnd old new = new.clients ≡ old.clients
 LeavesOthers ServerFailed old new = new.clients ≡ old.clients
 
 -- how an event may end a run that goes on: only what a client or the server says may, and the end
--- or the failure of the server; none spends the turns of the run
+-- or the failure of the server; none spends the turns of the run, and none refuses a forwarding that
+-- it began with
 abbrev pub MayEnd : Event → Option Ended → Type 0
 MayEnd (Accepted k) now = now ≡ None
 MayEnd (ClientEnd k) now = now ≡ None
@@ -76,6 +77,7 @@ MayEnd (ClientFailed k) now = now ≡ None
 MayEnd (HouseSays k id given) now = now ≡ None
 MayEnd ServerFailed now = now ≡ Some ended.ServerFailed
 MayEnd event now = (now ≢ Some ended.ServerFailed) × (now ≢ Some ended.Spent)
+    × ((index : ℕ) → now ≢ Some (ended.StartRefused index))
 
 -- from each journal for which the engine stood while the run went on
 abbrev pub EndsBy : Event → State → State → Mark → Type 0
