@@ -1,32 +1,32 @@
 -- The house is let in, is handed what waits for it, and answers.
-use Rattle.std.proofs.Common.{◌≡◌, ◌≢◌, ◌≤◌, ◌<◌, ◌+◌, ℕ, Bool, true, false, ◌||◌, List, [], ◌∷◌, ◌++◌, length, Option, Some, None, refl, sym, ap, ◌∙◌, subst, inl, inr, ◌⊎◌, arith}
+use Rattle.std.proofs.Common.{◌≡◌, ◌≢◌, ◌≤◌, ◌<◌, ◌+◌, ℕ, Bool, true, false, ◌||◌, List, [], ◌∷◌, ◌++◌, length, Option, None, refl, sym, ap, ◌∙◌, subst, cond, arith}
 use Rattle.std.specs.Prelude.{◌==◌, All, IsTrue}
 use Rattle.std.proofs.lemmas.List.Folds.{list_any-append}
 use Rattle.mux_outside.specs.House.{Known, OpenAsk, ReplyFits, without_ask}
-use Rattle.mux_outside.specs.OwnStreams.{is_one, is_own, numbers_of}
-use Rattle.mux_outside.specs.Seen.{Seen}
+use Rattle.mux_outside.specs.OwnStreams.{is_one, numbers_of}
+use Rattle.mux_outside.specs.Seen.{Calls, Seen}
 use Rattle.mux_outside.specs.Streams.{among, without}
 use Rattle.mux_outside.specs.declared.house.HouseReply.{HouseReply}
 use Rattle.mux_outside.specs.declared.house_mark.HouseMark.{HouseMark}
 use Rattle.mux_outside.specs.declared.house_mark.HouseMark.TheVariants.{HouseAnswer, HouseIn, HouseTook}
 use Rattle.mux_outside.specs.declared.mark.Mark.{Mark}
 use Rattle.mux_outside.specs.declared.mark.Mark.TheVariants.{Accepts, Takes, House}
-use Rattle.mux_outside.specs.declared.own_streams.OwnStream.{OwnStream}
 use Rattle.mux_history.specs.declared.limits.TheConstants.{HOUSE}
 use Rattle.mux_history.specs.Policy.{Policy}
 use Rattle.mux_history.specs.Journal.{is_accepted}
-use Rattle.mux_clients.specs.Among.{is_present}
 use Rattle.mux_clients.specs.Asked.{TellsAsks}
-use Rattle.mux_machine.specs.State.{State, is_here, queue_in, taken}
+use Rattle.mux_machine.specs.State.{State, queue_in, taken}
 use Rattle.mux_machine.specs.declared.event.Event.TheVariants.{Accepted, HouseSays}
 use Rattle.mux_machine.specs.Events.{EndsBy, Keeps, Tells, here}
 use Rattle.mux_machine.specs.Stands.{GoesAlone, GoesOn, Stands}
+use Rattle.mux_engine.specs.Counted.{Cut, Well}
 use Rattle.mux_engine.specs.Serving.{Promised, Serving}
-use Rattle.mux_engine.specs.Sides.{Housed, OwnPlaces, SameHouse, SamePlaces, Side, noted, noting}
-use Rattle.mux_engine.proofs.Cuts.{cut-here, serve-told}
-use Rattle.mux_engine.proofs.HouseTakes.{house-idle, house-takes}
-use Rattle.mux_engine.proofs.HouseTurns.{accepted-zero, cut-answers, cut-let-in, house-answers, house-let-in, reply-asked, rest-asked}
-use Rattle.mux_engine.proofs.Lists.{among-less, or-true, test-other, true-false, without-other}
+use Rattle.mux_engine.specs.Sides.{Housed, SameHouse, SamePlaces, Side, noted, noting}
+use Rattle.mux_engine.proofs.Arms.{cut-then}
+use Rattle.mux_engine.proofs.Cuts.{serve-told}
+use Rattle.mux_engine.proofs.HouseTakes.{house-takes}
+use Rattle.mux_engine.proofs.HouseTurns.{accepted-zero, cut-answers, house-answers, house-let-in, reply-asked, rest-asked}
+use Rattle.mux_engine.proofs.Lists.{among-less, true-false, without-other}
 use Rattle.mux_engine.proofs.Noted.{seen-with}
 use Rattle.mux_engine.proofs.Offers.{Waiting}
 use Rattle.mux_engine.proofs.Taken.{queue-present, took-run}
@@ -105,6 +105,19 @@ pub same-noted : {May : HouseReply → Type 0} {Rest : Option (List HouseMark) �
 same-noted {May} {Rest} {before} {policy} {pid} {start} {seen} {held} {failed} {given} {todo} {s} told told' known known' t k v =
     subst (λ (x : Option (List HouseMark)). Serving May Rest before (noted x known') policy pid start seen held failed given todo s) (sym t)
     (subst (λ (x : Known). Serving May Rest before (noted told x) policy pid start seen held failed given todo s) (sym k) v)
+
+-- one list or the other is to be offered what waits
+pub replied : {May : HouseReply → Type 0} {Rest : Option (List HouseMark) → Type 0} {before : Option (List HouseMark)} {now : Side} {policy : Policy} {pid : ℕ} {start : Option (List Mark)} {seen : Seen} {held failed : List ℕ} {given : ℕ} {s : State} (xs ys : List ℕ) (more b : Bool) → more ≡ b → Serving May Rest before now policy pid start seen held failed given (cond more xs ys) s → Serving May Rest before now policy pid start seen held failed given (cond b xs ys) s
+replied {May} {Rest} {before} {now} {policy} {pid} {start} {seen} {held} {failed} {given} {s} xs ys more b e v = subst (λ (c : Bool). Serving May Rest before now policy pid start seen held failed given (cond c xs ys) s) e v
+
+-- ---- calls
+
+-- calls that ended well, before one that made none and found no memory
+pub cut-well : (a b c : Calls) → Well 0 a b → c ≡ b → Cut 0 a c
+cut-well a b c w e = subst (Cut 0 a) (sym e) (cut-then a b b w (record { few = omega arith; wants = omega arith; late = λ z. refl }))
+
+pub well-still : (a b c : Calls) → Well 0 a b → c ≡ b → Well 0 a c
+well-still a b c w e = subst (Well 0 a) (sym e) w
 
 -- ---- other asks are open
 

@@ -1,4 +1,4 @@
-use Rattle.std.proofs.Common.{◌<◌, ◌+◌, [], ◌∷◌, sym, ap, refl, subst, ℕ, List, length, arith}
+use Rattle.std.proofs.Common.{◌<◌, ◌+◌, [], ◌∷◌, sym, ap, subst, length, arith}
 use Rattle.mux_outside.specs.House.{Known}
 use Rattle.mux_outside.specs.Seen.{Seen}
 use Rattle.mux_outside.specs.declared.house_mark.HouseMark.TheVariants.{HouseAnswer}
