@@ -1,5 +1,5 @@
 -- The asks of an event are noted one by one, right behind it.
-use Rattle.std.proofs.Common.{◌≡◌, ◌<◌, ◌≤◌, ◌+◌, ℕ, true, false, List, [], ◌∷◌, ◌++◌, length, take, get_or, Option, Some, None, refl, sym, ap, ◌∙◌, subst, inl, inr, ◌⊎◌, append_assoc, arith}
+use Rattle.std.proofs.Common.{◌≡◌, ◌<◌, ◌+◌, ℕ, List, [], ◌∷◌, ◌++◌, length, take, get_or, Option, Some, None, refl, sym, ap, ◌∙◌, subst, inr, append_assoc}
 use Rattle.std.specs.Prelude.{map, Result, Ok, Err, IsErr}
 use Rattle.std.specs.Option.{option_map}
 use Rattle.std.proofs.lemmas.List.{map-append, take_more}
@@ -9,15 +9,14 @@ use Rattle.mux_outside.specs.declared.house.HouseReply.{HouseReply}
 use Rattle.mux_outside.specs.declared.house_mark.HouseMark.{HouseMark}
 use Rattle.mux_outside.specs.declared.mark.Mark.{Mark}
 use Rattle.mux_outside.specs.declared.mark.Mark.TheVariants.{House}
-use Rattle.mux_clients.specs.Asked.{IsAsked, IsAskedSome, TellsAsks, known_after}
+use Rattle.mux_clients.specs.Asked.{IsAsked, TellsAsks, known_after}
 use Rattle.mux_machine.specs.declared.event.Event.{Event}
 use Rattle.mux_machine.specs.Events.{EndsBy, Keeps, Tells}
 use Rattle.mux_machine.specs.Stands.{GoesOn}
 use Rattle.mux_machine.specs.State.{State}
-use Rattle.mux_engine.specs.Asking.{Heeded, HeedsSo, Unheeded}
+use Rattle.mux_engine.specs.Asking.{Heeded, HeedsSo}
 use Rattle.mux_engine.proofs.Lists.{true-false}
 use Rattle.mux_engine.proofs.Noted.{seen-with}
-use Rattle.mux_engine.proofs.Told.{told-none}
 
 -- ---- so many are noted
 
@@ -25,20 +24,12 @@ one-more : (m : HouseMark) (ms : List HouseMark) (told : Option (List Mark)) →
 one-more m ms None = refl
 one-more m ms (Some l) = ap (λ (x : List Mark). Some x) (append_assoc l (map (λ (a : HouseMark). House a) ms) (House m ∷ []) ∙ ap (λ (x : List Mark). l ++ x) (sym (map-append (λ (a : HouseMark). House a) ms (m ∷ []))))
 
--- none
-pub noted-none : (seen : Seen) → seen ≡ seen-with [] seen
-noted-none seen = ap (λ (told : Option (List Mark)). record seen { told = told }) (sym (told-none seen.told))
-
 -- the next
 pub noted-next : (asks : List HouseMark) (i : ℕ) (m : HouseMark) (seen mid seen' : Seen) → i < length asks → m ≡ get_or asks i m → mid ≡ seen-with (take i asks) seen → seen' ≡ record mid { told = option_map (λ (l : List Mark). l ++ House m ∷ []) mid.told } → seen' ≡ seen-with (take (i + 1) asks) seen
 noted-next asks i m seen mid seen' less is so next =
     next ∙ (ap (λ (x : Seen). record x { told = option_map (λ (l : List Mark). l ++ House m ∷ []) x.told }) so
     ∙ (ap (λ (told : Option (List Mark)). record seen { told = told }) (one-more m (take i asks) seen.told)
     ∙ ap (λ (l : List HouseMark). seen-with l seen) (ap (λ (a : HouseMark). take i asks ++ a ∷ []) is ∙ sym (take_more asks i m less))))
-
--- all
-pub noted-all : (asks items : List HouseMark) (i : ℕ) (seen seen' : Seen) → items ≡ asks → i ≡ length items → seen' ≡ seen-with (take i items) seen → seen' ≡ seen-with (take (length asks) asks) seen
-noted-all asks items i seen seen' same all is = is ∙ (ap (λ (n : ℕ). seen-with (take n items) seen) all ∙ ap (λ (l : List HouseMark). seen-with (take (length l) l) seen) same)
 
 -- ---- the engine took in the event
 
@@ -60,8 +51,3 @@ heeds-so {May} e s s' none asks told told' known known' seen seen' n empty goes 
 pub heeded-some : {A E : Type 0} (r : Result A E) {May : HouseReply → Type 0} (e : Event) (s s' : State) (asks : List HouseMark) (told told' : Option (List HouseMark)) (known known' : Known) (seen seen' : Seen) (n : ℕ) → IsErr r → HeedsSo May e s s' asks told told' known known' seen seen' n → Heeded r May e s s' asks told told' known known' seen seen'
 heeded-some (Ok x) e s s' asks told told' known known' seen seen' n h so = true-false (sym h)
 heeded-some (Err x) e s s' asks told told' known known' seen seen' n h so = inr (n, so)
-
--- nor for the event
-pub heeded-none : {A E : Type 0} (r : Result A E) {May : HouseReply → Type 0} (e : Event) (s s' : State) (none asks asks' : List HouseMark) (told told' : Option (List HouseMark)) (known known' : Known) (seen : Seen) → IsErr r → IsAskedSome none asks told told' → Heeded r May e s s' asks' told told' known known' seen seen
-heeded-none (Ok x) e s s' none asks asks' told told' known known' seen h asked = true-false (sym h)
-heeded-none (Err x) e s s' none asks asks' told told' known known' seen h asked = inl record { more = asked.more ++ asked.unnoted; told_is = asked.told_is; seen_is = refl }

@@ -1,33 +1,32 @@
 -- The house is let in, is handed what waits for it, and answers.
-use Rattle.std.proofs.Common.{◌≡◌, ◌≢◌, ◌≤◌, ◌<◌, ◌+◌, ℕ, Bool, true, false, ◌||◌, List, [], ◌∷◌, ◌++◌, length, Option, Some, None, refl, sym, ap, ◌∙◌, subst, inl, inr, ◌⊎◌, arith}
+use Rattle.std.proofs.Common.{◌≡◌, ◌≢◌, ◌≤◌, ◌<◌, ◌+◌, ℕ, Bool, true, false, ◌||◌, List, [], ◌∷◌, ◌++◌, length, Option, None, refl, sym, ap, ◌∙◌, subst, cond, arith}
 use Rattle.std.specs.Prelude.{◌==◌, All, IsTrue}
 use Rattle.std.proofs.lemmas.List.Folds.{list_any-append}
 use Rattle.mux_outside.specs.House.{Known, OpenAsk, ReplyFits, without_ask}
-use Rattle.mux_outside.specs.OwnStreams.{is_one, is_own, numbers_of}
-use Rattle.mux_outside.specs.Seen.{Seen}
+use Rattle.mux_outside.specs.OwnStreams.{is_one, numbers_of}
+use Rattle.mux_outside.specs.Seen.{Calls, Seen}
 use Rattle.mux_outside.specs.Streams.{among, without}
 use Rattle.mux_outside.specs.declared.house.HouseReply.{HouseReply}
 use Rattle.mux_outside.specs.declared.house_mark.HouseMark.{HouseMark}
 use Rattle.mux_outside.specs.declared.house_mark.HouseMark.TheVariants.{HouseAnswer, HouseIn, HouseTook}
 use Rattle.mux_outside.specs.declared.mark.Mark.{Mark}
 use Rattle.mux_outside.specs.declared.mark.Mark.TheVariants.{Accepts, Takes, House}
-use Rattle.mux_outside.specs.declared.own_streams.OwnStream.{OwnStream}
 use Rattle.mux_history.specs.declared.limits.TheConstants.{HOUSE}
 use Rattle.mux_history.specs.Policy.{Policy}
 use Rattle.mux_history.specs.Journal.{is_accepted}
-use Rattle.mux_clients.specs.Among.{is_present}
 use Rattle.mux_clients.specs.Asked.{TellsAsks}
-use Rattle.mux_machine.specs.State.{State, is_here, queue_in, taken}
+use Rattle.mux_machine.specs.State.{State, queue_in, taken}
 use Rattle.mux_machine.specs.declared.event.Event.TheVariants.{Accepted, HouseSays}
 use Rattle.mux_machine.specs.Events.{EndsBy, Keeps, Tells, here}
-use Rattle.mux_machine.specs.Stands.{GoesAlone, GoesOn}
+use Rattle.mux_machine.specs.Stands.{GoesAlone, GoesOn, Stands}
+use Rattle.mux_engine.specs.Counted.{Cut, Well}
 use Rattle.mux_engine.specs.Serving.{Promised, Serving}
-use Rattle.mux_engine.specs.Sides.{Housed, OwnPlaces, SameHouse, SamePlaces, Side, noted, noting}
-use Rattle.mux_engine.proofs.Counting.{more-none}
-use Rattle.mux_engine.proofs.Cuts.{cut-here, serve-told}
-use Rattle.mux_engine.proofs.HouseTakes.{house-idle, house-takes}
-use Rattle.mux_engine.proofs.HouseTurns.{accepted-zero, cut-answers, cut-let-in, house-answers, house-let-in, reply-asked, rest-asked}
-use Rattle.mux_engine.proofs.Lists.{among-less, or-true, test-other, true-false, without-other}
+use Rattle.mux_engine.specs.Sides.{Housed, SameHouse, SamePlaces, Side, noted, noting}
+use Rattle.mux_engine.proofs.Arms.{cut-then}
+use Rattle.mux_engine.proofs.Cuts.{serve-told}
+use Rattle.mux_engine.proofs.HouseTakes.{house-takes}
+use Rattle.mux_engine.proofs.HouseTurns.{accepted-zero, cut-answers, house-answers, house-let-in, reply-asked, rest-asked}
+use Rattle.mux_engine.proofs.Lists.{among-less, true-false, without-other}
 use Rattle.mux_engine.proofs.Noted.{seen-with}
 use Rattle.mux_engine.proofs.Offers.{Waiting}
 use Rattle.mux_engine.proofs.Taken.{queue-present, took-run}
@@ -80,6 +79,9 @@ house-then a b c x y = record { present = y.present ∙ x.present; ordering = y.
 
 -- ---- no turn is given meanwhile
 
+more-none : (given : ℕ) → given + 0 ≡ given
+more-none given = omega arith
+
 module _ {May : HouseReply → Type 0} {Rest : Option (List HouseMark) → Type 0} {before : Option (List HouseMark)} {policy : Policy} {pid : ℕ} {start : Option (List Mark)} {given : ℕ} where
   pub no-turns : {now : Side} {seen : Seen} {held failed : List ℕ} {todo : List ℕ} {s : State} → Serving May Rest before now policy pid start seen held failed given todo s → Serving May Rest before now policy pid start seen held failed (given + 0) todo s
   no-turns {now} {seen} {held} {failed} {todo} {s} v = subst (λ (n : ℕ). Serving May Rest before now policy pid start seen held failed n todo s) (sym (more-none given)) v
@@ -89,6 +91,33 @@ module _ {May : HouseReply → Type 0} {Rest : Option (List HouseMark) → Type 
 
   pub no-turns-left : {now : Option (List HouseMark)} {told : Option (List Mark)} → Promised May Rest before now policy pid start told given → Promised May Rest before now policy pid start told (given + 0)
   no-turns-left {now} {told} p = subst (λ (n : ℕ). Promised May Rest before now policy pid start told n) (sym (more-none given)) p
+
+-- ---- the same house rests
+
+pub same-rests : {May : HouseReply → Type 0} (Rest : Bool → Option (List HouseMark) → Type 0) {before : Option (List HouseMark)} {now : Side} {policy : Policy} {pid : ℕ} {start : Option (List Mark)} {seen : Seen} {held failed : List ℕ} {given : ℕ} {todo : List ℕ} {s : State} (b b' : Bool) → b ≡ b' → Serving May (Rest b) before now policy pid start seen held failed given todo s → Serving May (Rest b') before now policy pid start seen held failed given todo s
+same-rests {May} Rest {before} {now} {policy} {pid} {start} {seen} {held} {failed} {given} {todo} {s} b b' e v = subst (λ (c : Bool). Serving May (Rest c) before now policy pid start seen held failed given todo s) e v
+
+pub same-rests-left : {May : HouseReply → Type 0} (Rest : Bool → Option (List HouseMark) → Type 0) {before now : Option (List HouseMark)} {policy : Policy} {pid : ℕ} {start told : Option (List Mark)} {given : ℕ} (b b' : Bool) → b ≡ b' → Promised May (Rest b) before now policy pid start told given → Promised May (Rest b') before now policy pid start told given
+same-rests-left {May} Rest {before} {now} {policy} {pid} {start} {told} {given} b b' e p = subst (λ (c : Bool). Promised May (Rest c) before now policy pid start told given) e p
+
+-- the house told nothing meanwhile, and as much is known of it
+pub same-noted : {May : HouseReply → Type 0} {Rest : Option (List HouseMark) → Type 0} {before : Option (List HouseMark)} {policy : Policy} {pid : ℕ} {start : Option (List Mark)} {seen : Seen} {held failed : List ℕ} {given : ℕ} {todo : List ℕ} {s : State} (told told' : Option (List HouseMark)) (known known' : Known) → told' ≡ told → known' ≡ known → Serving May Rest before (noted told known) policy pid start seen held failed given todo s → Serving May Rest before (noted told' known') policy pid start seen held failed given todo s
+same-noted {May} {Rest} {before} {policy} {pid} {start} {seen} {held} {failed} {given} {todo} {s} told told' known known' t k v =
+    subst (λ (x : Option (List HouseMark)). Serving May Rest before (noted x known') policy pid start seen held failed given todo s) (sym t)
+    (subst (λ (x : Known). Serving May Rest before (noted told x) policy pid start seen held failed given todo s) (sym k) v)
+
+-- one list or the other is to be offered what waits
+pub replied : {May : HouseReply → Type 0} {Rest : Option (List HouseMark) → Type 0} {before : Option (List HouseMark)} {now : Side} {policy : Policy} {pid : ℕ} {start : Option (List Mark)} {seen : Seen} {held failed : List ℕ} {given : ℕ} {s : State} (xs ys : List ℕ) (more b : Bool) → more ≡ b → Serving May Rest before now policy pid start seen held failed given (cond more xs ys) s → Serving May Rest before now policy pid start seen held failed given (cond b xs ys) s
+replied {May} {Rest} {before} {now} {policy} {pid} {start} {seen} {held} {failed} {given} {s} xs ys more b e v = subst (λ (c : Bool). Serving May Rest before now policy pid start seen held failed given (cond c xs ys) s) e v
+
+-- ---- calls
+
+-- calls that ended well, before one that made none and found no memory
+pub cut-well : (a b c : Calls) → Well 0 a b → c ≡ b → Cut 0 a c
+cut-well a b c w e = subst (Cut 0 a) (sym e) (cut-then a b b w (record { few = omega arith; wants = omega arith; late = λ z. refl }))
+
+pub well-still : (a b c : Calls) → Well 0 a b → c ≡ b → Well 0 a c
+well-still a b c w e = subst (Well 0 a) (sym e) w
 
 -- ---- other asks are open
 
@@ -137,11 +166,18 @@ module _ {May : HouseReply → Type 0} {Rest : Option (List HouseMark) → Type 
       (serve-told v (noted told' known) [] h refl refl refl refl)
 
   -- it told an answer
-  pub answer-told : {told told' : Option (List HouseMark)} {known : Known} (client id : ℕ) (reply : HouseReply) → Serving May Rest before (noted told known) policy pid start seen held failed given todo s → TellsAsks told told' (HouseAnswer client id reply ∷ [])
+  pub answer-told : {told told' : Option (List HouseMark)} (known : Known) (client id : ℕ) (reply : HouseReply) → Serving May Rest before (noted told known) policy pid start seen held failed given todo s → TellsAsks told told' (HouseAnswer client id reply ∷ [])
       → Serving May Rest before (noting (HouseAnswer client id reply ∷ []) told' (record known { asks = without_ask client id known.asks })) policy pid start seen held failed given todo s
-  answer-told {told} {told'} {known} client id reply v h =
+  answer-told {told} {told'} known client id reply v h =
       let w = serve-told v (noting (HouseAnswer client id reply ∷ []) told' known) (HouseAnswer client id reply ∷ []) h refl refl refl refl in
       serve-asks w (without_ask client id known.asks) (rest-asked w.journal client id known.asks w.askers)
+
+  -- to a client that was accepted
+  pub answer-asked : {told told' : Option (List HouseMark)} (known : Known) (client id : ℕ) (reply : HouseReply) (v : Serving May Rest before (noted told known) policy pid start seen held failed given todo s) (h : TellsAsks told told' (HouseAnswer client id reply ∷ [])) → ReplyFits reply client id known.asks → is_accepted client (answer-told known client id reply v h).journal ≡ true
+  unfolding answer-told serve-asks
+  answer-asked {told} {told'} known client id reply v h fits =
+      let w = serve-told v (noting (HouseAnswer client id reply ∷ []) told' known) (HouseAnswer client id reply ∷ []) h refl refl refl refl in
+      reply-asked w.journal reply client id known.asks fits w.askers
 
 -- ---- it is let in
 
@@ -169,42 +205,43 @@ module _ {May : HouseReply → Type 0} {Rest : Option (List HouseMark) → Type 
       by_in true e = refl
       by_in false e = true-false (sym (ap (λ b. b || among HOUSE s.refused) (queue-present s HOUSE bytes queue some no-server)) ∙ ((v.stands.at [] []).bytes.strange HOUSE e).not_here)
 
-  pub handed : {told told' : Option (List HouseMark)} {known : Known} (known' : Known) (v : Serving May Rest before (noted told known) policy pid start seen held failed given (0 ∷ here s) s) (s' : State) (bytes : List ℕ) → TellsAsks told told' (HouseTook (length bytes) ∷ []) → known' ≡ known
-      → bytes ≡ queue_in s HOUSE → 0 < length bytes → (among HOUSE v.closed ≡ false → Waiting bytes HOUSE s v.picked v.replies v.journal) → s' ≡ taken s HOUSE (length bytes) → GoesAlone s s' (Takes HOUSE bytes) → Serving May Rest before (noted told' known') policy pid start (seen-with (HouseTook (length bytes) ∷ []) seen) held failed given (0 ∷ without HOUSE (here s')) s'
+  pub handed : {told told' : Option (List HouseMark)} {known : Known} (known' : Known) (v : Serving May Rest before (noted told known) policy pid start seen held failed given (0 ∷ here s) s) (s' : State) (bytes : List ℕ) → TellsAsks told told' (HouseTook (length bytes) ∷ []) → known' ≡ known → bytes ≡ queue_in s HOUSE → 0 < length bytes
+      → ((picked : List ℕ) (replies : List HouseReply) (marks : List Mark) (closed : List ℕ) → Stands picked replies s marks closed → among HOUSE closed ≡ false → Waiting bytes HOUSE s picked replies marks) → s' ≡ taken s HOUSE (length bytes) → GoesAlone s s' (Takes HOUSE bytes) → Serving May Rest before (noted told' known') policy pid start (seen-with (HouseTook (length bytes) ∷ []) seen) held failed given (0 ∷ without HOUSE (here s')) s'
   handed {told} {told'} {known} known' v s' bytes h e queue some waiting is goes =
       let w = took-told known' (length bytes) v h e in
-      house-takes w s' bytes [] refl (waits-in w bytes queue some) (took-covers (here s) (here s') (took-run s s' HOUSE (length bytes) is).streams) queue some (waiting not-closed) is goes
+      house-takes w s' bytes [] refl (waits-in w bytes queue some) (took-covers (here s) (here s') (took-run s s' HOUSE (length bytes) is).streams) queue some (waiting w.picked w.replies w.journal w.closed w.stands (not-closed w)) is goes
     where
       no-server : HOUSE ≢ 0
       no-server e = absurd (omega (arith, e))
 
-      not-closed : among HOUSE v.closed ≡ false
-      not-closed = by_closed (among HOUSE v.closed) refl
+      not-closed : {now : Side} {todo : List ℕ} (w : Serving May Rest before now policy pid start seen held failed given todo s) → among HOUSE w.closed ≡ false
+      not-closed w = by_closed (among HOUSE w.closed) refl
         where
-          by_closed : (b : Bool) → among HOUSE v.closed ≡ b → b ≡ false
+          by_closed : (b : Bool) → among HOUSE w.closed ≡ b → b ≡ false
           by_closed false c = refl
-          by_closed true c = true-false (sym (ap (λ b. b || among HOUSE s.refused) (queue-present s HOUSE bytes queue some no-server)) ∙ (v.stands.at [] []).rows.closed_gone HOUSE c)
+          by_closed true c = true-false (sym (ap (λ b. b || among HOUSE s.refused) (queue-present s HOUSE bytes queue some no-server)) ∙ (w.stands.at [] []).rows.closed_gone HOUSE c)
 
   -- ---- it answers
 
   no-server-asked : {now : Side} {todo : List ℕ} (v : Serving May Rest before now policy pid start seen held failed given todo s) (client : ℕ) → is_accepted client v.journal ≡ true → client ≢ 0
   no-server-asked v client asked z = true-false (sym asked ∙ (ap (λ i. is_accepted i v.journal) z ∙ accepted-zero v.journal v.of_wire.lawful))
 
-  pub answered : {May' : HouseReply → Type 0} {mid mid' told told' : Option (List HouseMark)} {known : Known} (known' : Known) (v : Serving May Rest before (noted told known) policy pid start seen held failed given (0 ∷ without HOUSE (here s)) s) (s' : State) (client id : ℕ) (reply : HouseReply) → s.ended ≡ None → ReplyFits reply client id known.asks → TellsAsks told told' (HouseAnswer client id reply ∷ [])
+  pub answered : {May' : HouseReply → Type 0} {mid mid' told told' : Option (List HouseMark)} (known known' : Known) (v : Serving May Rest before (noted told known) policy pid start seen held failed given (0 ∷ without HOUSE (here s)) s) (s' : State) (client id : ℕ) (reply : HouseReply) → s.ended ≡ None → ReplyFits reply client id known.asks → TellsAsks told told' (HouseAnswer client id reply ∷ [])
       → known' ≡ record known { asks = without_ask client id known.asks } → ((mark : Mark) → Tells (HouseSays client id reply) mark → GoesOn May' mid mid' s s' mark) → Keeps (HouseSays client id reply) s s' → Serving May Rest before (noted told' known') policy pid start (seen-with (HouseAnswer client id reply ∷ []) seen) held failed given (0 ∷ here s') s'
-  answered {told' = told'} {known = known} known' v s' client id reply live fits h e goes keeps =
-      let asked : is_accepted client v.journal ≡ true = reply-asked v.journal reply client id known.asks fits v.askers in
-      let nz : client ≢ 0 = no-server-asked v client asked in
+  answered {told' = told'} known known' v s' client id reply live fits h e goes keeps =
+      let w = answer-told known client id reply v h in
+      let asked : is_accepted client w.journal ≡ true = answer-asked known client id reply v h fits in
+      let nz : client ≢ 0 = no-server-asked w client asked in
       subst (λ (k : Known). Serving May Rest before (noted told' k) policy pid start (seen-with (HouseAnswer client id reply ∷ []) seen) held failed given (0 ∷ here s') s') (sym e)
-      (house-answers (answer-told client id reply v h) client id reply [] refl asked live (reply-covers (here s) (here s') (stayed (HouseSays client id reply) (House (HouseAnswer client id reply)) s s' (nz, refl) tt (keeps.streams live))) (goes (House (HouseAnswer client id reply)) (nz, refl)) keeps)
+      (house-answers w client id reply [] refl asked live (reply-covers (here s) (here s') (stayed (HouseSays client id reply) (House (HouseAnswer client id reply)) s s' (nz, refl) tt (keeps.streams live))) (goes (House (HouseAnswer client id reply)) (nz, refl)) keeps)
 
   -- which doesn't end the run
-  pub answered-live : {told : Option (List HouseMark)} {known : Known} {todo : List ℕ} (v : Serving May Rest before (noted told known) policy pid start seen held failed given todo s) (s' : State) (client id : ℕ) (reply : HouseReply) → s.ended ≡ None → ReplyFits reply client id known.asks → ((mark : Mark) → Tells (HouseSays client id reply) mark → EndsBy (HouseSays client id reply) s s' mark) → s'.ended ≡ None
-  answered-live {known = known} v s' client id reply live fits ends =
+  pub answered-live : {told : Option (List HouseMark)} (known : Known) {todo : List ℕ} (v : Serving May Rest before (noted told known) policy pid start seen held failed given todo s) (s' : State) (client id : ℕ) (reply : HouseReply) → s.ended ≡ None → ReplyFits reply client id known.asks → ((mark : Mark) → Tells (HouseSays client id reply) mark → EndsBy (HouseSays client id reply) s s' mark) → s'.ended ≡ None
+  answered-live known v s' client id reply live fits ends =
       let asked : is_accepted client v.journal ≡ true = reply-asked v.journal reply client id known.asks fits v.askers in
       let nz : client ≢ 0 = no-server-asked v client asked in
       ends (House (HouseAnswer client id reply)) (nz, refl) v.picked v.replies v.journal v.closed v.stands (nz, asked) live
 
   -- there was no memory for its answer
-  pub cut-answered : {told told' : Option (List HouseMark)} {known : Known} {todo : List ℕ} (v : Serving May Rest before (noted told known) policy pid start seen held failed given todo s) (client id : ℕ) (reply : HouseReply) → ReplyFits reply client id known.asks → TellsAsks told told' (HouseAnswer client id reply ∷ []) → Promised May Rest before told' policy pid start (seen-with (HouseAnswer client id reply ∷ []) seen).told given
-  cut-answered {known = known} v client id reply fits h = cut-answers (answer-told client id reply v h) client id reply [] refl (reply-asked v.journal reply client id known.asks fits v.askers)
+  pub cut-answered : {told told' : Option (List HouseMark)} (known : Known) {todo : List ℕ} (v : Serving May Rest before (noted told known) policy pid start seen held failed given todo s) (client id : ℕ) (reply : HouseReply) → ReplyFits reply client id known.asks → TellsAsks told told' (HouseAnswer client id reply ∷ []) → Promised May Rest before told' policy pid start (seen-with (HouseAnswer client id reply ∷ []) seen).told given
+  cut-answered known v client id reply fits h = cut-answers (answer-told known client id reply v h) client id reply [] refl (answer-asked known client id reply v h fits)

@@ -5,6 +5,7 @@ mod Counting
 mod Cuts
 mod Ending
 mod First
+mod Handed
 mod Happened
 mod Heeding
 mod Holding
@@ -31,6 +32,8 @@ mod Running
 mod Runs
 mod Silent
 mod Spending
+mod Spoken
+mod Stepping
 mod Taken
 mod Todo
 mod Told

@@ -22,8 +22,9 @@ pub enum Next<'a> {
 }
 
 // The event of bytes that a stream gave.
-fn event_of_bytes<'a>(stream: u64, bytes: &'a [u8]) -> Event<'a>
-    ensures { Tells result (Gets stream bytes.now) }
+pub fn event_of_bytes<'a>(stream: u64, bytes: &'a [u8]) -> Event<'a>
+    ensures tells { Tells result (Gets stream bytes.now) }
+    ensures bytes { AreBytes bytes.now }
 {
     if stream == 0 {
         Event::FromServer(bytes)

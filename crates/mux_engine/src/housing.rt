@@ -4,7 +4,7 @@ ghost use Rattle.mux_outside.specs.Streams.{among, without};
 ghost use Rattle.mux_outside.specs.declared.house_mark.HouseMark.{HouseMark as TheHouseMark};
 ghost use Rattle.mux_outside.specs.declared.mark.Mark.{Mark as TheMark};
 ghost use Rattle.mux_history.specs.declared.limits.TheConstants.{HOUSE as TheHouse};
-ghost use Rattle.mux_history.specs.declared.ended.Ended.TheVariants.{ServerFailed, Spent as TurnsSpent, StartRefused as StartWasRefused};
+ghost use Rattle.mux_history.specs.declared.ended.Ended.TheVariants.{ServerFailed, Spent as TurnsSpent};
 ghost use Rattle.mux_history.specs.Policy.{Policy as ThePolicy};
 ghost use Rattle.mux_outside.specs.Counts.{Rose};
 ghost use Rattle.mux_outside.specs.declared.turn.Want.TheVariants.{Read as ToRead};
@@ -17,6 +17,7 @@ ghost use Rattle.mux_engine.specs.Sides.{Housed, RestsOf, SameHouse, SamePlaces,
 ghost use Rattle.mux_engine.specs.Turns.{want_of};
 
 use crate::asking::heed;
+use crate::events::event_of_bytes;
 use crate::orders::next_order;
 use crate::owned::own_rounds;
 use crate::room::Lists;
@@ -220,6 +221,7 @@ fn speak<W: Wire, H: House>(
     piece: &mut Piece,
 ) -> Result<bool, OutOfMemory>
     requires ordering { (H.known house.old).ordering ≡ None }
+    requires present { (H.known house.old).present ≡ true }
     requires on { engine.old.ended ≡ None }
     requires room { want_of engine.old ≡ ToRead }
     ensures serving { (held failed : List ℕ) → RunsOn result H.may
@@ -235,8 +237,10 @@ fn speak<W: Wire, H: House>(
         → (t : ℕ) → H.queue house.new t ≡ H.queue house.old t) }
     ensures still { IfOk result (λ more. more ≡ false → (engine.new ≡ engine.old)
         × (W.seen wire.new ≡ W.seen wire.old)) }
-    ensures must { H.must house.new ≡ H.must house.old }
-    ensures ends { OnOk result (EndsByAsk engine.new.ended) }
+    ensures ends { (held failed : List ℕ) →
+        ServedWith H.may (RestsOf H.told H.quiet (H.known house.old).present)
+        (noted (H.told house.old) (H.known house.old)) (W.seen wire.old) held failed []
+        engine.old → OnOk result (EndsByAsk engine.new.ended) }
     ensures places { SamePlaces (W.seen wire.old) (W.seen wire.new) }
     ensures blocked { (W.seen wire.new).blocked ≡ (W.seen wire.old).blocked }
     ensures calls { W.calls wire.new ≡ W.calls wire.old }
@@ -250,7 +254,8 @@ fn speak<W: Wire, H: House>(
     }
     let bytes = Text::copy(alloc, piece.as_bytes())?;
     wire.note(&HouseMark::HouseSaid(bytes))?;
-    heed(engine, wire, house, asks, Event::FromClient(HOUSE, piece.as_bytes()))?;
+    let said = event_of_bytes(HOUSE, piece.as_bytes());
+    heed(engine, wire, house, asks, said)?;
     Ok(true)
 }
 
@@ -261,6 +266,9 @@ fn ask_house<W: Wire, H: House>(
     house: &mut H,
     lists: &mut Lists,
 ) -> Result<bool, OutOfMemory>
+    requires served { ServedWith H.may (RestsOf H.told H.quiet (H.known house.old).present)
+        (noted (H.told house.old) (H.known house.old)) (W.seen wire.old) lists.old.held
+        lists.old.failed (0 ∷ here engine.old) engine.old }
     requires housed { Housed (H.known house.old) (W.seen wire.old) lists.old.own }
     requires alone { IsAlone (H.known house.old) }
     requires held_is { lists.old.held ≡ (W.seen wire.old).blocked }
@@ -325,12 +333,9 @@ pub fn step_house<W: Wire, H: House>(
     ensures ready { IfOk result (λ more. more ≡ false → engine.new.ended ≡ None
         → IsReady (H.known house.new) (H.quiet house.new) (H.queue house.new) lists.new.held
         lists.new.failed lists.new.own engine.new) }
-    ensures must { H.must house.new ≡ H.must house.old }
     ensures failed { OnOk result (engine.new.ended ≡ Some ServerFailed
         → Rose (W.server_faults wire.old) (W.server_faults wire.new)) }
     ensures unspent { OnOk result (engine.new.ended ≢ Some TurnsSpent) }
-    ensures permitted { OnOk result ((index : ℕ)
-        → engine.new.ended ≢ Some (StartWasRefused index)) }
     ensures idle { engine.old.waiting ≡ [] → (H.known house.old).present ≡ false
         → OnOk result (engine.new.ended ≡ None) }
     ensures later { W.server_faults wire.old ≤ W.server_faults wire.new }

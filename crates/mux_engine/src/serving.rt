@@ -85,13 +85,10 @@ fn turn<W: Wire, H: House>(
     ensures alone { OnOk result (IsAlone (H.known house.new)) }
     ensures held_is { OnOk result (lists.new.held ≡ (W.seen wire.new).blocked) }
     ensures present { OnOk result ((H.known house.new).present ≡ (H.known house.old).present) }
-    ensures must { H.must house.new ≡ H.must house.old }
     ensures went { IfOk result (λ went. went ≡ went_of engine.new.ended) }
     ensures failed { OnOk result (engine.new.ended ≡ Some ServerFailed
         → Rose (W.server_faults wire.old) (W.server_faults wire.new)) }
     ensures unspent { OnOk result (engine.new.ended ≢ Some TurnsSpent) }
-    ensures permitted { OnOk result ((index : ℕ)
-        → engine.new.ended ≢ Some (StartWasRefused index)) }
     ensures later { W.server_faults wire.old ≤ W.server_faults wire.new }
     ensures calls { Counts 1 result (W.calls wire.old) (W.calls wire.new) }
     ensures openings { W.openings wire.new ≡ W.openings wire.old }

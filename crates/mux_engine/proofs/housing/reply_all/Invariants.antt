@@ -8,8 +8,8 @@ use Rattle.mux_engine.specs.Serving.{Serving}
 use Rattle.mux_engine.specs.Sides.{RestsOf, SameHouse, SamePlaces, noted}
 use Rattle.mux_engine.proofs.housing.reply_all.Given as goal
 
-abbrev pub invariant-loop-engine : goal.invariant-loop-engine
-invariant-loop-engine g l = let W = g.W.Wire in let H = g.H.House in record {
+abbrev pub invariant-loop-wire : goal.invariant-loop-wire
+invariant-loop-wire g l = let W = g.W.Wire in let H = g.H.House in record {
   serving : (before : Option (List HouseMark)) (policy : Policy) (pid : ℕ) (start : Option (List Mark)) (given : ℕ) → Serving H.may (RestsOf H.told H.quiet (H.known l.fn.house).present) before (noted (H.told l.fn.house) (H.known l.fn.house)) policy pid start (W.seen l.fn.wire) l.fn.lists.held l.fn.lists.failed given (0 ∷ here l.fn.engine) l.fn.engine
       → Serving H.may (RestsOf H.told H.quiet (H.known l.fn.house).present) before (noted (H.told l.house) (H.known l.house)) policy pid start (W.seen l.wire) l.lists.held l.lists.failed given (0 ∷ here l.engine) l.engine;
   known : SameHouse (H.known l.fn.house) (H.known l.house);
@@ -25,5 +25,5 @@ invariant-loop-engine g l = let W = g.W.Wire in let H = g.H.House in record {
   joinings : W.joinings l.wire ≡ W.joinings l.fn.wire;
 }
 
-abbrev pub decreases-loop-engine : goal.decreases-loop-engine
-decreases-loop-engine g l = length (g.H.House.known l.house).asks
+abbrev pub decreases-loop-wire : goal.decreases-loop-wire
+decreases-loop-wire g l = length (g.H.House.known l.house).asks

@@ -1,9 +1,4 @@
-use Rattle.std.proofs.Common.{◌≡◌, ◌<◌, ◌≤◌, ◌+◌, ◌∙◌, ℕ, List, Some, None, true, inl, inr, sym, ap, subst, refl, arith, length, IsTrue, le_trans, le_refl}
-use Rattle.std.specs.Prelude.{slice_get}
-use Rattle.mux_outside.specs.House.{Known}
-use Rattle.mux_outside.specs.OwnStreams.{is_one}
-use Rattle.mux_outside.specs.Streams.{among}
-use Rattle.mux_engine.specs.Owned.{IsOffered}
+use Rattle.std.proofs.Common.{◌∙◌, refl, arith, le_trans, le_refl}
 use Rattle.mux_engine.proofs.Arms.{cut-then, on-err, well-none, well-then}
 use Rattle.mux_engine.proofs.Loops.{counts-err}
 use Rattle.mux_engine.proofs.Places.{places-same, places-then}

@@ -1,4 +1,4 @@
-use Rattle.std.proofs.Common.{◌≡◌, ◌∙◌, sym, ap, subst, refl, ℕ, List, true, false}
+use Rattle.std.proofs.Common.{sym}
 use Rattle.mux_engine.proofs.Arms.{on-err, some-bytes}
 use Rattle.mux_engine.proofs.Left.{fewer-left}
 use Rattle.mux_engine.proofs.Offers.{cut-fails, cut-holds, cut-starved}

@@ -1,5 +1,4 @@
-use Rattle.std.proofs.Common.{◌≡◌, ◌<◌, ◌≤◌, ◌+◌, ◌∙◌, ℕ, List, Some, None, true, inl, inr, sym, ap, subst, refl, arith, length, IsTrue, le_trans, le_refl}
-use Rattle.std.specs.Prelude.{slice_get}
+use Rattle.std.proofs.Common.{◌<◌, ◌∙◌, ℕ, List, inl, inr, sym, ap, subst, refl, arith, length, IsTrue, le_trans, le_refl}
 use Rattle.mux_outside.specs.House.{Known}
 use Rattle.mux_outside.specs.OwnStreams.{is_one}
 use Rattle.mux_outside.specs.Streams.{among}
@@ -58,9 +57,9 @@ loop-stream-preserved g c = let v = c.loop-stream.invariant in let o = c.in_ok-o
   within = λ t h. v.within t (was-among c.in-Some.stream t c.loop-stream.todo (ap (among t) (sym c.remove.ensures) ∙ h));
   offered = λ same t h. elim (v.offered (omega (arith, v.grows, o.grows, same)) t h) [
     | inl a ↦ elim (rest-or c.in-Some.stream t c.loop-stream.todo a) [
-        | inl r ↦ inl (ap (among t) c.remove.ensures ∙ r)
-        | inr is ↦ inr (subst (λ (j : ℕ). IsOffered (g.H.House.queue c.offer_own.new.house j) c.offer_own.new.held c.offer_own.new.failed j) is o.offered)
-      ]
+      | inl r ↦ inl (ap (among t) c.remove.ensures ∙ r)
+      | inr is ↦ inr (subst (λ (j : ℕ). IsOffered (g.H.House.queue c.offer_own.new.house j) c.offer_own.new.held c.offer_own.new.failed j) is o.offered)
+    ]
     | inr q ↦ inr (o.keeps (omega (arith, v.grows, o.grows, same)) t q)
   ];
   grows = omega (arith, v.grows, o.grows);

@@ -4,7 +4,6 @@ use Rattle.mux_outside.specs.Seen.{Calls}
 use Rattle.mux_machine.specs.State.{State, queue_in}
 use Rattle.mux_engine.specs.Counted.{Cut, Well}
 use Rattle.mux_engine.proofs.Arms.{counts-then, le-of, on-err, on-ok, stays, then-stays-or-fails}
-use Rattle.mux_engine.proofs.Counting.{then-same}
 use Rattle.mux_engine.proofs.Loops.{counts-err, more-left, no-zero, server-idle}
 use Rattle.mux_engine.proofs.Places.{places-then}
 use Rattle.mux_engine.proofs.settling.flush.Goals as goal
@@ -92,4 +91,4 @@ pub returns-clause-idle : goal.returns-clause-idle
 returns-clause-idle g c = λ none.
     let a = c.offer_clients.ensures.idle none in
     let b = c.offer.ensures.idle (ap (λ (s : State). queue_in s 0) a.0 ∙ server-idle c.requires.served.serving none) in
-    (b.0 ∙ a.0, then-same g.W.Wire.server_faults g.W.Wire.client_faults _ _ _ (b.1 ∙ a.1) (record { same_server = c.hush.ensures.faults; same_client = c.hush.ensures.client }))
+    (b.0 ∙ a.0, record { same_server = ap g.W.Wire.server_faults (b.1 ∙ a.1) ∙ c.hush.ensures.faults; same_client = ap g.W.Wire.client_faults (b.1 ∙ a.1) ∙ c.hush.ensures.client })

@@ -1,0 +1,130 @@
+-- What a step of the house makes of all that holds while a wire is served.
+use Rattle.std.proofs.Common.{◌≡◌, ◌≢◌, ◌≤◌, ◌+◌, ℕ, Bool, true, false, ◌||◌, List, [], ◌∷◌, ◌++◌, Option, Some, None, refl, sym, ap, ◌∙◌, subst, inl, inr, ◌⊎◌, arith, append-nil, MatchResult, OnOk}
+use Rattle.std.specs.Prelude.{◌==◌, IsTrue, IfOk, Result, Ok, Err}
+use Rattle.std.proofs.lemmas.Bool.Decides.{eqb_tells}
+use Rattle.mux_outside.specs.Counts.{Rose}
+use Rattle.mux_outside.specs.House.{IsAtRest, Known, Quiet}
+use Rattle.mux_outside.specs.OwnStreams.{numbers_of}
+use Rattle.mux_outside.specs.Seen.{Seen}
+use Rattle.mux_outside.specs.Streams.{among, without}
+use Rattle.mux_outside.specs.declared.house.HouseReply.{HouseReply}
+use Rattle.mux_outside.specs.declared.house_mark.HouseMark.{HouseMark}
+use Rattle.mux_outside.specs.declared.mark.Mark.{Mark}
+use Rattle.mux_outside.specs.declared.turn.Want.TheVariants.{Read, WriteOnly}
+use Rattle.mux_history.specs.declared.ended.Ended.{Ended}
+use Rattle.mux_history.specs.declared.ended.Ended.TheVariants as ended
+use Rattle.mux_history.specs.declared.limits.TheConstants.{HOUSE}
+use Rattle.mux_history.specs.Policy.{Policy}
+use Rattle.mux_history.specs.Journal.{is_accepted}
+use Rattle.mux_machine.specs.State.{State}
+use Rattle.mux_machine.specs.Events.{here}
+use Rattle.mux_engine.specs.Owned.{IsOffered}
+use Rattle.mux_engine.specs.Rests.{HasNoMore, IsAlone, IsReady}
+use Rattle.mux_engine.specs.Serving.{RunsOn, Serving, StaysOrFails, is_open}
+use Rattle.mux_engine.specs.Sides.{Housed, RestsOf, SameHouse, SamePlaces, Side}
+use Rattle.mux_engine.specs.Turns.{want_of}
+use Rattle.mux_engine.proofs.Counting.{more-none}
+use Rattle.mux_engine.proofs.Handed.{housed-as}
+use Rattle.mux_engine.proofs.Lists.{among-less, among-open, apart-or-left, test-other, true-false, without-other}
+use Rattle.mux_engine.proofs.Places.{at-stream}
+use Rattle.mux_engine.proofs.Todo.{serve-todo}
+
+-- ---- what is left to be offered
+
+-- where there is no house nothing waits for it
+pub none-handed : {May : HouseReply → Type 0} {Rest : Option (List HouseMark) → Type 0} {before : Option (List HouseMark)} {now : Side} {policy : Policy} {pid : ℕ} {start : Option (List Mark)} {seen : Seen} {held failed : List ℕ} {given : ℕ} {s : State} (v : Serving May Rest before now policy pid start seen held failed given (0 ∷ here s) s) → now.let_in ≡ false
+    → Serving May Rest before now policy pid start seen held failed (given + 0) (0 ∷ without HOUSE (here s)) s
+none-handed {May} {Rest} {before} {now} {policy} {pid} {start} {seen} {held} {failed} {given} {s} v out =
+    subst (λ (n : ℕ). Serving May Rest before now policy pid start seen held failed n (0 ∷ without HOUSE (here s)) s) (sym (more-none given))
+    (serve-todo v (0 ∷ without HOUSE (here s)) (λ t a. inl (elim (eqb_tells HOUSE t) [
+      | inl q ↦ ap (λ i. among i (0 ∷ here s)) (sym q.1) ∙ (among-open s HOUSE ∙ by_open (is_open s HOUSE) refl)
+      | inr q ↦ ap (λ b. (0 == t) || b) (sym (without-other HOUSE t (here s) q.1)) ∙ a
+    ])))
+  where
+    by_open : (b : Bool) → is_open s HOUSE ≡ b → b ≡ false
+    by_open false e = refl
+    by_open true e = true-false (sym ((at-stream v.stands HOUSE e).accepted (λ z. absurd (omega (arith, z)))) ∙ (v.house_in ∙ out))
+
+-- the house is to be handed over again what waits for it
+pub handed-again : {May : HouseReply → Type 0} {Rest : Option (List HouseMark) → Type 0} {before : Option (List HouseMark)} {now : Side} {policy : Policy} {pid : ℕ} {start : Option (List Mark)} {seen : Seen} {held failed : List ℕ} {given : ℕ} {s : State} (v : Serving May Rest before now policy pid start seen held failed given (0 ∷ without HOUSE (here s)) s)
+    → Serving May Rest before now policy pid start seen held failed given (0 ∷ here s) s
+handed-again {s = s} v = serve-todo v (0 ∷ here s) (λ t a. inl (let p = apart-or-left 0 t (here s) a in ap (λ b. b || among t (without HOUSE (here s))) (test-other 0 t p.0) ∙ among-less HOUSE t (here s) p.1))
+
+-- all the other streams are
+pub to-flush : {May : HouseReply → Type 0} {Rest : Option (List HouseMark) → Type 0} {before : Option (List HouseMark)} {now : Side} {policy : Policy} {pid : ℕ} {start : Option (List Mark)} {seen : Seen} {held failed : List ℕ} {given : ℕ} {s : State} (v : Serving May Rest before now policy pid start seen held failed (given + 0) (0 ∷ without HOUSE (here s)) s)
+    → Serving May Rest before now policy pid start seen held failed given (0 ∷ (without HOUSE (here s) ++ [])) s
+to-flush {May} {Rest} {before} {now} {policy} {pid} {start} {seen} {held} {failed} {given} {s} v =
+    subst (λ (l : List ℕ). Serving May Rest before now policy pid start seen held failed given (0 ∷ l) s) (sym (append-nil (without HOUSE (here s))))
+    (subst (λ (n : ℕ). Serving May Rest before now policy pid start seen held failed n (0 ∷ without HOUSE (here s)) s) (more-none given) v)
+
+pub no-turn : {May : HouseReply → Type 0} {Rest : Option (List HouseMark) → Type 0} {before : Option (List HouseMark)} {now : Side} {policy : Policy} {pid : ℕ} {start : Option (List Mark)} {seen : Seen} {held failed : List ℕ} {given : ℕ} {todo : List ℕ} {s : State} → Serving May Rest before now policy pid start seen held failed given todo s → Serving May Rest before now policy pid start seen held failed (given + 0) todo s
+no-turn {May} {Rest} {before} {now} {policy} {pid} {start} {seen} {held} {failed} {given} {todo} {s} v = subst (λ (n : ℕ). Serving May Rest before now policy pid start seen held failed n todo s) (sym (more-none given)) v
+
+pub a-turn : {May : HouseReply → Type 0} {Rest : Option (List HouseMark) → Type 0} {before : Option (List HouseMark)} {now : Side} {policy : Policy} {pid : ℕ} {start : Option (List Mark)} {seen : Seen} {held failed : List ℕ} {given : ℕ} {todo : List ℕ} {s : State} → Serving May Rest before now policy pid start seen held failed (given + 0) todo s → Serving May Rest before now policy pid start seen held failed given todo s
+a-turn {May} {Rest} {before} {now} {policy} {pid} {start} {seen} {held} {failed} {given} {todo} {s} v = subst (λ (n : ℕ). Serving May Rest before now policy pid start seen held failed n todo s) (more-none given) v
+
+-- a house that is still there
+pub runs-same : {A E T : Type 0} (r : Result A E) (May : HouseReply → Type 0) (told : T → Option (List HouseMark)) (quiet : T → Quiet) (now now' : Side) (seen seen' : Seen) (held held' failed failed' : List ℕ) (most : ℕ) (more : A → ℕ) (todo : List ℕ) (rest : A → List ℕ) (s s' : State) (b b' : Bool) → b' ≡ b
+    → RunsOn r May (RestsOf told quiet b') now now' seen seen' held held' failed failed' most more todo rest s s' → RunsOn r May (RestsOf told quiet b) now now' seen seen' held held' failed failed' most more todo rest s s'
+runs-same r May told quiet now now' seen seen' held held' failed failed' most more todo rest s s' b b' e h = subst (λ (x : Bool). RunsOn r May (RestsOf told quiet x) now now' seen seen' held held' failed failed' most more todo rest s s') e h
+
+-- ---- the house
+
+pub housed-still : (known known' : Known) (seen seen' : Seen) (own : List ℕ) → SameHouse known known' → SamePlaces seen seen' → Housed known seen own → Housed known' seen' own
+housed-still known known' seen seen' own same places h = housed-as known known' seen seen' own h same.ordering same.listeners same.streams places.listeners places.own places.streams places.last_own
+
+pub present-alone : (known : Known) → known.present ≡ true → IsAlone known
+present-alone known e = record { listeners = λ out. true-false (sym e ∙ out); streams = λ out. true-false (sym e ∙ out) }
+
+-- where there is none it has no more
+pub none-more : (known : Known) (quiet : Quiet) (queue : ℕ → List ℕ) (seen : Seen) (held failed own : List ℕ) → known.present ≡ false → IsAlone known → Housed known seen own → HasNoMore known quiet queue held failed own
+none-more known quiet queue seen held failed own out alone h = record {
+  orders = λ present. true-false (sym present ∙ out);
+  answers = λ present. true-false (sym present ∙ out);
+  offered = λ t a. true-false (sym a ∙ (ap (among t) h.own_is ∙ ap (λ l. among t (numbers_of l)) (sym h.streams ∙ alone.streams out)));
+}
+
+-- where its last order and its last answer were taken
+pub no-more : (known : Known) (quiet quiet' : Quiet) (queue queue' : ℕ → List ℕ) (held failed own : List ℕ) → quiet'.orders ≡ true → quiet.answers ≡ true → quiet' ≡ quiet → ((t : ℕ) → queue' t ≡ queue t) → ((t : ℕ) → among t own ≡ true → IsOffered (queue t) held failed t) → HasNoMore known quiet' queue' held failed own
+no-more known quiet quiet' queue queue' held failed own orders answers same queues offered = record {
+  orders = λ present. orders;
+  answers = λ present. ap (λ (q : Quiet). q.answers) same ∙ answers;
+  offered = λ t a. subst (λ (l : List ℕ). IsOffered l held failed t) (sym (queues t)) (offered t a);
+}
+
+-- where more streams are blocked, and it said nothing
+pub still-no-more : (known known' : Known) (quiet quiet' : Quiet) (queue queue' : ℕ → List ℕ) (held held' failed own : List ℕ) → known'.present ≡ known.present → quiet' ≡ quiet → ((t : ℕ) → queue' t ≡ queue t) → ((t : ℕ) → among t held ≡ true → among t held' ≡ true) → HasNoMore known quiet queue held failed own → HasNoMore known' quiet' queue' held' failed own
+still-no-more known known' quiet quiet' queue queue' held held' failed own present same queues holds n = record {
+  orders = λ is. ap (λ (q : Quiet). q.orders) same ∙ n.orders (sym present ∙ is);
+  answers = λ is. ap (λ (q : Quiet). q.answers) same ∙ n.answers (sym present ∙ is);
+  offered = λ t a. subst (λ (l : List ℕ). IsOffered l held' failed t) (sym (queues t)) (elim (n.offered t a) [
+    | inl e ↦ inl e
+    | inr r ↦ inr (elim r [ inl b ↦ inl (holds t b) | inr f ↦ inr f ])
+  ]);
+}
+
+pub at-rest : (quiet : Quiet) → quiet.says ≡ true → quiet.orders ≡ true → quiet.answers ≡ true → IsAtRest quiet
+at-rest quiet says orders answers = ap (λ b. record quiet { says = b }) says ∙ (ap (λ b. record { says = true; orders = b; answers = quiet.answers }) orders ∙ ap (λ b. record { says = true; orders = true; answers = b }) answers)
+
+-- ---- the end
+
+-- a run that went on did not end but for the server's stream
+pub unspent-then : (old new : Option Ended) (a b : ℕ) → old ≡ None → StaysOrFails old new a b → new ≢ Some ended.Spent
+unspent-then old new a b live (inl s) is = let z : None ≡ Some ended.Spent = sym live ∙ (sym s.0 ∙ is) in cc
+unspent-then old new a b live (inr f) is = let z : Some ended.ServerFailed ≡ Some ended.Spent = sym f.0 ∙ is in cc
+
+pub failed-then : (old new : Option Ended) (a b : ℕ) → old ≡ None → StaysOrFails old new a b → new ≡ Some ended.ServerFailed → Rose a b
+failed-then old new a b live (inl s) is = let z : None ≡ Some ended.ServerFailed = sym live ∙ (sym s.0 ∙ is) in absurd (let h = z in cc)
+failed-then old new a b live (inr f) is = f.1
+
+-- ---- results
+
+-- what is so of each value
+pub match-ok : {A E : Type 0} (r : Result A E) {P : A → Type 0} {Q : E → Type 0} {R : Type 0} → ((x : A) → P x → R) → MatchResult r P Q → OnOk r R
+match-ok (Ok x) f m = f x m
+match-ok (Err e) f m = tt
+
+-- what follows where it is false
+pub where-false : {E : Type 0} (r : Result Bool E) {X Y Z W V : Type 0} → (X → Y → Z → W → V) → IfOk r (λ more. more ≡ false → X) → IfOk r (λ more. more ≡ false → Y) → IfOk r (λ more. more ≡ false → Z) → IfOk r (λ more. more ≡ false → W) → IfOk r (λ more. more ≡ false → V)
+where-false (Ok b) f x y z w = λ e. f (x e) (y e) (z e) (w e)
+where-false (Err e) f x y z w = tt
