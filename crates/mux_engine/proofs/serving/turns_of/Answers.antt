@@ -1,5 +1,5 @@
 use Rattle.std.proofs.Common.{◌≡◌, ◌<◌, ◌+◌, ◌∙◌, ◌∷◌, [], refl, sym, ap, subst, ℕ, true, false, Some, None, arith}
-use Rattle.mux_history.specs.declared.ended.Ended.TheVariants.{ServerFailed, Spent, StartRefused}
+use Rattle.mux_history.specs.declared.ended.Ended.TheVariants.{ServerFailed, Spent}
 use Rattle.mux_machine.specs.State.{State}
 use Rattle.mux_engine.specs.Sides.{RestsOf}
 use Rattle.mux_engine.proofs.Arms.{on-err}
@@ -18,7 +18,6 @@ loop-init g c = record {
   alone = c.requires.alone;
   held_is = c.requires.served.serving.held_is;
   present = refl;
-  must = refl;
   on = c.requires.on;
   first = λ z. (refl, refl, refl);
   later = omega arith;
@@ -51,7 +50,6 @@ loop-preserved g c = let H = g.H.House in let i = c.loop.invariant in let o = c.
   alone = o.alone;
   held_is = o.held_is;
   present = o.present ∙ i.present;
-  must = c.one_turn.ensures.must ∙ i.must;
   on = o.on c.if-not-branch.false;
   first = λ z. absurd (omega (arith, z));
   later = later-on _ _ _ i.later c.one_turn.ensures.later;
@@ -67,12 +65,10 @@ returns-then-not-branch g c = let H = g.H.House in let i = c.loop.invariant in l
   housed = o.housed;
   held_is = o.held_is;
   present = o.present ∙ i.present;
-  must = c.one_turn.ensures.must ∙ i.must;
   on = λ e. true-false (sym e);
   over = λ e. o.over c.if-not-branch.true;
   failed = λ e. rose-behind _ _ _ i.later (o.failed e);
   unspent = o.unspent;
-  permitted = o.permitted;
   later = later-on _ _ _ i.later c.one_turn.ensures.later;
   calls = spent-over _ c.loop.counter c.args.turns _ _ _ (omega arith) i.calls (turned-is _ _ _ _ _ _ i.present c.if-not-branch.true o.calls)
       (λ z p. o.idle (ap (λ (s : State). s.waiting) (i.first z).1 ∙ c.requires.quiet p) (i.present ∙ p));
@@ -87,12 +83,10 @@ returns g c = let W = g.W.Wire in let i = c.loop.invariant in record {
   housed = i.housed;
   held_is = i.held_is;
   present = i.present;
-  must = i.must;
   on = λ e. i.on;
   over = λ e. true-false e;
   failed = λ e. let z : None ≡ Some ServerFailed = sym i.on ∙ e in absurd (let h = z in cc);
   unspent = λ e. let z : None ≡ Some Spent = sym i.on ∙ e in absurd (let h = z in cc);
-  permitted = λ index e. let z : None ≡ Some (StartRefused index) = sym i.on ∙ e in absurd (let h = z in cc);
   later = i.later;
   calls = spent-all _ c.loop.counter c.args.turns _ _ (omega arith) i.calls;
   idle = λ z. let f = i.first (omega (arith, z)) in (f.0, f.1, record { same_server = ap W.server_faults f.2; same_client = ap W.client_faults f.2 });
@@ -109,12 +103,10 @@ returns-in_err-one_turn g c = let H = g.H.House in let i = c.loop.invariant in l
   housed = on-err r.result _ _ r.ensures.0 tt;
   held_is = on-err r.result _ _ r.ensures.0 tt;
   present = on-err r.result _ _ r.ensures.0 tt;
-  must = c.one_turn.ensures.must ∙ i.must;
   on = on-err r.result _ _ r.ensures.0 tt;
   over = on-err r.result _ _ r.ensures.0 tt;
   failed = on-err r.result _ _ r.ensures.0 tt;
   unspent = on-err r.result _ _ r.ensures.0 tt;
-  permitted = on-err r.result _ _ r.ensures.0 tt;
   later = later-on _ _ _ i.later c.one_turn.ensures.later;
   calls = on-err r.result _ _ r.ensures.0 (spent-cut _ c.loop.counter c.args.turns _ _ _ (omega arith) i.calls c.in_err-one_turn.ensures.calls);
   idle = λ z. absurd (omega (arith, z));
@@ -128,12 +120,10 @@ returns-in_err-piece g c = let r = c.from_residual in record {
   housed = on-err r.result _ _ r.ensures.0 tt;
   held_is = on-err r.result _ _ r.ensures.0 tt;
   present = on-err r.result _ _ r.ensures.0 tt;
-  must = refl;
   on = on-err r.result _ _ r.ensures.0 tt;
   over = on-err r.result _ _ r.ensures.0 tt;
   failed = on-err r.result _ _ r.ensures.0 tt;
   unspent = on-err r.result _ _ r.ensures.0 tt;
-  permitted = on-err r.result _ _ r.ensures.0 tt;
   later = omega arith;
   calls = on-err r.result _ _ r.ensures.0 (cut-none c.args.turns _);
   idle = λ z. (refl, refl, record { same_server = refl; same_client = refl });

@@ -17,7 +17,6 @@ invariant-loop g l = let W = g.W.Wire in let H = g.H.House in record {
   alone : IsAlone (H.known l.house);
   held_is : l.lists.held ≡ (W.seen l.wire).blocked;
   present : (H.known l.house).present ≡ (H.known l.fn.house).present;
-  must : H.must l.house ≡ H.must l.fn.house;
   on : l.engine.ended ≡ None;
   first : l.counter ≡ 0 → (l.house ≡ l.fn.house) × (l.engine ≡ l.fn.engine) × (l.wire ≡ l.fn.wire);
   later : W.server_faults l.fn.wire ≤ W.server_faults l.wire;
