@@ -168,6 +168,17 @@ turn-unspent (FromClient k bytes) o may is = may.1 is
 turn-unspent (FromServer bytes) o may is = may.1 is
 turn-unspent ServerEnd o may is = may.1 is
 
+-- and none refuses a forwarding that the run began with
+pub turn-permitted : (e : Event) (o : Option Ended) → MayEnd e o → (index : ℕ) → o ≢ Some (ended.StartRefused index)
+turn-permitted (Accepted k) o may index is = let z : None ≡ Some (ended.StartRefused index) = sym may ∙ is in cc
+turn-permitted (ClientEnd k) o may index is = let z : None ≡ Some (ended.StartRefused index) = sym may ∙ is in cc
+turn-permitted (ClientFailed k) o may index is = let z : None ≡ Some (ended.StartRefused index) = sym may ∙ is in cc
+turn-permitted (HouseSays k id reply) o may index is = let z : None ≡ Some (ended.StartRefused index) = sym may ∙ is in cc
+turn-permitted ServerFailed o may index is = let z : Some ended.ServerFailed ≡ Some (ended.StartRefused index) = sym may ∙ is in cc
+turn-permitted (FromClient k bytes) o may index is = may.2 index is
+turn-permitted (FromServer bytes) o may index is = may.2 index is
+turn-permitted ServerEnd o may index is = may.2 index is
+
 counted-least : (m n : ℕ) → m ≤ n → counted m ≤ counted n
 counted-least m n h = omega arith
 

@@ -57,9 +57,9 @@ err-serves r P Q is m = subst (λ (q : Result _ _). MatchResult q P Q) is m
 
 -- a run that ends by what a stream said
 pub asks-ends : (e : Event) (bytes : List ℕ) (o : Option Ended) → Tells e (Gets HOUSE bytes) → MayEnd e o → EndsByAsk o
-asks-ends (FromClient k said) bytes o t may = record { lives = may.0; unspent = may.1 }
-asks-ends (FromServer said) bytes o t may = record { lives = may.0; unspent = may.1 }
-asks-ends ServerEnd bytes o t may = record { lives = may.0; unspent = may.1 }
+asks-ends (FromClient k said) bytes o t may = record { lives = may.0; unspent = may.1; permitted = may.2 }
+asks-ends (FromServer said) bytes o t may = record { lives = may.0; unspent = may.1; permitted = may.2 }
+asks-ends ServerEnd bytes o t may = record { lives = may.0; unspent = may.1; permitted = may.2 }
 asks-ends (Accepted k) bytes o t may = absurd (let z = t in cc)
 asks-ends (ClientEnd k) bytes o t may = absurd (let z = t.1 in cc)
 asks-ends (ClientFailed k) bytes o t may = absurd (elim t.1 [ inl z ↦ cc | inr z ↦ cc ])

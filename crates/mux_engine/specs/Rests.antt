@@ -31,6 +31,7 @@ pub record IsReady (known : Known) (quiet : Quiet) (queue : ℕ → List ℕ) (h
 pub record EndsByAsk (ended : Option Ended) : Type 0 where
   pub lives : ended ≢ Some ServerFailed
   pub unspent : ended ≢ Some Spent
+  pub permitted : (index : ℕ) → ended ≢ Some (StartRefused index)
 
 -- the forwarding of the start that was refused, where there is a house and none may be
 abbrev pub refused_if : Bool → Bool → Option ℕ → Option ℕ
