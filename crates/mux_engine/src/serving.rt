@@ -30,11 +30,7 @@ use ssh_fields::OutOfMemory;
 use std::alloc::Global;
 
 // Keeps what one of the master's own listeners and streams told, and hands it on.
-fn hear<H: House>(
-    house: &mut H,
-    lists: &mut Lists,
-    told: OwnTurn<'_>,
-) -> Result<(), OutOfMemory>
+fn hear<H: House>(house: &mut H, lists: &mut Lists, told: OwnTurn<'_>) -> Result<(), OutOfMemory>
     requires ordering { (H.known house.old).ordering ≡ None }
     requires fits { OwnTurnFits told (H.known house.old) (H.quiet house.old) }
     ensures known { OnOk result (H.known house.new
@@ -91,7 +87,13 @@ fn turn<W: Wire, H: House>(
     ensures openings { W.openings wire.new ≡ W.openings wire.old }
     ensures joinings { W.joinings wire.new ≡ W.joinings wire.old }
 {
-    list_waiting(house, engine.waiting(), &lists.own, &lists.failed, &mut lists.todo)?;
+    list_waiting(
+        house,
+        engine.waiting(),
+        &lists.own,
+        &lists.failed,
+        &mut lists.todo,
+    )?;
     let told = wire.wait(&lists.todo, wanted(engine), piece);
     match next_of(told, piece.as_bytes()) {
         Next::Event(e) => heed(engine, wire, house, &mut lists.asks, e),
