@@ -2,27 +2,22 @@
 use Rattle.std.proofs.Common.{◌≡◌, ◌≢◌, ◌≤◌, ◌+◌, ℕ, Bool, true, false, ◌||◌, List, [], ◌∷◌, ◌++◌, Option, Some, None, refl, sym, ap, ◌∙◌, subst, inl, inr, ◌⊎◌, arith, append-nil, MatchResult, OnOk}
 use Rattle.std.specs.Prelude.{◌==◌, IsTrue, IfOk, Result, Ok, Err}
 use Rattle.std.proofs.lemmas.Bool.Decides.{eqb_tells}
-use Rattle.mux_outside.specs.Counts.{Rose}
-use Rattle.mux_outside.specs.House.{IsAtRest, Known, Quiet}
+use Rattle.mux_outside.specs.House.{Known, Quiet}
 use Rattle.mux_outside.specs.OwnStreams.{numbers_of}
 use Rattle.mux_outside.specs.Seen.{Seen}
 use Rattle.mux_outside.specs.Streams.{among, without}
 use Rattle.mux_outside.specs.declared.house.HouseReply.{HouseReply}
 use Rattle.mux_outside.specs.declared.house_mark.HouseMark.{HouseMark}
 use Rattle.mux_outside.specs.declared.mark.Mark.{Mark}
-use Rattle.mux_outside.specs.declared.turn.Want.TheVariants.{Read, WriteOnly}
-use Rattle.mux_history.specs.declared.ended.Ended.{Ended}
-use Rattle.mux_history.specs.declared.ended.Ended.TheVariants as ended
 use Rattle.mux_history.specs.declared.limits.TheConstants.{HOUSE}
 use Rattle.mux_history.specs.Policy.{Policy}
 use Rattle.mux_history.specs.Journal.{is_accepted}
 use Rattle.mux_machine.specs.State.{State}
 use Rattle.mux_machine.specs.Events.{here}
 use Rattle.mux_engine.specs.Owned.{IsOffered}
-use Rattle.mux_engine.specs.Rests.{HasNoMore, IsAlone, IsReady}
-use Rattle.mux_engine.specs.Serving.{RunsOn, Serving, StaysOrFails, is_open}
+use Rattle.mux_engine.specs.Rests.{HasNoMore, IsAlone}
+use Rattle.mux_engine.specs.Serving.{RunsOn, Serving, is_open}
 use Rattle.mux_engine.specs.Sides.{Housed, RestsOf, SameHouse, SamePlaces, Side}
-use Rattle.mux_engine.specs.Turns.{want_of}
 use Rattle.mux_engine.proofs.Counting.{more-none}
 use Rattle.mux_engine.proofs.Handed.{housed-as}
 use Rattle.mux_engine.proofs.Lists.{among-less, among-open, apart-or-left, test-other, true-false, without-other}
@@ -57,9 +52,7 @@ to-flush {May} {Rest} {before} {now} {policy} {pid} {start} {seen} {held} {faile
     subst (λ (l : List ℕ). Serving May Rest before now policy pid start seen held failed given (0 ∷ l) s) (sym (append-nil (without HOUSE (here s))))
     (subst (λ (n : ℕ). Serving May Rest before now policy pid start seen held failed n (0 ∷ without HOUSE (here s)) s) (more-none given) v)
 
-pub no-turn : {May : HouseReply → Type 0} {Rest : Option (List HouseMark) → Type 0} {before : Option (List HouseMark)} {now : Side} {policy : Policy} {pid : ℕ} {start : Option (List Mark)} {seen : Seen} {held failed : List ℕ} {given : ℕ} {todo : List ℕ} {s : State} → Serving May Rest before now policy pid start seen held failed given todo s → Serving May Rest before now policy pid start seen held failed (given + 0) todo s
-no-turn {May} {Rest} {before} {now} {policy} {pid} {start} {seen} {held} {failed} {given} {todo} {s} v = subst (λ (n : ℕ). Serving May Rest before now policy pid start seen held failed n todo s) (sym (more-none given)) v
-
+-- no turn was given
 pub a-turn : {May : HouseReply → Type 0} {Rest : Option (List HouseMark) → Type 0} {before : Option (List HouseMark)} {now : Side} {policy : Policy} {pid : ℕ} {start : Option (List Mark)} {seen : Seen} {held failed : List ℕ} {given : ℕ} {todo : List ℕ} {s : State} → Serving May Rest before now policy pid start seen held failed (given + 0) todo s → Serving May Rest before now policy pid start seen held failed given todo s
 a-turn {May} {Rest} {before} {now} {policy} {pid} {start} {seen} {held} {failed} {given} {todo} {s} v = subst (λ (n : ℕ). Serving May Rest before now policy pid start seen held failed n todo s) (more-none given) v
 
@@ -92,31 +85,6 @@ no-more known quiet quiet' queue queue' held failed own orders answers same queu
   offered = λ t a. subst (λ (l : List ℕ). IsOffered l held failed t) (sym (queues t)) (offered t a);
 }
 
--- where more streams are blocked, and it said nothing
-pub still-no-more : (known known' : Known) (quiet quiet' : Quiet) (queue queue' : ℕ → List ℕ) (held held' failed own : List ℕ) → known'.present ≡ known.present → quiet' ≡ quiet → ((t : ℕ) → queue' t ≡ queue t) → ((t : ℕ) → among t held ≡ true → among t held' ≡ true) → HasNoMore known quiet queue held failed own → HasNoMore known' quiet' queue' held' failed own
-still-no-more known known' quiet quiet' queue queue' held held' failed own present same queues holds n = record {
-  orders = λ is. ap (λ (q : Quiet). q.orders) same ∙ n.orders (sym present ∙ is);
-  answers = λ is. ap (λ (q : Quiet). q.answers) same ∙ n.answers (sym present ∙ is);
-  offered = λ t a. subst (λ (l : List ℕ). IsOffered l held' failed t) (sym (queues t)) (elim (n.offered t a) [
-    | inl e ↦ inl e
-    | inr r ↦ inr (elim r [ inl b ↦ inl (holds t b) | inr f ↦ inr f ])
-  ]);
-}
-
-pub at-rest : (quiet : Quiet) → quiet.says ≡ true → quiet.orders ≡ true → quiet.answers ≡ true → IsAtRest quiet
-at-rest quiet says orders answers = ap (λ b. record quiet { says = b }) says ∙ (ap (λ b. record { says = true; orders = b; answers = quiet.answers }) orders ∙ ap (λ b. record { says = true; orders = true; answers = b }) answers)
-
--- ---- the end
-
--- a run that went on did not end but for the server's stream
-pub unspent-then : (old new : Option Ended) (a b : ℕ) → old ≡ None → StaysOrFails old new a b → new ≢ Some ended.Spent
-unspent-then old new a b live (inl s) is = let z : None ≡ Some ended.Spent = sym live ∙ (sym s.0 ∙ is) in cc
-unspent-then old new a b live (inr f) is = let z : Some ended.ServerFailed ≡ Some ended.Spent = sym f.0 ∙ is in cc
-
-pub failed-then : (old new : Option Ended) (a b : ℕ) → old ≡ None → StaysOrFails old new a b → new ≡ Some ended.ServerFailed → Rose a b
-failed-then old new a b live (inl s) is = let z : None ≡ Some ended.ServerFailed = sym live ∙ (sym s.0 ∙ is) in absurd (let h = z in cc)
-failed-then old new a b live (inr f) is = f.1
-
 -- ---- results
 
 -- what is so of each value
@@ -128,23 +96,3 @@ match-ok (Err e) P Q R f m = tt
 pub where-false : {E : Type 0} (r : Result Bool E) {X Y Z W V : Type 0} → (X → Y → Z → W → V) → IfOk r (λ more. more ≡ false → X) → IfOk r (λ more. more ≡ false → Y) → IfOk r (λ more. more ≡ false → Z) → IfOk r (λ more. more ≡ false → W) → IfOk r (λ more. more ≡ false → V)
 where-false (Ok b) f x y z w = λ e. f (x e) (y e) (z e) (w e)
 where-false (Err e) f x y z w = tt
-
--- ---- ready for a wait
-
--- it said nothing more
-pub silent-ready : (known known' : Known) (quiet quiet' : Quiet) (queue queue' : ℕ → List ℕ) (held held' failed own : List ℕ) (s : State) → known.present ≡ true → HasNoMore known quiet queue held failed own → ((t : ℕ) → among t held ≡ true → among t held' ≡ true) → quiet' ≡ quiet → quiet'.says ≡ true → ((t : ℕ) → queue' t ≡ queue t) → IsReady known' quiet' queue' held' failed own s
-silent-ready known known' quiet quiet' queue queue' held held' failed own s here_is n holds same says queues =
-    let orders : quiet'.orders ≡ true = ap (λ (q : Quiet). q.orders) same ∙ n.orders here_is in
-    let answers : quiet'.answers ≡ true = ap (λ (q : Quiet). q.answers) same ∙ n.answers here_is in
-    let offered = still-no-more known known quiet quiet' queue queue' held held' failed own refl same queues holds n in
-    record {
-      no_more = record { orders = λ is. orders; answers = λ is. answers; offered = offered.offered };
-      rests = λ is read. at-rest quiet' says orders answers;
-    }
-
--- it was not asked, since nothing more is read
-pub shut-ready : (known : Known) (quiet : Quiet) (queue : ℕ → List ℕ) (held held' failed own : List ℕ) (s : State) → HasNoMore known quiet queue held failed own → ((t : ℕ) → among t held ≡ true → among t held' ≡ true) → (known.present ≡ true → want_of s ≡ WriteOnly) → IsReady known quiet queue held' failed own s
-shut-ready known quiet queue held held' failed own s n holds shut = record {
-  no_more = still-no-more known known quiet quiet queue queue held held' failed own refl refl (λ t. refl) holds n;
-  rests = λ is read. absurd (let z : WriteOnly ≡ Read = sym (shut is) ∙ read in cc);
-}

@@ -1,21 +1,14 @@
 use Rattle.std.proofs.Common.{◌≡◌, ◌+◌, ◌∙◌, ◌∷◌, [], refl, sym, ap, subst, ℕ, Bool, true, false, cond, List, Option, Some, None, arith}
 use Rattle.std.specs.Prelude.{Ok}
-use Rattle.mux_outside.specs.Counts.{Rose}
 use Rattle.mux_outside.specs.House.{Known}
-use Rattle.mux_outside.specs.declared.turn.Want.TheVariants.{Read, WriteOnly}
-use Rattle.mux_history.specs.declared.ended.Ended.TheVariants.{ServerFailed, Spent}
 use Rattle.mux_machine.specs.Events.{here}
-use Rattle.mux_machine.specs.State.{State}
-use Rattle.mux_engine.specs.Rests.{EndsByAsk, HasNoMore, IsReady}
+use Rattle.mux_engine.specs.Rests.{EndsByAsk}
 use Rattle.mux_engine.specs.Serving.{Serving}
-use Rattle.mux_engine.specs.Sides.{Housed, RestsOf, SameHouse, noted}
-use Rattle.mux_engine.specs.Turns.{want_of}
+use Rattle.mux_engine.specs.Sides.{RestsOf, noted}
 use Rattle.mux_engine.proofs.Arms.{on-err, on-ok}
-use Rattle.mux_engine.proofs.Handed.{alone-as}
-use Rattle.mux_engine.proofs.Lists.{true-false}
 use Rattle.mux_engine.proofs.Runs.{promised-more}
 use Rattle.mux_engine.proofs.Spoken.{err-serves, ok-serves}
-use Rattle.mux_engine.proofs.Stepping.{at-rest, failed-then, handed-again, housed-still, match-ok, no-turn, present-alone, runs-same, still-no-more, to-flush, unspent-then, where-false}
+use Rattle.mux_engine.proofs.Stepping.{handed-again, match-ok, runs-same, to-flush}
 use Rattle.mux_engine.proofs.housing.step_house.Goals as goal
 
 -- ---- an order

@@ -32,9 +32,9 @@ wait-told-requires-clause-waiting_blocked g c =
     let lists = c.args.lists.now in
     let seen : Seen = W.seen c.args.wire.now in
     let a : AtWait (RestsOf H.told H.quiet (H.known house).present) (noted (H.told house) (H.known house)) seen lists.own lists.held lists.failed (H.queue house) c.args.engine.now =
-        at-wait H.told H.quiet house (H.known house) seen lists.own lists.held lists.failed (H.queue house) c.args.engine.now c.requires.housed c.requires.ready c.requires.closed c.requires.refused c.requires.on c.requires.hears in
+    at-wait H.told H.quiet house (H.known house) seen lists.own lists.held lists.failed (H.queue house) c.args.engine.now c.requires.housed c.requires.ready c.requires.closed c.requires.refused c.requires.on c.requires.hears in
     let todo : c.list_waiting.new.todo ≡ c.args.engine.now.waiting ++ filter (waits_for (H.queue house) lists.failed) lists.own =
-        c.in_ok-list_waiting.ensures ∙ ap (λ (l : List ℕ). l ++ filter (waits_for (H.queue house) lists.failed) lists.own) c.waiting.ensures.exact in
+    c.in_ok-list_waiting.ensures ∙ ap (λ (l : List ℕ). l ++ filter (waits_for (H.queue house) lists.failed) lists.own) c.waiting.ensures.exact in
     subst (λ (l : List ℕ). All (λ t. IsTrue (among t seen.blocked)) l) (sym todo) (waiting-blocked c.requires.served.serving a.none a.admitted a.live a.offered)
 
 pub wait-told-requires-clause-waiting_open : goal.wait-told-requires-clause-waiting_open
@@ -45,9 +45,9 @@ wait-told-requires-clause-waiting_open g c =
     let lists = c.args.lists.now in
     let seen : Seen = W.seen c.args.wire.now in
     let a : AtWait (RestsOf H.told H.quiet (H.known house).present) (noted (H.told house) (H.known house)) seen lists.own lists.held lists.failed (H.queue house) c.args.engine.now =
-        at-wait H.told H.quiet house (H.known house) seen lists.own lists.held lists.failed (H.queue house) c.args.engine.now c.requires.housed c.requires.ready c.requires.closed c.requires.refused c.requires.on c.requires.hears in
+    at-wait H.told H.quiet house (H.known house) seen lists.own lists.held lists.failed (H.queue house) c.args.engine.now c.requires.housed c.requires.ready c.requires.closed c.requires.refused c.requires.on c.requires.hears in
     let todo : c.list_waiting.new.todo ≡ c.args.engine.now.waiting ++ filter (waits_for (H.queue house) lists.failed) lists.own =
-        c.in_ok-list_waiting.ensures ∙ ap (λ (l : List ℕ). l ++ filter (waits_for (H.queue house) lists.failed) lists.own) c.waiting.ensures.exact in
+    c.in_ok-list_waiting.ensures ∙ ap (λ (l : List ℕ). l ++ filter (waits_for (H.queue house) lists.failed) lists.own) c.waiting.ensures.exact in
     subst (λ (l : List ℕ). All (λ t. IsTrue (among t seen.streams)) l) (sym todo) (waiting-open c.requires.served.serving a.none a.admitted a.live a.offered)
 
 pub wait-told-requires-clause-server : goal.wait-told-requires-clause-server
@@ -61,9 +61,9 @@ wait-told-requires-clause-some g c write =
     let lists = c.args.lists.now in
     let seen : Seen = W.seen c.args.wire.now in
     let a : AtWait (RestsOf H.told H.quiet (H.known house).present) (noted (H.told house) (H.known house)) seen lists.own lists.held lists.failed (H.queue house) c.args.engine.now =
-        at-wait H.told H.quiet house (H.known house) seen lists.own lists.held lists.failed (H.queue house) c.args.engine.now c.requires.housed c.requires.ready c.requires.closed c.requires.refused c.requires.on c.requires.hears in
+    at-wait H.told H.quiet house (H.known house) seen lists.own lists.held lists.failed (H.queue house) c.args.engine.now c.requires.housed c.requires.ready c.requires.closed c.requires.refused c.requires.on c.requires.hears in
     let todo : c.list_waiting.new.todo ≡ c.args.engine.now.waiting ++ filter (waits_for (H.queue house) lists.failed) lists.own =
-        c.in_ok-list_waiting.ensures ∙ ap (λ (l : List ℕ). l ++ filter (waits_for (H.queue house) lists.failed) lists.own) c.waiting.ensures.exact in
+    c.in_ok-list_waiting.ensures ∙ ap (λ (l : List ℕ). l ++ filter (waits_for (H.queue house) lists.failed) lists.own) c.waiting.ensures.exact in
     subst (λ (l : List ℕ). 0 < length l) (sym todo) (some-waits c.requires.served.serving a.none a.admitted a.live a.offered (sym c.wanted.ensures ∙ write))
 
 -- ---- an event
@@ -76,9 +76,9 @@ returns-in-Event-clause-serving g c before policy pid start given v =
     let lists = c.args.lists.now in
     let seen : Seen = W.seen c.args.wire.now in
     let a : AtWait (RestsOf H.told H.quiet (H.known house).present) (noted (H.told house) (H.known house)) seen lists.own lists.held lists.failed (H.queue house) c.args.engine.now =
-        at-wait H.told H.quiet house (H.known house) seen lists.own lists.held lists.failed (H.queue house) c.args.engine.now c.requires.housed c.requires.ready c.requires.closed c.requires.refused c.requires.on c.requires.hears in
+    at-wait H.told H.quiet house (H.known house) seen lists.own lists.held lists.failed (H.queue house) c.args.engine.now c.requires.housed c.requires.ready c.requires.closed c.requires.refused c.requires.on c.requires.hears in
     let w : HasWaited seen (W.seen c.wait-told.new.self) lists.own lists.failed (H.queue house) c.args.engine.now c.wait-told.result c.wait-told.new.into =
-        has-waited seen (W.seen c.wait-told.new.self) lists.own lists.failed (H.queue house) c.args.engine.now c.wait-told.result c.wait-told.new.into c.as_bytes.result.now c.list_waiting.new.todo c.waiting.result.now c.wanted.result c.wait-told.ensures.seen c.in_ok-list_waiting.ensures c.waiting.ensures.exact c.wanted.ensures c.next_of.ensures.bytes c.as_bytes.ensures.bytes c.wait-told.ensures.turn c.wait-told.ensures.own_turn in
+    has-waited seen (W.seen c.wait-told.new.self) lists.own lists.failed (H.queue house) c.args.engine.now c.wait-told.result c.wait-told.new.into c.as_bytes.result.now c.list_waiting.new.todo c.waiting.result.now c.wanted.result c.wait-told.ensures.seen c.in_ok-list_waiting.ensures c.waiting.ensures.exact c.wanted.ensures c.next_of.ensures.bytes c.as_bytes.ensures.bytes c.wait-told.ensures.turn c.wait-told.ensures.own_turn in
     let next : IsEventOf c.in-Event.e c.wait-told.result c.wait-told.new.into = subst (λ (b : List ℕ). IsEventOf c.in-Event.e c.wait-told.result b) c.as_bytes.ensures.bytes c.in-Event.ensures.next in
     turn-heeds v a w c.heed.result c.in-Event.e next c.heed.new.engine c.heed.new.asks (H.told house) (H.told c.heed.new.house) (H.known house) (H.known c.heed.new.house) (W.seen c.heed.new.wire) refl refl refl c.heed.ensures.heeded
 
@@ -90,9 +90,9 @@ returns-in-Event-clause-housed g c =
     let lists = c.args.lists.now in
     let seen : Seen = W.seen c.args.wire.now in
     let a : AtWait (RestsOf H.told H.quiet (H.known house).present) (noted (H.told house) (H.known house)) seen lists.own lists.held lists.failed (H.queue house) c.args.engine.now =
-        at-wait H.told H.quiet house (H.known house) seen lists.own lists.held lists.failed (H.queue house) c.args.engine.now c.requires.housed c.requires.ready c.requires.closed c.requires.refused c.requires.on c.requires.hears in
+    at-wait H.told H.quiet house (H.known house) seen lists.own lists.held lists.failed (H.queue house) c.args.engine.now c.requires.housed c.requires.ready c.requires.closed c.requires.refused c.requires.on c.requires.hears in
     let w : HasWaited seen (W.seen c.wait-told.new.self) lists.own lists.failed (H.queue house) c.args.engine.now c.wait-told.result c.wait-told.new.into =
-        has-waited seen (W.seen c.wait-told.new.self) lists.own lists.failed (H.queue house) c.args.engine.now c.wait-told.result c.wait-told.new.into c.as_bytes.result.now c.list_waiting.new.todo c.waiting.result.now c.wanted.result c.wait-told.ensures.seen c.in_ok-list_waiting.ensures c.waiting.ensures.exact c.wanted.ensures c.next_of.ensures.bytes c.as_bytes.ensures.bytes c.wait-told.ensures.turn c.wait-told.ensures.own_turn in
+    has-waited seen (W.seen c.wait-told.new.self) lists.own lists.failed (H.queue house) c.args.engine.now c.wait-told.result c.wait-told.new.into c.as_bytes.result.now c.list_waiting.new.todo c.waiting.result.now c.wanted.result c.wait-told.ensures.seen c.in_ok-list_waiting.ensures c.waiting.ensures.exact c.wanted.ensures c.next_of.ensures.bytes c.as_bytes.ensures.bytes c.wait-told.ensures.turn c.wait-told.ensures.own_turn in
     let next : IsEventOf c.in-Event.e c.wait-told.result c.wait-told.new.into = subst (λ (b : List ℕ). IsEventOf c.in-Event.e c.wait-told.result b) c.as_bytes.ensures.bytes c.in-Event.ensures.next in
     turn-housed c.heed.result H.may w c.in-Event.e next c.heed.new.engine c.heed.new.asks (H.told house) (H.told c.heed.new.house) (H.known house) (H.known c.heed.new.house) (W.seen c.heed.new.wire) c.heed.ensures.heeded c.requires.housed
 
@@ -116,9 +116,9 @@ returns-in-Event-clause-failed g c =
     let lists = c.args.lists.now in
     let seen : Seen = W.seen c.args.wire.now in
     let a : AtWait (RestsOf H.told H.quiet (H.known house).present) (noted (H.told house) (H.known house)) seen lists.own lists.held lists.failed (H.queue house) c.args.engine.now =
-        at-wait H.told H.quiet house (H.known house) seen lists.own lists.held lists.failed (H.queue house) c.args.engine.now c.requires.housed c.requires.ready c.requires.closed c.requires.refused c.requires.on c.requires.hears in
+    at-wait H.told H.quiet house (H.known house) seen lists.own lists.held lists.failed (H.queue house) c.args.engine.now c.requires.housed c.requires.ready c.requires.closed c.requires.refused c.requires.on c.requires.hears in
     let w : HasWaited seen (W.seen c.wait-told.new.self) lists.own lists.failed (H.queue house) c.args.engine.now c.wait-told.result c.wait-told.new.into =
-        has-waited seen (W.seen c.wait-told.new.self) lists.own lists.failed (H.queue house) c.args.engine.now c.wait-told.result c.wait-told.new.into c.as_bytes.result.now c.list_waiting.new.todo c.waiting.result.now c.wanted.result c.wait-told.ensures.seen c.in_ok-list_waiting.ensures c.waiting.ensures.exact c.wanted.ensures c.next_of.ensures.bytes c.as_bytes.ensures.bytes c.wait-told.ensures.turn c.wait-told.ensures.own_turn in
+    has-waited seen (W.seen c.wait-told.new.self) lists.own lists.failed (H.queue house) c.args.engine.now c.wait-told.result c.wait-told.new.into c.as_bytes.result.now c.list_waiting.new.todo c.waiting.result.now c.wanted.result c.wait-told.ensures.seen c.in_ok-list_waiting.ensures c.waiting.ensures.exact c.wanted.ensures c.next_of.ensures.bytes c.as_bytes.ensures.bytes c.wait-told.ensures.turn c.wait-told.ensures.own_turn in
     let next : IsEventOf c.in-Event.e c.wait-told.result c.wait-told.new.into = subst (λ (b : List ℕ). IsEventOf c.in-Event.e c.wait-told.result b) c.as_bytes.ensures.bytes c.in-Event.ensures.next in
     on-ok c.heed.result (λ may over. subst (λ (n : ℕ). Rose (W.server_faults c.args.wire.now) n) (sym c.heed.ensures.faults)
     (turn-rose c.in-Event.e c.heed.new.engine.ended c.wait-told.result c.wait-told.new.into _ _ _ _ may next c.wait-told.ensures.cause over))
@@ -132,9 +132,9 @@ returns-in-Event-clause-unspent g c =
     let lists = c.args.lists.now in
     let seen : Seen = W.seen c.args.wire.now in
     let a : AtWait (RestsOf H.told H.quiet (H.known house).present) (noted (H.told house) (H.known house)) seen lists.own lists.held lists.failed (H.queue house) c.args.engine.now =
-        at-wait H.told H.quiet house (H.known house) seen lists.own lists.held lists.failed (H.queue house) c.args.engine.now c.requires.housed c.requires.ready c.requires.closed c.requires.refused c.requires.on c.requires.hears in
+    at-wait H.told H.quiet house (H.known house) seen lists.own lists.held lists.failed (H.queue house) c.args.engine.now c.requires.housed c.requires.ready c.requires.closed c.requires.refused c.requires.on c.requires.hears in
     let w : HasWaited seen (W.seen c.wait-told.new.self) lists.own lists.failed (H.queue house) c.args.engine.now c.wait-told.result c.wait-told.new.into =
-        has-waited seen (W.seen c.wait-told.new.self) lists.own lists.failed (H.queue house) c.args.engine.now c.wait-told.result c.wait-told.new.into c.as_bytes.result.now c.list_waiting.new.todo c.waiting.result.now c.wanted.result c.wait-told.ensures.seen c.in_ok-list_waiting.ensures c.waiting.ensures.exact c.wanted.ensures c.next_of.ensures.bytes c.as_bytes.ensures.bytes c.wait-told.ensures.turn c.wait-told.ensures.own_turn in
+    has-waited seen (W.seen c.wait-told.new.self) lists.own lists.failed (H.queue house) c.args.engine.now c.wait-told.result c.wait-told.new.into c.as_bytes.result.now c.list_waiting.new.todo c.waiting.result.now c.wanted.result c.wait-told.ensures.seen c.in_ok-list_waiting.ensures c.waiting.ensures.exact c.wanted.ensures c.next_of.ensures.bytes c.as_bytes.ensures.bytes c.wait-told.ensures.turn c.wait-told.ensures.own_turn in
     let next : IsEventOf c.in-Event.e c.wait-told.result c.wait-told.new.into = subst (λ (b : List ℕ). IsEventOf c.in-Event.e c.wait-told.result b) c.as_bytes.ensures.bytes c.in-Event.ensures.next in
     on-ok c.heed.result (λ may. turn-unspent c.in-Event.e c.heed.new.engine.ended may)
     (turn-ends c.requires.served.serving a w c.heed.result c.in-Event.e next c.heed.new.engine c.heed.new.asks (H.told house) (H.told c.heed.new.house) (H.known house) (H.known c.heed.new.house) (W.seen c.heed.new.wire) c.heed.ensures.heeded)
@@ -149,9 +149,9 @@ hear-requires-clause-fits g c =
     let lists = c.args.lists.now in
     let seen : Seen = W.seen c.args.wire.now in
     let a : AtWait (RestsOf H.told H.quiet (H.known house).present) (noted (H.told house) (H.known house)) seen lists.own lists.held lists.failed (H.queue house) c.args.engine.now =
-        at-wait H.told H.quiet house (H.known house) seen lists.own lists.held lists.failed (H.queue house) c.args.engine.now c.requires.housed c.requires.ready c.requires.closed c.requires.refused c.requires.on c.requires.hears in
+    at-wait H.told H.quiet house (H.known house) seen lists.own lists.held lists.failed (H.queue house) c.args.engine.now c.requires.housed c.requires.ready c.requires.closed c.requires.refused c.requires.on c.requires.hears in
     let w : HasWaited seen (W.seen c.wait-told.new.self) lists.own lists.failed (H.queue house) c.args.engine.now c.wait-told.result c.wait-told.new.into =
-        has-waited seen (W.seen c.wait-told.new.self) lists.own lists.failed (H.queue house) c.args.engine.now c.wait-told.result c.wait-told.new.into c.as_bytes.result.now c.list_waiting.new.todo c.waiting.result.now c.wanted.result c.wait-told.ensures.seen c.in_ok-list_waiting.ensures c.waiting.ensures.exact c.wanted.ensures c.next_of.ensures.bytes c.as_bytes.ensures.bytes c.wait-told.ensures.turn c.wait-told.ensures.own_turn in
+    has-waited seen (W.seen c.wait-told.new.self) lists.own lists.failed (H.queue house) c.args.engine.now c.wait-told.result c.wait-told.new.into c.as_bytes.result.now c.list_waiting.new.todo c.waiting.result.now c.wanted.result c.wait-told.ensures.seen c.in_ok-list_waiting.ensures c.waiting.ensures.exact c.wanted.ensures c.next_of.ensures.bytes c.as_bytes.ensures.bytes c.wait-told.ensures.turn c.wait-told.ensures.own_turn in
     let next : IsOwnOf c.in-Own.told c.wait-told.result c.wait-told.new.into = subst (λ (b : List ℕ). IsOwnOf c.in-Own.told c.wait-told.result b) c.as_bytes.ensures.bytes c.in-Own.ensures.next in
     turn-fits w c.in-Own.told next (H.known house) (H.quiet house) c.requires.housed c.requires.alone c.requires.ready
 
@@ -163,9 +163,9 @@ returns-in_err-hear-in-Own-clause-serving g c before policy pid start given v =
     let lists = c.args.lists.now in
     let seen : Seen = W.seen c.args.wire.now in
     let a : AtWait (RestsOf H.told H.quiet (H.known house).present) (noted (H.told house) (H.known house)) seen lists.own lists.held lists.failed (H.queue house) c.args.engine.now =
-        at-wait H.told H.quiet house (H.known house) seen lists.own lists.held lists.failed (H.queue house) c.args.engine.now c.requires.housed c.requires.ready c.requires.closed c.requires.refused c.requires.on c.requires.hears in
+    at-wait H.told H.quiet house (H.known house) seen lists.own lists.held lists.failed (H.queue house) c.args.engine.now c.requires.housed c.requires.ready c.requires.closed c.requires.refused c.requires.on c.requires.hears in
     let w : HasWaited seen (W.seen c.wait-told.new.self) lists.own lists.failed (H.queue house) c.args.engine.now c.wait-told.result c.wait-told.new.into =
-        has-waited seen (W.seen c.wait-told.new.self) lists.own lists.failed (H.queue house) c.args.engine.now c.wait-told.result c.wait-told.new.into c.as_bytes.result.now c.list_waiting.new.todo c.waiting.result.now c.wanted.result c.wait-told.ensures.seen c.in_ok-list_waiting.ensures c.waiting.ensures.exact c.wanted.ensures c.next_of.ensures.bytes c.as_bytes.ensures.bytes c.wait-told.ensures.turn c.wait-told.ensures.own_turn in
+    has-waited seen (W.seen c.wait-told.new.self) lists.own lists.failed (H.queue house) c.args.engine.now c.wait-told.result c.wait-told.new.into c.as_bytes.result.now c.list_waiting.new.todo c.waiting.result.now c.wanted.result c.wait-told.ensures.seen c.in_ok-list_waiting.ensures c.waiting.ensures.exact c.wanted.ensures c.next_of.ensures.bytes c.as_bytes.ensures.bytes c.wait-told.ensures.turn c.wait-told.ensures.own_turn in
     let next : IsOwnOf c.in-Own.told c.wait-told.result c.wait-told.new.into = subst (λ (b : List ℕ). IsOwnOf c.in-Own.told c.wait-told.result b) c.as_bytes.ensures.bytes c.in-Own.ensures.next in
     on-err c.from_residual-in_err-hear-in-Own.result _ _ c.from_residual-in_err-hear-in-Own.ensures.0
     (cut-here (turn-owns v a w c.in-Own.told next) _ _ _ [] refl (c.hear.ensures.told ∙ tells-none _) (omega arith))
@@ -178,9 +178,9 @@ returns-in_ok-hear-in-Own-clause-serving g c before policy pid start given v =
     let lists = c.args.lists.now in
     let seen : Seen = W.seen c.args.wire.now in
     let a : AtWait (RestsOf H.told H.quiet (H.known house).present) (noted (H.told house) (H.known house)) seen lists.own lists.held lists.failed (H.queue house) c.args.engine.now =
-        at-wait H.told H.quiet house (H.known house) seen lists.own lists.held lists.failed (H.queue house) c.args.engine.now c.requires.housed c.requires.ready c.requires.closed c.requires.refused c.requires.on c.requires.hears in
+    at-wait H.told H.quiet house (H.known house) seen lists.own lists.held lists.failed (H.queue house) c.args.engine.now c.requires.housed c.requires.ready c.requires.closed c.requires.refused c.requires.on c.requires.hears in
     let w : HasWaited seen (W.seen c.wait-told.new.self) lists.own lists.failed (H.queue house) c.args.engine.now c.wait-told.result c.wait-told.new.into =
-        has-waited seen (W.seen c.wait-told.new.self) lists.own lists.failed (H.queue house) c.args.engine.now c.wait-told.result c.wait-told.new.into c.as_bytes.result.now c.list_waiting.new.todo c.waiting.result.now c.wanted.result c.wait-told.ensures.seen c.in_ok-list_waiting.ensures c.waiting.ensures.exact c.wanted.ensures c.next_of.ensures.bytes c.as_bytes.ensures.bytes c.wait-told.ensures.turn c.wait-told.ensures.own_turn in
+    has-waited seen (W.seen c.wait-told.new.self) lists.own lists.failed (H.queue house) c.args.engine.now c.wait-told.result c.wait-told.new.into c.as_bytes.result.now c.list_waiting.new.todo c.waiting.result.now c.wanted.result c.wait-told.ensures.seen c.in_ok-list_waiting.ensures c.waiting.ensures.exact c.wanted.ensures c.next_of.ensures.bytes c.as_bytes.ensures.bytes c.wait-told.ensures.turn c.wait-told.ensures.own_turn in
     let next : IsOwnOf c.in-Own.told c.wait-told.result c.wait-told.new.into = subst (λ (b : List ℕ). IsOwnOf c.in-Own.told c.wait-told.result b) c.as_bytes.ensures.bytes c.in-Own.ensures.next in
     own-noted c.in-Own.told _ _ _ _ _ _ _ _ c.hear.ensures.told c.in_ok-hear-in-Own.ensures.known c.in_ok-hear-in-Own.ensures.held c.in_ok-hear-in-Own.ensures.failed (turn-owns v a w c.in-Own.told next)
 
@@ -192,9 +192,9 @@ returns-in_ok-hear-in-Own-clause-housed g c =
     let lists = c.args.lists.now in
     let seen : Seen = W.seen c.args.wire.now in
     let a : AtWait (RestsOf H.told H.quiet (H.known house).present) (noted (H.told house) (H.known house)) seen lists.own lists.held lists.failed (H.queue house) c.args.engine.now =
-        at-wait H.told H.quiet house (H.known house) seen lists.own lists.held lists.failed (H.queue house) c.args.engine.now c.requires.housed c.requires.ready c.requires.closed c.requires.refused c.requires.on c.requires.hears in
+    at-wait H.told H.quiet house (H.known house) seen lists.own lists.held lists.failed (H.queue house) c.args.engine.now c.requires.housed c.requires.ready c.requires.closed c.requires.refused c.requires.on c.requires.hears in
     let w : HasWaited seen (W.seen c.wait-told.new.self) lists.own lists.failed (H.queue house) c.args.engine.now c.wait-told.result c.wait-told.new.into =
-        has-waited seen (W.seen c.wait-told.new.self) lists.own lists.failed (H.queue house) c.args.engine.now c.wait-told.result c.wait-told.new.into c.as_bytes.result.now c.list_waiting.new.todo c.waiting.result.now c.wanted.result c.wait-told.ensures.seen c.in_ok-list_waiting.ensures c.waiting.ensures.exact c.wanted.ensures c.next_of.ensures.bytes c.as_bytes.ensures.bytes c.wait-told.ensures.turn c.wait-told.ensures.own_turn in
+    has-waited seen (W.seen c.wait-told.new.self) lists.own lists.failed (H.queue house) c.args.engine.now c.wait-told.result c.wait-told.new.into c.as_bytes.result.now c.list_waiting.new.todo c.waiting.result.now c.wanted.result c.wait-told.ensures.seen c.in_ok-list_waiting.ensures c.waiting.ensures.exact c.wanted.ensures c.next_of.ensures.bytes c.as_bytes.ensures.bytes c.wait-told.ensures.turn c.wait-told.ensures.own_turn in
     let next : IsOwnOf c.in-Own.told c.wait-told.result c.wait-told.new.into = subst (λ (b : List ℕ). IsOwnOf c.in-Own.told c.wait-told.result b) c.as_bytes.ensures.bytes c.in-Own.ensures.next in
     turn-own-housed w c.in-Own.told next (H.known house) _ _ c.requires.housed c.in_ok-hear-in-Own.ensures.known c.in_ok-hear-in-Own.ensures.own
 
@@ -206,9 +206,9 @@ returns-in_ok-hear-in-Own-clause-alone g c =
     let lists = c.args.lists.now in
     let seen : Seen = W.seen c.args.wire.now in
     let a : AtWait (RestsOf H.told H.quiet (H.known house).present) (noted (H.told house) (H.known house)) seen lists.own lists.held lists.failed (H.queue house) c.args.engine.now =
-        at-wait H.told H.quiet house (H.known house) seen lists.own lists.held lists.failed (H.queue house) c.args.engine.now c.requires.housed c.requires.ready c.requires.closed c.requires.refused c.requires.on c.requires.hears in
+    at-wait H.told H.quiet house (H.known house) seen lists.own lists.held lists.failed (H.queue house) c.args.engine.now c.requires.housed c.requires.ready c.requires.closed c.requires.refused c.requires.on c.requires.hears in
     let w : HasWaited seen (W.seen c.wait-told.new.self) lists.own lists.failed (H.queue house) c.args.engine.now c.wait-told.result c.wait-told.new.into =
-        has-waited seen (W.seen c.wait-told.new.self) lists.own lists.failed (H.queue house) c.args.engine.now c.wait-told.result c.wait-told.new.into c.as_bytes.result.now c.list_waiting.new.todo c.waiting.result.now c.wanted.result c.wait-told.ensures.seen c.in_ok-list_waiting.ensures c.waiting.ensures.exact c.wanted.ensures c.next_of.ensures.bytes c.as_bytes.ensures.bytes c.wait-told.ensures.turn c.wait-told.ensures.own_turn in
+    has-waited seen (W.seen c.wait-told.new.self) lists.own lists.failed (H.queue house) c.args.engine.now c.wait-told.result c.wait-told.new.into c.as_bytes.result.now c.list_waiting.new.todo c.waiting.result.now c.wanted.result c.wait-told.ensures.seen c.in_ok-list_waiting.ensures c.waiting.ensures.exact c.wanted.ensures c.next_of.ensures.bytes c.as_bytes.ensures.bytes c.wait-told.ensures.turn c.wait-told.ensures.own_turn in
     let next : IsOwnOf c.in-Own.told c.wait-told.result c.wait-told.new.into = subst (λ (b : List ℕ). IsOwnOf c.in-Own.told c.wait-told.result b) c.as_bytes.ensures.bytes c.in-Own.ensures.next in
     alone-heard c.in-Own.told _ _ _ (turn-fits w c.in-Own.told next (H.known house) (H.quiet house) c.requires.housed c.requires.alone c.requires.ready) c.in_ok-hear-in-Own.ensures.known c.requires.alone
 
@@ -220,9 +220,9 @@ returns-in_ok-hear-in-Own-clause-held_is g c =
     let lists = c.args.lists.now in
     let seen : Seen = W.seen c.args.wire.now in
     let a : AtWait (RestsOf H.told H.quiet (H.known house).present) (noted (H.told house) (H.known house)) seen lists.own lists.held lists.failed (H.queue house) c.args.engine.now =
-        at-wait H.told H.quiet house (H.known house) seen lists.own lists.held lists.failed (H.queue house) c.args.engine.now c.requires.housed c.requires.ready c.requires.closed c.requires.refused c.requires.on c.requires.hears in
+    at-wait H.told H.quiet house (H.known house) seen lists.own lists.held lists.failed (H.queue house) c.args.engine.now c.requires.housed c.requires.ready c.requires.closed c.requires.refused c.requires.on c.requires.hears in
     let w : HasWaited seen (W.seen c.wait-told.new.self) lists.own lists.failed (H.queue house) c.args.engine.now c.wait-told.result c.wait-told.new.into =
-        has-waited seen (W.seen c.wait-told.new.self) lists.own lists.failed (H.queue house) c.args.engine.now c.wait-told.result c.wait-told.new.into c.as_bytes.result.now c.list_waiting.new.todo c.waiting.result.now c.wanted.result c.wait-told.ensures.seen c.in_ok-list_waiting.ensures c.waiting.ensures.exact c.wanted.ensures c.next_of.ensures.bytes c.as_bytes.ensures.bytes c.wait-told.ensures.turn c.wait-told.ensures.own_turn in
+    has-waited seen (W.seen c.wait-told.new.self) lists.own lists.failed (H.queue house) c.args.engine.now c.wait-told.result c.wait-told.new.into c.as_bytes.result.now c.list_waiting.new.todo c.waiting.result.now c.wanted.result c.wait-told.ensures.seen c.in_ok-list_waiting.ensures c.waiting.ensures.exact c.wanted.ensures c.next_of.ensures.bytes c.as_bytes.ensures.bytes c.wait-told.ensures.turn c.wait-told.ensures.own_turn in
     let next : IsOwnOf c.in-Own.told c.wait-told.result c.wait-told.new.into = subst (λ (b : List ℕ). IsOwnOf c.in-Own.told c.wait-told.result b) c.as_bytes.ensures.bytes c.in-Own.ensures.next in
     c.in_ok-hear-in-Own.ensures.held ∙ (turn-owns c.requires.served.serving a w c.in-Own.told next).held_is
 
@@ -236,9 +236,9 @@ returns-in-Freed-clause-serving g c before policy pid start given v =
     let lists = c.args.lists.now in
     let seen : Seen = W.seen c.args.wire.now in
     let a : AtWait (RestsOf H.told H.quiet (H.known house).present) (noted (H.told house) (H.known house)) seen lists.own lists.held lists.failed (H.queue house) c.args.engine.now =
-        at-wait H.told H.quiet house (H.known house) seen lists.own lists.held lists.failed (H.queue house) c.args.engine.now c.requires.housed c.requires.ready c.requires.closed c.requires.refused c.requires.on c.requires.hears in
+    at-wait H.told H.quiet house (H.known house) seen lists.own lists.held lists.failed (H.queue house) c.args.engine.now c.requires.housed c.requires.ready c.requires.closed c.requires.refused c.requires.on c.requires.hears in
     let w : HasWaited seen (W.seen c.wait-told.new.self) lists.own lists.failed (H.queue house) c.args.engine.now c.wait-told.result c.wait-told.new.into =
-        has-waited seen (W.seen c.wait-told.new.self) lists.own lists.failed (H.queue house) c.args.engine.now c.wait-told.result c.wait-told.new.into c.as_bytes.result.now c.list_waiting.new.todo c.waiting.result.now c.wanted.result c.wait-told.ensures.seen c.in_ok-list_waiting.ensures c.waiting.ensures.exact c.wanted.ensures c.next_of.ensures.bytes c.as_bytes.ensures.bytes c.wait-told.ensures.turn c.wait-told.ensures.own_turn in
+    has-waited seen (W.seen c.wait-told.new.self) lists.own lists.failed (H.queue house) c.args.engine.now c.wait-told.result c.wait-told.new.into c.as_bytes.result.now c.list_waiting.new.todo c.waiting.result.now c.wanted.result c.wait-told.ensures.seen c.in_ok-list_waiting.ensures c.waiting.ensures.exact c.wanted.ensures c.next_of.ensures.bytes c.as_bytes.ensures.bytes c.wait-told.ensures.turn c.wait-told.ensures.own_turn in
     subst (λ (l : List ℕ). Serving H.may (RestsOf H.told H.quiet (H.known house).present) before (noted (H.told house) (H.known house)) policy pid start (W.seen c.wait-told.new.self) l lists.failed (given + 1) (0 ∷ here c.args.engine.now) c.args.engine.now) (sym c.remove.ensures)
     (turn-frees v a w c.in-Freed.stream c.in-Freed.ensures.next.0 c.in-Freed.ensures.next.1)
 
@@ -252,7 +252,7 @@ returns-in-NoMemory-clause-serving g c before policy pid start given v =
     let lists = c.args.lists.now in
     let seen : Seen = W.seen c.args.wire.now in
     let a : AtWait (RestsOf H.told H.quiet (H.known house).present) (noted (H.told house) (H.known house)) seen lists.own lists.held lists.failed (H.queue house) c.args.engine.now =
-        at-wait H.told H.quiet house (H.known house) seen lists.own lists.held lists.failed (H.queue house) c.args.engine.now c.requires.housed c.requires.ready c.requires.closed c.requires.refused c.requires.on c.requires.hears in
+    at-wait H.told H.quiet house (H.known house) seen lists.own lists.held lists.failed (H.queue house) c.args.engine.now c.requires.housed c.requires.ready c.requires.closed c.requires.refused c.requires.on c.requires.hears in
     let w : HasWaited seen (W.seen c.wait-told.new.self) lists.own lists.failed (H.queue house) c.args.engine.now c.wait-told.result c.wait-told.new.into =
-        has-waited seen (W.seen c.wait-told.new.self) lists.own lists.failed (H.queue house) c.args.engine.now c.wait-told.result c.wait-told.new.into c.as_bytes.result.now c.list_waiting.new.todo c.waiting.result.now c.wanted.result c.wait-told.ensures.seen c.in_ok-list_waiting.ensures c.waiting.ensures.exact c.wanted.ensures c.next_of.ensures.bytes c.as_bytes.ensures.bytes c.wait-told.ensures.turn c.wait-told.ensures.own_turn in
+    has-waited seen (W.seen c.wait-told.new.self) lists.own lists.failed (H.queue house) c.args.engine.now c.wait-told.result c.wait-told.new.into c.as_bytes.result.now c.list_waiting.new.todo c.waiting.result.now c.wanted.result c.wait-told.ensures.seen c.in_ok-list_waiting.ensures c.waiting.ensures.exact c.wanted.ensures c.next_of.ensures.bytes c.as_bytes.ensures.bytes c.wait-told.ensures.turn c.wait-told.ensures.own_turn in
     turn-starved v a w c.in-NoMemory.ensures.next
