@@ -12,23 +12,23 @@ use Rattle.mux_history.specs.Policy.{Policy}
 use Rattle.mux_machine.specs.State.{State}
 use Rattle.mux_machine.specs.Events.{here}
 use Rattle.mux_engine.specs.Serving.{EndsTurn, Promised, Serving, Spends}
-use Rattle.mux_engine.specs.Sides.{Side}
+use Rattle.mux_engine.specs.Sides.{Resting, Side}
 use Rattle.mux_engine.proofs.Lists.{true-false}
 use Rattle.mux_engine.proofs.Runs.{promised-more}
 use Rattle.mux_engine.proofs.Todo.{serve-todo}
 
 module _ {May : HouseReply → Type 0} {before : Option (List HouseMark)} {policy : Policy} {pid : ℕ} {start : Option (List Mark)} where
   -- with a house that is present just so
-  pub present-is : {now : Side} {seen : Seen} {held failed : List ℕ} {given : ℕ} {todo : List ℕ} {s : State} (R : Bool → Option (List HouseMark) → Type 0) (p q : Bool) → p ≡ q → Serving May (R p) before now policy pid start seen held failed given todo s → Serving May (R q) before now policy pid start seen held failed given todo s
+  pub present-is : {now : Side} {seen : Seen} {held failed : List ℕ} {given : ℕ} {todo : List ℕ} {s : State} (R : Bool → Resting) (p q : Bool) → p ≡ q → Serving May (R p) before now policy pid start seen held failed given todo s → Serving May (R q) before now policy pid start seen held failed given todo s
   present-is {now} {seen} {held} {failed} {given} {todo} {s} R p q e v = subst (λ (b : Bool). Serving May (R b) before now policy pid start seen held failed given todo s) e v
 
-  pub promised-is : {now : Option (List HouseMark)} {told : Option (List Mark)} {given : ℕ} (R : Bool → Option (List HouseMark) → Type 0) (p q : Bool) → p ≡ q → Promised May (R p) before now policy pid start told given → Promised May (R q) before now policy pid start told given
+  pub promised-is : {now : Option (List HouseMark)} {told : Option (List Mark)} {given : ℕ} (R : Bool → Resting) (p q : Bool) → p ≡ q → Promised May (R p) before now policy pid start told given → Promised May (R q) before now policy pid start told given
   promised-is {now} {told} {given} R p q e v = subst (λ (b : Bool). Promised May (R b) before now policy pid start told given) e v
 
-  pub ends-is : {on : Bool} {now : Side} {seen : Seen} {held failed : List ℕ} {given : ℕ} {todo : List ℕ} {s : State} (R : Bool → Option (List HouseMark) → Type 0) (p q : Bool) → p ≡ q → EndsTurn on given May (R p) before now policy pid start seen held failed todo s → EndsTurn on given May (R q) before now policy pid start seen held failed todo s
+  pub ends-is : {on : Bool} {now : Side} {seen : Seen} {held failed : List ℕ} {given : ℕ} {todo : List ℕ} {s : State} (R : Bool → Resting) (p q : Bool) → p ≡ q → EndsTurn on given May (R p) before now policy pid start seen held failed todo s → EndsTurn on given May (R q) before now policy pid start seen held failed todo s
   ends-is {on} {now} {seen} {held} {failed} {given} {todo} {s} R p q e v = subst (λ (b : Bool). EndsTurn on given May (R b) before now policy pid start seen held failed todo s) e v
 
-module _ {May : HouseReply → Type 0} {Rest : Option (List HouseMark) → Type 0} {before : Option (List HouseMark)} {policy : Policy} {pid : ℕ} {start : Option (List Mark)} where
+module _ {May : HouseReply → Type 0} {Rest : Resting} {before : Option (List HouseMark)} {policy : Policy} {pid : ℕ} {start : Option (List Mark)} where
   -- with so many turns
   pub given-is : {now : Side} {seen : Seen} {held failed : List ℕ} {todo : List ℕ} {s : State} (given given' : ℕ) → given ≡ given' → Serving May Rest before now policy pid start seen held failed given todo s → Serving May Rest before now policy pid start seen held failed given' todo s
   given-is {now} {seen} {held} {failed} {todo} {s} given given' e v = subst (λ n. Serving May Rest before now policy pid start seen held failed n todo s) e v
