@@ -235,7 +235,7 @@ abbrev fate_end : Option Ended → Fate → Option Ended
 fate_end before fate = elim fate as (λ _. Option Ended) [ End cause ↦ Some cause | Goes ↦ before | Refused ↦ before | Drop why ↦ before ]
 
 fate-unfailed : (before : Option Ended) (f : Fate) → IsUnfailed f → NotFailed before → NotFailed (fate_end before f)
-fate-unfailed before (End cause) h n = (λ t. h.0 (let s : Some cause ≡ Some ended.ServerFailed = t in cc), λ t. h.1.0 (let s : Some cause ≡ Some ended.Spent = t in cc), λ index t. h.1.1 index (let s : Some cause ≡ Some (ended.StartRefused index) = t in cc))
+fate-unfailed before (End cause) h n = (λ t. h.0 (let s : Some cause ≡ Some ended.ServerFailed = t in cc), λ t. h.1 (let s : Some cause ≡ Some ended.Spent = t in cc), λ index t. h.2 index (let s : Some cause ≡ Some (ended.StartRefused index) = t in cc))
 fate-unfailed before Goes h n = n
 fate-unfailed before Refused h n = n
 fate-unfailed before (Drop cause) h n = n
