@@ -114,7 +114,7 @@ module _ {May : HouseReply → Type 0} {Rest : Resting} {before : Option (List H
   event-heeds (Ok x) s' asks told told' known known' seen0 seen'' is same_told same_asks same_present h =
       let h' : HeedsSo May e s s' asks told told' known known' seen' seen'' (length asks) = subst (λ (y : Seen). HeedsSo May e s s' asks told told' known known' y seen'' (length asks)) is h in
       let goes : Serving May Rest before (record { told = told'; asks = known'.asks; unnoted = drop (length asks) asks; let_in = now.let_in }) policy pid start seen'' held failed given' (0 ∷ here s') s' =
-          event-goes v live e seen' given' at s' asks told told' known known' seen'' (length asks) same_told same_asks h' in
+      event-goes v live e seen' given' at s' asks told told' known known' seen'' (length asks) same_told same_asks h' in
       let within : now.let_in ≡ known'.present = same_present ∙ sym (ap (λ (k : Known). k.present) h.known_is ∙ (after-asks asks known).present) in
       subst (λ (b : Bool). Serving May Rest before (record { told = told'; asks = known'.asks; unnoted = []; let_in = b }) policy pid start seen'' held failed given' (0 ∷ here s') s') within
       (subst (λ (l : List HouseMark). Serving May Rest before (record { told = told'; asks = known'.asks; unnoted = l; let_in = now.let_in }) policy pid start seen'' held failed given' (0 ∷ here s') s') (drop-all asks) goes)

@@ -212,7 +212,7 @@ starts May Rest now policy pid seen s stands e f clients refused unasked noted o
       of_wire = subst (λ (l : List ℕ). OfWire l seen.blocked seen.last []) (sym streams) (subst (λ (l : List ℕ). OfWire (0 ∷ []) l seen.last []) (sym blocked) (wire-keeps (0 ∷ []) [] seen.last [] [] 0 []).none);
       turns = refl;
       open_are = ap not_own (streams ∙ ap (λ l. 0 ∷ l) (sym none));
-      apart = λ k a. true-false (sym (ap (among k) (sym none)) ∙ a);
+      apart = λ k a. true-false (sym a ∙ ap (among k) none);
       held_is = sym blocked;
       blocked_is = λ t a. ap (among t) blocked;
       unseen = λ k lt le. record { not_accepted = refl; never_blocked = refl; not_blocked = ap (among k) blocked };
