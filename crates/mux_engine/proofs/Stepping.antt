@@ -120,11 +120,31 @@ failed-then old new a b live (inr f) is = f.1
 -- ---- results
 
 -- what is so of each value
-pub match-ok : {A E : Type 0} (r : Result A E) {P : A → Type 0} {Q : E → Type 0} {R : Type 0} → ((x : A) → P x → R) → MatchResult r P Q → OnOk r R
-match-ok (Ok x) f m = f x m
-match-ok (Err e) f m = tt
+pub match-ok : {A E : Type 0} (r : Result A E) (P : A → Type 0) (Q : E → Type 0) (R : Type 0) → ((x : A) → P x → R) → MatchResult r P Q → OnOk r R
+match-ok (Ok x) P Q R f m = f x m
+match-ok (Err e) P Q R f m = tt
 
 -- what follows where it is false
 pub where-false : {E : Type 0} (r : Result Bool E) {X Y Z W V : Type 0} → (X → Y → Z → W → V) → IfOk r (λ more. more ≡ false → X) → IfOk r (λ more. more ≡ false → Y) → IfOk r (λ more. more ≡ false → Z) → IfOk r (λ more. more ≡ false → W) → IfOk r (λ more. more ≡ false → V)
 where-false (Ok b) f x y z w = λ e. f (x e) (y e) (z e) (w e)
 where-false (Err e) f x y z w = tt
+
+-- ---- ready for a wait
+
+-- it said nothing more
+pub silent-ready : (known known' : Known) (quiet quiet' : Quiet) (queue queue' : ℕ → List ℕ) (held held' failed own : List ℕ) (s : State) → known.present ≡ true → HasNoMore known quiet queue held failed own → ((t : ℕ) → among t held ≡ true → among t held' ≡ true) → quiet' ≡ quiet → quiet'.says ≡ true → ((t : ℕ) → queue' t ≡ queue t) → IsReady known' quiet' queue' held' failed own s
+silent-ready known known' quiet quiet' queue queue' held held' failed own s here_is n holds same says queues =
+    let orders : quiet'.orders ≡ true = ap (λ (q : Quiet). q.orders) same ∙ n.orders here_is in
+    let answers : quiet'.answers ≡ true = ap (λ (q : Quiet). q.answers) same ∙ n.answers here_is in
+    let offered = still-no-more known known quiet quiet' queue queue' held held' failed own refl same queues holds n in
+    record {
+      no_more = record { orders = λ is. orders; answers = λ is. answers; offered = offered.offered };
+      rests = λ is read. at-rest quiet' says orders answers;
+    }
+
+-- it was not asked, since nothing more is read
+pub shut-ready : (known : Known) (quiet : Quiet) (queue : ℕ → List ℕ) (held held' failed own : List ℕ) (s : State) → HasNoMore known quiet queue held failed own → ((t : ℕ) → among t held ≡ true → among t held' ≡ true) → (known.present ≡ true → want_of s ≡ WriteOnly) → IsReady known quiet queue held' failed own s
+shut-ready known quiet queue held held' failed own s n holds shut = record {
+  no_more = still-no-more known known quiet quiet queue queue held held' failed own refl refl (λ t. refl) holds n;
+  rests = λ is read. absurd (let z : WriteOnly ≡ Read = sym (shut is) ∙ read in cc);
+}

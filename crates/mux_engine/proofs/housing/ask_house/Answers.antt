@@ -5,7 +5,8 @@ use Rattle.mux_history.specs.declared.limits.TheConstants.{HOUSE}
 use Rattle.mux_machine.specs.Events.{here}
 use Rattle.mux_engine.specs.Owned.{IsOffered}
 use Rattle.mux_engine.specs.Rests.{HasNoMore}
-use Rattle.mux_engine.specs.Sides.{Housed, SameHouse, noted}
+use Rattle.mux_engine.specs.Serving.{Serving}
+use Rattle.mux_engine.specs.Sides.{Housed, RestsOf, SameHouse, noted}
 use Rattle.mux_engine.specs.declared.room.Lists.{Lists}
 use Rattle.mux_engine.proofs.Arms.{on-err, on-ok}
 use Rattle.mux_engine.proofs.Lists.{true-false}
@@ -34,7 +35,7 @@ next_order-requires g c =
     let W = g.W.Wire in
     let here_is : (H.known c.args.house.now).present ≡ true = sym c.present.ensures.present ∙ c.if-not-present.false in
     let same : SameHouse (H.known c.args.house.now) (H.known c.reply_all.new.house) = c.in_ok-reply_all.ensures.known in
-    subst (λ (l : List ℕ). Housed (H.known c.reply_all.new.house) (W.seen c.reply_all.new.wire) l) (sym c.reply_all.ensures.own) (housed-still _ _ _ _ c.args.lists.now.own same c.reply_all.ensures.places c.requires.housed)
+    record { housed = subst (λ (l : List ℕ). Housed (H.known c.reply_all.new.house) (W.seen c.reply_all.new.wire) l) (sym c.reply_all.ensures.own) (housed-still _ _ _ _ c.args.lists.now.own same c.reply_all.ensures.places c.requires.housed) }
 
 pub returns-clause-serving : goal.returns-clause-serving
 returns-clause-serving g c before policy pid start given v =
@@ -53,7 +54,7 @@ returns-clause-held_is g c =
     let here_is : (H.known c.args.house.now).present ≡ true = sym c.present.ensures.present ∙ c.if-not-present.false in
     let same : SameHouse (H.known c.args.house.now) (H.known c.reply_all.new.house) = c.in_ok-reply_all.ensures.known in
     let s = c.requires.served in
-    match-ok c.next_order.result (λ (more : Bool) x. x.held_is) ((runs-same c.next_order.result H.may H.told H.quiet (noted (H.told c.reply_all.new.house) (H.known c.reply_all.new.house)) (noted (H.told c.next_order.new.house) (H.known c.next_order.new.house)) (W.seen c.reply_all.new.wire) (W.seen c.next_order.new.wire) c.reply_all.new.lists.held c.next_order.new.lists.held c.reply_all.new.lists.failed c.next_order.new.lists.failed 1 (λ (more : Bool). cond more 1 0) (0 ∷ without HOUSE (here c.reply_all.new.engine)) (λ (more : Bool). 0 ∷ without HOUSE (here c.reply_all.new.engine)) c.reply_all.new.engine c.reply_all.new.engine (H.known c.args.house.now).present (H.known c.reply_all.new.house).present same.present
+    match-ok c.next_order.result (λ (more : Bool). Serving H.may (RestsOf H.told H.quiet (H.known c.args.house.now).present) s.before (noted (H.told c.next_order.new.house) (H.known c.next_order.new.house)) s.policy s.pid s.start (W.seen c.next_order.new.wire) c.next_order.new.lists.held c.next_order.new.lists.failed (s.given + cond more 1 0) (0 ∷ without HOUSE (here c.reply_all.new.engine)) c.reply_all.new.engine) _ _ (λ (more : Bool) x. x.held_is) ((runs-same c.next_order.result H.may H.told H.quiet (noted (H.told c.reply_all.new.house) (H.known c.reply_all.new.house)) (noted (H.told c.next_order.new.house) (H.known c.next_order.new.house)) (W.seen c.reply_all.new.wire) (W.seen c.next_order.new.wire) c.reply_all.new.lists.held c.next_order.new.lists.held c.reply_all.new.lists.failed c.next_order.new.lists.failed 1 (λ (more : Bool). cond more 1 0) (0 ∷ without HOUSE (here c.reply_all.new.engine)) (λ (more : Bool). 0 ∷ without HOUSE (here c.reply_all.new.engine)) c.reply_all.new.engine c.reply_all.new.engine (H.known c.args.house.now).present (H.known c.reply_all.new.house).present same.present
     (c.next_order.ensures.serving (0 ∷ without HOUSE (here c.reply_all.new.engine)) c.reply_all.new.engine)) s.before s.policy s.pid s.start s.given
     (a-turn (ok-serves c.reply_all.result _ _ c.in_ok-reply_all.was (c.reply_all.ensures.serving s.before s.policy s.pid s.start s.given s.serving))))
 
