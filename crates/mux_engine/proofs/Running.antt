@@ -1,19 +1,20 @@
 -- The turns of a run, one after the other.
-use Rattle.std.proofs.Common.{◌≡◌, ◌≢◌, ◌≤◌, ◌<◌, ◌+◌, ℕ, Bool, true, false, List, [], ◌∷◌, Option, None, refl, sym, ap, ◌∙◌, subst, inl, inr, arith}
-use Rattle.std.specs.Prelude.{if◌then◌else◌}
+use Rattle.std.proofs.Common.{◌≡◌, ◌≢◌, ◌≤◌, ◌<◌, ◌+◌, ◌++◌, ◌||◌, ℕ, Bool, true, false, List, [], ◌∷◌, Option, None, refl, sym, ap, ◌∙◌, subst, inl, inr, arith}
+use Rattle.std.specs.Prelude.{if◌then◌else◌, Result, Ok, Err, MatchResult, OnOk}
+use Rattle.mux_outside.specs.House.{Known}
 use Rattle.mux_outside.specs.Seen.{Seen}
-use Rattle.mux_outside.specs.Streams.{among}
+use Rattle.mux_outside.specs.Streams.{among, without}
+use Rattle.mux_history.specs.declared.limits.TheConstants.{HOUSE}
 use Rattle.mux_outside.specs.declared.house.HouseReply.{HouseReply}
 use Rattle.mux_outside.specs.declared.house_mark.HouseMark.{HouseMark}
 use Rattle.mux_outside.specs.declared.mark.Mark.{Mark}
-use Rattle.mux_outside.specs.OwnStreams.{is_own}
-use Rattle.mux_history.specs.declared.limits.TheConstants.{HOUSE}
 use Rattle.mux_history.specs.Policy.{Policy}
 use Rattle.mux_machine.specs.State.{State}
 use Rattle.mux_machine.specs.Events.{here}
 use Rattle.mux_engine.specs.Serving.{EndsTurn, Promised, Serving, Spends}
-use Rattle.mux_engine.specs.Sides.{Resting, Side}
-use Rattle.mux_engine.proofs.Lists.{true-false}
+use Rattle.mux_engine.specs.Sides.{Resting, Side, noted, outside}
+use Rattle.mux_engine.proofs.Lists.{apart-or-left, test-other, true-false, without-other}
+use Rattle.mux_engine.proofs.Loops.{neither}
 use Rattle.mux_engine.proofs.Runs.{promised-more}
 use Rattle.mux_engine.proofs.Todo.{serve-todo}
 
@@ -61,3 +62,35 @@ module _ {May : HouseReply → Type 0} {Rest : Resting} {before : Option (List H
 
   pub all-spent : {now : Side} {seen : Seen} {held failed : List ℕ} {todo : List ℕ} {s : State} (given turns : ℕ) → given ≡ turns → Serving May Rest before now policy pid start seen held failed given todo s → Spends true turns May Rest before now policy pid start seen held failed todo s
   all-spent given turns e v = record { given = given; most = omega arith; all_given = λ t. e; serving = v }
+
+-- ---- results
+
+pub both-ok : {A E : Type 0} (r : Result A E) {P Q S : Type 0} (T : Type 0) → (P → S → Q) → MatchResult r (λ x. P) (λ e. T) → OnOk r S → MatchResult r (λ x. Q) (λ e. T)
+both-ok (Ok x) T f p s = f p s
+both-ok (Err e) T f p s = p
+
+pub match-more : {A E : Type 0} (r : Result A E) {P Q : Type 0} (T : Type 0) → (P → Q) → MatchResult r (λ x. P) (λ e. T) → MatchResult r (λ x. Q) (λ e. T)
+match-more (Ok x) T f p = f p
+match-more (Err e) T f p = p
+
+-- ---- a house that is let in
+
+abbrev side-with : Option (List HouseMark) → Known → Bool → Side
+side-with told known let_in = record { told = told; asks = known.asks; unnoted = []; let_in = let_in }
+
+pub still-outside : (told : Option (List HouseMark)) (known : Known) → known.present ≡ false → outside told known ≡ noted told known
+still-outside told known absent = ap (side-with told known) (sym absent)
+
+pub let-inside : (told : Option (List HouseMark)) (known : Known) → known.present ≡ true → side-with told known true ≡ noted told known
+let-inside told known there = ap (side-with told known) (sym there)
+
+-- ---- the end
+
+-- the streams of clients and then the house are left to be offered something
+pub to-house : {May : HouseReply → Type 0} {Rest : Resting} {before : Option (List HouseMark)} {now : Side} {policy : Policy} {pid : ℕ} {start : Option (List Mark)} {seen : Seen} {held failed : List ℕ} {given : ℕ} {s : State} → Serving May Rest before now policy pid start seen held failed given (0 ∷ here s) s
+    → Serving May Rest before now policy pid start seen held failed given (0 ∷ (without HOUSE (here s) ++ HOUSE ∷ [])) s
+to-house {s = s} v = serve-todo v (0 ∷ (without HOUSE (here s) ++ HOUSE ∷ [])) (λ t a. inl (covers t (apart-or-left 0 t (without HOUSE (here s) ++ HOUSE ∷ []) a)))
+  where
+    covers : (t : ℕ) → (0 ≢ t) × (among t (without HOUSE (here s) ++ HOUSE ∷ []) ≡ false) → among t (0 ∷ here s) ≡ false
+    covers t p = let q = neither t (without HOUSE (here s)) (HOUSE ∷ []) p.1 in let o = apart-or-left HOUSE t [] q.1 in
+        ap (λ b. b || among t (here s)) (test-other 0 t p.0) ∙ (sym (without-other HOUSE t (here s) o.0) ∙ q.0)

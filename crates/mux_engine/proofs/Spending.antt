@@ -145,3 +145,6 @@ stops-spent present false turns answer a b s unless none = let e : b.wants ≡ a
   starved = λ n. absurd (n e);
   late = s.late;
 }
+
+pub turned-is : (p q on on' : Bool) (b c : Calls) → p ≡ q → on ≡ on' → Turned p on b c → Turned q on' b c
+turned-is p q on on' b c e f t = subst (λ (x : Bool). Turned q x b c) f (subst (λ (x : Bool). Turned x on b c) e t)

@@ -7,7 +7,7 @@ ghost use Rattle.mux_outside.specs.Wire.{SameFaults};
 ghost use Rattle.mux_outside.specs.declared.house_mark.HouseMark.{HouseMark as TheHouseMark};
 ghost use Rattle.mux_outside.specs.declared.mark.Mark.{Mark as TheMark};
 ghost use Rattle.mux_outside.specs.declared.own_streams.TheConstants.{LAST_CLIENT as LastClient};
-ghost use Rattle.mux_history.specs.declared.ended.Ended.TheVariants.{ServerFailed, OutOfMemory as WantOfMemory, Spent as TurnsSpent, StartRefused as StartWasRefused};
+ghost use Rattle.mux_history.specs.declared.ended.Ended.TheVariants.{ServerFailed, OutOfMemory as WantOfMemory, Spent as TurnsSpent};
 ghost use Rattle.mux_history.specs.declared.limits.TheConstants.{HOUSE as TheHouse};
 ghost use Rattle.mux_history.specs.Policy.{Policy as ThePolicy};
 ghost use Rattle.mux_machine.specs.Events.{went_of, here};
@@ -121,6 +121,18 @@ fn refusal<H: House>(house: &H) -> Option<usize>
     house.refused_start()
 }
 
+// Whether the run goes on no more: it ended, or a forwarding of the start was refused.
+fn is_over<H: House>(engine: &Engine, house: &H) -> bool
+    ensures on { result ≡ false → engine.now.ended ≡ None }
+    ensures over { result ≡ true → engine.now.ended ≡ None
+        → refused_if (H.known house.now).present (H.must house.now) (H.refused house.now) ≢ None }
+{
+    if engine.ended().is_some() {
+        return true;
+    }
+    refusal(house).is_some()
+}
+
 // A turn of the run, which is an order of the house, a piece that it said, or a wait: whether the run
 // goes on.
 fn one_turn<W: Wire, H: House>(
@@ -152,15 +164,12 @@ fn one_turn<W: Wire, H: House>(
     ensures alone { OnOk result (IsAlone (H.known house.new)) }
     ensures held_is { OnOk result (lists.new.held ≡ (W.seen wire.new).blocked) }
     ensures present { OnOk result ((H.known house.new).present ≡ (H.known house.old).present) }
-    ensures must { H.must house.new ≡ H.must house.old }
     ensures on { IfOk result (λ on. on ≡ true → engine.new.ended ≡ None) }
     ensures over { IfOk result (λ on. on ≡ false → engine.new.ended ≡ None
         → refused_if (H.known house.new).present (H.must house.new) (H.refused house.new) ≢ None) }
     ensures failed { OnOk result (engine.new.ended ≡ Some ServerFailed
         → Rose (W.server_faults wire.old) (W.server_faults wire.new)) }
     ensures unspent { OnOk result (engine.new.ended ≢ Some TurnsSpent) }
-    ensures permitted { OnOk result ((index : ℕ)
-        → engine.new.ended ≢ Some (StartWasRefused index)) }
     ensures idle { engine.old.waiting ≡ [] → (H.known house.old).present ≡ false
         → IfOk result (λ on. Well 1 (W.calls wire.old) (W.calls wire.new)) }
     ensures later { W.server_faults wire.old ≤ W.server_faults wire.new }
@@ -175,7 +184,7 @@ fn one_turn<W: Wire, H: House>(
     }
     close_lost::<W, H>(engine, wire, &mut lists.held);
     hush::<W, H>(engine, wire);
-    if engine.ended().is_some() || refusal(house).is_some() {
+    if is_over(engine, house) {
         return Ok(false);
     }
     let went = turn(engine, wire, house, lists, piece)?;
@@ -212,15 +221,12 @@ fn turns_of<W: Wire, H: House>(
     ensures housed { OnOk result (Housed (H.known house.new) (W.seen wire.new) lists.new.own) }
     ensures held_is { OnOk result (lists.new.held ≡ (W.seen wire.new).blocked) }
     ensures present { OnOk result ((H.known house.new).present ≡ (H.known house.old).present) }
-    ensures must { H.must house.new ≡ H.must house.old }
     ensures on { IfOk result (λ all. all ≡ true → engine.new.ended ≡ None) }
     ensures over { IfOk result (λ all. all ≡ false → engine.new.ended ≡ None
         → refused_if (H.known house.new).present (H.must house.new) (H.refused house.new) ≢ None) }
     ensures failed { OnOk result (engine.new.ended ≡ Some ServerFailed
         → Rose (W.server_faults wire.old) (W.server_faults wire.new)) }
     ensures unspent { OnOk result (engine.new.ended ≢ Some TurnsSpent) }
-    ensures permitted { OnOk result ((index : ℕ)
-        → engine.new.ended ≢ Some (StartWasRefused index)) }
     ensures later { W.server_faults wire.old ≤ W.server_faults wire.new }
     ensures calls { MatchResult result
         (λ all. Spent (H.known house.old).present all turns (W.calls wire.old) (W.calls wire.new))
@@ -282,14 +288,53 @@ fn enter<W: Wire, H: House>(
     ensures openings { W.openings wire.new ≡ W.openings wire.old }
     ensures joinings { W.joinings wire.new ≡ W.joinings wire.old }
 {
-    if house.present() {
-        let_in::<W, H>(engine, wire, asks)?;
+    if !house.present() {
+        return Ok(());
     }
-    Ok(())
+    let_in::<W, H>(engine, wire, asks)
 }
 
-// Behind the turns of a run: where all were given a house is asked for its replies once more, and
-// each stream is offered what waits for it.
+// Behind the turns of a run, where all were given a house is asked for its replies once more.
+fn last_replies<W: Wire, H: House>(
+    engine: &mut Engine,
+    wire: &mut W,
+    house: &mut H,
+    lists: &mut Lists,
+    all: bool,
+) -> Result<(), OutOfMemory>
+    requires served { ServedWith H.may (RestsOf H.told H.quiet (H.known house.old).present)
+        (noted (H.told house.old) (H.known house.old)) (W.seen wire.old) lists.old.held
+        lists.old.failed (0 ∷ here engine.old) engine.old }
+    requires housed { Housed (H.known house.old) (W.seen wire.old) lists.old.own }
+    requires held_is { lists.old.held ≡ (W.seen wire.old).blocked }
+    requires on { all ≡ true → engine.old.ended ≡ None }
+    ensures serving { RunsOn result H.may (RestsOf H.told H.quiet (H.known house.old).present)
+        (noted (H.told house.old) (H.known house.old))
+        (noted (H.told house.new) (H.known house.new)) (W.seen wire.old) (W.seen wire.new)
+        lists.old.held lists.new.held lists.old.failed lists.new.failed 0 (λ done. 0)
+        (0 ∷ here engine.old) (λ done. 0 ∷ here engine.new) engine.old engine.new }
+    ensures known { OnOk result (SameHouse (H.known house.old) (H.known house.new)) }
+    ensures places { SamePlaces (W.seen wire.old) (W.seen wire.new) }
+    ensures unasked { all ≡ false → house.new ≡ house.old }
+    ensures ended { OnOk result (engine.new.ended ≡ engine.old.ended) }
+    ensures alone { (H.known house.old).present ≡ false → (engine.new ≡ engine.old)
+        × (wire.new ≡ wire.old) }
+    ensures calls { Counts 0 result (W.calls wire.old) (W.calls wire.new) }
+    ensures faults { W.server_faults wire.new ≡ W.server_faults wire.old }
+    ensures openings { W.openings wire.new ≡ W.openings wire.old }
+    ensures joinings { W.joinings wire.new ≡ W.joinings wire.old }
+{
+    if !all {
+        return Ok(());
+    }
+    if !house.present() {
+        return Ok(());
+    }
+    reply_all(engine, wire, house, lists)
+}
+
+// Behind the turns of a run: the house's last replies, and then each stream is offered what waits for
+// it.
 fn finish<W: Wire, H: House>(
     engine: &mut Engine,
     wire: &mut W,
@@ -311,7 +356,6 @@ fn finish<W: Wire, H: House>(
     ensures known { OnOk result (SameHouse (H.known house.old) (H.known house.new)) }
     ensures places { SamePlaces (W.seen wire.old) (W.seen wire.new) }
     ensures unasked { all ≡ false → house.new ≡ house.old }
-    ensures must { H.must house.new ≡ H.must house.old }
     ensures ended { OnOk result (StaysOrFails engine.old.ended engine.new.ended
         (W.server_faults wire.old) (W.server_faults wire.new)) }
     ensures calls { Counts 0 result (W.calls wire.old) (W.calls wire.new) }
@@ -322,9 +366,7 @@ fn finish<W: Wire, H: House>(
         × SameFaults (W.server_faults wire.old) (W.server_faults wire.new)
         (W.client_faults wire.old) (W.client_faults wire.new) }
 {
-    if all && house.present() {
-        reply_all(engine, wire, house, lists)?;
-    }
+    last_replies(engine, wire, house, lists, all)?;
     flush::<W, H>(
         engine,
         wire,
