@@ -4,7 +4,7 @@ ghost use Rattle.mux_outside.specs.Streams.{among};
 ghost use Rattle.mux_outside.specs.Tally.{no_tally};
 ghost use Rattle.mux_outside.specs.Wire.{JoinFaults, OpenFaults, TurnFits, TurnFaults, open_after, blocked_after, last_after};
 ghost use Rattle.mux_outside.specs.Wire.{WroteFits, WroteFaults, blocked_after_write};
-ghost use Rattle.mux_outside.specs.OwnStreams.{is_silent, new_stream};
+ghost use Rattle.mux_outside.specs.OwnStreams.{is_own, is_silent, new_stream};
 ghost use Rattle.mux_outside.specs.Wire.{OwnFault, OwnFits, OwnTurnFaults, OwnWroteFaults, StreamFault, IsNewOwn, NumberFits, own_after, last_own_after};
 ghost use Rattle.mux_outside.specs.declared.own_streams.TheConstants.{LAST_CLIENT};
 ghost use Rattle.mux_outside.specs.declared.turn.Want.TheVariants.{Read as WantsAll};
@@ -210,9 +210,10 @@ impl<R: Files + Net + Clone + Drop> RealWire<R> {
 
     // Whether a stream is open and may give something.
     fn gives(&self, stream: u64) -> bool
-        ensures { result ≡ among stream self.now.streams && not (is_silent stream self.now.own) }
+        ensures { result ≡ among stream self.now.streams
+            && not (is_own stream && is_silent stream self.now.own) }
     {
-        self.streams.contains(stream) && !self.own.is_silent(stream)
+        self.streams.contains(stream) && !(is_own(stream) && self.own.is_silent(stream))
     }
 
     // Takes a stream of the master's own in. An `Err` changes nothing.
