@@ -1,9 +1,12 @@
 //! What the house says as a client: whole frames, each in a piece of its own.
-ghost use Rattle.std.specs.Prelude.{◌≡◌, ◌<◌, ◌≤◌, length, OnOk};
+ghost use Rattle.std.specs.Prelude.{◌≡◌, ◌<◌, ◌≤◌, length, is_some, OnOk, IfOk};
+ghost use Rattle.mux_outside.specs.House.{SaysFits};
+ghost use Rattle.house_relay.specs.Next.{says_of};
+ghost use Rattle.house_forward.specs.Links.{after_saying};
 ghost use Rattle.mux_outside.specs.declared.piece.TheConstants.{LONGEST_PIECE};
 
 use conn_messages::{close, open_failure};
-use house_relay::{MAXIMUM, Saying, WINDOW};
+use house_relay::{Line, MAXIMUM, Relay, Saying, WINDOW};
 use mux_outside::Piece;
 use ssh_fields::{OutOfMemory, put_string, put_u32};
 use ssh_grammar::numbers::{
@@ -47,8 +50,37 @@ pub fn put_frame(alloc: Global, into: &mut Piece, payload: &[u8]) -> Result<(), 
     put_whole(into, &frame)
 }
 
+/// Puts what a relay has to say into the piece, and whether there was something. It has said it then.
+pub fn say(alloc: Global, relay: &mut Relay, into: &mut Piece) -> Result<bool, OutOfMemory>
+    ensures exact { IfOk result (λ said. said ≡ is_some (says_of relay.old)) }
+    ensures fits { SaysFits result into.new }
+    ensures said { IfOk result (λ said. relay.new ≡ after_saying (says_of relay.old) relay.old) }
+    ensures few { length relay.new.held.waiting ≤ length relay.old.held.waiting }
+{
+    let Some(saying) = relay.says() else {
+        return Ok(false);
+    };
+    let payload = payload_of(alloc, relay, saying)?;
+    put_frame(alloc, into, &payload)?;
+    relay.said(saying);
+    Ok(true)
+}
+
+/// Writes what a relay says.
+fn payload_of(alloc: Global, relay: &Relay, saying: Saying) -> Result<Vec<u8>, OutOfMemory> {
+    match &relay.line {
+        Line::Asked { host, port, .. } => open(alloc, relay.number, host.as_bytes(), *port),
+        Line::Offered { remote, .. } => match saying {
+            Saying::Confirmation => confirmation(alloc, *remote, relay.number),
+            _ => in_channel(alloc, Saying::OpenFailure, *remote, &[]),
+        },
+        Line::Live(live) => in_channel(alloc, saying, live.remote, relay.held.front()),
+        Line::Dialing(_) | Line::Opened { .. } | Line::Over => Err(OutOfMemory),
+    }
+}
+
 /// An OPEN of `direct-tcpip` (RFC 4254, section 7.2).
-pub fn open(alloc: Global, number: u32, host: &[u8], port: u32) -> Result<Vec<u8>, OutOfMemory> {
+fn open(alloc: Global, number: u32, host: &[u8], port: u32) -> Result<Vec<u8>, OutOfMemory> {
     let mut payload = Vec::new(alloc);
     payload.push(CHANNEL_OPEN)?;
     put_string(&mut payload, b"direct-tcpip")?;
@@ -71,7 +103,7 @@ fn put_text(out: &mut Vec<u8>, text: &[u8]) -> Result<(), OutOfMemory> {
 }
 
 /// A CONFIRMATION (RFC 4254, section 5.1).
-pub fn confirmation(alloc: Global, remote: u32, number: u32) -> Result<Vec<u8>, OutOfMemory> {
+fn confirmation(alloc: Global, remote: u32, number: u32) -> Result<Vec<u8>, OutOfMemory> {
     let mut payload = Vec::new(alloc);
     payload.push(CHANNEL_OPEN_CONFIRMATION)?;
     put_u32(&mut payload, remote)?;
@@ -82,7 +114,7 @@ pub fn confirmation(alloc: Global, remote: u32, number: u32) -> Result<Vec<u8>, 
 }
 
 /// What a relay says in its confirmed channel.
-pub fn in_channel(
+fn in_channel(
     alloc: Global,
     saying: Saying,
     remote: u32,
