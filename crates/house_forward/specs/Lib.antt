@@ -5,3 +5,4 @@ pub mod Known
 pub mod Links
 pub mod Quiet
 pub mod Rules
+pub mod Said

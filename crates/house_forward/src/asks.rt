@@ -1,6 +1,7 @@
 //! The asks of clients that are to be answered later.
 ghost use Rattle.std.specs.Prelude.{◌≡◌, ◌≤◌, ◌+◌, ◌++◌, ◌∷◌, [], length, OnOk, None};
-ghost use Rattle.mux_outside.specs.House.{AnswerFits, gives_none};
+ghost use Rattle.std.specs.List.{position};
+ghost use Rattle.mux_outside.specs.House.{AnswerFits, gives_none, is_ask};
 ghost use Rattle.house_forward.specs.Asks.{settle_one, settled, refused, counted, owes_opening, earlier, earliest, stamp_of, reply_of, answer_of, answers_in};
 ghost use Rattle.house_forward.specs.Known.{open_ask, open_asks, asks_after_answer};
 ghost use Rattle.house_forward.specs.Quiet.{answers_none};
@@ -140,12 +141,19 @@ impl Asks {
             ≡ length self.old.waiting.items }
     {
         let w = self.earliest()?;
-        let i = self
-            .waiting
-            .iter()
-            .position(|v| v.client == w.client && v.id == w.id)?;
+        let i = self.place_of(w.client, w.id)?;
         self.waiting.remove(i);
         Some((w.client, w.id, w.reply()))
+    }
+
+    /// The place of the first that has this client and id.
+    fn place_of(&self, client: u64, id: u32) -> Option<usize>
+        ensures { result
+            ≡ position (λ w. is_ask client id (open_ask w)) self.now.waiting.items }
+    {
+        self.waiting
+            .iter()
+            .position(|w| w.client == client && w.id == id)
     }
 
     /// The one that came to something first.

@@ -1,6 +1,6 @@
 //! The forwardings of the house, in order of asking.
 ghost use Rattle.std.specs.Prelude.{◌≡◌, ◌≤◌, ◌<◌, ◌+◌, ◌++◌, [], None, true, not, length, map, IfOk, IfSome, OnOk, find, is_some};
-ghost use Rattle.std.specs.List.{sum_by, remove};
+ghost use Rattle.std.specs.List.{position, remove, sum_by};
 ghost use Rattle.std.specs.Option.{option_copied};
 ghost use Rattle.mux_outside.specs.House.{gives_none};
 ghost use Rattle.mux_outside.specs.Streams.{among, without};
@@ -9,7 +9,7 @@ ghost use Rattle.house_forward.specs.Due.{forwarding_due};
 ghost use Rattle.house_forward.specs.Known.{open_asks};
 ghost use Rattle.house_forward.specs.Forwardings.{standing, how_many, opens_of, closes_of, has_request, is_first};
 ghost use Rattle.house_forward.specs.Forwardings.{listeners_of, to_listen, is_ordered_first, is_in_order, next_of, changed, after_close, is_new, Opens};
-ghost use Rattle.house_forward.specs.Forwardings.{is_asked, live_in, replied_asks, first_of, ordered_asks, served_at, serial_of, Orders, marks_in, listeners_made, has_listener};
+ghost use Rattle.house_forward.specs.Forwardings.{is_asked, is_cancelled, live_in, replied_asks, first_of, ordered_asks, served_at, serial_of, Orders, marks_in, listeners_made, has_listener};
 
 use crate::asks::{Asked, Asks, Outcome};
 use crate::forwarding::{Change, Forwarding, Request, Stage};
@@ -191,9 +191,7 @@ impl Forwardings {
         ensures serials { self.new.serials ≡ self.old.serials }
         ensures refused { self.new.refused ≡ self.old.refused }
     {
-        for f in self.all.iter_mut() {
-            f.change(serial, change);
-        }
+        change_all(&mut self.all, serial, change);
     }
 
     /// What comes of an ask to close a forwarding.
@@ -251,7 +249,7 @@ impl Forwardings {
     {
         match self.next(asks)? {
             Want::Listen => {
-                let i = self.all.iter().position(|f| f.to_listen())?;
+                let i = self.waits()?;
                 let (host, port) = self.all[i].ordered()?;
                 Some(ListenerOrder::Listen { host, port })
             }
@@ -277,7 +275,7 @@ impl Forwardings {
         ensures open { open_asks asks.new.waiting.items ≡ open_asks asks.old.waiting.items }
         ensures count { length asks.new.waiting.items ≡ length asks.old.waiting.items }
     {
-        let Some(i) = self.all.iter().position(|f| f.to_listen()) else {
+        let Some(i) = self.waits() else {
             return;
         };
         match listener {
@@ -365,6 +363,26 @@ impl Forwardings {
         }
     }
 
+    // ---- places
+
+    fn waits(&self) -> Option<usize>
+        ensures { result ≡ position to_listen self.now.all.items }
+    {
+        self.all.iter().position(|f| f.to_listen())
+    }
+
+    fn asked(&self, serial: u64) -> Option<usize>
+        ensures { result ≡ position (is_asked serial) self.now.all.items }
+    {
+        self.all.iter().position(|f| f.is_asked(serial))
+    }
+
+    fn cancelled(&self, serial: u64) -> Option<usize>
+        ensures { result ≡ position (is_cancelled serial) self.now.all.items }
+    {
+        self.all.iter().position(|f| f.is_cancelled(serial))
+    }
+
     /// What a forwarding comes to as the server listens for it.
     fn granted(&self, serial: u64, port: Option<u32>) -> Option<Outcome>
         ensures { result ≡ live_in port (find (is_asked serial) self.now.all.items) }
@@ -379,7 +397,7 @@ impl Forwardings {
             ≡ listeners_of self.old.all.items }
         ensures count { length self.new.all.items ≤ length self.old.all.items }
     {
-        if let Some(i) = self.all.iter().position(|f| f.is_asked(serial)) {
+        if let Some(i) = self.asked(serial) {
             self.fail(i);
         }
     }
@@ -390,7 +408,7 @@ impl Forwardings {
             ≡ listeners_of self.old.all.items }
         ensures count { length self.new.all.items ≤ length self.old.all.items }
     {
-        if let Some(i) = self.all.iter().position(|f| f.is_cancelled(serial)) {
+        if let Some(i) = self.cancelled(serial) {
             self.all.remove(i);
         }
     }
@@ -408,5 +426,14 @@ impl Forwardings {
             ≡ find (served_at address.now port) self.now.all.items }
     {
         self.all.iter().find(|f| f.serves(address, port))
+    }
+}
+
+/// The forwarding with this serial changes.
+fn change_all(forwardings: &mut Vec<Forwarding>, serial: u64, change: Change)
+    ensures { forwardings.new.items ≡ map (changed change serial) forwardings.old.items }
+{
+    for f in forwardings.iter_mut() {
+        f.change(serial, change);
     }
 }

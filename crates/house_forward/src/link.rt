@@ -1,7 +1,7 @@
 //! A relay of the house and its stream.
 ghost use Rattle.std.specs.Prelude.{◌≡◌, is_some, IfSome, OnSome, None};
 ghost use Rattle.house_relay.specs.Relay.{stream_of};
-ghost use Rattle.house_forward.specs.Links.{has_number, is_of, is_offered, is_awaited, is_left, link_after, relay_after, made_stream, link_order, has_saying, finishes, IsOrderOf};
+ghost use Rattle.house_forward.specs.Links.{has_number, is_of, is_offered, is_awaited, is_left, link_after, relay_after, made_stream, link_order, has_order, has_saying, finishes, IsOrderOf};
 
 use crate::two_texts::TwoTexts;
 use conn_messages::Message;
@@ -105,6 +105,13 @@ impl Link {
         ensures { result ≡ has_saying self.now }
     {
         self.relay.says().is_some()
+    }
+
+    /// Whether its relay has an order of its stream.
+    pub fn has_order(&self) -> bool
+        ensures { result ≡ has_order self.now }
+    {
+        self.order().is_some()
     }
 
     /// What its relay orders of its stream.

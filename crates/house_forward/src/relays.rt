@@ -1,12 +1,12 @@
 //! The relays of the house, each with its stream.
-ghost use Rattle.std.specs.Prelude.{◌≡◌, ◌≤◌, ◌+◌, ◌++◌, ◌∷◌, [], ℕ, true, false, not, length, map, find, IfSome, OnOk, OnErr, OnSome, None, Ok};
-ghost use Rattle.std.specs.List.{All, Any, list_any, sum_by};
+ghost use Rattle.std.specs.Prelude.{◌≡◌, ◌≤◌, ◌+◌, ◌++◌, ◌∷◌, [], ℕ, true, false, not, length, map, find, ◌==◌, IfSome, OnOk, OnErr, OnSome, None, Ok};
+ghost use Rattle.std.specs.List.{All, list_any, position, sum_by};
 ghost use Rattle.std.specs.Option.{option_copied};
 ghost use Rattle.mux_outside.specs.House.{SaysFits, says_nothing, gives_none, order_marks, OrderFits, Known as TheKnown, known_after_order, queue_after_took};
 ghost use Rattle.mux_outside.specs.OwnStreams.{is_one, is_finished};
 ghost use Rattle.mux_outside.specs.declared.piece.TheConstants.{LONGEST_PIECE};
 ghost use Rattle.house_forward.specs.Due.{link_due};
-ghost use Rattle.house_forward.specs.Links.{streams_of, are_distinct, is_taken, is_of, queue_in, link_after, is_offered, is_awaited, has_order, has_saying, made_streams, obeyed, IsOrderOf};
+ghost use Rattle.house_forward.specs.Links.{streams_of, are_distinct, is_taken, is_of, queue_in, link_after, is_offered, is_awaited, is_left, has_order, has_saying, made_streams, obeyed};
 
 use crate::link::{Link, Step};
 use crate::rules::MOST_CHANNELS;
@@ -101,15 +101,57 @@ impl Relays {
         self.all.iter().any(|l| l.is_finished(stream))
     }
 
+    // ---- places
+
+    fn place_of(&self, stream: u64) -> Option<usize>
+        ensures { result ≡ position (is_of stream) self.now.all.items }
+    {
+        self.all.iter().position(|l| l.is_of(stream))
+    }
+
+    fn place(&self, number: u32) -> Option<usize>
+        ensures { result ≡ position (λ l. l.relay.number == number) self.now.all.items }
+    {
+        self.all.iter().position(|l| l.relay.number == number)
+    }
+
+    fn left(&self) -> Option<usize>
+        ensures { result ≡ position is_left self.now.all.items }
+    {
+        self.all.iter().position(|l| l.is_left())
+    }
+
+    fn offered(&self) -> Option<usize>
+        ensures { result ≡ position is_offered self.now.all.items }
+    {
+        self.all.iter().position(|l| l.is_offered())
+    }
+
+    fn awaited(&self) -> Option<usize>
+        ensures { result ≡ position is_awaited self.now.all.items }
+    {
+        self.all.iter().position(|l| l.is_awaited())
+    }
+
+    fn ordering(&self) -> Option<usize>
+        ensures { result ≡ position has_order self.now.all.items }
+    {
+        self.all.iter().position(|l| l.has_order())
+    }
+
+    fn saying(&self) -> Option<usize>
+        ensures { result ≡ position has_saying self.now.all.items }
+    {
+        self.all.iter().position(|l| l.has_saying())
+    }
+
     // ---- what happens to streams
 
     /// A stream takes a step.
     pub fn step(&mut self, stream: u64, step: Step)
         ensures { self.new.all.items ≡ map (link_after step stream) self.old.all.items }
     {
-        for l in self.all.iter_mut() {
-            l.take(stream, step);
-        }
+        step_all(&mut self.all, stream, step);
     }
 
     /// The socket of a stream gave bytes, while nothing was held of it.
@@ -121,7 +163,7 @@ impl Relays {
         ensures count { length self.new.all.items ≡ length self.old.all.items }
     {
         let free = !self.is_full();
-        let Some(i) = self.all.iter().position(|l| l.is_of(stream)) else {
+        let Some(i) = self.place_of(stream) else {
             return Ok(());
         };
         let link = &mut self.all[i];
@@ -136,7 +178,7 @@ impl Relays {
             ≡ queue_after_took stream n t (queue_in (find (is_of t) self.old.all.items)) }
         ensures due { sum_by link_due self.new.all.items ≡ sum_by link_due self.old.all.items }
     {
-        let Some(i) = self.all.iter().position(|l| l.is_of(stream)) else {
+        let Some(i) = self.place_of(stream) else {
             return;
         };
         let link = &mut self.all[i];
@@ -144,19 +186,6 @@ impl Relays {
     }
 
     // ---- what is ordered
-
-    /// The next order of a stream.
-    fn next_order(&self) -> Option<Order>
-        ensures exact { gives_none result ≡ not (list_any has_order self.now.all.items) }
-        ensures may { IfSome result (λ order. Any (IsOrderOf order) self.now.all.items) }
-    {
-        for l in self.all.iter() {
-            if let Some(order) = l.order() {
-                return Some(order);
-            }
-        }
-        None
-    }
 
     /// The next order of a stream, which is obeyed at once.
     pub fn order(&mut self) -> Option<Order>
@@ -171,7 +200,8 @@ impl Relays {
         ensures makes_none { IfSome result (λ order. length (order_marks result) ≡ 1) }
         ensures silent { result ≡ None → self.new ≡ self.old }
     {
-        let order = self.next_order()?;
+        let i = self.ordering()?;
+        let order = self.all[i].order()?;
         self.obey(&order);
         self.sweep();
         Some(order)
@@ -196,7 +226,7 @@ impl Relays {
         ensures due { sum_by link_due self.new.all.items ≡ sum_by link_due self.old.all.items }
         ensures count { length self.new.all.items ≤ length self.old.all.items }
     {
-        if let Some(i) = self.all.iter().position(|l| l.is_left()) {
+        if let Some(i) = self.left() {
             self.all.remove(i);
         }
     }
@@ -209,7 +239,7 @@ impl Relays {
         ensures awaited { OnSome result (list_any is_awaited self.new.all.items ≡ true) }
         ensures silent { result ≡ None → self.new ≡ self.old }
     {
-        let i = self.all.iter().position(|l| l.is_offered())?;
+        let i = self.offered()?;
         self.all[i].ordered()
     }
 
@@ -222,7 +252,7 @@ impl Relays {
         ensures due { sum_by link_due self.new.all.items + 1
             ≤ sum_by link_due self.old.all.items }
     {
-        let Some(i) = self.all.iter().position(|l| l.is_awaited()) else {
+        let Some(i) = self.awaited() else {
             return;
         };
         let mut link = self.all.remove(i);
@@ -241,7 +271,7 @@ impl Relays {
         ensures count { length self.new.all.items ≤ length self.old.all.items }
         ensures silent { result ≡ Ok false → self.new ≡ self.old }
     {
-        let Some(i) = self.all.iter().position(|l| l.has_saying()) else {
+        let Some(i) = self.saying() else {
             return Ok(false);
         };
         let link = &mut self.all[i];
@@ -255,12 +285,21 @@ impl Relays {
         ensures streams { streams_of self.new.all.items ≡ streams_of self.old.all.items }
         ensures count { length self.new.all.items ≤ length self.old.all.items }
     {
-        let Some(i) = self.all.iter().position(|l| l.relay.number == number) else {
+        let Some(i) = self.place(number) else {
             return Ok(());
         };
         let link = &mut self.all[i];
         link.hears(message)?;
         self.sweep();
         Ok(())
+    }
+}
+
+/// The one that has a stream takes a step.
+fn step_all(links: &mut Vec<Link>, stream: u64, step: Step)
+    ensures { links.new.items ≡ map (link_after step stream) links.old.items }
+{
+    for l in links.iter_mut() {
+        l.take(stream, step);
     }
 }

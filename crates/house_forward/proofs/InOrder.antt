@@ -1,0 +1,358 @@
+-- The listeners of the forwardings, in the order in which they were made.
+use Rattle.std.proofs.Common.{◌≡◌, ◌∙◌, refl, sym, ap, subst, ℕ, zero, suc, ◌+◌, ◌<◌, ◌≤◌, Bool, true, false, cond, List, [], ◌∷◌, ◌++◌, length, get_or, set, take, drop, map, filter, Option, Some, None, arith}
+use Rattle.std.specs.Prelude.{◌||◌, ◌&&◌, ◌==◌, not, is_some, IsTrue, find, if◌then◌else◌}
+use Rattle.std.specs.List.{list_any, filter_map, cons_option, sum_by, position, remove}
+use Rattle.std.proofs.lemmas.Bool.{or_left, or_right, or_parts, or_from, and_parts, and_from, both_ways, not-true, not_from_false, eq-eqb, eqb-true}
+use Rattle.std.proofs.lemmas.List.Quantifiers.{position-Some}
+use Rattle.std.proofs.lemmas.List.Sums.{sum_by-cons, sum_by-set, sum_by-remove}
+use Rattle.mux_outside.specs.Streams.{among, without}
+use Rattle.house_forward.specs.Asks.{owes_opening}
+use Rattle.house_forward.specs.Due.{forwarding_due, stage_due}
+use Rattle.house_forward.specs.Forwardings.{listener_of, listener_at, listeners_of, listens, to_listen, waits_at, is_in_order, has_listener, is_listener, changed, stage_after, next_of, next_at, ends_at, is_ordered_first, ordered_at, is_to_listen}
+use Rattle.house_forward.specs.declared.asks.Waiting.{Waiting}
+use Rattle.house_forward.specs.declared.forwarding.Change.{Change}
+use Rattle.house_forward.specs.declared.forwarding.Change.TheVariants as change
+use Rattle.house_forward.specs.declared.forwarding.Forwarding.{Forwarding}
+use Rattle.house_forward.specs.declared.forwarding.Stage.{Stage}
+use Rattle.house_forward.specs.declared.forwarding.Stage.TheVariants.{ToListen, Ordered, Listening, ToRequest, Requested, Live, Cancelling}
+use Rattle.house_forward.specs.declared.forwardings.Want.{Want}
+use Rattle.house_forward.specs.declared.forwardings.Want.TheVariants as want
+use Rattle.house_forward.proofs.Lists.{kept-remove}
+
+-- ---- in order, of what is behind a forwarding
+
+abbrev before : Stage → List Forwarding → Bool
+before s fs = not (waits_at s && listens fs)
+
+-- ---- what changes no listener
+
+stage-listener : (c : Change) (port : ℕ) (s : Stage) → listener_at (stage_after c port s) ≡ listener_at s
+stage-listener c port (ToListen host) = refl
+stage-listener c port Ordered = refl
+stage-listener c port (Listening l) = refl
+stage-listener change.Close port ToRequest = refl
+stage-listener change.Request port ToRequest = refl
+stage-listener change.Cancel port ToRequest = refl
+stage-listener (change.Live p) port ToRequest = refl
+stage-listener change.Stay port ToRequest = refl
+stage-listener change.Close port Requested = refl
+stage-listener change.Request port Requested = refl
+stage-listener change.Cancel port Requested = refl
+stage-listener (change.Live p) port Requested = refl
+stage-listener change.Stay port Requested = refl
+stage-listener change.Close port (Live p) = refl
+stage-listener change.Request port (Live p) = refl
+stage-listener change.Cancel port (Live p) = refl
+stage-listener (change.Live q) port (Live p) = refl
+stage-listener change.Stay port (Live p) = refl
+stage-listener change.Close port (Cancelling p) = refl
+stage-listener change.Request port (Cancelling p) = refl
+stage-listener change.Cancel port (Cancelling p) = refl
+stage-listener (change.Live q) port (Cancelling p) = refl
+stage-listener change.Stay port (Cancelling p) = refl
+
+stage-waits : (c : Change) (port : ℕ) (s : Stage) → waits_at (stage_after c port s) ≡ waits_at s
+stage-waits c port (ToListen host) = refl
+stage-waits c port Ordered = refl
+stage-waits c port (Listening l) = refl
+stage-waits change.Close port ToRequest = refl
+stage-waits change.Request port ToRequest = refl
+stage-waits change.Cancel port ToRequest = refl
+stage-waits (change.Live p) port ToRequest = refl
+stage-waits change.Stay port ToRequest = refl
+stage-waits change.Close port Requested = refl
+stage-waits change.Request port Requested = refl
+stage-waits change.Cancel port Requested = refl
+stage-waits (change.Live p) port Requested = refl
+stage-waits change.Stay port Requested = refl
+stage-waits change.Close port (Live p) = refl
+stage-waits change.Request port (Live p) = refl
+stage-waits change.Cancel port (Live p) = refl
+stage-waits (change.Live q) port (Live p) = refl
+stage-waits change.Stay port (Live p) = refl
+stage-waits change.Close port (Cancelling p) = refl
+stage-waits change.Request port (Cancelling p) = refl
+stage-waits change.Cancel port (Cancelling p) = refl
+stage-waits (change.Live q) port (Cancelling p) = refl
+stage-waits change.Stay port (Cancelling p) = refl
+
+listener-if : (b : Bool) (x y : Forwarding) → listener_of x ≡ listener_of y → listener_of (if b then x else y) ≡ listener_of y
+listener-if true x y e = e
+listener-if false x y e = refl
+
+waits-if : (b : Bool) (x y : Forwarding) → to_listen x ≡ to_listen y → to_listen (if b then x else y) ≡ to_listen y
+waits-if true x y e = e
+waits-if false x y e = refl
+
+changed-listener : (c : Change) (serial : ℕ) (f : Forwarding) → listener_of (changed c serial f) ≡ listener_of f
+changed-listener c serial f = listener-if (f.serial == serial) _ f (stage-listener c f.listen_port f.stage)
+
+changed-waits : (c : Change) (serial : ℕ) (f : Forwarding) → to_listen (changed c serial f) ≡ to_listen f
+changed-waits c serial f = waits-if (f.serial == serial) _ f (stage-waits c f.listen_port f.stage)
+
+pub changed-listeners : (c : Change) (serial : ℕ) (fs : List Forwarding) → listeners_of (map (changed c serial) fs) ≡ listeners_of fs
+changed-listeners c serial [] = refl
+changed-listeners c serial (f ∷ fs) =
+    ap (λ o. cons_option o (listeners_of (map (changed c serial) fs))) (changed-listener c serial f)
+    ∙ ap (λ ls. cons_option (listener_of f) ls) (changed-listeners c serial fs)
+
+changed-listens : (c : Change) (serial : ℕ) (fs : List Forwarding) → listens (map (changed c serial) fs) ≡ listens fs
+changed-listens c serial [] = refl
+changed-listens c serial (f ∷ fs) =
+    ap (λ o. is_some o || listens (map (changed c serial) fs)) (changed-listener c serial f)
+    ∙ ap (λ b. is_some (listener_of f) || b) (changed-listens c serial fs)
+
+pub changed-order : (c : Change) (serial : ℕ) (fs : List Forwarding) → is_in_order (map (changed c serial) fs) ≡ is_in_order fs
+changed-order c serial [] = refl
+changed-order c serial (f ∷ fs) =
+    ap (λ b. not (b && listens (map (changed c serial) fs)) && is_in_order (map (changed c serial) fs)) (changed-waits c serial f)
+    ∙ ap (λ b. not (to_listen f && b) && is_in_order (map (changed c serial) fs)) (changed-listens c serial fs)
+    ∙ ap (λ b. not (to_listen f && listens fs) && b) (changed-order c serial fs)
+
+-- ---- one more, that has no listener
+
+listens-more : (fs : List Forwarding) (f : Forwarding) → listener_of f ≡ None → listens (fs ++ f ∷ []) ≡ listens fs
+listens-more [] f e = rw e refl
+listens-more (g ∷ fs) f e = ap (λ b. is_some (listener_of g) || b) (listens-more fs f e)
+
+pub listeners-more : (fs : List Forwarding) (f : Forwarding) → listener_of f ≡ None → listeners_of (fs ++ f ∷ []) ≡ listeners_of fs
+listeners-more [] f e = rw e refl
+listeners-more (g ∷ fs) f e = ap (λ ls. cons_option (listener_of g) ls) (listeners-more fs f e)
+
+last-in : (b : Bool) → (not (b && false) && true) ≡ true
+last-in true = refl
+last-in false = refl
+
+pub order-more : (fs : List Forwarding) (f : Forwarding) → listener_of f ≡ None → is_in_order (fs ++ f ∷ []) ≡ is_in_order fs
+order-more [] f e = last-in (to_listen f)
+order-more (g ∷ fs) f e =
+    ap (λ b. not (to_listen g && b) && is_in_order (fs ++ f ∷ [])) (listens-more fs f e)
+    ∙ ap (λ b. not (to_listen g && listens fs) && b) (order-more fs f e)
+
+-- ---- some are gone
+
+part-in : (w b c : Bool) → (b ≡ false → c ≡ false) → not (w && b) ≡ true → not (w && c) ≡ true
+part-in false b c less e = refl
+part-in true b c less e = not_from_false c (less (not-true b e))
+
+listens-remove : (fs : List Forwarding) (i : ℕ) → listens fs ≡ false → listens (remove fs i) ≡ false
+listens-remove [] i e = refl
+listens-remove (f ∷ fs) zero e = (or_parts (is_some (listener_of f)) (listens fs) e).1
+listens-remove (f ∷ fs) (suc i) e =
+    let both = or_parts (is_some (listener_of f)) (listens fs) e in
+    or_from (is_some (listener_of f)) _ both.0 (listens-remove fs i both.1)
+
+pub order-remove : (fs : List Forwarding) (i : ℕ) → is_in_order fs ≡ true → is_in_order (remove fs i) ≡ true
+order-remove [] i e = refl
+order-remove (f ∷ fs) zero e = (and_parts (before f.stage fs) (is_in_order fs) e).1
+order-remove (f ∷ fs) (suc i) e =
+    let both = and_parts (before f.stage fs) (is_in_order fs) e in
+    and_from _ _ (part-in (to_listen f) (listens fs) (listens (remove fs i)) (listens-remove fs i) both.0) (order-remove fs i both.1)
+
+listens-cond : (b : Bool) (f : Forwarding) (fs : List Forwarding) → is_some (listener_of f) ≡ false → listens fs ≡ false
+    → listens (cond b (f ∷ fs) fs) ≡ false
+listens-cond true f fs e n = or_from (is_some (listener_of f)) (listens fs) e n
+listens-cond false f fs e n = n
+
+listens-filter : (p : Forwarding → Bool) (fs : List Forwarding) → listens fs ≡ false → listens (filter p fs) ≡ false
+listens-filter p [] e = refl
+listens-filter p (f ∷ fs) e =
+    let both = or_parts (is_some (listener_of f)) (listens fs) e in
+    listens-cond (p f) f (filter p fs) both.0 (listens-filter p fs both.1)
+
+order-cond : (b : Bool) (f : Forwarding) (fs : List Forwarding) → before f.stage fs ≡ true → is_in_order fs ≡ true
+    → is_in_order (cond b (f ∷ fs) fs) ≡ true
+order-cond true f fs e n = and_from _ _ e n
+order-cond false f fs e n = n
+
+pub order-filter : (p : Forwarding → Bool) (fs : List Forwarding) → is_in_order fs ≡ true → is_in_order (filter p fs) ≡ true
+order-filter p [] e = refl
+order-filter p (f ∷ fs) e =
+    let both = and_parts (before f.stage fs) (is_in_order fs) e in
+    order-cond (p f) f (filter p fs) (part-in (to_listen f) (listens fs) (listens (filter p fs)) (listens-filter p fs) both.0)
+    (order-filter p fs both.1)
+
+-- ---- the one of a listener is gone
+
+gone-one : (b : Bool) (k : ℕ) (f : Forwarding) (fs : List Forwarding) (ls : List ℕ) → listener_of f ≡ Some k → listeners_of fs ≡ ls
+    → listeners_of (cond (not b) (f ∷ fs) fs) ≡ cond (not b) (k ∷ ls) ls
+gone-one true k f fs ls e n = n
+gone-one false k f fs ls e n = rw e (ap (λ ms. k ∷ ms) n)
+
+gone-in : (o : Option ℕ) (l : ℕ) (f : Forwarding) (fs : List Forwarding) (ls : List ℕ) → listener_of f ≡ o → listeners_of fs ≡ without l ls
+    → listeners_of (cond (not (is_listener l o)) (f ∷ fs) fs) ≡ without l (cons_option o ls)
+gone-in None l f fs ls e n = rw e n
+gone-in (Some k) l f fs ls e n = gone-one (k == l) k f fs (without l ls) e n
+
+pub listeners-without : (l : ℕ) (fs : List Forwarding)
+    → listeners_of (filter (λ f. not (has_listener l f)) fs) ≡ without l (listeners_of fs)
+listeners-without l [] = refl
+listeners-without l (f ∷ fs) =
+    gone-in (listener_of f) l f (filter (λ g. not (has_listener l g)) fs) (listeners_of fs) refl (listeners-without l fs)
+
+-- ---- which order is next
+
+among-more : (o : Option ℕ) (l : ℕ) (ls : List ℕ) → among l ls ≡ true → among l (cons_option o ls) ≡ true
+among-more None l ls e = e
+among-more (Some k) l ls e = or_right (k == l) _ e
+
+among-first : (l : ℕ) (ls : List ℕ) → among l (l ∷ ls) ≡ true
+among-first l ls = or_left _ _ (eq-eqb l l refl)
+
+-- a listener that is to be closed is that of a forwarding, which takes room for one mark
+pub record Unlistens (l : ℕ) (fs : List Forwarding) : Type 0 where
+  pub among : among l (listeners_of fs) ≡ true
+  pub due : sum_by forwarding_due (filter (λ f. not (has_listener l f)) fs) + 1 ≤ sum_by forwarding_due fs
+
+sum-cond : (b : Bool) (f : Forwarding) (fs : List Forwarding)
+    → sum_by forwarding_due (cond b (f ∷ fs) fs) ≤ forwarding_due f + sum_by forwarding_due fs
+sum-cond true f fs = let one = sum_by-cons forwarding_due f fs in omega (arith, one)
+sum-cond false f fs = omega arith
+
+sum-filter : (p : Forwarding → Bool) (fs : List Forwarding) → sum_by forwarding_due (filter p fs) ≤ sum_by forwarding_due fs
+sum-filter p [] = omega arith
+sum-filter p (f ∷ fs) =
+    let one = sum-cond (p f) f (filter p fs) in
+    let two = sum_by-cons forwarding_due f fs in
+    omega (arith, one, two, sum-filter p fs)
+
+due-of : (s : Stage) (l : ℕ) → listener_at s ≡ Some l → 1 ≤ stage_due s
+due-of (ToListen host) l e = cc
+due-of Ordered l e = cc
+due-of (Listening k) l e = omega arith
+due-of ToRequest l e = cc
+due-of Requested l e = cc
+due-of (Live port) l e = cc
+due-of (Cancelling port) l e = cc
+
+unlistens-first : (f : Forwarding) (fs : List Forwarding) (l : ℕ) → listener_of f ≡ Some l → Unlistens l (f ∷ fs)
+unlistens-first f fs l e = record {
+  among = rw e (among-first l (listeners_of fs));
+  due =
+    let is : has_listener l f ≡ true = rw e (eq-eqb l l refl) in
+    let one = sum-filter (λ g. not (has_listener l g)) fs in
+    let two = sum_by-cons forwarding_due f fs in
+    let three = due-of f.stage l e in
+    rw is (omega (arith, one, two, three));
+}
+
+unlistens-more : (f : Forwarding) (fs : List Forwarding) (l : ℕ) → Unlistens l fs → Unlistens l (f ∷ fs)
+unlistens-more f fs l u = record {
+  among = among-more (listener_of f) l (listeners_of fs) u.among;
+  due =
+    let one = sum-cond (not (has_listener l f)) f (filter (λ g. not (has_listener l g)) fs) in
+    let two = sum_by-cons forwarding_due f fs in
+    omega (arith, one, two, u.due);
+}
+
+ends-with : (b : Bool) (serial serial' l k : ℕ) → (if b then None else Some (want.Unlisten serial k)) ≡ Some (want.Unlisten serial' l) → k ≡ l
+ends-with true serial serial' l k e = cc
+ends-with false serial serial' l k e = cc
+
+unlistens-at : (s : Stage) (b : Bool) (ws : List Waiting) (f : Forwarding) (fs : List Forwarding) (serial l : ℕ) → f.stage ≡ s
+    → next_at s b f.serial ws (next_of ws fs) ≡ Some (want.Unlisten serial l)
+    → (next_of ws fs ≡ Some (want.Unlisten serial l) → Unlistens l fs) → Unlistens l (f ∷ fs)
+unlistens-at (ToListen host) b ws f fs serial l is e more = cc
+unlistens-at Ordered b ws f fs serial l is e more = cc
+unlistens-at (Listening k) true ws f fs serial l is e more =
+    let same : k ≡ l = ends-with (owes_opening f.serial ws) f.serial serial l k e in
+    unlistens-first f fs l (ap listener_at is ∙ ap (λ n. Some n) same)
+unlistens-at (Listening k) false ws f fs serial l is e more = unlistens-more f fs l (more e)
+unlistens-at ToRequest b ws f fs serial l is e more = unlistens-more f fs l (more e)
+unlistens-at Requested b ws f fs serial l is e more = unlistens-more f fs l (more e)
+unlistens-at (Live port) b ws f fs serial l is e more = unlistens-more f fs l (more e)
+unlistens-at (Cancelling port) b ws f fs serial l is e more = unlistens-more f fs l (more e)
+
+pub unlistens : (ws : List Waiting) (fs : List Forwarding) (serial l : ℕ) → next_of ws fs ≡ Some (want.Unlisten serial l) → Unlistens l fs
+unlistens ws [] serial l e = cc
+unlistens ws (f ∷ fs) serial l e = unlistens-at f.stage f.closing ws f fs serial l refl e (unlistens ws fs serial l)
+
+abbrev pub is_first_to_listen : Option Forwarding → Bool
+is_first_to_listen None = false
+is_first_to_listen (Some f) = is_to_listen f.stage
+
+never : (b : Bool) (serial k : ℕ) → (if b then None else Some (want.Unlisten serial k)) ≡ Some want.Listen → ⊥
+never true serial k e = cc
+never false serial k e = cc
+
+-- where one is to listen next, the first that has no listener yet isn't ordered
+listens-at : (s : Stage) (b : Bool) (ws : List Waiting) (f : Forwarding) (fs : List Forwarding) → f.stage ≡ s
+    → next_at s b f.serial ws (next_of ws fs) ≡ Some want.Listen
+    → (next_of ws fs ≡ Some want.Listen → is_first_to_listen (find to_listen fs) ≡ true)
+    → is_first_to_listen (find to_listen (f ∷ fs)) ≡ true
+listens-at (ToListen host) b ws f fs is e more = rw is (rw is refl)
+listens-at Ordered b ws f fs is e more = cc
+listens-at (Listening k) true ws f fs is e more = absurd (never (owes_opening f.serial ws) f.serial k e)
+listens-at (Listening k) false ws f fs is e more = rw is (more e)
+listens-at ToRequest b ws f fs is e more = rw is (more e)
+listens-at Requested b ws f fs is e more = rw is (more e)
+listens-at (Live port) b ws f fs is e more = rw is (more e)
+listens-at (Cancelling port) b ws f fs is e more = rw is (more e)
+
+pub listens-first : (ws : List Waiting) (fs : List Forwarding) → next_of ws fs ≡ Some want.Listen
+    → is_first_to_listen (find to_listen fs) ≡ true
+listens-first ws [] e = cc
+listens-first ws (f ∷ fs) e = listens-at f.stage f.closing ws f fs refl e (listens-first ws fs)
+
+-- ---- a listener is made
+
+waits-less : (w v b : Bool) → (w ≡ true → v ≡ true) → not (v && b) ≡ true → not (w && b) ≡ true
+waits-less false v b keeps e = refl
+waits-less true v b keeps e = let is : v ≡ true = keeps refl in subst (λ u. not (u && b) ≡ true) is e
+
+behind-it : (w b : Bool) → w ≡ true → not (w && b) ≡ true → b ≡ false
+behind-it true b e n = not-true b n
+behind-it false b e n = cc
+
+cons-more : (o : Option ℕ) (ls : List ℕ) (l : ℕ) → cons_option o (ls ++ l ∷ []) ≡ cons_option o ls ++ l ∷ []
+cons-more None ls l = refl
+cons-more (Some k) ls l = refl
+
+-- nothing that is written at the first that has no listener yet changes what is before it
+pub set-order : (fs : List Forwarding) (i : ℕ) (g d : Forwarding) → i < length fs
+    → ((k : ℕ) → k < i → to_listen (get_or fs k d) ≡ false) → (to_listen g ≡ true → to_listen (get_or fs i d) ≡ true)
+    → is_in_order fs ≡ true → is_in_order (set fs i g) ≡ true
+set-order [] i g d l first keeps e = absurd (omega arith)
+set-order (f ∷ fs) zero g d l first keeps e =
+    let both = and_parts (before f.stage fs) (is_in_order fs) e in
+    and_from _ _ (waits-less (to_listen g) (to_listen f) (listens fs) keeps both.0) both.1
+set-order (f ∷ fs) (suc i) g d l first keeps e =
+    let both = and_parts (before f.stage fs) (is_in_order fs) e in
+    let not-yet : to_listen f ≡ false = first 0 (omega arith) in
+    and_from _ _ (rw not-yet refl) (set-order fs i g d (omega arith) (λ k lt. first (suc k) (omega arith)) keeps both.1)
+
+none-at : (o : Option ℕ) (ls : List ℕ) → is_some o ≡ false → ls ≡ [] → cons_option o ls ≡ []
+none-at None ls e n = n
+none-at (Some k) ls e n = cc
+
+none-listen : (fs : List Forwarding) → listens fs ≡ false → listeners_of fs ≡ []
+none-listen [] e = refl
+none-listen (f ∷ fs) e =
+    let both = or_parts (is_some (listener_of f)) (listens fs) e in
+    none-at (listener_of f) (listeners_of fs) both.0 (none-listen fs both.1)
+
+waits-none : (s : Stage) → waits_at s ≡ true → listener_at s ≡ None
+waits-none (ToListen host) e = refl
+waits-none Ordered e = refl
+waits-none (Listening l) e = cc
+waits-none ToRequest e = cc
+waits-none Requested e = cc
+waits-none (Live port) e = cc
+waits-none (Cancelling port) e = cc
+
+pub made-listeners : (fs : List Forwarding) (i : ℕ) (g d : Forwarding) (l : ℕ) → i < length fs
+    → to_listen (get_or fs i d) ≡ true → listener_of g ≡ Some l → is_in_order fs ≡ true
+    → listeners_of (set fs i g) ≡ listeners_of fs ++ l ∷ []
+made-listeners [] i g d l lt is e o = absurd (omega arith)
+made-listeners (f ∷ fs) zero g d l lt is e o =
+    let both = and_parts (before f.stage fs) (is_in_order fs) o in
+    let none : listeners_of fs ≡ [] = none-listen fs (behind-it (to_listen f) (listens fs) is both.0) in
+    rw (e, waits-none f.stage is, none) refl
+made-listeners (f ∷ fs) (suc i) g d l lt is e o =
+    let both = and_parts (before f.stage fs) (is_in_order fs) o in
+    ap (λ ls. cons_option (listener_of f) ls) (made-listeners fs i g d l (omega arith) is e both.1)
+    ∙ cons-more (listener_of f) (listeners_of fs) l
+
+pub waits-remove : (fs : List Forwarding) (i : ℕ) (d : Forwarding) → i < length fs → to_listen (get_or fs i d) ≡ true
+    → listeners_of (remove fs i) ≡ listeners_of fs
+waits-remove fs i d l is = kept-remove listener_of fs i d l (waits-none (get_or fs i d).stage is)
