@@ -37,6 +37,20 @@ changes ls i y d l few distinct fits same =
       streams = streams;
     }
 
+-- the one at the first place that passes a test holds no more than may be held
+pub fits-at : (p : Link → Bool) (ls : List Link) (i : ℕ) (x : Link) → position p ls ≡ Some i → x ≡ get_or ls i x → Few ls
+    → length x.relay.held.waiting ≤ LONGEST_PIECE
+fits-at p ls i x e at few =
+    let first = position-Some p ls i x e in
+    subst (λ (z : Link). length z.relay.held.waiting ≤ LONGEST_PIECE) (sym at) (few i x first.0)
+
+-- it changes, and not its stream
+pub changes-at : (p : Link → Bool) (ls : List Link) (i : ℕ) (x y : Link) → position p ls ≡ Some i → x ≡ get_or ls i x → Few ls
+    → are_distinct (streams_of ls) ≡ true → length y.relay.held.waiting ≤ LONGEST_PIECE → y.stream ≡ x.stream → Keeps ls (set ls i y)
+changes-at p ls i x y e at few distinct fits same =
+    let first = position-Some p ls i x e in
+    changes ls i y x first.0 few distinct fits (ap own_of same ∙ ap (λ (z : Link). own_of z.stream) at)
+
 few-remove : (ls : List Link) (i : ℕ) → Few ls → Few (remove ls i)
 few-remove ls i few = All-append (λ (x : Link). length x.relay.held.waiting ≤ LONGEST_PIECE) (take i ls) (drop (suc i) ls)
     (All-take (λ (x : Link). length x.relay.held.waiting ≤ LONGEST_PIECE) i ls few)

@@ -8,7 +8,7 @@ use Rattle.std.proofs.lemmas.List.Sums.{sum_by-cons, sum_by-set, sum_by-remove}
 use Rattle.mux_outside.specs.Streams.{among, without}
 use Rattle.house_forward.specs.Asks.{owes_opening}
 use Rattle.house_forward.specs.Due.{forwarding_due, stage_due}
-use Rattle.house_forward.specs.Forwardings.{listener_of, listener_at, listeners_of, listens, to_listen, waits_at, is_in_order, has_listener, is_listener, changed, stage_after, next_of, next_at, ends_at, is_ordered_first, ordered_at, is_to_listen}
+use Rattle.house_forward.specs.Forwardings.{listener_of, listener_at, listeners_of, listens, to_listen, waits_at, is_in_order, has_listener, is_listener, changed, stage_after, next_of, next_at, ends_at, is_ordered_first, ordered_at, is_to_listen, is_first, asks_at, cancels_at, is_asked, is_cancelled}
 use Rattle.house_forward.specs.declared.asks.Waiting.{Waiting}
 use Rattle.house_forward.specs.declared.forwarding.Change.{Change}
 use Rattle.house_forward.specs.declared.forwarding.Change.TheVariants as change
@@ -136,14 +136,16 @@ part-in false b c less e = refl
 part-in true b c less e = not_from_false c (less (not-true b e))
 
 listens-remove : (fs : List Forwarding) (i : ℕ) → listens fs ≡ false → listens (remove fs i) ≡ false
-listens-remove [] i e = refl
+listens-remove [] zero e = refl
+listens-remove [] (suc i) e = refl
 listens-remove (f ∷ fs) zero e = (or_parts (is_some (listener_of f)) (listens fs) e).1
 listens-remove (f ∷ fs) (suc i) e =
     let both = or_parts (is_some (listener_of f)) (listens fs) e in
     or_from (is_some (listener_of f)) _ both.0 (listens-remove fs i both.1)
 
 pub order-remove : (fs : List Forwarding) (i : ℕ) → is_in_order fs ≡ true → is_in_order (remove fs i) ≡ true
-order-remove [] i e = refl
+order-remove [] zero e = refl
+order-remove [] (suc i) e = refl
 order-remove (f ∷ fs) zero e = (and_parts (before f.stage fs) (is_in_order fs) e).1
 order-remove (f ∷ fs) (suc i) e =
     let both = and_parts (before f.stage fs) (is_in_order fs) e in
@@ -280,7 +282,7 @@ listens-at : (s : Stage) (b : Bool) (ws : List Waiting) (f : Forwarding) (fs : L
     → next_at s b f.serial ws (next_of ws fs) ≡ Some want.Listen
     → (next_of ws fs ≡ Some want.Listen → is_first_to_listen (find to_listen fs) ≡ true)
     → is_first_to_listen (find to_listen (f ∷ fs)) ≡ true
-listens-at (ToListen host) b ws f fs is e more = rw is (rw is refl)
+listens-at (ToListen host) b ws f fs is e more = rw is refl
 listens-at Ordered b ws f fs is e more = cc
 listens-at (Listening k) true ws f fs is e more = absurd (never (owes_opening f.serial ws) f.serial k e)
 listens-at (Listening k) false ws f fs is e more = rw is (more e)
@@ -356,3 +358,47 @@ made-listeners (f ∷ fs) (suc i) g d l lt is e o =
 pub waits-remove : (fs : List Forwarding) (i : ℕ) (d : Forwarding) → i < length fs → to_listen (get_or fs i d) ≡ true
     → listeners_of (remove fs i) ≡ listeners_of fs
 waits-remove fs i d l is = kept-remove listener_of fs i d l (waits-none (get_or fs i d).stage is)
+
+first-none : (s : Stage) → is_first s ≡ true → listener_at s ≡ None
+first-none (ToListen host) e = refl
+first-none Ordered e = cc
+first-none (Listening l) e = cc
+first-none ToRequest e = refl
+first-none Requested e = cc
+first-none (Live port) e = cc
+first-none (Cancelling port) e = cc
+
+-- one that is asked for has no listener yet
+pub first-listens : (f : Forwarding) → is_first f.stage ≡ true → listener_of f ≡ None
+first-listens f e = first-none f.stage e
+
+asked-none : (s : Stage) → asks_at s ≡ true → listener_at s ≡ None
+asked-none (ToListen host) e = cc
+asked-none Ordered e = cc
+asked-none (Listening l) e = cc
+asked-none ToRequest e = cc
+asked-none Requested e = refl
+asked-none (Live port) e = cc
+asked-none (Cancelling port) e = cc
+
+cancels-none : (s : Stage) → cancels_at s ≡ true → listener_at s ≡ None
+cancels-none (ToListen host) e = cc
+cancels-none Ordered e = cc
+cancels-none (Listening l) e = cc
+cancels-none ToRequest e = cc
+cancels-none Requested e = cc
+cancels-none (Live port) e = cc
+cancels-none (Cancelling port) e = refl
+
+-- the request of the forwarding at this place is refused, or its cancel granted
+pub asked-remove : (serial : ℕ) (fs : List Forwarding) (i : ℕ) (d : Forwarding) → position (is_asked serial) fs ≡ Some i
+    → listeners_of (remove fs i) ≡ listeners_of fs
+asked-remove serial fs i d e =
+    let at = position-Some (is_asked serial) fs i d e in
+    kept-remove listener_of fs i d at.0 (asked-none (get_or fs i d).stage (and_parts ((get_or fs i d).serial == serial) _ at.1).1)
+
+pub cancelled-remove : (serial : ℕ) (fs : List Forwarding) (i : ℕ) (d : Forwarding) → position (is_cancelled serial) fs ≡ Some i
+    → listeners_of (remove fs i) ≡ listeners_of fs
+cancelled-remove serial fs i d e =
+    let at = position-Some (is_cancelled serial) fs i d e in
+    kept-remove listener_of fs i d at.0 (cancels-none (get_or fs i d).stage (and_parts ((get_or fs i d).serial == serial) _ at.1).1)

@@ -1,6 +1,6 @@
 -- What waits for a stream, as another or this one takes some of it.
 use Rattle.std.proofs.Common.{◌≡◌, ◌∙◌, refl, sym, ap, subst, ℕ, zero, suc, ◌+◌, ◌<◌, ◌≤◌, Bool, true, false, List, [], ◌∷◌, length, get_or, set, drop, Option, Some, None, arith, inl, inr}
-use Rattle.std.specs.Prelude.{◌==◌, ◌&&◌, find, if◌then◌else◌}
+use Rattle.std.specs.Prelude.{◌==◌, ◌&&◌, find, if◌then◌else◌, IfSome}
 use Rattle.std.specs.List.{position, sum_by}
 use Rattle.std.proofs.lemmas.Bool.{cases_Bool, eqb-true, eqb-false, ne_eqb, and_parts, and_left}
 use Rattle.std.proofs.lemmas.List.Folds.{find_past}
@@ -99,3 +99,19 @@ took-due ls i n x y l at took =
     let two = took-one n x y took in
     let three : link_due (get_or ls i x) ≡ link_due x = ap link_due (sym at) in
     omega (arith, one, two, three)
+
+-- what waits for the stream of the first that has it
+pub queue-first : (ls : List Link) (i stream : ℕ) (x : Link) → position (is_of stream) ls ≡ Some i → x ≡ get_or ls i x
+    → queue_in (find (is_of stream) ls) ≡ x.relay.queue.waiting
+queue-first ls i stream x e at =
+    let first = position-Some (is_of stream) ls i x e in
+    ap queue_in (found-first (is_of stream) ls i x first.0 first.1 first.2) ∙ ap (λ (z : Link). z.relay.queue.waiting) (sym at)
+
+-- nothing is held of it
+pub rests-first : (ls : List Link) (i stream : ℕ) (x : Link) → position (is_of stream) ls ≡ Some i → x ≡ get_or ls i x
+    → IfSome (find (is_of stream) ls) (λ l. l.relay.held.waiting ≡ []) → x.relay.held.waiting ≡ []
+rests-first ls i stream x e at rests =
+    let first = position-Some (is_of stream) ls i x e in
+    let found = found-first (is_of stream) ls i x first.0 first.1 first.2 in
+    ap (λ (z : Link). z.relay.held.waiting) at
+    ∙ subst (λ (o : Option Link). IfSome o (λ l. l.relay.held.waiting ≡ [])) found rests

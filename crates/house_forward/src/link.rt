@@ -1,5 +1,5 @@
 //! A relay of the house and its stream.
-ghost use Rattle.std.specs.Prelude.{◌≡◌, is_some, IfSome, OnSome, None};
+ghost use Rattle.std.specs.Prelude.{◌≡◌, is_some, true, IfSome, None};
 ghost use Rattle.house_relay.specs.Relay.{stream_of};
 ghost use Rattle.house_forward.specs.Links.{has_number, is_of, is_offered, is_awaited, is_left, link_after, relay_after, made_stream, link_order, has_order, has_saying, finishes, IsOrderOf};
 
@@ -167,7 +167,8 @@ impl Link {
     /// Its socket is ordered, if one is to be connected: the host and the port.
     pub fn ordered(&mut self) -> Option<(TwoTexts, u32)>
         ensures some { is_some result ≡ is_offered self.old }
-        ensures ordered { OnSome result (self.new ≡ record self.old { stream = Stream.Awaited }) }
+        ensures ordered { is_offered self.old ≡ true
+            → self.new ≡ record self.old { stream = Stream.Awaited } }
         ensures none { result ≡ None → self.new ≡ self.old }
     {
         match &self.stream {

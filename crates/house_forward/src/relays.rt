@@ -1,5 +1,5 @@
 //! The relays of the house, each with its stream.
-ghost use Rattle.std.specs.Prelude.{◌≡◌, ◌≤◌, ◌+◌, ◌++◌, ◌∷◌, [], ℕ, true, false, not, length, map, find, ◌==◌, IfSome, OnOk, OnErr, OnSome, None, Ok};
+ghost use Rattle.std.specs.Prelude.{◌≡◌, ◌≤◌, ◌+◌, ◌++◌, ◌∷◌, [], ℕ, true, false, not, length, map, find, ◌==◌, IfOk, IfSome, OnOk, OnErr, OnSome, None, Some, Ok};
 ghost use Rattle.std.specs.List.{All, list_any, position, sum_by};
 ghost use Rattle.std.specs.Option.{option_copied};
 ghost use Rattle.mux_outside.specs.House.{SaysFits, says_nothing, gives_none, order_marks, OrderFits, Known as TheKnown, known_after_order, queue_after_took};
@@ -274,10 +274,21 @@ impl Relays {
         let Some(i) = self.saying() else {
             return Ok(false);
         };
-        let link = &mut self.all[i];
-        saying::say(self.alloc, &mut link.relay, into)?;
+        let said = self.say_at(i, into)?;
         self.sweep();
-        Ok(true)
+        Ok(said)
+    }
+
+    /// What the first that has something to say says.
+    fn say_at(&mut self, i: usize, into: &mut Piece) -> Result<bool, OutOfMemory>
+        requires { position has_saying self.old.all.items ≡ Some i }
+        ensures fits { SaysFits result into.new }
+        ensures exact { IfOk result (λ said. said ≡ true) }
+        ensures streams { streams_of self.new.all.items ≡ streams_of self.old.all.items }
+        ensures count { length self.new.all.items ≡ length self.old.all.items }
+    {
+        let link = &mut self.all[i];
+        saying::say(self.alloc, &mut link.relay, into)
     }
 
     /// The relay whose channel has this number hears a message.
@@ -288,10 +299,24 @@ impl Relays {
         let Some(i) = self.place(number) else {
             return Ok(());
         };
-        let link = &mut self.all[i];
-        link.hears(message)?;
+        self.hear_at(i, number, message)?;
         self.sweep();
         Ok(())
+    }
+
+    /// The first whose channel has this number hears a message.
+    fn hear_at(
+        &mut self,
+        i: usize,
+        number: u32,
+        message: &Message<'_>,
+    ) -> Result<(), OutOfMemory>
+        requires { position (λ l. l.relay.number == number) self.old.all.items ≡ Some i }
+        ensures streams { streams_of self.new.all.items ≡ streams_of self.old.all.items }
+        ensures count { length self.new.all.items ≡ length self.old.all.items }
+    {
+        let link = &mut self.all[i];
+        link.hears(message)
     }
 }
 
