@@ -15,7 +15,8 @@ use Rattle.house_forward.specs.Links.{own_of, streams_of, are_distinct, is_left,
 use Rattle.house_forward.specs.declared.link.Link.{Link}
 use Rattle.house_forward.specs.declared.link.Stream.{Stream}
 use Rattle.house_forward.specs.declared.link.Stream.TheVariants.{Offered, Awaited, Made, Gone}
-use Rattle.house_forward.proofs.Lists.{kept-set, kept-remove}
+use Rattle.mux_outside.specs.House.{gives_none}
+use Rattle.house_forward.proofs.Lists.{kept-set, kept-remove, one-passes}
 use Rattle.house_forward.proofs.Streams.{distinct-more}
 
 abbrev Few : List Link → Type 0
@@ -208,7 +209,23 @@ taken-distinct Awaited ss d free = ap are_distinct (nil-last ss) ∙ d
 taken-distinct (Made own) ss d free = distinct-more ss own d free
 taken-distinct Gone ss d free = ap are_distinct (nil-last ss) ∙ d
 
-pub more-distinct : (ls : List Link) (y : Link) → are_distinct (streams_of ls) ≡ true → is_taken y.stream (streams_of ls) ≡ false
+pub more_distinct : (ls : List Link) (y : Link) → are_distinct (streams_of ls) ≡ true → is_taken y.stream (streams_of ls) ≡ false
     → are_distinct (streams_of (ls ++ y ∷ [])) ≡ true
-more-distinct ls y d free = ap are_distinct (filter_map-append (λ (l : Link). own_of l.stream) ls (y ∷ []))
+more_distinct ls y d free = ap are_distinct (filter_map-append (λ (l : Link). own_of l.stream) ls (y ∷ []))
     ∙ taken-distinct y.stream (streams_of ls) d free
+
+-- ---- the first that passes a test
+
+pub passes-at : (p : Link → Bool) (ls : List Link) (i : ℕ) (x : Link) → position p ls ≡ Some i → x ≡ get_or ls i x → p x ≡ true
+passes-at p ls i x e at = subst (λ (z : Link). p z ≡ true) (sym at) (position-Some p ls i x e).1
+
+pub one-at : (p : Link → Bool) (ls : List Link) (i : ℕ) (d : Link) → position p ls ≡ Some i → list_any p ls ≡ true
+one-at p ls i d e = let first = position-Some p ls i d e in one-passes p ls i d first.0 first.1
+
+pub gives-one : {X : Type 0} (o : Option X) (b : Bool) → is_some o ≡ true → b ≡ true → gives_none o ≡ not b
+gives-one None b e f = cc
+gives-one (Some x) b e f = rw f refl
+
+pub if-some : {X : Type 0} (o : Option X) (P : Type 0) → P → IfSome o (λ x. P)
+if-some None P h = tt
+if-some (Some x) P h = h

@@ -8,7 +8,7 @@ use Rattle.std.proofs.lemmas.List.Sums.{sum_by-cons, sum_by-set, sum_by-remove}
 use Rattle.mux_outside.specs.Streams.{among, without}
 use Rattle.house_forward.specs.Asks.{owes_opening}
 use Rattle.house_forward.specs.Due.{forwarding_due, stage_due}
-use Rattle.house_forward.specs.Forwardings.{listener_of, listener_at, listeners_of, listens, to_listen, waits_at, is_in_order, has_listener, is_listener, changed, stage_after, next_of, next_at, ends_at, is_ordered_first, ordered_at, is_to_listen, is_first, asks_at, cancels_at, is_asked, is_cancelled}
+use Rattle.house_forward.specs.Forwardings.{listener_of, listener_at, listeners_of, listens, to_listen, waits_at, is_in_order, has_listener, is_listener, changed, stage_after, next_of, next_at, ends_at, is_ordered_first, ordered_at, is_to_listen, is_first, asks_at, cancels_at, is_asked, is_cancelled, serial_of, want_in, pends, is_pending}
 use Rattle.house_forward.specs.declared.asks.Waiting.{Waiting}
 use Rattle.house_forward.specs.declared.forwarding.Change.{Change}
 use Rattle.house_forward.specs.declared.forwarding.Change.TheVariants as change
@@ -17,7 +17,7 @@ use Rattle.house_forward.specs.declared.forwarding.Stage.{Stage}
 use Rattle.house_forward.specs.declared.forwarding.Stage.TheVariants.{ToListen, Ordered, Listening, ToRequest, Requested, Live, Cancelling}
 use Rattle.house_forward.specs.declared.forwardings.Want.{Want}
 use Rattle.house_forward.specs.declared.forwardings.Want.TheVariants as want
-use Rattle.house_forward.proofs.Lists.{kept-remove}
+use Rattle.house_forward.proofs.Lists.{kept-remove, none-found, none-passes, found-first}
 
 -- ---- in order, of what is behind a forwarding
 
@@ -115,19 +115,19 @@ listens-more : (fs : List Forwarding) (f : Forwarding) → listener_of f ≡ Non
 listens-more [] f e = rw e refl
 listens-more (g ∷ fs) f e = ap (λ b. is_some (listener_of g) || b) (listens-more fs f e)
 
-pub listeners-more : (fs : List Forwarding) (f : Forwarding) → listener_of f ≡ None → listeners_of (fs ++ f ∷ []) ≡ listeners_of fs
-listeners-more [] f e = rw e refl
-listeners-more (g ∷ fs) f e = ap (λ ls. cons_option (listener_of g) ls) (listeners-more fs f e)
+pub listeners_more : (fs : List Forwarding) (f : Forwarding) → listener_of f ≡ None → listeners_of (fs ++ f ∷ []) ≡ listeners_of fs
+listeners_more [] f e = rw e refl
+listeners_more (g ∷ fs) f e = ap (λ ls. cons_option (listener_of g) ls) (listeners_more fs f e)
 
 last-in : (b : Bool) → (not (b && false) && true) ≡ true
 last-in true = refl
 last-in false = refl
 
-pub order-more : (fs : List Forwarding) (f : Forwarding) → listener_of f ≡ None → is_in_order (fs ++ f ∷ []) ≡ is_in_order fs
-order-more [] f e = last-in (to_listen f)
-order-more (g ∷ fs) f e =
+pub order_more : (fs : List Forwarding) (f : Forwarding) → listener_of f ≡ None → is_in_order (fs ++ f ∷ []) ≡ is_in_order fs
+order_more [] f e = last-in (to_listen f)
+order_more (g ∷ fs) f e =
     ap (λ b. not (to_listen g && b) && is_in_order (fs ++ f ∷ [])) (listens-more fs f e)
-    ∙ ap (λ b. not (to_listen g && listens fs) && b) (order-more fs f e)
+    ∙ ap (λ b. not (to_listen g && listens fs) && b) (order_more fs f e)
 
 -- ---- some are gone
 
@@ -369,8 +369,8 @@ first-none (Live port) e = cc
 first-none (Cancelling port) e = cc
 
 -- one that is asked for has no listener yet
-pub first-listens : (f : Forwarding) → is_first f.stage ≡ true → listener_of f ≡ None
-first-listens f e = first-none f.stage e
+pub first_listens : (f : Forwarding) → is_first f.stage ≡ true → listener_of f ≡ None
+first_listens f e = first-none f.stage e
 
 asked-none : (s : Stage) → asks_at s ≡ true → listener_at s ≡ None
 asked-none (ToListen host) e = cc
@@ -402,3 +402,82 @@ pub cancelled-remove : (serial : ℕ) (fs : List Forwarding) (i : ℕ) (d : Forw
 cancelled-remove serial fs i d e =
     let at = position-Some (is_cancelled serial) fs i d e in
     kept-remove listener_of fs i d at.0 (cancels-none (get_or fs i d).stage (and_parts ((get_or fs i d).serial == serial) _ at.1).1)
+
+-- ---- what waits for its number
+
+pub none-waits : (fs : List Forwarding) → position to_listen fs ≡ None → is_ordered_first (find to_listen fs) ≡ true → ⊥
+none-waits fs e is =
+    let none = none-found to_listen fs (none-passes to_listen fs e) in
+    both_ways (is_ordered_first (find to_listen fs)) (ap is_ordered_first none) is
+
+pub waits-serial : (fs : List Forwarding) (i : ℕ) (x : Forwarding) → position to_listen fs ≡ Some i → x ≡ get_or fs i x
+    → serial_of (find to_listen fs) ≡ x.serial
+waits-serial fs i x e at =
+    let first = position-Some to_listen fs i x e in
+    ap serial_of (found-first to_listen fs i x first.0 first.1 first.2) ∙ ap (λ (f : Forwarding). f.serial) (sym at)
+
+waits-two : (s : Stage) → waits_at s ≡ true → stage_due s ≡ 2
+waits-two (ToListen host) e = refl
+waits-two Ordered e = refl
+waits-two (Listening l) e = cc
+waits-two ToRequest e = cc
+waits-two Requested e = cc
+waits-two (Live port) e = cc
+waits-two (Cancelling port) e = cc
+
+-- its listener is made
+pub record Made (l : ℕ) (old new : List Forwarding) : Type 0 where
+  pub in_order : is_in_order new ≡ true
+  pub listeners : listeners_of new ≡ listeners_of old ++ l ∷ []
+  pub due : sum_by forwarding_due new + 1 ≤ sum_by forwarding_due old
+
+pub made : (fs : List Forwarding) (i l : ℕ) (g x : Forwarding) → position to_listen fs ≡ Some i → is_in_order fs ≡ true
+    → g.stage ≡ Listening l → Made l fs (set fs i g)
+made fs i l g x e o is =
+    let first = position-Some to_listen fs i x e in
+    record {
+      in_order = set-order fs i g x first.0 first.2 (λ h. absurd (both_ways (waits_at g.stage) (ap waits_at is) h)) o;
+      listeners = made-listeners fs i g x l first.0 first.1 (ap listener_at is) o;
+      due =
+        let one = sum_by-set forwarding_due fs i g x first.0 in
+        let two = waits-two (get_or fs i x).stage first.1 in
+        let three = ap stage_due is in
+        omega (arith, one, two, three);
+    }
+
+nil-last : (ls : List ℕ) → ls ≡ ls ++ []
+nil-last [] = refl
+nil-last (l ∷ ls) = ap (λ ms. l ∷ ms) (nil-last ls)
+
+-- it couldn't be made
+pub record Failed (old new : List Forwarding) : Type 0 where
+  pub listeners : listeners_of new ≡ listeners_of old ++ []
+  pub due : sum_by forwarding_due new + 1 ≤ sum_by forwarding_due old
+
+pub fails : (fs : List Forwarding) (i : ℕ) (x : Forwarding) → position to_listen fs ≡ Some i → Failed fs (remove fs i)
+fails fs i x e =
+    let first = position-Some to_listen fs i x e in
+    record {
+      listeners = waits-remove fs i x first.0 first.1 ∙ nil-last (listeners_of fs);
+      due =
+        let one = sum_by-remove forwarding_due fs i x first.0 in
+        let two = waits-two (get_or fs i x).stage first.1 in
+        omega (arith, one, two);
+    }
+
+-- ---- the first that is to be ordered or closed
+
+found-at : (s : Stage) (b : Bool) (ws : List Waiting) (f : Forwarding) (o : Option Want) (r : Option Forwarding) → f.stage ≡ s → f.closing ≡ b
+    → o ≡ want_in ws r → next_at s b f.serial ws o ≡ want_in ws (cond (pends s b) (Some f) r)
+found-at (ToListen host) b ws f o r is closing e = rw is refl
+found-at Ordered b ws f o r is closing e = rw is refl
+found-at (Listening l) true ws f o r is closing e = rw (is, closing) refl
+found-at (Listening l) false ws f o r is closing e = e
+found-at ToRequest b ws f o r is closing e = e
+found-at Requested b ws f o r is closing e = e
+found-at (Live port) b ws f o r is closing e = e
+found-at (Cancelling port) b ws f o r is closing e = e
+
+pub found_next : (ws : List Waiting) (fs : List Forwarding) → next_of ws fs ≡ want_in ws (find is_pending fs)
+found_next ws [] = refl
+found_next ws (f ∷ fs) = found-at f.stage f.closing ws f (next_of ws fs) (find is_pending fs) refl refl (found_next ws fs)

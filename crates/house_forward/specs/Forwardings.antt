@@ -216,6 +216,24 @@ abbrev pub next_of : List Waiting → List Forwarding → Option Want
 next_of waiting [] = None
 next_of waiting (f ∷ fs) = next_at f.stage f.closing f.serial waiting (next_of waiting fs)
 
+abbrev pub pends : Stage → Bool → Bool
+pends (ToListen host) closing = true
+pends Ordered closing = true
+pends (Listening l) closing = closing
+pends ToRequest closing = false
+pends Requested closing = false
+pends (Live port) closing = false
+pends (Cancelling port) closing = false
+
+-- whether it is to be ordered, or to be closed
+abbrev pub is_pending : Forwarding → Bool
+is_pending f = pends f.stage f.closing
+
+-- the order that it is to have, if nothing is in the way
+abbrev pub want_in : List Waiting → Option Forwarding → Option Want
+want_in waiting None = None
+want_in waiting (Some f) = next_at f.stage f.closing f.serial waiting None
+
 abbrev pub is_to_listen : Stage → Bool
 is_to_listen (ToListen host) = true
 is_to_listen Ordered = false

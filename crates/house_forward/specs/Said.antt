@@ -17,8 +17,8 @@ framed payload = u32 (length payload + 1) ++ (0 ∷ payload)
 
 -- an OPEN of `direct-tcpip` to this end (RFC 4254, section 7.2)
 abbrev pub direct : ℕ → List ℕ → ℕ → List ℕ
-direct number host port = CHANNEL_OPEN ∷ (str (codes "direct-tcpip") ++ (u32 number ++ (u32 WINDOW
-    ++ (u32 MAXIMUM ++ (str host ++ (u32 port ++ (str (codes "127.0.0.1") ++ u32 0)))))))
+direct number host port = (((CHANNEL_OPEN ∷ (str (codes "direct-tcpip") ++ (u32 number ++ (u32 WINDOW
+    ++ u32 MAXIMUM)))) ++ str host) ++ u32 port) ++ (str (codes "127.0.0.1") ++ u32 0)
 
 -- a CONFIRMATION of the server's OPEN
 abbrev pub confirmed : ℕ → ℕ → List ℕ

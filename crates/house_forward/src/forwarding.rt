@@ -1,9 +1,10 @@
 //! One forwarding of the house.
-ghost use Rattle.std.specs.Prelude.{◌≡◌, true, is_some, IfOk, OnSome, None};
+ghost use Rattle.std.specs.Prelude.{◌≡◌, true, is_some, IfOk, OnSome, None, Some};
 ghost use Rattle.house_forward.specs.Forwardings.{counts, listens_at, connects_to, outcome_of, bound_of, listener_of, is_first, as_first, has_request, IsAskedFor};
-ghost use Rattle.house_forward.specs.Forwardings.{to_listen, has_listener, changed, stage_after, bound_to, granted, is_asked, is_cancelled, is_to_listen, served_at};
+ghost use Rattle.house_forward.specs.Forwardings.{to_listen, has_listener, changed, stage_after, bound_to, granted, is_asked, is_cancelled, is_to_listen, is_pending, want_in, served_at};
 
-use crate::asks::{Asked, Outcome};
+use crate::asks::{Asked, Asks, Outcome};
+use crate::forwardings::Want;
 use crate::rules::{Ends, Kind, same_kind};
 use crate::two_texts::TwoTexts;
 use ssh_fields::{OutOfMemory, Text};
@@ -145,6 +146,39 @@ impl Forwarding {
             | Stage::ToRequest
             | Stage::Requested
             | Stage::Live(_) => false,
+        }
+    }
+
+    /// Whether it is to be ordered, or to be closed.
+    pub fn is_pending(&self) -> bool
+        ensures { result ≡ is_pending self.now }
+    {
+        match self.stage {
+            Stage::ToListen(_) | Stage::Ordered => true,
+            Stage::Listening(_) => self.closing,
+            Stage::ToRequest | Stage::Requested | Stage::Live(_) | Stage::Cancelling(_) => false,
+        }
+    }
+
+    /// Which order it is to have. One that is closed waits for the answers of those that asked for
+    /// it.
+    pub fn wants(&self, asks: &Asks) -> Option<Want>
+        ensures { result ≡ want_in asks.now.waiting.items (Some self.now) }
+    {
+        match self.stage {
+            Stage::ToListen(_) => Some(Want::Listen),
+            Stage::Listening(listener) => {
+                if self.closing && !asks.owes_opening(self.serial) {
+                    Some(Want::Unlisten(self.serial, listener))
+                } else {
+                    None
+                }
+            }
+            Stage::Ordered
+            | Stage::ToRequest
+            | Stage::Requested
+            | Stage::Live(_)
+            | Stage::Cancelling(_) => None,
         }
     }
 

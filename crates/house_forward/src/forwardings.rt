@@ -8,7 +8,7 @@ ghost use Rattle.house_forward.specs.Asks.{refused};
 ghost use Rattle.house_forward.specs.Due.{forwarding_due};
 ghost use Rattle.house_forward.specs.Known.{open_asks};
 ghost use Rattle.house_forward.specs.Forwardings.{standing, how_many, opens_of, closes_of, has_request, is_first};
-ghost use Rattle.house_forward.specs.Forwardings.{listeners_of, to_listen, is_ordered_first, is_in_order, next_of, changed, after_close, is_new, Opens};
+ghost use Rattle.house_forward.specs.Forwardings.{listeners_of, is_pending, to_listen, is_ordered_first, is_in_order, next_of, changed, after_close, is_new, Opens};
 ghost use Rattle.house_forward.specs.Forwardings.{is_asked, is_cancelled, live_in, replied_asks, first_of, ordered_asks, served_at, serial_of, Orders, marks_in, listeners_made, has_listener};
 
 use crate::asks::{Asked, Asks, Outcome};
@@ -121,6 +121,11 @@ impl Forwardings {
     }
 
     /// An ask to open a forwarding.
+    #[tactic(auto, using(
+        crate::proofs::InOrder::order_more,
+        crate::proofs::InOrder::listeners_more,
+        crate::proofs::InOrder::first_listens,
+    ))]
     pub fn open(&mut self, ends: Ends<'_>, start: Option<usize>) -> Result<Asked, OutOfMemory>
         ensures exact { IfOk result (λ asked. asked ≡ opens_of self.old.serials ends.entry
             self.old.all.items (standing ends.entry self.old.all.items)) }
@@ -213,25 +218,18 @@ impl Forwardings {
     /// Which order about a listener is next. Listeners are ordered and closed in the order of asking,
     /// so a place is free before it is listened on again. One that is closed waits for the answers
     /// of those that asked for it.
+    #[tactic(auto, using(crate::proofs::InOrder::found_next))]
     fn next(&self, asks: &Asks) -> Option<Want>
         ensures { result ≡ next_of asks.now.waiting.items self.now.all.items }
     {
-        for f in self.all.iter() {
-            match f.stage {
-                Stage::ToListen(_) => return Some(Want::Listen),
-                Stage::Ordered => return None,
-                Stage::Listening(listener) => {
-                    if f.closing {
-                        if asks.owes_opening(f.serial) {
-                            return None;
-                        }
-                        return Some(Want::Unlisten(f.serial, listener));
-                    }
-                }
-                Stage::ToRequest | Stage::Requested | Stage::Live(_) | Stage::Cancelling(_) => {}
-            }
-        }
-        None
+        self.pending()?.wants(asks)
+    }
+
+    /// The first that is to be ordered or closed.
+    fn pending(&self) -> Option<&Forwarding>
+        ensures { option_copied result ≡ find is_pending self.now.all.items }
+    {
+        self.all.iter().find(|f| f.is_pending())
     }
 
     /// The next order about a listener.
