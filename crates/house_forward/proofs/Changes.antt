@@ -229,3 +229,11 @@ gives-one (Some x) b e f = rw f refl
 pub if-some : {X : Type 0} (o : Option X) (P : Type 0) → P → IfSome o (λ x. P)
 if-some None P h = tt
 if-some (Some x) P h = h
+
+pub one-there : (p : Link → Bool) (ls : List Link) (i : ℕ) → position p ls ≡ Some i → list_any p ls ≡ true
+one-there p [] i e = cc
+one-there p (l ∷ ls) i e = one-at p (l ∷ ls) i l e
+
+pub offered_more : (ls : List Link) (l : Link) → own_of l.stream ≡ None → streams_of (ls ++ l ∷ []) ≡ streams_of ls
+offered_more ls l e = filter_map-append (λ (x : Link). own_of x.stream) ls (l ∷ [])
+    ∙ ap (λ o. streams_of ls ++ cons_option o []) e ∙ nil-last (streams_of ls)

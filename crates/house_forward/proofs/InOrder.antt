@@ -8,7 +8,7 @@ use Rattle.std.proofs.lemmas.List.Sums.{sum_by-cons, sum_by-set, sum_by-remove}
 use Rattle.mux_outside.specs.Streams.{among, without}
 use Rattle.house_forward.specs.Asks.{owes_opening}
 use Rattle.house_forward.specs.Due.{forwarding_due, stage_due}
-use Rattle.house_forward.specs.Forwardings.{listener_of, listener_at, listeners_of, listens, to_listen, waits_at, is_in_order, has_listener, is_listener, changed, stage_after, next_of, next_at, ends_at, is_ordered_first, ordered_at, is_to_listen, is_first, asks_at, cancels_at, is_asked, is_cancelled, serial_of, want_in, pends, is_pending}
+use Rattle.house_forward.specs.Forwardings.{listener_of, listener_at, listeners_of, listens, to_listen, waits_at, is_in_order, has_listener, is_listener, changed, stage_after, next_of, next_at, ends_at, is_ordered_first, ordered_at, is_to_listen, is_first, asks_at, cancels_at, is_asked, is_cancelled, serial_of, want_in, pends, is_pending, is_first_to_listen}
 use Rattle.house_forward.specs.declared.asks.Waiting.{Waiting}
 use Rattle.house_forward.specs.declared.forwarding.Change.{Change}
 use Rattle.house_forward.specs.declared.forwarding.Change.TheVariants as change
@@ -17,7 +17,7 @@ use Rattle.house_forward.specs.declared.forwarding.Stage.{Stage}
 use Rattle.house_forward.specs.declared.forwarding.Stage.TheVariants.{ToListen, Ordered, Listening, ToRequest, Requested, Live, Cancelling}
 use Rattle.house_forward.specs.declared.forwardings.Want.{Want}
 use Rattle.house_forward.specs.declared.forwardings.Want.TheVariants as want
-use Rattle.house_forward.proofs.Lists.{kept-remove, none-found, none-passes, found-first}
+use Rattle.house_forward.proofs.Lists.{kept-remove, kept-set, none-found, none-passes, found-first}
 
 -- ---- in order, of what is behind a forwarding
 
@@ -269,10 +269,6 @@ pub unlistens : (ws : List Waiting) (fs : List Forwarding) (serial l : ℕ) → 
 unlistens ws [] serial l e = cc
 unlistens ws (f ∷ fs) serial l e = unlistens-at f.stage f.closing ws f fs serial l refl e (unlistens ws fs serial l)
 
-abbrev pub is_first_to_listen : Option Forwarding → Bool
-is_first_to_listen None = false
-is_first_to_listen (Some f) = is_to_listen f.stage
-
 never : (b : Bool) (serial k : ℕ) → (if b then None else Some (want.Unlisten serial k)) ≡ Some want.Listen → ⊥
 never true serial k e = cc
 never false serial k e = cc
@@ -481,3 +477,56 @@ found-at (Cancelling port) b ws f o r is closing e = e
 pub found_next : (ws : List Waiting) (fs : List Forwarding) → next_of ws fs ≡ want_in ws (find is_pending fs)
 found_next ws [] = refl
 found_next ws (f ∷ fs) = found-at f.stage f.closing ws f (next_of ws fs) (find is_pending fs) refl refl (found_next ws fs)
+
+pub asked-there : (serial : ℕ) (fs : List Forwarding) (i : ℕ) → position (is_asked serial) fs ≡ Some i
+    → listeners_of (remove fs i) ≡ listeners_of fs
+asked-there serial [] i e = cc
+asked-there serial (f ∷ fs) i e = asked-remove serial (f ∷ fs) i f e
+
+-- ---- the first is ordered
+
+first-place : (fs : List Forwarding) (i : ℕ) (x : Forwarding) → position to_listen fs ≡ Some i → x ≡ get_or fs i x
+    → is_first_to_listen (find to_listen fs) ≡ true → is_to_listen x.stage ≡ true
+first-place fs i x e at is =
+    let first = position-Some to_listen fs i x e in
+    subst (λ (f : Forwarding). is_to_listen f.stage ≡ true) (sym at)
+    (subst (λ (o : Option Forwarding). is_first_to_listen o ≡ true) (found-first to_listen fs i x first.0 first.1 first.2) is)
+
+first-set : (fs : List Forwarding) (i : ℕ) (g d : Forwarding) → i < length fs → ((k : ℕ) → k < i → to_listen (get_or fs k d) ≡ false)
+    → g.stage ≡ Ordered → is_ordered_first (find to_listen (set fs i g)) ≡ true
+first-set [] i g d l before' is = absurd (omega arith)
+first-set (f ∷ fs) zero g d l before' is = rw is (rw is refl)
+first-set (f ∷ fs) (suc i) g d l before' is =
+    rw (before' 0 (omega arith)) (first-set fs i g d (omega arith) (λ k lt. before' (suc k) (omega arith)) is)
+
+-- the first that is to listen is ordered
+pub record IsOrdered (old new : List Forwarding) : Type 0 where
+  pub in_order : is_in_order new ≡ true
+  pub listeners : listeners_of new ≡ listeners_of old
+  pub first : is_ordered_first (find to_listen new) ≡ true
+  pub due : sum_by forwarding_due new ≡ sum_by forwarding_due old
+
+pub orders : (fs : List Forwarding) (i : ℕ) (x g : Forwarding) → position to_listen fs ≡ Some i → x ≡ get_or fs i x
+    → is_in_order fs ≡ true → g ≡ record x { stage = Ordered } → IsOrdered fs (set fs i g)
+orders fs i x g e at o same =
+    let first = position-Some to_listen fs i x e in
+    let is : g.stage ≡ Ordered = ap (λ (f : Forwarding). f.stage) same in
+    record {
+      in_order = set-order fs i g x first.0 first.2 (λ h. first.1) o;
+      listeners = kept-set listener_of fs i g x first.0 (ap listener_at is ∙ sym (waits-none (get_or fs i x).stage first.1));
+      first = first-set fs i g x first.0 first.2 is;
+      due =
+        let one = sum_by-set forwarding_due fs i g x first.0 in
+        let two = waits-two (get_or fs i x).stage first.1 in
+        let three : stage_due g.stage ≡ 2 = ap stage_due is in
+        omega (arith, one, two, three);
+    }
+
+pub to-listen-at : (fs : List Forwarding) (i : ℕ) (x : Forwarding) → position to_listen fs ≡ Some i → x ≡ get_or fs i x
+    → is_first_to_listen (find to_listen fs) ≡ true → is_to_listen x.stage ≡ true
+to-listen-at fs i x e at is = first-place fs i x e at is
+
+pub none-first : (fs : List Forwarding) → position to_listen fs ≡ None → is_first_to_listen (find to_listen fs) ≡ true → ⊥
+none-first fs e is =
+    let none = none-found to_listen fs (none-passes to_listen fs e) in
+    both_ways (is_first_to_listen (find to_listen fs)) (ap is_first_to_listen none) is

@@ -2,7 +2,7 @@
 use Rattle.std.proofs.Common.{◌≡◌, ◌∙◌, refl, sym, ap, subst, ℕ, zero, suc, ◌+◌, ◌<◌, ◌≤◌, Bool, true, false, cond, List, [], ◌∷◌, ◌++◌, length, get_or, map, Option, Some, None, arith}
 use Rattle.std.specs.Prelude.{◌||◌, ◌&&◌, ◌==◌, not, if◌then◌else◌, IsTrue}
 use Rattle.std.specs.List.{sum_by, Any}
-use Rattle.std.proofs.lemmas.Bool.{eq-eqb}
+use Rattle.std.proofs.lemmas.Bool.{eq-eqb, ne_eqb}
 use Rattle.std.proofs.lemmas.List.Sums.{sum_by-cons}
 use Rattle.mux_outside.specs.House.{Known, OrderFits, known_after_order, order_marks}
 use Rattle.mux_outside.specs.OwnStreams.{is_one, with_pause, with_finish, without_stream}
@@ -28,10 +28,13 @@ record Takes (step : Step) (t : ℕ) (s : Stream) (r : Relay) : Type 0 where
   has : numbered t s ≡ true
   less : stream_due (stream_after step s) (relay_after step r) + 1 ≤ stream_due s r
 
+not-empty : (x : ℕ) (xs : List ℕ) → (length (x ∷ xs) == 0) ≡ false
+not-empty x xs = ne_eqb (length (x ∷ xs)) 0 (λ e. absurd (omega arith))
+
 stuck-turn : (held : List ℕ) (line : Line) (paused : Bool) → IsTrue (is_stuck line held)
     → (if length held == 0 then paused else (stuck_in line && not paused)) ≡ not paused
 stuck-turn [] line paused stuck = cc
-stuck-turn (x ∷ xs) line paused stuck = rw stuck refl
+stuck-turn (x ∷ xs) line paused stuck = rw (not-empty x xs, stuck) refl
 
 free-turn : (held : List ℕ) (line : Line) (paused : Bool) → held ≡ []
     → (if length held == 0 then paused else (stuck_in line && not paused)) ≡ paused

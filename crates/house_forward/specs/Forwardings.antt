@@ -243,6 +243,14 @@ is_to_listen Requested = false
 is_to_listen (Live port) = false
 is_to_listen (Cancelling port) = false
 
+abbrev pub is_first_to_listen : Option Forwarding → Bool
+is_first_to_listen None = false
+is_first_to_listen (Some f) = is_to_listen f.stage
+
+abbrev pub IsListen : ListenerOrder → Type 0
+IsListen (ListensAt host port) = Unit {0}
+IsListen (Unlistens l) = ⊥
+
 -- what an order about a listener leaves: the first that has no listener is the one that is ordered; and
 -- the one that was to be closed is gone
 abbrev pub Orders : ListenerOrder → List Waiting → List Forwarding → List Forwarding → Type 0

@@ -1,5 +1,5 @@
 //! One forwarding of the house.
-ghost use Rattle.std.specs.Prelude.{◌≡◌, true, is_some, IfOk, OnSome, None, Some};
+ghost use Rattle.std.specs.Prelude.{◌≡◌, true, is_some, IfOk, None, Some};
 ghost use Rattle.house_forward.specs.Forwardings.{counts, listens_at, connects_to, outcome_of, bound_of, listener_of, is_first, as_first, has_request, IsAskedFor};
 ghost use Rattle.house_forward.specs.Forwardings.{to_listen, has_listener, changed, stage_after, bound_to, granted, is_asked, is_cancelled, is_to_listen, is_pending, want_in, served_at};
 
@@ -185,7 +185,8 @@ impl Forwarding {
     /// Its listener is ordered, if it is to be: the host and the port.
     pub fn ordered(&mut self) -> Option<(TwoTexts, u32)>
         ensures some { is_some result ≡ is_to_listen self.old.stage }
-        ensures ordered { OnSome result (self.new ≡ record self.old { stage = Stage.Ordered }) }
+        ensures ordered { is_to_listen self.old.stage ≡ true
+            → self.new ≡ record self.old { stage = Stage.Ordered } }
         ensures none { result ≡ None → self.new ≡ self.old }
     {
         match &self.stage {

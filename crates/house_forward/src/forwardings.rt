@@ -1,5 +1,5 @@
 //! The forwardings of the house, in order of asking.
-ghost use Rattle.std.specs.Prelude.{◌≡◌, ◌≤◌, ◌<◌, ◌+◌, ◌++◌, [], None, true, not, length, map, IfOk, IfSome, OnOk, find, is_some};
+ghost use Rattle.std.specs.Prelude.{◌≡◌, ◌≤◌, ◌<◌, ◌+◌, ◌++◌, [], None, true, not, length, map, IfOk, IfSome, OnOk, Some, find, filter, is_some};
 ghost use Rattle.std.specs.List.{position, remove, sum_by};
 ghost use Rattle.std.specs.Option.{option_copied};
 ghost use Rattle.mux_outside.specs.House.{gives_none};
@@ -8,7 +8,7 @@ ghost use Rattle.house_forward.specs.Asks.{refused};
 ghost use Rattle.house_forward.specs.Due.{forwarding_due};
 ghost use Rattle.house_forward.specs.Known.{open_asks};
 ghost use Rattle.house_forward.specs.Forwardings.{standing, how_many, opens_of, closes_of, has_request, is_first};
-ghost use Rattle.house_forward.specs.Forwardings.{listeners_of, is_pending, to_listen, is_ordered_first, is_in_order, next_of, changed, after_close, is_new, Opens};
+ghost use Rattle.house_forward.specs.Forwardings.{listeners_of, is_pending, to_listen, is_first_to_listen, IsListen, is_ordered_first, is_in_order, next_of, changed, after_close, is_new, Opens};
 ghost use Rattle.house_forward.specs.Forwardings.{is_asked, is_cancelled, live_in, replied_asks, first_of, ordered_asks, served_at, serial_of, Orders, marks_in, listeners_made, has_listener};
 
 use crate::asks::{Asked, Asks, Outcome};
@@ -246,17 +246,55 @@ impl Forwardings {
         ensures refused { self.new.refused ≡ self.old.refused }
     {
         match self.next(asks)? {
-            Want::Listen => {
-                let i = self.waits()?;
-                let (host, port) = self.all[i].ordered()?;
-                Some(ListenerOrder::Listen { host, port })
-            }
+            Want::Listen => self.order_listen(),
             Want::Unlisten(serial, listener) => {
-                self.all.retain(|f| !f.has_listener(listener));
+                self.unlisten(listener);
                 asks.settle(serial, false, Outcome::Done);
                 Some(ListenerOrder::Unlisten(listener))
             }
         }
+    }
+
+    /// The listener of the first forwarding that has none yet is ordered.
+    fn order_listen(&mut self) -> Option<ListenerOrder>
+        requires { is_first_to_listen (find to_listen self.old.all.items) ≡ true }
+        ensures some { gives_none result ≡ false }
+        ensures listen { IfSome result (λ o. IsListen o) }
+        ensures listeners { listeners_of self.new.all.items
+            ≡ listeners_of self.old.all.items }
+        ensures first { is_ordered_first (find to_listen self.new.all.items) ≡ true }
+        ensures due { sum_by forwarding_due self.new.all.items
+            ≡ sum_by forwarding_due self.old.all.items }
+        ensures refused { self.new.refused ≡ self.old.refused }
+    {
+        let i = self.waits()?;
+        let texts = self.ordered_at(i);
+        let (host, port) = texts?;
+        Some(ListenerOrder::Listen { host, port })
+    }
+
+    /// That of the forwarding at this place is.
+    fn ordered_at(&mut self, i: usize) -> Option<(TwoTexts, u32)>
+        requires place { position to_listen self.old.all.items ≡ Some i }
+        requires first { is_first_to_listen (find to_listen self.old.all.items) ≡ true }
+        ensures some { is_some result ≡ true }
+        ensures listeners { listeners_of self.new.all.items
+            ≡ listeners_of self.old.all.items }
+        ensures first { is_ordered_first (find to_listen self.new.all.items) ≡ true }
+        ensures due { sum_by forwarding_due self.new.all.items
+            ≡ sum_by forwarding_due self.old.all.items }
+        ensures refused { self.new.refused ≡ self.old.refused }
+    {
+        self.all[i].ordered()
+    }
+
+    /// The forwarding of a listener is no more.
+    fn unlisten(&mut self, listener: u64)
+        ensures all { self.new.all.items
+            ≡ filter (λ f. not (has_listener listener f)) self.old.all.items }
+        ensures refused { self.new.refused ≡ self.old.refused }
+    {
+        self.all.retain(|f| !f.has_listener(listener));
     }
 
     /// The number of the listener that was ordered for the first forwarding that has none yet, and

@@ -75,6 +75,7 @@ pub fn hear(
 
 /// An OPEN of the server at an address and a port: for a forwarding that it listens for there a socket
 /// is to be connected, and for others none.
+#[tactic(auto, using(crate::proofs::Changes::offered_more))]
 fn take_open(
     alloc: Global,
     forwarding: Option<&Forwarding>,
@@ -101,5 +102,6 @@ fn take_open(
             host,
             port: forwarding.connect_port,
         },
-    })
+    })?;
+    Ok(())
 }

@@ -48,7 +48,6 @@ impl Relays {
     }
 
     /// Adds one, whose number is free.
-    #[tactic(auto, using(crate::proofs::Changes::more_distinct))]
     pub fn push(&mut self, link: Link) -> Result<(), OutOfMemory>
         requires few { length link.relay.held.waiting ≤ LONGEST_PIECE }
         requires free { is_taken link.stream (streams_of self.old.all.items) ≡ false }
