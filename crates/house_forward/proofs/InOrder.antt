@@ -495,7 +495,7 @@ first-place fs i x e at is =
 first-set : (fs : List Forwarding) (i : ℕ) (g d : Forwarding) → i < length fs → ((k : ℕ) → k < i → to_listen (get_or fs k d) ≡ false)
     → g.stage ≡ Ordered → is_ordered_first (find to_listen (set fs i g)) ≡ true
 first-set [] i g d l before' is = absurd (omega arith)
-first-set (f ∷ fs) zero g d l before' is = rw is (rw is refl)
+first-set (f ∷ fs) zero g d l before' is = rw is refl
 first-set (f ∷ fs) (suc i) g d l before' is =
     rw (before' 0 (omega arith)) (first-set fs i g d (omega arith) (λ k lt. before' (suc k) (omega arith)) is)
 

@@ -216,3 +216,25 @@ distinct-more (s ∷ ss) own e n =
     let others = or_parts (s.number == own.number) (is_one own.number ss) n in
     and_from _ _ (not_from_false _ (one-more s.number ss own (not-true (is_one s.number ss) both.0) (swapped s.number own.number others.0)))
     (distinct-more ss own both.1 others.1)
+
+-- ---- tests of the streams
+
+one-in : (s : Stream) (t : ℕ) (ss : List OwnStream) → is_one t (cons_option (own_of s) ss) ≡ (numbered t s || is_one t ss)
+one-in (Offered host port) t ss = refl
+one-in Awaited t ss = refl
+one-in (Made own) t ss = refl
+one-in Gone t ss = refl
+
+pub one_of_links : (t : ℕ) (ls : List Link) → list_any (has_number t) ls ≡ is_one t (streams_of ls)
+one_of_links t [] = refl
+one_of_links t (l ∷ ls) = ap (λ b. numbered t l.stream || b) (one_of_links t ls) ∙ sym (one-in l.stream t (streams_of ls))
+
+finished-in : (s : Stream) (t : ℕ) (ss : List OwnStream) → is_finished t (cons_option (own_of s) ss) ≡ (finishes t s || is_finished t ss)
+finished-in (Offered host port) t ss = refl
+finished-in Awaited t ss = refl
+finished-in (Made own) t ss = refl
+finished-in Gone t ss = refl
+
+pub finished_of_links : (t : ℕ) (ls : List Link) → list_any (λ l. finishes t l.stream) ls ≡ is_finished t (streams_of ls)
+finished_of_links t [] = refl
+finished_of_links t (l ∷ ls) = ap (λ b. finishes t l.stream || b) (finished_of_links t ls) ∙ sym (finished-in l.stream t (streams_of ls))

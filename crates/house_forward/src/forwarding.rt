@@ -1,5 +1,5 @@
 //! One forwarding of the house.
-ghost use Rattle.std.specs.Prelude.{◌≡◌, true, is_some, IfOk, None, Some};
+ghost use Rattle.std.specs.Prelude.{◌≡◌, true, not, is_some, IfOk, None, Some};
 ghost use Rattle.house_forward.specs.Forwardings.{counts, listens_at, connects_to, outcome_of, bound_of, listener_of, is_first, as_first, has_request, IsAskedFor};
 ghost use Rattle.house_forward.specs.Forwardings.{to_listen, has_listener, changed, stage_after, bound_to, granted, is_asked, is_cancelled, is_to_listen, is_pending, want_in, served_at};
 
@@ -117,6 +117,13 @@ impl Forwarding {
         ensures { result ≡ has_listener listener self.now }
     {
         self.listener() == Some(listener)
+    }
+
+    /// Whether it doesn't have this listener.
+    pub fn lacks_listener(&self, listener: u64) -> bool
+        ensures { result ≡ not (has_listener listener self.now) }
+    {
+        !self.has_listener(listener)
     }
 
     /// Whether this is its serial and its request to listen is unanswered.

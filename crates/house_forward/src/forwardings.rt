@@ -1,5 +1,5 @@
 //! The forwardings of the house, in order of asking.
-ghost use Rattle.std.specs.Prelude.{◌≡◌, ◌≤◌, ◌<◌, ◌+◌, ◌++◌, [], None, true, not, length, map, IfOk, IfSome, OnOk, Some, find, filter, is_some};
+ghost use Rattle.std.specs.Prelude.{◌≡◌, ◌≤◌, ◌<◌, ◌+◌, ◌++◌, [], None, true, false, not, length, map, IfOk, IfSome, OnOk, Some, find, filter, is_some};
 ghost use Rattle.std.specs.List.{position, remove, sum_by};
 ghost use Rattle.std.specs.Option.{option_copied};
 ghost use Rattle.mux_outside.specs.House.{gives_none};
@@ -294,7 +294,7 @@ impl Forwardings {
             ≡ filter (λ f. not (has_listener listener f)) self.old.all.items }
         ensures refused { self.new.refused ≡ self.old.refused }
     {
-        self.all.retain(|f| !f.has_listener(listener));
+        self.all.retain(|f| f.lacks_listener(listener));
     }
 
     /// The number of the listener that was ordered for the first forwarding that has none yet, and

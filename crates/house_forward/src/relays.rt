@@ -6,7 +6,7 @@ ghost use Rattle.mux_outside.specs.House.{SaysFits, says_nothing, gives_none, or
 ghost use Rattle.mux_outside.specs.OwnStreams.{is_one, is_finished};
 ghost use Rattle.mux_outside.specs.declared.piece.TheConstants.{LONGEST_PIECE};
 ghost use Rattle.house_forward.specs.Due.{link_due};
-ghost use Rattle.house_forward.specs.Links.{streams_of, are_distinct, is_taken, is_of, queue_in, link_after, is_offered, is_awaited, is_left, has_order, has_saying, made_streams, obeyed};
+ghost use Rattle.house_forward.specs.Links.{streams_of, has_number, finishes, are_distinct, is_taken, is_of, queue_in, link_after, is_offered, is_awaited, is_left, has_order, has_saying, made_streams, obeyed};
 
 use crate::link::{Link, Step};
 use crate::rules::MOST_CHANNELS;
@@ -91,14 +91,14 @@ impl Relays {
     pub fn owns(&self, stream: u64) -> bool
         ensures { result ≡ is_one stream (streams_of self.now.all.items) }
     {
-        self.all.iter().any(|l| l.has_number(stream))
+        any_numbered(&self.all, stream)
     }
 
     /// Whether a stream takes no more bytes.
     pub fn has_finished(&self, stream: u64) -> bool
         ensures { result ≡ is_finished stream (streams_of self.now.all.items) }
     {
-        self.all.iter().any(|l| l.is_finished(stream))
+        any_finished(&self.all, stream)
     }
 
     // ---- places
@@ -327,4 +327,16 @@ fn step_all(links: &mut Vec<Link>, stream: u64, step: Step)
     for l in links.iter_mut() {
         l.take(stream, step);
     }
+}
+
+fn any_numbered(links: &[Link], stream: u64) -> bool
+    ensures { result ≡ list_any (has_number stream) links.now }
+{
+    links.iter().any(|l| l.has_number(stream))
+}
+
+fn any_finished(links: &[Link], stream: u64) -> bool
+    ensures { result ≡ list_any (λ l. finishes stream l.stream) links.now }
+{
+    links.iter().any(|l| l.is_finished(stream))
 }
