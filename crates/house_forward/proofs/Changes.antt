@@ -237,3 +237,6 @@ one-there p (l ∷ ls) i e = one-at p (l ∷ ls) i l e
 pub offered_more : (ls : List Link) (l : Link) → own_of l.stream ≡ None → streams_of (ls ++ l ∷ []) ≡ streams_of ls
 offered_more ls l e = filter_map-append (λ (x : Link). own_of x.stream) ls (l ∷ [])
     ∙ ap (λ o. streams_of ls ++ cons_option o []) e ∙ nil-last (streams_of ls)
+
+pub streams_more : (ls : List Link) (l : Link) → streams_of (ls ++ l ∷ []) ≡ streams_of ls ++ cons_option (own_of l.stream) []
+streams_more ls l = filter_map-append (λ (x : Link). own_of x.stream) ls (l ∷ [])

@@ -398,6 +398,7 @@ impl Holdings {
     }
 
     /// A socket was joined at a listener.
+    #[tactic(auto, using(crate::proofs::Changes::streams_more))]
     fn joined(&mut self, listener: u64, stream: u64) -> Result<(), OutOfMemory>
         requires ordering { self.old.ordering ≡ None }
         requires free { is_one stream (streams_of self.old.relays.all.items) ≡ false }
@@ -424,7 +425,8 @@ impl Holdings {
         self.relays.push(Link {
             relay,
             stream: Stream::Made(OwnStream::new(stream)),
-        })
+        })?;
+        Ok(())
     }
 
     /// What waits for a stream.
