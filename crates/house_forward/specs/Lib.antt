@@ -1,4 +1,8 @@
+pub mod Asks
+pub mod Due
 pub mod Forwardings
 pub mod Known
-pub mod Relays
+pub mod Links
+pub mod Quiet
 pub mod Rules
+pub mod Said

@@ -1,12 +1,15 @@
 //! One forwarding of the house.
-ghost use Rattle.std.specs.Prelude.{◌≡◌, true, IfOk};
+ghost use Rattle.std.specs.Prelude.{◌≡◌, true, not, is_some, IfOk, None, Some};
 ghost use Rattle.house_forward.specs.Forwardings.{counts, listens_at, connects_to, outcome_of, bound_of, listener_of, is_first, as_first, has_request, IsAskedFor};
+ghost use Rattle.house_forward.specs.Forwardings.{to_listen, has_listener, changed, stage_after, bound_to, granted, is_asked, is_cancelled, is_to_listen, is_pending, want_in, served_at};
 
-use crate::asks::{Asked, Outcome};
+use crate::asks::{Asked, Asks, Outcome};
+use crate::forwardings::Want;
 use crate::rules::{Ends, Kind, same_kind};
-use mux_outside::Order;
+use crate::two_texts::TwoTexts;
 use ssh_fields::{OutOfMemory, Text};
 use std::alloc::Global;
+use std::mem;
 
 /// A request to the server that has no reply yet.
 #[derive(Clone, Copy, Debug)]
@@ -20,8 +23,8 @@ pub enum Request {
 /// How far a forwarding is.
 #[derive(Drop)]
 pub enum Stage {
-    /// A listener is to be ordered: the order, and the same for its mark.
-    ToListen { order: Order, mark: Order },
+    /// A listener is to be ordered at this host.
+    ToListen(TwoTexts),
     /// It is ordered, and its number is awaited.
     Ordered,
     /// This listener listens.
@@ -34,6 +37,21 @@ pub enum Stage {
     Live(u32),
     /// The same, and the cancel is said and unanswered.
     Cancelling(u32),
+}
+
+/// How a forwarding changes by what is asked, said and heard.
+#[derive(Clone, Copy, Debug)]
+pub enum Change {
+    /// It is asked to close.
+    Close,
+    /// The request to listen is said.
+    Request,
+    /// The cancel is said.
+    Cancel,
+    /// The server listens, on this port if it was to choose one.
+    Live(Option<u32>),
+    /// The server refused the cancel.
+    Stay,
 }
 
 /// A forwarding that is asked or live, or that is still to be closed.
@@ -80,6 +98,181 @@ impl Forwarding {
         })
     }
 
+    /// Whether it is to listen here, and has no listener yet.
+    pub fn to_listen(&self) -> bool
+        ensures { result ≡ to_listen self.now }
+    {
+        match self.stage {
+            Stage::ToListen(_) | Stage::Ordered => true,
+            Stage::Listening(_)
+            | Stage::ToRequest
+            | Stage::Requested
+            | Stage::Live(_)
+            | Stage::Cancelling(_) => false,
+        }
+    }
+
+    /// Whether it has this listener.
+    pub fn has_listener(&self, listener: u64) -> bool
+        ensures { result ≡ has_listener listener self.now }
+    {
+        self.listener() == Some(listener)
+    }
+
+    /// Whether it doesn't have this listener.
+    pub fn lacks_listener(&self, listener: u64) -> bool
+        ensures { result ≡ not (has_listener listener self.now) }
+    {
+        !self.has_listener(listener)
+    }
+
+    /// Whether this is its serial and its request to listen is unanswered.
+    pub fn is_asked(&self, serial: u64) -> bool
+        ensures { result ≡ is_asked serial self.now }
+    {
+        match self.stage {
+            Stage::Requested => self.serial == serial,
+            Stage::ToListen(_)
+            | Stage::Ordered
+            | Stage::Listening(_)
+            | Stage::ToRequest
+            | Stage::Live(_)
+            | Stage::Cancelling(_) => false,
+        }
+    }
+
+    /// Whether this is its serial and its cancel is unanswered.
+    pub fn is_cancelled(&self, serial: u64) -> bool
+        ensures { result ≡ is_cancelled serial self.now }
+    {
+        match self.stage {
+            Stage::Cancelling(_) => self.serial == serial,
+            Stage::ToListen(_)
+            | Stage::Ordered
+            | Stage::Listening(_)
+            | Stage::ToRequest
+            | Stage::Requested
+            | Stage::Live(_) => false,
+        }
+    }
+
+    /// Whether it is to be ordered, or to be closed.
+    pub fn is_pending(&self) -> bool
+        ensures { result ≡ is_pending self.now }
+    {
+        match self.stage {
+            Stage::ToListen(_) | Stage::Ordered => true,
+            Stage::Listening(_) => self.closing,
+            Stage::ToRequest | Stage::Requested | Stage::Live(_) | Stage::Cancelling(_) => false,
+        }
+    }
+
+    /// Which order it is to have. One that is closed waits for the answers of those that asked for
+    /// it.
+    pub fn wants(&self, asks: &Asks) -> Option<Want>
+        ensures { result ≡ want_in asks.now.waiting.items (Some self.now) }
+    {
+        match self.stage {
+            Stage::ToListen(_) => Some(Want::Listen),
+            Stage::Listening(listener) => {
+                if self.closing && !asks.owes_opening(self.serial) {
+                    Some(Want::Unlisten(self.serial, listener))
+                } else {
+                    None
+                }
+            }
+            Stage::Ordered
+            | Stage::ToRequest
+            | Stage::Requested
+            | Stage::Live(_)
+            | Stage::Cancelling(_) => None,
+        }
+    }
+
+    /// Its listener is ordered, if it is to be: the host and the port.
+    pub fn ordered(&mut self) -> Option<(TwoTexts, u32)>
+        ensures some { is_some result ≡ is_to_listen self.old.stage }
+        ensures ordered { is_to_listen self.old.stage ≡ true
+            → self.new ≡ record self.old { stage = Stage.Ordered } }
+        ensures none { result ≡ None → self.new ≡ self.old }
+    {
+        match &self.stage {
+            Stage::ToListen(_) => {}
+            Stage::Ordered
+            | Stage::Listening(_)
+            | Stage::ToRequest
+            | Stage::Requested
+            | Stage::Live(_)
+            | Stage::Cancelling(_) => return None,
+        }
+        match mem::replace(&mut self.stage, Stage::Ordered) {
+            Stage::ToListen(host) => Some((host, self.listen_port)),
+            _ => None,
+        }
+    }
+
+    /// Whether the server listens for it at an address and a port.
+    pub fn serves(&self, address: &[u8], port: u32) -> bool
+        ensures { result ≡ served_at address.now port self.now }
+    {
+        same_kind(self.kind, Kind::Remote)
+            && self.bound() == Some(port)
+            && self.listen_host.as_bytes() == address
+    }
+
+    /// It changes, if this is its serial.
+    pub fn change(&mut self, serial: u64, change: Change)
+        ensures { self.new ≡ changed change serial self.old }
+    {
+        if self.serial != serial {
+            return;
+        }
+        self.go(change);
+        match change {
+            Change::Close => self.closing = true,
+            Change::Stay => self.closing = false,
+            Change::Request | Change::Cancel | Change::Live(_) => {}
+        }
+    }
+
+    /// Its stage changes.
+    fn go(&mut self, change: Change)
+        ensures { self.new ≡ record self.old {
+          stage = stage_after change self.old.listen_port self.old.stage;
+        } }
+    {
+        match (change, &self.stage) {
+            (Change::Request, Stage::ToRequest) => self.stage = Stage::Requested,
+            (Change::Cancel, Stage::Live(port)) => self.stage = Stage::Cancelling(*port),
+            (Change::Live(port), Stage::Requested) => self.stage = Stage::Live(self.bound_to(port)),
+            (Change::Stay, Stage::Cancelling(port)) => self.stage = Stage::Live(*port),
+            _ => {}
+        }
+    }
+
+    /// The port on which the server listens, if it chose this one where it was to choose.
+    fn bound_to(&self, port: Option<u32>) -> u32
+        ensures { result ≡ bound_to self.now.listen_port port }
+    {
+        if self.listen_port == 0 {
+            port.unwrap_or(0)
+        } else {
+            self.listen_port
+        }
+    }
+
+    /// What it comes to as the server listens.
+    pub fn granted(&self, port: Option<u32>) -> Outcome
+        ensures { result
+            ≡ granted self.now.listen_port (bound_to self.now.listen_port port) }
+    {
+        if self.listen_port == 0 {
+            Outcome::Port(self.bound_to(port))
+        } else {
+            Outcome::Done
+        }
+    }
+
     /// Whether it counts as asked or live: one that listens here ends as it is asked to close.
     pub fn counts(&self) -> bool
         ensures { result ≡ counts self.now }
@@ -116,7 +309,7 @@ impl Forwarding {
                     Some(Outcome::Done)
                 }
             }
-            Stage::ToListen { .. } | Stage::Ordered | Stage::ToRequest | Stage::Requested => None,
+            Stage::ToListen(_) | Stage::Ordered | Stage::ToRequest | Stage::Requested => None,
         }
     }
 
@@ -137,7 +330,7 @@ impl Forwarding {
         match self.stage {
             Stage::ToRequest => true,
             Stage::Live(_) => self.closing,
-            Stage::ToListen { .. }
+            Stage::ToListen(_)
             | Stage::Ordered
             | Stage::Listening(_)
             | Stage::Requested
@@ -159,7 +352,7 @@ impl Forwarding {
     {
         match self.stage {
             Stage::Live(port) | Stage::Cancelling(port) => Some(port),
-            Stage::ToListen { .. }
+            Stage::ToListen(_)
             | Stage::Ordered
             | Stage::Listening(_)
             | Stage::ToRequest
@@ -173,7 +366,7 @@ impl Forwarding {
     {
         match self.stage {
             Stage::Listening(listener) => Some(listener),
-            Stage::ToListen { .. }
+            Stage::ToListen(_)
             | Stage::Ordered
             | Stage::ToRequest
             | Stage::Requested
@@ -189,12 +382,8 @@ fn first_stage(alloc: Global, ends: Ends<'_>) -> Result<Stage, OutOfMemory>
 {
     match ends.kind {
         Kind::Local | Kind::Dynamic => {
-            let order = Order::Listen {
-                host: Text::copy(alloc, ends.listen_host)?,
-                port: ends.listen_port,
-            };
-            let mark = order.copy(alloc)?;
-            Ok(Stage::ToListen { order, mark })
+            let host = TwoTexts::copy(alloc, ends.listen_host)?;
+            Ok(Stage::ToListen(host))
         }
         Kind::Remote => Ok(Stage::ToRequest),
     }

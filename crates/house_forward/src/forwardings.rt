@@ -1,27 +1,40 @@
 //! The forwardings of the house, in order of asking.
-ghost use Rattle.std.specs.Prelude.{◌≡◌, [], None, IfOk, find};
+ghost use Rattle.std.specs.Prelude.{◌≡◌, ◌≤◌, ◌<◌, ◌+◌, ◌++◌, [], None, true, false, not, length, map, IfOk, IfSome, OnOk, Some, find, filter, is_some};
+ghost use Rattle.std.specs.List.{position, remove, sum_by};
 ghost use Rattle.std.specs.Option.{option_copied};
+ghost use Rattle.mux_outside.specs.House.{gives_none};
+ghost use Rattle.mux_outside.specs.Streams.{among, without};
+ghost use Rattle.house_forward.specs.Asks.{refused};
+ghost use Rattle.house_forward.specs.Due.{forwarding_due};
 ghost use Rattle.house_forward.specs.Known.{open_asks};
-ghost use Rattle.house_forward.specs.Forwardings.{standing, how_many, opens_of, closes_of, has_request};
+ghost use Rattle.house_forward.specs.Forwardings.{standing, how_many, opens_of, closes_of, has_request, is_first};
+ghost use Rattle.house_forward.specs.Forwardings.{listeners_of, is_pending, to_listen, is_first_to_listen, IsListen, is_ordered_first, is_in_order, next_of, changed, after_close, is_new, Opens};
+ghost use Rattle.house_forward.specs.Forwardings.{is_asked, is_cancelled, live_in, replied_asks, first_of, ordered_asks, served_at, serial_of, Orders, marks_in, listeners_made, has_listener};
 
 use crate::asks::{Asked, Asks, Outcome};
-use crate::forwarding::{Forwarding, Request, Stage};
+use crate::forwarding::{Change, Forwarding, Request, Stage};
 use crate::rules::{Ends, Kind, MOST_FORWARDINGS, ends_of, of_start};
-use mux_outside::{Order, Starts};
+use crate::two_texts::TwoTexts;
+use mux_outside::Starts;
 use ssh_fields::OutOfMemory;
 use std::alloc::Global;
 use std::collections::VecDeque;
 use std::mem;
 
+/// Which order about a listener is next.
+#[derive(Clone, Copy, Debug)]
+pub enum Want {
+    /// To listen for the first forwarding that has no listener yet.
+    Listen,
+    /// To listen no longer: the serial of the forwarding, and its listener.
+    Unlisten(u64, u64),
+}
+
 /// An order about a listener.
 #[derive(Drop)]
 pub enum ListenerOrder {
-    /// To listen for this forwarding: the order, and the same for its mark.
-    Listen {
-        serial: u64,
-        order: Order,
-        mark: Order,
-    },
+    /// To listen there.
+    Listen { host: TwoTexts, port: u32 },
     /// To listen no longer.
     Unlisten(u64),
 }
@@ -36,6 +49,7 @@ pub struct Forwardings {
     serials: u64,
     /// The first of those asked for at the start that was refused.
     pub refused: Option<usize>,
+    ghost in_order: { is_in_order all.items ≡ true },
 }
 
 impl Forwardings {
@@ -53,12 +67,17 @@ impl Forwardings {
     }
 
     /// How many there are.
-    pub fn len(&self) -> usize {
+    pub fn len(&self) -> usize
+        ensures { result ≡ length self.now.all.items }
+    {
         self.all.len()
     }
 
     /// One of those asked for at the start is refused.
-    pub fn refuse_start(&mut self, start: usize) {
+    fn refuse_start(&mut self, start: usize)
+        ensures all { self.new.all ≡ self.old.all }
+        ensures serials { self.new.serials ≡ self.old.serials }
+    {
         if self.refused.is_none() {
             self.refused = Some(start);
         }
@@ -102,9 +121,21 @@ impl Forwardings {
     }
 
     /// An ask to open a forwarding.
+    #[tactic(auto, using(
+        crate::proofs::InOrder::order_more,
+        crate::proofs::InOrder::listeners_more,
+        crate::proofs::InOrder::first_listens,
+    ))]
     pub fn open(&mut self, ends: Ends<'_>, start: Option<usize>) -> Result<Asked, OutOfMemory>
-        ensures { IfOk result (λ asked. asked ≡ opens_of self.old.serials ends.entry
+        ensures exact { IfOk result (λ asked. asked ≡ opens_of self.old.serials ends.entry
             self.old.all.items (standing ends.entry self.old.all.items)) }
+        ensures all { OnOk result (Opens (is_new ends.entry self.old.all.items
+            (standing ends.entry self.old.all.items)) ends.entry self.old.serials start
+            self.old.all.items self.new.all.items) }
+        ensures listeners { listeners_of self.new.all.items
+            ≡ listeners_of self.old.all.items }
+        ensures count { length self.new.all.items ≤ length self.old.all.items + 1 }
+        ensures refused { self.new.refused ≡ self.old.refused }
     {
         let asked = self.may_open(ends);
         if self.standing(ends).is_none() && self.how_many() < MOST_FORWARDINGS {
@@ -118,7 +149,12 @@ impl Forwardings {
     }
 
     /// All that is asked for at the start.
-    pub fn start_all(&mut self, starts: &Starts) -> Result<(), OutOfMemory> {
+    pub fn start_all(&mut self, starts: &Starts) -> Result<(), OutOfMemory>
+        ensures listeners { listeners_of self.new.all.items
+            ≡ listeners_of self.old.all.items }
+        ensures count { length self.new.all.items
+            ≤ length self.old.all.items + length starts.now.asks }
+    {
         for i in 0..starts.asks.len() {
             let Some(ask) = starts.asks.get(i) else {
                 return Ok(());
@@ -137,17 +173,30 @@ impl Forwardings {
 
     /// An ask to close a forwarding.
     pub fn close(&mut self, ends: Ends<'_>) -> Asked
-        ensures { result ≡ closes_of (standing ends.entry self.old.all.items) }
+        ensures exact { result ≡ closes_of (standing ends.entry self.old.all.items) }
+        ensures all { self.new.all.items ≡ after_close result self.old.all.items }
+        ensures listeners { listeners_of self.new.all.items
+            ≡ listeners_of self.old.all.items }
+        ensures count { length self.new.all.items ≡ length self.old.all.items }
+        ensures refused { self.new.refused ≡ self.old.refused }
     {
         let asked = self.may_close(ends);
         if let Asked::Later(serial) = asked {
-            for f in self.all.iter_mut() {
-                if f.serial == serial {
-                    f.closing = true;
-                }
-            }
+            self.change(serial, Change::Close);
         }
         asked
+    }
+
+    /// The forwarding with this serial changes.
+    fn change(&mut self, serial: u64, change: Change)
+        ensures all { self.new.all.items ≡ map (changed change serial) self.old.all.items }
+        ensures listeners { listeners_of self.new.all.items
+            ≡ listeners_of self.old.all.items }
+        ensures count { length self.new.all.items ≡ length self.old.all.items }
+        ensures serials { self.new.serials ≡ self.old.serials }
+        ensures refused { self.new.refused ≡ self.old.refused }
+    {
+        change_all(&mut self.all, serial, change);
     }
 
     /// What comes of an ask to close a forwarding.
@@ -166,87 +215,128 @@ impl Forwardings {
         }
     }
 
-    /// The next order about a listener. Listeners are ordered and closed in the order of asking, so
-    /// a place is free before it is listened on again. One that is closed waits for the answers of
-    /// those that asked for it.
-    pub fn order(&mut self, asks: &mut Asks) -> Option<ListenerOrder> {
-        for i in 0..self.all.len() {
-            let Some(f) = self.all.get_mut(i) else {
-                return None;
-            };
-            let serial = f.serial;
-            if let Some(listener) = f.listener() {
-                if f.closing {
-                    if asks.owes_opening(serial) {
-                        return None;
-                    }
-                    self.forget(serial);
-                    asks.settle(serial, false, Outcome::Done);
-                    return Some(ListenerOrder::Unlisten(listener));
-                }
-            }
-            if let Stage::ToListen { .. } = f.stage {
-                let stage = mem::replace(&mut f.stage, Stage::Ordered);
-                if let Stage::ToListen { order, mark } = stage {
-                    return Some(ListenerOrder::Listen {
-                        serial,
-                        order,
-                        mark,
-                    });
-                }
-            }
-        }
-        None
-    }
-
-    /// A forwarding is no more.
-    fn forget(&mut self, serial: u64) {
-        self.all.retain(|f| f.serial != serial);
-    }
-
-    /// Whether there is an order about a listener.
-    pub fn wants_order(&self, asks: &Asks) -> bool {
-        for f in self.all.iter() {
-            if f.listener().is_some() && f.closing {
-                return !asks.owes_opening(f.serial);
-            }
-            if let Stage::ToListen { .. } = f.stage {
-                return true;
-            }
-        }
-        false
-    }
-
-    /// The number of the listener that was ordered for a forwarding, and none where that failed.
-    pub fn ordered(&mut self, serial: u64, listener: Option<u64>, asks: &mut Asks)
-        ensures { open_asks asks.new.waiting.items ≡ open_asks asks.old.waiting.items }
+    /// Which order about a listener is next. Listeners are ordered and closed in the order of asking,
+    /// so a place is free before it is listened on again. One that is closed waits for the answers
+    /// of those that asked for it.
+    #[tactic(auto, using(crate::proofs::InOrder::found_next))]
+    fn next(&self, asks: &Asks) -> Option<Want>
+        ensures { result ≡ next_of asks.now.waiting.items self.now.all.items }
     {
+        self.pending()?.wants(asks)
+    }
+
+    /// The first that is to be ordered or closed.
+    fn pending(&self) -> Option<&Forwarding>
+        ensures { option_copied result ≡ find is_pending self.now.all.items }
+    {
+        self.all.iter().find(|f| f.is_pending())
+    }
+
+    /// The next order about a listener.
+    pub fn order(&mut self, asks: &mut Asks) -> Option<ListenerOrder>
+        ensures exact { gives_none result
+            ≡ not (is_some (next_of asks.old.waiting.items self.old.all.items)) }
+        ensures orders { IfSome result (λ o. Orders o asks.old.waiting.items self.old.all.items
+            self.new.all.items) }
+        ensures due { sum_by forwarding_due self.new.all.items + marks_in result
+            ≤ sum_by forwarding_due self.old.all.items }
+        ensures open { open_asks asks.new.waiting.items ≡ open_asks asks.old.waiting.items }
+        ensures count { length asks.new.waiting.items ≡ length asks.old.waiting.items }
+        ensures silent { result ≡ None → (self.new ≡ self.old) × (asks.new ≡ asks.old) }
+        ensures refused { self.new.refused ≡ self.old.refused }
+    {
+        match self.next(asks)? {
+            Want::Listen => self.order_listen(),
+            Want::Unlisten(serial, listener) => {
+                self.unlisten(listener);
+                asks.settle(serial, false, Outcome::Done);
+                Some(ListenerOrder::Unlisten(listener))
+            }
+        }
+    }
+
+    /// The listener of the first forwarding that has none yet is ordered.
+    fn order_listen(&mut self) -> Option<ListenerOrder>
+        requires { is_first_to_listen (find to_listen self.old.all.items) ≡ true }
+        ensures some { gives_none result ≡ false }
+        ensures listen { IfSome result (λ o. IsListen o) }
+        ensures listeners { listeners_of self.new.all.items
+            ≡ listeners_of self.old.all.items }
+        ensures first { is_ordered_first (find to_listen self.new.all.items) ≡ true }
+        ensures due { sum_by forwarding_due self.new.all.items
+            ≡ sum_by forwarding_due self.old.all.items }
+        ensures refused { self.new.refused ≡ self.old.refused }
+    {
+        let i = self.waits()?;
+        let texts = self.ordered_at(i);
+        let (host, port) = texts?;
+        Some(ListenerOrder::Listen { host, port })
+    }
+
+    /// That of the forwarding at this place is.
+    fn ordered_at(&mut self, i: usize) -> Option<(TwoTexts, u32)>
+        requires place { position to_listen self.old.all.items ≡ Some i }
+        requires first { is_first_to_listen (find to_listen self.old.all.items) ≡ true }
+        ensures some { is_some result ≡ true }
+        ensures listeners { listeners_of self.new.all.items
+            ≡ listeners_of self.old.all.items }
+        ensures first { is_ordered_first (find to_listen self.new.all.items) ≡ true }
+        ensures due { sum_by forwarding_due self.new.all.items
+            ≡ sum_by forwarding_due self.old.all.items }
+        ensures refused { self.new.refused ≡ self.old.refused }
+    {
+        self.all[i].ordered()
+    }
+
+    /// The forwarding of a listener is no more.
+    fn unlisten(&mut self, listener: u64)
+        ensures all { self.new.all.items
+            ≡ filter (λ f. not (has_listener listener f)) self.old.all.items }
+        ensures refused { self.new.refused ≡ self.old.refused }
+    {
+        self.all.retain(|f| f.lacks_listener(listener));
+    }
+
+    /// The number of the listener that was ordered for the first forwarding that has none yet, and
+    /// none where that failed.
+    pub fn ordered(&mut self, listener: Option<u64>, asks: &mut Asks)
+        requires { is_ordered_first (find to_listen self.old.all.items) ≡ true }
+        ensures listeners { listeners_of self.new.all.items
+            ≡ listeners_of self.old.all.items ++ listeners_made listener }
+        ensures due { sum_by forwarding_due self.new.all.items + 1
+            ≤ sum_by forwarding_due self.old.all.items }
+        ensures asks { asks.new.waiting.items ≡ ordered_asks listener
+            (serial_of (find to_listen self.old.all.items)) asks.old.done
+            asks.old.waiting.items }
+        ensures open { open_asks asks.new.waiting.items ≡ open_asks asks.old.waiting.items }
+        ensures count { length asks.new.waiting.items ≡ length asks.old.waiting.items }
+    {
+        let Some(i) = self.waits() else {
+            return;
+        };
         match listener {
             Some(listener) => {
-                for f in self.all.iter_mut() {
-                    if f.serial == serial {
-                        f.stage = Stage::Listening(listener);
-                    }
-                }
-                asks.settle(serial, true, Outcome::Done);
+                let f = &mut self.all[i];
+                f.stage = Stage::Listening(listener);
+                asks.settle(f.serial, true, Outcome::Done);
             }
-            None => self.fail(serial, asks),
+            None => {
+                let serial = self.all[i].serial;
+                self.fail(i);
+                asks.refuse(serial);
+            }
         }
     }
 
     /// A forwarding can't be had.
-    fn fail(&mut self, serial: u64, asks: &mut Asks)
-        ensures { open_asks asks.new.waiting.items ≡ open_asks asks.old.waiting.items }
+    fn fail(&mut self, i: usize)
+        requires { i < length self.old.all.items }
+        ensures { self.new.all.items ≡ remove self.old.all.items i }
     {
-        if let Some(i) = self.all.iter().position(|f| f.serial == serial) {
-            if i < self.all.len() {
-                let f = self.all.remove(i);
-                if let Some(start) = f.start {
-                    self.refuse_start(start);
-                }
-            }
+        let f = self.all.remove(i);
+        if let Some(start) = f.start {
+            self.refuse_start(start);
         }
-        asks.refuse(serial);
     }
 
     /// The forwarding whose request is to be said next, if any.
@@ -257,20 +347,16 @@ impl Forwardings {
     }
 
     /// A request is said now.
-    pub fn said(&mut self, request: Request) -> Result<(), OutOfMemory> {
+    pub fn said(&mut self, request: Request) -> Result<(), OutOfMemory>
+        ensures listeners { listeners_of self.new.all.items
+            ≡ listeners_of self.old.all.items }
+        ensures count { length self.new.all.items ≡ length self.old.all.items }
+        ensures refused { self.new.refused ≡ self.old.refused }
+    {
         self.requests.push_back(request)?;
-        for f in self.all.iter_mut() {
-            match request {
-                Request::Listen(serial) if f.serial == serial => {
-                    f.stage = Stage::Requested;
-                }
-                Request::Cancel(serial) if f.serial == serial => {
-                    if let Stage::Live(port) = f.stage {
-                        f.stage = Stage::Cancelling(port);
-                    }
-                }
-                _ => {}
-            }
+        match request {
+            Request::Listen(serial) => self.change(serial, Change::Request),
+            Request::Cancel(serial) => self.change(serial, Change::Cancel),
         }
         Ok(())
     }
@@ -278,18 +364,27 @@ impl Forwardings {
     /// The server's reply to the earliest request that has none. A success to a request of port 0
     /// carries the port that it chose.
     pub fn replied(&mut self, success: bool, port: Option<u32>, asks: &mut Asks)
-        ensures { open_asks asks.new.waiting.items ≡ open_asks asks.old.waiting.items }
+        ensures asks { asks.new.waiting.items ≡ replied_asks success port
+            (first_of self.old.requests.items) self.old.all.items asks.old.done
+            asks.old.waiting.items }
+        ensures open { open_asks asks.new.waiting.items ≡ open_asks asks.old.waiting.items }
+        ensures asked { length asks.new.waiting.items ≡ length asks.old.waiting.items }
+        ensures listeners { listeners_of self.new.all.items
+            ≡ listeners_of self.old.all.items }
+        ensures count { length self.new.all.items ≤ length self.old.all.items }
     {
         match self.requests.pop_front() {
             None => {}
             Some(Request::Listen(serial)) => {
                 if success {
-                    match self.goes_live(serial, port) {
-                        Some(outcome) => asks.settle(serial, true, outcome),
-                        None => {}
+                    let outcome = self.granted(serial, port);
+                    self.change(serial, Change::Live(port));
+                    if let Some(outcome) = outcome {
+                        asks.settle(serial, true, outcome);
                     }
                 } else {
-                    self.fail(serial, asks);
+                    self.refuse(serial);
+                    asks.refuse(serial);
                 }
             }
             Some(Request::Cancel(serial)) => {
@@ -297,51 +392,84 @@ impl Forwardings {
                     self.forget(serial);
                     asks.settle(serial, false, Outcome::Done);
                 } else {
-                    self.stays_live(serial);
+                    self.change(serial, Change::Stay);
                     asks.settle(serial, false, Outcome::Refused);
                 }
             }
         }
     }
 
-    /// The server listens for a forwarding; what that came to.
-    fn goes_live(&mut self, serial: u64, port: Option<u32>) -> Option<Outcome> {
-        let mut outcome = None;
-        for f in self.all.iter_mut() {
-            if f.serial == serial {
-                let bound = if f.listen_port == 0 {
-                    port.unwrap_or(0)
-                } else {
-                    f.listen_port
-                };
-                f.stage = Stage::Live(bound);
-                outcome = f.outcome();
-            }
-        }
-        outcome
+    // ---- places
+
+    fn waits(&self) -> Option<usize>
+        ensures { result ≡ position to_listen self.now.all.items }
+    {
+        self.all.iter().position(|f| f.to_listen())
     }
 
-    /// The server refused to listen no longer.
-    fn stays_live(&mut self, serial: u64) {
-        for f in self.all.iter_mut() {
-            if f.serial == serial {
-                if let Stage::Cancelling(port) = f.stage {
-                    f.stage = Stage::Live(port);
-                }
-                f.closing = false;
-            }
+    fn asked(&self, serial: u64) -> Option<usize>
+        ensures { result ≡ position (is_asked serial) self.now.all.items }
+    {
+        self.all.iter().position(|f| f.is_asked(serial))
+    }
+
+    fn cancelled(&self, serial: u64) -> Option<usize>
+        ensures { result ≡ position (is_cancelled serial) self.now.all.items }
+    {
+        self.all.iter().position(|f| f.is_cancelled(serial))
+    }
+
+    /// What a forwarding comes to as the server listens for it.
+    fn granted(&self, serial: u64, port: Option<u32>) -> Option<Outcome>
+        ensures { result ≡ live_in port (find (is_asked serial) self.now.all.items) }
+    {
+        let f = self.all.iter().find(|f| f.is_asked(serial))?;
+        Some(f.granted(port))
+    }
+
+    /// The server refused the request to listen for a forwarding.
+    fn refuse(&mut self, serial: u64)
+        ensures listeners { listeners_of self.new.all.items
+            ≡ listeners_of self.old.all.items }
+        ensures count { length self.new.all.items ≤ length self.old.all.items }
+    {
+        if let Some(i) = self.asked(serial) {
+            self.fail(i);
+        }
+    }
+
+    /// The server listens for a forwarding no longer.
+    fn forget(&mut self, serial: u64)
+        ensures listeners { listeners_of self.new.all.items
+            ≡ listeners_of self.old.all.items }
+        ensures count { length self.new.all.items ≤ length self.old.all.items }
+    {
+        if let Some(i) = self.cancelled(serial) {
+            self.all.remove(i);
         }
     }
 
     /// The forwarding of a listener.
-    pub fn of_listener(&self, listener: u64) -> Option<&Forwarding> {
-        self.all.iter().find(|f| f.listener() == Some(listener))
+    pub fn of_listener(&self, listener: u64) -> Option<&Forwarding>
+        ensures { option_copied result ≡ find (has_listener listener) self.now.all.items }
+    {
+        self.all.iter().find(|f| f.has_listener(listener))
     }
 
     /// The earliest forwarding that the server listens for at an address and a port.
-    pub fn of_server(&self, address: &[u8], port: u32) -> Option<&Forwarding> {
-        self.all.iter().find(|f| {
-            f.kind == Kind::Remote && f.bound() == Some(port) && f.listen_host.as_bytes() == address
-        })
+    pub fn of_server(&self, address: &[u8], port: u32) -> Option<&Forwarding>
+        ensures { option_copied result
+            ≡ find (served_at address.now port) self.now.all.items }
+    {
+        self.all.iter().find(|f| f.serves(address, port))
+    }
+}
+
+/// The forwarding with this serial changes.
+fn change_all(forwardings: &mut Vec<Forwarding>, serial: u64, change: Change)
+    ensures { forwardings.new.items ≡ map (changed change serial) forwardings.old.items }
+{
+    for f in forwardings.iter_mut() {
+        f.change(serial, change);
     }
 }

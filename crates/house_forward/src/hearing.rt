@@ -1,27 +1,20 @@
 //! What the house hears as a client.
-ghost use Rattle.std.specs.Prelude.{◌≡◌};
+ghost use Rattle.std.specs.Prelude.{◌≡◌, ◌≤◌, ◌+◌, length, OnOk, IfSome, None};
+ghost use Rattle.std.specs.Option.{option_copied};
+ghost use Rattle.house_forward.specs.Forwardings.{listeners_of};
 ghost use Rattle.house_forward.specs.Known.{open_asks};
+ghost use Rattle.house_forward.specs.Links.{streams_of, Offers};
 
 use crate::asks::Asks;
 use crate::forwarding::Forwarding;
 use crate::forwardings::Forwardings;
+use crate::link::{Link, Stream};
 use crate::relays::Relays;
+use crate::two_texts::TwoTexts;
 use conn_messages::{Message, Opens, read_message};
 use house_relay::Relay;
-use mux_outside::Order;
-use ssh_fields::{Cursor, OutOfMemory, Text};
+use ssh_fields::{Cursor, OutOfMemory};
 use std::alloc::Global;
-use std::collections::VecDeque;
-
-/// A socket that is to be connected for an OPEN of the server.
-#[derive(Drop)]
-pub struct Offer {
-    /// The house's number of the channel.
-    pub number: u32,
-    /// The order, and the same for its mark.
-    pub order: Order,
-    pub mark: Order,
-}
 
 /// Hears a payload. What doesn't fit is heard by nobody: the master lets nothing of the kind through.
 pub fn hear(
@@ -30,9 +23,14 @@ pub fn hear(
     forwardings: &mut Forwardings,
     asks: &mut Asks,
     relays: &mut Relays,
-    offers: &mut VecDeque<Offer>,
 ) -> Result<(), OutOfMemory>
-    ensures { open_asks asks.new.waiting.items ≡ open_asks asks.old.waiting.items }
+    ensures open { open_asks asks.new.waiting.items ≡ open_asks asks.old.waiting.items }
+    ensures asked { length asks.new.waiting.items ≡ length asks.old.waiting.items }
+    ensures listeners { listeners_of forwardings.new.all.items
+        ≡ listeners_of forwardings.old.all.items }
+    ensures fewer { length forwardings.new.all.items ≤ length forwardings.old.all.items }
+    ensures streams { streams_of relays.new.all.items ≡ streams_of relays.old.all.items }
+    ensures count { length relays.new.all.items ≤ length relays.old.all.items + 1 }
 {
     let Ok(message) = read_message(payload) else {
         return Ok(());
@@ -53,10 +51,14 @@ pub fn hear(
             maximum,
             what: Opens::Forwarded { address, port },
             ..
-        } => match forwardings.of_server(address, port) {
-            Some(f) => take_offer(alloc, f, relays, offers, sender, window, maximum),
-            None => Ok(()),
-        },
+        } => take_open(
+            alloc,
+            forwardings.of_server(address, port),
+            relays,
+            sender,
+            window,
+            maximum,
+        ),
         Message::Transport { .. } | Message::GlobalRequest { .. } | Message::Open { .. } => Ok(()),
         Message::Confirmation { recipient, .. }
         | Message::OpenFailure { recipient, .. }
@@ -67,65 +69,39 @@ pub fn hear(
         | Message::Close { recipient }
         | Message::Request { recipient, .. }
         | Message::Success { recipient }
-        | Message::Failure { recipient } => hear_at(relays, recipient, &message),
+        | Message::Failure { recipient } => relays.hear(recipient, &message),
     }
 }
 
-/// The relay whose channel has this number hears a message.
-fn hear_at(relays: &mut Relays, number: u32, message: &Message<'_>) -> Result<(), OutOfMemory> {
-    match relays.of_channel(number) {
-        Some(relay) => hear_in(relay, message)?,
-        None => return Ok(()),
-    }
-    relays.forget(number);
-    Ok(())
-}
-
-/// A relay hears a message in its channel.
-fn hear_in(relay: &mut Relay, message: &Message<'_>) -> Result<(), OutOfMemory> {
-    match message {
-        Message::Confirmation {
-            sender,
-            window,
-            maximum,
-            ..
-        } => relay.confirmed(*sender, *window, *maximum)?,
-        Message::OpenFailure { reason, .. } => relay.refused(*reason)?,
-        Message::Adjust { add, .. } => relay.hears_room(*add),
-        Message::Data { bytes, .. } => {
-            relay.hears_data(bytes)?;
-        }
-        Message::Eof { .. } => relay.hears_eof(),
-        Message::Close { .. } => relay.hears_close(),
-        Message::Request { want, .. } => relay.hears_request(*want),
-        _ => {}
-    }
-    Ok(())
-}
-
-/// An OPEN of the server for a forwarding: a socket is to be connected.
-fn take_offer(
+/// An OPEN of the server at an address and a port: for a forwarding that it listens for there a socket
+/// is to be connected, and for others none.
+#[tactic(auto, using(crate::proofs::Changes::offered_more))]
+fn take_open(
     alloc: Global,
-    forwarding: &Forwarding,
+    forwarding: Option<&Forwarding>,
     relays: &mut Relays,
-    offers: &mut VecDeque<Offer>,
     remote: u32,
     window: u32,
     maximum: u32,
-) -> Result<(), OutOfMemory> {
-    let host = Text::copy(alloc, forwarding.connect_host.as_bytes())?;
-    let order = Order::Connect {
-        host,
-        port: forwarding.connect_port,
+) -> Result<(), OutOfMemory>
+    ensures others { option_copied forwarding.entry ≡ None
+        → relays.new.all.items ≡ relays.old.all.items }
+    ensures offered { OnOk result (IfSome (option_copied forwarding.entry)
+        (λ f. Offers f remote window maximum relays.old.all.items relays.new.all.items)) }
+    ensures streams { streams_of relays.new.all.items ≡ streams_of relays.old.all.items }
+    ensures count { length relays.new.all.items ≤ length relays.old.all.items + 1 }
+{
+    let Some(forwarding) = forwarding else {
+        return Ok(());
     };
-    let mark = order.copy(alloc)?;
+    let host = TwoTexts::copy(alloc, forwarding.connect_host.as_bytes())?;
     let number = relays.free_number().ok_or(OutOfMemory)?;
-    let relay = Relay::offered(alloc, number, remote, window, maximum);
-    relays.push(relay)?;
-    offers.push_back(Offer {
-        number,
-        order,
-        mark,
+    relays.push(Link {
+        relay: Relay::offered(alloc, number, remote, window, maximum),
+        stream: Stream::Offered {
+            host,
+            port: forwarding.connect_port,
+        },
     })?;
     Ok(())
 }

@@ -22,9 +22,14 @@ mod forwarder;
 mod forwarding;
 mod forwardings;
 mod hearing;
+mod holdings;
+mod link;
+mod ordering;
 mod relays;
+mod reserved;
 mod rules;
 mod saying;
+mod two_texts;
 
 pub use forwarder::Forwarder;
 

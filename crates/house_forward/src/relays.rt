@@ -1,73 +1,78 @@
-//! The relays of the house, by the numbers of their channels and by their streams.
-ghost use Rattle.std.specs.Prelude.{◌≡◌, ℕ, is_some, IfSome, nat_eq};
+//! The relays of the house, each with its stream.
+ghost use Rattle.std.specs.Prelude.{◌≡◌, ◌≤◌, ◌+◌, ◌++◌, ◌∷◌, [], ℕ, true, false, not, length, map, find, ◌==◌, IfOk, IfSome, OnOk, OnErr, OnSome, None, Some, Ok};
+ghost use Rattle.std.specs.List.{All, list_any, position, sum_by};
 ghost use Rattle.std.specs.Option.{option_copied};
-ghost use Rattle.std.specs.List.{list_any};
-ghost use Rattle.indexmap.specs.IndexMap.{get, values};
-ghost use Rattle.house_relay.specs.Relay.{IsSaying};
-ghost use Rattle.house_forward.specs.Relays.{has_saying, relay_at};
+ghost use Rattle.mux_outside.specs.House.{SaysFits, says_nothing, gives_none, order_marks, OrderFits, Known as TheKnown, known_after_order, queue_after_took};
+ghost use Rattle.mux_outside.specs.OwnStreams.{is_one, is_finished};
+ghost use Rattle.mux_outside.specs.declared.piece.TheConstants.{LONGEST_PIECE};
+ghost use Rattle.house_forward.specs.Due.{link_due};
+ghost use Rattle.house_forward.specs.Links.{streams_of, has_number, finishes, are_distinct, is_taken, is_of, queue_in, link_after, is_offered, is_awaited, is_left, has_order, has_saying, made_streams, obeyed};
 
+use crate::link::{Link, Step};
 use crate::rules::MOST_CHANNELS;
-use house_relay::{Relay, Saying};
-use indexmap::IndexMap;
+use crate::saying;
+use crate::two_texts::TwoTexts;
+use conn_messages::Message;
+use mux_outside::{Order, Piece};
 use ssh_fields::OutOfMemory;
 use std::alloc::Global;
 
+/// The relays. None holds more bytes than one piece has at most, and no two streams have the same
+/// number.
 #[derive(Drop)]
 pub struct Relays {
-    /// By the house's own numbers of their channels.
-    all: IndexMap<u32, Relay>,
-    /// The number of the relay of each stream.
-    streams: IndexMap<u64, u32>,
+    alloc: Global,
+    all: Vec<Link>,
     /// The number at which the search for a free one begins.
     next: u32,
+    ghost few: { All (λ l. length l.relay.held.waiting ≤ LONGEST_PIECE) all.items },
+    ghost distinct: { are_distinct (streams_of all.items) ≡ true },
 }
 
 impl Relays {
-    pub fn new(alloc: Global) -> Relays {
+    pub fn new(alloc: Global) -> Relays
+        ensures { result.all.items ≡ [] }
+    {
         Relays {
-            all: IndexMap::new(alloc),
-            streams: IndexMap::new(alloc),
+            alloc,
+            all: Vec::new(alloc),
             next: 0,
         }
     }
 
-    /// Room for so many streams more.
-    pub fn reserve(&mut self, streams: usize) -> Result<(), OutOfMemory>
-        ensures all { self.new.all ≡ self.old.all }
-        ensures same { (t : ℕ) → relay_at t self.new.streams self.new.all
-            ≡ relay_at t self.old.streams self.old.all }
+    /// How many there are.
+    pub fn len(&self) -> usize
+        ensures { result ≡ length self.now.all.items }
     {
-        self.streams.reserve(streams)?;
-        Ok(())
-    }
-
-    pub fn get(&self, number: u32) -> Option<&Relay>
-        ensures { option_copied result ≡ get nat_eq self.now.all number }
-    {
-        self.all.get(&number)
+        self.all.len()
     }
 
     /// Adds one, whose number is free.
-    pub fn push(&mut self, relay: Relay) -> Result<(), OutOfMemory> {
-        let number = relay.number;
-        if let Some(stream) = relay.stream() {
-            self.streams.insert(stream, number)?;
-        }
-        self.all.insert(number, relay)?;
+    pub fn push(&mut self, link: Link) -> Result<(), OutOfMemory>
+        requires few { length link.relay.held.waiting ≤ LONGEST_PIECE }
+        requires free { is_taken link.stream (streams_of self.old.all.items) ≡ false }
+        ensures ok { OnOk result (self.new.all.items ≡ self.old.all.items ++ link ∷ []) }
+        ensures err { OnErr result (self.new.all.items ≡ self.old.all.items) }
+    {
+        let number = link.relay.number;
+        self.all.push(link)?;
         self.next = number.wrapping_add(1);
         Ok(())
     }
 
     /// Whether the house has all channels that it may have.
     pub fn is_full(&self) -> bool {
-        self.all.values().filter(|r| r.line.counts()).count() >= MOST_CHANNELS
+        self.all
+            .iter()
+            .filter(|l| l.relay.line.counts())
+            .count() >= MOST_CHANNELS
     }
 
     /// A number that no relay has.
     pub fn free_number(&self) -> Option<u32> {
         let mut number = self.next;
         for _ in 0..=self.all.len() {
-            if !self.all.contains_key(&number) {
+            if !self.all.iter().any(|l| l.relay.number == number) {
                 return Some(number);
             }
             number = number.wrapping_add(1);
@@ -75,117 +80,263 @@ impl Relays {
         None
     }
 
-    /// The relay whose channel has this number.
-    pub fn of_channel(&mut self, number: u32) -> Option<&mut Relay> {
-        self.all.get_mut(&number)
-    }
-
-    /// The relay of a stream.
-    pub fn of_stream(&self, stream: u64) -> Option<&Relay>
-        ensures { option_copied result ≡ relay_at stream self.now.streams self.now.all }
+    /// The one of a stream.
+    pub fn of_stream(&self, stream: u64) -> Option<&Link>
+        ensures { option_copied result ≡ find (is_of stream) self.now.all.items }
     {
-        let number = *self.streams.get(&stream)?;
-        self.all.get(&number).filter(|r| r.stream() == Some(stream))
+        self.all.iter().find(|l| l.is_of(stream))
     }
 
-    /// The relay of a stream, to change it.
-    fn at_stream(&mut self, stream: u64) -> Option<&mut Relay> {
-        let number = *self.streams.get(&stream)?;
-        self.all.get_mut(&number)
+    /// Whether a stream is one of them.
+    pub fn owns(&self, stream: u64) -> bool
+        ensures { result ≡ is_one stream (streams_of self.now.all.items) }
+    {
+        any_numbered(&self.all, stream)
     }
 
-    /// The socket of a stream gave bytes.
-    pub fn got(&mut self, alloc: Global, stream: u64, bytes: &[u8]) -> Result<(), OutOfMemory> {
+    /// Whether a stream takes no more bytes.
+    pub fn has_finished(&self, stream: u64) -> bool
+        ensures { result ≡ is_finished stream (streams_of self.now.all.items) }
+    {
+        any_finished(&self.all, stream)
+    }
+
+    // ---- places
+
+    fn place_of(&self, stream: u64) -> Option<usize>
+        ensures { result ≡ position (is_of stream) self.now.all.items }
+    {
+        self.all.iter().position(|l| l.is_of(stream))
+    }
+
+    fn place(&self, number: u32) -> Option<usize>
+        ensures { result ≡ position (λ l. l.relay.number == number) self.now.all.items }
+    {
+        self.all.iter().position(|l| l.relay.number == number)
+    }
+
+    fn left(&self) -> Option<usize>
+        ensures { result ≡ position is_left self.now.all.items }
+    {
+        self.all.iter().position(|l| l.is_left())
+    }
+
+    fn offered(&self) -> Option<usize>
+        ensures { result ≡ position is_offered self.now.all.items }
+    {
+        self.all.iter().position(|l| l.is_offered())
+    }
+
+    fn awaited(&self) -> Option<usize>
+        ensures { result ≡ position is_awaited self.now.all.items }
+    {
+        self.all.iter().position(|l| l.is_awaited())
+    }
+
+    fn ordering(&self) -> Option<usize>
+        ensures { result ≡ position has_order self.now.all.items }
+    {
+        self.all.iter().position(|l| l.has_order())
+    }
+
+    fn saying(&self) -> Option<usize>
+        ensures { result ≡ position has_saying self.now.all.items }
+    {
+        self.all.iter().position(|l| l.has_saying())
+    }
+
+    // ---- what happens to streams
+
+    /// A stream takes a step.
+    pub fn step(&mut self, stream: u64, step: Step)
+        ensures { self.new.all.items ≡ map (link_after step stream) self.old.all.items }
+    {
+        step_all(&mut self.all, stream, step);
+    }
+
+    /// The socket of a stream gave bytes, while nothing was held of it.
+    pub fn got(&mut self, stream: u64, bytes: &[u8]) -> Result<(), OutOfMemory>
+        requires short { length bytes.now ≤ LONGEST_PIECE }
+        requires rests { IfSome (find (is_of stream) self.old.all.items)
+            (λ l. l.relay.held.waiting ≡ []) }
+        ensures streams { streams_of self.new.all.items ≡ streams_of self.old.all.items }
+        ensures count { length self.new.all.items ≡ length self.old.all.items }
+    {
         let free = !self.is_full();
-        if let Some(relay) = self.at_stream(stream) {
-            relay.got(alloc, bytes, free)?;
+        let Some(i) = self.place_of(stream) else {
+            return Ok(());
+        };
+        let link = &mut self.all[i];
+        link.relay.got(self.alloc, bytes, free)
+    }
+
+    /// A stream took so many bytes of what waits.
+    pub fn took(&mut self, stream: u64, n: usize)
+        requires { n ≤ length (queue_in (find (is_of stream) self.old.all.items)) }
+        ensures streams { streams_of self.new.all.items ≡ streams_of self.old.all.items }
+        ensures queues { (t : ℕ) → queue_in (find (is_of t) self.new.all.items)
+            ≡ queue_after_took stream n t (queue_in (find (is_of t) self.old.all.items)) }
+        ensures due { sum_by link_due self.new.all.items ≡ sum_by link_due self.old.all.items }
+    {
+        let Some(i) = self.place_of(stream) else {
+            return;
+        };
+        let link = &mut self.all[i];
+        link.relay.took(n);
+    }
+
+    // ---- what is ordered
+
+    /// The next order of a stream, which is obeyed at once.
+    pub fn order(&mut self) -> Option<Order>
+        ensures exact { gives_none result ≡ not (list_any has_order self.old.all.items) }
+        ensures fits { (known : TheKnown) → known.streams ≡ streams_of self.old.all.items
+            → OrderFits result known }
+        ensures known { (known : TheKnown) → known.streams ≡ streams_of self.old.all.items
+            → known_after_order result known
+            ≡ record known { streams = streams_of self.new.all.items } }
+        ensures due { sum_by link_due self.new.all.items + length (order_marks result)
+            ≤ sum_by link_due self.old.all.items }
+        ensures makes_none { IfSome result (λ order. length (order_marks result) ≡ 1) }
+        ensures silent { result ≡ None → self.new ≡ self.old }
+    {
+        let i = self.ordering()?;
+        let order = self.all[i].order()?;
+        self.obey(&order);
+        self.sweep();
+        Some(order)
+    }
+
+    /// The stream of an order takes its step.
+    fn obey(&mut self, order: &Order)
+        ensures { self.new.all.items ≡ obeyed order.now self.old.all.items }
+    {
+        match order {
+            Order::Pause(stream) => self.step(*stream, Step::Pause(true)),
+            Order::Resume(stream) => self.step(*stream, Step::Pause(false)),
+            Order::Finish(stream) => self.step(*stream, Step::Finish),
+            Order::Close(stream) => self.step(*stream, Step::Close),
+            Order::Listen { .. } | Order::Connect { .. } | Order::Unlisten(_) => {}
         }
+    }
+
+    /// Forgets one of which nothing is left.
+    fn sweep(&mut self)
+        ensures streams { streams_of self.new.all.items ≡ streams_of self.old.all.items }
+        ensures due { sum_by link_due self.new.all.items ≡ sum_by link_due self.old.all.items }
+        ensures count { length self.new.all.items ≤ length self.old.all.items }
+    {
+        if let Some(i) = self.left() {
+            self.all.remove(i);
+        }
+    }
+
+    /// Where a socket is to be connected next, which is ordered now.
+    pub fn offer(&mut self) -> Option<(TwoTexts, u32)>
+        ensures exact { gives_none result ≡ not (list_any is_offered self.old.all.items) }
+        ensures streams { streams_of self.new.all.items ≡ streams_of self.old.all.items }
+        ensures due { sum_by link_due self.new.all.items ≡ sum_by link_due self.old.all.items }
+        ensures awaited { OnSome result (list_any is_awaited self.new.all.items ≡ true) }
+        ensures silent { result ≡ None → self.new ≡ self.old }
+    {
+        let i = self.offered()?;
+        self.all[i].ordered()
+    }
+
+    /// The stream that is awaited is made, or couldn't be. It is the last from now on.
+    pub fn made(&mut self, stream: Option<u64>)
+        requires awaited { list_any is_awaited self.old.all.items ≡ true }
+        requires free { IfSome stream (λ t. is_one t (streams_of self.old.all.items) ≡ false) }
+        ensures streams { streams_of self.new.all.items
+            ≡ streams_of self.old.all.items ++ made_streams stream }
+        ensures due { sum_by link_due self.new.all.items + 1
+            ≤ sum_by link_due self.old.all.items }
+    {
+        let Some(i) = self.awaited() else {
+            return;
+        };
+        let mut link = self.all.remove(i);
+        link.made(stream);
+        self.all.push_reserved(link);
+    }
+
+    // ---- what is said and heard
+
+    /// Puts what the first relay that has something to say says into the piece.
+    pub fn say(&mut self, into: &mut Piece) -> Result<bool, OutOfMemory>
+        ensures fits { SaysFits result into.new }
+        ensures exact { OnOk result
+            (says_nothing result ≡ not (list_any has_saying self.old.all.items)) }
+        ensures streams { streams_of self.new.all.items ≡ streams_of self.old.all.items }
+        ensures count { length self.new.all.items ≤ length self.old.all.items }
+        ensures silent { result ≡ Ok false → self.new ≡ self.old }
+    {
+        let Some(i) = self.saying() else {
+            return Ok(false);
+        };
+        let said = self.say_at(i, into)?;
+        self.sweep();
+        Ok(said)
+    }
+
+    /// What the first that has something to say says.
+    fn say_at(&mut self, i: usize, into: &mut Piece) -> Result<bool, OutOfMemory>
+        requires { position has_saying self.old.all.items ≡ Some i }
+        ensures fits { SaysFits result into.new }
+        ensures exact { IfOk result (λ said. said ≡ true) }
+        ensures streams { streams_of self.new.all.items ≡ streams_of self.old.all.items }
+        ensures count { length self.new.all.items ≡ length self.old.all.items }
+    {
+        let link = &mut self.all[i];
+        saying::say(self.alloc, &mut link.relay, into)
+    }
+
+    /// The relay whose channel has this number hears a message.
+    pub fn hear(&mut self, number: u32, message: &Message<'_>) -> Result<(), OutOfMemory>
+        ensures streams { streams_of self.new.all.items ≡ streams_of self.old.all.items }
+        ensures count { length self.new.all.items ≤ length self.old.all.items }
+    {
+        let Some(i) = self.place(number) else {
+            return Ok(());
+        };
+        self.hear_at(i, number, message)?;
+        self.sweep();
         Ok(())
     }
 
-    /// It gave its end.
-    pub fn ends(&mut self, stream: u64) {
-        if let Some(relay) = self.at_stream(stream) {
-            relay.ends();
-        }
-    }
-
-    /// It takes bytes, or is connected.
-    pub fn writable(&mut self, stream: u64) {
-        if let Some(relay) = self.at_stream(stream) {
-            relay.writable();
-        }
-    }
-
-    /// It failed.
-    pub fn failed(&mut self, stream: u64) {
-        if let Some(relay) = self.at_stream(stream) {
-            relay.failed();
-        }
-    }
-
-    /// It took so many bytes of what waits.
-    pub fn took(&mut self, stream: u64, n: usize) {
-        if let Some(relay) = self.at_stream(stream) {
-            if n <= relay.queue.len() {
-                relay.took(n);
-            }
-        }
-    }
-
-    /// It is closed.
-    pub fn closed(&mut self, stream: u64) {
-        if let Some(number) = self.streams.swap_remove(&stream) {
-            if let Some(relay) = self.all.get_mut(&number) {
-                relay.closed();
-            }
-            self.forget(number);
-        }
-    }
-
-    /// The socket of a channel is made, or couldn't be. For its stream there is room.
-    pub fn made(&mut self, number: u32, stream: Option<u64>) {
-        if let Some(relay) = self.all.get_mut(&number) {
-            relay.made(stream);
-            if let Some(stream) = stream {
-                if self.streams.insert(stream, number).is_err() {
-                    relay.closed();
-                }
-            }
-        }
-    }
-
-    /// The first relay that has something to say: its number, and what.
-    pub fn next_saying(&self) -> Option<(u32, Saying)>
-        ensures may { IfSome result (λ p. IfSome (get nat_eq self.now.all p.0) (IsSaying p.1)) }
-        ensures exact { is_some result ≡ list_any has_saying (values self.now.all) }
+    /// The first whose channel has this number hears a message.
+    fn hear_at(
+        &mut self,
+        i: usize,
+        number: u32,
+        message: &Message<'_>,
+    ) -> Result<(), OutOfMemory>
+        requires { position (λ l. l.relay.number == number) self.old.all.items ≡ Some i }
+        ensures streams { streams_of self.new.all.items ≡ streams_of self.old.all.items }
+        ensures count { length self.new.all.items ≡ length self.old.all.items }
     {
-        for i in 0..self.all.len() {
-            let (number, relay) = self.all.get_index(i)?;
-            if let Some(saying) = relay.says() {
-                return Some((*number, saying));
-            }
-        }
-        None
+        let link = &mut self.all[i];
+        link.hears(message)
     }
+}
 
-    /// A relay said this.
-    pub fn said(&mut self, number: u32, saying: Saying)
-        requires { IfSome (get nat_eq self.old.all number) (IsSaying saying) }
-    {
-        if let Some(relay) = self.all.get_mut(&number) {
-            relay.said(saying);
-        }
+/// The one that has a stream takes a step.
+fn step_all(links: &mut Vec<Link>, stream: u64, step: Step)
+    ensures { links.new.items ≡ map (link_after step stream) links.old.items }
+{
+    for l in links.iter_mut() {
+        l.take(stream, step);
     }
+}
 
-    /// Forgets a relay if nothing is left of it.
-    pub fn forget(&mut self, number: u32) {
-        let gone = match self.all.get(&number) {
-            Some(relay) => relay.is_gone(),
-            None => false,
-        };
-        if gone {
-            self.all.swap_remove(&number);
-        }
-    }
+fn any_numbered(links: &[Link], stream: u64) -> bool
+    ensures { result ≡ list_any (has_number stream) links.now }
+{
+    links.iter().any(|l| l.has_number(stream))
+}
+
+fn any_finished(links: &[Link], stream: u64) -> bool
+    ensures { result ≡ list_any (λ l. finishes stream l.stream) links.now }
+{
+    links.iter().any(|l| l.is_finished(stream))
 }

@@ -1,6 +1,7 @@
 //! The channel's side of a relay.
 ghost use Rattle.std.specs.Prelude.{◌≡◌, ◌≤◌, ◌<◌, ◌+◌, ◌-◌, ◌^◌};
 ghost use Rattle.house_relay.specs.Line.{counts, has_no_more, hears_end, fresh_live, takes, closes, answers, sends, ends, grants, hears_room, hears_eof, hears_close, hears_request, takes_more, takes_in, owed_in};
+ghost use Rattle.house_relay.specs.Relay.{stuck_in};
 
 use socks_dialog::Dialog;
 use ssh_fields::Text;
@@ -94,7 +95,8 @@ impl Line {
 
     /// The socket took so many bytes.
     pub fn takes_more(&mut self, n: usize)
-        ensures { owed_in self.old + n < 2 ^ 64 → self.new ≡ takes_in n self.old }
+        ensures taken { owed_in self.old + n < 2 ^ 64 → self.new ≡ takes_in n self.old }
+        ensures stuck { stuck_in self.new ≡ stuck_in self.old }
     {
         if let Line::Live(live) = self {
             *live = live.takes_more(n);
@@ -240,7 +242,9 @@ impl Live {
 
     /// The socket took so many bytes: the replies first, and room is owed for those behind them.
     pub fn takes_more(self, n: usize) -> Live
-        ensures { self.owed + (n - self.replies) < 2 ^ 64 → result ≡ takes_more n self }
+        ensures taken { self.owed + (n - self.replies) < 2 ^ 64 → result ≡ takes_more n self }
+        ensures others { result
+            ≡ record self { owed = result.owed; replies = result.replies } }
     {
         if self.close_said {
             self

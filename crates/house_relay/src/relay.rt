@@ -2,7 +2,7 @@
 ghost use Rattle.std.specs.Prelude.{◌≡◌, ◌+◌, ◌≤◌, ◌<◌, ◌^◌, ◌++◌, ℕ, List, [], true, false, if◌then◌else◌, length, take, drop, min, IfSome, OnOk, IfOk, None, Some, IsTrue};
 ghost use Rattle.house_relay.specs.Acts.{Act, Reads, Ends, Takes, Fails, Confirms, Refuses, Delivers, HearsEof, HearsClose, SaysData, SaysAdjust, SaysEof, SaysClose, Other};
 ghost use Rattle.house_relay.specs.Next.{says_of, says_offered, says_live, orders_of};
-ghost use Rattle.house_relay.specs.Relay.{Stands, GoesOn, IsSaying, said_act, SilentIn, is_broken, is_finished, stream_of, delivers, IsOffered, OrdersRight, IsResting, is_stuck, heard_in, answered_in, MayRead, holding};
+ghost use Rattle.house_relay.specs.Relay.{Stands, GoesOn, IsSaying, said_act, SilentIn, is_broken, is_finished, stream_of, delivers, IsOffered, OrdersRight, IsResting, is_stuck, stuck_in, heard_in, answered_in, MayRead, holding};
 ghost use Rattle.house_relay.specs.Line.{owed_in};
 ghost use Rattle.house_relay.specs.Steps.{said_of, made_as, connected, failing, taken_of, confirmed_in, refused_in, on_line, room_heard, eof_heard, close_heard, request_heard, data_heard, surplus_of, Dials, fresh_relay, is_gone};
 ghost use Rattle.proxy_frames.specs.Queued.{without_first};
@@ -411,6 +411,8 @@ impl Relay {
         ensures stands { OnOk result
             (MayRead bytes.now self.old → GoesOn self.old self.new (Reads bytes.now)) }
         ensures dials { OnOk result (Dials free bytes.now self.old self.new) }
+        ensures few { length self.new.held.waiting
+            ≤ length self.old.held.waiting + length bytes.now }
         ensures others { OnOk result (self.new ≡ record self.old {
           line = self.new.line;
           socket = self.new.socket;
@@ -428,11 +430,11 @@ impl Relay {
         ensures stands { IfOk result (λ count. MayRead bytes.now self.old
             → GoesOn self.old (holding (drop count bytes.now) self.new) (Reads bytes.now)) }
         ensures dials { OnOk result (Dials free bytes.now self.old self.new) }
-        ensures others { OnOk result (self.new ≡ record self.old {
+        ensures others { self.new ≡ record self.old {
           line = self.new.line;
           socket = self.new.socket;
           queue = self.new.queue;
-        }) }
+        } }
     {
         let Line::Dialing(dialog) = &mut self.line else {
             return Ok(0);
@@ -510,6 +512,7 @@ impl Relay {
         ensures stands { owed_in self.old.line + n < 2 ^ 64
             → GoesOn self.old self.new (Takes n) }
         ensures exact { owed_in self.old.line + n < 2 ^ 64 → self.new ≡ taken_of n self.old }
+        ensures stuck { stuck_in self.new.line ≡ stuck_in self.old.line }
         ensures others { self.new ≡ record self.old {
           line = self.new.line;
           queue = without_first n self.old.queue;
@@ -527,6 +530,7 @@ impl Relay {
             (GoesOn self.old self.new (answered_in self.old.line Confirms)) }
         ensures exact { OnOk result
             (self.new ≡ confirmed_in self.old.line remote window maximum self.old) }
+        ensures held { self.new.held ≡ self.old.held }
     {
         let Line::Opened { version } = self.line else {
             return Ok(());
@@ -542,6 +546,7 @@ impl Relay {
         ensures stands { OnOk result
             (GoesOn self.old self.new (answered_in self.old.line (Refuses reason))) }
         ensures exact { OnOk result (self.new ≡ refused_in self.old.line reason self.old) }
+        ensures held { self.new.held ≡ self.old.held }
     {
         let Line::Opened { version } = self.line else {
             return Ok(());
@@ -582,6 +587,7 @@ impl Relay {
             (if is then Delivers bytes.now else Other)) }
         ensures exact { IfOk result (λ is. is ≡ delivers self.old) }
         ensures queue { IfOk result (λ is. self.new ≡ data_heard is bytes.now self.old) }
+        ensures held { self.new.held ≡ self.old.held }
     {
         if self.delivers() {
             self.queue.push_bytes(bytes)?;
