@@ -130,9 +130,9 @@ ordered ls i x y e at few distinct is =
     rw is (record {
       keeps = changes ls i (record x { stream = Awaited }) x first.0 few distinct fits (sym none);
       due =
-        let one = sum_by-set link_due ls i (record x { stream = Awaited }) x first.0 in
-        let two = offers-due (get_or ls i x).stream (get_or ls i x).relay first.1 in
-        omega (arith, one, two);
+          let one = sum_by-set link_due ls i (record x { stream = Awaited }) x first.0 in
+          let two = offers-due (get_or ls i x).stream (get_or ls i x).relay first.1 in
+          omega (arith, one, two);
       awaited = set-passes is_awaited ls i (record x { stream = Awaited }) first.0 refl;
     })
 
@@ -187,17 +187,17 @@ made ls i x y o e at few distinct free is held =
     let gone = removes ls i x first.0 few distinct none in
     let last : filter_map (λ (l : Link). own_of l.stream) (y ∷ []) ≡ made_streams o = ap (λ s. cons_option (own_of s) []) is ∙ made-last o in
     let streams = filter_map-append (λ (l : Link). own_of l.stream) (remove ls i) (y ∷ [])
-        ∙ ap (λ ss. ss ++ filter_map (λ (l : Link). own_of l.stream) (y ∷ [])) gone.streams ∙ ap (λ ss. streams_of ls ++ ss) last in
+    ∙ ap (λ ss. ss ++ filter_map (λ (l : Link). own_of l.stream) (y ∷ [])) gone.streams ∙ ap (λ ss. streams_of ls ++ ss) last in
     record {
       few = All-push (λ (l : Link). length l.relay.held.waiting ≤ LONGEST_PIECE) (remove ls i) y gone.few fits;
       distinct = ap are_distinct streams ∙ made-distinct o (streams_of ls) distinct free;
       streams = streams;
       due =
-        let one = sum_by-remove link_due ls i x first.0 in
-        let two = awaits-due (get_or ls i x).stream (get_or ls i x).relay first.1 in
-        let three = sum_by_push link_due (remove ls i) y in
-        let four : link_due y ≤ 3 = subst (λ (s : Stream). stream_due s y.relay ≤ 3) (sym is) (made-due o y.relay) in
-        omega (arith, one, two, three, four);
+          let one = sum_by-remove link_due ls i x first.0 in
+          let two = awaits-due (get_or ls i x).stream (get_or ls i x).relay first.1 in
+          let three = sum_by_push link_due (remove ls i) y in
+          let four : link_due y ≤ 3 = subst (λ (s : Stream). stream_due s y.relay ≤ 3) (sym is) (made-due o y.relay) in
+          omega (arith, one, two, three, four);
     }
 
 -- ---- one more comes

@@ -231,20 +231,20 @@ unlistens-first : (f : Forwarding) (fs : List Forwarding) (l : ℕ) → listener
 unlistens-first f fs l e = record {
   among = rw e (among-first l (listeners_of fs));
   due =
-    let is : has_listener l f ≡ true = rw e (eq-eqb l l refl) in
-    let one = sum-filter (λ g. not (has_listener l g)) fs in
-    let two = sum_by-cons forwarding_due f fs in
-    let three = due-of f.stage l e in
-    rw is (omega (arith, one, two, three));
+      let is : has_listener l f ≡ true = rw e (eq-eqb l l refl) in
+      let one = sum-filter (λ g. not (has_listener l g)) fs in
+      let two = sum_by-cons forwarding_due f fs in
+      let three = due-of f.stage l e in
+      rw is (omega (arith, one, two, three));
 }
 
 unlistens-more : (f : Forwarding) (fs : List Forwarding) (l : ℕ) → Unlistens l fs → Unlistens l (f ∷ fs)
 unlistens-more f fs l u = record {
   among = among-more (listener_of f) l (listeners_of fs) u.among;
   due =
-    let one = sum-cond (not (has_listener l f)) f (filter (λ g. not (has_listener l g)) fs) in
-    let two = sum_by-cons forwarding_due f fs in
-    omega (arith, one, two, u.due);
+      let one = sum-cond (not (has_listener l f)) f (filter (λ g. not (has_listener l g)) fs) in
+      let two = sum_by-cons forwarding_due f fs in
+      omega (arith, one, two, u.due);
 }
 
 ends-with : (b : Bool) (serial serial' l k : ℕ) → (if b then None else Some (want.Unlisten serial k)) ≡ Some (want.Unlisten serial' l) → k ≡ l
@@ -435,10 +435,10 @@ made fs i l g x e o is =
       in_order = set-order fs i g x first.0 first.2 (λ h. absurd (both_ways (waits_at g.stage) (ap waits_at is) h)) o;
       listeners = made-listeners fs i g x l first.0 first.1 (ap listener_at is) o;
       due =
-        let one = sum_by-set forwarding_due fs i g x first.0 in
-        let two = waits-two (get_or fs i x).stage first.1 in
-        let three = ap stage_due is in
-        omega (arith, one, two, three);
+          let one = sum_by-set forwarding_due fs i g x first.0 in
+          let two = waits-two (get_or fs i x).stage first.1 in
+          let three = ap stage_due is in
+          omega (arith, one, two, three);
     }
 
 nil-last : (ls : List ℕ) → ls ≡ ls ++ []
@@ -456,9 +456,9 @@ fails fs i x e =
     record {
       listeners = waits-remove fs i x first.0 first.1 ∙ nil-last (listeners_of fs);
       due =
-        let one = sum_by-remove forwarding_due fs i x first.0 in
-        let two = waits-two (get_or fs i x).stage first.1 in
-        omega (arith, one, two);
+          let one = sum_by-remove forwarding_due fs i x first.0 in
+          let two = waits-two (get_or fs i x).stage first.1 in
+          omega (arith, one, two);
     }
 
 -- ---- the first that is to be ordered or closed
@@ -516,10 +516,10 @@ orders fs i x g e at o same =
       listeners = kept-set listener_of fs i g x first.0 (ap listener_at is ∙ sym (waits-none (get_or fs i x).stage first.1));
       first = first-set fs i g x first.0 first.2 is;
       due =
-        let one = sum_by-set forwarding_due fs i g x first.0 in
-        let two = waits-two (get_or fs i x).stage first.1 in
-        let three : stage_due g.stage ≡ 2 = ap stage_due is in
-        omega (arith, one, two, three);
+          let one = sum_by-set forwarding_due fs i g x first.0 in
+          let two = waits-two (get_or fs i x).stage first.1 in
+          let three : stage_due g.stage ≡ 2 = ap stage_due is in
+          omega (arith, one, two, three);
     }
 
 pub to-listen-at : (fs : List Forwarding) (i : ℕ) (x : Forwarding) → position to_listen fs ≡ Some i → x ≡ get_or fs i x

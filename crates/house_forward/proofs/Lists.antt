@@ -37,10 +37,13 @@ none-in false n e = refl
 pub none-passes : {X : Type 0} (p : X → Bool) (xs : List X) → position p xs ≡ None → list_any p xs ≡ false
 none-passes p xs e =
     let past : length xs ≤ position_or_len p xs =
-        ltb-false (position_or_len p xs) (length xs) (none-in _ (position_or_len p xs) e) in
-    elim (cases_Bool (list_any p xs)) [ inl has ↦ (let at = Any-from_list_any p xs has in
-        absurd (both_ways (p (get_or xs at.0 at.1)) (fails_before_first p xs at.0 at.1 (omega (arith, at.2, past)))
-        (rw at.3 at.4))) | inr lacks ↦ lacks ]
+    ltb-false (position_or_len p xs) (length xs) (none-in _ (position_or_len p xs) e) in
+    elim (cases_Bool (list_any p xs)) [
+      | inl has ↦ (let at = Any-from_list_any p xs has in
+          absurd (both_ways (p (get_or xs at.0 at.1)) (fails_before_first p xs at.0 at.1 (omega (arith, at.2, past)))
+          (rw at.3 at.4)))
+      | inr lacks ↦ lacks
+    ]
 
 -- where one passes at a place, one passes
 pub one-passes : {X : Type 0} (p : X → Bool) (xs : List X) (i : ℕ) (d : X) → i < length xs

@@ -46,9 +46,9 @@ pauses t Awaited r o = absurd o
 pauses t (Made own) r o = record {
   has = eq-eqb own.number t (sym o.0);
   less =
-    let before : turns r own ≡ true = stuck-turn r.held.waiting r.line own.paused o.2 ∙ ap (λ b. not b) o.1 in
-    let after : turns r (record own { paused = true }) ≡ false = stuck-turn r.held.waiting r.line true o.2 in
-    rw (before, after) (omega arith);
+      let before : turns r own ≡ true = stuck-turn r.held.waiting r.line own.paused o.2 ∙ ap (λ b. not b) o.1 in
+      let after : turns r (record own { paused = true }) ≡ false = stuck-turn r.held.waiting r.line true o.2 in
+      rw (before, after) (omega arith);
 }
 pauses t Gone r o = absurd o
 
@@ -58,9 +58,9 @@ resumes t Awaited r o = absurd o
 resumes t (Made own) r o = record {
   has = eq-eqb own.number t (sym o.0);
   less =
-    let before : turns r own ≡ true = free-turn r.held.waiting r.line own.paused o.2 ∙ o.1 in
-    let after : turns r (record own { paused = false }) ≡ false = free-turn r.held.waiting r.line false o.2 in
-    rw (before, after) (omega arith);
+      let before : turns r own ≡ true = free-turn r.held.waiting r.line own.paused o.2 ∙ o.1 in
+      let after : turns r (record own { paused = false }) ≡ false = free-turn r.held.waiting r.line false o.2 in
+      rw (before, after) (omega arith);
 }
 resumes t Gone r o = absurd o
 
@@ -97,7 +97,7 @@ less-due step t (y ∷ ls) zero x d l e takes =
     let has : has_number t y ≡ true = subst (λ (z : Link). has_number t z ≡ true) (sym same) takes.has in
     let rest = moves-first step t y ls d has in
     let less : link_due (link_after step t y) + 1 ≤ link_due y =
-        subst (λ (z : Link). link_due (link_after step t z) + 1 ≤ link_due z) (sym same) (rw (after-it step t x takes.has) takes.less) in
+    subst (λ (z : Link). link_due (link_after step t z) + 1 ≤ link_due z) (sym same) (rw (after-it step t x takes.has) takes.less) in
     let one = sum_by-cons link_due (link_after step t y) (map (link_after step t) ls) in
     let two = sum_by-cons link_due y ls in
     let three = ap (λ zs. sum_by link_due zs) rest in

@@ -52,16 +52,16 @@ took-queues ls i stream n x y e at took t =
     let first = position-Some (is_of stream) ls i x e in
     let is : is_of stream x ≡ true = subst (λ (z : Link). is_of stream z ≡ true) (sym at) first.1 in
     elim (cases_Bool (t == stream)) [
-      inl same ↦ (let it : t ≡ stream = eqb-true t stream same in
-        let new : find (is_of t) (set ls i y) ≡ Some y = subst (λ (k : ℕ). find (is_of k) (set ls i y) ≡ Some y) (sym it)
-            (found-set (is_of stream) ls i y x first.0 (same-of stream n x y took ∙ is) first.2) in
-        let old : find (is_of t) ls ≡ Some (get_or ls i x) = subst (λ (k : ℕ). find (is_of k) ls ≡ Some (get_or ls i x)) (sym it)
-            (found-first (is_of stream) ls i x first.0 first.1 first.2) in
-        let left : queue_in (find (is_of t) (set ls i y)) ≡ drop n x.relay.queue.waiting = ap queue_in new ∙ took.queue in
-        let right : queue_in (find (is_of t) ls) ≡ x.relay.queue.waiting = ap queue_in old ∙ ap (λ (z : Link). z.relay.queue.waiting) (sym at) in
-        left ∙ sym (ap (λ q. queue_after_took stream n t q) right ∙ taken-if (t == stream) n x.relay.queue.waiting same))
-    | inr other ↦ (let not-it : is_of t x ≡ false = and_left _ _ (other-in x.stream stream t (and_parts (has_number stream x) (is_number stream (stream_of x.relay.socket)) is).0 other) in
-        rw (other, find_past (is_of t) ls i y x (subst (λ (z : Link). is_of t z ≡ false) at not-it) (same-of t n x y took ∙ not-it)) refl)
+      | inl same ↦ (let it : t ≡ stream = eqb-true t stream same in
+          let new : find (is_of t) (set ls i y) ≡ Some y = subst (λ (k : ℕ). find (is_of k) (set ls i y) ≡ Some y) (sym it)
+          (found-set (is_of stream) ls i y x first.0 (same-of stream n x y took ∙ is) first.2) in
+          let old : find (is_of t) ls ≡ Some (get_or ls i x) = subst (λ (k : ℕ). find (is_of k) ls ≡ Some (get_or ls i x)) (sym it)
+          (found-first (is_of stream) ls i x first.0 first.1 first.2) in
+          let left : queue_in (find (is_of t) (set ls i y)) ≡ drop n x.relay.queue.waiting = ap queue_in new ∙ took.queue in
+          let right : queue_in (find (is_of t) ls) ≡ x.relay.queue.waiting = ap queue_in old ∙ ap (λ (z : Link). z.relay.queue.waiting) (sym at) in
+          left ∙ sym (ap (λ q. queue_after_took stream n t q) right ∙ taken-if (t == stream) n x.relay.queue.waiting same))
+      | inr other ↦ (let not-it : is_of t x ≡ false = and_left _ _ (other-in x.stream stream t (and_parts (has_number stream x) (is_number stream (stream_of x.relay.socket)) is).0 other) in
+          rw (other, find_past (is_of t) ls i y x (subst (λ (z : Link). is_of t z ≡ false) at not-it) (same-of t n x y took ∙ not-it)) refl)
     ]
 
 nil : (n : ℕ) → drop {A = ℕ} n [] ≡ []
@@ -76,11 +76,11 @@ pub none-took : (ls : List Link) (stream n : ℕ) → position (is_of stream) ls
     → queue_in (find (is_of t) ls) ≡ queue_after_took stream n t (queue_in (find (is_of t) ls))
 none-took ls stream n e t =
     elim (cases_Bool (t == stream)) [
-      inl same ↦ (let it : t ≡ stream = eqb-true t stream same in
-        let none = none-found (is_of stream) ls (none-passes (is_of stream) ls e) in
-        let here : find (is_of t) ls ≡ None = subst (λ (k : ℕ). find (is_of k) ls ≡ None) (sym it) none in
-        rw here (none-if (t == stream) n))
-    | inr other ↦ rw other refl
+      | inl same ↦ (let it : t ≡ stream = eqb-true t stream same in
+          let none = none-found (is_of stream) ls (none-passes (is_of stream) ls e) in
+          let here : find (is_of t) ls ≡ None = subst (λ (k : ℕ). find (is_of k) ls ≡ None) (sym it) none in
+          rw here (none-if (t == stream) n))
+      | inr other ↦ rw other refl
     ]
 
 due-same : (s : Stream) (r r' : Relay) → r'.held ≡ r.held → stuck_in r'.line ≡ stuck_in r.line → stream_due s r' ≡ stream_due s r

@@ -204,13 +204,7 @@ fn earlier(first: Option<Waiting>, w: Waiting) -> Option<Waiting>
     };
     match first {
         None => Some(w),
-        Some(f) => {
-            if at < f.stamp() {
-                Some(w)
-            } else {
-                Some(f)
-            }
-        }
+        Some(f) => { if at < f.stamp() { Some(w) } else { Some(f) } }
     }
 }
 

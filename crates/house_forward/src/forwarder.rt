@@ -63,7 +63,10 @@ impl<N: Notes + Drop> Forwarder<N> {
         ensures told { N.told self.new.notes.notes ≡ N.told self.old.notes.notes }
         ensures has { self.new.has ≡ self.old.has }
     {
-        let most = self.has.most_due(forwardings, relays, asks).ok_or(OutOfMemory)?;
+        let most = self
+            .has
+            .most_due(forwardings, relays, asks)
+            .ok_or(OutOfMemory)?;
         let all = most.checked_add(marks).ok_or(OutOfMemory)?;
         self.notes.room(all)
     }

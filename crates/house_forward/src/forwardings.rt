@@ -121,11 +121,7 @@ impl Forwardings {
     }
 
     /// An ask to open a forwarding.
-    #[tactic(auto, using(
-        crate::proofs::InOrder::order_more,
-        crate::proofs::InOrder::listeners_more,
-        crate::proofs::InOrder::first_listens,
-    ))]
+    #[tactic(auto, using(crate::proofs::InOrder::order_more, crate::proofs::InOrder::listeners_more, crate::proofs::InOrder::first_listens,))]
     pub fn open(&mut self, ends: Ends<'_>, start: Option<usize>) -> Result<Asked, OutOfMemory>
         ensures exact { IfOk result (λ asked. asked ≡ opens_of self.old.serials ends.entry
             self.old.all.items (standing ends.entry self.old.all.items)) }

@@ -83,7 +83,11 @@ impl Holdings {
             (length self.now.relays.all.items + relays)
             (length self.now.asks.waiting.items + asks)) }
     {
-        let forwardings = self.forwardings.len().checked_add(forwardings)?.checked_mul(2)?;
+        let forwardings = self
+            .forwardings
+            .len()
+            .checked_add(forwardings)?
+            .checked_mul(2)?;
         let relays = self.relays.len().checked_add(relays)?.checked_mul(4)?;
         let asks = self.asks.len().checked_add(asks)?;
         forwardings.checked_add(relays.checked_add(asks)?)
@@ -243,6 +247,7 @@ impl Holdings {
             self.old.forwardings.all.items self.old.relays.all.items
             self.old.asks.waiting.items self.old.ordering }
         ensures must { self.new.must ≡ self.old.must }
+        ensures ordering { self.new.ordering ≡ self.old.ordering }
         ensures forwardings { length self.new.forwardings.all.items
             ≤ length self.old.forwardings.all.items }
         ensures relays { length self.new.relays.all.items
@@ -271,6 +276,7 @@ impl Holdings {
             self.old.forwardings.all.items self.old.relays.all.items
             self.old.asks.waiting.items self.old.ordering }
         ensures must { self.new.must ≡ self.old.must }
+        ensures ordering { self.new.ordering ≡ self.old.ordering }
         ensures forwardings { length self.new.forwardings.all.items
             ≤ length self.old.forwardings.all.items }
         ensures relays { length self.new.relays.all.items

@@ -62,10 +62,7 @@ impl Relays {
 
     /// Whether the house has all channels that it may have.
     pub fn is_full(&self) -> bool {
-        self.all
-            .iter()
-            .filter(|l| l.relay.line.counts())
-            .count() >= MOST_CHANNELS
+        self.all.iter().filter(|l| l.relay.line.counts()).count() >= MOST_CHANNELS
     }
 
     /// A number that no relay has.
@@ -305,12 +302,7 @@ impl Relays {
     }
 
     /// The first whose channel has this number hears a message.
-    fn hear_at(
-        &mut self,
-        i: usize,
-        number: u32,
-        message: &Message<'_>,
-    ) -> Result<(), OutOfMemory>
+    fn hear_at(&mut self, i: usize, number: u32, message: &Message<'_>) -> Result<(), OutOfMemory>
         requires { position (λ l. l.relay.number == number) self.old.all.items ≡ Some i }
         ensures streams { streams_of self.new.all.items ≡ streams_of self.old.all.items }
         ensures count { length self.new.all.items ≡ length self.old.all.items }

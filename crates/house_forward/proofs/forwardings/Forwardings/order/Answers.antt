@@ -11,13 +11,13 @@ order_listen-requires c =
 pub returns-in-Unlisten-clause-orders : goal.returns-in-Unlisten-clause-orders
 returns-in-Unlisten-clause-orders c =
     let e : next_of c.args.asks.now.waiting.items c.args.self.now.all.items ≡ Some (want.Unlisten c.in-Unlisten.serial c.in-Unlisten.listener) =
-        sym c.in_ok-next.ensures ∙ ap (λ w. Some w) c.in-Unlisten.is in
+    sym c.in_ok-next.ensures ∙ ap (λ w. Some w) c.in-Unlisten.is in
     let u = unlistens c.args.asks.now.waiting.items c.args.self.now.all.items c.in-Unlisten.serial c.in-Unlisten.listener e in
     (u.among, rw c.unlisten.ensures.all (listeners-without c.in-Unlisten.listener c.args.self.now.all.items), (c.in-Unlisten.serial, e))
 
 pub returns-in-Unlisten-clause-due : goal.returns-in-Unlisten-clause-due
 returns-in-Unlisten-clause-due c =
     let e : next_of c.args.asks.now.waiting.items c.args.self.now.all.items ≡ Some (want.Unlisten c.in-Unlisten.serial c.in-Unlisten.listener) =
-        sym c.in_ok-next.ensures ∙ ap (λ w. Some w) c.in-Unlisten.is in
+    sym c.in_ok-next.ensures ∙ ap (λ w. Some w) c.in-Unlisten.is in
     let u = unlistens c.args.asks.now.waiting.items c.args.self.now.all.items c.in-Unlisten.serial c.in-Unlisten.listener e in
     rw c.unlisten.ensures.all u.due

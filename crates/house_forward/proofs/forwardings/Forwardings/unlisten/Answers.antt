@@ -9,7 +9,7 @@ use Rattle.house_forward.proofs.forwardings.Forwardings.unlisten.Goals as goal
 pub invariant_of-self : goal.invariant_of-self
 invariant_of-self c =
     let same : c.retain.new.self.items ≡ filter (λ (f : Forwarding). not (has_listener c.args.listener f)) c.args.self.now.all.items =
-        filter_same _ (λ (f : Forwarding). not (has_listener c.args.listener f)) _ (λ x b f' k. search rules) _ _ c.retain.ensures.filtered in
+    filter_same _ (λ (f : Forwarding). not (has_listener c.args.listener f)) _ (λ x b f' k. search rules) _ _ c.retain.ensures.filtered in
     record { in_order = rw same (order-filter (λ (f : Forwarding). not (has_listener c.args.listener f)) c.args.self.now.all.items c.args.self.now.in_order) }
 
 pub returns-clause-all : goal.returns-clause-all
