@@ -39,6 +39,7 @@ mod Todo
 mod Told
 mod Turned
 mod Turns
+mod Unopened
 mod Unshared
 mod Waiting
 mod Waits
