@@ -17,6 +17,7 @@ use Rattle.mux_machine.specs.declared.event.Event.{Event}
 use Rattle.mux_machine.specs.declared.event.Event.TheVariants.{Accepted, FromClient, ClientEnd, ClientFailed, HouseSays, FromServer, ServerEnd, ServerFailed}
 use Rattle.mux_machine.specs.Events.{MayEnd, Tells}
 use Rattle.mux_engine.specs.Counted.{Counts, Cut, Well}
+use Rattle.mux_engine.specs.Rests.{IsByRow}
 use Rattle.mux_engine.specs.Serving.{StaysOrFails}
 use Rattle.mux_engine.specs.Turns.{IsEventOf}
 use Rattle.mux_engine.proofs.Arms.{well-wait}
@@ -158,7 +159,7 @@ turn-later (turn.Failed k) a b c d f = by_server (k == 0) f
 -- ---- how a run ends
 
 -- no event spends the turns
-pub turn-unspent : (e : Event) (o : Option Ended) → MayEnd e o → o ≢ Some ended.Spent
+turn-unspent : (e : Event) (o : Option Ended) → MayEnd e o → o ≢ Some ended.Spent
 turn-unspent (Accepted k) o may is = let z : None ≡ Some ended.Spent = sym may ∙ is in cc
 turn-unspent (ClientEnd k) o may is = let z : None ≡ Some ended.Spent = sym may ∙ is in cc
 turn-unspent (ClientFailed k) o may is = let z : None ≡ Some ended.Spent = sym may ∙ is in cc
@@ -169,7 +170,7 @@ turn-unspent (FromServer bytes) o may is = may.1 is
 turn-unspent ServerEnd o may is = may.1 is
 
 -- and none refuses a forwarding that the run began with
-pub turn-permitted : (e : Event) (o : Option Ended) → MayEnd e o → (index : ℕ) → o ≢ Some (ended.StartRefused index)
+turn-permitted : (e : Event) (o : Option Ended) → MayEnd e o → (index : ℕ) → o ≢ Some (ended.StartRefused index)
 turn-permitted (Accepted k) o may index is = let z : None ≡ Some (ended.StartRefused index) = sym may ∙ is in cc
 turn-permitted (ClientEnd k) o may index is = let z : None ≡ Some (ended.StartRefused index) = sym may ∙ is in cc
 turn-permitted (ClientFailed k) o may index is = let z : None ≡ Some (ended.StartRefused index) = sym may ∙ is in cc
@@ -178,6 +179,9 @@ turn-permitted ServerFailed o may index is = let z : Some ended.ServerFailed ≡
 turn-permitted (FromClient k bytes) o may index is = may.2 index is
 turn-permitted (FromServer bytes) o may index is = may.2 index is
 turn-permitted ServerEnd o may index is = may.2 index is
+
+pub turn-by-row : (e : Event) (o : Option Ended) → MayEnd e o → IsByRow o
+turn-by-row e o may = record { unspent = turn-unspent e o may; permitted = turn-permitted e o may }
 
 counted-least : (m n : ℕ) → m ≤ n → counted m ≤ counted n
 counted-least m n h = omega arith
@@ -204,3 +208,11 @@ later-on a b c f g = omega arith
 
 pub later-then : (a b c d : ℕ) → a ≤ b → b ≤ c → c ≤ d → a ≤ d
 later-then a b c d f g h = omega arith
+
+-- a run that went on is ended by a row, if at all
+pub stays-by-row : (old new : Option Ended) (a b : ℕ) → StaysOrFails old new a b → IsByRow old → IsByRow new
+stays-by-row old new a b (inl s) row = subst IsByRow (sym s.0) row
+stays-by-row old new a b (inr f) row = record {
+  unspent = λ is. let z : Some ended.ServerFailed ≡ Some ended.Spent = sym f.0 ∙ is in cc;
+  permitted = λ index is. let z : Some ended.ServerFailed ≡ Some (ended.StartRefused index) = sym f.0 ∙ is in cc;
+}

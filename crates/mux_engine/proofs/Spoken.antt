@@ -23,7 +23,7 @@ use Rattle.mux_machine.specs.Events.{MayEnd, Tells, here}
 use Rattle.mux_machine.specs.declared.event.Event.{Event}
 use Rattle.mux_machine.specs.declared.event.Event.TheVariants.{Accepted, FromClient, ClientEnd, ClientFailed, HouseSays, FromServer, ServerEnd, ServerFailed}
 use Rattle.mux_engine.specs.Asking.{Heeded}
-use Rattle.mux_engine.specs.Rests.{EndsByAsk}
+use Rattle.mux_engine.specs.Rests.{EndsByAsk, IsByRow}
 use Rattle.mux_engine.specs.Serving.{Promised, Serving}
 use Rattle.mux_engine.specs.Sides.{SameHouse, Side, noted}
 use Rattle.mux_engine.specs.Turns.{want_of}
@@ -42,10 +42,17 @@ room-of m n e = by_test (nat_lt m n) refl e
     by_test true q f = grind (arith, nat_tests)
     by_test false q f = absurd (cc)
 
+-- a run that goes on
+pub row-live : (o : Option Ended) → o ≡ None → IsByRow o
+row-live o e = record {
+  unspent = λ f. let z : None ≡ Some ended.Spent = sym e ∙ f in cc;
+  permitted = λ index f. let z : None ≡ Some (ended.StartRefused index) = sym e ∙ f in cc;
+}
+
 pub live-ends : (o : Option Ended) → o ≡ None → EndsByAsk o
 live-ends o e = record {
   lives = λ f. let z : None ≡ Some ended.ServerFailed = sym e ∙ f in cc;
-  unspent = λ f. let z : None ≡ Some ended.Spent = sym e ∙ f in cc;
+  by_row = row-live o e;
 }
 
 -- a result that is known
@@ -57,9 +64,9 @@ err-serves r P Q is m = subst (λ (q : Result _ _). MatchResult q P Q) is m
 
 -- a run that ends by what a stream said
 pub asks-ends : (e : Event) (bytes : List ℕ) (o : Option Ended) → Tells e (Gets HOUSE bytes) → MayEnd e o → EndsByAsk o
-asks-ends (FromClient k said) bytes o t may = record { lives = may.0; unspent = may.1; permitted = may.2 }
-asks-ends (FromServer said) bytes o t may = record { lives = may.0; unspent = may.1; permitted = may.2 }
-asks-ends ServerEnd bytes o t may = record { lives = may.0; unspent = may.1; permitted = may.2 }
+asks-ends (FromClient k said) bytes o t may = record { lives = may.0; by_row = record { unspent = may.1; permitted = may.2 } }
+asks-ends (FromServer said) bytes o t may = record { lives = may.0; by_row = record { unspent = may.1; permitted = may.2 } }
+asks-ends ServerEnd bytes o t may = record { lives = may.0; by_row = record { unspent = may.1; permitted = may.2 } }
 asks-ends (Accepted k) bytes o t may = absurd (let z = t in cc)
 asks-ends (ClientEnd k) bytes o t may = absurd (let z = t.1 in cc)
 asks-ends (ClientFailed k) bytes o t may = absurd (elim t.1 [ inl z ↦ cc | inr z ↦ cc ])

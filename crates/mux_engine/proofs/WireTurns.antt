@@ -83,8 +83,8 @@ module _ {May : HouseReply → Type 0} {Rest : Option (List HouseMark) → Type 
       let new : IsUnseen v.journal seen.blocked k = v.unseen k (let n : k ≡ seen.last + 1 = fits.2 in omega arith) few in
       record {
         mark = Accepts k;
-    twin = Accepts k;
-    alike = same-marks (Accepts k ∷ now-waiting.journal);
+        twin = Accepts k;
+        alike = same-marks (Accepts k ∷ now-waiting.journal);
         is = tt;
         tells = next;
         allowed = ((λ z. absurd (let n : k ≡ seen.last + 1 = fits.2 in omega arith)), new.not_accepted, not-own-stream k (client-number k few));

@@ -27,11 +27,16 @@ pub record IsReady (known : Known) (quiet : Quiet) (queue : ℕ → List ℕ) (h
   pub no_more : HasNoMore known quiet queue held failed own
   pub rests : IsTrue known.present → want_of s ≡ Read → IsAtRest quiet
 
--- a run that ended by what a client said
-pub record EndsByAsk (ended : Option Ended) : Type 0 where
-  pub lives : ended ≢ Some ServerFailed
+-- a run that goes on or that a row ended: its turns were not spent, and no forwarding that it began
+-- with was refused
+pub record IsByRow (ended : Option Ended) : Type 0 where
   pub unspent : ended ≢ Some Spent
   pub permitted : (index : ℕ) → ended ≢ Some (StartRefused index)
+
+-- one that goes on or that ended by what a client said
+pub record EndsByAsk (ended : Option Ended) : Type 0 where
+  pub lives : ended ≢ Some ServerFailed
+  pub by_row : IsByRow ended
 
 -- the forwarding of the start that was refused, where there is a house and none may be
 abbrev pub refused_if : Bool → Bool → Option ℕ → Option ℕ

@@ -4,14 +4,14 @@ ghost use Rattle.mux_outside.specs.Streams.{among, without};
 ghost use Rattle.mux_outside.specs.declared.house_mark.HouseMark.{HouseMark as TheHouseMark};
 ghost use Rattle.mux_outside.specs.declared.mark.Mark.{Mark as TheMark};
 ghost use Rattle.mux_history.specs.declared.limits.TheConstants.{HOUSE as TheHouse};
-ghost use Rattle.mux_history.specs.declared.ended.Ended.TheVariants.{ServerFailed, Spent as TurnsSpent};
+ghost use Rattle.mux_history.specs.declared.ended.Ended.TheVariants.{ServerFailed};
 ghost use Rattle.mux_history.specs.Policy.{Policy as ThePolicy};
 ghost use Rattle.mux_outside.specs.Counts.{Rose};
 ghost use Rattle.mux_outside.specs.declared.turn.Want.TheVariants.{Read as ToRead};
 ghost use Rattle.mux_machine.specs.Events.{here};
 ghost use Rattle.mux_engine.specs.Counted.{Counts};
 ghost use Rattle.mux_engine.specs.Owned.{IsOffered};
-ghost use Rattle.mux_engine.specs.Rests.{EndsByAsk, HasNoMore, IsAlone, IsReady};
+ghost use Rattle.mux_engine.specs.Rests.{EndsByAsk, HasNoMore, IsAlone, IsByRow, IsReady};
 ghost use Rattle.mux_engine.specs.Serving.{Promised, RunsOn, ServedWith, Serving};
 ghost use Rattle.mux_engine.specs.Sides.{Housed, RestsOf, SameHouse, SamePlaces, Side as TheSide, noted};
 ghost use Rattle.mux_engine.specs.Turns.{want_of};
@@ -335,7 +335,7 @@ pub fn step_house<W: Wire, H: House>(
         lists.new.failed lists.new.own engine.new) }
     ensures failed { OnOk result (engine.new.ended ≡ Some ServerFailed
         → Rose (W.server_faults wire.old) (W.server_faults wire.new)) }
-    ensures unspent { OnOk result (engine.new.ended ≢ Some TurnsSpent) }
+    ensures by_row { OnOk result (IsByRow engine.new.ended) }
     ensures idle { engine.old.waiting ≡ [] → (H.known house.old).present ≡ false
         → OnOk result (engine.new.ended ≡ None) }
     ensures later { W.server_faults wire.old ≤ W.server_faults wire.new }

@@ -6,12 +6,12 @@ ghost use Rattle.mux_outside.specs.House.{OwnTurnFits, known_after_own_turn, not
 ghost use Rattle.mux_outside.specs.Wire.{SameFaults};
 ghost use Rattle.mux_outside.specs.declared.house_mark.HouseMark.{HouseMark as TheHouseMark};
 ghost use Rattle.mux_outside.specs.declared.mark.Mark.{Mark as TheMark};
-ghost use Rattle.mux_history.specs.declared.ended.Ended.TheVariants.{ServerFailed, OutOfMemory as WantOfMemory, Spent as TurnsSpent, StartRefused as StartWasRefused};
+ghost use Rattle.mux_history.specs.declared.ended.Ended.TheVariants.{ServerFailed, OutOfMemory as WantOfMemory, StartRefused as StartWasRefused};
 ghost use Rattle.mux_history.specs.declared.limits.TheConstants.{HOUSE as TheHouse};
 ghost use Rattle.mux_history.specs.Policy.{Policy as ThePolicy};
 ghost use Rattle.mux_machine.specs.Events.{went_of, here};
 ghost use Rattle.mux_engine.specs.Counted.{Counts, Cut, Spent, Stops, Turned, Well};
-ghost use Rattle.mux_engine.specs.Rests.{IsAlone, IsReady, ended_as, refused_if};
+ghost use Rattle.mux_engine.specs.Rests.{IsAlone, IsByRow, IsReady, ended_as, refused_if};
 ghost use Rattle.mux_engine.specs.Run.{IsRun};
 ghost use Rattle.mux_engine.specs.Serving.{EndsTurn, Promised, RunsOn, ServedWith, Serving, Spends, StaysOrFails};
 ghost use Rattle.mux_engine.specs.Sides.{Housed, RestsOf, SameHouse, SamePlaces, noted, outside};
@@ -83,7 +83,7 @@ fn turn<W: Wire, H: House>(
     ensures went { IfOk result (λ went. went ≡ went_of engine.new.ended) }
     ensures failed { OnOk result (engine.new.ended ≡ Some ServerFailed
         → Rose (W.server_faults wire.old) (W.server_faults wire.new)) }
-    ensures unspent { OnOk result (engine.new.ended ≢ Some TurnsSpent) }
+    ensures by_row { OnOk result (IsByRow engine.new.ended) }
     ensures later { W.server_faults wire.old ≤ W.server_faults wire.new }
     ensures calls { Counts 1 result (W.calls wire.old) (W.calls wire.new) }
     ensures openings { W.openings wire.new ≡ W.openings wire.old }
@@ -170,7 +170,7 @@ fn one_turn<W: Wire, H: House>(
         → refused_if (H.known house.new).present (H.must house.new) (H.refused house.new) ≢ None) }
     ensures failed { OnOk result (engine.new.ended ≡ Some ServerFailed
         → Rose (W.server_faults wire.old) (W.server_faults wire.new)) }
-    ensures unspent { OnOk result (engine.new.ended ≢ Some TurnsSpent) }
+    ensures by_row { OnOk result (IsByRow engine.new.ended) }
     ensures idle { engine.old.waiting ≡ [] → (H.known house.old).present ≡ false
         → IfOk result (λ on. Well 1 (W.calls wire.old) (W.calls wire.new)) }
     ensures later { W.server_faults wire.old ≤ W.server_faults wire.new }
@@ -227,7 +227,7 @@ fn turns_of<W: Wire, H: House>(
         → refused_if (H.known house.new).present (H.must house.new) (H.refused house.new) ≢ None) }
     ensures failed { OnOk result (engine.new.ended ≡ Some ServerFailed
         → Rose (W.server_faults wire.old) (W.server_faults wire.new)) }
-    ensures unspent { OnOk result (engine.new.ended ≢ Some TurnsSpent) }
+    ensures by_row { OnOk result (IsByRow engine.new.ended) }
     ensures later { W.server_faults wire.old ≤ W.server_faults wire.new }
     ensures calls { MatchResult result
         (λ all. Spent (H.known house.old).present all turns (W.calls wire.old) (W.calls wire.new))

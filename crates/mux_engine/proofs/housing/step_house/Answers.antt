@@ -86,15 +86,15 @@ returns-clause-failed g c =
     let s = c.requires.served in
     on-ok c.speak.result (λ (e : EndsByAsk c.speak.new.engine.ended) over. absurd (e.lives over)) (c.speak.ensures.ends c.flush.new.held lists.failed record { before = s.before; policy = s.policy; pid = s.pid; start = s.start; given = s.given; serving = subst (λ (b : Bool). Serving H.may (RestsOf H.told H.quiet b) s.before (noted (H.told house) (H.known house)) s.policy s.pid s.start (W.seen c.flush.new.wire) c.flush.new.held lists.failed s.given [] c.flush.new.engine) (sym c.in_ok-ask_house.ensures.present) (ok-serves c.flush.result _ _ c.in_ok-flush.was (c.flush.ensures.serving [] (H.known c.args.house.now).present s.before (noted (H.told house) (H.known house)) s.policy s.pid s.start lists.failed s.given (to-flush (ok-serves c.ask_house.result _ _ is (c.ask_house.ensures.serving s.before s.policy s.pid s.start s.given s.serving))))) })
 
-pub returns-clause-unspent : goal.returns-clause-unspent
-returns-clause-unspent g c =
+pub returns-clause-by_row : goal.returns-clause-by_row
+returns-clause-by_row g c =
     let H = g.H.House in
     let W = g.W.Wire in
     let house = c.ask_house.new.house in
     let lists = c.ask_house.new.lists in
     let is : c.ask_house.result ≡ Ok false = c.in_ok-ask_house.was ∙ ap (λ (b : Bool). Ok b) c.if-branch.false in
     let s = c.requires.served in
-    on-ok c.speak.result (λ (e : EndsByAsk c.speak.new.engine.ended). e.unspent) (c.speak.ensures.ends c.flush.new.held lists.failed record { before = s.before; policy = s.policy; pid = s.pid; start = s.start; given = s.given; serving = subst (λ (b : Bool). Serving H.may (RestsOf H.told H.quiet b) s.before (noted (H.told house) (H.known house)) s.policy s.pid s.start (W.seen c.flush.new.wire) c.flush.new.held lists.failed s.given [] c.flush.new.engine) (sym c.in_ok-ask_house.ensures.present) (ok-serves c.flush.result _ _ c.in_ok-flush.was (c.flush.ensures.serving [] (H.known c.args.house.now).present s.before (noted (H.told house) (H.known house)) s.policy s.pid s.start lists.failed s.given (to-flush (ok-serves c.ask_house.result _ _ is (c.ask_house.ensures.serving s.before s.policy s.pid s.start s.given s.serving))))) })
+    on-ok c.speak.result (λ (e : EndsByAsk c.speak.new.engine.ended). e.by_row) (c.speak.ensures.ends c.flush.new.held lists.failed record { before = s.before; policy = s.policy; pid = s.pid; start = s.start; given = s.given; serving = subst (λ (b : Bool). Serving H.may (RestsOf H.told H.quiet b) s.before (noted (H.told house) (H.known house)) s.policy s.pid s.start (W.seen c.flush.new.wire) c.flush.new.held lists.failed s.given [] c.flush.new.engine) (sym c.in_ok-ask_house.ensures.present) (ok-serves c.flush.result _ _ c.in_ok-flush.was (c.flush.ensures.serving [] (H.known c.args.house.now).present s.before (noted (H.told house) (H.known house)) s.policy s.pid s.start lists.failed s.given (to-flush (ok-serves c.ask_house.result _ _ is (c.ask_house.ensures.serving s.before s.policy s.pid s.start s.given s.serving))))) })
 
 pub returns-then-not-present-clause-held_is : goal.returns-then-not-present-clause-held_is
 returns-then-not-present-clause-held_is g c =

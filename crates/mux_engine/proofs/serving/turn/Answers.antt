@@ -11,7 +11,7 @@ use Rattle.mux_engine.specs.Serving.{Promised, Serving}
 use Rattle.mux_engine.specs.Sides.{RestsOf, SameHouse, noted}
 use Rattle.mux_engine.specs.Turns.{IsEventOf, IsOwnOf, failed_heard, held_heard}
 use Rattle.mux_engine.proofs.Arms.{on-err, on-ok}
-use Rattle.mux_engine.proofs.Counting.{turn-rose, turn-unspent}
+use Rattle.mux_engine.proofs.Counting.{turn-by-row, turn-rose}
 use Rattle.mux_engine.proofs.Cuts.{cut-here, cut-still}
 use Rattle.mux_engine.proofs.Handed.{AtWait, HasWaited, alone-as, alone-heard, at-wait, own-noted, has-waited, turn-ends, turn-fits, turn-frees, turn-heeds, turn-house, turn-housed, turn-own-housed, turn-owns, turn-starved}
 use Rattle.mux_engine.proofs.Places.{server-open}
@@ -124,8 +124,8 @@ returns-in-Event-clause-failed g c =
     (turn-rose c.in-Event.e c.heed.new.engine.ended c.wait-told.result c.wait-told.new.into _ _ _ _ may next c.wait-told.ensures.cause over))
     (turn-ends c.requires.served.serving a w c.heed.result c.in-Event.e next c.heed.new.engine c.heed.new.asks (H.told house) (H.told c.heed.new.house) (H.known house) (H.known c.heed.new.house) (W.seen c.heed.new.wire) c.heed.ensures.heeded)
 
-pub returns-in-Event-clause-unspent : goal.returns-in-Event-clause-unspent
-returns-in-Event-clause-unspent g c =
+pub returns-in-Event-clause-by_row : goal.returns-in-Event-clause-by_row
+returns-in-Event-clause-by_row g c =
     let H = g.H.House in
     let W = g.W.Wire in
     let house = c.args.house.now in
@@ -136,7 +136,7 @@ returns-in-Event-clause-unspent g c =
     let w : HasWaited seen (W.seen c.wait-told.new.self) lists.own lists.failed (H.queue house) c.args.engine.now c.wait-told.result c.wait-told.new.into =
     has-waited seen (W.seen c.wait-told.new.self) lists.own lists.failed (H.queue house) c.args.engine.now c.wait-told.result c.wait-told.new.into c.as_bytes.result.now c.list_waiting.new.todo c.waiting.result.now c.wanted.result c.wait-told.ensures.seen c.in_ok-list_waiting.ensures c.waiting.ensures.exact c.wanted.ensures c.next_of.ensures.bytes c.as_bytes.ensures.bytes c.wait-told.ensures.turn c.wait-told.ensures.own_turn in
     let next : IsEventOf c.in-Event.e c.wait-told.result c.wait-told.new.into = subst (λ (b : List ℕ). IsEventOf c.in-Event.e c.wait-told.result b) c.as_bytes.ensures.bytes c.in-Event.ensures.next in
-    on-ok c.heed.result (λ may. turn-unspent c.in-Event.e c.heed.new.engine.ended may)
+    on-ok c.heed.result (λ may. turn-by-row c.in-Event.e c.heed.new.engine.ended may)
     (turn-ends c.requires.served.serving a w c.heed.result c.in-Event.e next c.heed.new.engine c.heed.new.asks (H.told house) (H.told c.heed.new.house) (H.known house) (H.known c.heed.new.house) (W.seen c.heed.new.wire) c.heed.ensures.heeded)
 
 -- ---- something of the master's own listeners and streams

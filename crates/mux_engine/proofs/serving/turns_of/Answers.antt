@@ -1,5 +1,5 @@
 use Rattle.std.proofs.Common.{◌≡◌, ◌<◌, ◌+◌, ◌∙◌, ◌∷◌, [], refl, sym, ap, subst, ℕ, true, false, Some, None, arith}
-use Rattle.mux_history.specs.declared.ended.Ended.TheVariants.{ServerFailed, Spent}
+use Rattle.mux_history.specs.declared.ended.Ended.TheVariants.{ServerFailed}
 use Rattle.mux_machine.specs.State.{State}
 use Rattle.mux_engine.specs.Sides.{RestsOf}
 use Rattle.mux_engine.proofs.Arms.{on-err}
@@ -9,6 +9,7 @@ use Rattle.mux_engine.proofs.Lists.{true-false}
 use Rattle.mux_engine.proofs.Runs.{promised-more}
 use Rattle.mux_engine.proofs.Running.{all-spent, ends-is, given-is, present-is, promised-is, went-on, went-over}
 use Rattle.mux_engine.proofs.Spending.{spent-all, spent-cut, spent-none, spent-on, spent-over, turned-is}
+use Rattle.mux_engine.proofs.Spoken.{row-live}
 use Rattle.mux_engine.proofs.serving.turns_of.Goals as goal
 
 pub loop-init : goal.loop-init
@@ -68,7 +69,7 @@ returns-then-not-branch g c = let H = g.H.House in let i = c.loop.invariant in l
   on = λ e. true-false (sym e);
   over = λ e. o.over c.if-not-branch.true;
   failed = λ e. rose-behind _ _ _ i.later (o.failed e);
-  unspent = o.unspent;
+  by_row = o.by_row;
   later = later-on _ _ _ i.later c.one_turn.ensures.later;
   calls = spent-over _ c.loop.counter c.args.turns _ _ _ (omega arith) i.calls (turned-is _ _ _ _ _ _ i.present c.if-not-branch.true o.calls)
       (λ z p. o.idle (ap (λ (s : State). s.waiting) (i.first z).1 ∙ c.requires.quiet p) (i.present ∙ p));
@@ -86,7 +87,7 @@ returns g c = let W = g.W.Wire in let i = c.loop.invariant in record {
   on = λ e. i.on;
   over = λ e. true-false e;
   failed = λ e. let z : None ≡ Some ServerFailed = sym i.on ∙ e in absurd (let h = z in cc);
-  unspent = λ e. let z : None ≡ Some Spent = sym i.on ∙ e in absurd (let h = z in cc);
+  by_row = row-live _ i.on;
   later = i.later;
   calls = spent-all _ c.loop.counter c.args.turns _ _ (omega arith) i.calls;
   idle = λ z. let f = i.first (omega (arith, z)) in (f.0, f.1, record { same_server = ap W.server_faults f.2; same_client = ap W.client_faults f.2 });
@@ -106,7 +107,7 @@ returns-in_err-one_turn g c = let H = g.H.House in let i = c.loop.invariant in l
   on = on-err r.result _ _ r.ensures.0 tt;
   over = on-err r.result _ _ r.ensures.0 tt;
   failed = on-err r.result _ _ r.ensures.0 tt;
-  unspent = on-err r.result _ _ r.ensures.0 tt;
+  by_row = on-err r.result _ _ r.ensures.0 tt;
   later = later-on _ _ _ i.later c.one_turn.ensures.later;
   calls = on-err r.result _ _ r.ensures.0 (spent-cut _ c.loop.counter c.args.turns _ _ _ (omega arith) i.calls c.in_err-one_turn.ensures.calls);
   idle = λ z. absurd (omega (arith, z));
@@ -123,7 +124,7 @@ returns-in_err-piece g c = let r = c.from_residual in record {
   on = on-err r.result _ _ r.ensures.0 tt;
   over = on-err r.result _ _ r.ensures.0 tt;
   failed = on-err r.result _ _ r.ensures.0 tt;
-  unspent = on-err r.result _ _ r.ensures.0 tt;
+  by_row = on-err r.result _ _ r.ensures.0 tt;
   later = omega arith;
   calls = on-err r.result _ _ r.ensures.0 (cut-none c.args.turns _);
   idle = λ z. (refl, refl, record { same_server = refl; same_client = refl });
