@@ -40,6 +40,7 @@ mod Todo
 mod Told
 mod Turned
 mod Turns
+mod Unopened
 mod Unshared
 mod Waiting
 mod Waits

@@ -338,6 +338,8 @@ pub fn step_house<W: Wire, H: House>(
     ensures by_row { OnOk result (IsByRow engine.new.ended) }
     ensures idle { engine.old.waiting ≡ [] → (H.known house.old).present ≡ false
         → OnOk result (engine.new.ended ≡ None) }
+    ensures unopened { (H.known house.old).present ≡ false
+        → (W.seen wire.new).last_own ≡ (W.seen wire.old).last_own }
     ensures later { W.server_faults wire.old ≤ W.server_faults wire.new }
     ensures calls { Counts 0 result (W.calls wire.old) (W.calls wire.new) }
     ensures openings { W.openings wire.new ≡ W.openings wire.old }

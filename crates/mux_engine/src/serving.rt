@@ -84,6 +84,8 @@ fn turn<W: Wire, H: House>(
     ensures failed { OnOk result (engine.new.ended ≡ Some ServerFailed
         → Rose (W.server_faults wire.old) (W.server_faults wire.new)) }
     ensures by_row { OnOk result (IsByRow engine.new.ended) }
+    ensures unopened { (H.known house.old).present ≡ false
+        → (W.seen wire.new).last_own ≡ (W.seen wire.old).last_own }
     ensures later { W.server_faults wire.old ≤ W.server_faults wire.new }
     ensures calls { Counts 1 result (W.calls wire.old) (W.calls wire.new) }
     ensures openings { W.openings wire.new ≡ W.openings wire.old }
@@ -173,6 +175,8 @@ fn one_turn<W: Wire, H: House>(
     ensures by_row { OnOk result (IsByRow engine.new.ended) }
     ensures idle { engine.old.waiting ≡ [] → (H.known house.old).present ≡ false
         → IfOk result (λ on. Well 1 (W.calls wire.old) (W.calls wire.new)) }
+    ensures unopened { (H.known house.old).present ≡ false
+        → (W.seen wire.new).last_own ≡ (W.seen wire.old).last_own }
     ensures later { W.server_faults wire.old ≤ W.server_faults wire.new }
     ensures calls { MatchResult result
         (λ on. Turned (H.known house.old).present on (W.calls wire.old) (W.calls wire.new))
@@ -228,6 +232,8 @@ fn turns_of<W: Wire, H: House>(
     ensures failed { OnOk result (engine.new.ended ≡ Some ServerFailed
         → Rose (W.server_faults wire.old) (W.server_faults wire.new)) }
     ensures by_row { OnOk result (IsByRow engine.new.ended) }
+    ensures unopened { (H.known house.old).present ≡ false
+        → (W.seen wire.new).last_own ≡ (W.seen wire.old).last_own }
     ensures later { W.server_faults wire.old ≤ W.server_faults wire.new }
     ensures calls { MatchResult result
         (λ all. Spent (H.known house.old).present all turns (W.calls wire.old) (W.calls wire.new))

@@ -228,6 +228,7 @@ pub fn close_lost<W: Wire, H: House>(engine: &mut Engine, wire: &mut W, held: &m
     ensures closed { engine.new.leaving ≡ [] }
     ensures refused { engine.new.refused ≡ [] }
     ensures ended { engine.new.ended ≡ engine.old.ended }
+    ensures unopened { (W.seen wire.new).last_own ≡ (W.seen wire.old).last_own }
     ensures faults { W.server_faults wire.new ≡ W.server_faults wire.old }
     ensures calls { W.calls wire.new ≡ W.calls wire.old }
     ensures openings { W.openings wire.new ≡ W.openings wire.old }

@@ -40,7 +40,7 @@ hush-requires g c =
     let house = c.step_house.new.house in
     let s = c.requires.served in
     let v = c.close_lost.ensures.serving (H.known c.args.house.now).present s.before (noted (H.told house) (H.known house)) s.policy s.pid s.start c.step_house.new.lists.failed s.given []
-        (step-waits s.given (0 ∷ here c.step_house.new.engine) c.in_ok-step_house.field-0 c.if-branch.false (c.in_ok-step_house.ensures.serving s.before s.policy s.pid s.start s.given s.serving)) in
+    (step-waits s.given (0 ∷ here c.step_house.new.engine) c.in_ok-step_house.field-0 c.if-branch.false (c.in_ok-step_house.ensures.serving s.before s.policy s.pid s.start s.given s.serving)) in
     record { hears = v.hears }
 
 -- ---- the run is over

@@ -17,6 +17,7 @@ use Rattle.mux_engine.proofs.Handed.{AtWait, HasWaited, alone-as, alone-heard, a
 use Rattle.mux_engine.proofs.Places.{server-open}
 use Rattle.mux_engine.proofs.Runs.{promised-more}
 use Rattle.mux_engine.proofs.Told.{tells-none}
+use Rattle.mux_engine.proofs.Unopened.{event-opens, wait-opens}
 use Rattle.mux_engine.proofs.Waits.{some-waits, waiting-blocked, waiting-open}
 use Rattle.mux_engine.proofs.serving.turn.Goals as goal
 
@@ -256,3 +257,36 @@ returns-in-NoMemory-clause-serving g c before policy pid start given v =
     let w : HasWaited seen (W.seen c.wait-told.new.self) lists.own lists.failed (H.queue house) c.args.engine.now c.wait-told.result c.wait-told.new.into =
     has-waited seen (W.seen c.wait-told.new.self) lists.own lists.failed (H.queue house) c.args.engine.now c.wait-told.result c.wait-told.new.into c.as_bytes.result.now c.list_waiting.new.todo c.waiting.result.now c.wanted.result c.wait-told.ensures.seen c.in_ok-list_waiting.ensures c.waiting.ensures.exact c.wanted.ensures c.next_of.ensures.bytes c.as_bytes.ensures.bytes c.wait-told.ensures.turn c.wait-told.ensures.own_turn in
     turn-starved v a w c.in-NoMemory.ensures.next
+
+-- ---- where there is no house
+
+pub returns-in-Event-clause-unopened : goal.returns-in-Event-clause-unopened
+returns-in-Event-clause-unopened g c out =
+    let H = g.H.House in
+    let W = g.W.Wire in
+    event-opens c.heed.result H.may c.in-Event.e _ _ c.heed.new.asks _ _ _ _ _ _ c.heed.ensures.heeded
+    ∙ wait-opens c.wait-told.result c.list_waiting.new.todo c.wanted.result c.wait-told.new.into (H.known c.args.house.now) (W.seen c.args.wire.now) (W.seen c.wait-told.new.self) c.args.lists.now.own c.requires.housed c.requires.alone c.wait-told.ensures.own_turn c.wait-told.ensures.seen out
+
+pub returns-in_err-hear-in-Own-clause-unopened : goal.returns-in_err-hear-in-Own-clause-unopened
+returns-in_err-hear-in-Own-clause-unopened g c =
+    let H = g.H.House in
+    let W = g.W.Wire in
+    wait-opens c.wait-told.result c.list_waiting.new.todo c.wanted.result c.wait-told.new.into (H.known c.args.house.now) (W.seen c.args.wire.now) (W.seen c.wait-told.new.self) c.args.lists.now.own c.requires.housed c.requires.alone c.wait-told.ensures.own_turn c.wait-told.ensures.seen
+
+pub returns-in_ok-hear-in-Own-clause-unopened : goal.returns-in_ok-hear-in-Own-clause-unopened
+returns-in_ok-hear-in-Own-clause-unopened g c =
+    let H = g.H.House in
+    let W = g.W.Wire in
+    wait-opens c.wait-told.result c.list_waiting.new.todo c.wanted.result c.wait-told.new.into (H.known c.args.house.now) (W.seen c.args.wire.now) (W.seen c.wait-told.new.self) c.args.lists.now.own c.requires.housed c.requires.alone c.wait-told.ensures.own_turn c.wait-told.ensures.seen
+
+pub returns-in-Freed-clause-unopened : goal.returns-in-Freed-clause-unopened
+returns-in-Freed-clause-unopened g c =
+    let H = g.H.House in
+    let W = g.W.Wire in
+    wait-opens c.wait-told.result c.list_waiting.new.todo c.wanted.result c.wait-told.new.into (H.known c.args.house.now) (W.seen c.args.wire.now) (W.seen c.wait-told.new.self) c.args.lists.now.own c.requires.housed c.requires.alone c.wait-told.ensures.own_turn c.wait-told.ensures.seen
+
+pub returns-in-NoMemory-clause-unopened : goal.returns-in-NoMemory-clause-unopened
+returns-in-NoMemory-clause-unopened g c =
+    let H = g.H.House in
+    let W = g.W.Wire in
+    wait-opens c.wait-told.result c.list_waiting.new.todo c.wanted.result c.wait-told.new.into (H.known c.args.house.now) (W.seen c.args.wire.now) (W.seen c.wait-told.new.self) c.args.lists.now.own c.requires.housed c.requires.alone c.wait-told.ensures.own_turn c.wait-told.ensures.seen

@@ -21,6 +21,7 @@ loop-init g c = record {
   present = refl;
   on = c.requires.on;
   first = λ z. (refl, refl, refl);
+  unopened = λ p. refl;
   later = omega arith;
   calls = spent-none _ _;
   openings = refl;
@@ -53,6 +54,7 @@ loop-preserved g c = let H = g.H.House in let i = c.loop.invariant in let o = c.
   present = o.present ∙ i.present;
   on = o.on c.if-not-branch.false;
   first = λ z. absurd (omega (arith, z));
+  unopened = λ p. c.one_turn.ensures.unopened (i.present ∙ p) ∙ i.unopened p;
   later = later-on _ _ _ i.later c.one_turn.ensures.later;
   calls = spent-on _ _ _ _ _ i.calls (turned-is _ _ _ _ _ _ i.present c.if-not-branch.false o.calls);
   openings = c.one_turn.ensures.openings ∙ i.openings;
@@ -70,6 +72,7 @@ returns-then-not-branch g c = let H = g.H.House in let i = c.loop.invariant in l
   over = λ e. o.over c.if-not-branch.true;
   failed = λ e. rose-behind _ _ _ i.later (o.failed e);
   by_row = o.by_row;
+  unopened = λ p. c.one_turn.ensures.unopened (i.present ∙ p) ∙ i.unopened p;
   later = later-on _ _ _ i.later c.one_turn.ensures.later;
   calls = spent-over _ c.loop.counter c.args.turns _ _ _ (omega arith) i.calls (turned-is _ _ _ _ _ _ i.present c.if-not-branch.true o.calls)
       (λ z p. o.idle (ap (λ (s : State). s.waiting) (i.first z).1 ∙ c.requires.quiet p) (i.present ∙ p));
@@ -88,6 +91,7 @@ returns g c = let W = g.W.Wire in let i = c.loop.invariant in record {
   over = λ e. true-false e;
   failed = λ e. let z : None ≡ Some ServerFailed = sym i.on ∙ e in absurd (let h = z in cc);
   by_row = row-live _ i.on;
+  unopened = i.unopened;
   later = i.later;
   calls = spent-all _ c.loop.counter c.args.turns _ _ (omega arith) i.calls;
   idle = λ z. let f = i.first (omega (arith, z)) in (f.0, f.1, record { same_server = ap W.server_faults f.2; same_client = ap W.client_faults f.2 });
@@ -108,6 +112,7 @@ returns-in_err-one_turn g c = let H = g.H.House in let i = c.loop.invariant in l
   over = on-err r.result _ _ r.ensures.0 tt;
   failed = on-err r.result _ _ r.ensures.0 tt;
   by_row = on-err r.result _ _ r.ensures.0 tt;
+  unopened = λ p. c.one_turn.ensures.unopened (i.present ∙ p) ∙ i.unopened p;
   later = later-on _ _ _ i.later c.one_turn.ensures.later;
   calls = on-err r.result _ _ r.ensures.0 (spent-cut _ c.loop.counter c.args.turns _ _ _ (omega arith) i.calls c.in_err-one_turn.ensures.calls);
   idle = λ z. absurd (omega (arith, z));
@@ -125,6 +130,7 @@ returns-in_err-piece g c = let r = c.from_residual in record {
   over = on-err r.result _ _ r.ensures.0 tt;
   failed = on-err r.result _ _ r.ensures.0 tt;
   by_row = on-err r.result _ _ r.ensures.0 tt;
+  unopened = λ p. refl;
   later = omega arith;
   calls = on-err r.result _ _ r.ensures.0 (cut-none c.args.turns _);
   idle = λ z. (refl, refl, record { same_server = refl; same_client = refl });

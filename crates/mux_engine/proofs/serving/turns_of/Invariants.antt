@@ -1,4 +1,4 @@
-use Rattle.std.proofs.Common.{◌≡◌, ◌≤◌, ◌+◌, ◌∷◌, ℕ, List, Option, None, true}
+use Rattle.std.proofs.Common.{◌≡◌, ◌≤◌, ◌+◌, ◌∷◌, ℕ, List, Option, None, true, false}
 use Rattle.mux_outside.specs.declared.house_mark.HouseMark.{HouseMark}
 use Rattle.mux_outside.specs.declared.mark.Mark.{Mark}
 use Rattle.mux_history.specs.Policy.{Policy}
@@ -19,6 +19,7 @@ invariant-loop g l = let W = g.W.Wire in let H = g.H.House in record {
   present : (H.known l.house).present ≡ (H.known l.fn.house).present;
   on : l.engine.ended ≡ None;
   first : l.counter ≡ 0 → (l.house ≡ l.fn.house) × (l.engine ≡ l.fn.engine) × (l.wire ≡ l.fn.wire);
+  unopened : (H.known l.fn.house).present ≡ false → (W.seen l.wire).last_own ≡ (W.seen l.fn.wire).last_own;
   later : W.server_faults l.fn.wire ≤ W.server_faults l.wire;
   calls : Spent (H.known l.fn.house).present true l.counter (W.calls l.fn.wire) (W.calls l.wire);
   openings : W.openings l.wire ≡ W.openings l.fn.wire;

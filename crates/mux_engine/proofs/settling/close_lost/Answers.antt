@@ -35,6 +35,7 @@ loop-client-preserved g c =
           (subst (λ (t : State). IsReady known quiet queue (without k c.loop-client.held) failed own t) (sym c.closed.ensures.exact)
           (ready-closed (c.loop-client.invariant.serving w.present w.before w.now w.policy w.pid w.start w.failed w.given w.todo w.serving) k first known quiet queue failed own (c.loop-client.invariant.housed known own h) (c.loop-client.invariant.ready known quiet queue failed own h r)));
       ended = ap (λ (t : State). t.ended) c.closed.ensures.exact ∙ c.loop-client.invariant.ended;
+      unopened = ap (λ (x : Seen). x.last_own) c.close.ensures.seen ∙ c.loop-client.invariant.unopened;
       faults = c.close.ensures.server ∙ c.loop-client.invariant.faults;
       calls = c.close.ensures.calls ∙ c.loop-client.invariant.calls;
       openings = c.close.ensures.openings ∙ c.loop-client.invariant.openings;

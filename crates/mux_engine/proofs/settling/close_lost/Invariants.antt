@@ -15,6 +15,7 @@ invariant-loop-client g l = let W = g.W.Wire in let H = g.H.House in record {
   housed : (known : Known) (own : List ℕ) → Housed known (W.seen l.fn.wire) own → Housed known (W.seen l.wire) own;
   ready : (known : Known) (quiet : Quiet) (queue : ℕ → List ℕ) (failed own : List ℕ) → Housed known (W.seen l.fn.wire) own → IsReady known quiet queue l.fn.held failed own l.fn.engine → IsReady known quiet queue l.held failed own l.engine;
   ended : l.engine.ended ≡ l.fn.engine.ended;
+  unopened : (W.seen l.wire).last_own ≡ (W.seen l.fn.wire).last_own;
   faults : W.server_faults l.wire ≡ W.server_faults l.fn.wire;
   calls : W.calls l.wire ≡ W.calls l.fn.wire;
   openings : W.openings l.wire ≡ W.openings l.fn.wire;
