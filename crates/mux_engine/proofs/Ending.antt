@@ -15,11 +15,6 @@ refused-none true must refused p = absurd (cc)
 pub refused-same : (p q m n : Bool) (r s : Option ℕ) → p ≡ q → m ≡ n → r ≡ s → refused_if p m r ≡ refused_if q n s
 refused-same p q m n r s e f g = ap (λ b. refused_if b m r) e ∙ (ap (λ b. refused_if q b r) f ∙ ap (refused_if q n) g)
 
-pub answer-failed : (o : Option Ended) (r : Option ℕ) → ended_as o r ≡ ended.ServerFailed → o ≡ Some ended.ServerFailed
-answer-failed (Some cause) r e = ap (λ (c : Ended). Some c) e
-answer-failed None (Some index) e = absurd (let z : ended.StartRefused index ≡ ended.ServerFailed = e in cc)
-answer-failed None None e = absurd (let z : ended.Spent ≡ ended.ServerFailed = e in cc)
-
 pub fails-on : (old new : Option Ended) (a b : ℕ) → StaysOrFails old new a b → new ≡ None → old ≡ None
 fails-on old new a b (inl s) is = sym s.0 ∙ is
 fails-on old new a b (inr f) is = let z : Some ended.ServerFailed ≡ None = sym f.0 ∙ is in absurd (let h = z in cc)

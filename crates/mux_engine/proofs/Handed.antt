@@ -356,9 +356,6 @@ heard-asks (told.End k) known known' e = record { present = ap (λ (x : Known). 
 heard-asks (told.Writable k) known known' e = record { present = ap (λ (x : Known). x.present) e; asks = ap (λ (x : Known). x.asks) e }
 heard-asks (told.Failed k) known known' e = record { present = ap (λ (x : Known). x.present) e; asks = ap (λ (x : Known). x.asks) e }
 
-pub heard-present : (o : OwnTurn) (known known' : Known) → known' ≡ known_after_own_turn o known → known'.present ≡ known.present
-heard-present o known known' e = (heard-asks o known known' e).present
-
 pub own-noted : {May : HouseReply → Type 0} {Rest : Option (List HouseMark) → Type 0} {before : Option (List HouseMark)} {policy : Policy} {pid : ℕ} {start : Option (List Mark)} {seen : Seen} {given : ℕ} {todo : List ℕ} {s : State} (o : OwnTurn) (told told' : Option (List HouseMark)) (known known' : Known) (held held' failed failed' : List ℕ)
     → told' ≡ told → known' ≡ known_after_own_turn o known → held' ≡ held_heard o held → failed' ≡ failed_heard o failed → Serving May Rest before (noted told known) policy pid start seen (held_heard o held) (failed_heard o failed) given todo s → Serving May Rest before (noted told' known') policy pid start seen held' failed' given todo s
 own-noted {May} {Rest} {before} {policy} {pid} {start} {seen} {given} {todo} {s} o told told' known known' held held' failed failed' e f h i v =

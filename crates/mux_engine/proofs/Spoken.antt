@@ -49,12 +49,6 @@ row-live o e = record {
   permitted = λ index f. let z : None ≡ Some (ended.StartRefused index) = sym e ∙ f in cc;
 }
 
-pub live-ends : (o : Option Ended) → o ≡ None → EndsByAsk o
-live-ends o e = record {
-  lives = λ f. let z : None ≡ Some ended.ServerFailed = sym e ∙ f in cc;
-  by_row = row-live o e;
-}
-
 -- a result that is known
 pub ok-serves : {A E : Type 0} (r : Result A E) {x : A} (P : A → Type 0) (Q : E → Type 0) → r ≡ Ok x → MatchResult r P Q → P x
 ok-serves r P Q is m = subst (λ (q : Result _ _). MatchResult q P Q) is m
@@ -82,19 +76,6 @@ told-said r bytes told told' is e = e ∙ ap (λ (x : Result Bool _). option_map
 
 pub some-said : {E : Type 0} (r : Result Bool E) (bytes : List ℕ) → r ≡ Ok true → SaysFits r bytes → 0 < length bytes
 some-said {E} r bytes is fits = let f : SaysFits {E = E} (Ok true) bytes = subst (λ (x : Result Bool E). SaysFits {E = E} x bytes) is fits in f.0
-
--- it said nothing
-pub said-none : {May : HouseReply → Type 0} {Rest : Option (List HouseMark) → Type 0} {before : Option (List HouseMark)} {policy : Policy} {pid : ℕ} {start : Option (List Mark)} {seen : Seen} {held failed : List ℕ} {given : ℕ} {todo : List ℕ} {s : State} (told told' : Option (List HouseMark)) (known known' : Known)
-    → TellsAsks told told' [] → known' ≡ known → Serving May Rest before (noted told known) policy pid start seen held failed given todo s → Serving May Rest before (noted told' known') policy pid start seen held failed (given + 0) todo s
-said-none {May} {Rest} {before} {policy} {pid} {start} {seen} {held} {failed} {given} {todo} {s} told told' known known' tells same v =
-    let nothing : given ≡ given + 0 = omega arith in
-    subst (λ (n : ℕ). Serving May Rest before (noted told' known') policy pid start seen held failed n todo s) nothing
-    (subst (λ (k : Known). Serving May Rest before (noted told' k) policy pid start seen held failed given todo s) (sym same)
-    (subst (λ (o : Option (List HouseMark)). Serving May Rest before (noted o known) policy pid start seen held failed given todo s) (sym (tells ∙ told-none' told)) v))
-  where
-    told-none' : (o : Option (List HouseMark)) → option_map (λ l. l ++ []) o ≡ o
-    told-none' None = refl
-    told-none' (Some l) = ap (λ (x : List HouseMark). Some x) (append-nil l)
 
 module _ {May : HouseReply → Type 0} {Rest : Option (List HouseMark) → Type 0} {before : Option (List HouseMark)} {policy : Policy} {pid : ℕ} {start : Option (List Mark)} {seen : Seen} {held failed : List ℕ} {given : ℕ} {s : State}
     (told : Option (List HouseMark)) (known : Known) (v : Serving May Rest before (noted told known) policy pid start seen held failed given [] s) (live : s.ended ≡ None) (within : known.present ≡ true) (room : want_of s ≡ Read)
