@@ -1,5 +1,5 @@
 -- A client that is closed.
-use Rattle.std.proofs.Common.{◌≡◌, ◌≢◌, ◌≤◌, ◌<◌, ℕ, Bool, true, false, not, ◌||◌, ◌&&◌, List, [], ◌∷◌, ◌++◌, length, Option, Some, refl, sym, ap, ◌∙◌, subst, inl, inr, ◌⊎◌, cond, arith}
+use Rattle.std.proofs.Common.{◌≡◌, ◌≢◌, ◌≤◌, ◌<◌, ℕ, Bool, true, false, not, ◌||◌, List, [], ◌∷◌, ◌++◌, length, Option, Some, refl, sym, ap, ◌∙◌, subst, inl, inr, ◌⊎◌, cond, arith}
 use Rattle.std.specs.Prelude.{◌==◌, filter, IsTrue}
 use Rattle.std.specs.List.{list_any}
 use Rattle.std.proofs.lemmas.Bool.{eq-eqb, eqb-true}
@@ -18,7 +18,6 @@ use Rattle.mux_history.specs.declared.why.Why.{Why}
 use Rattle.mux_history.specs.Policy.{Policy}
 use Rattle.mux_history.specs.Rows.{Row, rows_of, is_out, losses, loss_by, loses, is_refusal, Item, Gone, Fate, Goes, Refused, Drop, End}
 use Rattle.mux_history.specs.Settings.{by_lists}
-use Rattle.mux_history.specs.Journal.{is_own_stream}
 use Rattle.mux_history.specs.Promises.{not_own}
 use Rattle.mux_history.proofs.Wires.{wire-keeps}
 use Rattle.mux_clients.proofs.Stood.{own_row}
@@ -26,7 +25,7 @@ use Rattle.mux_machine.specs.State.{State, closed_by, first_of, is_here}
 use Rattle.mux_machine.specs.Events.{here}
 use Rattle.mux_machine.specs.Stands.{Closes, IsFirst, Stands, StandsFor, log, not_closed}
 use Rattle.mux_engine.specs.Serving.{IsSound, IsUnseen, IsUnused, Serving}
-use Rattle.mux_engine.specs.Sides.{Housed, OwnPlaces, Side}
+use Rattle.mux_engine.specs.Sides.{Housed, Side}
 use Rattle.mux_engine.proofs.Lists.{among-here, among-less, none-without, or-true, own-or-house, test-other, true-false, without-other}
 use Rattle.mux_engine.proofs.Logs.{out-more}
 use Rattle.mux_engine.proofs.Places.{house-shut}

@@ -1,6 +1,6 @@
 -- What a turn counts, and how it may end a run.
-use Rattle.std.proofs.Common.{◌≡◌, ◌≢◌, ◌≤◌, ◌<◌, ◌+◌, ◌-◌, ◌^◌, ℕ, Bool, true, false, List, Option, Some, None, refl, sym, ap, ◌∙◌, subst, inl, inr, cond, arith}
-use Rattle.std.specs.Prelude.{◌==◌, min, Result, Ok, Err}
+use Rattle.std.proofs.Common.{◌≡◌, ◌≢◌, ◌≤◌, ◌+◌, ℕ, Bool, true, false, List, Option, Some, None, refl, sym, ap, ◌∙◌, subst, inl, inr, cond, arith}
+use Rattle.std.specs.Prelude.{◌==◌, Result, Ok, Err}
 use Rattle.std.specs.Bool.{MatchBool}
 use Rattle.std.proofs.lemmas.Bool.{eq-eqb}
 use Rattle.mux_outside.specs.Counts.{Rose, counted}
@@ -16,7 +16,7 @@ use Rattle.mux_history.specs.declared.ended.Ended.TheVariants as ended
 use Rattle.mux_machine.specs.declared.event.Event.{Event}
 use Rattle.mux_machine.specs.declared.event.Event.TheVariants.{Accepted, FromClient, ClientEnd, ClientFailed, HouseSays, FromServer, ServerEnd, ServerFailed}
 use Rattle.mux_machine.specs.Events.{MayEnd, Tells}
-use Rattle.mux_engine.specs.Counted.{Counts, Cut, Well}
+use Rattle.mux_engine.specs.Counted.{Counts, Cut}
 use Rattle.mux_engine.specs.Rests.{IsByRow}
 use Rattle.mux_engine.specs.Serving.{StaysOrFails}
 use Rattle.mux_engine.specs.Turns.{IsEventOf}

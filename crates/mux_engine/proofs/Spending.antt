@@ -1,16 +1,13 @@
 -- What the turns of a run count, and how the run counts behind them.
-use Rattle.std.proofs.Common.{◌≡◌, ◌≢◌, ◌≤◌, ◌<◌, ◌+◌, ◌-◌, ◌^◌, ℕ, Bool, true, false, Option, Some, None, refl, sym, ap, ◌∙◌, subst, inl, inr, ◌⊎◌, arith}
+use Rattle.std.proofs.Common.{◌≡◌, ◌≢◌, ◌≤◌, ◌<◌, ◌+◌, ◌-◌, ◌^◌, ℕ, Bool, true, false, refl, sym, ◌∙◌, subst, inl, inr, arith}
 use Rattle.std.specs.Prelude.{min}
 use Rattle.std.proofs.lemmas.Bool.Decides.{eqb_tells}
-use Rattle.mux_outside.specs.Counts.{Rose, counted}
+use Rattle.mux_outside.specs.Counts.{counted}
 use Rattle.mux_outside.specs.Seen.{Calls}
 use Rattle.mux_history.specs.declared.ended.Ended.{Ended}
 use Rattle.mux_history.specs.declared.ended.Ended.TheVariants as ended
 use Rattle.mux_engine.specs.Counted.{Cut, Spent, Stops, Turned, Waited, Well}
-use Rattle.mux_engine.specs.Rests.{ended_as}
-use Rattle.mux_engine.specs.Serving.{StaysOrFails}
 use Rattle.mux_engine.proofs.Arms.{well-none, well-on}
-use Rattle.mux_engine.proofs.Counting.{cut-none}
 use Rattle.mux_engine.proofs.Lists.{true-false}
 
 -- ---- turns

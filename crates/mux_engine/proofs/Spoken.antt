@@ -1,5 +1,5 @@
 -- What the house says as a client makes of all that holds while a wire is served.
-use Rattle.std.proofs.Common.{◌≡◌, ◌≢◌, ◌≤◌, ◌<◌, ◌+◌, ℕ, Bool, true, false, List, [], ◌∷◌, ◌++◌, length, Option, Some, None, refl, sym, ap, ◌∙◌, subst, inl, inr, cond, arith, append-nil, MatchResult, OnOk}
+use Rattle.std.proofs.Common.{◌≡◌, ◌≤◌, ◌<◌, ◌+◌, ℕ, Bool, true, false, List, [], ◌∷◌, ◌++◌, length, Option, Some, None, refl, sym, ap, ◌∙◌, subst, inl, inr, cond, arith, MatchResult, OnOk}
 use Rattle.std.specs.Prelude.{nat_lt, Result, Ok, Err}
 use Rattle.std.specs.Option.{option_map}
 use Rattle.std.proofs.lemmas.Bool.Decides.{nat_tests}
@@ -11,7 +11,6 @@ use Rattle.mux_outside.specs.declared.house_mark.HouseMark.{HouseMark}
 use Rattle.mux_outside.specs.declared.house_mark.HouseMark.TheVariants.{HouseSaid}
 use Rattle.mux_outside.specs.declared.mark.Mark.{Mark}
 use Rattle.mux_outside.specs.declared.mark.Mark.TheVariants.{Gets}
-use Rattle.mux_outside.specs.declared.turn.Want.{Want}
 use Rattle.mux_outside.specs.declared.turn.Want.TheVariants.{Read, WriteOnly}
 use Rattle.mux_history.specs.declared.ended.Ended.{Ended}
 use Rattle.mux_history.specs.declared.ended.Ended.TheVariants as ended
@@ -25,13 +24,12 @@ use Rattle.mux_machine.specs.declared.event.Event.TheVariants.{Accepted, FromCli
 use Rattle.mux_engine.specs.Asking.{Heeded}
 use Rattle.mux_engine.specs.Rests.{EndsByAsk, IsByRow}
 use Rattle.mux_engine.specs.Serving.{Promised, Serving}
-use Rattle.mux_engine.specs.Sides.{SameHouse, Side, noted}
+use Rattle.mux_engine.specs.Sides.{Side, noted}
 use Rattle.mux_engine.specs.Turns.{want_of}
 use Rattle.mux_engine.proofs.Cuts.{cut-here, serve-told}
 use Rattle.mux_engine.proofs.Handed.{event-heeds}
 use Rattle.mux_engine.proofs.HouseTakes.{house-said}
 use Rattle.mux_engine.proofs.Noted.{seen-with}
-use Rattle.mux_engine.proofs.Told.{told-none}
 use Rattle.mux_engine.proofs.Turned.{EventAt, event-ends}
 
 -- more is read while few bytes wait for the server

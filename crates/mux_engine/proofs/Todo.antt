@@ -1,5 +1,5 @@
 -- The streams that are left to be offered what waits for them.
-use Rattle.std.proofs.Common.{◌≡◌, ◌≢◌, ℕ, Bool, true, false, ◌||◌, List, [], ◌∷◌, ◌++◌, Option, None, refl, sym, ap, ◌∙◌, subst, inl, inr, ◌⊎◌}
+use Rattle.std.proofs.Common.{◌≡◌, ◌≢◌, ℕ, Bool, true, false, ◌||◌, List, [], ◌∷◌, ◌++◌, Option, None, sym, ap, ◌∙◌, inl, inr, ◌⊎◌}
 use Rattle.std.proofs.lemmas.Bool.Decides.{eqb_tells}
 use Rattle.mux_outside.specs.Seen.{Seen}
 use Rattle.mux_outside.specs.Streams.{among, without}
@@ -15,7 +15,7 @@ use Rattle.mux_history.specs.Promises.{IsSettled}
 use Rattle.mux_machine.specs.State.{State}
 use Rattle.mux_engine.specs.Serving.{IsSound, IsUnused, Serving, is_open}
 use Rattle.mux_engine.specs.Sides.{Side}
-use Rattle.mux_engine.proofs.Lists.{apart-or-left, none-without, true-false, without-other}
+use Rattle.mux_engine.proofs.Lists.{apart-or-left, none-without, without-other}
 use Rattle.mux_engine.proofs.Marks.{log-is}
 use Rattle.mux_engine.proofs.Offers.{Waiting}
 use Rattle.mux_engine.proofs.Places.{stream-open}
