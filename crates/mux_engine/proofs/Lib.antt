@@ -1,3 +1,4 @@
+mod Answering
 mod Arms
 mod Asks
 mod Closed

@@ -185,11 +185,11 @@ starts-starved May Rest house policy pid told given = record {
 
 -- a new engine is served
 pub starts : (May : HouseReply → Type 0) (Rest : Option (List HouseMark) → Type 0) (now : Side) (policy : Policy) (pid : ℕ) (seen : Seen) (s : State) → Stands [] [] s [] [] → s.core.policy ≡ policy → s.pid ≡ pid → s.clients ≡ [] → s.refused ≡ []
-    → now.asks ≡ [] → now.unnoted ≡ [] → now.let_in ≡ false → seen.streams ≡ 0 ∷ [] → seen.blocked ≡ [] → seen.listens ≡ true → Serving May Rest now.told now policy pid seen.told seen [] [] 0 (0 ∷ here s) s
+    → now.asks ≡ [] → now.unnoted ≡ [] → now.let_in ≡ false → seen.streams ≡ 0 ∷ [] → seen.blocked ≡ [] → seen.listens ≡ true → (v : Serving May Rest now.told now policy pid seen.told seen [] [] 0 (0 ∷ here s) s) × (v.journal ≡ [])
 starts May Rest now policy pid seen s stands e f clients refused unasked noted outside streams blocked listens =
     let none : here s ≡ [] = ap (λ cs. numbers cs ++ s.refused) clients ∙ refused in
     let asks : stands.asks ≡ [] = no-asks stands.asks stands.each in
-    record {
+    (record {
       journal = [];
       closed = [];
       picked = [];
@@ -215,7 +215,7 @@ starts May Rest now policy pid seen s stands e f clients refused unasked noted o
       failed_are = λ t own a f. true-false (sym f);
       hears = λ live h. listens;
       sound = λ picks later. record { kept = of-nothing (by_lists policy pid picks later); failed_out = λ t client w live. true-false (sym w); settled = λ t client a. inl (nothing-pending t) };
-    }
+    }, refl)
   where
     no-asks : (asks : List HouseMark) → length asks ≡ 0 → asks ≡ []
     no-asks [] e = refl

@@ -6,8 +6,7 @@ ghost use Rattle.mux_outside.specs.House.{OwnTurnFits, known_after_own_turn, not
 ghost use Rattle.mux_outside.specs.Wire.{SameFaults};
 ghost use Rattle.mux_outside.specs.declared.house_mark.HouseMark.{HouseMark as TheHouseMark};
 ghost use Rattle.mux_outside.specs.declared.mark.Mark.{Mark as TheMark};
-ghost use Rattle.mux_outside.specs.declared.own_streams.TheConstants.{LAST_CLIENT as LastClient};
-ghost use Rattle.mux_history.specs.declared.ended.Ended.TheVariants.{ServerFailed, OutOfMemory as WantOfMemory};
+ghost use Rattle.mux_history.specs.declared.ended.Ended.TheVariants.{ServerFailed, OutOfMemory as WantOfMemory, StartRefused as StartWasRefused};
 ghost use Rattle.mux_history.specs.declared.limits.TheConstants.{HOUSE as TheHouse};
 ghost use Rattle.mux_history.specs.Policy.{Policy as ThePolicy};
 ghost use Rattle.mux_machine.specs.Events.{went_of, here};
@@ -408,6 +407,9 @@ fn run<W: Wire, H: House>(
         (H.told house.new) start (W.seen wire.new).told
         (refused_if (H.known house.old).present (H.must house.new) (H.refused house.new))
         (result_unwrap_or result WantOfMemory) }
+    ensures permitted { IfOk result (λ answer. (index : ℕ) → answer ≡ StartWasRefused index
+        → refused_if (H.known house.old).present (H.must house.new) (H.refused house.new)
+        ≡ Some index) }
     ensures failed { IfOk result (λ answer. answer ≡ ServerFailed
         → Rose (W.server_faults wire.old) (W.server_faults wire.new)) }
     ensures calls { Stops (H.known house.old).present turns (result_unwrap_or result WantOfMemory)
@@ -449,12 +451,13 @@ pub fn serve<W: Wire, H: House>(
     requires listens { (W.seen wire.old).listens ≡ true }
     requires own { (W.seen wire.old).own ≡ [] }
     requires listeners { (W.seen wire.old).listeners ≡ [] }
-    requires last { (W.seen wire.old).last ≤ LastClient }
-    requires numbers { LastClient ≤ (W.seen wire.old).last_own }
     requires blank { H.known house.old ≡ nothing_known (H.known house.old).present }
     ensures kept { IsRun H.may (RestsOf H.told H.quiet (H.known house.old).present) policy pid turns
         (H.told house.old) (H.told house.new) (W.seen wire.old).told (W.seen wire.new).told
         (refused_if (H.known house.old).present (H.must house.new) (H.refused house.new)) result }
+    ensures permitted { (index : ℕ) → result ≡ StartWasRefused index
+        → refused_if (H.known house.old).present (H.must house.new) (H.refused house.new)
+        ≡ Some index }
     ensures failed { result ≡ ServerFailed
         → Rose (W.server_faults wire.old) (W.server_faults wire.new) }
     ensures calls { Stops (H.known house.old).present turns result (W.calls wire.old)
