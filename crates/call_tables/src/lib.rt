@@ -22,6 +22,4 @@ mod lines;
 #[cfg(test)]
 mod messages;
 #[cfg(test)]
-mod relays;
-#[cfg(test)]
 mod transcripts;

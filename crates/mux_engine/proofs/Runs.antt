@@ -188,34 +188,36 @@ pub starts : (May : HouseReply → Type 0) (Rest : Option (List HouseMark) → T
     → now.asks ≡ [] → now.unnoted ≡ [] → now.let_in ≡ false → seen.streams ≡ 0 ∷ [] → seen.blocked ≡ [] → seen.listens ≡ true → (v : Serving May Rest now.told now policy pid seen.told seen [] [] 0 (0 ∷ here s) s) × (v.journal ≡ [])
 starts May Rest now policy pid seen s stands e f clients refused unasked noted outside streams blocked listens =
     let none : here s ≡ [] = ap (λ cs. numbers cs ++ s.refused) clients ∙ refused in
-    let asks : stands.asks ≡ [] = no-asks stands.asks stands.each in
-    (record {
-      journal = [];
-      closed = [];
-      picked = [];
-      replies = [];
-      policy_is = e;
-      pid_is = f;
-      may = tt;
-      stands = stands;
-      house = subst (TellsAsks now.told now.told) (sym noted) (tells-none now.told);
-      asked = ap asks_in noted ∙ sym asks;
-      askers = subst (λ (l : List OpenAsk). All (λ (a : OpenAsk). false ≡ true) l) (sym unasked) (All-nil (λ (a : OpenAsk). false ≡ true));
-      house_in = sym outside;
-      rested = tt;
-      tells = sym (told-none seen.told);
-      of_wire = subst (λ (l : List ℕ). OfWire l seen.blocked seen.last []) (sym streams) (subst (λ (l : List ℕ). OfWire (0 ∷ []) l seen.last []) (sym blocked) (wire-keeps (0 ∷ []) [] seen.last [] [] 0 []).none);
-      turns = refl;
-      open_are = ap not_own (streams ∙ ap (λ l. 0 ∷ l) (sym none));
-      apart = λ k a. true-false (sym a ∙ ap (among k) none);
-      held_is = sym blocked;
-      blocked_is = λ t a. ap (among t) blocked;
-      unseen = λ k lt le. record { not_accepted = refl; never_blocked = refl; not_blocked = ap (among k) blocked };
-      unused = λ k free. record { not_open = ap (among k) streams ∙ no-server k free; never_blocked = refl; not_blocked = ap (among k) blocked; never_failed = refl };
-      failed_are = λ t own a f. true-false (sym f);
-      hears = λ live h. listens;
-      sound = λ picks later. record { kept = of-nothing (by_lists policy pid picks later); failed_out = λ t client w live. true-false (sym w); settled = λ t client a. inl (nothing-pending t) };
-    }, refl)
+    let asks : stands.asks ≡ [] = no-asks stands.asks stands.each in (
+      record {
+        journal = [];
+        closed = [];
+        picked = [];
+        replies = [];
+        policy_is = e;
+        pid_is = f;
+        may = tt;
+        stands = stands;
+        house = subst (TellsAsks now.told now.told) (sym noted) (tells-none now.told);
+        asked = ap asks_in noted ∙ sym asks;
+        askers = subst (λ (l : List OpenAsk). All (λ (a : OpenAsk). false ≡ true) l) (sym unasked) (All-nil (λ (a : OpenAsk). false ≡ true));
+        house_in = sym outside;
+        rested = tt;
+        tells = sym (told-none seen.told);
+        of_wire = subst (λ (l : List ℕ). OfWire l seen.blocked seen.last []) (sym streams) (subst (λ (l : List ℕ). OfWire (0 ∷ []) l seen.last []) (sym blocked) (wire-keeps (0 ∷ []) [] seen.last [] [] 0 []).none);
+        turns = refl;
+        open_are = ap not_own (streams ∙ ap (λ l. 0 ∷ l) (sym none));
+        apart = λ k a. true-false (sym a ∙ ap (among k) none);
+        held_is = sym blocked;
+        blocked_is = λ t a. ap (among t) blocked;
+        unseen = λ k lt le. record { not_accepted = refl; never_blocked = refl; not_blocked = ap (among k) blocked };
+        unused = λ k free. record { not_open = ap (among k) streams ∙ no-server k free; never_blocked = refl; not_blocked = ap (among k) blocked; never_failed = refl };
+        failed_are = λ t own a f. true-false (sym f);
+        hears = λ live h. listens;
+        sound = λ picks later. record { kept = of-nothing (by_lists policy pid picks later); failed_out = λ t client w live. true-false (sym w); settled = λ t client a. inl (nothing-pending t) };
+      },
+      refl,
+    )
   where
     no-asks : (asks : List HouseMark) → length asks ≡ 0 → asks ≡ []
     no-asks [] e = refl

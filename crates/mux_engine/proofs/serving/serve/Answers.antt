@@ -24,15 +24,17 @@ returns-in_default-clause-idle g c = λ z p. same-faults g.W.Wire.server_faults 
 pub run-requires-clause-running : goal.run-requires-clause-running
 run-requires-clause-running g c = let H = g.H.House in let r = c.requires in let e = c.in-Ok.ensures in
     let start = starts H.may (RestsOf H.told H.quiet (H.known c.args.house.now).present) (outside (H.told c.args.house.now) (H.known c.args.house.now)) c.args.policy c.args.pid (g.W.Wire.seen c.args.wire.now) c.in-Ok.engine
-    e.stands e.policy e.pid e.clients e.refused (ap (λ (k : Known). k.asks) r.blank) refl refl r.server_alone r.none_blocked r.listens in
-    (record {
-      before = H.told c.args.house.now;
-      policy = c.args.policy;
-      pid = c.args.pid;
-      start = (g.W.Wire.seen c.args.wire.now).told;
-      given = 0;
-      serving = start.0;
-    }, start.1)
+    e.stands e.policy e.pid e.clients e.refused (ap (λ (k : Known). k.asks) r.blank) refl refl r.server_alone r.none_blocked r.listens in (
+      record {
+        before = H.told c.args.house.now;
+        policy = c.args.policy;
+        pid = c.args.pid;
+        start = (g.W.Wire.seen c.args.wire.now).told;
+        given = 0;
+        serving = start.0;
+      },
+      start.1,
+    )
 
 pub run-requires-clause-housed : goal.run-requires-clause-housed
 run-requires-clause-housed g c = let r = c.requires in housed-blank _ _ r.blank r.server_alone r.own r.listeners

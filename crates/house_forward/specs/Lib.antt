@@ -1,4 +1,0 @@
-pub mod Forwardings
-pub mod Known
-pub mod Relays
-pub mod Rules

@@ -1,6 +1,0 @@
-mod Answerings
-mod Comings
-mod Dialings
-mod Readings
-mod Takings
-mod Whole
