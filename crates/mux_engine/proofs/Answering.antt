@@ -20,7 +20,7 @@ use Rattle.mux_engine.specs.Counted.{Cut, Spent, Stops, Well}
 use Rattle.mux_engine.specs.Rests.{IsAlone, IsByRow, ended_as, refused_if}
 use Rattle.mux_engine.specs.Run.{IsRun}
 use Rattle.mux_engine.specs.Serving.{Promised, Serving, StaysOrFails}
-use Rattle.mux_engine.specs.Sides.{Housed, Side}
+use Rattle.mux_engine.specs.Sides.{Housed, Resting, Side}
 use Rattle.mux_engine.proofs.Arms.{le-of}
 use Rattle.mux_engine.proofs.Counting.{fails-then, later-on, none-more, rose-behind, stays-by-row}
 use Rattle.mux_engine.proofs.Ending.{answer-failed, ends-so, ends-spent, ends-unspent, fails-on, refused-none, refused-same}
@@ -67,7 +67,7 @@ failed-whole answer mid new a b c d r same later was stays is e =
 only-house : (t : ℕ) → is_own t ≡ false → among t (HOUSE ∷ []) ≡ false
 only-house t other = ap (λ b. b || false) (test-other HOUSE t (λ q. true-false (ap is_own q ∙ other)))
 
-module _ {May : HouseReply → Type 0} {Rest : Option (List HouseMark) → Type 0} {before : Option (List HouseMark)} {policy : Policy} {pid : ℕ} {start : Option (List Mark)} where
+module _ {May : HouseReply → Type 0} {Rest : Resting} {before : Option (List HouseMark)} {policy : Policy} {pid : ℕ} {start : Option (List Mark)} where
   -- no stream is held back yet, and none failed
   pub none-held : {now : Side} {seen : Seen} {given : ℕ} {todo : List ℕ} {s : State} (held failed : List ℕ) → held ≡ [] → failed ≡ [] → Serving May Rest before now policy pid start seen [] [] given todo s → Serving May Rest before now policy pid start seen held failed given todo s
   none-held {now} {seen} {given} {todo} {s} held failed e f v = subst (λ (l : List ℕ). Serving May Rest before now policy pid start seen l failed given todo s) (sym e) (subst (λ (l : List ℕ). Serving May Rest before now policy pid start seen [] l given todo s) (sym f) v)
@@ -79,14 +79,14 @@ module _ {May : HouseReply → Type 0} {Rest : Option (List HouseMark) → Type 
   pub ran-whole : {now : Side} {seen : Seen} {held failed : List ℕ} {s : State} (turns given : ℕ) (all : Bool) (mid : Option Ended) (m n : ℕ) (refused : Option ℕ) (answer : Ended)
       → Serving May Rest before now policy pid start seen held failed (given + 0) (HOUSE ∷ []) s → now.unnoted ≡ []
       → given ≤ turns → (all ≡ true → given ≡ turns) → StaysOrFails mid s.ended m n → (all ≡ false → mid ≡ None → refused ≢ None) → answer ≡ ended_as s.ended refused
-      → IsRun May Rest policy pid turns before now.told start seen.told refused answer
+      → IsRun May Rest.rests Rest.present policy pid turns before now.told start seen.told refused answer
   ran-whole {now} {seen} {held} {failed} {s} turns given all mid m n refused answer v noted le every stays over is =
-      subst (λ (a : Ended). IsRun May Rest policy pid turns before now.told start seen.told refused a) (sym is)
+      subst (λ (a : Ended). IsRun May Rest.rests Rest.present policy pid turns before now.told start seen.told refused a) (sym is)
       (ends-run May Rest before policy pid turns start refused now seen held failed (given + 0) (HOUSE ∷ []) s (ended_as s.ended refused) v noted only-house (none-more given turns le)
       (ends-so turns v.journal s.ended refused (λ on none. v.turns ∙ let g : given ≡ turns = given-all all given turns mid refused every over (fails-on mid s.ended m n stays on) none in (omega (arith, g)))))
 
   -- one that want of memory cut short
-  pub ran-starved : {E : Type 0} {now : Option (List HouseMark)} {told : Option (List Mark)} {refused : Option ℕ} (turns given : ℕ) (r : Result Ended E) → IsErr r → given ≤ turns → Promised May Rest before now policy pid start told given → IsRun May Rest policy pid turns before now start told refused (result_unwrap_or r ended.OutOfMemory)
+  pub ran-starved : {E : Type 0} {now : Option (List HouseMark)} {told : Option (List Mark)} {refused : Option ℕ} (turns given : ℕ) (r : Result Ended E) → IsErr r → given ≤ turns → Promised May Rest before now policy pid start told given → IsRun May Rest.rests Rest.present policy pid turns before now start told refused (result_unwrap_or r ended.OutOfMemory)
   ran-starved turns given (Ok x) h le p = absurd (let z : false ≡ true = h in cc)
   ran-starved {E} {now} {told} {refused} turns given (Err e) h le p = ends-starved May Rest before policy pid turns start refused now told (promised-more given turns le p)
 

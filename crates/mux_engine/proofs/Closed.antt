@@ -26,7 +26,7 @@ use Rattle.mux_machine.specs.State.{State, closed_by, first_of, is_here}
 use Rattle.mux_machine.specs.Events.{here}
 use Rattle.mux_machine.specs.Stands.{Closes, IsFirst, Stands, StandsFor, log, not_closed}
 use Rattle.mux_engine.specs.Serving.{IsSound, IsUnseen, IsUnused, Serving}
-use Rattle.mux_engine.specs.Sides.{Housed, OwnPlaces, Side}
+use Rattle.mux_engine.specs.Sides.{Housed, OwnPlaces, Resting, Side}
 use Rattle.mux_engine.proofs.Lists.{among-here, among-less, none-without, or-true, own-or-house, test-other, true-false, without-other}
 use Rattle.mux_engine.proofs.Logs.{out-more}
 use Rattle.mux_engine.proofs.Places.{house-shut}
@@ -141,7 +141,7 @@ was-among k t xs a = elim (eqb_tells k t) [
   | inr q ↦ (sym (without-other k t xs q.1) ∙ a, q.1)
 ]
 
-unfoldable pub serve-closed : {May : HouseReply → Type 0} {Rest : Option (List HouseMark) → Type 0} {before : Option (List HouseMark)} {now : Side} {policy : Policy} {pid : ℕ} {start : Option (List Mark)} {seen : Seen} {held failed : List ℕ} {given : ℕ} {todo : List ℕ} {s : State} (v : Serving May Rest before now policy pid start seen held failed given todo s) (k : ℕ)
+unfoldable pub serve-closed : {May : HouseReply → Type 0} {Rest : Resting} {before : Option (List HouseMark)} {now : Side} {policy : Policy} {pid : ℕ} {start : Option (List Mark)} {seen : Seen} {held failed : List ℕ} {given : ℕ} {todo : List ℕ} {s : State} (v : Serving May Rest before now policy pid start seen held failed given todo s) (k : ℕ)
     → IsFirst k s.leaving → Closes s (closed_by s k) k → Serving May Rest before now policy pid start (seen_after_close k seen) (without k held) failed given todo (closed_by s k)
 serve-closed {May} {Rest} {before} {now} {policy} {pid} {start} {seen} {held} {failed} {given} {todo} {s} v k first closes =
     let nz : k ≢ 0 = first-nonzero v.stands k first in
@@ -161,7 +161,9 @@ serve-closed {May} {Rest} {before} {now} {policy} {pid} {start} {seen} {held} {f
       asked = v.asked ∙ sym asks;
       askers = v.askers;
       house_in = v.house_in;
+      house_there = v.house_there;
       rested = v.rested;
+      absent = v.absent;
       tells = v.tells;
       of_wire = (wire-keeps seen.streams seen.blocked seen.last seen.listeners seen.own seen.last_own v.journal).close k v.of_wire;
       turns = v.turns;
@@ -187,7 +189,7 @@ stays-all k (t ∷ own) e = by_head (t.number == k) e (stays-all k own)
     by_head true e ih = true-false e
     by_head false e ih = ap (λ l. t ∷ l) (ih e)
 
-pub housed-closed : {May : HouseReply → Type 0} {Rest : Option (List HouseMark) → Type 0} {before : Option (List HouseMark)} {now : Side} {policy : Policy} {pid : ℕ} {start : Option (List Mark)} {seen : Seen} {held failed : List ℕ} {given : ℕ} {todo : List ℕ} {s : State} (v : Serving May Rest before now policy pid start seen held failed given todo s) (k : ℕ) → IsFirst k s.leaving → (known : Known) (own : List ℕ) → Housed known seen own → Housed known (seen_after_close k seen) own
+pub housed-closed : {May : HouseReply → Type 0} {Rest : Resting} {before : Option (List HouseMark)} {now : Side} {policy : Policy} {pid : ℕ} {start : Option (List Mark)} {seen : Seen} {held failed : List ℕ} {given : ℕ} {todo : List ℕ} {s : State} (v : Serving May Rest before now policy pid start seen held failed given todo s) (k : ℕ) → IsFirst k s.leaving → (known : Known) (own : List ℕ) → Housed known seen own → Housed known (seen_after_close k seen) own
 housed-closed {seen = seen} {s = s} v k first known own h =
     record {
       ordering = h.ordering;

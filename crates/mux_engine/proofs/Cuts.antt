@@ -1,8 +1,8 @@
 -- What is left for want of memory.
-use Rattle.std.proofs.Common.{◌≡◌, ◌≤◌, ℕ, List, [], ◌∷◌, ◌++◌, length, Option, refl, sym, ap, ◌∙◌, subst, inl, inr, arith, append_assoc, append-nil}
+use Rattle.std.proofs.Common.{◌≡◌, ◌≤◌, ℕ, false, List, [], ◌∷◌, ◌++◌, length, Option, refl, sym, ap, ◌∙◌, subst, inl, inr, arith, append_assoc, append-nil}
 use Rattle.std.specs.Prelude.{All, IsTrue}
 use Rattle.std.specs.Option.{option_map}
-use Rattle.std.proofs.lemmas.List.Elements.{filter-append}
+use Rattle.std.proofs.lemmas.List.Elements.{All-cons, filter-append}
 use Rattle.mux_outside.specs.House.{OpenAsk}
 use Rattle.mux_outside.specs.Seen.{Seen}
 use Rattle.mux_outside.specs.declared.house.HouseReply.{HouseReply}
@@ -19,9 +19,9 @@ use Rattle.mux_bounds.specs.Bounds.{IsLog}
 use Rattle.mux_clients.specs.Asked.{TellsAsks}
 use Rattle.mux_machine.specs.State.{State}
 use Rattle.mux_machine.specs.Stands.{RowsFit}
-use Rattle.mux_engine.specs.Run.{IsOfWire, RestedAt}
+use Rattle.mux_engine.specs.Run.{IsOfWire, RestedAt, is_by_house}
 use Rattle.mux_engine.specs.Serving.{IsLeft, Kept, Promised, Serving}
-use Rattle.mux_engine.specs.Sides.{Side, asks_in, house_mark, house_marks}
+use Rattle.mux_engine.specs.Sides.{Resting, Side, asks_in, house_mark, house_marks}
 use Rattle.mux_engine.proofs.Marks.{PromiseAt, kept-more, log-is, noted-more}
 use Rattle.mux_engine.proofs.Told.{tells-more, tells-none, tells-then}
 
@@ -36,10 +36,10 @@ pub asks-left : (old more : List HouseMark) (asks : List HouseMark) → asks_in 
 asks-left old more asks e = filter-append is_asked old more ∙ ap (λ l. l ++ asks_in more) e
 
 -- the rows before the mark are left, whatever the house told at the mark
-unfoldable pub cut-next : {May : HouseReply → Type 0} {Rest : Option (List HouseMark) → Type 0} {before : Option (List HouseMark)} {now : Side} {policy : Policy} {pid : ℕ} {start : Option (List Mark)} {seen : Seen} {held failed : List ℕ} {given : ℕ} {todo : List ℕ} {s : State} (v : Serving May Rest before now policy pid start seen held failed given todo s) (now' : Option (List HouseMark)) (told' : Option (List Mark)) (given' : ℕ) (mark : Mark) (more left : List HouseMark)
-    → told' ≡ option_map (λ m. m ++ mark ∷ []) seen.told → TellsAsks now.told now' more → house_mark mark ++ left ≡ now.unnoted ++ more → IsOfWire (mark ∷ v.journal) → turns_in (mark ∷ v.journal) ≤ given' → RestedAt Rest before v.journal mark
+unfoldable pub cut-next : {May : HouseReply → Type 0} {Rest : Resting} {before : Option (List HouseMark)} {now : Side} {policy : Policy} {pid : ℕ} {start : Option (List Mark)} {seen : Seen} {held failed : List ℕ} {given : ℕ} {todo : List ℕ} {s : State} (v : Serving May Rest before now policy pid start seen held failed given todo s) (now' : Option (List HouseMark)) (told' : Option (List Mark)) (given' : ℕ) (mark : Mark) (more left : List HouseMark)
+    → told' ≡ option_map (λ m. m ++ mark ∷ []) seen.told → TellsAsks now.told now' more → house_mark mark ++ left ≡ now.unnoted ++ more → IsOfWire (mark ∷ v.journal) → turns_in (mark ∷ v.journal) ≤ given' → RestedAt Rest.rests before v.journal mark → (Rest.present ≡ false → is_by_house mark ≡ false)
     → ((set : Setting) → IsLog set (mark ∷ v.journal) (log_of_journal set v.journal)) → ((picks : List ℕ) (later : List HouseReply) → PromiseAt (by_lists policy pid (v.picked ++ picks) (v.replies ++ later)) v.journal mark) → Promised May Rest before now' policy pid start told' given'
-cut-next {May} {Rest} {before} {now} {policy} {pid} {start} {seen} {held} {failed} {given} {todo} {s} v now' told' given' mark more left e h is of le rested cut promise =
+cut-next {May} {Rest} {before} {now} {policy} {pid} {start} {seen} {held} {failed} {given} {todo} {s} v now' told' given' mark more left e h is of le rested absent cut promise =
     let same : (house_marks v.journal ++ now.unnoted) ++ more ≡ (house_marks v.journal ++ house_mark mark) ++ left = noted-more (house_marks v.journal) (house_mark mark) left now.unnoted more is in
     record {
       journal = mark ∷ v.journal;
@@ -53,6 +53,7 @@ cut-next {May} {Rest} {before} {now} {policy} {pid} {start} {seen} {held} {faile
       house = subst (TellsAsks before now') same (tells-then before now.told now' (house_marks v.journal ++ now.unnoted) more v.house h);
       asked = ap asks_in (sym same) ∙ asks-left (house_marks v.journal ++ now.unnoted) more v.stands.asks v.asked;
       rested = (rested, v.rested);
+      absent = λ e. All-cons (λ (m : Mark). is_by_house m ≡ false) mark v.journal (absent e) (v.absent e);
       tells = tells-more start seen.told told' v.journal (mark ∷ []) v.tells e;
       of_wire = of;
       turns = le;
@@ -64,7 +65,7 @@ cut-next {May} {Rest} {before} {now} {policy} {pid} {start} {seen} {held} {faile
     }
 
 -- all rows are left where the wire told no mark
-unfoldable pub cut-here : {May : HouseReply → Type 0} {Rest : Option (List HouseMark) → Type 0} {before : Option (List HouseMark)} {now : Side} {policy : Policy} {pid : ℕ} {start : Option (List Mark)} {seen : Seen} {held failed : List ℕ} {given : ℕ} {todo : List ℕ} {s : State} (v : Serving May Rest before now policy pid start seen held failed given todo s) (now' : Option (List HouseMark)) (told' : Option (List Mark)) (given' : ℕ) (more : List HouseMark)
+unfoldable pub cut-here : {May : HouseReply → Type 0} {Rest : Resting} {before : Option (List HouseMark)} {now : Side} {policy : Policy} {pid : ℕ} {start : Option (List Mark)} {seen : Seen} {held failed : List ℕ} {given : ℕ} {todo : List ℕ} {s : State} (v : Serving May Rest before now policy pid start seen held failed given todo s) (now' : Option (List HouseMark)) (told' : Option (List Mark)) (given' : ℕ) (more : List HouseMark)
     → told' ≡ seen.told → TellsAsks now.told now' more → given ≤ given' → Promised May Rest before now' policy pid start told' given'
 cut-here {May} {Rest} {before} {now} {policy} {pid} {start} {seen} {held} {failed} {given} {todo} {s} v now' told' given' more e h le = record {
   journal = v.journal;
@@ -78,6 +79,7 @@ cut-here {May} {Rest} {before} {now} {policy} {pid} {start} {seen} {held} {faile
   house = subst (TellsAsks before now') (append_assoc (house_marks v.journal) now.unnoted more) (tells-then before now.told now' (house_marks v.journal ++ now.unnoted) more v.house h);
   asked = ap asks_in (sym (append_assoc (house_marks v.journal) now.unnoted more)) ∙ asks-left (house_marks v.journal ++ now.unnoted) more v.stands.asks v.asked;
   rested = v.rested;
+  absent = v.absent;
   tells = e ∙ v.tells;
   of_wire = of-streams seen.streams seen.blocked seen.last v.journal v.of_wire;
   turns = let w : turns_in v.journal ≡ given = v.turns in omega arith;
@@ -89,11 +91,11 @@ cut-here {May} {Rest} {before} {now} {policy} {pid} {start} {seen} {held} {faile
 }
 
 -- where the house told nothing meanwhile
-pub cut-still : {May : HouseReply → Type 0} {Rest : Option (List HouseMark) → Type 0} {before : Option (List HouseMark)} {now : Side} {policy : Policy} {pid : ℕ} {start : Option (List Mark)} {seen : Seen} {held failed : List ℕ} {given : ℕ} {todo : List ℕ} {s : State} (v : Serving May Rest before now policy pid start seen held failed given todo s) (told' : Option (List Mark)) → told' ≡ seen.told → Promised May Rest before now.told policy pid start told' given
+pub cut-still : {May : HouseReply → Type 0} {Rest : Resting} {before : Option (List HouseMark)} {now : Side} {policy : Policy} {pid : ℕ} {start : Option (List Mark)} {seen : Seen} {held failed : List ℕ} {given : ℕ} {todo : List ℕ} {s : State} (v : Serving May Rest before now policy pid start seen held failed given todo s) (told' : Option (List Mark)) → told' ≡ seen.told → Promised May Rest before now.told policy pid start told' given
 cut-still {now = now} {given = given} v told' e = cut-here v now.told told' given [] e (tells-none now.told) (omega arith)
 
 -- what the house tells is not noted yet
-pub serve-told : {May : HouseReply → Type 0} {Rest : Option (List HouseMark) → Type 0} {before : Option (List HouseMark)} {now : Side} {policy : Policy} {pid : ℕ} {start : Option (List Mark)} {seen : Seen} {held failed : List ℕ} {given : ℕ} {todo : List ℕ} {s : State} (v : Serving May Rest before now policy pid start seen held failed given todo s) (now' : Side) (more : List HouseMark) → TellsAsks now.told now'.told more → now'.unnoted ≡ now.unnoted ++ more → asks_in more ≡ [] → now'.asks ≡ now.asks → now'.let_in ≡ now.let_in → Serving May Rest before now' policy pid start seen held failed given todo s
+pub serve-told : {May : HouseReply → Type 0} {Rest : Resting} {before : Option (List HouseMark)} {now : Side} {policy : Policy} {pid : ℕ} {start : Option (List Mark)} {seen : Seen} {held failed : List ℕ} {given : ℕ} {todo : List ℕ} {s : State} (v : Serving May Rest before now policy pid start seen held failed given todo s) (now' : Side) (more : List HouseMark) → TellsAsks now.told now'.told more → now'.unnoted ≡ now.unnoted ++ more → asks_in more ≡ [] → now'.asks ≡ now.asks → now'.let_in ≡ now.let_in → Serving May Rest before now' policy pid start seen held failed given todo s
 serve-told {May} {Rest} {before} {now} {policy} {pid} {start} {seen} {held} {failed} {given} {todo} {s} v now' more h is none asks within =
     let same : (house_marks v.journal ++ now.unnoted) ++ more ≡ house_marks v.journal ++ now'.unnoted = append_assoc (house_marks v.journal) now.unnoted more ∙ ap (λ l. house_marks v.journal ++ l) (sym is) in
     record {
@@ -109,7 +111,9 @@ serve-told {May} {Rest} {before} {now} {policy} {pid} {start} {seen} {held} {fai
       asked = ap asks_in (sym same) ∙ (asks-left (house_marks v.journal ++ now.unnoted) more v.stands.asks v.asked ∙ (ap (λ l. v.stands.asks ++ l) none ∙ append-nil v.stands.asks));
       askers = subst (λ (l : List OpenAsk). All (λ (a : OpenAsk). IsTrue (is_accepted a.client v.journal)) l) (sym asks) v.askers;
       house_in = v.house_in ∙ sym within;
+      house_there = λ e. v.house_there (sym within ∙ e);
       rested = v.rested;
+      absent = v.absent;
       tells = v.tells;
       of_wire = v.of_wire;
       turns = v.turns;

@@ -34,7 +34,7 @@ use Rattle.mux_engine.specs.Asking.{Heeded, HeedsSo}
 use Rattle.mux_engine.specs.Owned.{waits_for}
 use Rattle.mux_engine.specs.Rests.{IsAlone, IsReady}
 use Rattle.mux_engine.specs.Serving.{Promised, Serving}
-use Rattle.mux_engine.specs.Sides.{Housed, RestsOf, SameHouse, Side, noted}
+use Rattle.mux_engine.specs.Sides.{Housed, Resting, RestsOf, SameHouse, Side, noted}
 use Rattle.mux_engine.specs.Turns.{IsEventOf, IsOwnOf, failed_heard, held_heard, own_heard, want_of}
 use Rattle.mux_engine.proofs.Cuts.{cut-here, cut-still}
 use Rattle.mux_engine.proofs.Lists.{among-last, among-other-last, or-last, test-other, true-false}
@@ -49,14 +49,14 @@ use Rattle.mux_engine.proofs.WireTurns.{client-number, event-at, now-waiting, of
 -- ---- what holds at a wait, and what is known of its answer
 
 -- nobody leaves, the run goes on, and each stream was offered what waits for it
-pub record AtWait (Rest : Option (List HouseMark) → Type 0) (now : Side) (seen : Seen) (own held failed : List ℕ) (queue : ℕ → List ℕ) (s : State) : Type 0 where
+pub record AtWait (Rest : Resting) (now : Side) (seen : Seen) (own held failed : List ℕ) (queue : ℕ → List ℕ) (s : State) : Type 0 where
   pub none : s.leaving ≡ []
   pub admitted : s.refused ≡ []
   pub live : s.ended ≡ None
   pub offered : Offered seen own held failed queue
   pub hears : seen.listens ≡ s.listening
   pub all_noted : now.unnoted ≡ []
-  pub rests : want_of s ≡ Read → Rest now.told
+  pub rests : want_of s ≡ Read → Rest.rests now.told
 
 pub at-wait : {T : Type 0} (told : T → Option (List HouseMark)) (quiet : T → Quiet) (house : T) (known : Known) (seen : Seen) (own held failed : List ℕ) (queue : ℕ → List ℕ) (s : State) → Housed known seen own → IsReady known (quiet house) queue held failed own s
     → s.leaving ≡ [] → s.refused ≡ [] → s.ended ≡ None → seen.listens ≡ s.listening → AtWait (RestsOf told quiet known.present) (noted (told house) known) seen own held failed queue s
@@ -106,7 +106,7 @@ after-asks (HouseOrder order number ∷ asks) known = after-asks asks known
 
 -- ---- an event that was told
 
-module _ {May : HouseReply → Type 0} {Rest : Option (List HouseMark) → Type 0} {before : Option (List HouseMark)} {now : Side} {policy : Policy} {pid : ℕ} {start : Option (List Mark)} {seen : Seen} {held failed : List ℕ} {given : ℕ} {s : State}
+module _ {May : HouseReply → Type 0} {Rest : Resting} {before : Option (List HouseMark)} {now : Side} {policy : Policy} {pid : ℕ} {start : Option (List Mark)} {seen : Seen} {held failed : List ℕ} {given : ℕ} {s : State}
     (v : Serving May Rest before now policy pid start seen held failed given [] s) (live : s.ended ≡ None) (e : Event) (seen' : Seen) (given' : ℕ) (at : EventAt v live e seen' given') where
   -- it was taken in, and all asks were noted; or there was no memory for that
   pub event-heeds : {A E : Type 0} (r : Result A E) (s' : State) (asks : List HouseMark) (told told' : Option (List HouseMark)) (known known' : Known) (seen0 seen'' : Seen) → seen0 ≡ seen' → now.told ≡ told → now.asks ≡ known.asks → now.let_in ≡ known.present
@@ -127,7 +127,7 @@ module _ {May : HouseReply → Type 0} {Rest : Option (List HouseMark) → Type 
 
 -- ---- all that holds then
 
-module _ {May : HouseReply → Type 0} {Rest : Option (List HouseMark) → Type 0} {before : Option (List HouseMark)} {now : Side} {policy : Policy} {pid : ℕ} {start : Option (List Mark)} {seen : Seen} {held failed : List ℕ} {given : ℕ} {s : State}
+module _ {May : HouseReply → Type 0} {Rest : Resting} {before : Option (List HouseMark)} {now : Side} {policy : Policy} {pid : ℕ} {start : Option (List Mark)} {seen : Seen} {held failed : List ℕ} {given : ℕ} {s : State}
     (v : Serving May Rest before now policy pid start seen held failed given [] s) {own : List ℕ} {queue : ℕ → List ℕ} (a : AtWait Rest now seen own held failed queue s) where
   abbrev told-waiting : Serving May Rest before now policy pid start (seen-waiting v a.none a.admitted a.live a.offered) held failed (given + 1) [] s
   told-waiting = now-waiting v a.none a.admitted a.live a.offered a.hears a.all_noted a.rests
@@ -359,7 +359,7 @@ heard-asks (told.Failed k) known known' e = record { present = ap (λ (x : Known
 pub heard-present : (o : OwnTurn) (known known' : Known) → known' ≡ known_after_own_turn o known → known'.present ≡ known.present
 heard-present o known known' e = (heard-asks o known known' e).present
 
-pub own-noted : {May : HouseReply → Type 0} {Rest : Option (List HouseMark) → Type 0} {before : Option (List HouseMark)} {policy : Policy} {pid : ℕ} {start : Option (List Mark)} {seen : Seen} {given : ℕ} {todo : List ℕ} {s : State} (o : OwnTurn) (told told' : Option (List HouseMark)) (known known' : Known) (held held' failed failed' : List ℕ)
+pub own-noted : {May : HouseReply → Type 0} {Rest : Resting} {before : Option (List HouseMark)} {policy : Policy} {pid : ℕ} {start : Option (List Mark)} {seen : Seen} {given : ℕ} {todo : List ℕ} {s : State} (o : OwnTurn) (told told' : Option (List HouseMark)) (known known' : Known) (held held' failed failed' : List ℕ)
     → told' ≡ told → known' ≡ known_after_own_turn o known → held' ≡ held_heard o held → failed' ≡ failed_heard o failed → Serving May Rest before (noted told known) policy pid start seen (held_heard o held) (failed_heard o failed) given todo s → Serving May Rest before (noted told' known') policy pid start seen held' failed' given todo s
 own-noted {May} {Rest} {before} {policy} {pid} {start} {seen} {given} {todo} {s} o told told' known known' held held' failed failed' e f h i v =
     let same : SameAsks known known' = heard-asks o known known' f in

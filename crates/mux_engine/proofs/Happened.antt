@@ -23,9 +23,9 @@ use Rattle.mux_history.specs.Wires.{OfWire}
 use Rattle.mux_machine.specs.State.{State}
 use Rattle.mux_machine.specs.Events.{here}
 use Rattle.mux_machine.specs.Stands.{GoesBy}
-use Rattle.mux_engine.specs.Run.{RestedAt}
+use Rattle.mux_engine.specs.Run.{RestedAt, is_by_house}
 use Rattle.mux_engine.specs.Serving.{IsFree, IsUnseen, IsUnused, Serving}
-use Rattle.mux_engine.specs.Sides.{Side}
+use Rattle.mux_engine.specs.Sides.{Resting, Side}
 use Rattle.mux_engine.proofs.Lists.{among-last, or-none, test-other, true-false}
 use Rattle.mux_engine.proofs.Logs.{has-failed-other}
 use Rattle.mux_engine.proofs.Marks.{Notes, Placed, serve-next}
@@ -37,15 +37,15 @@ use Rattle.mux_engine.proofs.Turns.{IsTold, told-sound}
 pub last-or : (k t : ℕ) (xs : List ℕ) → among t (xs ++ k ∷ []) ≡ true → (k ≢ t) → among t xs ≡ true
 last-or k t xs a ne = sym (among-last k t xs ∙ (ap (λ b. among t xs || (b || false)) (test-other k t ne) ∙ or-none (among t xs))) ∙ a
 
-module _ {May : HouseReply → Type 0} {Rest : Option (List HouseMark) → Type 0} {before : Option (List HouseMark)} {now : Side} {policy : Policy} {pid : ℕ} {start : Option (List Mark)} {seen : Seen} {held failed : List ℕ} {given : ℕ} {todo : List ℕ} {s : State}
+module _ {May : HouseReply → Type 0} {Rest : Resting} {before : Option (List HouseMark)} {now : Side} {policy : Policy} {pid : ℕ} {start : Option (List Mark)} {seen : Seen} {held failed : List ℕ} {given : ℕ} {todo : List ℕ} {s : State}
     (v : Serving May Rest before now policy pid start seen held failed given todo s) where
   -- with what an event of the engine picks
   pub serve-event : {told told' : Option (List HouseMark)} {s' : State} (mark : Mark) (g : GoesBy May told told' v.picked v.replies s s' mark v.journal v.closed) (now' : Side) (seen' : Seen) (held' failed' : List ℕ) (given' : ℕ)
       → s'.core.policy ≡ s.core.policy → s'.pid ≡ s.pid → s.ended ≡ None → IsTold mark → ((t : ℕ) → among t (0 ∷ here s') ≡ false → among t todo ≡ false) → ((k : ℕ) → among k v.closed ≡ true → Spares k mark)
       → ((picks : List ℕ) (later : List HouseReply) → SpeaksInTime (by_lists policy pid ((v.picked ++ g.picks) ++ picks) ((v.replies ++ g.replies) ++ later)) v.journal mark)
-      → Notes now now' mark g.asks → All (λ (a : OpenAsk). IsTrue (is_accepted a.client (mark ∷ v.journal))) now'.asks → is_accepted HOUSE (mark ∷ v.journal) ≡ now'.let_in → RestedAt Rest before v.journal mark → turns_in (mark ∷ v.journal) ≡ given'
+      → Notes now now' mark g.asks → All (λ (a : OpenAsk). IsTrue (is_accepted a.client (mark ∷ v.journal))) now'.asks → is_accepted HOUSE (mark ∷ v.journal) ≡ now'.let_in → (now'.let_in ≡ true → Rest.present ≡ true) → RestedAt Rest.rests before v.journal mark → (Rest.present ≡ false → is_by_house mark ≡ false) → turns_in (mark ∷ v.journal) ≡ given'
       → seen'.told ≡ option_map (λ m. m ++ mark ∷ []) seen.told → Placed s' v.journal seen seen' held' failed' mark → Serving May Rest before now' policy pid start seen' held' failed' given' (0 ∷ here s') s'
-  serve-event {s' = s'} mark g now' seen' held' failed' given' same_policy same_pid live is covers spares speaks notes askers within rested turns told placed =
+  serve-event {s' = s'} mark g now' seen' held' failed' given' same_policy same_pid live is covers spares speaks notes askers within there rested absent turns told placed =
       serve-next v now' seen' held' failed' given' (0 ∷ here s') s' mark g record {
         told = told;
         policy_is = same_policy;
@@ -53,7 +53,9 @@ module _ {May : HouseReply → Type 0} {Rest : Option (List HouseMark) → Type 
         notes = notes;
         askers = askers;
         house_in = within;
+        house_there = there;
         rested = rested;
+        absent = absent;
         turns = turns;
         placed = placed;
         sound = told-sound v mark g same_policy same_pid is placed.of_wire.lawful covers live spares speaks;

@@ -21,7 +21,7 @@ use Rattle.mux_machine.specs.Events.{EndsBy, Keeps, Tells, here}
 use Rattle.mux_machine.specs.Stands.{GoesAlone, GoesOn, Stands}
 use Rattle.mux_engine.specs.Counted.{Cut, Well}
 use Rattle.mux_engine.specs.Serving.{Promised, Serving}
-use Rattle.mux_engine.specs.Sides.{Housed, SameHouse, SamePlaces, Side, noted, noting}
+use Rattle.mux_engine.specs.Sides.{Housed, Resting, SameHouse, SamePlaces, Side, noted, noting}
 use Rattle.mux_engine.proofs.Arms.{cut-then}
 use Rattle.mux_engine.proofs.Cuts.{serve-told}
 use Rattle.mux_engine.proofs.HouseTakes.{house-takes}
@@ -82,7 +82,7 @@ house-then a b c x y = record { present = y.present ∙ x.present; ordering = y.
 more-none : (given : ℕ) → given + 0 ≡ given
 more-none given = omega arith
 
-module _ {May : HouseReply → Type 0} {Rest : Option (List HouseMark) → Type 0} {before : Option (List HouseMark)} {policy : Policy} {pid : ℕ} {start : Option (List Mark)} {given : ℕ} where
+module _ {May : HouseReply → Type 0} {Rest : Resting} {before : Option (List HouseMark)} {policy : Policy} {pid : ℕ} {start : Option (List Mark)} {given : ℕ} where
   pub no-turns : {now : Side} {seen : Seen} {held failed : List ℕ} {todo : List ℕ} {s : State} → Serving May Rest before now policy pid start seen held failed given todo s → Serving May Rest before now policy pid start seen held failed (given + 0) todo s
   no-turns {now} {seen} {held} {failed} {todo} {s} v = subst (λ (n : ℕ). Serving May Rest before now policy pid start seen held failed n todo s) (sym (more-none given)) v
 
@@ -94,20 +94,20 @@ module _ {May : HouseReply → Type 0} {Rest : Option (List HouseMark) → Type 
 
 -- ---- the same house rests
 
-pub same-rests : {May : HouseReply → Type 0} (Rest : Bool → Option (List HouseMark) → Type 0) {before : Option (List HouseMark)} {now : Side} {policy : Policy} {pid : ℕ} {start : Option (List Mark)} {seen : Seen} {held failed : List ℕ} {given : ℕ} {todo : List ℕ} {s : State} (b b' : Bool) → b ≡ b' → Serving May (Rest b) before now policy pid start seen held failed given todo s → Serving May (Rest b') before now policy pid start seen held failed given todo s
+pub same-rests : {May : HouseReply → Type 0} (Rest : Bool → Resting) {before : Option (List HouseMark)} {now : Side} {policy : Policy} {pid : ℕ} {start : Option (List Mark)} {seen : Seen} {held failed : List ℕ} {given : ℕ} {todo : List ℕ} {s : State} (b b' : Bool) → b ≡ b' → Serving May (Rest b) before now policy pid start seen held failed given todo s → Serving May (Rest b') before now policy pid start seen held failed given todo s
 same-rests {May} Rest {before} {now} {policy} {pid} {start} {seen} {held} {failed} {given} {todo} {s} b b' e v = subst (λ (c : Bool). Serving May (Rest c) before now policy pid start seen held failed given todo s) e v
 
-pub same-rests-left : {May : HouseReply → Type 0} (Rest : Bool → Option (List HouseMark) → Type 0) {before now : Option (List HouseMark)} {policy : Policy} {pid : ℕ} {start told : Option (List Mark)} {given : ℕ} (b b' : Bool) → b ≡ b' → Promised May (Rest b) before now policy pid start told given → Promised May (Rest b') before now policy pid start told given
+pub same-rests-left : {May : HouseReply → Type 0} (Rest : Bool → Resting) {before now : Option (List HouseMark)} {policy : Policy} {pid : ℕ} {start told : Option (List Mark)} {given : ℕ} (b b' : Bool) → b ≡ b' → Promised May (Rest b) before now policy pid start told given → Promised May (Rest b') before now policy pid start told given
 same-rests-left {May} Rest {before} {now} {policy} {pid} {start} {told} {given} b b' e p = subst (λ (c : Bool). Promised May (Rest c) before now policy pid start told given) e p
 
 -- the house told nothing meanwhile, and as much is known of it
-pub same-noted : {May : HouseReply → Type 0} {Rest : Option (List HouseMark) → Type 0} {before : Option (List HouseMark)} {policy : Policy} {pid : ℕ} {start : Option (List Mark)} {seen : Seen} {held failed : List ℕ} {given : ℕ} {todo : List ℕ} {s : State} (told told' : Option (List HouseMark)) (known known' : Known) → told' ≡ told → known' ≡ known → Serving May Rest before (noted told known) policy pid start seen held failed given todo s → Serving May Rest before (noted told' known') policy pid start seen held failed given todo s
+pub same-noted : {May : HouseReply → Type 0} {Rest : Resting} {before : Option (List HouseMark)} {policy : Policy} {pid : ℕ} {start : Option (List Mark)} {seen : Seen} {held failed : List ℕ} {given : ℕ} {todo : List ℕ} {s : State} (told told' : Option (List HouseMark)) (known known' : Known) → told' ≡ told → known' ≡ known → Serving May Rest before (noted told known) policy pid start seen held failed given todo s → Serving May Rest before (noted told' known') policy pid start seen held failed given todo s
 same-noted {May} {Rest} {before} {policy} {pid} {start} {seen} {held} {failed} {given} {todo} {s} told told' known known' t k v =
     subst (λ (x : Option (List HouseMark)). Serving May Rest before (noted x known') policy pid start seen held failed given todo s) (sym t)
     (subst (λ (x : Known). Serving May Rest before (noted told x) policy pid start seen held failed given todo s) (sym k) v)
 
 -- one list or the other is to be offered what waits
-pub replied : {May : HouseReply → Type 0} {Rest : Option (List HouseMark) → Type 0} {before : Option (List HouseMark)} {now : Side} {policy : Policy} {pid : ℕ} {start : Option (List Mark)} {seen : Seen} {held failed : List ℕ} {given : ℕ} {s : State} (xs ys : List ℕ) (more b : Bool) → more ≡ b → Serving May Rest before now policy pid start seen held failed given (cond more xs ys) s → Serving May Rest before now policy pid start seen held failed given (cond b xs ys) s
+pub replied : {May : HouseReply → Type 0} {Rest : Resting} {before : Option (List HouseMark)} {now : Side} {policy : Policy} {pid : ℕ} {start : Option (List Mark)} {seen : Seen} {held failed : List ℕ} {given : ℕ} {s : State} (xs ys : List ℕ) (more b : Bool) → more ≡ b → Serving May Rest before now policy pid start seen held failed given (cond more xs ys) s → Serving May Rest before now policy pid start seen held failed given (cond b xs ys) s
 replied {May} {Rest} {before} {now} {policy} {pid} {start} {seen} {held} {failed} {given} {s} xs ys more b e v = subst (λ (c : Bool). Serving May Rest before now policy pid start seen held failed given (cond c xs ys) s) e v
 
 -- ---- calls
@@ -121,7 +121,7 @@ well-still a b c w e = subst (Well 0 a) (sym e) w
 
 -- ---- other asks are open
 
-module _ {May : HouseReply → Type 0} {Rest : Option (List HouseMark) → Type 0} {before : Option (List HouseMark)} {policy : Policy} {pid : ℕ} {start : Option (List Mark)} {seen : Seen} {held failed : List ℕ} {given : ℕ} {todo : List ℕ} {s : State} where
+module _ {May : HouseReply → Type 0} {Rest : Resting} {before : Option (List HouseMark)} {policy : Policy} {pid : ℕ} {start : Option (List Mark)} {seen : Seen} {held failed : List ℕ} {given : ℕ} {todo : List ℕ} {s : State} where
   serve-asks : {now : Side} (v : Serving May Rest before now policy pid start seen held failed given todo s) (asks : List OpenAsk) → All (λ (a : OpenAsk). IsTrue (is_accepted a.client v.journal)) asks → Serving May Rest before (record now { asks = asks }) policy pid start seen held failed given todo s
   serve-asks v asks all = record {
     journal = v.journal;
@@ -136,7 +136,9 @@ module _ {May : HouseReply → Type 0} {Rest : Option (List HouseMark) → Type 
     asked = v.asked;
     askers = all;
     house_in = v.house_in;
+    house_there = v.house_there;
     rested = v.rested;
+    absent = v.absent;
     tells = v.tells;
     of_wire = v.of_wire;
     turns = v.turns;
@@ -181,11 +183,11 @@ module _ {May : HouseReply → Type 0} {Rest : Option (List HouseMark) → Type 
 
 -- ---- it is let in
 
-module _ {May : HouseReply → Type 0} {Rest : Option (List HouseMark) → Type 0} {before : Option (List HouseMark)} {now : Side} {policy : Policy} {pid : ℕ} {start : Option (List Mark)} {seen : Seen} {held failed : List ℕ} {given : ℕ} {s : State} where
-  pub let-in : {May' : HouseReply → Type 0} {told told' : Option (List HouseMark)} (v : Serving May Rest before now policy pid start seen held failed given (0 ∷ here s) s) (s' : State) → v.journal ≡ [] → s.ended ≡ None → s.refused ≡ [] → GoesOn May' told told' s s' (Accepts HOUSE) → Keeps (Accepted HOUSE) s s'
+module _ {May : HouseReply → Type 0} {Rest : Resting} {before : Option (List HouseMark)} {now : Side} {policy : Policy} {pid : ℕ} {start : Option (List Mark)} {seen : Seen} {held failed : List ℕ} {given : ℕ} {s : State} where
+  pub let-in : {May' : HouseReply → Type 0} {told told' : Option (List HouseMark)} (v : Serving May Rest before now policy pid start seen held failed given (0 ∷ here s) s) (s' : State) → v.journal ≡ [] → Rest.present ≡ true → s.ended ≡ None → s.refused ≡ [] → GoesOn May' told told' s s' (Accepts HOUSE) → Keeps (Accepted HOUSE) s s'
       → Serving May Rest before (record now { let_in = true }) policy pid start (seen-with (HouseIn ∷ []) seen) held failed given (0 ∷ here s') s'
-  let-in v s' first live admitted goes keeps =
-      house-let-in v first live admitted (let-in-covers (here s) (here s') (came (Accepted HOUSE) HOUSE s s' refl admitted (keeps.streams live))) goes keeps
+  let-in v s' first there live admitted goes keeps =
+      house-let-in v first there live admitted (let-in-covers (here s) (here s') (came (Accepted HOUSE) HOUSE s s' refl admitted (keeps.streams live))) goes keeps
 
   -- which doesn't end the run
   pub let-in-live : (v : Serving May Rest before now policy pid start seen held failed given (0 ∷ here s) s) (s' : State) → v.journal ≡ [] → s.ended ≡ None → EndsBy (Accepted HOUSE) s s' (Accepts HOUSE) → s'.ended ≡ None
@@ -193,7 +195,7 @@ module _ {May : HouseReply → Type 0} {Rest : Option (List HouseMark) → Type 
 
 -- ---- it is handed what waits for it
 
-module _ {May : HouseReply → Type 0} {Rest : Option (List HouseMark) → Type 0} {before : Option (List HouseMark)} {policy : Policy} {pid : ℕ} {start : Option (List Mark)} {seen : Seen} {held failed : List ℕ} {given : ℕ} {s : State} where
+module _ {May : HouseReply → Type 0} {Rest : Resting} {before : Option (List HouseMark)} {policy : Policy} {pid : ℕ} {start : Option (List Mark)} {seen : Seen} {held failed : List ℕ} {given : ℕ} {s : State} where
   -- something waits for it alone where it was let in
   waits-in : {now : Side} {todo : List ℕ} (v : Serving May Rest before now policy pid start seen held failed given todo s) (bytes : List ℕ) → bytes ≡ queue_in s HOUSE → 0 < length bytes → now.let_in ≡ true
   waits-in v bytes queue some = sym v.house_in ∙ by_in (is_accepted HOUSE v.journal) refl
@@ -226,14 +228,14 @@ module _ {May : HouseReply → Type 0} {Rest : Option (List HouseMark) → Type 
   no-server-asked : {now : Side} {todo : List ℕ} (v : Serving May Rest before now policy pid start seen held failed given todo s) (client : ℕ) → is_accepted client v.journal ≡ true → client ≢ 0
   no-server-asked v client asked z = true-false (sym asked ∙ (ap (λ i. is_accepted i v.journal) z ∙ accepted-zero v.journal v.of_wire.lawful))
 
-  pub answered : {May' : HouseReply → Type 0} {mid mid' told told' : Option (List HouseMark)} (known known' : Known) (v : Serving May Rest before (noted told known) policy pid start seen held failed given (0 ∷ without HOUSE (here s)) s) (s' : State) (client id : ℕ) (reply : HouseReply) → s.ended ≡ None → ReplyFits reply client id known.asks → TellsAsks told told' (HouseAnswer client id reply ∷ [])
+  pub answered : {May' : HouseReply → Type 0} {mid mid' told told' : Option (List HouseMark)} (known known' : Known) (v : Serving May Rest before (noted told known) policy pid start seen held failed given (0 ∷ without HOUSE (here s)) s) (s' : State) (client id : ℕ) (reply : HouseReply) → known.present ≡ true → s.ended ≡ None → ReplyFits reply client id known.asks → TellsAsks told told' (HouseAnswer client id reply ∷ [])
       → known' ≡ record known { asks = without_ask client id known.asks } → ((mark : Mark) → Tells (HouseSays client id reply) mark → GoesOn May' mid mid' s s' mark) → Keeps (HouseSays client id reply) s s' → Serving May Rest before (noted told' known') policy pid start (seen-with (HouseAnswer client id reply ∷ []) seen) held failed given (0 ∷ here s') s'
-  answered {told' = told'} known known' v s' client id reply live fits h e goes keeps =
+  answered {told' = told'} known known' v s' client id reply within live fits h e goes keeps =
       let w = answer-told known client id reply v h in
       let asked : is_accepted client w.journal ≡ true = answer-asked known client id reply v h fits in
       let nz : client ≢ 0 = no-server-asked w client asked in
       subst (λ (k : Known). Serving May Rest before (noted told' k) policy pid start (seen-with (HouseAnswer client id reply ∷ []) seen) held failed given (0 ∷ here s') s') (sym e)
-      (house-answers w client id reply [] refl asked live (reply-covers (here s) (here s') (stayed (HouseSays client id reply) (House (HouseAnswer client id reply)) s s' (nz, refl) tt (keeps.streams live))) (goes (House (HouseAnswer client id reply)) (nz, refl)) keeps)
+      (house-answers w client id reply [] refl within asked live (reply-covers (here s) (here s') (stayed (HouseSays client id reply) (House (HouseAnswer client id reply)) s s' (nz, refl) tt (keeps.streams live))) (goes (House (HouseAnswer client id reply)) (nz, refl)) keeps)
 
   -- which doesn't end the run
   pub answered-live : {told : Option (List HouseMark)} (known : Known) {todo : List ℕ} (v : Serving May Rest before (noted told known) policy pid start seen held failed given todo s) (s' : State) (client id : ℕ) (reply : HouseReply) → s.ended ≡ None → ReplyFits reply client id known.asks → ((mark : Mark) → Tells (HouseSays client id reply) mark → EndsBy (HouseSays client id reply) s s' mark) → s'.ended ≡ None
@@ -243,5 +245,5 @@ module _ {May : HouseReply → Type 0} {Rest : Option (List HouseMark) → Type 
       ends (House (HouseAnswer client id reply)) (nz, refl) v.picked v.replies v.journal v.closed v.stands (nz, asked) live
 
   -- there was no memory for its answer
-  pub cut-answered : {told told' : Option (List HouseMark)} (known : Known) {todo : List ℕ} (v : Serving May Rest before (noted told known) policy pid start seen held failed given todo s) (client id : ℕ) (reply : HouseReply) → ReplyFits reply client id known.asks → TellsAsks told told' (HouseAnswer client id reply ∷ []) → Promised May Rest before told' policy pid start (seen-with (HouseAnswer client id reply ∷ []) seen).told given
-  cut-answered known v client id reply fits h = cut-answers (answer-told known client id reply v h) client id reply [] refl (answer-asked known client id reply v h fits)
+  pub cut-answered : {told told' : Option (List HouseMark)} (known : Known) {todo : List ℕ} (v : Serving May Rest before (noted told known) policy pid start seen held failed given todo s) (client id : ℕ) (reply : HouseReply) → known.present ≡ true → ReplyFits reply client id known.asks → TellsAsks told told' (HouseAnswer client id reply ∷ []) → Promised May Rest before told' policy pid start (seen-with (HouseAnswer client id reply ∷ []) seen).told given
+  cut-answered known v client id reply within fits h = cut-answers (answer-told known client id reply v h) client id reply [] refl within (answer-asked known client id reply v h fits)

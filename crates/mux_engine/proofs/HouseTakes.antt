@@ -29,7 +29,7 @@ use Rattle.mux_machine.specs.declared.event.Event.{Event}
 use Rattle.mux_machine.specs.Stands.{GoesAlone, RowsFit, Stands, log}
 use Rattle.mux_machine.proofs.Twins.{house-client, stands-alike}
 use Rattle.mux_engine.specs.Serving.{IsSound, Serving, is_open}
-use Rattle.mux_engine.specs.Sides.{Side}
+use Rattle.mux_engine.specs.Sides.{Resting, Side}
 use Rattle.mux_engine.proofs.Lists.{among-open, none-without, open-here, test-other, true-false, without-other}
 use Rattle.mux_engine.proofs.Logs.{log-out, settled-as, took-log, took-pending}
 use Rattle.mux_engine.proofs.Marks.{log-is, serve-alone}
@@ -50,7 +50,7 @@ drop-all (x ∷ xs) = drop-all xs
 left-of-house : (t : ℕ) (xs : List ℕ) → HOUSE ≢ t → among t (0 ∷ without HOUSE xs) ≡ false → among t (0 ∷ xs) ≡ false
 left-of-house t xs ne a = ap (λ b. (0 == t) || b) (sym (without-other HOUSE t xs ne)) ∙ a
 
-module _ {May : HouseReply → Type 0} {Rest : Option (List HouseMark) → Type 0} {before : Option (List HouseMark)} {now : Side} {policy : Policy} {pid : ℕ} {start : Option (List Mark)} {seen : Seen} {held failed : List ℕ} {given : ℕ} {s : State} where
+module _ {May : HouseReply → Type 0} {Rest : Resting} {before : Option (List HouseMark)} {now : Side} {policy : Policy} {pid : ℕ} {start : Option (List Mark)} {seen : Seen} {held failed : List ℕ} {given : ℕ} {s : State} where
   -- ---- nothing waits for it
 
   pub house-idle : (v : Serving May Rest before now policy pid start seen held failed given (0 ∷ here s) s) (bytes : List ℕ) → (among HOUSE v.closed ≡ false → Waiting bytes HOUSE s v.picked v.replies v.journal) → bytes ≡ [] → Serving May Rest before now policy pid start seen held failed given (0 ∷ without HOUSE (here s)) s
@@ -83,7 +83,9 @@ module _ {May : HouseReply → Type 0} {Rest : Option (List HouseMark) → Type 
         notes = record { more = []; told_is = tells-none now.told; noted_is = sym e ∙ sym (append-nil now.unnoted); asks_are = refl };
         askers = askers-more v mark;
         house_in = v.house_in;
+        house_there = v.house_there;
         rested = tt;
+        absent = λ e. true-false (sym (v.house_there within) ∙ e);
         turns = v.turns;
         placed = placed-still v mark (seen-with (HouseTook n ∷ []) seen) s' ((wire-keeps seen.streams seen.blocked seen.last seen.listeners seen.own seen.last_own v.journal).note (HouseTook n) (v.house_in ∙ within) refl v.of_wire) refl refl refl refl refl same.streams (λ t. refl) (λ t. refl) (λ t. refl);
         sound = λ picks later.
@@ -122,6 +124,7 @@ module _ {May : HouseReply → Type 0} {Rest : Option (List HouseMark) → Type 
         spares = λ j c. tt;
         speaks = λ picks later. subst (λ (q : List ℕ). length q < READING_STOPS_AT) (subst (RowsFit (length v.picked) v.stands.asks s v.closed) (log-is s policy pid (v.picked ++ picks) (v.replies ++ later) v.journal v.policy_is v.pid_is) (v.stands.at picks later).rows).fit.up room;
         rested = tt;
+        absent = λ e. true-false (sym (v.house_there within) ∙ e);
         turns = ap (λ n. n + 1) v.turns;
         plain = sym noted;
         cut = λ set. inr (0, refl);

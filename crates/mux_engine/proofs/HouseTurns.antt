@@ -34,7 +34,7 @@ use Rattle.mux_machine.specs.declared.event.Event.TheVariants.{Accepted, FromCli
 use Rattle.mux_machine.specs.Stands.{GoesBy, GoesOn, GoesAlone, Stands}
 use Rattle.mux_machine.proofs.Twins.{house-client, stands-alike}
 use Rattle.mux_engine.specs.Serving.{IsSound, Promised, Serving}
-use Rattle.mux_engine.specs.Sides.{Side}
+use Rattle.mux_engine.specs.Sides.{Resting, Side}
 use Rattle.mux_engine.proofs.Asks.{goes-asked, goes-unasked, none-asked, unasked-none}
 use Rattle.mux_engine.proofs.Cuts.{cut-next, of-streams}
 use Rattle.mux_engine.proofs.Happened.{placed-house-in, serve-event}
@@ -120,16 +120,16 @@ reply-fewer Refused client id asks fits = fewer-ask client id asks fits
 reply-fewer (Port port) client id asks fits = fewer-ask client id asks (any-less (λ a. is_ask client id a && a.opening) (is_ask client id) asks (λ a h. and-first' (is_ask client id a) a.opening h) fits)
 reply-fewer Later client id asks fits = absurd fits
 
-module _ {May : HouseReply → Type 0} {Rest : Option (List HouseMark) → Type 0} {before : Option (List HouseMark)} {now : Side} {policy : Policy} {pid : ℕ} {start : Option (List Mark)} {seen : Seen} {held failed : List ℕ} {given : ℕ} {todo : List ℕ} {s : State}
+module _ {May : HouseReply → Type 0} {Rest : Resting} {before : Option (List HouseMark)} {now : Side} {policy : Policy} {pid : ℕ} {start : Option (List Mark)} {seen : Seen} {held failed : List ℕ} {given : ℕ} {todo : List ℕ} {s : State}
     (v : Serving May Rest before now policy pid start seen held failed given todo s) where
   -- ---- it is let in
 
   alone : v.journal ≡ [] → is_accepted HOUSE v.journal ≡ false
   alone e = ap (is_accepted HOUSE) e
 
-  pub house-let-in : {May' : HouseReply → Type 0} {told told' : Option (List HouseMark)} {s' : State} → v.journal ≡ [] → s.ended ≡ None → s.refused ≡ [] → ((t : ℕ) → among t (0 ∷ here s') ≡ false → among t todo ≡ false) → GoesOn May' told told' s s' (Accepts HOUSE) → Keeps (Accepted HOUSE) s s'
+  pub house-let-in : {May' : HouseReply → Type 0} {told told' : Option (List HouseMark)} {s' : State} → v.journal ≡ [] → Rest.present ≡ true → s.ended ≡ None → s.refused ≡ [] → ((t : ℕ) → among t (0 ∷ here s') ≡ false → among t todo ≡ false) → GoesOn May' told told' s s' (Accepts HOUSE) → Keeps (Accepted HOUSE) s s'
       → Serving May Rest before (record now { let_in = true }) policy pid start (seen-with (HouseIn ∷ []) seen) held failed given (0 ∷ here s') s'
-  house-let-in {s' = s'} first live admitted covers goes keeps =
+  house-let-in {s' = s'} first there live admitted covers goes keeps =
       let g0 = goes v.picked v.replies v.journal v.closed v.stands ((λ e. absurd (omega (arith, e))), alone first, refl) in
       let g1 = goes-twin (Accepts HOUSE) (House HouseIn) (house-client.let_in v.journal) g0 in
       let none = none-asked g1.asks (goes-asked (λ j. ⊥) g1 keeps.policy keeps.pid tt) in
@@ -137,20 +137,20 @@ module _ {May : HouseReply → Type 0} {Rest : Option (List HouseMark) → Type 
       serve-event v (House HouseIn) g (record now { let_in = true }) (seen-with (HouseIn ∷ []) seen) held failed given keeps.policy keeps.pid live tt covers
       (λ j c e. true-false (sym c ∙ (ap (λ i. among i v.closed) (sym e) ∙ ((v.stands.at [] []).bytes.strange HOUSE (alone first)).not_closed_yet))) (λ picks later. tt)
       (subst (Notes now (record now { let_in = true }) (House HouseIn)) (sym (unasked-none May v.stands g1 none)) (record { more = []; told_is = tells-none now.told; noted_is = sym (append-nil now.unnoted); asks_are = refl }))
-      (askers-more v (House HouseIn)) refl tt v.turns refl
+      (askers-more v (House HouseIn)) refl (λ e. there) tt (λ e. true-false (sym there ∙ e)) v.turns refl
       (placed-house-in v (seen-with (HouseIn ∷ []) seen) s' ((wire-keeps seen.streams seen.blocked seen.last seen.listeners seen.own seen.last_own v.journal).note HouseIn first refl v.of_wire) refl refl refl refl refl (came (Accepted HOUSE) HOUSE s s' refl admitted (keeps.streams live)))
 
   -- there was no memory to let it in
-  pub cut-let-in : v.journal ≡ [] → Promised May Rest before now.told policy pid start (seen-with (HouseIn ∷ []) seen).told given
-  cut-let-in first = cut-next v now.told (seen-with (HouseIn ∷ []) seen).told given (House HouseIn) [] now.unnoted refl (tells-none now.told) (sym (append-nil now.unnoted))
+  pub cut-let-in : v.journal ≡ [] → Rest.present ≡ true → Promised May Rest before now.told policy pid start (seen-with (HouseIn ∷ []) seen).told given
+  cut-let-in first there = cut-next v now.told (seen-with (HouseIn ∷ []) seen).told given (House HouseIn) [] now.unnoted refl (tells-none now.told) (sym (append-nil now.unnoted))
       (of-streams seen.streams seen.blocked seen.last (House HouseIn ∷ v.journal) ((wire-keeps seen.streams seen.blocked seen.last seen.listeners seen.own seen.last_own v.journal).note HouseIn first refl v.of_wire))
-      (let w : turns_in v.journal ≡ given = v.turns in omega arith) tt (λ set. inr (0, refl)) (λ picks later. record { takes = tt; waits = tt; speaks = tt; open_streams = tt })
+      (let w : turns_in v.journal ≡ given = v.turns in omega arith) tt (λ e. true-false (sym there ∙ e)) (λ set. inr (0, refl)) (λ picks later. record { takes = tt; waits = tt; speaks = tt; open_streams = tt })
 
   -- ---- it answers
 
-  pub house-answers : {May' : HouseReply → Type 0} {told told' : Option (List HouseMark)} {s' : State} (client id : ℕ) (reply : HouseReply) (rest : List HouseMark) → now.unnoted ≡ HouseAnswer client id reply ∷ rest → is_accepted client v.journal ≡ true → s.ended ≡ None → ((t : ℕ) → among t (0 ∷ here s') ≡ false → among t todo ≡ false)
+  pub house-answers : {May' : HouseReply → Type 0} {told told' : Option (List HouseMark)} {s' : State} (client id : ℕ) (reply : HouseReply) (rest : List HouseMark) → now.unnoted ≡ HouseAnswer client id reply ∷ rest → now.let_in ≡ true → is_accepted client v.journal ≡ true → s.ended ≡ None → ((t : ℕ) → among t (0 ∷ here s') ≡ false → among t todo ≡ false)
       → GoesOn May' told told' s s' (House (HouseAnswer client id reply)) → Keeps (HouseSays client id reply) s s' → Serving May Rest before (record now { unnoted = rest }) policy pid start (seen-with (HouseAnswer client id reply ∷ []) seen) held failed given (0 ∷ here s') s'
-  house-answers {s' = s'} client id reply rest e asked live covers goes keeps =
+  house-answers {s' = s'} client id reply rest e within asked live covers goes keeps =
       let m : HouseMark = HouseAnswer client id reply in
       let nz : client ≢ 0 = λ z. true-false (sym asked ∙ (ap (λ i. is_accepted i v.journal) z ∙ accepted-zero v.journal v.of_wire.lawful)) in
       let g1 = goes v.picked v.replies v.journal v.closed v.stands (nz, asked) in
@@ -158,11 +158,11 @@ module _ {May : HouseReply → Type 0} {Rest : Option (List HouseMark) → Type 
       let g = goes-unasked {May = May} v.stands g1 none in
       serve-event v (House m) g (record now { unnoted = rest }) (seen-with (m ∷ []) seen) held failed given keeps.policy keeps.pid live tt covers (λ j c. tt) (λ picks later. tt)
       (subst (Notes now (record now { unnoted = rest }) (House m)) (sym (unasked-none May v.stands g1 none)) (record { more = []; told_is = tells-none now.told; noted_is = sym e ∙ sym (append-nil now.unnoted); asks_are = refl }))
-      (askers-more v (House m)) v.house_in tt v.turns refl
+      (askers-more v (House m)) v.house_in v.house_there tt (λ e. true-false (sym (v.house_there within) ∙ e)) v.turns refl
       (placed-still v (House m) (seen-with (m ∷ []) seen) s' ((wire-keeps seen.streams seen.blocked seen.last seen.listeners seen.own seen.last_own v.journal).note m asked refl v.of_wire) refl refl refl refl refl (stayed (HouseSays client id reply) (House m) s s' (nz, refl) tt (keeps.streams live)) (λ t. refl) (λ t. refl) (λ t. refl))
 
-  pub cut-answers : (client id : ℕ) (reply : HouseReply) (rest : List HouseMark) → now.unnoted ≡ HouseAnswer client id reply ∷ rest → is_accepted client v.journal ≡ true → Promised May Rest before now.told policy pid start (seen-with (HouseAnswer client id reply ∷ []) seen).told given
-  cut-answers client id reply rest e asked = let m : HouseMark = HouseAnswer client id reply in
+  pub cut-answers : (client id : ℕ) (reply : HouseReply) (rest : List HouseMark) → now.unnoted ≡ HouseAnswer client id reply ∷ rest → now.let_in ≡ true → is_accepted client v.journal ≡ true → Promised May Rest before now.told policy pid start (seen-with (HouseAnswer client id reply ∷ []) seen).told given
+  cut-answers client id reply rest e within asked = let m : HouseMark = HouseAnswer client id reply in
       cut-next v now.told (seen-with (m ∷ []) seen).told given (House m) [] rest refl (tells-none now.told) (sym e ∙ sym (append-nil now.unnoted))
       (of-streams seen.streams seen.blocked seen.last (House m ∷ v.journal) ((wire-keeps seen.streams seen.blocked seen.last seen.listeners seen.own seen.last_own v.journal).note m asked refl v.of_wire))
-      (let w : turns_in v.journal ≡ given = v.turns in omega arith) tt (λ set. inr (0, refl)) (λ picks later. record { takes = tt; waits = tt; speaks = tt; open_streams = tt })
+      (let w : turns_in v.journal ≡ given = v.turns in omega arith) tt (λ e. true-false (sym (v.house_there within) ∙ e)) (λ set. inr (0, refl)) (λ picks later. record { takes = tt; waits = tt; speaks = tt; open_streams = tt })

@@ -20,7 +20,7 @@ use Rattle.mux_machine.specs.Events.{here}
 use Rattle.mux_machine.specs.Stands.{log}
 use Rattle.mux_engine.specs.Counted.{Counts, Cut}
 use Rattle.mux_engine.specs.Serving.{Serving, is_open}
-use Rattle.mux_engine.specs.Sides.{Side}
+use Rattle.mux_engine.specs.Sides.{Resting, Side}
 use Rattle.mux_engine.proofs.Lists.{among-here, among-less, apart-or-left, either, here-open, none-without, or-true, test-other, true-false, without-other}
 use Rattle.mux_engine.proofs.Marks.{log-is}
 use Rattle.mux_engine.proofs.Places.{AtStream, at-stream}
@@ -35,7 +35,7 @@ pub zero-among : (k : ℕ) (todo : List ℕ) → among 0 (k ∷ (0 ∷ todo)) �
 zero-among k todo = or-true (k == 0)
 
 -- after one offer more is to be offered, or nothing
-pub on-more : {May : HouseReply → Type 0} {Rest : Option (List HouseMark) → Type 0} {before : Option (List HouseMark)} {now : Side} {policy : Policy} {pid : ℕ} {start : Option (List Mark)} {seen : Seen} {held failed : List ℕ} {given : ℕ} {s : State} (k : ℕ) (todo : List ℕ) (more : Bool) → more ≡ true
+pub on-more : {May : HouseReply → Type 0} {Rest : Resting} {before : Option (List HouseMark)} {now : Side} {policy : Policy} {pid : ℕ} {start : Option (List Mark)} {seen : Seen} {held failed : List ℕ} {given : ℕ} {s : State} (k : ℕ) (todo : List ℕ) (more : Bool) → more ≡ true
     → Serving May Rest before now policy pid start seen held failed given (cond more (k ∷ (k ∷ todo)) (without k (k ∷ todo))) s → Serving May Rest before now policy pid start seen held failed given (k ∷ todo) s
 on-more {May} {Rest} {before} {now} {policy} {pid} {start} {seen} {held} {failed} {given} {s} k todo more e v =
     serve-todo (subst (λ (m : Bool). Serving May Rest before now policy pid start seen held failed given (cond m (k ∷ (k ∷ todo)) (without k (k ∷ todo))) s) e v) (k ∷ todo) (λ t a. inl (by_test t (k == t) a))
@@ -44,7 +44,7 @@ on-more {May} {Rest} {before} {now} {policy} {pid} {start} {seen} {held} {failed
     by_test t true a = true-false a
     by_test t false a = a
 
-pub on-done : {May : HouseReply → Type 0} {Rest : Option (List HouseMark) → Type 0} {before : Option (List HouseMark)} {now : Side} {policy : Policy} {pid : ℕ} {start : Option (List Mark)} {seen : Seen} {held failed : List ℕ} {given : ℕ} {s : State} (k : ℕ) (todo : List ℕ) (more : Bool) → more ≡ false
+pub on-done : {May : HouseReply → Type 0} {Rest : Resting} {before : Option (List HouseMark)} {now : Side} {policy : Policy} {pid : ℕ} {start : Option (List Mark)} {seen : Seen} {held failed : List ℕ} {given : ℕ} {s : State} (k : ℕ) (todo : List ℕ) (more : Bool) → more ≡ false
     → Serving May Rest before now policy pid start seen held failed given (cond more (k ∷ (k ∷ todo)) (without k (k ∷ todo))) s → Serving May Rest before now policy pid start seen held failed given todo s
 on-done {May} {Rest} {before} {now} {policy} {pid} {start} {seen} {held} {failed} {given} {s} k todo more e v =
     narrower k (subst (λ (m : Bool). Serving May Rest before now policy pid start seen held failed given (cond m (k ∷ (k ∷ todo)) (without k (k ∷ todo))) s) e v)
@@ -79,7 +79,7 @@ abbrev pub clients-of : List ℕ → List ℕ
 clients-of waiting = without HOUSE (without 0 waiting)
 
 -- those that wait and the server's stream are left to be offered something
-pub only-waiting : {May : HouseReply → Type 0} {Rest : Option (List HouseMark) → Type 0} {before : Option (List HouseMark)} {now : Side} {policy : Policy} {pid : ℕ} {start : Option (List Mark)} {seen : Seen} {held failed : List ℕ} {given : ℕ} {s : State} (left : List ℕ) (v : Serving May Rest before now policy pid start seen held failed given (0 ∷ (without HOUSE (here s) ++ left)) s) (waiting : List ℕ)
+pub only-waiting : {May : HouseReply → Type 0} {Rest : Resting} {before : Option (List HouseMark)} {now : Side} {policy : Policy} {pid : ℕ} {start : Option (List Mark)} {seen : Seen} {held failed : List ℕ} {given : ℕ} {s : State} (left : List ℕ) (v : Serving May Rest before now policy pid start seen held failed given (0 ∷ (without HOUSE (here s) ++ left)) s) (waiting : List ℕ)
     → ((t : ℕ) → among t v.closed ≡ false → (picks : List ℕ) (later : List HouseReply) → among t waiting ≡ has_output (log s (v.picked ++ picks) (v.replies ++ later) v.journal) t)
     → Serving May Rest before now policy pid start seen held failed given (clients-of waiting ++ (0 ∷ left)) s
 only-waiting {policy = policy} {pid = pid} {s = s} left v waiting waits = serve-todo v (clients-of waiting ++ (0 ∷ left)) (λ t a. by_part t (neither t (clients-of waiting) (0 ∷ left) a))
@@ -118,7 +118,7 @@ waiting-present t (c ∷ cs) a = by_empty (waiting-present t cs) (is_empty c.sea
     by_empty ih false e = by_head ih (c.seat.number == t) e
 
 -- more are left to be offered something
-pub more-left : {May : HouseReply → Type 0} {Rest : Option (List HouseMark) → Type 0} {before : Option (List HouseMark)} {now : Side} {policy : Policy} {pid : ℕ} {start : Option (List Mark)} {seen : Seen} {held failed : List ℕ} {given : ℕ} {s : State} (left : List ℕ) (v : Serving May Rest before now policy pid start seen held failed given left s) → Serving May Rest before now policy pid start seen held failed given (0 ∷ (without HOUSE (here s) ++ left)) s
+pub more-left : {May : HouseReply → Type 0} {Rest : Resting} {before : Option (List HouseMark)} {now : Side} {policy : Policy} {pid : ℕ} {start : Option (List Mark)} {seen : Seen} {held failed : List ℕ} {given : ℕ} {s : State} (left : List ℕ) (v : Serving May Rest before now policy pid start seen held failed given left s) → Serving May Rest before now policy pid start seen held failed given (0 ∷ (without HOUSE (here s) ++ left)) s
 more-left {s = s} left v = serve-todo v (0 ∷ (without HOUSE (here s) ++ left)) (λ t a. inl (neither t (without HOUSE (here s)) left (apart-or-left 0 t (without HOUSE (here s) ++ left) a).1).1)
 
 -- the server is not the house
@@ -151,13 +151,13 @@ waits-open s t a = record {
     by_server true e h = h
     by_server false e h = sym (ap (λ b. b || among t (waiting_clients s.clients)) e) ∙ h
 
-pub todo-is : {May : HouseReply → Type 0} {Rest : Option (List HouseMark) → Type 0} {before : Option (List HouseMark)} {now : Side} {policy : Policy} {pid : ℕ} {start : Option (List Mark)} {seen : Seen} {held failed : List ℕ} {given : ℕ} {s : State} (todo todo' : List ℕ) → todo ≡ todo'
+pub todo-is : {May : HouseReply → Type 0} {Rest : Resting} {before : Option (List HouseMark)} {now : Side} {policy : Policy} {pid : ℕ} {start : Option (List Mark)} {seen : Seen} {held failed : List ℕ} {given : ℕ} {s : State} (todo todo' : List ℕ) → todo ≡ todo'
     → Serving May Rest before now policy pid start seen held failed given todo s → Serving May Rest before now policy pid start seen held failed given todo' s
 todo-is {May} {Rest} {before} {now} {policy} {pid} {start} {seen} {held} {failed} {given} {s} todo todo' e v = subst (λ x. Serving May Rest before now policy pid start seen held failed given x s) e v
 
 -- ---- clients are accepted no more
 
-pub serve-hushed : {May : HouseReply → Type 0} {Rest : Option (List HouseMark) → Type 0} {before : Option (List HouseMark)} {now : Side} {policy : Policy} {pid : ℕ} {start : Option (List Mark)} {seen : Seen} {held failed : List ℕ} {given : ℕ} {todo : List ℕ} {s : State} (v : Serving May Rest before now policy pid start seen held failed given todo s)
+pub serve-hushed : {May : HouseReply → Type 0} {Rest : Resting} {before : Option (List HouseMark)} {now : Side} {policy : Policy} {pid : ℕ} {start : Option (List Mark)} {seen : Seen} {held failed : List ℕ} {given : ℕ} {todo : List ℕ} {s : State} (v : Serving May Rest before now policy pid start seen held failed given todo s)
     → (s.ended ≡ None → s.listening ≡ false) → Serving May Rest before now policy pid start (record seen { listens = false }) held failed given todo s
 serve-hushed {todo = todo} v none = serve-with v false todo (λ live l. true-false (sym l ∙ none live)) (λ t a. inl a)
 
@@ -168,5 +168,5 @@ none-waits [] rest e = refl
 none-waits (b ∷ q) rest e = absurd (let z : (0 ∷ rest) ≡ [] = e in cc)
 
 -- nothing waits for the server
-pub server-idle : {May : HouseReply → Type 0} {Rest : Option (List HouseMark) → Type 0} {before : Option (List HouseMark)} {now : Side} {policy : Policy} {pid : ℕ} {start : Option (List Mark)} {seen : Seen} {held failed : List ℕ} {given : ℕ} {todo : List ℕ} {s : State} → Serving May Rest before now policy pid start seen held failed given todo s → s.waiting ≡ [] → queue_in s 0 ≡ []
+pub server-idle : {May : HouseReply → Type 0} {Rest : Resting} {before : Option (List HouseMark)} {now : Side} {policy : Policy} {pid : ℕ} {start : Option (List Mark)} {seen : Seen} {held failed : List ℕ} {given : ℕ} {todo : List ℕ} {s : State} → Serving May Rest before now policy pid start seen held failed given todo s → s.waiting ≡ [] → queue_in s 0 ≡ []
 server-idle {s = s} v none = none-waits s.up.waiting (waiting_clients s.clients) (sym (v.stands.at [] []).rows.waiting_is ∙ none)

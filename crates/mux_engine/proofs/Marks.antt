@@ -2,7 +2,7 @@
 use Rattle.std.proofs.Common.{◌≡◌, ◌≤◌, ◌<◌, ℕ, true, false, List, [], ◌∷◌, ◌++◌, length, Option, Some, None, refl, sym, ap, ◌∙◌, subst, append_assoc, append-nil}
 use Rattle.std.specs.Prelude.{All, IsTrue, is_some}
 use Rattle.std.specs.Option.{option_map}
-use Rattle.std.proofs.lemmas.List.Elements.{filter-append}
+use Rattle.std.proofs.lemmas.List.Elements.{All-cons, filter-append}
 use Rattle.mux_outside.specs.House.{OpenAsk}
 use Rattle.mux_outside.specs.OwnStreams.{is_own}
 use Rattle.mux_outside.specs.Seen.{Seen}
@@ -25,9 +25,9 @@ use Rattle.mux_clients.specs.Asked.{asked_of, TellsAsks}
 use Rattle.mux_machine.specs.State.{State}
 use Rattle.mux_machine.specs.Events.{here}
 use Rattle.mux_machine.specs.Stands.{GoesBy, Stands, StandsFor, log}
-use Rattle.mux_engine.specs.Run.{RestedAt}
+use Rattle.mux_engine.specs.Run.{RestedAt, is_by_house}
 use Rattle.mux_engine.specs.Serving.{IsFree, IsSound, IsUnseen, IsUnused, Kept, Serving}
-use Rattle.mux_engine.specs.Sides.{Side, asks_in, house_mark, house_marks}
+use Rattle.mux_engine.specs.Sides.{Resting, Side, asks_in, house_mark, house_marks}
 use Rattle.mux_machine.proofs.Over.{some-end}
 use Rattle.mux_engine.proofs.Lists.{true-false}
 use Rattle.mux_engine.proofs.Logs.{log-listens, log-live}
@@ -51,7 +51,7 @@ stood-at {picked} {replies} {s} {marks} {closed} st p r picked' replies' e f pic
     subst (λ ps. StandsFor ps (replies' ++ later) (length picked) st.asks s marks closed) (sym (more-picks picked' picked p picks e))
     (subst (λ rs. StandsFor (picked ++ (p ++ picks)) rs (length picked) st.asks s marks closed) (sym (more-picks replies' replies r later f)) (st.at (p ++ picks) (r ++ later)))
 
-pub sound-at : {May : HouseReply → Type 0} {Rest : Option (List HouseMark) → Type 0} {before : Option (List HouseMark)} {now : Side} {policy : Policy} {pid : ℕ} {start : Option (List Mark)} {seen : Seen} {held failed : List ℕ} {given : ℕ} {todo : List ℕ} {s : State} (v : Serving May Rest before now policy pid start seen held failed given todo s) (p : List ℕ) (r : List HouseReply) (picked' : List ℕ) (replies' : List HouseReply)
+pub sound-at : {May : HouseReply → Type 0} {Rest : Resting} {before : Option (List HouseMark)} {now : Side} {policy : Policy} {pid : ℕ} {start : Option (List Mark)} {seen : Seen} {held failed : List ℕ} {given : ℕ} {todo : List ℕ} {s : State} (v : Serving May Rest before now policy pid start seen held failed given todo s) (p : List ℕ) (r : List HouseReply) (picked' : List ℕ) (replies' : List HouseReply)
     → picked' ≡ v.picked ++ p → replies' ≡ v.replies ++ r → (picks : List ℕ) (later : List HouseReply) → IsSound (by_lists policy pid (picked' ++ picks) (replies' ++ later)) v.journal todo s
 sound-at {policy = policy} {pid = pid} {todo = todo} {s = s} v p r picked' replies' e f picks later =
     subst (λ ps. IsSound (by_lists policy pid ps (replies' ++ later)) v.journal todo s) (sym (more-picks picked' v.picked p picks e))
@@ -99,14 +99,16 @@ pub record Notes (now now' : Side) (mark : Mark) (asks : List HouseMark) : Type 
 
 -- how the wire, the house and the engine, which was `s` and is `s'`, stand behind it, with the
 -- numbers and replies of now
-pub record Next (Rest : Option (List HouseMark) → Type 0) (before : Option (List HouseMark)) (now now' : Side) (policy : Policy) (pid : ℕ) (picked : List ℕ) (replies : List HouseReply) (asks : List HouseMark) (s s' : State) (journal : List Mark) (seen seen' : Seen) (held' failed' : List ℕ) (given' : ℕ) (todo' : List ℕ) (mark : Mark) : Type 0 where
+pub record Next (Rest : Resting) (before : Option (List HouseMark)) (now now' : Side) (policy : Policy) (pid : ℕ) (picked : List ℕ) (replies : List HouseReply) (asks : List HouseMark) (s s' : State) (journal : List Mark) (seen seen' : Seen) (held' failed' : List ℕ) (given' : ℕ) (todo' : List ℕ) (mark : Mark) : Type 0 where
   pub told : seen'.told ≡ option_map (λ m. m ++ mark ∷ []) seen.told
   pub policy_is : s'.core.policy ≡ s.core.policy
   pub pid_is : s'.pid ≡ s.pid
   pub notes : Notes now now' mark asks
   pub askers : All (λ (a : OpenAsk). IsTrue (is_accepted a.client (mark ∷ journal))) now'.asks
   pub house_in : is_accepted HOUSE (mark ∷ journal) ≡ now'.let_in
-  pub rested : RestedAt Rest before journal mark
+  pub house_there : now'.let_in ≡ true → Rest.present ≡ true
+  pub rested : RestedAt Rest.rests before journal mark
+  pub absent : Rest.present ≡ false → is_by_house mark ≡ false
   pub turns : turns_in (mark ∷ journal) ≡ given'
   pub placed : Placed s' journal seen seen' held' failed' mark
   pub sound : (picks : List ℕ) (later : List HouseReply) → SoundAt (by_lists policy pid (picked ++ picks) (replies ++ later)) journal mark todo' s'
@@ -140,7 +142,7 @@ pub noted-more : (old mark unnoted' unnoted more : List HouseMark) → mark ++ u
 noted-more old mark unnoted' unnoted more e = append_assoc old unnoted more ∙ (ap (λ l. old ++ l) (sym e) ∙ sym (append_assoc old mark unnoted'))
 
 -- with so many numbers and replies more, where the house was asked this
-unfoldable pub serve-on : {May : HouseReply → Type 0} {Rest : Option (List HouseMark) → Type 0} {before : Option (List HouseMark)} {now : Side} {policy : Policy} {pid : ℕ} {start : Option (List Mark)} {seen : Seen} {held failed : List ℕ} {given : ℕ} {todo : List ℕ} {s : State} (v : Serving May Rest before now policy pid start seen held failed given todo s) (now' : Side) (seen' : Seen) (held' failed' : List ℕ) (given' : ℕ) (todo' : List ℕ) (s' : State) (mark : Mark) (p : List ℕ) (r : List HouseReply) (asks : List HouseMark) (picked' : List ℕ) (replies' : List HouseReply)
+unfoldable pub serve-on : {May : HouseReply → Type 0} {Rest : Resting} {before : Option (List HouseMark)} {now : Side} {policy : Policy} {pid : ℕ} {start : Option (List Mark)} {seen : Seen} {held failed : List ℕ} {given : ℕ} {todo : List ℕ} {s : State} (v : Serving May Rest before now policy pid start seen held failed given todo s) (now' : Side) (seen' : Seen) (held' failed' : List ℕ) (given' : ℕ) (todo' : List ℕ) (s' : State) (mark : Mark) (p : List ℕ) (r : List HouseReply) (asks : List HouseMark) (picked' : List ℕ) (replies' : List HouseReply)
     → picked' ≡ v.picked ++ p → replies' ≡ v.replies ++ r → MayGive May r → (st : Stands picked' replies' s' (mark ∷ v.journal) v.closed) → st.asks ≡ v.stands.asks ++ asks
     → Next Rest before now now' policy pid picked' replies' asks s s' v.journal seen seen' held' failed' given' todo' mark → Serving May Rest before now' policy pid start seen' held' failed' given' todo' s'
 serve-on {May} {Rest} {before} {now} {policy} {pid} {start} {seen} {held} {failed} {given} {todo} {s} v now' seen' held' failed' given' todo' s' mark p r asks picked' replies' e f may st a n =
@@ -158,7 +160,9 @@ serve-on {May} {Rest} {before} {now} {policy} {pid} {start} {seen} {held} {faile
       asked = ap asks_in (sym same) ∙ (filter-append Rattle.mux_history.specs.Promises.is_asked (house_marks v.journal ++ now.unnoted) n.notes.more ∙ (ap (λ l. l ++ asks_in n.notes.more) v.asked ∙ (ap (λ l. v.stands.asks ++ l) n.notes.asks_are ∙ sym a)));
       askers = n.askers;
       house_in = n.house_in;
+      house_there = n.house_there;
       rested = (n.rested, v.rested);
+      absent = λ e. All-cons (λ (m : Mark). is_by_house m ≡ false) mark v.journal (n.absent e) (v.absent e);
       tells = tells-more start seen.told seen'.told v.journal (mark ∷ []) v.tells n.told;
       of_wire = n.placed.of_wire;
       turns = n.turns;
@@ -188,13 +192,13 @@ asks-more {picked = picked} {replies = replies} st g =
     sym (g.stands.at [] []).rows.asked_is ∙ (g.asked [] [] ∙ ap (λ l. l ++ g.asks) was.rows.asked_is)
 
 -- with what an event picks and the house replies to it
-unfoldable pub serve-next : {May : HouseReply → Type 0} {Rest : Option (List HouseMark) → Type 0} {before : Option (List HouseMark)} {now : Side} {policy : Policy} {pid : ℕ} {start : Option (List Mark)} {seen : Seen} {held failed : List ℕ} {given : ℕ} {todo : List ℕ} {s : State} (v : Serving May Rest before now policy pid start seen held failed given todo s) (now' : Side) (seen' : Seen) (held' failed' : List ℕ) (given' : ℕ) (todo' : List ℕ) (s' : State) (mark : Mark) {told told' : Option (List HouseMark)}
+unfoldable pub serve-next : {May : HouseReply → Type 0} {Rest : Resting} {before : Option (List HouseMark)} {now : Side} {policy : Policy} {pid : ℕ} {start : Option (List Mark)} {seen : Seen} {held failed : List ℕ} {given : ℕ} {todo : List ℕ} {s : State} (v : Serving May Rest before now policy pid start seen held failed given todo s) (now' : Side) (seen' : Seen) (held' failed' : List ℕ) (given' : ℕ) (todo' : List ℕ) (s' : State) (mark : Mark) {told told' : Option (List HouseMark)}
     → (g : GoesBy May told told' v.picked v.replies s s' mark v.journal v.closed) → Next Rest before now now' policy pid (v.picked ++ g.picks) (v.replies ++ g.replies) g.asks s s' v.journal seen seen' held' failed' given' todo' mark → Serving May Rest before now' policy pid start seen' held' failed' given' todo' s'
 serve-next v now' seen' held' failed' given' todo' s' mark g n =
     serve-on v now' seen' held' failed' given' todo' s' mark g.picks g.replies g.asks (v.picked ++ g.picks) (v.replies ++ g.replies) refl refl g.may g.stands (asks-more v.stands g) n
 
 -- where nothing is picked and the house isn't asked
-unfoldable pub serve-alone : {May : HouseReply → Type 0} {Rest : Option (List HouseMark) → Type 0} {before : Option (List HouseMark)} {now : Side} {policy : Policy} {pid : ℕ} {start : Option (List Mark)} {seen : Seen} {held failed : List ℕ} {given : ℕ} {todo : List ℕ} {s : State} (v : Serving May Rest before now policy pid start seen held failed given todo s) (now' : Side) (seen' : Seen) (held' failed' : List ℕ) (given' : ℕ) (todo' : List ℕ) (s' : State) (mark : Mark)
+unfoldable pub serve-alone : {May : HouseReply → Type 0} {Rest : Resting} {before : Option (List HouseMark)} {now : Side} {policy : Policy} {pid : ℕ} {start : Option (List Mark)} {seen : Seen} {held failed : List ℕ} {given : ℕ} {todo : List ℕ} {s : State} (v : Serving May Rest before now policy pid start seen held failed given todo s) (now' : Side) (seen' : Seen) (held' failed' : List ℕ) (given' : ℕ) (todo' : List ℕ) (s' : State) (mark : Mark)
     → Stands v.picked v.replies s' (mark ∷ v.journal) v.closed → ((picks : List ℕ) (replies : List HouseReply) → asked_of (log s' picks replies (mark ∷ v.journal)) ≡ asked_of (log s picks replies v.journal))
     → Next Rest before now now' policy pid v.picked v.replies [] s s' v.journal seen seen' held' failed' given' todo' mark → Serving May Rest before now' policy pid start seen' held' failed' given' todo' s'
 serve-alone v now' seen' held' failed' given' todo' s' mark st same n =

@@ -14,7 +14,7 @@ use Rattle.mux_history.proofs.Wires.{wire-keeps}
 use Rattle.mux_machine.specs.State.{State}
 use Rattle.mux_machine.proofs.Twins.{own-silent, stands-alike}
 use Rattle.mux_engine.specs.Serving.{Serving}
-use Rattle.mux_engine.specs.Sides.{Side}
+use Rattle.mux_engine.specs.Sides.{Resting, Side}
 use Rattle.mux_engine.proofs.Asks.{EachAsked}
 use Rattle.mux_engine.proofs.Places.{placed-still}
 use Rattle.mux_engine.proofs.Quiet.{serve-quiet}
@@ -24,7 +24,7 @@ use Rattle.mux_engine.proofs.Told.{tells-none, told-none}
 abbrev pub seen-with : List HouseMark → Seen → Seen
 seen-with marks seen = record seen { told = option_map (λ (m : List Mark). m ++ map (λ (a : HouseMark). House a) marks) seen.told }
 
-module _ {May : HouseReply → Type 0} {Rest : Option (List HouseMark) → Type 0} {before : Option (List HouseMark)} {policy : Policy} {pid : ℕ} {start : Option (List Mark)} {held failed : List ℕ} {given : ℕ} {todo : List ℕ} {s : State} where
+module _ {May : HouseReply → Type 0} {Rest : Resting} {before : Option (List HouseMark)} {policy : Policy} {pid : ℕ} {start : Option (List Mark)} {held failed : List ℕ} {given : ℕ} {todo : List ℕ} {s : State} where
   -- the first of the asks that are not noted
   note-one : {now : Side} {seen : Seen} (v : Serving May Rest before now policy pid start seen held failed given todo s) (client id : ℕ) (opening : Bool) (ask : StartAsk) (reply : HouseReply) (rest : List HouseMark) → now.unnoted ≡ HouseAsked client id opening ask reply ∷ rest
       → Serving May Rest before (record now { unnoted = rest }) policy pid start (seen-with (HouseAsked client id opening ask reply ∷ []) seen) held failed given todo s
@@ -32,7 +32,7 @@ module _ {May : HouseReply → Type 0} {Rest : Option (List HouseMark) → Type 
       let m : HouseMark = HouseAsked client id opening ask reply in
       let alike = own-silent.asked v.journal client id opening ask reply in
       serve-quiet v (record now { unnoted = rest }) (seen-with (m ∷ []) seen) held failed given (House m)
-      (record { log = alike.log; blocked = λ t client. refl; unwritten = λ t client. refl; promise = λ set. record { takes = tt; waits = tt; speaks = tt; open_streams = tt }; rested = tt; house = refl })
+      (record { log = alike.log; blocked = λ t client. refl; unwritten = λ t client. refl; promise = λ set. record { takes = tt; waits = tt; speaks = tt; open_streams = tt }; rested = tt; absent = λ e. refl; house = refl })
       (stands-alike v.journal (House m ∷ v.journal) v.picked v.replies s v.closed alike v.stands)
       (record { more = []; told_is = tells-none now.told; noted_is = sym e ∙ sym (append-nil now.unnoted); asks_are = refl })
       refl refl refl v.turns

@@ -30,7 +30,7 @@ use Rattle.mux_machine.specs.Stands.{GoesBy, Stands, log}
 use Rattle.mux_machine.proofs.Over.{some-end}
 use Rattle.mux_engine.specs.Run.{IsOfWire}
 use Rattle.mux_engine.specs.Serving.{IsSound, Promised, Serving, is_open}
-use Rattle.mux_engine.specs.Sides.{Side}
+use Rattle.mux_engine.specs.Sides.{Resting, Side}
 use Rattle.mux_engine.proofs.Cuts.{cut-next, cut-still, of-streams}
 use Rattle.mux_engine.proofs.Lists.{among-last, among-other-last, apart-or-left, not-own-stream, or-last, test-other, true-false, without-other}
 use Rattle.mux_engine.proofs.Logs.{blocked-other, failed-other, failed-pending, fails-failed, has-failed-other, holds-blocked, holds-failed, log-out, lost-out, settled-as, takes-failed, took-pending}
@@ -58,7 +58,7 @@ Waiting bytes k s picked replies marks = (picks : List ℕ) (later : List HouseR
 front-of : (set : Setting) (k : ℕ) (journal : List Mark) (bytes : List ℕ) → is_own_stream k ≡ false → IsFront bytes (pending k (log_of_journal set journal)) → MatchBool (is_own_stream k) (Unit {0}) (IsFront bytes (pending k (log_of_journal set journal)))
 front-of set k journal bytes e front = subst (λ (b : Bool). MatchBool b (Unit {0}) (IsFront bytes (pending k (log_of_journal set journal)))) (sym e) front
 
-pub next-takes : {May : HouseReply → Type 0} {Rest : Option (List HouseMark) → Type 0} {before : Option (List HouseMark)} {now : Side} {policy : Policy} {pid : ℕ} {start : Option (List Mark)} {seen : Seen} {held failed : List ℕ} {given : ℕ} {todo : List ℕ} {s : State} (v : Serving May Rest before now policy pid start seen held failed given todo s) (s' : State) (k n : ℕ) (bytes : List ℕ)
+pub next-takes : {May : HouseReply → Type 0} {Rest : Resting} {before : Option (List HouseMark)} {now : Side} {policy : Policy} {pid : ℕ} {start : Option (List Mark)} {seen : Seen} {held failed : List ℕ} {given : ℕ} {todo : List ℕ} {s : State} (v : Serving May Rest before now policy pid start seen held failed given todo s) (s' : State) (k n : ℕ) (bytes : List ℕ)
     → is_open s k ≡ true → k ≢ HOUSE → SameRun s s' → AreBytes bytes → 1 ≤ n → n ≤ length bytes → Waiting bytes k s v.picked v.replies v.journal
     → Next Rest before now now policy pid v.picked v.replies [] s s' v.journal seen (seen_after_write (wrote.Took n) k bytes seen) held failed given (k ∷ todo) (Takes k (take n bytes))
 next-takes {May} {Rest} {before} {now} {policy} {pid} {start} {seen} {held} {failed} {given} {todo} {s} v s' k n bytes opened ne same are one fits waiting =
@@ -70,7 +70,9 @@ next-takes {May} {Rest} {before} {now} {policy} {pid} {start} {seen} {held} {fai
       notes = notes-none now mark refl;
       askers = askers-more v mark;
       house_in = v.house_in;
+      house_there = v.house_there;
       rested = tt;
+      absent = λ e. refl;
       turns = v.turns;
       placed = placed-still v mark (seen_after_write (wrote.Took n) k bytes seen) s' ((wire-keeps seen.streams seen.blocked seen.last seen.listeners seen.own seen.last_own v.journal).write (wrote.Took n) k bytes are (omega arith) (stream-open v k opened ne) (one, fits) v.of_wire)
           refl refl refl refl refl same.streams (λ t. refl) (λ t. refl) (λ t. refl);
@@ -95,7 +97,7 @@ next-takes {May} {Rest} {before} {now} {policy} {pid} {start} {seen} {held} {fai
 
 -- ---- a stream that is blocked now
 
-pub next-holds : {May : HouseReply → Type 0} {Rest : Option (List HouseMark) → Type 0} {before : Option (List HouseMark)} {now : Side} {policy : Policy} {pid : ℕ} {start : Option (List Mark)} {seen : Seen} {held failed : List ℕ} {given : ℕ} {todo : List ℕ} {s : State} (v : Serving May Rest before now policy pid start seen held failed given todo s) (k : ℕ) (bytes : List ℕ)
+pub next-holds : {May : HouseReply → Type 0} {Rest : Resting} {before : Option (List HouseMark)} {now : Side} {policy : Policy} {pid : ℕ} {start : Option (List Mark)} {seen : Seen} {held failed : List ℕ} {given : ℕ} {todo : List ℕ} {s : State} (v : Serving May Rest before now policy pid start seen held failed given todo s) (k : ℕ) (bytes : List ℕ)
     → is_open s k ≡ true → k ≢ HOUSE → AreBytes bytes → 0 < length bytes → Next Rest before now now policy pid v.picked v.replies [] s s v.journal seen (seen_after_write wrote.Later k bytes seen) (held ++ k ∷ []) failed given (without k todo) (Holds k)
 next-holds {May} {Rest} {before} {now} {policy} {pid} {start} {seen} {held} {failed} {given} {todo} {s} v k bytes opened ne are some =
     let mark : Mark = Holds k in
@@ -108,7 +110,9 @@ next-holds {May} {Rest} {before} {now} {policy} {pid} {start} {seen} {held} {fai
       notes = notes-none now mark refl;
       askers = askers-more v mark;
       house_in = v.house_in;
+      house_there = v.house_there;
       rested = tt;
+      absent = λ e. refl;
       turns = v.turns;
       placed = placed-by v mark (seen_after_write wrote.Later k bytes seen) (held ++ k ∷ []) failed s k there ((wire-keeps seen.streams seen.blocked seen.last seen.listeners seen.own seen.last_own v.journal).write wrote.Later k bytes are some there tt v.of_wire)
           refl refl refl refl refl (ap (λ l. l ++ k ∷ []) v.held_is) (now-blocked ∙ sym (holds-blocked k k v.journal true (test-same k))) (λ t q. among-other-last k t seen.blocked q) (λ t q. blocked-other mark v.journal t tt q) (λ t. refl) (λ t q. refl)
@@ -135,7 +139,7 @@ next-holds {May} {Rest} {before} {now} {policy} {pid} {start} {seen} {held} {fai
 -- ---- a stream that failed
 
 -- of the server that is the end; a client's farewell is left to the server's stream
-pub next-fails : {May : HouseReply → Type 0} {Rest : Option (List HouseMark) → Type 0} {before : Option (List HouseMark)} {now : Side} {policy : Policy} {pid : ℕ} {start : Option (List Mark)} {seen : Seen} {held failed : List ℕ} {given : ℕ} {todo : List ℕ} {s : State} (v : Serving May Rest before now policy pid start seen held failed given todo s) {told told' : Option (List HouseMark)} {s' : State} (k : ℕ) (bytes : List ℕ) (g : GoesBy May told told' v.picked v.replies s s' (WriteFails k) v.journal v.closed)
+pub next-fails : {May : HouseReply → Type 0} {Rest : Resting} {before : Option (List HouseMark)} {now : Side} {policy : Policy} {pid : ℕ} {start : Option (List Mark)} {seen : Seen} {held failed : List ℕ} {given : ℕ} {todo : List ℕ} {s : State} (v : Serving May Rest before now policy pid start seen held failed given todo s) {told told' : Option (List HouseMark)} {s' : State} (k : ℕ) (bytes : List ℕ) (g : GoesBy May told told' v.picked v.replies s s' (WriteFails k) v.journal v.closed)
     → g.asks ≡ [] → is_open s k ≡ true → k ≢ HOUSE → AreBytes bytes → 0 < length bytes → among 0 (k ∷ todo) ≡ true → s'.core.policy ≡ s.core.policy → s'.pid ≡ s.pid → here s' ≡ here s → (s'.ended ≡ None → s.ended ≡ None) → (k ≡ 0 → s'.ended ≢ None)
     → Next Rest before now now policy pid (v.picked ++ g.picks) (v.replies ++ g.replies) g.asks s s' v.journal seen (seen_after_write wrote.Failed k bytes seen) held failed given (without k todo) (WriteFails k)
 next-fails {May} {Rest} {before} {now} {policy} {pid} {start} {seen} {held} {failed} {given} {todo} {s} v {s' = s'} k bytes g unasked opened ne are some zero same_policy same_pid same on over =
@@ -149,7 +153,9 @@ next-fails {May} {Rest} {before} {now} {policy} {pid} {start} {seen} {held} {fai
       notes = subst (Rattle.mux_engine.proofs.Marks.Notes now now mark) (sym unasked) (notes-none now mark refl);
       askers = askers-more v mark;
       house_in = v.house_in;
+      house_there = v.house_there;
       rested = tt;
+      absent = λ e. refl;
       turns = v.turns;
       placed = placed-by v mark (seen_after_write wrote.Failed k bytes seen) held failed s' k there ((wire-keeps seen.streams seen.blocked seen.last seen.listeners seen.own seen.last_own v.journal).write wrote.Failed k bytes are some there tt v.of_wire)
           refl refl refl refl same v.held_is (v.blocked_is k there) (λ t q. refl) (λ t q. refl) (λ t. refl) (λ t q. has-failed-other k t v.journal q)
@@ -182,26 +188,26 @@ next-fails {May} {Rest} {before} {now} {policy} {pid} {start} {seen} {held} {fai
 
 -- ---- want of memory
 
-wrote-of-wire : {May : HouseReply → Type 0} {Rest : Option (List HouseMark) → Type 0} {before : Option (List HouseMark)} {now : Side} {policy : Policy} {pid : ℕ} {start : Option (List Mark)} {seen : Seen} {held failed : List ℕ} {given : ℕ} {todo : List ℕ} {s : State} (v : Serving May Rest before now policy pid start seen held failed given todo s) (answer : Wrote) (k : ℕ) (bytes : List ℕ)
+wrote-of-wire : {May : HouseReply → Type 0} {Rest : Resting} {before : Option (List HouseMark)} {now : Side} {policy : Policy} {pid : ℕ} {start : Option (List Mark)} {seen : Seen} {held failed : List ℕ} {given : ℕ} {todo : List ℕ} {s : State} (v : Serving May Rest before now policy pid start seen held failed given todo s) (answer : Wrote) (k : ℕ) (bytes : List ℕ)
     → among k seen.streams ≡ true → AreBytes bytes → 0 < length bytes → WroteFits answer (length bytes) → IsOfWire (reverse (write_marks answer k bytes) ++ v.journal)
 wrote-of-wire {seen = seen} v answer k bytes there are some fits =
     of-streams seen.streams (blocked_after_write answer k seen.blocked) seen.last (reverse (write_marks answer k bytes) ++ v.journal)
     ((wire-keeps seen.streams seen.blocked seen.last seen.listeners seen.own seen.last_own v.journal).write answer k bytes are some there fits v.of_wire)
 
 -- none to note that the stream is blocked
-pub cut-holds : {May : HouseReply → Type 0} {Rest : Option (List HouseMark) → Type 0} {before : Option (List HouseMark)} {now : Side} {policy : Policy} {pid : ℕ} {start : Option (List Mark)} {seen : Seen} {held failed : List ℕ} {given : ℕ} {todo : List ℕ} {s : State} (v : Serving May Rest before now policy pid start seen held failed given todo s) (seen' : Seen) (k : ℕ) (bytes : List ℕ)
+pub cut-holds : {May : HouseReply → Type 0} {Rest : Resting} {before : Option (List HouseMark)} {now : Side} {policy : Policy} {pid : ℕ} {start : Option (List Mark)} {seen : Seen} {held failed : List ℕ} {given : ℕ} {todo : List ℕ} {s : State} (v : Serving May Rest before now policy pid start seen held failed given todo s) (seen' : Seen) (k : ℕ) (bytes : List ℕ)
     → among k seen.streams ≡ true → AreBytes bytes → 0 < length bytes → seen' ≡ seen_after_write wrote.Later k bytes seen → Promised May Rest before now.told policy pid start seen'.told given
 cut-holds {now = now} {given = given} v seen' k bytes there are some e =
-    cut-next v now.told seen'.told given (Holds k) [] now.unnoted (ap (λ (x : Seen). x.told) e) (tells-none now.told) (sym (append-nil now.unnoted)) (wrote-of-wire v wrote.Later k bytes there are some tt) (let w : turns_in v.journal ≡ given = v.turns in omega arith) tt
+    cut-next v now.told seen'.told given (Holds k) [] now.unnoted (ap (λ (x : Seen). x.told) e) (tells-none now.told) (sym (append-nil now.unnoted)) (wrote-of-wire v wrote.Later k bytes there are some tt) (let w : turns_in v.journal ≡ given = v.turns in omega arith) tt (λ e. refl)
     (λ set. inr (0, refl)) (λ picks later. record { takes = tt; waits = tt; speaks = tt; open_streams = tt })
 
 -- none for the event of a stream that failed
-pub cut-fails : {May : HouseReply → Type 0} {Rest : Option (List HouseMark) → Type 0} {before : Option (List HouseMark)} {now : Side} {policy : Policy} {pid : ℕ} {start : Option (List Mark)} {seen : Seen} {held failed : List ℕ} {given : ℕ} {todo : List ℕ} {s : State} (v : Serving May Rest before now policy pid start seen held failed given todo s) (seen' : Seen) (k : ℕ) (bytes : List ℕ)
+pub cut-fails : {May : HouseReply → Type 0} {Rest : Resting} {before : Option (List HouseMark)} {now : Side} {policy : Policy} {pid : ℕ} {start : Option (List Mark)} {seen : Seen} {held failed : List ℕ} {given : ℕ} {todo : List ℕ} {s : State} (v : Serving May Rest before now policy pid start seen held failed given todo s) (seen' : Seen) (k : ℕ) (bytes : List ℕ)
     → among k seen.streams ≡ true → AreBytes bytes → 0 < length bytes → seen' ≡ seen_after_write wrote.Failed k bytes seen → Promised May Rest before now.told policy pid start seen'.told given
 cut-fails {now = now} {given = given} v seen' k bytes there are some e =
-    cut-next v now.told seen'.told given (WriteFails k) [] now.unnoted (ap (λ (x : Seen). x.told) e) (tells-none now.told) (sym (append-nil now.unnoted)) (wrote-of-wire v wrote.Failed k bytes there are some tt) (let w : turns_in v.journal ≡ given = v.turns in omega arith) tt
+    cut-next v now.told seen'.told given (WriteFails k) [] now.unnoted (ap (λ (x : Seen). x.told) e) (tells-none now.told) (sym (append-nil now.unnoted)) (wrote-of-wire v wrote.Failed k bytes there are some tt) (let w : turns_in v.journal ≡ given = v.turns in omega arith) tt (λ e. refl)
     (λ set. inr (0, refl)) (λ picks later. record { takes = tt; waits = tt; speaks = tt; open_streams = tt })
 
 -- none for the write
-pub cut-starved : {May : HouseReply → Type 0} {Rest : Option (List HouseMark) → Type 0} {before : Option (List HouseMark)} {now : Side} {policy : Policy} {pid : ℕ} {start : Option (List Mark)} {seen : Seen} {held failed : List ℕ} {given : ℕ} {todo : List ℕ} {s : State} (v : Serving May Rest before now policy pid start seen held failed given todo s) (seen' : Seen) (k : ℕ) (bytes : List ℕ) → seen' ≡ seen_after_write wrote.NoMemory k bytes seen → Promised May Rest before now.told policy pid start seen'.told given
+pub cut-starved : {May : HouseReply → Type 0} {Rest : Resting} {before : Option (List HouseMark)} {now : Side} {policy : Policy} {pid : ℕ} {start : Option (List Mark)} {seen : Seen} {held failed : List ℕ} {given : ℕ} {todo : List ℕ} {s : State} (v : Serving May Rest before now policy pid start seen held failed given todo s) (seen' : Seen) (k : ℕ) (bytes : List ℕ) → seen' ≡ seen_after_write wrote.NoMemory k bytes seen → Promised May Rest before now.told policy pid start seen'.told given
 cut-starved {seen = seen} v seen' k bytes e = cut-still v seen'.told (ap (λ (x : Seen). x.told) e ∙ told-none seen.told)

@@ -28,7 +28,7 @@ use Rattle.mux_machine.specs.State.{State}
 use Rattle.mux_machine.proofs.Twins.{own-silent, stands-alike}
 use Rattle.mux_engine.specs.Orders.{HasOrdered, MadeBy, failed_carried, held_carried, known_carried, more_told, seen_carried}
 use Rattle.mux_engine.specs.Serving.{IsFree, IsUnseen, IsUnused, Promised, Serving}
-use Rattle.mux_engine.specs.Sides.{Side, asks_in, noted, noting}
+use Rattle.mux_engine.specs.Sides.{Resting, Side, asks_in, noted, noting}
 use Rattle.mux_engine.proofs.Closed.{both-tests, was-among}
 use Rattle.mux_engine.proofs.Cuts.{cut-here, serve-told}
 use Rattle.mux_engine.proofs.Happened.{last-or}
@@ -66,7 +66,7 @@ not-among k (x ∷ xs) own = by_own (is_own x) refl (not-among k xs own)
     by_own true e ih = ih
     by_own false e ih = ap (λ c. c || among k (not_own xs)) (test-other x k (λ q. true-false (sym own ∙ (ap is_own (sym q) ∙ e)))) ∙ ih
 
-module _ {May : HouseReply → Type 0} {Rest : Option (List HouseMark) → Type 0} {before : Option (List HouseMark)} {now : Side} {policy : Policy} {pid : ℕ} {start : Option (List Mark)} {seen : Seen} {held failed : List ℕ} {given : ℕ} {todo : List ℕ} {s : State}
+module _ {May : HouseReply → Type 0} {Rest : Resting} {before : Option (List HouseMark)} {now : Side} {policy : Policy} {pid : ℕ} {start : Option (List Mark)} {seen : Seen} {held failed : List ℕ} {given : ℕ} {todo : List ℕ} {s : State}
     (v : Serving May Rest before now policy pid start seen held failed given todo s) where
   -- an order that makes no stream and closes none
   placed-plain : (order : Order) (number : Option ℕ) → is_connect (HouseOrder order number) ≡ false → (seen' : Seen) → seen'.streams ≡ seen.streams → seen'.blocked ≡ seen.blocked → seen'.last ≡ seen.last → seen'.last_own ≡ seen.last_own → seen'.listens ≡ seen.listens
@@ -154,13 +154,13 @@ module _ {May : HouseReply → Type 0} {Rest : Option (List HouseMark) → Type 
       }
 
   -- where it is noted
-  noted-order : (order : Order) (number : Option ℕ) (now' : Side) (seen' : Seen) (held' failed' : List ℕ) → ((t : ℕ) → is_own_stream t ≡ false → is_blocked t (House (HouseOrder order number) ∷ v.journal) ≡ is_blocked t v.journal) → Notes now now' (House (HouseOrder order number)) [] → now'.asks ≡ now.asks → now'.let_in ≡ now.let_in
+  noted-order : now.let_in ≡ true → (order : Order) (number : Option ℕ) (now' : Side) (seen' : Seen) (held' failed' : List ℕ) → ((t : ℕ) → is_own_stream t ≡ false → is_blocked t (House (HouseOrder order number) ∷ v.journal) ≡ is_blocked t v.journal) → Notes now now' (House (HouseOrder order number)) [] → now'.asks ≡ now.asks → now'.let_in ≡ now.let_in
       → seen'.told ≡ option_map (λ m. m ++ House (HouseOrder order number) ∷ []) seen.told → Placed s v.journal seen seen' held' failed' (House (HouseOrder order number)) → Serving May Rest before now' policy pid start seen' held' failed' (given + 1) todo s
-  noted-order order number now' seen' held' failed' blocked notes asks within told placed =
+  noted-order inside order number now' seen' held' failed' blocked notes asks within told placed =
       let mark : Mark = House (HouseOrder order number) in
       let alike = own-silent.ordered v.journal order number in
       serve-quiet v now' seen' held' failed' (given + 1) mark
-      (record { log = alike.log; blocked = blocked; unwritten = λ t client. refl; promise = λ set. record { takes = tt; waits = tt; speaks = tt; open_streams = tt }; rested = tt; house = refl })
+      (record { log = alike.log; blocked = blocked; unwritten = λ t client. refl; promise = λ set. record { takes = tt; waits = tt; speaks = tt; open_streams = tt }; rested = tt; absent = λ e. true-false (sym (v.house_there inside) ∙ e); house = refl })
       (stands-alike v.journal (mark ∷ v.journal) v.picked v.replies s v.closed alike v.stands) notes asks within told (ap (λ n. n + 1) v.turns) placed
 
   abbrev done-side : Option (List HouseMark) → Side
@@ -175,29 +175,29 @@ module _ {May : HouseReply → Type 0} {Rest : Option (List HouseMark) → Type 
   }
 
   -- all of it
-  pub order-done : (order : Order) (number : Option ℕ) (told' : Option (List HouseMark)) → MadeBy order number seen → OwnedBy order → now.unnoted ≡ order_marks (Some order) → told' ≡ option_map (λ l. l ++ more_told order number) now.told
+  pub order-done : now.let_in ≡ true → (order : Order) (number : Option ℕ) (told' : Option (List HouseMark)) → MadeBy order number seen → OwnedBy order → now.unnoted ≡ order_marks (Some order) → told' ≡ option_map (λ l. l ++ more_told order number) now.told
       → Serving May Rest before (record now { told = told'; unnoted = [] }) policy pid start (seen-noted (HouseOrder order number) (seen_carried order number seen)) (held_carried order number held) (failed_carried order failed) (given + 1) todo s
-  order-done (Listen host port) (Some n) told' made own noted e = noted-order (Listen host port) (Some n) (done-side told') _ _ _ (λ t client. refl) (notes-of (Listen host port) (Some n) told' noted e refl refl) refl refl refl (placed-listens host port n made)
-  order-done (Listen host port) None told' made own noted e = noted-order (Listen host port) None (done-side told') _ _ _ (λ t client. refl) (notes-of (Listen host port) None told' noted e refl refl) refl refl refl (placed-plain (Listen host port) None refl _ refl refl refl refl refl (λ t. refl))
-  order-done (Connect host port) (Some n) told' made own noted e = noted-order (Connect host port) (Some n) (done-side told') _ _ _ (λ t client. connects-other host port n t (λ q. true-false (sym (new-own n made) ∙ (ap is_own_stream q ∙ client)))) (notes-of (Connect host port) (Some n) told' noted e refl refl) refl refl refl (placed-connects host port n made)
-  order-done (Connect host port) None told' made own noted e = noted-order (Connect host port) None (done-side told') _ _ _ (λ t client. refl) (notes-of (Connect host port) None told' noted e refl refl) refl refl refl (placed-plain (Connect host port) None refl _ refl refl refl refl refl (λ t. refl))
-  order-done (Unlisten l) None told' made own noted e = noted-order (Unlisten l) None (done-side told') _ _ _ (λ t client. refl) (notes-of (Unlisten l) None told' noted e refl refl) refl refl refl (placed-plain (Unlisten l) None refl _ refl refl refl refl refl (λ t. refl))
-  order-done (Pause k) None told' made own noted e = noted-order (Pause k) None (done-side told') _ _ _ (λ t client. refl) (notes-of (Pause k) None told' noted e refl refl) refl refl refl (placed-plain (Pause k) None refl _ refl refl refl refl refl (λ t. refl))
-  order-done (Resume k) None told' made own noted e = noted-order (Resume k) None (done-side told') _ _ _ (λ t client. refl) (notes-of (Resume k) None told' noted e refl refl) refl refl refl (placed-plain (Resume k) None refl _ refl refl refl refl refl (λ t. refl))
-  order-done (Finish k) None told' made own noted e = noted-order (Finish k) None (done-side told') _ _ _ (λ t client. refl) (notes-of (Finish k) None told' noted e refl refl) refl refl refl (placed-plain (Finish k) None refl _ refl refl refl refl refl (λ t. refl))
-  order-done (Close k) None told' made own noted e = noted-order (Close k) None (done-side told') _ _ _ (λ t client. refl) (notes-of (Close k) None told' noted e refl refl) refl refl refl (placed-closes k own)
-  order-done (Unlisten l) (Some n) told' made own noted e = absurd (let z : Some n ≡ None = made in cc)
-  order-done (Pause k) (Some n) told' made own noted e = absurd (let z : Some n ≡ None = made in cc)
-  order-done (Resume k) (Some n) told' made own noted e = absurd (let z : Some n ≡ None = made in cc)
-  order-done (Finish k) (Some n) told' made own noted e = absurd (let z : Some n ≡ None = made in cc)
-  order-done (Close k) (Some n) told' made own noted e = absurd (let z : Some n ≡ None = made in cc)
+  order-done inside (Listen host port) (Some n) told' made own noted e = noted-order inside (Listen host port) (Some n) (done-side told') _ _ _ (λ t client. refl) (notes-of (Listen host port) (Some n) told' noted e refl refl) refl refl refl (placed-listens host port n made)
+  order-done inside (Listen host port) None told' made own noted e = noted-order inside (Listen host port) None (done-side told') _ _ _ (λ t client. refl) (notes-of (Listen host port) None told' noted e refl refl) refl refl refl (placed-plain (Listen host port) None refl _ refl refl refl refl refl (λ t. refl))
+  order-done inside (Connect host port) (Some n) told' made own noted e = noted-order inside (Connect host port) (Some n) (done-side told') _ _ _ (λ t client. connects-other host port n t (λ q. true-false (sym (new-own n made) ∙ (ap is_own_stream q ∙ client)))) (notes-of (Connect host port) (Some n) told' noted e refl refl) refl refl refl (placed-connects host port n made)
+  order-done inside (Connect host port) None told' made own noted e = noted-order inside (Connect host port) None (done-side told') _ _ _ (λ t client. refl) (notes-of (Connect host port) None told' noted e refl refl) refl refl refl (placed-plain (Connect host port) None refl _ refl refl refl refl refl (λ t. refl))
+  order-done inside (Unlisten l) None told' made own noted e = noted-order inside (Unlisten l) None (done-side told') _ _ _ (λ t client. refl) (notes-of (Unlisten l) None told' noted e refl refl) refl refl refl (placed-plain (Unlisten l) None refl _ refl refl refl refl refl (λ t. refl))
+  order-done inside (Pause k) None told' made own noted e = noted-order inside (Pause k) None (done-side told') _ _ _ (λ t client. refl) (notes-of (Pause k) None told' noted e refl refl) refl refl refl (placed-plain (Pause k) None refl _ refl refl refl refl refl (λ t. refl))
+  order-done inside (Resume k) None told' made own noted e = noted-order inside (Resume k) None (done-side told') _ _ _ (λ t client. refl) (notes-of (Resume k) None told' noted e refl refl) refl refl refl (placed-plain (Resume k) None refl _ refl refl refl refl refl (λ t. refl))
+  order-done inside (Finish k) None told' made own noted e = noted-order inside (Finish k) None (done-side told') _ _ _ (λ t client. refl) (notes-of (Finish k) None told' noted e refl refl) refl refl refl (placed-plain (Finish k) None refl _ refl refl refl refl refl (λ t. refl))
+  order-done inside (Close k) None told' made own noted e = noted-order inside (Close k) None (done-side told') _ _ _ (λ t client. refl) (notes-of (Close k) None told' noted e refl refl) refl refl refl (placed-closes k own)
+  order-done inside (Unlisten l) (Some n) told' made own noted e = absurd (let z : Some n ≡ None = made in cc)
+  order-done inside (Pause k) (Some n) told' made own noted e = absurd (let z : Some n ≡ None = made in cc)
+  order-done inside (Resume k) (Some n) told' made own noted e = absurd (let z : Some n ≡ None = made in cc)
+  order-done inside (Finish k) (Some n) told' made own noted e = absurd (let z : Some n ≡ None = made in cc)
+  order-done inside (Close k) (Some n) told' made own noted e = absurd (let z : Some n ≡ None = made in cc)
 
   -- whether or not there is memory to note it
-  pub order-noted : {E : Type 0} (r : Result (Unit {0}) E) (order : Order) (number : Option ℕ) (side : Side) (seen0 seen' : Seen) (held' failed' : List ℕ) → MadeBy order number seen → OwnedBy order → now.unnoted ≡ order_marks (Some order)
+  pub order-noted : {E : Type 0} (r : Result (Unit {0}) E) (order : Order) (number : Option ℕ) (side : Side) (seen0 seen' : Seen) (held' failed' : List ℕ) → now.let_in ≡ true → MadeBy order number seen → OwnedBy order → now.unnoted ≡ order_marks (Some order)
       → side.told ≡ option_map (λ l. l ++ more_told order number) now.told → side.asks ≡ now.asks → side.unnoted ≡ [] → side.let_in ≡ now.let_in → seen0 ≡ seen_carried order number seen → seen0.told ≡ seen.told → seen' ≡ seen_after_note r (HouseOrder order number) seen0 → held' ≡ held_carried order number held → failed' ≡ failed_carried order failed
       → MatchResult r (λ x. Serving May Rest before side policy pid start seen' held' failed' (given + 1) todo s) (λ e. Promised May Rest before side.told policy pid start seen'.told (given + 1))
-  order-noted (Ok x) order number side seen0 seen' held' failed' made own noted told asks unnoted within carried same after held_is failed_is =
-      let done : Serving May Rest before (record now { told = side.told; unnoted = [] }) policy pid start (seen-noted (HouseOrder order number) (seen_carried order number seen)) (held_carried order number held) (failed_carried order failed) (given + 1) todo s = order-done order number side.told made own noted told in
+  order-noted (Ok x) order number side seen0 seen' held' failed' inside made own noted told asks unnoted within carried same after held_is failed_is =
+      let done : Serving May Rest before (record now { told = side.told; unnoted = [] }) policy pid start (seen-noted (HouseOrder order number) (seen_carried order number seen)) (held_carried order number held) (failed_carried order failed) (given + 1) todo s = order-done inside order number side.told made own noted told in
       let at : Serving May Rest before side policy pid start (seen-noted (HouseOrder order number) (seen_carried order number seen)) (held_carried order number held) (failed_carried order failed) (given + 1) todo s =
       subst (λ (l : List OpenAsk). Serving May Rest before (record side { asks = l }) policy pid start (seen-noted (HouseOrder order number) (seen_carried order number seen)) (held_carried order number held) (failed_carried order failed) (given + 1) todo s) (sym asks)
       (subst (λ (l : List HouseMark). Serving May Rest before (record side { asks = now.asks; unnoted = l }) policy pid start (seen-noted (HouseOrder order number) (seen_carried order number seen)) (held_carried order number held) (failed_carried order failed) (given + 1) todo s) (sym unnoted)
@@ -205,7 +205,7 @@ module _ {May : HouseReply → Type 0} {Rest : Option (List HouseMark) → Type 
       subst (λ (l : List ℕ). Serving May Rest before side policy pid start seen' l failed' (given + 1) todo s) (sym held_is)
       (subst (λ (l : List ℕ). Serving May Rest before side policy pid start seen' (held_carried order number held) l (given + 1) todo s) (sym failed_is)
       (subst (λ (x : Seen). Serving May Rest before side policy pid start x (held_carried order number held) (failed_carried order failed) (given + 1) todo s) (sym (after ∙ ap (λ (x : Seen). seen-noted (HouseOrder order number) x) carried)) at))
-  order-noted (Err e) order number side seen0 seen' held' failed' made own noted told asks unnoted within carried same after held_is failed_is =
+  order-noted (Err e) order number side seen0 seen' held' failed' inside made own noted told asks unnoted within carried same after held_is failed_is =
       cut-here v side.told seen'.told (given + 1) (more_told order number) (ap (λ (x : Seen). x.told) after ∙ same) told (omega arith)
 
 -- ---- what is known of the house then
@@ -274,7 +274,7 @@ order-side (Close k) known = record { asks = refl; present = refl }
 pub given-side : (order : Order) (known known' : Known) → known' ≡ known_after_order (Some order) known → SameSide known known'
 given-side order known known' e = subst (SameSide known) (sym e) (order-side order known)
 
-pub order-given : {May : HouseReply → Type 0} {Rest : Option (List HouseMark) → Type 0} {before : Option (List HouseMark)} {policy : Policy} {pid : ℕ} {start : Option (List Mark)} {seen : Seen} {held failed : List ℕ} {given : ℕ} {todo : List ℕ} {s : State} (order : Order) (told told' : Option (List HouseMark)) (known known' : Known)
+pub order-given : {May : HouseReply → Type 0} {Rest : Resting} {before : Option (List HouseMark)} {policy : Policy} {pid : ℕ} {start : Option (List Mark)} {seen : Seen} {held failed : List ℕ} {given : ℕ} {todo : List ℕ} {s : State} (order : Order) (told told' : Option (List HouseMark)) (known known' : Known)
     → told' ≡ option_map (λ l. l ++ order_marks (Some order)) told → known' ≡ known_after_order (Some order) known → Serving May Rest before (noted told known) policy pid start seen held failed given todo s → Serving May Rest before (noting (order_marks (Some order)) told' known') policy pid start seen held failed given todo s
 order-given order told told' known known' e f v = let side = given-side order known known' f in
     serve-told v (noting (order_marks (Some order)) told' known') (order_marks (Some order)) e refl (order-unasked order) side.asks side.present

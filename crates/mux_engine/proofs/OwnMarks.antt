@@ -23,7 +23,7 @@ use Rattle.mux_history.proofs.Wires.{wire-keeps}
 use Rattle.mux_machine.specs.State.{State}
 use Rattle.mux_machine.proofs.Twins.{own-silent, stands-alike}
 use Rattle.mux_engine.specs.Serving.{Promised, Serving}
-use Rattle.mux_engine.specs.Sides.{Side}
+use Rattle.mux_engine.specs.Sides.{Resting, Side}
 use Rattle.mux_engine.proofs.Lists.{among-last, among-other-last, or-last, own-stream, true-false}
 use Rattle.mux_engine.proofs.Logs.{blocked-other, failed-other, has-failed-other, holds-blocked}
 use Rattle.mux_engine.proofs.Places.{house-shut, placed-by, placed-still}
@@ -33,7 +33,7 @@ use Rattle.mux_engine.proofs.Silent.{holds-alike}
 pub test-same : (i : ℕ) → (i == i) ≡ true
 test-same i = elim (eqb_tells i i) [ inl q ↦ q.0 | inr q ↦ absurd (q.1 refl) ]
 
-module _ {May : HouseReply → Type 0} {Rest : Option (List HouseMark) → Type 0} {before : Option (List HouseMark)} {now : Side} {policy : Policy} {pid : ℕ} {start : Option (List Mark)} {seen : Seen} {held failed : List ℕ} {given : ℕ} {todo : List ℕ} {s : State}
+module _ {May : HouseReply → Type 0} {Rest : Resting} {before : Option (List HouseMark)} {now : Side} {policy : Policy} {pid : ℕ} {start : Option (List Mark)} {seen : Seen} {held failed : List ℕ} {given : ℕ} {todo : List ℕ} {s : State}
     (v : Serving May Rest before now policy pid start seen held failed given todo s) (k : ℕ) (own : IsTrue (is_own k)) (found : among k seen.streams ≡ true) where
   -- its number is not that of the house
   pub own-is : is_own_stream k ≡ true
@@ -52,7 +52,7 @@ module _ {May : HouseReply → Type 0} {Rest : Option (List HouseMark) → Type 
       let alike = own-silent.takes v.journal k (take n bytes) own-is in
       subst (λ (x : Seen). Serving May Rest before now policy pid start x held failed given todo s) (sym e)
       (serve-quiet v now (seen_after_write (wrote.Took n) k bytes seen) held failed given mark
-      (record { log = alike.log; blocked = λ t client. refl; unwritten = λ t client. failed-other mark v.journal t (apart-own t client); promise = λ set. record { takes = takes-own set (take n bytes); waits = tt; speaks = tt; open_streams = tt }; rested = tt; house = refl })
+      (record { log = alike.log; blocked = λ t client. refl; unwritten = λ t client. failed-other mark v.journal t (apart-own t client); promise = λ set. record { takes = takes-own set (take n bytes); waits = tt; speaks = tt; open_streams = tt }; rested = tt; absent = λ e. refl; house = refl })
       (stands-alike v.journal (mark ∷ v.journal) v.picked v.replies s v.closed alike v.stands) (notes-none now mark refl) refl refl refl v.turns
       (placed-still v mark (seen_after_write (wrote.Took n) k bytes seen) s ((wire-keeps seen.streams seen.blocked seen.last seen.listeners seen.own seen.last_own v.journal).write (wrote.Took n) k bytes are some found fits v.of_wire) refl refl refl refl refl refl (λ t. refl) (λ t. refl) (λ t. refl)))
 
@@ -65,7 +65,7 @@ module _ {May : HouseReply → Type 0} {Rest : Option (List HouseMark) → Type 
       subst (λ (x : Seen). Serving May Rest before now policy pid start x held' failed given todo s) (sym e)
       (subst (λ (l : List ℕ). Serving May Rest before now policy pid start (seen_after_write wrote.Later k bytes seen) l failed given todo s) (sym h)
       (serve-quiet v now (seen_after_write wrote.Later k bytes seen) (held ++ k ∷ []) failed given mark
-      (record { log = alike.log; blocked = λ t client. blocked-other mark v.journal t tt (apart-own t client); unwritten = λ t client. failed-other mark v.journal t (apart-own t client); promise = λ set. record { takes = tt; waits = tt; speaks = tt; open_streams = tt }; rested = tt; house = refl })
+      (record { log = alike.log; blocked = λ t client. blocked-other mark v.journal t tt (apart-own t client); unwritten = λ t client. failed-other mark v.journal t (apart-own t client); promise = λ set. record { takes = tt; waits = tt; speaks = tt; open_streams = tt }; rested = tt; absent = λ e. refl; house = refl })
       (stands-alike v.journal (mark ∷ v.journal) v.picked v.replies s v.closed alike v.stands) (notes-none now mark refl) refl refl refl v.turns
       (placed-by v mark (seen_after_write wrote.Later k bytes seen) (held ++ k ∷ []) failed s k found ((wire-keeps seen.streams seen.blocked seen.last seen.listeners seen.own seen.last_own v.journal).write wrote.Later k bytes are some found tt v.of_wire)
       refl refl refl refl refl (ap (λ l. l ++ k ∷ []) v.held_is) (now-blocked ∙ sym (holds-blocked k k v.journal true (test-same k))) (λ t q. among-other-last k t seen.blocked q) (λ t q. blocked-other mark v.journal t tt q) (λ t. refl) (λ t q. refl)
@@ -80,7 +80,7 @@ module _ {May : HouseReply → Type 0} {Rest : Option (List HouseMark) → Type 
       subst (λ (x : Seen). Serving May Rest before now policy pid start x held failed' given todo s) (sym e)
       (subst (λ (l : List ℕ). Serving May Rest before now policy pid start (seen_after_write wrote.Failed k bytes seen) held l given todo s) (sym f)
       (serve-quiet v now (seen_after_write wrote.Failed k bytes seen) held (failed ++ k ∷ []) given mark
-      (record { log = alike.log; blocked = λ t client. refl; unwritten = λ t client. failed-other mark v.journal t (apart-own t client); promise = λ set. record { takes = tt; waits = tt; speaks = tt; open_streams = tt }; rested = tt; house = refl })
+      (record { log = alike.log; blocked = λ t client. refl; unwritten = λ t client. failed-other mark v.journal t (apart-own t client); promise = λ set. record { takes = tt; waits = tt; speaks = tt; open_streams = tt }; rested = tt; absent = λ e. refl; house = refl })
       (stands-alike v.journal (mark ∷ v.journal) v.picked v.replies s v.closed alike v.stands) (notes-none now mark refl) refl refl refl v.turns
       (placed-by v mark (seen_after_write wrote.Failed k bytes seen) held (failed ++ k ∷ []) s k found ((wire-keeps seen.streams seen.blocked seen.last seen.listeners seen.own seen.last_own v.journal).write wrote.Failed k bytes are some found tt v.of_wire)
       refl refl refl refl refl v.held_is (v.blocked_is k found) (λ t q. refl) (λ t q. refl) (λ t. refl) (λ t q. has-failed-other k t v.journal q)

@@ -28,7 +28,7 @@ use Rattle.mux_machine.specs.Events.{here}
 use Rattle.mux_machine.proofs.Twins.{own-silent, stands-alike}
 use Rattle.std.proofs.lemmas.List.Folds.{list_any-append}
 use Rattle.mux_engine.specs.Serving.{IsFree, IsSound, IsUnseen, IsUnused, Serving}
-use Rattle.mux_engine.specs.Sides.{Side}
+use Rattle.mux_engine.specs.Sides.{Resting, Side}
 use Rattle.mux_engine.proofs.Happened.{last-or, placed-ends, placed-fails, placed-gets}
 use Rattle.mux_engine.proofs.Lists.{among-last, among-open, none-without, or-last, or-none, test-other, true-false, without-other}
 use Rattle.mux_engine.proofs.Logs.{log-out, settled-as}
@@ -42,7 +42,7 @@ use Rattle.mux_engine.proofs.Todo.{serve-todo}
 freed : (k t : ℕ) (journal : List Mark) (b : Bool) → (k == t) ≡ b → is_blocked t (Frees k ∷ journal) ≡ (elim b as (λ _. Bool) [ true ↦ false | false ↦ is_blocked t journal ])
 freed k t journal b e = ap (λ c. elim c as (λ _. Bool) [ true ↦ false | false ↦ is_blocked t journal ]) e
 
-module _ {May : HouseReply → Type 0} {Rest : Option (List HouseMark) → Type 0} {before : Option (List HouseMark)} {now : Side} {policy : Policy} {pid : ℕ} {start : Option (List Mark)} {seen : Seen} {held failed : List ℕ} {given : ℕ} {s : State}
+module _ {May : HouseReply → Type 0} {Rest : Resting} {before : Option (List HouseMark)} {now : Side} {policy : Policy} {pid : ℕ} {start : Option (List Mark)} {seen : Seen} {held failed : List ℕ} {given : ℕ} {s : State}
     (v : Serving May Rest before now policy pid start seen held failed given [] s) where
   -- all are to be offered what waits for them again
   pub offered-again : Serving May Rest before now policy pid start seen held failed given (0 ∷ here s) s
@@ -68,7 +68,7 @@ module _ {May : HouseReply → Type 0} {Rest : Option (List HouseMark) → Type 
     -- it gave bytes
     pub own-gets : IsTrue (is_own k) → (bytes : List ℕ) → AreBytes bytes → Same (Gets k bytes) seen.blocked → Serving May Rest before now policy pid start seen' held failed given [] s
     own-gets own bytes are m = serve-quiet v now seen' held failed given (Gets k bytes)
-        (record { log = λ set. given-log set k bytes v.journal (own-is v k own found); blocked = λ t client. refl; unwritten = λ t client. refl; promise = λ set. record { takes = tt; waits = tt; speaks = tt; open_streams = tt }; rested = tt; house = refl })
+        (record { log = λ set. given-log set k bytes v.journal (own-is v k own found); blocked = λ t client. refl; unwritten = λ t client. refl; promise = λ set. record { takes = tt; waits = tt; speaks = tt; open_streams = tt }; rested = tt; absent = λ e. refl; house = refl })
         (stands-given v.picked v.replies s k bytes v.journal v.closed (own-is v k own found) are (here-apart own) v.stands) (notes-none now (Gets k bytes) refl) refl refl m.told v.turns
         (placed-gets v seen' s k bytes found m.of_wire m.streams m.blocked m.last m.last_own m.listens refl)
 
@@ -76,7 +76,7 @@ module _ {May : HouseReply → Type 0} {Rest : Option (List HouseMark) → Type 
     pub own-ends : IsTrue (is_own k) → Same (Ends k) seen.blocked → Serving May Rest before now policy pid start seen' held failed given [] s
     own-ends own m = let alike = own-silent.ends v.journal k (own-is v k own found) in
         serve-quiet v now seen' held failed given (Ends k)
-        (record { log = alike.log; blocked = λ t client. refl; unwritten = λ t client. refl; promise = λ set. record { takes = tt; waits = tt; speaks = tt; open_streams = tt }; rested = tt; house = refl })
+        (record { log = alike.log; blocked = λ t client. refl; unwritten = λ t client. refl; promise = λ set. record { takes = tt; waits = tt; speaks = tt; open_streams = tt }; rested = tt; absent = λ e. refl; house = refl })
         (stands-alike v.journal (Ends k ∷ v.journal) v.picked v.replies s v.closed alike v.stands) (notes-none now (Ends k) refl) refl refl m.told v.turns
         (placed-ends v seen' s k found m.of_wire m.streams m.blocked m.last m.last_own m.listens refl)
 
@@ -84,7 +84,7 @@ module _ {May : HouseReply → Type 0} {Rest : Option (List HouseMark) → Type 
     pub own-failed : IsTrue (is_own k) → Same (Fails k) seen.blocked → Serving May Rest before now policy pid start seen' held (failed ++ k ∷ []) given [] s
     own-failed own m = let alike = own-silent.fails v.journal k (own-is v k own found) in
         serve-quiet v now seen' held (failed ++ k ∷ []) given (Fails k)
-        (record { log = alike.log; blocked = λ t client. refl; unwritten = λ t client. refl; promise = λ set. record { takes = tt; waits = tt; speaks = tt; open_streams = tt }; rested = tt; house = refl })
+        (record { log = alike.log; blocked = λ t client. refl; unwritten = λ t client. refl; promise = λ set. record { takes = tt; waits = tt; speaks = tt; open_streams = tt }; rested = tt; absent = λ e. refl; house = refl })
         (stands-alike v.journal (Fails k ∷ v.journal) v.picked v.replies s v.closed alike v.stands) (notes-none now (Fails k) refl) refl refl m.told v.turns
         (placed-fails v seen' s (failed ++ k ∷ []) k found m.of_wire m.streams m.blocked m.last m.last_own m.listens refl
         (λ is. among-last k k failed ∙ (ap (λ b. among k failed || (b || false)) (test-same k) ∙ or-last (among k failed))) (λ t a. among-last k t failed ∙ ap (λ b. b || ((k == t) || false)) a))
@@ -98,7 +98,7 @@ module _ {May : HouseReply → Type 0} {Rest : Option (List HouseMark) → Type 
     pub own-frees : IsTrue (is_own k) → Same (Frees k) (without k seen.blocked) → Serving May Rest before now policy pid start seen' (without k held) failed given [] s
     own-frees own m = let alike = frees-alike k v.journal in
         serve-quiet v now seen' (without k held) failed given (Frees k)
-        (record { log = alike.log; blocked = λ t client. freed k t v.journal false (test-other k t (apart-own own t client)); unwritten = λ t client. refl; promise = λ set. record { takes = tt; waits = tt; speaks = tt; open_streams = tt }; rested = tt; house = refl })
+        (record { log = alike.log; blocked = λ t client. freed k t v.journal false (test-other k t (apart-own own t client)); unwritten = λ t client. refl; promise = λ set. record { takes = tt; waits = tt; speaks = tt; open_streams = tt }; rested = tt; absent = λ e. refl; house = refl })
         (stands-alike v.journal (Frees k ∷ v.journal) v.picked v.replies s v.closed alike v.stands) (notes-none now (Frees k) refl) refl refl m.told v.turns (placed-frees m)
 
     -- so does the server's or a client's
@@ -112,7 +112,9 @@ module _ {May : HouseReply → Type 0} {Rest : Option (List HouseMark) → Type 
           notes = notes-none now (Frees k) refl;
           askers = askers-more v (Frees k);
           house_in = v.house_in;
+          house_there = v.house_there;
           rested = tt;
+          absent = λ e. refl;
           turns = v.turns;
           placed = placed-frees m;
           sound = λ picks later.
@@ -135,7 +137,7 @@ module _ {May : HouseReply → Type 0} {Rest : Option (List HouseMark) → Type 
       let alike = own-silent.joins v.journal l k in
       let fresh : IsUnused v.journal seen k = v.unused k (inl (new.own, new.above)) in
       serve-quiet v now seen' held failed given (Joins l k)
-      (record { log = alike.log; blocked = λ t client. refl; unwritten = λ t client. refl; promise = λ set. record { takes = tt; waits = tt; speaks = tt; open_streams = tt }; rested = tt; house = refl })
+      (record { log = alike.log; blocked = λ t client. refl; unwritten = λ t client. refl; promise = λ set. record { takes = tt; waits = tt; speaks = tt; open_streams = tt }; rested = tt; absent = λ e. refl; house = refl })
       (stands-alike v.journal (Joins l k ∷ v.journal) v.picked v.replies s v.closed alike v.stands) (notes-none now (Joins l k) refl) refl refl told v.turns record {
         of_wire = of;
         open_are = ap not_own streams ∙ (filter-append (λ (t : ℕ). not (is_own t)) seen.streams (k ∷ []) ∙ (ap (λ b. not_own seen.streams ++ cond (not b) (k ∷ []) []) new.own ∙ (append-nil (not_own seen.streams) ∙ v.open_are)));

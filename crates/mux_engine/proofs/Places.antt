@@ -20,7 +20,7 @@ use Rattle.mux_machine.specs.State.{State, is_here}
 use Rattle.mux_machine.specs.Events.{here}
 use Rattle.mux_machine.specs.Stands.{Stands, StandsFor, log}
 use Rattle.mux_engine.specs.Serving.{IsFree, IsUnseen, IsUnused, Serving, is_open}
-use Rattle.mux_engine.specs.Sides.{SamePlaces, Side}
+use Rattle.mux_engine.specs.Sides.{Resting, SamePlaces, Side}
 use Rattle.mux_engine.proofs.Lists.{among-not-own, among-open, and-second, among-filter, not-own-stream, open-here, own-or-house, test-other, true-false}
 use Rattle.mux_engine.proofs.Marks.{Placed}
 
@@ -50,7 +50,7 @@ at-stream {picked} {replies} {s} {marks} {closed} st k opened = record { not_clo
 server-own : is_own 0 ≡ false
 server-own = refl
 
-module _ {May : HouseReply → Type 0} {Rest : Option (List HouseMark) → Type 0} {before : Option (List HouseMark)} {now : Side} {policy : Policy} {pid : ℕ} {start : Option (List Mark)} {seen : Seen} {held failed : List ℕ} {given : ℕ} {todo : List ℕ} {s : State} (v : Serving May Rest before now policy pid start seen held failed given todo s) where
+module _ {May : HouseReply → Type 0} {Rest : Resting} {before : Option (List HouseMark)} {now : Side} {policy : Policy} {pid : ℕ} {start : Option (List Mark)} {seen : Seen} {held failed : List ℕ} {given : ℕ} {todo : List ℕ} {s : State} (v : Serving May Rest before now policy pid start seen held failed given todo s) where
   -- the streams that are open but for the master's own are those of the engine
   among-places : (k : ℕ) → is_own k ≡ false → among k seen.streams ≡ is_open s k
   among-places k e = sym (among-not-own k seen.streams e) ∙ (ap (among k) v.open_are ∙ (ap (λ b. (0 == k) || b) (among-not-own k (here s) e) ∙ among-open s k))

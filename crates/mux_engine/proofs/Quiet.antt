@@ -18,9 +18,9 @@ use Rattle.mux_history.specs.Promises.{turns_in, write_failed}
 use Rattle.mux_clients.specs.Asked.{asked_of}
 use Rattle.mux_machine.specs.State.{State}
 use Rattle.mux_machine.specs.Stands.{Stands}
-use Rattle.mux_engine.specs.Run.{RestedAt}
+use Rattle.mux_engine.specs.Run.{RestedAt, is_by_house}
 use Rattle.mux_engine.specs.Serving.{IsSound, Serving}
-use Rattle.mux_engine.specs.Sides.{Side, house_mark}
+use Rattle.mux_engine.specs.Sides.{Resting, Side, house_mark}
 use Rattle.mux_engine.proofs.Logs.{accepted-more, settled-as}
 use Rattle.mux_engine.proofs.Marks.{Next, Notes, Placed, PromiseAt, serve-alone}
 use Rattle.mux_engine.proofs.Told.{tells-none}
@@ -29,7 +29,7 @@ use Rattle.mux_engine.proofs.Told.{tells-none}
 pub notes-none : (now : Side) (mark : Mark) → house_mark mark ≡ [] → Notes now now mark []
 notes-none now mark e = record { more = []; told_is = tells-none now.told; noted_is = ap (λ l. l ++ now.unnoted) e ∙ sym (append-nil now.unnoted); asks_are = refl }
 
-module _ {May : HouseReply → Type 0} {Rest : Option (List HouseMark) → Type 0} {before : Option (List HouseMark)} {now : Side} {policy : Policy} {pid : ℕ} {start : Option (List Mark)} {seen : Seen} {held failed : List ℕ} {given : ℕ} {todo : List ℕ} {s : State} (v : Serving May Rest before now policy pid start seen held failed given todo s) where
+module _ {May : HouseReply → Type 0} {Rest : Resting} {before : Option (List HouseMark)} {now : Side} {policy : Policy} {pid : ℕ} {start : Option (List Mark)} {seen : Seen} {held failed : List ℕ} {given : ℕ} {todo : List ℕ} {s : State} (v : Serving May Rest before now policy pid start seen held failed given todo s) where
   -- whoever asked was accepted
   pub askers-more : (mark : Mark) → All (λ (a : OpenAsk). IsTrue (is_accepted a.client (mark ∷ v.journal))) now.asks
   askers-more mark k d lt = accepted-more mark v.journal _ (v.askers k d lt)
@@ -40,7 +40,8 @@ module _ {May : HouseReply → Type 0} {Rest : Option (List HouseMark) → Type 
     pub blocked : (t : ℕ) → is_own_stream t ≡ false → is_blocked t (mark ∷ v.journal) ≡ is_blocked t v.journal
     pub unwritten : (t : ℕ) → is_own_stream t ≡ false → write_failed t (mark ∷ v.journal) ≡ write_failed t v.journal
     pub promise : (set : Setting) → PromiseAt set v.journal mark
-    pub rested : RestedAt Rest before v.journal mark
+    pub rested : RestedAt Rest.rests before v.journal mark
+    pub absent : Rest.present ≡ false → is_by_house mark ≡ false
     pub house : is_accepted HOUSE (mark ∷ v.journal) ≡ is_accepted HOUSE v.journal
 
   pub serve-quiet : (now' : Side) (seen' : Seen) (held' failed' : List ℕ) (given' : ℕ) (mark : Mark) → IsQuiet mark → Stands v.picked v.replies s (mark ∷ v.journal) v.closed → Notes now now' mark [] → now'.asks ≡ now.asks → now'.let_in ≡ now.let_in
@@ -53,7 +54,9 @@ module _ {May : HouseReply → Type 0} {Rest : Option (List HouseMark) → Type 
         notes = notes;
         askers = subst (λ (l : List OpenAsk). All (λ (a : OpenAsk). IsTrue (is_accepted a.client (mark ∷ v.journal))) l) (sym asks) (askers-more mark);
         house_in = q.house ∙ (v.house_in ∙ sym within);
+        house_there = λ e. v.house_there (sym within ∙ e);
         rested = q.rested;
+        absent = q.absent;
         turns = turns;
         placed = placed;
         sound = λ picks later.

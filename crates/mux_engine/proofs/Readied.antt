@@ -13,7 +13,7 @@ use Rattle.mux_machine.specs.Stands.{IsFirst}
 use Rattle.mux_engine.specs.Owned.{IsOffered}
 use Rattle.mux_engine.specs.Rests.{IsReady}
 use Rattle.mux_engine.specs.Serving.{Serving}
-use Rattle.mux_engine.specs.Sides.{Housed, Side}
+use Rattle.mux_engine.specs.Sides.{Housed, Resting, Side}
 use Rattle.mux_engine.proofs.Closed.{housed-closed, was-among}
 use Rattle.mux_engine.proofs.Left.{own-one}
 use Rattle.mux_engine.proofs.Lists.{without-other}
@@ -23,7 +23,7 @@ offered-less queue held failed k t other (inl empty) = inl empty
 offered-less queue held failed k t other (inr (inl blocked)) = inr (inl (without-other k t held other ∙ blocked))
 offered-less queue held failed k t other (inr (inr fails)) = inr (inr fails)
 
-pub ready-closed : {May : HouseReply → Type 0} {Rest : Option (List HouseMark) → Type 0} {before : Option (List HouseMark)} {now : Side} {policy : Policy} {pid : ℕ} {start : Option (List Mark)} {seen : Seen} {held failed : List ℕ} {given : ℕ} {todo : List ℕ} {s : State} (v : Serving May Rest before now policy pid start seen held failed given todo s) (k : ℕ) → IsFirst k s.leaving
+pub ready-closed : {May : HouseReply → Type 0} {Rest : Resting} {before : Option (List HouseMark)} {now : Side} {policy : Policy} {pid : ℕ} {start : Option (List Mark)} {seen : Seen} {held failed : List ℕ} {given : ℕ} {todo : List ℕ} {s : State} (v : Serving May Rest before now policy pid start seen held failed given todo s) (k : ℕ) → IsFirst k s.leaving
     → (known : Known) (quiet : Quiet) (queue : ℕ → List ℕ) (fails own : List ℕ) → Housed known seen own → IsReady known quiet queue held fails own s → IsReady known quiet queue (without k held) fails own (closed_by s k)
 ready-closed {seen = seen} {held = held} {s = s} v k first known quiet queue fails own housed ready = record {
   no_more = record {

@@ -12,7 +12,7 @@ use Rattle.mux_history.specs.Policy.{Policy}
 use Rattle.mux_machine.specs.State.{State}
 use Rattle.mux_machine.specs.Events.{here}
 use Rattle.mux_engine.specs.Serving.{EndsTurn, Promised, Serving, Spends}
-use Rattle.mux_engine.specs.Sides.{Side, noted, outside}
+use Rattle.mux_engine.specs.Sides.{Resting, Side, noted, outside}
 use Rattle.mux_engine.proofs.Lists.{apart-or-left, test-other, true-false, without-other}
 use Rattle.mux_engine.proofs.Loops.{neither}
 use Rattle.mux_engine.proofs.Runs.{promised-more}
@@ -20,16 +20,16 @@ use Rattle.mux_engine.proofs.Todo.{serve-todo}
 
 module _ {May : HouseReply → Type 0} {before : Option (List HouseMark)} {policy : Policy} {pid : ℕ} {start : Option (List Mark)} where
   -- with a house that is present just so
-  pub present-is : {now : Side} {seen : Seen} {held failed : List ℕ} {given : ℕ} {todo : List ℕ} {s : State} (R : Bool → Option (List HouseMark) → Type 0) (p q : Bool) → p ≡ q → Serving May (R p) before now policy pid start seen held failed given todo s → Serving May (R q) before now policy pid start seen held failed given todo s
+  pub present-is : {now : Side} {seen : Seen} {held failed : List ℕ} {given : ℕ} {todo : List ℕ} {s : State} (R : Bool → Resting) (p q : Bool) → p ≡ q → Serving May (R p) before now policy pid start seen held failed given todo s → Serving May (R q) before now policy pid start seen held failed given todo s
   present-is {now} {seen} {held} {failed} {given} {todo} {s} R p q e v = subst (λ (b : Bool). Serving May (R b) before now policy pid start seen held failed given todo s) e v
 
-  pub promised-is : {now : Option (List HouseMark)} {told : Option (List Mark)} {given : ℕ} (R : Bool → Option (List HouseMark) → Type 0) (p q : Bool) → p ≡ q → Promised May (R p) before now policy pid start told given → Promised May (R q) before now policy pid start told given
+  pub promised-is : {now : Option (List HouseMark)} {told : Option (List Mark)} {given : ℕ} (R : Bool → Resting) (p q : Bool) → p ≡ q → Promised May (R p) before now policy pid start told given → Promised May (R q) before now policy pid start told given
   promised-is {now} {told} {given} R p q e v = subst (λ (b : Bool). Promised May (R b) before now policy pid start told given) e v
 
-  pub ends-is : {on : Bool} {now : Side} {seen : Seen} {held failed : List ℕ} {given : ℕ} {todo : List ℕ} {s : State} (R : Bool → Option (List HouseMark) → Type 0) (p q : Bool) → p ≡ q → EndsTurn on given May (R p) before now policy pid start seen held failed todo s → EndsTurn on given May (R q) before now policy pid start seen held failed todo s
+  pub ends-is : {on : Bool} {now : Side} {seen : Seen} {held failed : List ℕ} {given : ℕ} {todo : List ℕ} {s : State} (R : Bool → Resting) (p q : Bool) → p ≡ q → EndsTurn on given May (R p) before now policy pid start seen held failed todo s → EndsTurn on given May (R q) before now policy pid start seen held failed todo s
   ends-is {on} {now} {seen} {held} {failed} {given} {todo} {s} R p q e v = subst (λ (b : Bool). EndsTurn on given May (R b) before now policy pid start seen held failed todo s) e v
 
-module _ {May : HouseReply → Type 0} {Rest : Option (List HouseMark) → Type 0} {before : Option (List HouseMark)} {policy : Policy} {pid : ℕ} {start : Option (List Mark)} where
+module _ {May : HouseReply → Type 0} {Rest : Resting} {before : Option (List HouseMark)} {policy : Policy} {pid : ℕ} {start : Option (List Mark)} where
   -- with so many turns
   pub given-is : {now : Side} {seen : Seen} {held failed : List ℕ} {todo : List ℕ} {s : State} (given given' : ℕ) → given ≡ given' → Serving May Rest before now policy pid start seen held failed given todo s → Serving May Rest before now policy pid start seen held failed given' todo s
   given-is {now} {seen} {held} {failed} {todo} {s} given given' e v = subst (λ n. Serving May Rest before now policy pid start seen held failed n todo s) e v
@@ -87,7 +87,7 @@ let-inside told known there = ap (side-with told known) (sym there)
 -- ---- the end
 
 -- the streams of clients and then the house are left to be offered something
-pub to-house : {May : HouseReply → Type 0} {Rest : Option (List HouseMark) → Type 0} {before : Option (List HouseMark)} {now : Side} {policy : Policy} {pid : ℕ} {start : Option (List Mark)} {seen : Seen} {held failed : List ℕ} {given : ℕ} {s : State} → Serving May Rest before now policy pid start seen held failed given (0 ∷ here s) s
+pub to-house : {May : HouseReply → Type 0} {Rest : Resting} {before : Option (List HouseMark)} {now : Side} {policy : Policy} {pid : ℕ} {start : Option (List Mark)} {seen : Seen} {held failed : List ℕ} {given : ℕ} {s : State} → Serving May Rest before now policy pid start seen held failed given (0 ∷ here s) s
     → Serving May Rest before now policy pid start seen held failed given (0 ∷ (without HOUSE (here s) ++ HOUSE ∷ [])) s
 to-house {s = s} v = serve-todo v (0 ∷ (without HOUSE (here s) ++ HOUSE ∷ [])) (λ t a. inl (covers t (apart-or-left 0 t (without HOUSE (here s) ++ HOUSE ∷ []) a)))
   where

@@ -25,7 +25,7 @@ use Rattle.mux_machine.specs.declared.event.Event.TheVariants.{Accepted, FromCli
 use Rattle.mux_engine.specs.Asking.{Heeded}
 use Rattle.mux_engine.specs.Rests.{EndsByAsk, IsByRow}
 use Rattle.mux_engine.specs.Serving.{Promised, Serving}
-use Rattle.mux_engine.specs.Sides.{SameHouse, Side, noted}
+use Rattle.mux_engine.specs.Sides.{Resting, SameHouse, Side, noted}
 use Rattle.mux_engine.specs.Turns.{want_of}
 use Rattle.mux_engine.proofs.Cuts.{cut-here, serve-told}
 use Rattle.mux_engine.proofs.Handed.{event-heeds}
@@ -84,7 +84,7 @@ pub some-said : {E : Type 0} (r : Result Bool E) (bytes : List ℕ) → r ≡ Ok
 some-said {E} r bytes is fits = let f : SaysFits {E = E} (Ok true) bytes = subst (λ (x : Result Bool E). SaysFits {E = E} x bytes) is fits in f.0
 
 -- it said nothing
-pub said-none : {May : HouseReply → Type 0} {Rest : Option (List HouseMark) → Type 0} {before : Option (List HouseMark)} {policy : Policy} {pid : ℕ} {start : Option (List Mark)} {seen : Seen} {held failed : List ℕ} {given : ℕ} {todo : List ℕ} {s : State} (told told' : Option (List HouseMark)) (known known' : Known)
+pub said-none : {May : HouseReply → Type 0} {Rest : Resting} {before : Option (List HouseMark)} {policy : Policy} {pid : ℕ} {start : Option (List Mark)} {seen : Seen} {held failed : List ℕ} {given : ℕ} {todo : List ℕ} {s : State} (told told' : Option (List HouseMark)) (known known' : Known)
     → TellsAsks told told' [] → known' ≡ known → Serving May Rest before (noted told known) policy pid start seen held failed given todo s → Serving May Rest before (noted told' known') policy pid start seen held failed (given + 0) todo s
 said-none {May} {Rest} {before} {policy} {pid} {start} {seen} {held} {failed} {given} {todo} {s} told told' known known' tells same v =
     let nothing : given ≡ given + 0 = omega arith in
@@ -96,7 +96,7 @@ said-none {May} {Rest} {before} {policy} {pid} {start} {seen} {held} {failed} {g
     told-none' None = refl
     told-none' (Some l) = ap (λ (x : List HouseMark). Some x) (append-nil l)
 
-module _ {May : HouseReply → Type 0} {Rest : Option (List HouseMark) → Type 0} {before : Option (List HouseMark)} {policy : Policy} {pid : ℕ} {start : Option (List Mark)} {seen : Seen} {held failed : List ℕ} {given : ℕ} {s : State}
+module _ {May : HouseReply → Type 0} {Rest : Resting} {before : Option (List HouseMark)} {policy : Policy} {pid : ℕ} {start : Option (List Mark)} {seen : Seen} {held failed : List ℕ} {given : ℕ} {s : State}
     (told : Option (List HouseMark)) (known : Known) (v : Serving May Rest before (noted told known) policy pid start seen held failed given [] s) (live : s.ended ≡ None) (within : known.present ≡ true) (room : want_of s ≡ Read)
     (told' : Option (List HouseMark)) (known' : Known) (bytes : List ℕ) (tells : TellsAsks told told' (HouseSaid bytes ∷ [])) (same : known' ≡ known) where
   -- what it said is not noted yet

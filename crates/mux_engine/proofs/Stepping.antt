@@ -17,7 +17,7 @@ use Rattle.mux_machine.specs.Events.{here}
 use Rattle.mux_engine.specs.Owned.{IsOffered}
 use Rattle.mux_engine.specs.Rests.{HasNoMore, IsAlone}
 use Rattle.mux_engine.specs.Serving.{RunsOn, Serving, is_open}
-use Rattle.mux_engine.specs.Sides.{Housed, RestsOf, SameHouse, SamePlaces, Side}
+use Rattle.mux_engine.specs.Sides.{Housed, Resting, RestsOf, SameHouse, SamePlaces, Side}
 use Rattle.mux_engine.proofs.Counting.{more-none}
 use Rattle.mux_engine.proofs.Handed.{housed-as}
 use Rattle.mux_engine.proofs.Lists.{among-less, among-open, apart-or-left, test-other, true-false, without-other}
@@ -27,7 +27,7 @@ use Rattle.mux_engine.proofs.Todo.{serve-todo}
 -- ---- what is left to be offered
 
 -- where there is no house nothing waits for it
-pub none-handed : {May : HouseReply → Type 0} {Rest : Option (List HouseMark) → Type 0} {before : Option (List HouseMark)} {now : Side} {policy : Policy} {pid : ℕ} {start : Option (List Mark)} {seen : Seen} {held failed : List ℕ} {given : ℕ} {s : State} (v : Serving May Rest before now policy pid start seen held failed given (0 ∷ here s) s) → now.let_in ≡ false
+pub none-handed : {May : HouseReply → Type 0} {Rest : Resting} {before : Option (List HouseMark)} {now : Side} {policy : Policy} {pid : ℕ} {start : Option (List Mark)} {seen : Seen} {held failed : List ℕ} {given : ℕ} {s : State} (v : Serving May Rest before now policy pid start seen held failed given (0 ∷ here s) s) → now.let_in ≡ false
     → Serving May Rest before now policy pid start seen held failed (given + 0) (0 ∷ without HOUSE (here s)) s
 none-handed {May} {Rest} {before} {now} {policy} {pid} {start} {seen} {held} {failed} {given} {s} v out =
     subst (λ (n : ℕ). Serving May Rest before now policy pid start seen held failed n (0 ∷ without HOUSE (here s)) s) (sym (more-none given))
@@ -41,19 +41,19 @@ none-handed {May} {Rest} {before} {now} {policy} {pid} {start} {seen} {held} {fa
     by_open true e = true-false (sym ((at-stream v.stands HOUSE e).accepted (λ z. absurd (omega (arith, z)))) ∙ (v.house_in ∙ out))
 
 -- the house is to be handed over again what waits for it
-pub handed-again : {May : HouseReply → Type 0} {Rest : Option (List HouseMark) → Type 0} {before : Option (List HouseMark)} {now : Side} {policy : Policy} {pid : ℕ} {start : Option (List Mark)} {seen : Seen} {held failed : List ℕ} {given : ℕ} {s : State} (v : Serving May Rest before now policy pid start seen held failed given (0 ∷ without HOUSE (here s)) s)
+pub handed-again : {May : HouseReply → Type 0} {Rest : Resting} {before : Option (List HouseMark)} {now : Side} {policy : Policy} {pid : ℕ} {start : Option (List Mark)} {seen : Seen} {held failed : List ℕ} {given : ℕ} {s : State} (v : Serving May Rest before now policy pid start seen held failed given (0 ∷ without HOUSE (here s)) s)
     → Serving May Rest before now policy pid start seen held failed given (0 ∷ here s) s
 handed-again {s = s} v = serve-todo v (0 ∷ here s) (λ t a. inl (let p = apart-or-left 0 t (here s) a in ap (λ b. b || among t (without HOUSE (here s))) (test-other 0 t p.0) ∙ among-less HOUSE t (here s) p.1))
 
 -- all the other streams are
-pub to-flush : {May : HouseReply → Type 0} {Rest : Option (List HouseMark) → Type 0} {before : Option (List HouseMark)} {now : Side} {policy : Policy} {pid : ℕ} {start : Option (List Mark)} {seen : Seen} {held failed : List ℕ} {given : ℕ} {s : State} (v : Serving May Rest before now policy pid start seen held failed (given + 0) (0 ∷ without HOUSE (here s)) s)
+pub to-flush : {May : HouseReply → Type 0} {Rest : Resting} {before : Option (List HouseMark)} {now : Side} {policy : Policy} {pid : ℕ} {start : Option (List Mark)} {seen : Seen} {held failed : List ℕ} {given : ℕ} {s : State} (v : Serving May Rest before now policy pid start seen held failed (given + 0) (0 ∷ without HOUSE (here s)) s)
     → Serving May Rest before now policy pid start seen held failed given (0 ∷ (without HOUSE (here s) ++ [])) s
 to-flush {May} {Rest} {before} {now} {policy} {pid} {start} {seen} {held} {failed} {given} {s} v =
     subst (λ (l : List ℕ). Serving May Rest before now policy pid start seen held failed given (0 ∷ l) s) (sym (append-nil (without HOUSE (here s))))
     (subst (λ (n : ℕ). Serving May Rest before now policy pid start seen held failed n (0 ∷ without HOUSE (here s)) s) (more-none given) v)
 
 -- no turn was given
-pub a-turn : {May : HouseReply → Type 0} {Rest : Option (List HouseMark) → Type 0} {before : Option (List HouseMark)} {now : Side} {policy : Policy} {pid : ℕ} {start : Option (List Mark)} {seen : Seen} {held failed : List ℕ} {given : ℕ} {todo : List ℕ} {s : State} → Serving May Rest before now policy pid start seen held failed (given + 0) todo s → Serving May Rest before now policy pid start seen held failed given todo s
+pub a-turn : {May : HouseReply → Type 0} {Rest : Resting} {before : Option (List HouseMark)} {now : Side} {policy : Policy} {pid : ℕ} {start : Option (List Mark)} {seen : Seen} {held failed : List ℕ} {given : ℕ} {todo : List ℕ} {s : State} → Serving May Rest before now policy pid start seen held failed (given + 0) todo s → Serving May Rest before now policy pid start seen held failed given todo s
 a-turn {May} {Rest} {before} {now} {policy} {pid} {start} {seen} {held} {failed} {given} {todo} {s} v = subst (λ (n : ℕ). Serving May Rest before now policy pid start seen held failed n todo s) (more-none given) v
 
 -- a house that is still there

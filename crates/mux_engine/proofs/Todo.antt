@@ -14,7 +14,7 @@ use Rattle.mux_history.specs.Journal.{is_blocked, log_of_journal}
 use Rattle.mux_history.specs.Promises.{IsSettled}
 use Rattle.mux_machine.specs.State.{State}
 use Rattle.mux_engine.specs.Serving.{IsSound, IsUnused, Serving, is_open}
-use Rattle.mux_engine.specs.Sides.{Side}
+use Rattle.mux_engine.specs.Sides.{Resting, Side}
 use Rattle.mux_engine.proofs.Lists.{apart-or-left, none-without, true-false, without-other}
 use Rattle.mux_engine.proofs.Marks.{log-is}
 use Rattle.mux_engine.proofs.Offers.{Waiting}
@@ -22,7 +22,7 @@ use Rattle.mux_engine.proofs.Places.{stream-open}
 
 -- clients may be accepted no more where the engine wants none; and other streams are to be offered
 -- what waits for them, where those that are not were so before or are settled
-pub serve-with : {May : HouseReply → Type 0} {Rest : Option (List HouseMark) → Type 0} {before : Option (List HouseMark)} {now : Side} {policy : Policy} {pid : ℕ} {start : Option (List Mark)} {seen : Seen} {held failed : List ℕ} {given : ℕ} {todo : List ℕ} {s : State} (v : Serving May Rest before now policy pid start seen held failed given todo s) (listens : Bool) (todo' : List ℕ)
+pub serve-with : {May : HouseReply → Type 0} {Rest : Resting} {before : Option (List HouseMark)} {now : Side} {policy : Policy} {pid : ℕ} {start : Option (List Mark)} {seen : Seen} {held failed : List ℕ} {given : ℕ} {todo : List ℕ} {s : State} (v : Serving May Rest before now policy pid start seen held failed given todo s) (listens : Bool) (todo' : List ℕ)
     → (s.ended ≡ None → s.listening ≡ true → listens ≡ true)
     → ((t : ℕ) → among t todo' ≡ false → (among t todo ≡ false) ⊎ ((picks : List ℕ) (later : List HouseReply) → IsSettled (by_lists policy pid (v.picked ++ picks) (v.replies ++ later)) v.journal t))
     → Serving May Rest before now policy pid start (record seen { listens = listens }) held failed given todo' s
@@ -39,7 +39,9 @@ serve-with {May} {Rest} {before} {now} {policy} {pid} {start} {seen} {held} {fai
   asked = v.asked;
   askers = v.askers;
   house_in = v.house_in;
+  house_there = v.house_there;
   rested = v.rested;
+  absent = v.absent;
   tells = v.tells;
   of_wire = v.of_wire;
   turns = v.turns;
@@ -55,13 +57,13 @@ serve-with {May} {Rest} {before} {now} {policy} {pid} {start} {seen} {held} {fai
       record { kept = old.kept; failed_out = old.failed_out; settled = λ t client a. elim (h t a) [ inl b ↦ old.settled t client b | inr d ↦ d picks later ] };
 }
 
-pub serve-todo : {May : HouseReply → Type 0} {Rest : Option (List HouseMark) → Type 0} {before : Option (List HouseMark)} {now : Side} {policy : Policy} {pid : ℕ} {start : Option (List Mark)} {seen : Seen} {held failed : List ℕ} {given : ℕ} {todo : List ℕ} {s : State} (v : Serving May Rest before now policy pid start seen held failed given todo s) (todo' : List ℕ)
+pub serve-todo : {May : HouseReply → Type 0} {Rest : Resting} {before : Option (List HouseMark)} {now : Side} {policy : Policy} {pid : ℕ} {start : Option (List Mark)} {seen : Seen} {held failed : List ℕ} {given : ℕ} {todo : List ℕ} {s : State} (v : Serving May Rest before now policy pid start seen held failed given todo s) (todo' : List ℕ)
     → ((t : ℕ) → among t todo' ≡ false → (among t todo ≡ false) ⊎ ((picks : List ℕ) (later : List HouseReply) → IsSettled (by_lists policy pid (v.picked ++ picks) (v.replies ++ later)) v.journal t))
     → Serving May Rest before now policy pid start seen held failed given todo' s
 serve-todo {seen = seen} v todo' h = serve-with v seen.listens todo' v.hears h
 
 -- nothing waits for it
-pub nothing-left : {May : HouseReply → Type 0} {Rest : Option (List HouseMark) → Type 0} {before : Option (List HouseMark)} {now : Side} {policy : Policy} {pid : ℕ} {start : Option (List Mark)} {seen : Seen} {held failed : List ℕ} {given : ℕ} {todo : List ℕ} {s : State} (v : Serving May Rest before now policy pid start seen held failed given todo s) (k : ℕ) (bytes : List ℕ)
+pub nothing-left : {May : HouseReply → Type 0} {Rest : Resting} {before : Option (List HouseMark)} {now : Side} {policy : Policy} {pid : ℕ} {start : Option (List Mark)} {seen : Seen} {held failed : List ℕ} {given : ℕ} {todo : List ℕ} {s : State} (v : Serving May Rest before now policy pid start seen held failed given todo s) (k : ℕ) (bytes : List ℕ)
     → Waiting bytes k s v.picked v.replies v.journal → bytes ≡ [] → Serving May Rest before now policy pid start seen held failed given (without k todo) s
 nothing-left {policy = policy} {pid = pid} {todo = todo} {s = s} v k bytes waiting none = serve-todo v (without k todo) (λ t a. elim (eqb_tells k t) [
   | inl q ↦ inr (λ picks later. inl (ap (λ i. pending i (log_of_journal (by_lists policy pid (v.picked ++ picks) (v.replies ++ later)) v.journal)) (sym q.1)
@@ -70,7 +72,7 @@ nothing-left {policy = policy} {pid = pid} {todo = todo} {s = s} v k bytes waiti
 ])
 
 -- it is blocked
-pub held-back : {May : HouseReply → Type 0} {Rest : Option (List HouseMark) → Type 0} {before : Option (List HouseMark)} {now : Side} {policy : Policy} {pid : ℕ} {start : Option (List Mark)} {seen : Seen} {held failed : List ℕ} {given : ℕ} {todo : List ℕ} {s : State} (k : ℕ) (v : Serving May Rest before now policy pid start seen held failed given (k ∷ todo) s)
+pub held-back : {May : HouseReply → Type 0} {Rest : Resting} {before : Option (List HouseMark)} {now : Side} {policy : Policy} {pid : ℕ} {start : Option (List Mark)} {seen : Seen} {held failed : List ℕ} {given : ℕ} {todo : List ℕ} {s : State} (k : ℕ) (v : Serving May Rest before now policy pid start seen held failed given (k ∷ todo) s)
     → is_open s k ≡ true → k ≢ HOUSE → among k held ≡ true → Serving May Rest before now policy pid start seen held failed given todo s
 held-back {seen = seen} {todo = todo} {s = s} k v opened ne h = serve-todo v todo (λ t a. elim (eqb_tells k t) [
   | inl q ↦ inr (λ picks later. inr (inl (ap (λ i. is_blocked i v.journal) (sym q.1) ∙ (sym (v.blocked_is k (stream-open v k opened ne)) ∙ (ap (among k) (sym v.held_is) ∙ h)))))
@@ -78,11 +80,11 @@ held-back {seen = seen} {todo = todo} {s = s} k v opened ne h = serve-todo v tod
 ])
 
 -- one stream more is to be offered what waits for it
-pub wider : {May : HouseReply → Type 0} {Rest : Option (List HouseMark) → Type 0} {before : Option (List HouseMark)} {now : Side} {policy : Policy} {pid : ℕ} {start : Option (List Mark)} {seen : Seen} {held failed : List ℕ} {given : ℕ} {todo : List ℕ} {s : State} (k : ℕ) (v : Serving May Rest before now policy pid start seen held failed given todo s) → Serving May Rest before now policy pid start seen held failed given (k ∷ todo) s
+pub wider : {May : HouseReply → Type 0} {Rest : Resting} {before : Option (List HouseMark)} {now : Side} {policy : Policy} {pid : ℕ} {start : Option (List Mark)} {seen : Seen} {held failed : List ℕ} {given : ℕ} {todo : List ℕ} {s : State} (k : ℕ) (v : Serving May Rest before now policy pid start seen held failed given todo s) → Serving May Rest before now policy pid start seen held failed given (k ∷ todo) s
 wider {todo = todo} k v = serve-todo v (k ∷ todo) (λ t a. inl (apart-or-left k t todo a).1)
 
 -- the stream that was offered is done with
-pub narrower : {May : HouseReply → Type 0} {Rest : Option (List HouseMark) → Type 0} {before : Option (List HouseMark)} {now : Side} {policy : Policy} {pid : ℕ} {start : Option (List Mark)} {seen : Seen} {held failed : List ℕ} {given : ℕ} {todo : List ℕ} {s : State} (k : ℕ) (v : Serving May Rest before now policy pid start seen held failed given (without k (k ∷ todo)) s) → Serving May Rest before now policy pid start seen held failed given todo s
+pub narrower : {May : HouseReply → Type 0} {Rest : Resting} {before : Option (List HouseMark)} {now : Side} {policy : Policy} {pid : ℕ} {start : Option (List Mark)} {seen : Seen} {held failed : List ℕ} {given : ℕ} {todo : List ℕ} {s : State} (k : ℕ) (v : Serving May Rest before now policy pid start seen held failed given (without k (k ∷ todo)) s) → Serving May Rest before now policy pid start seen held failed given todo s
 narrower {todo = todo} k v = serve-todo v todo (λ t a. inl (elim (eqb_tells k t) [
   | inl q ↦ ap (λ i. among i (without k (k ∷ todo))) (sym q.1) ∙ none-without k (k ∷ todo)
   | inr q ↦ without-other k t (k ∷ todo) q.1 ∙ (ap (λ b. b || among t todo) q.0 ∙ a)

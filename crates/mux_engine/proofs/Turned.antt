@@ -34,9 +34,9 @@ use Rattle.mux_machine.specs.Stands.{GoesBy, IsAllowed}
 use Rattle.mux_machine.specs.Twins.{AreAlike}
 use Rattle.mux_machine.proofs.Twins.{stands-alike}
 use Rattle.mux_engine.specs.Asking.{HeedsSo}
-use Rattle.mux_engine.specs.Run.{RestedAt}
+use Rattle.mux_engine.specs.Run.{RestedAt, is_by_house}
 use Rattle.mux_engine.specs.Serving.{IsUnseen, Promised, Serving}
-use Rattle.mux_engine.specs.Sides.{Side, house_mark}
+use Rattle.mux_engine.specs.Sides.{Resting, Side, house_mark}
 use Rattle.mux_engine.specs.Turns.{IsEventOf, want_of}
 use Rattle.mux_engine.proofs.Asks.{EachAsked, SaidBy, all-asks, asked-accepted, goes-asked}
 use Rattle.mux_engine.proofs.Cuts.{cut-next, of-streams}
@@ -109,7 +109,7 @@ goes-twin {picked = picked} {replies = replies} {s = s} {s' = s'} twin mark {mar
   asked = λ p r. ap asked_of (sym (alike.log (by_lists s'.core.policy s'.pid ((picked ++ g.picks) ++ p) ((replies ++ g.replies) ++ r)))) ∙ g.asked p r;
 }
 
-module _ {May : HouseReply → Type 0} {Rest : Option (List HouseMark) → Type 0} {before : Option (List HouseMark)} {now : Side} {policy : Policy} {pid : ℕ} {start : Option (List Mark)} {seen : Seen} {held failed : List ℕ} {given : ℕ} {s : State}
+module _ {May : HouseReply → Type 0} {Rest : Resting} {before : Option (List HouseMark)} {now : Side} {policy : Policy} {pid : ℕ} {start : Option (List Mark)} {seen : Seen} {held failed : List ℕ} {given : ℕ} {s : State}
     (v : Serving May Rest before now policy pid start seen held failed given [] s) (live : s.ended ≡ None) where
   -- an event that was told, as by its twin, and how the streams are then
   pub record EventAt (e : Event) (seen' : Seen) (given' : ℕ) : Type 0 where
@@ -124,7 +124,8 @@ module _ {May : HouseReply → Type 0} {Rest : Option (List HouseMark) → Type 
     pub said : SaidBy (λ k. is_accepted k (mark ∷ v.journal) ≡ true) mark
     pub spares : (k : ℕ) → among k v.closed ≡ true → Spares k mark
     pub speaks : (picks : List ℕ) (later : List HouseReply) → SpeaksInTime (by_lists policy pid (v.picked ++ picks) (v.replies ++ later)) v.journal mark
-    pub rested : RestedAt Rest before v.journal mark
+    pub rested : RestedAt Rest.rests before v.journal mark
+    pub absent : Rest.present ≡ false → is_by_house mark ≡ false
     pub turns : turns_in (mark ∷ v.journal) ≡ given'
     pub plain : house_mark mark ≡ now.unnoted
     pub cut : (set : Setting) → IsLog set (mark ∷ v.journal) (log_of_journal set v.journal)
@@ -142,7 +143,7 @@ module _ {May : HouseReply → Type 0} {Rest : Option (List HouseMark) → Type 
       let first : Serving May Rest before now' policy pid start seen' held failed given' (0 ∷ here s') s' = serve-event v at.mark g now' seen' held failed given' h.keeps.policy h.keeps.pid live at.is (λ t a. refl) at.spares (λ picks later. subst (λ (ps : List ℕ). SpeaksInTime (by_lists policy pid ps ((v.replies ++ g.replies) ++ later)) v.journal at.mark) (sym (append_assoc v.picked g.picks picks)) (subst (λ (rs : List HouseReply). SpeaksInTime (by_lists policy pid (v.picked ++ (g.picks ++ picks)) rs) v.journal at.mark) (sym (append_assoc v.replies g.replies later)) (at.speaks (g.picks ++ picks) (g.replies ++ later))))
       (record { more = asks; told_is = subst (λ (t : Option (List HouseMark)). TellsAsks t told' asks) (sym same_told) h.told_is; noted_is = ap (λ l. l ++ asks) at.plain; asks_are = all-asks (λ k. is_accepted k (at.mark ∷ v.journal) ≡ true) asks each ∙ listed })
       (asked-accepted (at.mark ∷ v.journal) asks known each (subst (λ l. All (λ a. IsTrue (is_accepted a.client (at.mark ∷ v.journal))) l) same_asks (λ k d lt. accepted-more at.mark v.journal _ (v.askers k d lt))))
-      (at.house ∙ v.house_in) at.rested at.turns at.marks (at.placed s' h.keeps.streams) in
+      (at.house ∙ v.house_in) v.house_there at.rested at.absent at.turns at.marks (at.placed s' h.keeps.streams) in
       subst (λ (x : Seen). Serving May Rest before (record { told = told'; asks = known'.asks; unnoted = drop n asks; let_in = now.let_in }) policy pid start x held failed given' (0 ∷ here s') s') (sym h.seen_is)
       (subst (λ (k : Known). Serving May Rest before (record { told = told'; asks = k.asks; unnoted = drop n asks; let_in = now.let_in }) policy pid start (seen-with (take n asks) seen') held failed given' (0 ∷ here s') s') (sym h.known_is)
       (note-some n asks (λ k. is_accepted k (at.mark ∷ v.journal) ≡ true) each first refl))
@@ -155,4 +156,4 @@ module _ {May : HouseReply → Type 0} {Rest : Option (List HouseMark) → Type 
   pub event-cut : (e : Event) (seen' : Seen) (given' : ℕ) (at : EventAt e seen' given') (told' : Option (List HouseMark)) (more : List HouseMark) → TellsAsks now.told told' more → Promised May Rest before told' policy pid start seen'.told given'
   event-cut e seen' given' at told' more told =
       cut-next v told' seen'.told given' at.mark more more at.marks told (ap (λ l. l ++ more) at.plain) (of-streams seen'.streams seen'.blocked seen'.last (at.mark ∷ v.journal) at.of_wire)
-      (let w : turns_in (at.mark ∷ v.journal) ≡ given' = at.turns in omega arith) at.rested at.cut (λ picks later. told-promise _ at.mark v.journal at.is (at.speaks picks later))
+      (let w : turns_in (at.mark ∷ v.journal) ≡ given' = at.turns in omega arith) at.rested at.absent at.cut (λ picks later. told-promise _ at.mark v.journal at.is (at.speaks picks later))

@@ -22,7 +22,7 @@ use Rattle.mux_machine.specs.State.{State, is_here}
 use Rattle.mux_machine.specs.Events.{here}
 use Rattle.mux_machine.specs.Stands.{GoesBy, RowsFit}
 use Rattle.mux_engine.specs.Serving.{IsSound, Serving}
-use Rattle.mux_engine.specs.Sides.{Side}
+use Rattle.mux_engine.specs.Sides.{Resting, Side}
 use Rattle.mux_engine.proofs.Lists.{among-open, true-false}
 use Rattle.mux_engine.proofs.Logs.{log-out, settled-as}
 use Rattle.mux_engine.proofs.Marks.{PromiseAt, SoundAt, log-is, sound-at, stood-at}
@@ -70,7 +70,7 @@ told-promise set (Fails k) journal h speaks = record { takes = tt; waits = tt; s
 told-promise set (House m) journal h speaks = record { takes = tt; waits = tt; speaks = speaks; open_streams = tt }
 told-promise set mark journal h speaks = absurd h
 
-module _ {May : HouseReply → Type 0} {Rest : Option (List HouseMark) → Type 0} {before : Option (List HouseMark)} {now : Side} {policy : Policy} {pid : ℕ} {start : Option (List Mark)} {seen : Seen} {held failed : List ℕ} {given : ℕ} {todo : List ℕ} {s : State}
+module _ {May : HouseReply → Type 0} {Rest : Resting} {before : Option (List HouseMark)} {now : Side} {policy : Policy} {pid : ℕ} {start : Option (List Mark)} {seen : Seen} {held failed : List ℕ} {given : ℕ} {todo : List ℕ} {s : State}
     (v : Serving May Rest before now policy pid start seen held failed given todo s) {told told' : Option (List HouseMark)} {s' : State} (mark : Mark) (g : GoesBy May told told' v.picked v.replies s s' mark v.journal v.closed)
     (same_policy : s'.core.policy ≡ s.core.policy) (same_pid : s'.pid ≡ s.pid) (is : IsTold mark) (lawful : IsLawful (mark ∷ v.journal)) (covers : (t : ℕ) → among t (0 ∷ here s') ≡ false → among t todo ≡ false) where
   abbrev picks-then : List ℕ → List ℕ

@@ -32,7 +32,7 @@ use Rattle.mux_machine.proofs.Twins.{stands-alike}
 use Rattle.mux_engine.specs.Owned.{IsOffered, waits_for}
 use Rattle.mux_engine.specs.Run.{RestedAt}
 use Rattle.mux_engine.specs.Serving.{IsSound, Serving, is_open}
-use Rattle.mux_engine.specs.Sides.{Housed, Side, house_marks}
+use Rattle.mux_engine.specs.Sides.{Housed, Resting, Side, house_marks}
 use Rattle.mux_engine.specs.Turns.{want_of}
 use Rattle.mux_engine.proofs.Closed.{both-tests}
 use Rattle.mux_engine.proofs.Lists.{among-filter, among-open, and-first, and-second, not-own-stream, open-here, true-false}
@@ -102,7 +102,7 @@ pub record Offered (seen : Seen) (own held failed : List ℕ) (queue : ℕ → L
   pub numbered : (t : ℕ) → IsTrue (is_one t seen.own) → IsTrue (is_own t)
   pub offered : (t : ℕ) → among t own ≡ true → IsOffered (queue t) held failed t
 
-module _ {May : HouseReply → Type 0} {Rest : Option (List HouseMark) → Type 0} {before : Option (List HouseMark)} {now : Side} {policy : Policy} {pid : ℕ} {start : Option (List Mark)} {seen : Seen} {held failed : List ℕ} {given : ℕ} {s : State}
+module _ {May : HouseReply → Type 0} {Rest : Resting} {before : Option (List HouseMark)} {now : Side} {policy : Policy} {pid : ℕ} {start : Option (List Mark)} {seen : Seen} {held failed : List ℕ} {given : ℕ} {s : State}
     (v : Serving May Rest before now policy pid start seen held failed given [] s) (none : s.leaving ≡ []) (admitted : s.refused ≡ []) (live : s.ended ≡ None) {own : List ℕ} {queue : ℕ → List ℕ} (o : Offered seen own held failed queue) where
   abbrev setting : List ℕ → List HouseReply → Setting
   setting picks later = by_lists policy pid (v.picked ++ picks) (v.replies ++ later)
@@ -279,7 +279,7 @@ module _ {May : HouseReply → Type 0} {Rest : Option (List HouseMark) → Type 
   seen-waiting = record seen { told = option_map (λ m. m ++ wait-mark ∷ []) seen.told }
 
   -- the call was told
-  unfoldable pub waited : seen.listens ≡ s.listening → now.unnoted ≡ [] → (want_of s ≡ Read → Rest now.told) → Serving May Rest before now policy pid start seen-waiting held failed (given + 1) [] s
+  unfoldable pub waited : seen.listens ≡ s.listening → now.unnoted ≡ [] → (want_of s ≡ Read → Rest.rests now.told) → Serving May Rest before now policy pid start seen-waiting held failed (given + 1) [] s
   waited hears noted rests =
       let alike = waits-alike all-waiting seen.streams (want_of s) seen.listens v.journal in
       let told : now.told ≡ option_map (λ l. l ++ house_marks v.journal) before = v.house ∙ ap (λ (ms : List HouseMark). option_map (λ (l : List HouseMark). l ++ ms) before) (ap (λ l. house_marks v.journal ++ l) noted ∙ append-nil (house_marks v.journal)) in
@@ -291,7 +291,9 @@ module _ {May : HouseReply → Type 0} {Rest : Option (List HouseMark) → Type 
         notes = notes-none now wait-mark refl;
         askers = askers-more v wait-mark;
         house_in = v.house_in;
-        rested = rest-at Rest before v.journal all-waiting seen.streams seen.listens (want_of s) (λ e. subst Rest told (rests e));
+        house_there = v.house_there;
+        rested = rest-at Rest.rests before v.journal all-waiting seen.streams seen.listens (want_of s) (λ e. subst Rest.rests told (rests e));
+        absent = λ e. refl;
         turns = ap (λ n. n + 1) v.turns;
         placed = placed-still v wait-mark seen-waiting s record {
           lawful = (all-of (λ t. IsTrue (is_blocked t v.journal)) all-waiting blocked-of, v.of_wire.lawful);

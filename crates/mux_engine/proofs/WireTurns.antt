@@ -26,7 +26,7 @@ use Rattle.mux_machine.specs.declared.event.Event.{Event}
 use Rattle.mux_machine.specs.Events.{here}
 use Rattle.mux_machine.specs.Twins.{AreAlike}
 use Rattle.mux_engine.specs.Serving.{IsUnseen, Serving}
-use Rattle.mux_engine.specs.Sides.{Side}
+use Rattle.mux_engine.specs.Sides.{Resting, Side}
 use Rattle.mux_engine.specs.Turns.{IsEventOf, want_of}
 use Rattle.mux_engine.proofs.Happened.{placed-accepts, placed-ends, placed-fails, placed-gets}
 use Rattle.mux_engine.proofs.Lists.{not-own-stream, test-other, true-false}
@@ -52,9 +52,9 @@ house-apart k le e = absurd (omega (arith, le, e))
 pub same-marks : (marks : List Mark) → AreAlike marks marks
 same-marks marks = record { log = λ set. refl; bytes = λ t. refl; accepted = λ k. refl }
 
-module _ {May : HouseReply → Type 0} {Rest : Option (List HouseMark) → Type 0} {before : Option (List HouseMark)} {now : Side} {policy : Policy} {pid : ℕ} {start : Option (List Mark)} {seen : Seen} {held failed : List ℕ} {given : ℕ} {s : State}
+module _ {May : HouseReply → Type 0} {Rest : Resting} {before : Option (List HouseMark)} {now : Side} {policy : Policy} {pid : ℕ} {start : Option (List Mark)} {seen : Seen} {held failed : List ℕ} {given : ℕ} {s : State}
     (v : Serving May Rest before now policy pid start seen held failed given [] s) (none : s.leaving ≡ []) (admitted : s.refused ≡ []) (live : s.ended ≡ None) {own : List ℕ} {queue : ℕ → List ℕ} (o : Offered seen own held failed queue)
-    (hears : seen.listens ≡ s.listening) (noted : now.unnoted ≡ []) (rests : want_of s ≡ Read → Rest now.told) where
+    (hears : seen.listens ≡ s.listening) (noted : now.unnoted ≡ []) (rests : want_of s ≡ Read → Rest.rests now.told) where
   -- what holds with the call of wait
   abbrev pub now-waiting : Serving May Rest before now policy pid start (seen-waiting v none admitted live o) held failed (given + 1) [] s
   now-waiting = waited v none admitted live o hears noted rests
@@ -94,6 +94,7 @@ module _ {May : HouseReply → Type 0} {Rest : Option (List HouseMark) → Type 
         spares = λ j c e. true-false (sym c ∙ (ap (λ i. among i v.closed) (sym e) ∙ ((v.stands.at [] []).bytes.strange k new.not_accepted).not_closed_yet));
         speaks = λ picks later. tt;
         rested = tt;
+        absent = λ e. refl;
         turns = now-waiting.turns;
         plain = sym noted;
         cut = λ set. inr (0, refl);
@@ -113,6 +114,7 @@ module _ {May : HouseReply → Type 0} {Rest : Option (List HouseMark) → Type 
     spares = λ j c. tt;
     speaks = λ picks later. tt;
     rested = tt;
+    absent = λ e. refl;
     turns = now-waiting.turns;
     plain = sym noted;
     cut = λ set. inr (0, refl);
@@ -132,6 +134,7 @@ module _ {May : HouseReply → Type 0} {Rest : Option (List HouseMark) → Type 
     spares = λ j c. tt;
     speaks = λ picks later. tt;
     rested = tt;
+    absent = λ e. refl;
     turns = now-waiting.turns;
     plain = sym noted;
     cut = λ set. inr (0, refl);
@@ -151,6 +154,7 @@ module _ {May : HouseReply → Type 0} {Rest : Option (List HouseMark) → Type 
     spares = λ j c. tt;
     speaks = λ picks later. tt;
     rested = tt;
+    absent = λ e. refl;
     turns = now-waiting.turns;
     plain = sym noted;
     cut = λ set. inr (0, refl);

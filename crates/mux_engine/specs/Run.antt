@@ -1,10 +1,10 @@
 -- What is promised of a whole run.
-use Rattle.std.specs.Prelude.{◌≡◌, ◌≢◌, ◌≤◌, ◌<◌, ℕ, false, List, ◌++◌, length, Option}
+use Rattle.std.specs.Prelude.{◌≡◌, ◌≢◌, ◌≤◌, ◌<◌, ℕ, Bool, false, not, List, ◌++◌, length, All, Option}
 use Rattle.std.specs.Option.{option_map}
 use Rattle.mux_outside.specs.declared.house_mark.HouseMark.{HouseMark}
 use Rattle.mux_outside.specs.declared.house.HouseReply.{HouseReply}
 use Rattle.mux_outside.specs.declared.mark.Mark.{Mark}
-use Rattle.mux_outside.specs.declared.mark.Mark.TheVariants.{Waits}
+use Rattle.mux_outside.specs.declared.mark.Mark.TheVariants.{Waits, House}
 use Rattle.mux_outside.specs.OwnStreams.{is_own}
 use Rattle.mux_outside.specs.declared.turn.Want.TheVariants.{Read}
 use Rattle.mux_history.specs.declared.ended.Ended.{Ended}
@@ -19,7 +19,7 @@ use Rattle.mux_history.specs.Solo.{solo}
 use Rattle.mux_history.specs.Right.{AreFresh, IsAdmitted, TakesPick}
 use Rattle.mux_history.specs.Journal.{IsLawful, Tells, bytes_of, log_of_journal, taken_by}
 use Rattle.mux_history.specs.Kept.{AtEach, ForEach, Kept, OwnWords}
-use Rattle.mux_history.specs.Promises.{ConnectionEnds, IsFront, MayGive, OpenStreams, Settled, Throughout, Written, turns_in}
+use Rattle.mux_history.specs.Promises.{ConnectionEnds, IsFront, MayGive, OpenStreams, Settled, Throughout, Written, is_asked, turns_in}
 use Rattle.mux_history.specs.Wires.{ReadsWhenAsked}
 use Rattle.mux_isolation.specs.Bytes.{GivesAlike, SendsAlike}
 use Rattle.mux_isolation.specs.Laws.{WaitsBounded}
@@ -44,6 +44,11 @@ RestedAt Rest before journal mark = Unit {0}
 abbrev pub Rested : (Option (List HouseMark) → Type 0) → Option (List HouseMark) → List Mark
     → Type 0
 Rested Rest before journal = Throughout (RestedAt Rest before) journal
+
+-- a mark of what a house does by itself
+abbrev pub is_by_house : Mark → Bool
+is_by_house (House mark) = not (is_asked mark)
+is_by_house mark = false
 
 -- how a run ends: as the journal says, and each stream was offered what waits for it
 pub record EndsRight (setting : Setting) (turns : ℕ) (journal : List Mark) (refused : Option ℕ)
@@ -84,11 +89,12 @@ pub record KeepsRows (setting : Setting) (rows : List Row) : Type 0 where
 -- memory may have cut those of its last event. Each number is fresh at its row, and there is one for
 -- each row that takes one, and one reply for each row that asks; the house, which told `before` and
 -- tells `now`, told what the journal has of it, where its asks are those of these rows, and where
--- memory was wanting perhaps some more. These rows, and all others that want of memory may have left,
--- keep what is promised of rows; and but for want of memory the run ends right, where `refused` is
--- the forwarding of the start that was refused, if none may be.
+-- memory was wanting perhaps some more; where none is present, the journal has nothing of a house but
+-- the asks of clients. These rows, and all others that want of memory may have left, keep what is
+-- promised of rows; and but for want of memory the run ends right, where `refused` is the forwarding
+-- of the start that was refused, if none may be.
 pub record IsRun (May : HouseReply → Type 0) (Rest : Option (List HouseMark) → Type 0)
-    (policy : Policy) (pid turns : ℕ) (before now : Option (List HouseMark))
+    (present : Bool) (policy : Policy) (pid turns : ℕ) (before now : Option (List HouseMark))
     (start told : Option (List Mark)) (refused : Option ℕ) (answer : Ended) : Type 0 where
   pub journal : List Mark
   pub picks : List ℕ
@@ -117,5 +123,6 @@ pub record IsRun (May : HouseReply → Type 0) (Rest : Option (List HouseMark) �
   pub house_whole : answer ≢ OutOfMemory → TellsAsks before now (house_marks journal)
   pub asks_whole : answer ≢ OutOfMemory → asks_in (house_marks journal) ≡ asked_of rows
   pub rested : Rested Rest before journal
+  pub absent : present ≡ false → All (λ (mark : Mark). is_by_house mark ≡ false) journal
   pub ends : answer ≢ OutOfMemory
       → EndsRight (by_lists policy pid picks replies) turns journal refused answer

@@ -26,8 +26,8 @@ use Rattle.mux_clients.specs.Asked.{asked_of, TellsAsks}
 use Rattle.mux_machine.specs.State.{State, is_here}
 use Rattle.mux_machine.specs.Events.{here}
 use Rattle.mux_machine.specs.Stands.{Stands}
-use Rattle.mux_engine.specs.Run.{IsOfWire, Rested}
-use Rattle.mux_engine.specs.Sides.{Side, asks_in, house_marks}
+use Rattle.mux_engine.specs.Run.{IsOfWire, Rested, is_by_house}
+use Rattle.mux_engine.specs.Sides.{Resting, Side, asks_in, house_marks}
 
 -- a stream that is open: the server's, and that of a client that is here
 abbrev pub is_open : State → ℕ → Bool
@@ -69,10 +69,12 @@ IsFree last k = (IsTrue (is_own k) × (last < k)) ⊎ (k ≡ HOUSE)
 
 -- with the numbers that were picked and the replies that the house gave at once, one to each ask
 -- that it was told since it told `before`, the engine stands for what the wire told since the start,
--- in which `given` turns were given; all that the house told since is there but its last asks; the
--- journal is one that a wire can give; the streams that are open are the server's, those of the
--- clients that are here and the master's own; and whatever is picked and replied later, all is sound
-pub record Serving (May : HouseReply → Type 0) (Rest : Option (List HouseMark) → Type 0)
+-- in which `given` turns were given; all that the house told since is there but its last asks; one
+-- that was let in is present, and where none is the journal has nothing of a house but the asks of
+-- clients; the journal is one that a wire can give; the streams that are open are the server's, those
+-- of the clients that are here and the master's own; and whatever is picked and replied later, all is
+-- sound
+pub record Serving (May : HouseReply → Type 0) (Rest : Resting)
     (before : Option (List HouseMark)) (now : Side) (policy : Policy) (pid : ℕ)
     (start : Option (List Mark)) (seen : Seen) (held failed : List ℕ) (given : ℕ)
     (todo : List ℕ) (s : State) : Type 0 where
@@ -88,7 +90,9 @@ pub record Serving (May : HouseReply → Type 0) (Rest : Option (List HouseMark)
   pub asked : asks_in (house_marks journal ++ now.unnoted) ≡ stands.asks
   pub askers : All (λ (a : OpenAsk). IsTrue (is_accepted a.client journal)) now.asks
   pub house_in : is_accepted HOUSE journal ≡ now.let_in
-  pub rested : Rested Rest before journal
+  pub house_there : now.let_in ≡ true → Rest.present ≡ true
+  pub rested : Rested Rest.rests before journal
+  pub absent : Rest.present ≡ false → All (λ (mark : Mark). is_by_house mark ≡ false) journal
   pub tells : Tells start seen.told journal
   pub of_wire : OfWire seen.streams seen.blocked seen.last journal
   pub turns : turns_in journal ≡ given
@@ -107,7 +111,7 @@ pub record Serving (May : HouseReply → Type 0) (Rest : Option (List HouseMark)
 
 -- the same, whatever came before, and whichever streams are to be offered what waits for them
 pub record IsServed (May : HouseReply → Type 0)
-    (Rest : Bool → Option (List HouseMark) → Type 0) (seen : Seen) (held : List ℕ) (s : State) :
+    (Rest : Bool → Resting) (seen : Seen) (held : List ℕ) (s : State) :
     Type 0 where
   pub present : Bool
   pub before : Option (List HouseMark)
@@ -121,7 +125,7 @@ pub record IsServed (May : HouseReply → Type 0)
   pub serving : Serving May (Rest present) before now policy pid start seen held failed given todo s
 
 -- the same with this house, whatever came before it
-pub record ServedWith (May : HouseReply → Type 0) (Rest : Option (List HouseMark) → Type 0)
+pub record ServedWith (May : HouseReply → Type 0) (Rest : Resting)
     (now : Side) (seen : Seen) (held failed todo : List ℕ) (s : State) : Type 0 where
   pub before : Option (List HouseMark)
   pub policy : Policy
@@ -144,7 +148,7 @@ pub record IsLeft (setting : Setting) (journal : List Mark) (taken : ℕ) (asks 
   pub asked_is : asked_of rows ≡ asks
 
 -- what is left of it for want of memory: the house may have told some more
-pub record Promised (May : HouseReply → Type 0) (Rest : Option (List HouseMark) → Type 0)
+pub record Promised (May : HouseReply → Type 0) (Rest : Resting)
     (before now : Option (List HouseMark)) (policy : Policy) (pid : ℕ)
     (start told : Option (List Mark)) (given : ℕ) : Type 0 where
   pub journal : List Mark
@@ -157,7 +161,8 @@ pub record Promised (May : HouseReply → Type 0) (Rest : Option (List HouseMark
   pub each : length asks ≡ length replies
   pub house : TellsAsks before now (house_marks journal ++ more)
   pub asked : asks_in (house_marks journal ++ more) ≡ asks ++ more_asks
-  pub rested : Rested Rest before journal
+  pub rested : Rested Rest.rests before journal
+  pub absent : Rest.present ≡ false → All (λ (mark : Mark). is_by_house mark ≡ false) journal
   pub tells : Tells start told journal
   pub of_wire : IsOfWire journal
   pub turns : turns_in journal ≤ given
@@ -171,7 +176,7 @@ pub record Promised (May : HouseReply → Type 0) (Rest : Option (List HouseMark
 -- `rest`, or what was promised is left. The house is not called meanwhile
 abbrev pub ServesOn :
     {A E : Type 0} → Result A E → (HouseReply → Type 0)
-    → (Bool → Option (List HouseMark) → Type 0) → Seen → Seen → List ℕ → List ℕ → List ℕ
+    → (Bool → Resting) → Seen → Seen → List ℕ → List ℕ → List ℕ
     → (A → List ℕ) → State → State → Type 0
 ServesOn result May Rest seen seen' held held' todo rest s s' =
     (present : Bool) (before : Option (List HouseMark)) (now : Side) (policy : Policy) (pid : ℕ)
@@ -185,7 +190,7 @@ ServesOn result May Rest seen seen' held held' todo rest s s' =
 -- the same where streams of the master's own are offered what waits for them
 abbrev pub OwnOn :
     {A E : Type 0} → Result A E → (HouseReply → Type 0)
-    → (Bool → Option (List HouseMark) → Type 0) → Seen → Seen → List ℕ → List ℕ → List ℕ
+    → (Bool → Resting) → Seen → Seen → List ℕ → List ℕ → List ℕ
     → List ℕ → Type 0
 OwnOn result May Rest seen seen' held held' failed failed' =
     (present : Bool) (before : Option (List HouseMark)) (now : Side) (policy : Policy) (pid : ℕ)
@@ -197,7 +202,7 @@ OwnOn result May Rest seen seen' held held' failed failed' =
 
 -- the same where the house is called: with so many turns more, or with so many at most
 abbrev pub RunsOn :
-    {A E : Type 0} → Result A E → (HouseReply → Type 0) → (Option (List HouseMark) → Type 0)
+    {A E : Type 0} → Result A E → (HouseReply → Type 0) → Resting
     → Side → Side → Seen → Seen → List ℕ → List ℕ → List ℕ → List ℕ → ℕ → (A → ℕ) → List ℕ
     → (A → List ℕ) → State → State → Type 0
 RunsOn result May Rest now now' seen seen' held held' failed failed' most more todo rest s s' =
@@ -210,7 +215,7 @@ RunsOn result May Rest now now' seen seen' held held' failed failed' most more t
 
 -- behind a turn of the run, which was given; where the run doesn't go on perhaps none was
 abbrev pub EndsTurn :
-    Bool → ℕ → (HouseReply → Type 0) → (Option (List HouseMark) → Type 0)
+    Bool → ℕ → (HouseReply → Type 0) → Resting
     → Option (List HouseMark) → Side → Policy → ℕ → Option (List Mark) → Seen → List ℕ → List ℕ
     → List ℕ → State → Type 0
 EndsTurn on given May Rest before now policy pid start seen held failed todo s =
@@ -219,7 +224,7 @@ EndsTurn on given May Rest before now policy pid start seen held failed todo s =
 
 -- behind the turns of a run, which were all given unless it doesn't go on
 pub record Spends (all : Bool) (turns : ℕ) (May : HouseReply → Type 0)
-    (Rest : Option (List HouseMark) → Type 0) (before : Option (List HouseMark)) (now : Side)
+    (Rest : Resting) (before : Option (List HouseMark)) (now : Side)
     (policy : Policy) (pid : ℕ) (start : Option (List Mark)) (seen : Seen) (held failed : List ℕ)
     (todo : List ℕ) (s : State) : Type 0 where
   pub given : ℕ

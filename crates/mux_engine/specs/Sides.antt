@@ -52,11 +52,17 @@ noted told known = noting [] told known
 abbrev pub outside : Option (List HouseMark) → Known → Side
 outside told known = record (noted told known) { let_in = false }
 
+-- whether a house is present, and what is so of it at rest by what it told
+pub record Resting : Type 1 where
+  pub present : Bool
+  pub rests : Option (List HouseMark) → Type 0
+
 -- there is a house at rest that has told this, unless none is present
-abbrev pub RestsOf : {T : Type 0} → (T → Option (List HouseMark)) → (T → Quiet) → Bool
-    → Option (List HouseMark) → Type 0
-RestsOf {T} told quiet present now =
-    IsTrue present → (house : T) × (IsAtRest (quiet house) × (told house ≡ now))
+abbrev pub RestsOf : {T : Type 0} → (T → Option (List HouseMark)) → (T → Quiet) → Bool → Resting
+RestsOf {T} told quiet present = record {
+  present = present;
+  rests = λ now. IsTrue present → (house : T) × (IsAtRest (quiet house) × (told house ≡ now));
+}
 
 -- ---- its streams and listeners
 

@@ -42,7 +42,7 @@ pub fn let_in<W: Wire, H: House>(
         (given : ℕ) →
         (v : Serving H.may (RestsOf H.told H.quiet present) before now policy pid start
         (W.seen wire.old) held failed given (0 ∷ here engine.old) engine.old) → v.journal ≡ [] →
-        MatchResult result
+        present ≡ true → MatchResult result
         (λ x. Serving H.may (RestsOf H.told H.quiet present) before
         (record now { let_in = true }) policy pid start (W.seen wire.new) held failed given
         (0 ∷ here engine.new) engine.new)
@@ -109,6 +109,7 @@ fn reply<W: Wire, H: House>(
     asks: &mut Asks,
 ) -> Result<bool, OutOfMemory>
     requires ordering { (H.known house.old).ordering ≡ None }
+    requires present { (H.known house.old).present ≡ true }
     requires on { engine.old.ended ≡ None }
     ensures serving { (held failed : List ℕ) → RunsOn result H.may
         (RestsOf H.told H.quiet (H.known house.old).present)
@@ -160,6 +161,7 @@ pub fn reply_all<W: Wire, H: House>(
         (noted (H.told house.old) (H.known house.old)) (W.seen wire.old) lists.old.held
         lists.old.failed (0 ∷ here engine.old) engine.old }
     requires housed { Housed (H.known house.old) (W.seen wire.old) lists.old.own }
+    requires present { (H.known house.old).present ≡ true }
     requires held_is { lists.old.held ≡ (W.seen wire.old).blocked }
     requires on { engine.old.ended ≡ None }
     ensures serving { RunsOn result H.may (RestsOf H.told H.quiet (H.known house.old).present)

@@ -124,6 +124,7 @@ fn obey<W: Wire, H: House>(
     order: Order,
 ) -> Result<(), OutOfMemory>
     requires ordered { HasOrdered order (H.known house.old) (W.seen wire.old) lists.old.own }
+    requires present { (H.known house.old).present ≡ true }
     ensures serving { (todo : List ℕ) (s : TheState) → RunsOn result H.may
         (RestsOf H.told H.quiet (H.known house.old).present)
         (noting (order_marks (Some order)) (H.told house.old) (H.known house.old))
@@ -151,6 +152,7 @@ pub fn next_order<W: Wire, H: House>(
     lists: &mut Lists,
 ) -> Result<bool, OutOfMemory>
     requires housed { Housed (H.known house.old) (W.seen wire.old) lists.old.own }
+    requires present { (H.known house.old).present ≡ true }
     ensures serving { (todo : List ℕ) (s : TheState) → RunsOn result H.may
         (RestsOf H.told H.quiet (H.known house.old).present)
         (noted (H.told house.old) (H.known house.old))

@@ -403,8 +403,9 @@ fn run<W: Wire, H: House>(
         (start : Option (List TheMark)) →
         (v : Serving H.may (RestsOf H.told H.quiet (H.known house.old).present) before
         (outside (H.told house.old) (H.known house.old)) policy pid start (W.seen wire.old) [] [] 0 (0 ∷ here engine.old) engine.old) → v.journal ≡ [] →
-        IsRun H.may (RestsOf H.told H.quiet (H.known house.old).present) policy pid turns before
-        (H.told house.new) start (W.seen wire.new).told
+        IsRun H.may (RestsOf H.told H.quiet (H.known house.old).present).rests
+        (H.known house.old).present policy pid turns before (H.told house.new)
+        start (W.seen wire.new).told
         (refused_if (H.known house.old).present (H.must house.new) (H.refused house.new))
         (result_unwrap_or result WantOfMemory) }
     ensures permitted { IfOk result (λ answer. (index : ℕ) → answer ≡ StartWasRefused index
@@ -452,8 +453,9 @@ pub fn serve<W: Wire, H: House>(
     requires own { (W.seen wire.old).own ≡ [] }
     requires listeners { (W.seen wire.old).listeners ≡ [] }
     requires blank { H.known house.old ≡ nothing_known (H.known house.old).present }
-    ensures kept { IsRun H.may (RestsOf H.told H.quiet (H.known house.old).present) policy pid turns
-        (H.told house.old) (H.told house.new) (W.seen wire.old).told (W.seen wire.new).told
+    ensures kept { IsRun H.may (RestsOf H.told H.quiet (H.known house.old).present).rests
+        (H.known house.old).present policy pid turns (H.told house.old)
+        (H.told house.new) (W.seen wire.old).told (W.seen wire.new).told
         (refused_if (H.known house.old).present (H.must house.new) (H.refused house.new)) result }
     ensures permitted { (index : ℕ) → result ≡ StartWasRefused index
         → refused_if (H.known house.old).present (H.must house.new) (H.refused house.new)

@@ -6,6 +6,7 @@ use Rattle.conf_rules.specs.Diagnostics.{Ending}
 use Rattle.conf_rules.specs.Outcome.{Ends, Writes, Opens, Drills, Joins}
 use Rattle.conf_rules.specs.Texts.{Bytes}
 use Rattle.conf_rules.specs.Told.{Told}
+use Rattle.mux_engine.specs.Sides.{Resting}
 use Rattle.mux_outside.specs.declared.house.HouseReply.{HouseReply}
 use Rattle.mux_outside.specs.declared.house_mark.HouseMark.{HouseMark}
 use Rattle.mux_outside.specs.declared.mark.Mark.{Mark}
@@ -131,7 +132,7 @@ unopened (Master transport os ls) status before now h = inr h
 pub opened_after : (k : Known) (status : Status) (ending : Ending) (b n : Option (List ℕ)) (f f' : ℕ) (before now : Option (List Opening)) → Reports status ending b n f f' → OpensOnce k (status_of ending) before now → OpensOnce k status before now
 opened_after k status ending b n f f' before now r h = carried (λ s. OpensOnce k s before now) status ending (reported status ending b n f f' r) (unopened k (status_of ending) before now h) h
 
-module _ (May : HouseReply → Type 0) (Rest : Option (List HouseMark) → Type 0) (policy : Policy) (pid turns : ℕ) (before now : Option (List HouseMark)) (start told : Option (List Mark)) (refused : Option ℕ) (b n : Option (List ℕ)) (f f' : ℕ) where
+module _ (May : HouseReply → Type 0) (Rest : Resting) (policy : Policy) (pid turns : ℕ) (before now : Option (List HouseMark)) (start told : Option (List Mark)) (refused : Option ℕ) (b n : Option (List ℕ)) (f f' : ℕ) where
   abbrev Served : Status → Type 0
   Served status = Serves May Rest policy pid turns before now start told refused status b n f f'
 
@@ -204,13 +205,13 @@ done-is status (answers.StartRefused index) t = absurd cc
 done-is status answers.Spent t = absurd cc
 done-is status answers.OutOfMemory t = absurd cc
 
-shared-well-now : (May : HouseReply → Type 0) (Rest : Option (List HouseMark) → Type 0) (policy : Policy) (pid turns : ℕ) (before now : Option (List HouseMark)) (start told : Option (List Mark)) (refused : Option ℕ) (b : Option (List ℕ)) (f : ℕ) (status : Status) → IsShared May Rest policy pid turns before now start told refused (Ok status) → Serves May Rest policy pid turns before now start told refused status b b f f
+shared-well-now : (May : HouseReply → Type 0) (Rest : Resting) (policy : Policy) (pid turns : ℕ) (before now : Option (List HouseMark)) (start told : Option (List Mark)) (refused : Option ℕ) (b : Option (List ℕ)) (f : ℕ) (status : Status) → IsShared May Rest policy pid turns before now start told refused (Ok status) → Serves May Rest policy pid turns before now start told refused status b b f f
 shared-well-now May Rest policy pid turns before now start told refused b f status h =
     let e : status ≡ statuses.Done = done-is status h.answer h.is_told in
     subst (λ s. Serves May Rest policy pid turns before now start told refused s b b f f) (sym e)
     (record { answer = h.answer; run = h.run; line = subst (λ x. TellsEnd x statuses.Done b b f f) (ap (λ (s : Status). Ok s) (sym e) ∙ h.is_told) (refl, refl) })
 
-pub shared_well : (May : HouseReply → Type 0) (Rest : Option (List HouseMark) → Type 0) (policy : Policy) (pid turns : ℕ) (before now : Option (List HouseMark)) (start told : Option (List Mark)) (refused : Option ℕ) (b : Option (List ℕ)) (f : ℕ) (shares : Bool) (status : Status) → OnTrue shares (IsShared May Rest policy pid turns before now start told refused (Ok status)) → OnTrue shares (Serves May Rest policy pid turns before now start told refused status b b f f)
+pub shared_well : (May : HouseReply → Type 0) (Rest : Resting) (policy : Policy) (pid turns : ℕ) (before now : Option (List HouseMark)) (start told : Option (List Mark)) (refused : Option ℕ) (b : Option (List ℕ)) (f : ℕ) (shares : Bool) (status : Status) → OnTrue shares (IsShared May Rest policy pid turns before now start told refused (Ok status)) → OnTrue shares (Serves May Rest policy pid turns before now start told refused status b b f f)
 shared_well May Rest policy pid turns before now start told refused b f false status h = tt
 shared_well May Rest policy pid turns before now start told refused b f true status h = shared-well-now May Rest policy pid turns before now start told refused b f status h
 

@@ -7,6 +7,7 @@ use Rattle.conf_rules.specs.declared.causes.ResolveError.TheVariants.{At, OutOfM
 use Rattle.conf_rules.specs.Diagnostics as ends
 use Rattle.conf_rules.specs.Diagnostics.{Ending}
 use Rattle.conf_rules.specs.Outcome.{Ends, Writes, Opens, Drills, Joins}
+use Rattle.mux_engine.specs.Sides.{Resting}
 use Rattle.mux_history.specs.Policy.{Policy}
 use Rattle.mux_outside.specs.Seen.{Calls}
 use Rattle.mux_outside.specs.declared.house.HouseReply.{HouseReply}
@@ -210,7 +211,7 @@ only-memory endings.StartRefused h = absurd cc
 only-memory endings.MasterRefused h = absurd cc
 only-memory endings.MasterBroke h = absurd cc
 
-pub still-shared : (k : Known) (meant : MeantEnding) (May : HouseReply → Type 0) (Rest : Option (List HouseMark) → Type 0) (policy : Policy) (pid turns : ℕ) (told : Option (List HouseMark)) (start : Option (List Mark)) (refused : Option ℕ) → IsRefused k (shown meant) → OnTrue (may_share k (status_of (shown meant))) (Shares May Rest policy pid turns told told start start refused (Err meant))
+pub still-shared : (k : Known) (meant : MeantEnding) (May : HouseReply → Type 0) (Rest : Resting) (policy : Policy) (pid turns : ℕ) (told : Option (List HouseMark)) (start : Option (List Mark)) (refused : Option ℕ) → IsRefused k (shown meant) → OnTrue (may_share k (status_of (shown meant))) (Shares May Rest policy pid turns told told start start refused (Err meant))
 still-shared k meant May Rest policy pid turns told start refused h = on (unshared k (shown meant) h) where
   on : Unshared k (shown meant) → OnTrue (may_share k (status_of (shown meant))) (Shares May Rest policy pid turns told told start start refused (Err meant))
   on (inl e) = not_true (may_share k (status_of (shown meant))) (Shares May Rest policy pid turns told told start start refused (Err meant)) e

@@ -4,13 +4,12 @@ use Rattle.conf_rules.specs.Diagnostics.{line_of, NoMemory}
 use Rattle.conf_rules.specs.Numbers.{digits_of}
 use Rattle.conf_rules.specs.Texts.{Bytes}
 use Rattle.mux_engine.specs.Run.{IsRun}
-use Rattle.mux_engine.specs.Sides.{RestsOf}
+use Rattle.mux_engine.specs.Sides.{Resting, RestsOf}
 use Rattle.mux_history.specs.declared.ended.Ended.{Ended}
 use Rattle.mux_history.specs.Policy.{any_policy}
 use Rattle.mux_outside.specs.declared.file_error.FileError.TheVariants.{Failed}
 use Rattle.mux_outside.specs.declared.house.HouseReply.{HouseReply}
 use Rattle.mux_outside.specs.declared.house.HouseReply.TheVariants.{Refused}
-use Rattle.mux_outside.specs.declared.house_mark.HouseMark.{HouseMark}
 use Rattle.mux_outside.specs.declared.mark.Mark.{Mark}
 use Rattle.mux_outside.specs.declared.mark.Opening.{Opening}
 use Rattle.mux_outside.specs.declared.no_house.NoHouse.{NoHouse}
@@ -54,8 +53,8 @@ drill_text tally =
 abbrev pub RefusesAll : HouseReply → Type 0
 RefusesAll reply = reply ≡ Refused
 
--- it has no house, so nothing is said of one at rest
-abbrev pub NoneRests : Option (List HouseMark) → Type 0
+-- it has no house, so none is at rest
+abbrev pub NoneRests : Resting
 NoneRests = RestsOf {T = NoHouse} (λ house. None)
     (λ house. record { says = true; orders = true; answers = true }) false
 
@@ -79,7 +78,8 @@ DrillTells (Err ending) tally status out out' err err' faults faults' =
 pub record IsDrilled (turns : ℕ) (start told : Option (List Mark)) (tally : Tally) (status : Status)
     (out out' err err' : Option (List ℕ)) (faults faults' : ℕ) : Type 0 where
   pub answer : Ended
-  pub run : IsRun RefusesAll NoneRests any_policy 0 turns None None start told None answer
+  pub run :
+      IsRun RefusesAll NoneRests.rests false any_policy 0 turns None None start told None answer
   pub ends : DrillTells (told_as answer) tally status out out' err err' faults faults'
 
 -- nothing is served, and no summary is written
@@ -129,7 +129,8 @@ SumsUp (Err ending) tally result out out' = (result ≡ Err ending) × (out' ≡
 pub record RunsDrill (turns : ℕ) (start told : Option (List Mark)) (tally : Tally)
     (result : Result Status MeantEnding) (out out' : Option (List ℕ)) : Type 0 where
   pub answer : Ended
-  pub run : IsRun RefusesAll NoneRests any_policy 0 turns None None start told None answer
+  pub run :
+      IsRun RefusesAll NoneRests.rests false any_policy 0 turns None None start told None answer
   pub ends : SumsUp (told_as answer) tally result out out'
 
 -- where the wire wasn't opened nothing is served

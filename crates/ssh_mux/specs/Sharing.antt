@@ -5,6 +5,7 @@ use Rattle.conf_rules.specs.Outcome.{Drills, Opens}
 use Rattle.conf_rules.specs.Texts.{Bytes}
 use Rattle.forward_rules.specs.Allows.{read_policy}
 use Rattle.mux_engine.specs.Run.{IsRun}
+use Rattle.mux_engine.specs.Sides.{Resting}
 use Rattle.mux_history.specs.declared.ended.Ended.{Ended}
 use Rattle.mux_history.specs.declared.ended.Ended.TheVariants as ends
 use Rattle.mux_history.specs.Policy.{Entries, Policy}
@@ -95,20 +96,18 @@ pub record IsUnserved (before now : Option (List HouseMark)) (start told : Optio
   pub same_wire : told ≡ start
   pub same_house : now ≡ before
 
--- a run that keeps its promises, and its very end; `before` and `now` are what the house tells,
--- `start` and `told` what the wire does; `refused` is the forwarding of the start that was refused,
--- if none may be
-pub record IsShared (May : HouseReply → Type 0) (Rest : Option (List HouseMark) → Type 0)
-    (policy : Policy) (pid turns : ℕ) (before now : Option (List HouseMark))
-    (start told : Option (List Mark)) (refused : Option ℕ) (result : Result Status MeantEnding) :
-    Type 0 where
+-- a run that keeps its promises, and its very end; `Rest` is whether a house is present, and what
+-- is so of it at rest; `before` and `now` are what the house tells, `start` and `told` what the wire
+-- does; `refused` is the forwarding of the start that was refused, if none may be
+pub record IsShared (May : HouseReply → Type 0) (Rest : Resting) (policy : Policy)
+    (pid turns : ℕ) (before now : Option (List HouseMark)) (start told : Option (List Mark))
+    (refused : Option ℕ) (result : Result Status MeantEnding) : Type 0 where
   pub answer : Ended
   pub is_told : result ≡ told_as answer
-  pub run : IsRun May Rest policy pid turns before now start told refused answer
+  pub run : IsRun May Rest.rests Rest.present policy pid turns before now start told refused answer
 
 -- where the sockets weren't opened nothing is served
-abbrev pub Shares :
-    (HouseReply → Type 0) → (Option (List HouseMark) → Type 0) → Policy → ℕ → ℕ
+abbrev pub Shares : (HouseReply → Type 0) → Resting → Policy → ℕ → ℕ
     → Option (List HouseMark) → Option (List HouseMark) → Option (List Mark) → Option (List Mark)
     → Option ℕ → Result Status MeantEnding → Type 0
 Shares May Rest policy pid turns before now start told refused (Err endings.NotOpened) =
@@ -120,8 +119,7 @@ Shares May Rest policy pid turns before now start told refused result =
     IsShared May Rest policy pid turns before now start told refused result
 
 -- the same of what comes of words: only a master serves
-abbrev pub SharesFor :
-    (HouseReply → Type 0) → (Option (List HouseMark) → Type 0) → Known → ℕ → ℕ
+abbrev pub SharesFor : (HouseReply → Type 0) → Resting → Known → ℕ → ℕ
     → Option (List HouseMark) → Option (List HouseMark) → Option (List Mark) → Option (List Mark)
     → Option ℕ → Result Status MeantEnding → Type 0
 SharesFor May Rest known pid turns before now start told refused result =
@@ -136,17 +134,16 @@ TellsEnd (Err ending) status err err' faults faults' =
     Reports status (shown ending) err err' faults faults'
 
 -- a run that keeps its promises, and the line of its very end
-pub record IsServed (May : HouseReply → Type 0) (Rest : Option (List HouseMark) → Type 0)
-    (policy : Policy) (pid turns : ℕ) (before now : Option (List HouseMark))
-    (start told : Option (List Mark)) (refused : Option ℕ) (status : Status)
-    (err err' : Option (List ℕ)) (faults faults' : ℕ) : Type 0 where
+pub record IsServed (May : HouseReply → Type 0) (Rest : Resting) (policy : Policy)
+    (pid turns : ℕ) (before now : Option (List HouseMark)) (start told : Option (List Mark))
+    (refused : Option ℕ) (status : Status) (err err' : Option (List ℕ)) (faults faults' : ℕ) :
+    Type 0 where
   pub answer : Ended
-  pub run : IsRun May Rest policy pid turns before now start told refused answer
+  pub run : IsRun May Rest.rests Rest.present policy pid turns before now start told refused answer
   pub line : TellsEnd (told_as answer) status err err' faults faults'
 
 -- the same of the program: where its sockets weren't opened nothing is served
-abbrev pub Serves :
-    (HouseReply → Type 0) → (Option (List HouseMark) → Type 0) → Policy → ℕ → ℕ
+abbrev pub Serves : (HouseReply → Type 0) → Resting → Policy → ℕ → ℕ
     → Option (List HouseMark) → Option (List HouseMark) → Option (List Mark) → Option (List Mark)
     → Option ℕ → Status → Option (List ℕ) → Option (List ℕ) → ℕ → ℕ → Type 0
 Serves May Rest policy pid turns before now start told refused Open err err' faults faults' =
@@ -159,8 +156,7 @@ Serves May Rest policy pid turns before now start told refused status err err' f
     IsServed May Rest policy pid turns before now start told refused status err err' faults faults'
 
 -- the same of what comes of words
-abbrev pub ServesFor :
-    (HouseReply → Type 0) → (Option (List HouseMark) → Type 0) → Known → ℕ → ℕ
+abbrev pub ServesFor : (HouseReply → Type 0) → Resting → Known → ℕ → ℕ
     → Option (List HouseMark) → Option (List HouseMark) → Option (List Mark) → Option (List Mark)
     → Option ℕ → Status → Option (List ℕ) → Option (List ℕ) → ℕ → ℕ → Type 0
 ServesFor May Rest known pid turns before now start told refused status err err' faults faults' =

@@ -35,7 +35,7 @@ next_order-requires g c =
     let W = g.W.Wire in
     let here_is : (H.known c.args.house.now).present ≡ true = sym c.present.ensures.present ∙ c.if-not-present.false in
     let same : SameHouse (H.known c.args.house.now) (H.known c.reply_all.new.house) = c.in_ok-reply_all.ensures.known in
-    record { housed = subst (λ (l : List ℕ). Housed (H.known c.reply_all.new.house) (W.seen c.reply_all.new.wire) l) (sym c.reply_all.ensures.own) (housed-still _ _ _ _ c.args.lists.now.own same c.reply_all.ensures.places c.requires.housed) }
+    record { housed = subst (λ (l : List ℕ). Housed (H.known c.reply_all.new.house) (W.seen c.reply_all.new.wire) l) (sym c.reply_all.ensures.own) (housed-still _ _ _ _ c.args.lists.now.own same c.reply_all.ensures.places c.requires.housed); present = same.present ∙ here_is }
 
 pub returns-clause-serving : goal.returns-clause-serving
 returns-clause-serving g c before policy pid start given v =

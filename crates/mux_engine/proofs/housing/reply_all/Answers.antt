@@ -42,6 +42,7 @@ own_rounds-requires g c = let H = g.H.House in let W = g.W.Wire in record {
 pub reply-requires : goal.reply-requires
 reply-requires g c = record {
   ordering = ap (λ (k : Known). k.ordering) c.in_ok-own_rounds.ensures.known ∙ (ap (λ (k : Known). k.ordering) c.in_ok-hand_over.ensures.known ∙ (c.loop-wire.invariant.known.ordering ∙ c.requires.housed.ordering));
+  present = ap (λ (k : Known). k.present) c.in_ok-own_rounds.ensures.known ∙ (ap (λ (k : Known). k.present) c.in_ok-hand_over.ensures.known ∙ (c.loop-wire.invariant.known.present ∙ c.requires.present));
   on = c.hand_over.ensures.ended ∙ c.loop-wire.invariant.on;
 }
 

@@ -14,7 +14,7 @@ pub returns-clause-serving : goal.returns-clause-serving
 returns-clause-serving g c todo s before policy pid start given v =
     let o = c.in_ok-number.ensures in
     let side = side-carried c.args.order c.in_ok-number.number _ _ _ _ c.requires.ordered o.known in
-    order-noted v c.note.result c.args.order c.in_ok-number.number _ _ _ _ _ o.made (closes-own c.args.order _ _ _ c.requires.ordered) refl o.told side.asks refl side.present o.seen (ap (λ x. x.told) o.seen ∙ carried-told c.args.order c.in_ok-number.number _) c.note.ensures.seen o.held o.failed
+    order-noted v c.note.result c.args.order c.in_ok-number.number _ _ _ _ _ c.requires.present o.made (closes-own c.args.order _ _ _ c.requires.ordered) refl o.told side.asks refl side.present o.seen (ap (λ x. x.told) o.seen ∙ carried-told c.args.order c.in_ok-number.number _) c.note.ensures.seen o.held o.failed
 
 pub returns-clause-housed : goal.returns-clause-housed
 returns-clause-housed g c =

@@ -21,7 +21,7 @@ let_in-requires g c = record { on = c.requires.on; refused = c.requires.refused 
 pub returns : goal.returns
 returns g c = let H = g.H.House in record {
   serving = λ before policy pid start held failed given v z. both-ok c.let_in.result _ (λ served on. (side-is _ _ (let-inside (H.told c.args.house.now) (H.known c.args.house.now) (sym c.present.ensures.present ∙ c.if-not-present.false)) served, on))
-      (c.let_in.ensures.serving _ before _ policy pid start held failed given v z) (c.let_in.ensures.on _ before _ policy pid start held failed given v z);
+      (c.let_in.ensures.serving _ before _ policy pid start held failed given v z (sym c.present.ensures.present ∙ c.if-not-present.false)) (c.let_in.ensures.on _ before _ policy pid start held failed given v z);
   places = c.let_in.ensures.places;
   alone = λ p. true-false (sym (sym c.present.ensures.present ∙ c.if-not-present.false) ∙ p);
   calls = c.let_in.ensures.calls;

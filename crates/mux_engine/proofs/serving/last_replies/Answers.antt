@@ -37,7 +37,7 @@ returns-then-not-present g c = record {
 }
 
 pub reply_all-requires : goal.reply_all-requires
-reply_all-requires g c = record { served = c.requires.served; housed = c.requires.housed; held_is = c.requires.held_is; on = c.requires.on c.if-not-all.false }
+reply_all-requires g c = record { served = c.requires.served; housed = c.requires.housed; present = sym c.present.ensures.present ∙ c.if-not-present.false; held_is = c.requires.held_is; on = c.requires.on c.if-not-all.false }
 
 pub returns : goal.returns
 returns g c = let o = c.reply_all.ensures in record {
