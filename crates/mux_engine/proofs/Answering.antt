@@ -2,7 +2,6 @@
 use Rattle.std.proofs.Common.{◌≡◌, ◌≢◌, ◌≤◌, ◌+◌, ℕ, Bool, true, false, List, [], ◌∷◌, Option, Some, None, refl, sym, ap, ◌∙◌, subst, ◌||◌, arith}
 use Rattle.std.specs.Prelude.{Result, Ok, Err, IsErr}
 use Rattle.std.specs.Result.{result_unwrap_or}
-use Rattle.mux_outside.specs.Counts.{Rose}
 use Rattle.mux_outside.specs.House.{Known, nothing_known}
 use Rattle.mux_outside.specs.OwnStreams.{is_one, is_own, numbers_of}
 use Rattle.mux_outside.specs.Seen.{Calls, Seen}
@@ -16,17 +15,17 @@ use Rattle.mux_history.specs.declared.limits.TheConstants.{HOUSE}
 use Rattle.mux_history.specs.Policy.{Policy}
 use Rattle.mux_history.specs.Promises.{turns_in}
 use Rattle.mux_machine.specs.State.{State}
-use Rattle.mux_engine.specs.Counted.{Cut, Spent, Stops, Well}
+use Rattle.mux_engine.specs.Counted.{Spent, Stops, Well}
 use Rattle.mux_engine.specs.Rests.{IsAlone, IsByRow, ended_as, refused_if}
 use Rattle.mux_engine.specs.Run.{IsRun}
 use Rattle.mux_engine.specs.Serving.{Promised, Serving, StaysOrFails}
 use Rattle.mux_engine.specs.Sides.{Housed, Resting, Side}
 use Rattle.mux_engine.proofs.Arms.{le-of}
-use Rattle.mux_engine.proofs.Counting.{fails-then, later-on, none-more, rose-behind, stays-by-row}
-use Rattle.mux_engine.proofs.Ending.{answer-failed, ends-so, ends-spent, ends-unspent, fails-on, refused-none, refused-same}
+use Rattle.mux_engine.proofs.Counting.{later-on, none-more, rose-behind, stays-by-row}
+use Rattle.mux_engine.proofs.Ending.{ends-so, ends-spent, ends-unspent, fails-on, refused-none, refused-same}
 use Rattle.mux_engine.proofs.Lists.{test-other, true-false}
 use Rattle.mux_engine.proofs.Runs.{ends-run, ends-starved, promised-more}
-use Rattle.mux_engine.proofs.Spending.{spent-cut-off, spent-then, stops-cut, stops-spent}
+use Rattle.mux_engine.proofs.Spending.{spent-then, stops-spent}
 
 -- ---- the answer
 
@@ -54,12 +53,6 @@ refused-as None None index e allowed = absurd (let z : ended.Spent ≡ ended.Sta
 -- a run that ended since a forwarding was refused
 pub refused-whole : (answer : Ended) (mid new : Option Ended) (m n : ℕ) (r : Option ℕ) (index : ℕ) → IsByRow mid → StaysOrFails mid new m n → answer ≡ ended_as new r → answer ≡ ended.StartRefused index → r ≡ Some index
 refused-whole answer mid new m n r index row stays is e = refused-as new r index (sym is ∙ e) ((stays-by-row mid new m n stays row).permitted index)
-
--- one that ended since the server's stream failed
-pub failed-whole : (answer : Ended) (mid new : Option Ended) (a b c d : ℕ) (r : Option ℕ) → b ≡ a → b ≤ c → (mid ≡ Some ended.ServerFailed → Rose b c) → StaysOrFails mid new c d → answer ≡ ended_as new r → answer ≡ ended.ServerFailed → Rose a d
-failed-whole answer mid new a b c d r same later was stays is e =
-    let le : a ≤ b = le-of a b (sym same) in
-    fails-then mid new a c d (later-on a b c le later) (λ f. rose-behind a b c le (was f)) stays (answer-failed new r (sym is ∙ e))
 
 -- ---- what is promised
 

@@ -1,5 +1,5 @@
 -- A client that is closed.
-use Rattle.std.proofs.Common.{◌≡◌, ◌≢◌, ◌≤◌, ◌<◌, ℕ, Bool, true, false, not, ◌||◌, ◌&&◌, List, [], ◌∷◌, ◌++◌, length, Option, Some, refl, sym, ap, ◌∙◌, subst, inl, inr, ◌⊎◌, cond, arith}
+use Rattle.std.proofs.Common.{◌≡◌, ◌≢◌, ◌≤◌, ◌<◌, ℕ, Bool, true, false, not, ◌||◌, List, [], ◌∷◌, ◌++◌, length, Option, Some, refl, sym, ap, ◌∙◌, subst, inl, inr, ◌⊎◌, cond, arith}
 use Rattle.std.specs.Prelude.{◌==◌, filter, IsTrue}
 use Rattle.std.specs.List.{list_any}
 use Rattle.std.proofs.lemmas.Bool.{eq-eqb, eqb-true}
@@ -18,7 +18,6 @@ use Rattle.mux_history.specs.declared.why.Why.{Why}
 use Rattle.mux_history.specs.Policy.{Policy}
 use Rattle.mux_history.specs.Rows.{Row, rows_of, is_out, losses, loss_by, loses, is_refusal, Item, Gone, Fate, Goes, Refused, Drop, End}
 use Rattle.mux_history.specs.Settings.{by_lists}
-use Rattle.mux_history.specs.Journal.{is_own_stream}
 use Rattle.mux_history.specs.Promises.{not_own}
 use Rattle.mux_history.proofs.Wires.{wire-keeps}
 use Rattle.mux_clients.proofs.Stood.{own_row}

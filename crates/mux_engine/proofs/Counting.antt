@@ -1,6 +1,6 @@
 -- What a turn counts, and how it may end a run.
-use Rattle.std.proofs.Common.{◌≡◌, ◌≢◌, ◌≤◌, ◌<◌, ◌+◌, ◌-◌, ◌^◌, ℕ, Bool, true, false, List, Option, Some, None, refl, sym, ap, ◌∙◌, subst, inl, inr, cond, arith}
-use Rattle.std.specs.Prelude.{◌==◌, min, Result, Ok, Err}
+use Rattle.std.proofs.Common.{◌≡◌, ◌≢◌, ◌≤◌, ◌+◌, ℕ, Bool, true, false, List, Option, Some, None, refl, sym, ap, ◌∙◌, subst, inl, inr, cond, arith}
+use Rattle.std.specs.Prelude.{◌==◌, Result, Ok, Err}
 use Rattle.std.specs.Bool.{MatchBool}
 use Rattle.std.proofs.lemmas.Bool.{eq-eqb}
 use Rattle.mux_outside.specs.Counts.{Rose, counted}
@@ -16,7 +16,7 @@ use Rattle.mux_history.specs.declared.ended.Ended.TheVariants as ended
 use Rattle.mux_machine.specs.declared.event.Event.{Event}
 use Rattle.mux_machine.specs.declared.event.Event.TheVariants.{Accepted, FromClient, ClientEnd, ClientFailed, HouseSays, FromServer, ServerEnd, ServerFailed}
 use Rattle.mux_machine.specs.Events.{MayEnd, Tells}
-use Rattle.mux_engine.specs.Counted.{Counts, Cut, Well}
+use Rattle.mux_engine.specs.Counted.{Counts, Cut}
 use Rattle.mux_engine.specs.Rests.{IsByRow}
 use Rattle.mux_engine.specs.Serving.{StaysOrFails}
 use Rattle.mux_engine.specs.Turns.{IsEventOf}
@@ -55,11 +55,6 @@ counts-event (Err x) e t bytes c next = cut-wait t c
 pub cut-none : (n : ℕ) (c : Calls) → Cut n c c
 cut-none n c = record { few = omega arith; wants = omega arith; late = λ z. refl }
 
--- first so many waits, then so many at most
-pub cut-on : (m n k : ℕ) (a b c : Calls) → m + n ≤ k → Well m a b → Cut n b c → Cut k a c
-cut-on m n k a b c le v w = let f : b.waits ≤ a.waits + m = v.waited.most in let g : c.waits ≤ b.waits + n = w.few in let e : b.wants ≡ a.wants = v.wants in let h : c.wants ≤ b.wants + 1 = w.wants in
-    record { few = omega arith; wants = omega arith; late = λ z. w.late (v.wants ∙ z) ∙ v.late z }
-
 -- ---- what a whole run counts
 
 pub none-more : (given turns : ℕ) → given ≤ turns → given + 0 ≤ turns
@@ -68,9 +63,6 @@ none-more given turns le = omega arith
 pub more-none : (given : ℕ) → given + 0 ≡ given
 more-none given = omega arith
 
-pub none-of : (given turns : ℕ) → given ≤ turns → turns ≡ 0 → given ≡ 0
-none-of given turns le z = omega arith
-
 -- one that gave no turn: no count of faults rose
 pub same-faults : {V : Type 0} (server client : V → ℕ) (old new : V) → new ≡ old → SameFaults (server old) (server new) (client old) (client new)
 same-faults server client old new e = record { same_server = ap server e; same_client = ap client e }
@@ -78,9 +70,6 @@ same-faults server client old new e = record { same_server = ap server e; same_c
 -- the counts stay over what leaves the wire as it was, and what leaves its counts
 pub faults-then : {V : Type 0} (server client : V → ℕ) (old mid new : V) → mid ≡ old → SameFaults (server mid) (server new) (client mid) (client new) → SameFaults (server old) (server new) (client old) (client new)
 faults-then server client old mid new e f = record { same_server = f.same_server ∙ ap server e; same_client = f.same_client ∙ ap client e }
-
-pub then-same : {V : Type 0} (server client : V → ℕ) (old mid new : V) → new ≡ mid → SameFaults (server old) (server mid) (client old) (client mid) → SameFaults (server old) (server new) (client old) (client new)
-then-same server client old mid new e f = record { same_server = ap server e ∙ f.same_server; same_client = ap client e ∙ f.same_client }
 
 -- ---- the server's stream
 
@@ -190,24 +179,8 @@ pub rose-behind : (m n o : ℕ) → m ≤ n → Rose n o → Rose m o
 rose-behind m n o h r = let l : n ≤ o = r.later in let c : counted n ≤ o = r.rose in let d : counted m ≤ counted n = counted-least m n h in
     record { later = omega arith; rose = omega arith }
 
-rose-before : (m n o : ℕ) → Rose m n → n ≤ o → Rose m o
-rose-before m n o r h = let l : m ≤ n = r.later in let c : counted m ≤ n = r.rose in record { later = omega arith; rose = omega arith }
-
--- a run that went on ended for the server's stream, or goes on
-pub fails-live : (old new : Option Ended) (a b : ℕ) (cause : Ended) → StaysOrFails old new a b → old ≡ None → new ≡ Some cause → Rose a b
-fails-live old new a b cause (inl s) on is = let z : None ≡ Some cause = sym on ∙ (sym s.0 ∙ is) in absurd (let h = z in cc)
-fails-live old new a b cause (inr f) on is = f.1
-
--- where the server's stream failed, its count rose by then
-pub fails-then : (old new : Option Ended) (a b c : ℕ) → a ≤ b → (old ≡ Some ended.ServerFailed → Rose a b) → StaysOrFails old new b c → new ≡ Some ended.ServerFailed → Rose a c
-fails-then old new a b c le was (inl s) is = rose-before a b c (was (sym s.0 ∙ is)) s.1
-fails-then old new a b c le was (inr f) is = rose-behind a b c le f.1
-
 pub later-on : (a b c : ℕ) → a ≤ b → b ≤ c → a ≤ c
 later-on a b c f g = omega arith
-
-pub later-then : (a b c d : ℕ) → a ≤ b → b ≤ c → c ≤ d → a ≤ d
-later-then a b c d f g h = omega arith
 
 -- a run that went on is ended by a row, if at all
 pub stays-by-row : (old new : Option Ended) (a b : ℕ) → StaysOrFails old new a b → IsByRow old → IsByRow new

@@ -1,5 +1,5 @@
 -- How a run ends behind its turns.
-use Rattle.std.proofs.Common.{◌≡◌, ◌≢◌, ℕ, Bool, true, false, List, Option, Some, None, refl, sym, ap, ◌∙◌, subst, inl, inr}
+use Rattle.std.proofs.Common.{◌≡◌, ◌≢◌, ℕ, Bool, true, false, List, Option, Some, None, refl, sym, ap, ◌∙◌, inl, inr}
 use Rattle.mux_outside.specs.declared.mark.Mark.{Mark}
 use Rattle.mux_history.specs.declared.ended.Ended.{Ended}
 use Rattle.mux_history.specs.declared.ended.Ended.TheVariants as ended
@@ -14,11 +14,6 @@ refused-none true must refused p = absurd (cc)
 -- the forwarding that was refused, where nothing changed
 pub refused-same : (p q m n : Bool) (r s : Option ℕ) → p ≡ q → m ≡ n → r ≡ s → refused_if p m r ≡ refused_if q n s
 refused-same p q m n r s e f g = ap (λ b. refused_if b m r) e ∙ (ap (λ b. refused_if q b r) f ∙ ap (refused_if q n) g)
-
-pub answer-failed : (o : Option Ended) (r : Option ℕ) → ended_as o r ≡ ended.ServerFailed → o ≡ Some ended.ServerFailed
-answer-failed (Some cause) r e = ap (λ (c : Ended). Some c) e
-answer-failed None (Some index) e = absurd (let z : ended.StartRefused index ≡ ended.ServerFailed = e in cc)
-answer-failed None None e = absurd (let z : ended.Spent ≡ ended.ServerFailed = e in cc)
 
 pub fails-on : (old new : Option Ended) (a b : ℕ) → StaysOrFails old new a b → new ≡ None → old ≡ None
 fails-on old new a b (inl s) is = sym s.0 ∙ is

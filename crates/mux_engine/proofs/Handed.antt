@@ -1,12 +1,12 @@
 -- What a call of wait makes of all that holds while a wire is served, with what was taken in behind it.
-use Rattle.std.proofs.Common.{◌≡◌, ◌≢◌, ◌≤◌, ◌<◌, ◌+◌, ℕ, Bool, true, false, ◌||◌, ◌&&◌, List, [], ◌∷◌, ◌++◌, length, take, drop, Option, Some, None, refl, sym, ap, ◌∙◌, subst, inl, inr, ◌⊎◌, cond, arith, append_assoc, MatchResult, OnOk}
-use Rattle.std.specs.Prelude.{◌==◌, filter, map, All, IsTrue, Result, Ok, Err}
+use Rattle.std.proofs.Common.{◌≡◌, ◌≤◌, ◌<◌, ◌+◌, ℕ, Bool, true, false, ◌||◌, List, [], ◌∷◌, ◌++◌, length, drop, Option, Some, None, refl, sym, ap, ◌∙◌, subst, inl, inr, ◌⊎◌, cond, arith, append_assoc, MatchResult, OnOk}
+use Rattle.std.specs.Prelude.{◌==◌, filter, IsTrue, Result, Ok, Err}
 use Rattle.std.specs.Option.{option_map}
 use Rattle.std.proofs.lemmas.Bool.Decides.{eqb_tells}
 use Rattle.std.proofs.lemmas.List.{map-append}
 use Rattle.std.proofs.lemmas.List.Folds.{list_any-append}
 use Rattle.ssh_fields.specs.Fields.{AreBytes}
-use Rattle.mux_outside.specs.House.{Gives, IsAtRest, IsNewTo, Known, OwnTurnFits, Quiet, known_after_own_turn}
+use Rattle.mux_outside.specs.House.{IsNewTo, Known, OwnTurnFits, Quiet, known_after_own_turn}
 use Rattle.mux_outside.specs.OwnStreams.{end_one, is_one, is_own, is_silent, new_stream, numbers_of, with_end}
 use Rattle.mux_outside.specs.Seen.{Seen, seen_after_turn}
 use Rattle.mux_outside.specs.Streams.{among, without}
@@ -37,13 +37,13 @@ use Rattle.mux_engine.specs.Serving.{Promised, Serving}
 use Rattle.mux_engine.specs.Sides.{Housed, Resting, RestsOf, SameHouse, Side, noted}
 use Rattle.mux_engine.specs.Turns.{IsEventOf, IsOwnOf, failed_heard, held_heard, own_heard, want_of}
 use Rattle.mux_engine.proofs.Cuts.{cut-here, cut-still}
-use Rattle.mux_engine.proofs.Lists.{among-last, among-other-last, or-last, test-other, true-false}
+use Rattle.mux_engine.proofs.Lists.{among-last, among-other-last, or-last, true-false}
 use Rattle.mux_engine.proofs.Marks.{serve-alone, serve-on}
 use Rattle.mux_engine.proofs.OwnMarks.{test-same}
 use Rattle.mux_engine.proofs.OwnTurns.{client-frees, offered-again, own-ends, own-failed, own-frees, own-gets, own-joins}
 use Rattle.mux_engine.proofs.Told.{tells-none, told-none}
 use Rattle.mux_engine.proofs.Turned.{EventAt, event-cut, event-ends, event-goes}
-use Rattle.mux_engine.proofs.Waits.{Offered, all-waiting, among-one, seen-waiting, wait-mark, waited}
+use Rattle.mux_engine.proofs.Waits.{Offered, among-one, seen-waiting, wait-mark, waited}
 use Rattle.mux_engine.proofs.WireTurns.{client-number, event-at, now-waiting, of-turn}
 
 -- ---- what holds at a wait, and what is known of its answer
@@ -355,9 +355,6 @@ heard-asks (told.Got k bytes) known known' e = record { present = ap (λ (x : Kn
 heard-asks (told.End k) known known' e = record { present = ap (λ (x : Known). x.present) e; asks = ap (λ (x : Known). x.asks) e }
 heard-asks (told.Writable k) known known' e = record { present = ap (λ (x : Known). x.present) e; asks = ap (λ (x : Known). x.asks) e }
 heard-asks (told.Failed k) known known' e = record { present = ap (λ (x : Known). x.present) e; asks = ap (λ (x : Known). x.asks) e }
-
-pub heard-present : (o : OwnTurn) (known known' : Known) → known' ≡ known_after_own_turn o known → known'.present ≡ known.present
-heard-present o known known' e = (heard-asks o known known' e).present
 
 pub own-noted : {May : HouseReply → Type 0} {Rest : Resting} {before : Option (List HouseMark)} {policy : Policy} {pid : ℕ} {start : Option (List Mark)} {seen : Seen} {given : ℕ} {todo : List ℕ} {s : State} (o : OwnTurn) (told told' : Option (List HouseMark)) (known known' : Known) (held held' failed failed' : List ℕ)
     → told' ≡ told → known' ≡ known_after_own_turn o known → held' ≡ held_heard o held → failed' ≡ failed_heard o failed → Serving May Rest before (noted told known) policy pid start seen (held_heard o held) (failed_heard o failed) given todo s → Serving May Rest before (noted told' known') policy pid start seen held' failed' given todo s

@@ -1,5 +1,5 @@
 -- What an event makes of all that holds while a wire is served.
-use Rattle.std.proofs.Common.{◌≡◌, ◌≢◌, ◌≤◌, ◌<◌, ◌+◌, ℕ, Bool, true, false, not, ◌||◌, ◌&&◌, List, [], ◌∷◌, ◌++◌, Option, None, refl, sym, ap, ◌∙◌, subst, inl, inr, cond, arith, append-nil}
+use Rattle.std.proofs.Common.{◌≡◌, ◌≢◌, ◌≤◌, ◌<◌, ◌+◌, ℕ, true, false, not, ◌||◌, ◌&&◌, List, [], ◌∷◌, ◌++◌, Option, None, refl, sym, ap, ◌∙◌, subst, inl, inr, cond, arith, append-nil}
 use Rattle.std.specs.Prelude.{◌==◌, All, IsTrue}
 use Rattle.std.specs.Option.{option_map}
 use Rattle.std.proofs.lemmas.Bool.Decides.{eqb_tells}
@@ -17,7 +17,7 @@ use Rattle.mux_outside.specs.declared.own_streams.TheConstants.{LAST_CLIENT}
 use Rattle.mux_history.specs.declared.limits.TheConstants.{HOUSE}
 use Rattle.mux_history.specs.Policy.{Policy}
 use Rattle.mux_history.specs.Settings.{by_lists}
-use Rattle.mux_history.specs.Journal.{IsLawful, is_accepted, is_blocked, is_own_stream}
+use Rattle.mux_history.specs.Journal.{is_accepted, is_blocked, is_own_stream}
 use Rattle.mux_history.specs.Promises.{SpeaksInTime, not_own, turns_in}
 use Rattle.mux_history.specs.Wires.{OfWire}
 use Rattle.mux_machine.specs.State.{State}

@@ -2,7 +2,6 @@
 -- own.
 use Rattle.std.proofs.Common.{◌≡◌, ℕ, Bool, true, false, ◌||◌, List, [], ◌∷◌, ◌++◌, refl, sym, ap, ◌∙◌}
 use Rattle.std.specs.Prelude.{◌==◌, ◌&&◌, IsTrue}
-use Rattle.std.specs.List.{list_any}
 use Rattle.mux_outside.specs.OwnStreams.{is_finished, is_one, is_own}
 use Rattle.mux_outside.specs.Streams.{among}
 use Rattle.mux_outside.specs.declared.own_streams.OwnStream.{OwnStream}

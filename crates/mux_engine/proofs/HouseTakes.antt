@@ -1,7 +1,6 @@
 -- The house takes what waits for it, and speaks.
-use Rattle.std.proofs.Common.{◌≡◌, ◌≢◌, ◌≤◌, ◌<◌, ◌+◌, ℕ, zero, suc, Bool, true, false, ◌||◌, List, [], ◌∷◌, ◌++◌, length, drop, Option, None, refl, sym, ap, ◌∙◌, subst, inl, inr, ◌⊎◌, arith, append-nil}
-use Rattle.std.specs.Prelude.{◌==◌, IsTrue}
-use Rattle.std.specs.Option.{option_map}
+use Rattle.std.proofs.Common.{◌≡◌, ◌≢◌, ◌≤◌, ◌<◌, ◌+◌, ℕ, Bool, true, false, ◌||◌, List, [], ◌∷◌, ◌++◌, length, drop, Option, None, refl, sym, ap, ◌∙◌, subst, inl, inr, ◌⊎◌, append-nil}
+use Rattle.std.specs.Prelude.{◌==◌}
 use Rattle.std.proofs.lemmas.Bool.Decides.{eqb_tells}
 use Rattle.ssh_fields.specs.Fields.{AreBytes}
 use Rattle.mux_outside.specs.Seen.{Seen}
@@ -17,16 +16,15 @@ use Rattle.mux_history.specs.Pending.{pending}
 use Rattle.mux_history.specs.Policy.{Policy}
 use Rattle.mux_history.specs.Settings.{by_lists}
 use Rattle.mux_history.specs.Steps.{TakeStep}
-use Rattle.mux_history.specs.Journal.{is_accepted, is_own_stream, log_of_journal}
-use Rattle.mux_history.specs.Promises.{IsSettled, SpeaksInTime, turns_in}
+use Rattle.mux_history.specs.Journal.{is_accepted, log_of_journal}
+use Rattle.mux_history.specs.Promises.{IsSettled}
 use Rattle.mux_history.proofs.PendingSteps.{take-leaves}
 use Rattle.mux_history.proofs.Wires.{wire-keeps}
-use Rattle.mux_clients.specs.Among.{is_present}
 use Rattle.mux_clients.specs.Asked.{asked_of}
 use Rattle.mux_machine.specs.State.{State, queue_in, taken}
 use Rattle.mux_machine.specs.Events.{Tells, here}
 use Rattle.mux_machine.specs.declared.event.Event.{Event}
-use Rattle.mux_machine.specs.Stands.{GoesAlone, RowsFit, Stands, log}
+use Rattle.mux_machine.specs.Stands.{GoesAlone, RowsFit, Stands}
 use Rattle.mux_machine.proofs.Twins.{house-client, stands-alike}
 use Rattle.mux_engine.specs.Serving.{IsSound, Serving, is_open}
 use Rattle.mux_engine.specs.Sides.{Resting, Side}

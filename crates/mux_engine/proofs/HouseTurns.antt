@@ -1,30 +1,22 @@
 -- What the house makes of what holds while a wire is served: it is let in, takes, speaks and answers.
-use Rattle.std.proofs.Common.{◌≡◌, ◌≢◌, ◌≤◌, ◌<◌, ◌+◌, ℕ, Bool, true, false, ◌||◌, ◌&&◌, List, [], ◌∷◌, ◌++◌, length, drop, Option, Some, None, refl, sym, ap, ◌∙◌, subst, inl, inr, cond, arith, append-nil}
+use Rattle.std.proofs.Common.{◌≡◌, ◌≢◌, ◌<◌, ℕ, Bool, true, false, ◌||◌, ◌&&◌, List, [], ◌∷◌, length, Option, None, refl, sym, ap, ◌∙◌, subst, inr, cond, arith, append-nil}
 use Rattle.std.specs.Prelude.{◌==◌, All, IsTrue}
 use Rattle.std.specs.List.{list_any}
-use Rattle.std.specs.Option.{option_map}
 use Rattle.std.proofs.lemmas.Bool.{eqb-true}
-use Rattle.std.proofs.lemmas.Bool.Decides.{eqb_tells}
 use Rattle.std.proofs.lemmas.List.Elements.{All-cons, All-head, All-tail}
-use Rattle.ssh_fields.specs.Fields.{AreBytes}
-use Rattle.mux_outside.specs.House.{AnswerFits, OpenAsk, ReplyFits, is_ask, without_ask}
+use Rattle.mux_outside.specs.House.{OpenAsk, ReplyFits, is_ask, without_ask}
 use Rattle.mux_outside.specs.Seen.{Seen}
-use Rattle.mux_outside.specs.Streams.{among, without}
+use Rattle.mux_outside.specs.Streams.{among}
 use Rattle.mux_outside.specs.declared.house.HouseReply.{HouseReply}
 use Rattle.mux_outside.specs.declared.house.HouseReply.TheVariants.{Done, Port, Refused, Later}
 use Rattle.mux_outside.specs.declared.house_mark.HouseMark.{HouseMark}
-use Rattle.mux_outside.specs.declared.house_mark.HouseMark.TheVariants.{HouseIn, HouseSaid, HouseTook, HouseAnswer}
+use Rattle.mux_outside.specs.declared.house_mark.HouseMark.TheVariants.{HouseIn, HouseAnswer}
 use Rattle.mux_outside.specs.declared.mark.Mark.{Mark}
 use Rattle.mux_outside.specs.declared.mark.Mark.TheVariants.{Waits, Accepts, Gets, Ends, Frees, Fails, Takes, Holds, WriteFails, Joins, House}
-use Rattle.mux_history.specs.declared.limits.TheConstants.{HOUSE, READING_STOPS_AT}
-use Rattle.mux_history.specs.Log.{Setting}
-use Rattle.mux_history.specs.Pending.{pending}
+use Rattle.mux_history.specs.declared.limits.TheConstants.{HOUSE}
 use Rattle.mux_history.specs.Policy.{Policy}
-use Rattle.mux_history.specs.Settings.{by_lists}
-use Rattle.mux_history.specs.Steps.{TakeStep}
-use Rattle.mux_history.specs.Journal.{IsLawful, is_accepted, log_of_journal}
+use Rattle.mux_history.specs.Journal.{IsLawful, is_accepted}
 use Rattle.mux_history.specs.Promises.{turns_in}
-use Rattle.mux_history.proofs.PendingSteps.{take-leaves}
 use Rattle.mux_history.proofs.Wires.{wire-keeps}
 use Rattle.mux_clients.specs.Asked.{TellsAsks, asked_of}
 use Rattle.mux_machine.specs.State.{State, queue_in, taken}
@@ -38,16 +30,13 @@ use Rattle.mux_engine.specs.Sides.{Resting, Side}
 use Rattle.mux_engine.proofs.Asks.{goes-asked, goes-unasked, none-asked, unasked-none}
 use Rattle.mux_engine.proofs.Cuts.{cut-next, of-streams}
 use Rattle.mux_engine.proofs.Happened.{placed-house-in, serve-event}
-use Rattle.mux_engine.proofs.Lists.{among-less, or-true, test-other, true-false}
-use Rattle.mux_engine.proofs.Logs.{accepted-more, failed-other, log-out, settled-as, took-log, took-pending}
-use Rattle.mux_engine.proofs.Marks.{Notes, serve-alone}
+use Rattle.mux_engine.proofs.Lists.{or-true, test-other, true-false}
+use Rattle.mux_engine.proofs.Marks.{Notes}
 use Rattle.mux_engine.proofs.Noted.{seen-with}
-use Rattle.mux_engine.proofs.Offers.{SameRun, Waiting}
 use Rattle.mux_engine.proofs.Places.{placed-still}
-use Rattle.mux_engine.proofs.Quiet.{askers-more, notes-none}
-use Rattle.mux_engine.proofs.Taken.{took-asks, took-run}
+use Rattle.mux_engine.proofs.Quiet.{askers-more}
 use Rattle.mux_engine.proofs.Told.{tells-none}
-use Rattle.mux_engine.proofs.Turned.{EventAt, came, goes-twin, stayed}
+use Rattle.mux_engine.proofs.Turned.{came, goes-twin, stayed}
 
 -- ---- whoever was accepted is no server
 

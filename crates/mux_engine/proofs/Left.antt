@@ -1,15 +1,14 @@
 -- How many of the master's own streams did not fail, and which are offered something.
-use Rattle.std.proofs.Common.{◌≡◌, ◌≢◌, ◌≤◌, ◌<◌, ◌+◌, ℕ, Bool, true, false, not, ◌||◌, List, [], ◌∷◌, ◌++◌, length, length-append, refl, sym, ap, ◌∙◌, subst, inl, inr, ◌⊎◌, cond, arith}
+use Rattle.std.proofs.Common.{◌≡◌, ◌≢◌, ◌≤◌, ◌<◌, ◌+◌, ℕ, Bool, true, false, not, ◌||◌, List, [], ◌∷◌, ◌++◌, length, length-append, sym, ap, ◌∙◌, subst, inl, inr, ◌⊎◌, cond, arith}
 use Rattle.std.specs.Prelude.{◌==◌, filter, IsTrue}
 use Rattle.std.proofs.lemmas.Bool.Decides.{eqb_tells}
 use Rattle.mux_outside.specs.House.{Known}
-use Rattle.mux_outside.specs.OwnStreams.{is_one, is_own, numbers_of}
+use Rattle.mux_outside.specs.OwnStreams.{is_one}
 use Rattle.mux_outside.specs.Seen.{Seen}
 use Rattle.mux_outside.specs.Streams.{among}
-use Rattle.mux_outside.specs.declared.own_streams.OwnStream.{OwnStream}
 use Rattle.mux_engine.specs.Owned.{left_of}
 use Rattle.mux_engine.specs.Sides.{Housed}
-use Rattle.mux_engine.proofs.Lists.{among-last, or-none, test-other, true-false}
+use Rattle.mux_engine.proofs.Lists.{among-last, test-other, true-false}
 use Rattle.mux_engine.proofs.Waits.{among-one}
 
 after-push : (k x : ℕ) (failed : List ℕ) → among x (failed ++ k ∷ []) ≡ (among x failed || ((k == x) || false))

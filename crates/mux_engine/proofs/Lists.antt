@@ -131,9 +131,6 @@ own-stream t e ne = ap (λ b. b && not (t == HOUSE)) e ∙ ap not (test-other t 
 pub not-own-stream : (t : ℕ) → is_own t ≡ false → is_own_stream t ≡ false
 not-own-stream t e = ap (λ b. b && not (t == HOUSE)) e
 
-pub stream-own : (t : ℕ) → is_own_stream t ≡ true → is_own t ≡ true
-stream-own t e = and-first (is_own t) (not (t == HOUSE)) e
-
 -- ---- the streams that are open
 
 -- the head of a list is there, or else one behind it

@@ -21,12 +21,12 @@ use Rattle.mux_history.specs.Pending.{pending}
 use Rattle.mux_history.specs.Solo.{end_of}
 use Rattle.mux_history.specs.Log.{Setting}
 use Rattle.mux_history.specs.Settings.{by_lists}
-use Rattle.mux_history.specs.Journal.{is_accepted, is_blocked, is_own_stream, log_of_journal}
-use Rattle.mux_history.specs.Promises.{IsFront, has_failed, turns_in, write_failed}
+use Rattle.mux_history.specs.Journal.{is_own_stream, log_of_journal}
+use Rattle.mux_history.specs.Promises.{IsFront, turns_in}
 use Rattle.mux_history.proofs.Wires.{wire-keeps}
 use Rattle.mux_machine.specs.State.{State}
 use Rattle.mux_machine.specs.Events.{here}
-use Rattle.mux_machine.specs.Stands.{GoesBy, Stands, log}
+use Rattle.mux_machine.specs.Stands.{GoesBy, log}
 use Rattle.mux_machine.proofs.Over.{some-end}
 use Rattle.mux_engine.specs.Run.{IsOfWire}
 use Rattle.mux_engine.specs.Serving.{IsSound, Promised, Serving, is_open}

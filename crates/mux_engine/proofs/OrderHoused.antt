@@ -1,20 +1,19 @@
 -- What is known of a house once its order was carried out is what the wire has seen of it.
-use Rattle.std.proofs.Common.{◌≡◌, ◌≢◌, ◌≤◌, ◌<◌, ℕ, Bool, true, false, not, ◌||◌, ◌&&◌, List, [], ◌∷◌, ◌++◌, map, Option, Some, None, refl, sym, ap, ◌∙◌, subst, inl, inr, ◌⊎◌, cond, arith}
-use Rattle.std.specs.Prelude.{◌==◌, IsTrue, OnOk, Result, Ok, Err}
+use Rattle.std.proofs.Common.{◌≡◌, ◌≢◌, ◌≤◌, ◌<◌, ℕ, Bool, true, false, not, ◌||◌, List, [], ◌∷◌, ◌++◌, map, Option, Some, None, refl, sym, ap, ◌∙◌, subst, inl, inr, ◌⊎◌, cond, arith}
+use Rattle.std.specs.Prelude.{◌==◌, OnOk, Result, Ok, Err}
 use Rattle.std.proofs.lemmas.Bool.Decides.{eqb_tells}
 use Rattle.std.proofs.lemmas.List.{map-append}
 use Rattle.std.proofs.lemmas.List.Folds.{list_any-append}
-use Rattle.mux_outside.specs.House.{Known, OrderFits, known_after_order}
-use Rattle.mux_outside.specs.OwnStreams.{finish_one, is_one, is_own, new_stream, numbers_of, pause_one, with_finish, with_pause, without_stream}
+use Rattle.mux_outside.specs.House.{Known, known_after_order}
+use Rattle.mux_outside.specs.OwnStreams.{finish_one, is_one, is_own, new_stream, numbers_of, pause_one, without_stream}
 use Rattle.mux_outside.specs.Seen.{Seen, seen_after_note}
 use Rattle.mux_outside.specs.declared.house_mark.HouseMark.{HouseMark}
 use Rattle.mux_outside.specs.Streams.{among, without}
-use Rattle.mux_outside.specs.Wire.{IsNewOwn}
 use Rattle.mux_outside.specs.declared.order.Order.{Order}
 use Rattle.mux_outside.specs.declared.order.Order.TheVariants.{Listen, Connect, Unlisten, Pause, Resume, Finish, Close}
 use Rattle.mux_outside.specs.declared.own_streams.OwnStream.{OwnStream}
 use Rattle.mux_engine.specs.Orders.{HasOrdered, MadeBy, known_carried, own_carried, seen_carried}
-use Rattle.mux_engine.specs.Sides.{Housed, OwnPlaces}
+use Rattle.mux_engine.specs.Sides.{Housed}
 use Rattle.mux_engine.proofs.Closed.{was-among}
 use Rattle.mux_engine.proofs.Lists.{among-last, among-other-last, or-last, test-other, true-false, without-other}
 use Rattle.mux_engine.proofs.OwnMarks.{test-same}

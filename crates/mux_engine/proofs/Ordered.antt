@@ -18,7 +18,6 @@ use Rattle.mux_outside.specs.declared.mark.Mark.{Mark}
 use Rattle.mux_outside.specs.declared.mark.Mark.TheVariants.{House}
 use Rattle.mux_outside.specs.declared.order.Order.{Order}
 use Rattle.mux_outside.specs.declared.order.Order.TheVariants.{Listen, Connect, Unlisten, Pause, Resume, Finish, Close}
-use Rattle.mux_history.specs.declared.limits.TheConstants.{HOUSE}
 use Rattle.mux_history.specs.Policy.{Policy}
 use Rattle.mux_history.specs.Journal.{is_blocked, is_own_stream}
 use Rattle.mux_history.specs.Promises.{has_failed, not_own}
@@ -32,12 +31,10 @@ use Rattle.mux_engine.specs.Sides.{Resting, Side, asks_in, noted, noting}
 use Rattle.mux_engine.proofs.Closed.{both-tests, was-among}
 use Rattle.mux_engine.proofs.Cuts.{cut-here, serve-told}
 use Rattle.mux_engine.proofs.Happened.{last-or}
-use Rattle.mux_engine.proofs.Lists.{among-last, among-less, among-other-last, or-last, or-none, own-stream, test-other, true-false, without-other}
+use Rattle.mux_engine.proofs.Lists.{among-last, among-less, among-other-last, or-last, own-stream, test-other, true-false, without-other}
 use Rattle.mux_engine.proofs.Marks.{Notes, Placed}
-use Rattle.mux_engine.proofs.OwnMarks.{test-same}
-use Rattle.mux_engine.proofs.Places.{house-shut, placed-still}
+use Rattle.mux_engine.proofs.Places.{placed-still}
 use Rattle.mux_engine.proofs.Quiet.{serve-quiet}
-use Rattle.mux_engine.proofs.Told.{tells-none}
 use Rattle.mux_engine.proofs.WireTurns.{client-number}
 
 -- what is seen once it is noted

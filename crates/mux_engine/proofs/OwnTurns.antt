@@ -1,6 +1,6 @@
 -- What a turn makes of what holds while a wire is served, where it tells something of the master's own
 -- streams, or that a stream takes bytes again.
-use Rattle.std.proofs.Common.{◌≡◌, ◌≢◌, ◌≤◌, ◌<◌, ◌+◌, ℕ, Bool, true, false, not, ◌||◌, List, [], ◌∷◌, ◌++◌, length, Option, refl, sym, ap, ◌∙◌, subst, inl, inr, cond, arith, append-nil}
+use Rattle.std.proofs.Common.{◌≡◌, ◌≢◌, ◌≤◌, ◌<◌, ℕ, Bool, true, false, not, ◌||◌, List, [], ◌∷◌, ◌++◌, Option, refl, sym, ap, ◌∙◌, subst, inl, inr, cond, arith, append-nil}
 use Rattle.std.specs.Prelude.{◌==◌, IsTrue}
 use Rattle.std.specs.Option.{option_map}
 use Rattle.std.proofs.lemmas.Bool.Decides.{eqb_tells}
@@ -10,7 +10,7 @@ use Rattle.mux_outside.specs.OwnStreams.{is_own}
 use Rattle.mux_outside.specs.Seen.{Seen}
 use Rattle.mux_outside.specs.Streams.{among, without}
 use Rattle.mux_outside.specs.Wire.{IsNewOwn}
-use Rattle.mux_outside.specs.declared.own_streams.TheConstants.{LAST_CLIENT, LAST_OWN}
+use Rattle.mux_outside.specs.declared.own_streams.TheConstants.{LAST_OWN}
 use Rattle.mux_outside.specs.declared.house.HouseReply.{HouseReply}
 use Rattle.mux_outside.specs.declared.house_mark.HouseMark.{HouseMark}
 use Rattle.mux_outside.specs.declared.mark.Mark.{Mark}
@@ -31,7 +31,7 @@ use Rattle.mux_engine.specs.Serving.{IsFree, IsSound, IsUnseen, IsUnused, Servin
 use Rattle.mux_engine.specs.Sides.{Resting, Side}
 use Rattle.mux_engine.proofs.Happened.{last-or, placed-ends, placed-fails, placed-gets}
 use Rattle.mux_engine.proofs.Lists.{among-last, among-open, none-without, or-last, or-none, test-other, true-false, without-other}
-use Rattle.mux_engine.proofs.Logs.{log-out, settled-as}
+use Rattle.mux_engine.proofs.Logs.{settled-as}
 use Rattle.mux_engine.proofs.Marks.{Placed, serve-alone}
 use Rattle.mux_engine.proofs.OwnMarks.{own-is, test-same}
 use Rattle.mux_engine.proofs.Places.{open-stream, placed-by}

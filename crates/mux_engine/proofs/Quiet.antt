@@ -1,5 +1,5 @@
 -- Marks that no row tells: what holds while a wire is served goes on with them.
-use Rattle.std.proofs.Common.{◌≡◌, ◌≢◌, ℕ, true, false, List, [], ◌∷◌, ◌++◌, Option, refl, sym, ap, ◌∙◌, subst, append-nil}
+use Rattle.std.proofs.Common.{◌≡◌, ℕ, false, List, [], ◌∷◌, ◌++◌, Option, refl, sym, ap, ◌∙◌, subst, append-nil}
 use Rattle.std.specs.Prelude.{All, IsTrue}
 use Rattle.std.specs.Option.{option_map}
 use Rattle.mux_outside.specs.House.{OpenAsk}
@@ -22,7 +22,7 @@ use Rattle.mux_engine.specs.Run.{RestedAt, is_by_house}
 use Rattle.mux_engine.specs.Serving.{IsSound, Serving}
 use Rattle.mux_engine.specs.Sides.{Resting, Side, house_mark}
 use Rattle.mux_engine.proofs.Logs.{accepted-more, settled-as}
-use Rattle.mux_engine.proofs.Marks.{Next, Notes, Placed, PromiseAt, serve-alone}
+use Rattle.mux_engine.proofs.Marks.{Notes, Placed, PromiseAt, serve-alone}
 use Rattle.mux_engine.proofs.Told.{tells-none}
 
 -- the house is not called

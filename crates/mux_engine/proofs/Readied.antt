@@ -1,7 +1,6 @@
 -- A house that is ready stays so where a client's stream is closed.
-use Rattle.std.proofs.Common.{◌≡◌, ◌≢◌, ℕ, true, List, Option, IsTrue, sym, ◌∙◌, inl, inr, ◌⊎◌}
+use Rattle.std.proofs.Common.{◌≡◌, ◌≢◌, ℕ, true, List, Option, ◌∙◌, inl, inr}
 use Rattle.mux_outside.specs.House.{Known, Quiet}
-use Rattle.mux_outside.specs.OwnStreams.{is_one, without_stream}
 use Rattle.mux_outside.specs.Seen.{Seen, seen_after_close}
 use Rattle.mux_outside.specs.Streams.{among, without}
 use Rattle.mux_outside.specs.declared.house.HouseReply.{HouseReply}

@@ -1,5 +1,5 @@
 -- The turns of a run, one after the other.
-use Rattle.std.proofs.Common.{◌≡◌, ◌≢◌, ◌≤◌, ◌<◌, ◌+◌, ◌++◌, ◌||◌, ℕ, Bool, true, false, List, [], ◌∷◌, Option, None, refl, sym, ap, ◌∙◌, subst, inl, inr, arith}
+use Rattle.std.proofs.Common.{◌≡◌, ◌≢◌, ◌<◌, ◌+◌, ◌++◌, ◌||◌, ℕ, Bool, true, false, List, [], ◌∷◌, Option, refl, sym, ap, ◌∙◌, subst, inl, inr, arith}
 use Rattle.std.specs.Prelude.{if◌then◌else◌, Result, Ok, Err, MatchResult, OnOk}
 use Rattle.mux_outside.specs.House.{Known}
 use Rattle.mux_outside.specs.Seen.{Seen}
@@ -15,7 +15,6 @@ use Rattle.mux_engine.specs.Serving.{EndsTurn, Promised, Serving, Spends}
 use Rattle.mux_engine.specs.Sides.{Resting, Side, noted, outside}
 use Rattle.mux_engine.proofs.Lists.{apart-or-left, test-other, true-false, without-other}
 use Rattle.mux_engine.proofs.Loops.{neither}
-use Rattle.mux_engine.proofs.Runs.{promised-more}
 use Rattle.mux_engine.proofs.Todo.{serve-todo}
 
 module _ {May : HouseReply → Type 0} {before : Option (List HouseMark)} {policy : Policy} {pid : ℕ} {start : Option (List Mark)} where

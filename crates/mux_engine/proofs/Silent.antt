@@ -9,11 +9,10 @@ use Rattle.mux_outside.specs.declared.house.HouseReply.{HouseReply}
 use Rattle.mux_outside.specs.declared.mark.Mark.{Mark}
 use Rattle.mux_outside.specs.declared.mark.Mark.TheVariants.{Waits, Frees, Gets, Holds}
 use Rattle.mux_outside.specs.declared.turn.Want.{Want}
-use Rattle.mux_outside.specs.OwnStreams.{is_own}
 use Rattle.mux_history.specs.Rows.{Item, Row}
 use Rattle.mux_history.specs.Log.{Setting, more_all}
 use Rattle.mux_history.specs.Settings.{by_lists}
-use Rattle.mux_history.specs.Journal.{bytes_of, is_accepted, is_own_stream, log_of_journal, new_heard, new_sayings, unless_own}
+use Rattle.mux_history.specs.Journal.{bytes_of, is_own_stream, log_of_journal, new_heard, new_sayings, unless_own}
 use Rattle.mux_clients.specs.Among.{numbers}
 use Rattle.mux_clients.specs.State.{ClientState}
 use Rattle.mux_machine.specs.State.{State}

@@ -1,23 +1,16 @@
 -- What the turns of a run count, and how the run counts behind them.
-use Rattle.std.proofs.Common.{◌≡◌, ◌≢◌, ◌≤◌, ◌<◌, ◌+◌, ◌-◌, ◌^◌, ℕ, Bool, true, false, Option, Some, None, refl, sym, ap, ◌∙◌, subst, inl, inr, ◌⊎◌, arith}
+use Rattle.std.proofs.Common.{◌≡◌, ◌≢◌, ◌≤◌, ◌<◌, ◌+◌, ◌-◌, ◌^◌, ℕ, Bool, true, false, refl, sym, ◌∙◌, subst, inl, inr, arith}
 use Rattle.std.specs.Prelude.{min}
 use Rattle.std.proofs.lemmas.Bool.Decides.{eqb_tells}
-use Rattle.mux_outside.specs.Counts.{Rose, counted}
+use Rattle.mux_outside.specs.Counts.{counted}
 use Rattle.mux_outside.specs.Seen.{Calls}
 use Rattle.mux_history.specs.declared.ended.Ended.{Ended}
 use Rattle.mux_history.specs.declared.ended.Ended.TheVariants as ended
 use Rattle.mux_engine.specs.Counted.{Cut, Spent, Stops, Turned, Waited, Well}
-use Rattle.mux_engine.specs.Rests.{ended_as}
-use Rattle.mux_engine.specs.Serving.{StaysOrFails}
 use Rattle.mux_engine.proofs.Arms.{well-none, well-on}
-use Rattle.mux_engine.proofs.Counting.{cut-none}
 use Rattle.mux_engine.proofs.Lists.{true-false}
 
 -- ---- turns
-
--- a turn for an order or a piece
-pub turned-none : (present on : Bool) (b c : Calls) → Well 0 b c → (present ≡ true) ⊎ (on ≡ false) → Turned present on b c
-turned-none present on b c w why = inr (w, why)
 
 pub spent-none : (present : Bool) (c : Calls) → Spent present true 0 c c
 spent-none present c = record {
@@ -121,11 +114,6 @@ spent-then present all turns a b c s w = let f : b.waits ≤ a.waits + turns = s
   where
     kept : counted a.waits ≤ b.waits → counted a.waits ≤ c.waits
     kept h = let l : min (b.waits + 0) (2 ^ 64 - 1) ≤ c.waits = w.waited.least in omega arith
-
-pub spent-cut-off : (present all : Bool) (turns : ℕ) (a b c : Calls) → Spent present all turns a b → Cut 0 b c → Cut turns a c
-spent-cut-off present all turns a b c s w =
-    let f : b.waits ≤ a.waits + turns = s.few in let g : c.waits ≤ b.waits + 0 = w.few in let e : b.wants ≡ a.wants = s.wants in let h : c.wants ≤ b.wants + 1 = w.wants in
-    record { few = omega arith; wants = omega arith; late = λ z. w.late (s.wants ∙ z) ∙ s.late z }
 
 -- a run whose turns were spent, or that something ended
 pub stops-spent : (present all : Bool) (turns : ℕ) (answer : Ended) (a b : Calls) → Spent present all turns a b → (present ≡ false → all ≡ false → answer ≢ ended.Spent) → (present ≡ false → turns ≡ 0 → answer ≡ ended.Spent) → Stops present turns answer a b

@@ -1,5 +1,5 @@
 -- What the house says as a client makes of all that holds while a wire is served.
-use Rattle.std.proofs.Common.{◌≡◌, ◌≢◌, ◌≤◌, ◌<◌, ◌+◌, ℕ, Bool, true, false, List, [], ◌∷◌, ◌++◌, length, Option, Some, None, refl, sym, ap, ◌∙◌, subst, inl, inr, cond, arith, append-nil, MatchResult, OnOk}
+use Rattle.std.proofs.Common.{◌≡◌, ◌≤◌, ◌<◌, ◌+◌, ℕ, Bool, true, false, List, [], ◌∷◌, ◌++◌, length, Option, Some, None, refl, sym, ap, ◌∙◌, subst, inl, inr, cond, arith, MatchResult, OnOk}
 use Rattle.std.specs.Prelude.{nat_lt, Result, Ok, Err}
 use Rattle.std.specs.Option.{option_map}
 use Rattle.std.proofs.lemmas.Bool.Decides.{nat_tests}
@@ -11,7 +11,6 @@ use Rattle.mux_outside.specs.declared.house_mark.HouseMark.{HouseMark}
 use Rattle.mux_outside.specs.declared.house_mark.HouseMark.TheVariants.{HouseSaid}
 use Rattle.mux_outside.specs.declared.mark.Mark.{Mark}
 use Rattle.mux_outside.specs.declared.mark.Mark.TheVariants.{Gets}
-use Rattle.mux_outside.specs.declared.turn.Want.{Want}
 use Rattle.mux_outside.specs.declared.turn.Want.TheVariants.{Read, WriteOnly}
 use Rattle.mux_history.specs.declared.ended.Ended.{Ended}
 use Rattle.mux_history.specs.declared.ended.Ended.TheVariants as ended
@@ -31,7 +30,6 @@ use Rattle.mux_engine.proofs.Cuts.{cut-here, serve-told}
 use Rattle.mux_engine.proofs.Handed.{event-heeds}
 use Rattle.mux_engine.proofs.HouseTakes.{house-said}
 use Rattle.mux_engine.proofs.Noted.{seen-with}
-use Rattle.mux_engine.proofs.Told.{told-none}
 use Rattle.mux_engine.proofs.Turned.{EventAt, event-ends}
 
 -- more is read while few bytes wait for the server
@@ -47,12 +45,6 @@ pub row-live : (o : Option Ended) → o ≡ None → IsByRow o
 row-live o e = record {
   unspent = λ f. let z : None ≡ Some ended.Spent = sym e ∙ f in cc;
   permitted = λ index f. let z : None ≡ Some (ended.StartRefused index) = sym e ∙ f in cc;
-}
-
-pub live-ends : (o : Option Ended) → o ≡ None → EndsByAsk o
-live-ends o e = record {
-  lives = λ f. let z : None ≡ Some ended.ServerFailed = sym e ∙ f in cc;
-  by_row = row-live o e;
 }
 
 -- a result that is known
@@ -82,19 +74,6 @@ told-said r bytes told told' is e = e ∙ ap (λ (x : Result Bool _). option_map
 
 pub some-said : {E : Type 0} (r : Result Bool E) (bytes : List ℕ) → r ≡ Ok true → SaysFits r bytes → 0 < length bytes
 some-said {E} r bytes is fits = let f : SaysFits {E = E} (Ok true) bytes = subst (λ (x : Result Bool E). SaysFits {E = E} x bytes) is fits in f.0
-
--- it said nothing
-pub said-none : {May : HouseReply → Type 0} {Rest : Resting} {before : Option (List HouseMark)} {policy : Policy} {pid : ℕ} {start : Option (List Mark)} {seen : Seen} {held failed : List ℕ} {given : ℕ} {todo : List ℕ} {s : State} (told told' : Option (List HouseMark)) (known known' : Known)
-    → TellsAsks told told' [] → known' ≡ known → Serving May Rest before (noted told known) policy pid start seen held failed given todo s → Serving May Rest before (noted told' known') policy pid start seen held failed (given + 0) todo s
-said-none {May} {Rest} {before} {policy} {pid} {start} {seen} {held} {failed} {given} {todo} {s} told told' known known' tells same v =
-    let nothing : given ≡ given + 0 = omega arith in
-    subst (λ (n : ℕ). Serving May Rest before (noted told' known') policy pid start seen held failed n todo s) nothing
-    (subst (λ (k : Known). Serving May Rest before (noted told' k) policy pid start seen held failed given todo s) (sym same)
-    (subst (λ (o : Option (List HouseMark)). Serving May Rest before (noted o known) policy pid start seen held failed given todo s) (sym (tells ∙ told-none' told)) v))
-  where
-    told-none' : (o : Option (List HouseMark)) → option_map (λ l. l ++ []) o ≡ o
-    told-none' None = refl
-    told-none' (Some l) = ap (λ (x : List HouseMark). Some x) (append-nil l)
 
 module _ {May : HouseReply → Type 0} {Rest : Resting} {before : Option (List HouseMark)} {policy : Policy} {pid : ℕ} {start : Option (List Mark)} {seen : Seen} {held failed : List ℕ} {given : ℕ} {s : State}
     (told : Option (List HouseMark)) (known : Known) (v : Serving May Rest before (noted told known) policy pid start seen held failed given [] s) (live : s.ended ≡ None) (within : known.present ≡ true) (room : want_of s ≡ Read)

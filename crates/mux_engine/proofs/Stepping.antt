@@ -1,6 +1,6 @@
 -- What a step of the house makes of all that holds while a wire is served.
-use Rattle.std.proofs.Common.{◌≡◌, ◌≢◌, ◌≤◌, ◌+◌, ℕ, Bool, true, false, ◌||◌, List, [], ◌∷◌, ◌++◌, Option, Some, None, refl, sym, ap, ◌∙◌, subst, inl, inr, ◌⊎◌, arith, append-nil, MatchResult, OnOk}
-use Rattle.std.specs.Prelude.{◌==◌, IsTrue, IfOk, Result, Ok, Err}
+use Rattle.std.proofs.Common.{◌≡◌, ◌+◌, ℕ, Bool, true, false, ◌||◌, List, [], ◌∷◌, ◌++◌, Option, refl, sym, ap, ◌∙◌, subst, inl, inr, arith, append-nil, MatchResult, OnOk}
+use Rattle.std.specs.Prelude.{◌==◌, IfOk, Result, Ok, Err}
 use Rattle.std.proofs.lemmas.Bool.Decides.{eqb_tells}
 use Rattle.mux_outside.specs.House.{Known, Quiet}
 use Rattle.mux_outside.specs.OwnStreams.{numbers_of}
@@ -11,7 +11,6 @@ use Rattle.mux_outside.specs.declared.house_mark.HouseMark.{HouseMark}
 use Rattle.mux_outside.specs.declared.mark.Mark.{Mark}
 use Rattle.mux_history.specs.declared.limits.TheConstants.{HOUSE}
 use Rattle.mux_history.specs.Policy.{Policy}
-use Rattle.mux_history.specs.Journal.{is_accepted}
 use Rattle.mux_machine.specs.State.{State}
 use Rattle.mux_machine.specs.Events.{here}
 use Rattle.mux_engine.specs.Owned.{IsOffered}

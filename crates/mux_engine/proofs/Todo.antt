@@ -1,5 +1,5 @@
 -- The streams that are left to be offered what waits for them.
-use Rattle.std.proofs.Common.{◌≡◌, ◌≢◌, ℕ, Bool, true, false, ◌||◌, List, [], ◌∷◌, ◌++◌, Option, None, refl, sym, ap, ◌∙◌, subst, inl, inr, ◌⊎◌}
+use Rattle.std.proofs.Common.{◌≡◌, ◌≢◌, ℕ, Bool, true, false, ◌||◌, List, [], ◌∷◌, ◌++◌, Option, None, sym, ap, ◌∙◌, inl, inr, ◌⊎◌}
 use Rattle.std.proofs.lemmas.Bool.Decides.{eqb_tells}
 use Rattle.mux_outside.specs.Seen.{Seen}
 use Rattle.mux_outside.specs.Streams.{among, without}

@@ -1,35 +1,27 @@
 -- What a turn that tells an event makes of what holds while a wire is served.
-use Rattle.std.proofs.Common.{◌≡◌, ◌≢◌, ◌≤◌, ◌<◌, ◌+◌, ℕ, Bool, true, false, ◌||◌, List, [], ◌∷◌, ◌++◌, length, take, drop, Option, Some, None, refl, sym, ap, ◌∙◌, subst, inl, inr, arith, append_assoc, append-nil}
-use Rattle.std.specs.Prelude.{reverse, All, IsTrue}
+use Rattle.std.proofs.Common.{◌≡◌, ℕ, true, List, [], ◌∷◌, ◌++◌, take, drop, Option, Some, None, refl, sym, ap, ◌∙◌, subst, inl, inr, arith, append_assoc, append-nil, false}
+use Rattle.std.specs.Prelude.{All, IsTrue}
 use Rattle.std.specs.Option.{option_map}
-use Rattle.std.proofs.lemmas.Bool.Decides.{nat_tests}
-use Rattle.ssh_fields.specs.Fields.{AreBytes}
 use Rattle.mux_outside.specs.House.{Known}
-use Rattle.mux_outside.specs.OwnStreams.{is_own}
-use Rattle.mux_outside.specs.Seen.{Seen, seen_after_turn}
+use Rattle.mux_outside.specs.Seen.{Seen}
 use Rattle.mux_outside.specs.Streams.{among}
-use Rattle.mux_outside.specs.Wire.{OwnFits, TurnFits, wait_marks, open_after, blocked_after, last_after}
 use Rattle.mux_outside.specs.declared.house.HouseReply.{HouseReply}
 use Rattle.mux_outside.specs.declared.house_mark.HouseMark.{HouseMark}
 use Rattle.mux_outside.specs.declared.mark.Mark.{Mark}
-use Rattle.mux_outside.specs.declared.mark.Mark.TheVariants.{Accepts, Gets, Ends, Fails}
-use Rattle.mux_outside.specs.declared.own_streams.TheConstants.{LAST_CLIENT}
-use Rattle.mux_outside.specs.declared.turn.Turn.{Turn}
-use Rattle.mux_outside.specs.declared.turn.Turn.TheVariants as turn
+use Rattle.mux_outside.specs.declared.mark.Mark.TheVariants.{Accepts}
 use Rattle.mux_history.specs.declared.limits.TheConstants.{HOUSE}
 use Rattle.mux_history.specs.Log.{Setting}
 use Rattle.mux_history.specs.Settings.{by_lists}
 use Rattle.mux_history.specs.Policy.{Policy}
-use Rattle.mux_history.specs.Journal.{is_accepted, is_own_stream, log_of_journal}
+use Rattle.mux_history.specs.Journal.{is_accepted, log_of_journal}
 use Rattle.mux_history.specs.Promises.{SpeaksInTime, turns_in}
 use Rattle.mux_history.specs.Wires.{OfWire}
-use Rattle.mux_history.proofs.Wires.{wire-keeps}
 use Rattle.mux_bounds.specs.Bounds.{IsLog}
 use Rattle.mux_clients.specs.Asked.{TellsAsks, asked_of, known_after}
 use Rattle.mux_machine.specs.State.{State, numbers}
 use Rattle.mux_machine.specs.declared.event.Event.{Event}
 use Rattle.mux_machine.specs.declared.event.Event.TheVariants.{Accepted, FromClient, ClientEnd, ClientFailed, HouseSays, FromServer, ServerEnd, ServerFailed}
-use Rattle.mux_machine.specs.Events.{Arrives, EndsBy, Keeps, MayEnd, SameStreams, Tells, here}
+use Rattle.mux_machine.specs.Events.{Arrives, EndsBy, MayEnd, SameStreams, Tells, here}
 use Rattle.mux_machine.specs.Stands.{GoesBy, IsAllowed}
 use Rattle.mux_machine.specs.Twins.{AreAlike}
 use Rattle.mux_machine.proofs.Twins.{stands-alike}
@@ -40,13 +32,11 @@ use Rattle.mux_engine.specs.Sides.{Resting, Side, house_mark}
 use Rattle.mux_engine.specs.Turns.{IsEventOf, want_of}
 use Rattle.mux_engine.proofs.Asks.{EachAsked, SaidBy, all-asks, asked-accepted, goes-asked}
 use Rattle.mux_engine.proofs.Cuts.{cut-next, of-streams}
-use Rattle.mux_engine.proofs.Happened.{placed-accepts, placed-ends, placed-fails, placed-gets, serve-event}
-use Rattle.mux_engine.proofs.Lists.{not-own-stream, true-false}
+use Rattle.mux_engine.proofs.Happened.{serve-event}
 use Rattle.mux_engine.proofs.Logs.{accepted-more}
 use Rattle.mux_engine.proofs.Marks.{Placed}
 use Rattle.mux_engine.proofs.Noted.{note-some, seen-with}
 use Rattle.mux_engine.proofs.Outs.{Spares}
-use Rattle.mux_engine.proofs.Places.{at-stream, open-stream}
 use Rattle.mux_engine.proofs.Turns.{IsTold, told-promise}
 
 -- ---- who is here behind an event

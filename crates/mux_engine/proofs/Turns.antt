@@ -1,5 +1,5 @@
 -- What an event makes of what holds while a wire is served: who is settled behind it.
-use Rattle.std.proofs.Common.{◌≡◌, ◌≢◌, ℕ, Bool, true, false, ◌||◌, List, [], ◌∷◌, ◌++◌, length, Option, None, refl, sym, ap, ◌∙◌, subst, inl}
+use Rattle.std.proofs.Common.{◌≡◌, ◌≢◌, ℕ, Bool, true, false, ◌||◌, List, ◌∷◌, ◌++◌, length, Option, None, refl, sym, ap, ◌∙◌, subst, inl}
 use Rattle.std.specs.Prelude.{◌==◌}
 use Rattle.std.proofs.lemmas.Bool.{eq-eqb}
 use Rattle.mux_outside.specs.Seen.{Seen}
@@ -9,7 +9,6 @@ use Rattle.mux_outside.specs.declared.house_mark.HouseMark.{HouseMark}
 use Rattle.mux_outside.specs.declared.house_mark.HouseMark.TheVariants.{HouseIn, HouseSaid, HouseAnswer}
 use Rattle.mux_outside.specs.declared.mark.Mark.{Mark}
 use Rattle.mux_outside.specs.declared.mark.Mark.TheVariants.{Accepts, Gets, Ends, Fails, House}
-use Rattle.mux_history.specs.declared.limits.TheConstants.{HOUSE}
 use Rattle.mux_history.specs.Policy.{Policy}
 use Rattle.mux_history.specs.Rows.{Row, rows_of}
 use Rattle.mux_history.specs.Pending.{pending, pending_down, pending_up}

@@ -5,7 +5,6 @@ use Rattle.std.specs.Option.{option_map}
 use Rattle.std.proofs.lemmas.Bool.Decides.{eqb_tells}
 use Rattle.std.proofs.lemmas.List.Elements.{filter-append}
 use Rattle.std.proofs.lemmas.List.Folds.{list_any-append}
-use Rattle.mux_outside.specs.House.{Known}
 use Rattle.mux_outside.specs.OwnStreams.{is_one, is_own, numbers_of}
 use Rattle.mux_outside.specs.Seen.{Seen}
 use Rattle.mux_outside.specs.Streams.{among}
@@ -21,7 +20,7 @@ use Rattle.mux_history.specs.Policy.{Policy}
 use Rattle.mux_history.specs.Rows.{Row, rows_of, is_out}
 use Rattle.mux_history.specs.Pending.{pending}
 use Rattle.mux_history.specs.Settings.{by_lists}
-use Rattle.mux_history.specs.Log.{Setting, served}
+use Rattle.mux_history.specs.Log.{Setting}
 use Rattle.mux_history.specs.Journal.{is_blocked, is_own_stream, log_of_journal}
 use Rattle.mux_history.specs.Promises.{MayWait, WaitsRight, OpenRight, has_failed, has_output, is_empty, not_own, write_failed}
 use Rattle.mux_machine.proofs.Over.{some-end}
@@ -37,7 +36,7 @@ use Rattle.mux_engine.specs.Turns.{want_of}
 use Rattle.mux_engine.proofs.Closed.{both-tests}
 use Rattle.mux_engine.proofs.Lists.{among-filter, among-open, and-first, and-second, not-own-stream, open-here, true-false}
 use Rattle.mux_engine.proofs.Marks.{log-is, serve-alone}
-use Rattle.mux_engine.proofs.Places.{open-own, placed-still, server-open, stream-open}
+use Rattle.mux_engine.proofs.Places.{open-own, placed-still, stream-open}
 use Rattle.mux_engine.proofs.Quiet.{askers-more, notes-none}
 use Rattle.mux_engine.proofs.Silent.{waits-alike}
 use Rattle.mux_engine.proofs.Waiting.{all-of, all-served, none-lost, not-empty, passed, waiting-are, want-is}

@@ -1,17 +1,17 @@
 -- What a turn of the wire tells, right behind the wait.
-use Rattle.std.proofs.Common.{◌≡◌, ◌≢◌, ◌≤◌, ◌<◌, ◌+◌, ℕ, Bool, true, false, ◌||◌, List, [], ◌∷◌, ◌++◌, Option, Some, None, refl, sym, ap, ◌∙◌, subst, inl, inr, cond, arith, append_assoc}
-use Rattle.std.specs.Prelude.{reverse, IsTrue}
+use Rattle.std.proofs.Common.{◌≡◌, ◌≢◌, ◌≤◌, ◌<◌, ◌+◌, ℕ, true, false, List, [], ◌∷◌, ◌++◌, Option, Some, None, refl, sym, ap, ◌∙◌, inr, cond, arith, append_assoc}
+use Rattle.std.specs.Prelude.{reverse}
 use Rattle.std.specs.Option.{option_map}
 use Rattle.std.proofs.lemmas.Bool.Decides.{nat_tests}
 use Rattle.ssh_fields.specs.Fields.{AreBytes}
 use Rattle.mux_outside.specs.OwnStreams.{is_own}
 use Rattle.mux_outside.specs.Seen.{Seen, seen_after_turn}
-use Rattle.mux_outside.specs.Streams.{among, without}
+use Rattle.mux_outside.specs.Streams.{among}
 use Rattle.mux_outside.specs.Wire.{OwnFits, TurnFits, wait_marks, open_after, blocked_after, last_after}
 use Rattle.mux_outside.specs.declared.house.HouseReply.{HouseReply}
 use Rattle.mux_outside.specs.declared.house_mark.HouseMark.{HouseMark}
 use Rattle.mux_outside.specs.declared.mark.Mark.{Mark}
-use Rattle.mux_outside.specs.declared.mark.Mark.TheVariants.{Accepts, Gets, Ends, Fails, Frees, Joins}
+use Rattle.mux_outside.specs.declared.mark.Mark.TheVariants.{Accepts, Gets, Ends, Fails}
 use Rattle.mux_outside.specs.declared.own_streams.TheConstants.{LAST_CLIENT}
 use Rattle.mux_outside.specs.declared.turn.Turn.{Turn}
 use Rattle.mux_outside.specs.declared.turn.Turn.TheVariants as turn
@@ -23,7 +23,6 @@ use Rattle.mux_history.specs.Wires.{OfWire}
 use Rattle.mux_history.proofs.Wires.{wire-keeps}
 use Rattle.mux_machine.specs.State.{State}
 use Rattle.mux_machine.specs.declared.event.Event.{Event}
-use Rattle.mux_machine.specs.Events.{here}
 use Rattle.mux_machine.specs.Twins.{AreAlike}
 use Rattle.mux_engine.specs.Serving.{IsUnseen, Serving}
 use Rattle.mux_engine.specs.Sides.{Resting, Side}

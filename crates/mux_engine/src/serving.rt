@@ -415,6 +415,8 @@ fn run<W: Wire, H: House>(
         → Rose (W.server_faults wire.old) (W.server_faults wire.new)) }
     ensures calls { Stops (H.known house.old).present turns (result_unwrap_or result WantOfMemory)
         (W.calls wire.old) (W.calls wire.new) }
+    ensures unopened { (H.known house.old).present ≡ false
+        → (W.seen wire.new).last_own ≡ (W.seen wire.old).last_own }
     ensures places { OnOk result (((W.seen wire.new).listeners ≡ (H.known house.new).listeners)
         × ((W.seen wire.new).own ≡ (H.known house.new).streams)) }
     ensures openings { W.openings wire.new ≡ W.openings wire.old }
@@ -438,7 +440,8 @@ fn run<W: Wire, H: House>(
 /// present it is let in as a client, and is at rest at each wait at which more is read: what is so of
 /// each house at rest by what it told is so there. Behind a call that wanted memory none is made.
 /// But for want of memory the wire's own listeners and streams are at the end those that the house
-/// knows, as it ordered them.
+/// knows, as it ordered them; without a house none was opened. The forwarding of the start that an
+/// answer names was refused, where none may be.
 pub fn serve<W: Wire, H: House>(
     alloc: Global,
     policy: Policy,
@@ -464,6 +467,8 @@ pub fn serve<W: Wire, H: House>(
         → Rose (W.server_faults wire.old) (W.server_faults wire.new) }
     ensures calls { Stops (H.known house.old).present turns result (W.calls wire.old)
         (W.calls wire.new) }
+    ensures unopened { (H.known house.old).present ≡ false
+        → (W.seen wire.new).last_own ≡ (W.seen wire.old).last_own }
     ensures places { result ≢ WantOfMemory
         → ((W.seen wire.new).listeners ≡ (H.known house.new).listeners)
         × ((W.seen wire.new).own ≡ (H.known house.new).streams) }

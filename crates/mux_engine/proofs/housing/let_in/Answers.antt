@@ -1,6 +1,5 @@
-use Rattle.std.proofs.Common.{◌∙◌, [], ◌∷◌, sym, ap, refl, subst, ℕ, true, Option, List}
+use Rattle.std.proofs.Common.{◌∷◌, sym, ap, refl, subst, true}
 use Rattle.mux_outside.specs.Seen.{Seen}
-use Rattle.mux_outside.specs.declared.mark.Mark.{Mark}
 use Rattle.mux_outside.specs.declared.mark.Mark.TheVariants.{Accepts}
 use Rattle.mux_history.specs.declared.limits.TheConstants.{HOUSE}
 use Rattle.mux_machine.specs.Events.{here}

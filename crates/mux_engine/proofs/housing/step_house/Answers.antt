@@ -1,6 +1,5 @@
-use Rattle.std.proofs.Common.{◌≡◌, ◌+◌, ◌∙◌, ◌∷◌, [], refl, sym, ap, subst, ℕ, Bool, true, false, cond, List, Option, Some, None, arith}
+use Rattle.std.proofs.Common.{◌≡◌, ◌+◌, ◌∙◌, ◌∷◌, [], sym, ap, subst, Bool, true, false, cond, arith}
 use Rattle.std.specs.Prelude.{Ok}
-use Rattle.mux_outside.specs.House.{Known}
 use Rattle.mux_machine.specs.Events.{here}
 use Rattle.mux_engine.specs.Rests.{EndsByAsk}
 use Rattle.mux_engine.specs.Serving.{Serving}

@@ -1,4 +1,4 @@
-use Rattle.std.proofs.Common.{◌≡◌, ◌+◌, sym, subst, Bool, Some}
+use Rattle.std.proofs.Common.{◌+◌, sym, subst, Bool, Some}
 use Rattle.mux_outside.specs.House.{order_marks}
 use Rattle.mux_engine.specs.Serving.{Promised, Serving}
 use Rattle.mux_engine.specs.Sides.{RestsOf, noted, noting}

@@ -1,4 +1,4 @@
-use Rattle.std.proofs.Common.{◌≡◌, ◌∙◌, [], sym, ap, refl, arith}
+use Rattle.std.proofs.Common.{◌∙◌, [], ap, refl, arith}
 use Rattle.mux_engine.proofs.Arms.{on-err}
 use Rattle.mux_engine.proofs.Cuts.{cut-here}
 use Rattle.mux_engine.proofs.OrderHoused.{housed-noted}

@@ -1,4 +1,4 @@
-use Rattle.std.proofs.Common.{◌∙◌, refl, sym, true}
+use Rattle.std.proofs.Common.{◌∙◌, refl, sym}
 use Rattle.mux_engine.proofs.Lists.{true-false}
 use Rattle.mux_engine.proofs.Places.{places-same}
 use Rattle.mux_engine.proofs.Running.{both-ok, let-inside, side-is, still-outside}

@@ -1,4 +1,4 @@
-use Rattle.std.proofs.Common.{[], ◌+◌, ◌∷◌, ◌∙◌, refl, sym, ap, arith}
+use Rattle.std.proofs.Common.{[], ◌+◌, ◌∷◌, ◌∙◌, sym, ap}
 use Rattle.mux_outside.specs.OwnStreams.{is_one}
 use Rattle.mux_history.specs.declared.limits.TheConstants.{HOUSE}
 use Rattle.mux_machine.specs.Events.{here}
@@ -6,7 +6,7 @@ use Rattle.mux_machine.specs.State.{State}
 use Rattle.mux_engine.specs.Sides.{noted}
 use Rattle.mux_engine.proofs.Arms.{counts-then, on-err, on-ok, stays, then-stays-or-fails}
 use Rattle.mux_engine.proofs.Counting.{faults-then, same-faults}
-use Rattle.mux_engine.proofs.Loops.{counts-err, more-left}
+use Rattle.mux_engine.proofs.Loops.{counts-err}
 use Rattle.mux_engine.proofs.Places.{places-then}
 use Rattle.mux_engine.proofs.Running.{to-house}
 use Rattle.mux_engine.proofs.serving.finish.Goals as goal

@@ -1,4 +1,4 @@
-use Rattle.std.proofs.Common.{◌≡◌, ◌+◌, ◌∷◌, [], refl, sym, inl, inr, true, false}
+use Rattle.std.proofs.Common.{◌∷◌, [], refl, sym, inl, inr}
 use Rattle.mux_machine.specs.Events.{here}
 use Rattle.mux_engine.specs.Sides.{RestsOf, noted}
 use Rattle.mux_engine.proofs.Arms.{on-err}

@@ -1,6 +1,5 @@
-use Rattle.std.proofs.Common.{◌≡◌, ◌+◌, ◌∙◌, ◌∷◌, [], refl, sym, ap, false, None, arith}
+use Rattle.std.proofs.Common.{◌+◌, ◌∙◌, [], refl, sym, ap, arith}
 use Rattle.mux_machine.specs.State.{State}
-use Rattle.mux_engine.specs.Rests.{refused_if}
 use Rattle.mux_engine.specs.Sides.{RestsOf}
 use Rattle.mux_engine.proofs.Answering.{answer-is, none-given, none-held, over-still, ran-starved, ran-whole, refused-whole, stops-whole}
 use Rattle.mux_engine.proofs.Counting.{none-more}

@@ -1,4 +1,4 @@
-use Rattle.std.proofs.Common.{[], ap, refl}
+use Rattle.std.proofs.Common.{ap, refl}
 use Rattle.mux_outside.specs.House.{Known}
 use Rattle.mux_engine.specs.Sides.{RestsOf, outside}
 use Rattle.mux_engine.proofs.Answering.{alone-blank, housed-blank}

@@ -1,15 +1,13 @@
 use Rattle.std.proofs.Common.{◌≡◌, ◌++◌, ◌+◌, ◌∙◌, ◌∷◌, [], refl, sym, ap, subst, ℕ, List, arith}
 use Rattle.std.specs.Prelude.{All, IsTrue, length, ◌<◌, filter}
-use Rattle.ssh_fields.specs.Fields.{AreBytes}
 use Rattle.mux_outside.specs.Counts.{Rose}
-use Rattle.mux_outside.specs.House.{Known, known_after_own_turn}
 use Rattle.mux_outside.specs.Seen.{Seen}
-use Rattle.mux_outside.specs.Streams.{among, without}
+use Rattle.mux_outside.specs.Streams.{among}
 use Rattle.mux_machine.specs.Events.{here}
 use Rattle.mux_engine.specs.Owned.{waits_for}
-use Rattle.mux_engine.specs.Serving.{Promised, Serving}
+use Rattle.mux_engine.specs.Serving.{Serving}
 use Rattle.mux_engine.specs.Sides.{RestsOf, SameHouse, noted}
-use Rattle.mux_engine.specs.Turns.{IsEventOf, IsOwnOf, failed_heard, held_heard}
+use Rattle.mux_engine.specs.Turns.{IsEventOf, IsOwnOf}
 use Rattle.mux_engine.proofs.Arms.{on-err, on-ok}
 use Rattle.mux_engine.proofs.Counting.{turn-by-row, turn-rose}
 use Rattle.mux_engine.proofs.Cuts.{cut-here, cut-still}

@@ -1,4 +1,4 @@
-use Rattle.std.proofs.Common.{◌≡◌, ◌<◌, ◌+◌, ◌∙◌, ◌∷◌, [], refl, sym, ap, subst, ℕ, true, false, Some, None, arith}
+use Rattle.std.proofs.Common.{◌≡◌, ◌+◌, ◌∙◌, refl, sym, ap, Some, None, arith}
 use Rattle.mux_history.specs.declared.ended.Ended.TheVariants.{ServerFailed}
 use Rattle.mux_machine.specs.State.{State}
 use Rattle.mux_engine.specs.Sides.{RestsOf}

@@ -1,4 +1,4 @@
-use Rattle.std.proofs.Common.{◌∙◌, ◌<◌, [], sym, ap, subst, ℕ, length}
+use Rattle.std.proofs.Common.{◌∙◌, ◌<◌, sym, ap, subst, ℕ, length}
 use Rattle.mux_outside.specs.Seen.{Seen, seen_after_close}
 use Rattle.mux_outside.specs.Streams.{without}
 use Rattle.mux_machine.specs.State.{State, closed_by}

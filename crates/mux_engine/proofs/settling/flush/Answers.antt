@@ -1,4 +1,4 @@
-use Rattle.std.proofs.Common.{[], ◌∷◌, ◌∙◌, refl, sym, ap, inl, subst, le_trans}
+use Rattle.std.proofs.Common.{◌∷◌, ◌∙◌, refl, sym, ap, inl, subst, le_trans}
 use Rattle.mux_outside.specs.OwnStreams.{is_one}
 use Rattle.mux_outside.specs.Seen.{Calls}
 use Rattle.mux_machine.specs.State.{State, queue_in}
