@@ -77,9 +77,9 @@ pub returns-in_err-begin-in-Ok-Holds-clause-noted : goal.returns-in_err-begin-in
 returns-in_err-begin-in-Ok-Holds-clause-noted g c =
     let p = err_from_is_err_and c.from_residual.result c.from_residual.ensures.1 in
     rw p.1 (λ told tells.
-        let f = c.in-Some.first.now in
-        let some = first-some told c.args.self.now f c.requires.none (c.requires.ready.none c.requires.none) (sym c.in-Some.ensures) in
-        fails-behind f.path _ some.0 _ _ some.1 (rw c.as_bytes.ensures at c.in-Ok-Holds.ensures.noted))
+    let f = c.in-Some.first.now in
+    let some = first-some told c.args.self.now f c.requires.none (c.requires.ready.none c.requires.none) (sym c.in-Some.ensures) in
+    fails-behind f.path _ some.0 _ _ some.1 (rw c.as_bytes.ensures at c.in-Ok-Holds.ensures.noted))
 
 pub returns-in-Err-Failed-clause-noted : goal.returns-in-Err-Failed-clause-noted
 returns-in-Err-Failed-clause-noted g c = λ told tells.

@@ -42,4 +42,4 @@ pub returns-in_err-expand-clause-noted : goal.returns-in_err-expand-clause-noted
 returns-in_err-expand-clause-noted g c =
     let p = err_from_is_err_and c.from_residual.result c.from_residual.ensures.1 in
     rw p.1 (λ told tells facts original.
-        c.in_err-expand.ensures.noted told tells facts original)
+    c.in_err-expand.ensures.noted told tells facts original)

@@ -99,4 +99,4 @@ pub returns-in_err-one-clause-noted : goal.returns-in_err-one-clause-noted
 returns-in_err-one-clause-noted g c =
     let p = err_from_is_err_and c.from_residual.result c.from_residual.ensures.1 in
     rw p.1 (λ told tells.
-        then-some _ _ _ _ _ (c.loop-line.invariant.notes told tells) (c.in_err-one.ensures.noted told (rw c.loop-line.invariant.told tells)))
+    then-some _ _ _ _ _ (c.loop-line.invariant.notes told tells) (c.in_err-one.ensures.noted told (rw c.loop-line.invariant.told tells)))

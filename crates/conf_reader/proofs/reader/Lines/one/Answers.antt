@@ -62,7 +62,7 @@ pub returns-in_err-reach-clause-noted : goal.returns-in_err-reach-clause-noted
 returns-in_err-reach-clause-noted g c =
     let p = err_from_is_err_and c.from_residual.result c.from_residual.ensures.1 in
     rw p.1 (λ told tells.
-        c.in_err-reach.ensures.noted told tells)
+    c.in_err-reach.ensures.noted told tells)
 
 pub returns-then-self-ge-MAX_LINES-clause-noted : goal.returns-then-self-ge-MAX_LINES-clause-noted
 returns-then-self-ge-MAX_LINES-clause-noted g c = λ told tells. (all_read told c.reach.new.self, c.in_ok-reach.ensures.noted told tells)
@@ -71,7 +71,7 @@ pub returns-in_err-take_line-clause-noted : goal.returns-in_err-take_line-clause
 returns-in_err-take_line-clause-noted g c =
     let p = err_from_is_err_and c.from_residual-in_err-take_line.result c.from_residual-in_err-take_line.ensures.1 in
     rw p.1 (λ told tells.
-        (all_read told c.reach.new.self, c.in_ok-reach.ensures.noted told tells))
+    (all_read told c.reach.new.self, c.in_ok-reach.ensures.noted told tells))
 
 pub returns-in-None-clause-noted : goal.returns-in-None-clause-noted
 returns-in-None-clause-noted g c = λ told tells. taken-all told c.reach.new.self c.take_line.new.self (c.reach.new.self.read + 1) _ _ _ (c.in_ok-take_line.ensures.reads told) (c.in_ok-reach.ensures.noted told tells)

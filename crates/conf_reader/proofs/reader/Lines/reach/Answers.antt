@@ -89,12 +89,12 @@ pub returns-in_err-settle-clause-noted : goal.returns-in_err-settle-clause-noted
 returns-in_err-settle-clause-noted g c =
     let p = err_from_is_err_and c.from_residual.result c.from_residual.ensures.1 in
     rw p.1 (λ told tells.
-        let here : TellsFiles (g.F.Files.told c.loop-self.files) told = rw c.loop-self.invariant.told tells in
-        then-some _ _ _ _ _ (c.loop-self.invariant.notes told tells) (c.in_err-settle.ensures.noted told here))
+    let here : TellsFiles (g.F.Files.told c.loop-self.files) told = rw c.loop-self.invariant.told tells in
+    then-some _ _ _ _ _ (c.loop-self.invariant.notes told tells) (c.in_err-settle.ensures.noted told here))
 
 pub returns-in_err-first-clause-noted : goal.returns-in_err-first-clause-noted
 returns-in_err-first-clause-noted g c =
     let p = err_from_is_err_and c.from_residual-in_err-first.result c.from_residual-in_err-first.ensures.1 in
     rw p.1 (λ told tells.
-        let here : TellsFiles (g.F.Files.told c.loop-self.files) told = rw c.loop-self.invariant.told tells in
-        then-some _ _ _ _ _ (then-read _ _ _ _ _ _ (c.loop-self.invariant.notes told tells) (c.in_ok-settle.ensures.noted told here)) (c.in_err-first.ensures.noted told (rw c.settle.ensures.told here)))
+    let here : TellsFiles (g.F.Files.told c.loop-self.files) told = rw c.loop-self.invariant.told tells in
+    then-some _ _ _ _ _ (then-read _ _ _ _ _ _ (c.loop-self.invariant.notes told tells) (c.in_ok-settle.ensures.noted told here)) (c.in_err-first.ensures.noted told (rw c.settle.ensures.told here)))

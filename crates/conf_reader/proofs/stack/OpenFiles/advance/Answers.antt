@@ -55,10 +55,10 @@ pub returns-in_err-open-in-Ok-clause-noted : goal.returns-in_err-open-in-Ok-clau
 returns-in_err-open-in-Ok-clause-noted g c =
     let p = err_from_is_err_and c.from_residual.result c.from_residual.ensures.1 in
     rw p.1 (λ told tells.
-        let f = c.in-Some.top in
-        let path = c.in-Some-next_path.path.now in
-        let first = path-first told c.args.self.now f path c.in-Some.is (ready-top c.args.self.now f c.requires.ready c.in-Some.is) (sym c.in-Some-next_path.ensures) in
-        fails-behind path _ first.0 _ _ first.1 (rw c.as_bytes.ensures at c.in-Ok.ensures.noted))
+    let f = c.in-Some.top in
+    let path = c.in-Some-next_path.path.now in
+    let first = path-first told c.args.self.now f path c.in-Some.is (ready-top c.args.self.now f c.requires.ready c.in-Some.is) (sym c.in-Some-next_path.ensures) in
+    fails-behind path _ first.0 _ _ first.1 (rw c.as_bytes.ensures at c.in-Ok.ensures.noted))
 
 pub returns-in-Err-Failed-clause-noted : goal.returns-in-Err-Failed-clause-noted
 returns-in-Err-Failed-clause-noted g c = λ told tells.

@@ -33,6 +33,6 @@ returns-clause-reads c = λ told.
     subst (λ t. Names t (λ path. told.content path ≡ Some c.args.text → open_reads told o ≡ path ∷ files_read told (source_of o.system) 0 (c.push.new.self.items ++ c.begin.result ∷ []))) (sym top)
     (names-each f (λ path. told.content path ≡ Some c.args.text → open_reads told o ≡ path ∷ files_read told (source_of o.system) 0 (c.push.new.self.items ++ c.begin.result ∷ []))
     (λ path at some.
-      let same : c.in-Some-next_path.path.now ≡ path = let k : Some c.in-Some-next_path.path.now ≡ Some path = c.in-Some-next_path.ensures ∙ at in cc in
-      enters-reads told o c.push.new.self.items f c.pass.new.self c.begin.result path c.args.text c.requires.deep top named.0 at some c.in_ok-push.ensures.items c.pass.ensures
-      (c.begin.ensures ∙ ap (λ p. record { path = p; text = c.args.text; at = 0; number = 1; include = None; named = []; next = 0 }) (c.in_ok-path.ensures ∙ c.as_bytes.ensures ∙ same))))
+    let same : c.in-Some-next_path.path.now ≡ path = let k : Some c.in-Some-next_path.path.now ≡ Some path = c.in-Some-next_path.ensures ∙ at in cc in
+    enters-reads told o c.push.new.self.items f c.pass.new.self c.begin.result path c.args.text c.requires.deep top named.0 at some c.in_ok-push.ensures.items c.pass.ensures
+    (c.begin.ensures ∙ ap (λ p. record { path = p; text = c.args.text; at = 0; number = 1; include = None; named = []; next = 0 }) (c.in_ok-path.ensures ∙ c.as_bytes.ensures ∙ same))))

@@ -35,9 +35,9 @@ pub returns-in-Ok-clause-noted : goal.returns-in-Ok-clause-noted
 returns-in-Ok-clause-noted g c = λ told tells facts original.
     let t = top-include c.args.self.now.top c.in-Some.rest.now c.in-Some.ensures in
     stays-read _ _ _ _ (
-      named-reads told c.args.self.now t.0 c.in-Some.rest.now c.in-Ok.paths t.1.0 t.1.1 (rw c.as_bytes.ensures at (c.in-Ok.ensures.found told tells facts original))
-      ∙ ap (λ x. open_reads told (record c.args.self.now { top = x })) (sym (ap (option_map (named_as c.in-Ok.paths)) t.1.0))
-      ∙ ap (λ (n : OpenFiles). open_reads told n) (sym c.name.ensures)) c.named_paths-found.ensures.noted
+    named-reads told c.args.self.now t.0 c.in-Some.rest.now c.in-Ok.paths t.1.0 t.1.1 (rw c.as_bytes.ensures at (c.in-Ok.ensures.found told tells facts original))
+    ∙ ap (λ x. open_reads told (record c.args.self.now { top = x })) (sym (ap (option_map (named_as c.in-Ok.paths)) t.1.0))
+    ∙ ap (λ (n : OpenFiles). open_reads told n) (sym c.name.ensures)) c.named_paths-found.ensures.noted
 
 pub returns-in-Err-clause-noted : goal.returns-in-Err-clause-noted
 returns-in-Err-clause-noted g c = λ told tells facts original. none-read _ _ _ c.named_paths-found.ensures.noted

@@ -55,7 +55,7 @@ pub returns-in_err-advance-clause-noted : goal.returns-in_err-advance-clause-not
 returns-in_err-advance-clause-noted g c =
     let p = err_from_is_err_and c.from_residual.result c.from_residual.ensures.1 in
     rw p.1 (λ told tells.
-        then-some _ _ _ _ _ (c.loop.invariant.notes told tells) (c.in_err-advance.ensures.noted told (rw c.loop.invariant.told tells)))
+    then-some _ _ _ _ _ (c.loop.invariant.notes told tells) (c.in_err-advance.ensures.noted told (rw c.loop.invariant.told tells)))
 
 pub loop-init : goal.loop-init
 loop-init g c = record {
