@@ -22,4 +22,6 @@ mod lines;
 #[cfg(test)]
 mod messages;
 #[cfg(test)]
+mod relays;
+#[cfg(test)]
 mod transcripts;

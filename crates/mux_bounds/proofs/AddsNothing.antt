@@ -3,14 +3,14 @@
 use Rattle.std.proofs.Common.{◌≡◌, ℕ, ◌≤◌, List, [], ◌∷◌, length, true, false, Bool, refl, ◌∙◌, ap, arith, sym, zero, suc, take}
 use Rattle.std.specs.Prelude.{◌==◌}
 use Rattle.mux_outside.specs.declared.house.HouseReply.{HouseReply}
-use Rattle.mux_history.specs.Journal.{server_end}
+use Rattle.mux_history.specs.Journal.{is_own_stream, server_end, unless_own}
 use Rattle.mux_history.specs.Log.{bare, is_took, makes_next, makes_row, more_all, more_of}
 use Rattle.mux_history.specs.Pending.{pending_up}
 use Rattle.mux_history.specs.Policy.{Policy}
 use Rattle.mux_history.specs.Rows.{Gone, Item, Row, Took, is_ended}
 use Rattle.mux_history.specs.Said.{silent}
 use Rattle.mux_bounds.proofs.AddsLittle.{grows-by}
-use Rattle.mux_bounds.proofs.Entries.{EachItem, by-more, next, setting}
+use Rattle.mux_bounds.proofs.Entries.{EachItem, by-more, each-unless, next, setting}
 use Rattle.mux_bounds.proofs.Potentials.{IsMute, owed_cost, total}
 
 abbrev pub waits : List Row → ℕ
@@ -62,8 +62,11 @@ pub server-free : (rest : List ℕ) → total owed_cost (server_end rest ∷ [])
 server-free [] = refl
 server-free (b ∷ rest) = refl
 
-pub gone-mute : (stream : ℕ) (item : Item) → EachItem IsMute (item ∷ []) → EachItem IsMute (elim (stream == 0) as (λ _. List Item) [ true ↦ item ∷ [] | false ↦ Gone stream ∷ [] ])
-gone-mute stream item mute = elim (stream == 0) as (λ b. EachItem IsMute (elim b as (λ _. List Item) [ true ↦ item ∷ [] | false ↦ Gone stream ∷ [] ])) [ true ↦ mute | false ↦ (tt, tt) ]
+pub unless-free : (stream : ℕ) (xs : List Item) → total owed_cost xs ≡ 0 → total owed_cost (unless_own stream xs) ≡ 0
+unless-free stream xs none = elim (is_own_stream stream) as (λ b. total owed_cost (elim b as (λ _. List Item) [ true ↦ [] | false ↦ xs ]) ≡ 0) [ true ↦ refl | false ↦ none ]
 
-pub gone-free : (stream : ℕ) (item : Item) → total owed_cost (item ∷ []) ≡ 0 → total owed_cost (elim (stream == 0) as (λ _. List Item) [ true ↦ item ∷ [] | false ↦ Gone stream ∷ [] ]) ≡ 0
-gone-free stream item none = elim (stream == 0) as (λ b. total owed_cost (elim b as (λ _. List Item) [ true ↦ item ∷ [] | false ↦ Gone stream ∷ [] ]) ≡ 0) [ true ↦ none | false ↦ refl ]
+pub gone-mute : (stream : ℕ) (item : Item) → EachItem IsMute (item ∷ []) → EachItem IsMute (elim (stream == 0) as (λ _. List Item) [ true ↦ item ∷ [] | false ↦ unless_own stream (Gone stream ∷ []) ])
+gone-mute stream item mute = elim (stream == 0) as (λ b. EachItem IsMute (elim b as (λ _. List Item) [ true ↦ item ∷ [] | false ↦ unless_own stream (Gone stream ∷ []) ])) [ true ↦ mute | false ↦ each-unless IsMute stream (Gone stream ∷ []) (λ client. (tt, tt)) ]
+
+pub gone-free : (stream : ℕ) (item : Item) → total owed_cost (item ∷ []) ≡ 0 → total owed_cost (elim (stream == 0) as (λ _. List Item) [ true ↦ item ∷ [] | false ↦ unless_own stream (Gone stream ∷ []) ]) ≡ 0
+gone-free stream item none = elim (stream == 0) as (λ b. total owed_cost (elim b as (λ _. List Item) [ true ↦ item ∷ [] | false ↦ unless_own stream (Gone stream ∷ []) ]) ≡ 0) [ true ↦ none | false ↦ unless-free stream (Gone stream ∷ []) refl ]

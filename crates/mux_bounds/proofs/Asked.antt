@@ -2,14 +2,14 @@
 use Rattle.std.proofs.Common.{◌≡◌, ℕ, ◌+◌, ◌≤◌, List, [], ◌∷◌, ◌++◌, length, length-append, true, false, Bool, refl, ◌∙◌, ap, arith, sym, Option, Some, None, subst, Ok, Err}
 use Rattle.std.specs.Prelude.{◌==◌, ◌-◌, Result, nat_le}
 use Rattle.std.proofs.lemmas.Bool.Decides.{nat_tests}
-use Rattle.mux_history.specs.Controls.{greeted, said_body}
+use Rattle.mux_history.specs.Controls.{greeted, house_says, said_body}
 use Rattle.mux_history.specs.Gist.{Gist, Requests, read_gist}
 use Rattle.mux_history.specs.Heard.{Breaks, Dest, Disconnects, ToClient, ToMaster, dest, heard_for}
 use Rattle.mux_history.specs.Kept.{AtEach, ForEach}
 use Rattle.mux_history.specs.Log.{admits, heard_row, row_of, treat}
 use Rattle.mux_history.specs.Policy.{Policy}
 use Rattle.mux_history.specs.Requests.{answers, answers_to, asks, asks_of, is_sent, replies, reply_in, sent_flags, unanswered_asks, wanted, wanted_by, wanted_in}
-use Rattle.mux_history.specs.Rows.{Admit, Fate, Gone, Heard, Item, Row, Says, rows_of}
+use Rattle.mux_history.specs.Rows.{Admit, Fate, Gone, Heard, HouseSays, Item, Row, Says, rows_of}
 use Rattle.mux_history.specs.Said.{Outcome, drops, said_gist, said_payload, said_request, silent}
 use Rattle.mux_bounds.specs.Few.{RequestsBounded}
 use Rattle.mux_outside.specs.declared.house.HouseReply.{HouseReply}
@@ -137,6 +137,7 @@ fits-treat policy pid pick before (Admit k) = fits-plain before (Admit k) k (adm
 fits-treat policy pid pick before (Says k (Payload p) reply) = fits-row before (Says k (Payload p) reply) k (said_payload policy k (rows_of k before) pick p) (λ fw down fate. said-fits policy before k pick p reply fw down fate)
 fits-treat policy pid pick before (Says k (Body body) reply) = fits-plain before (Says k (Body body) reply) k (said_body pid k reply (greeted (rows_of k before)) body) (λ fw down fate. refl)
 fits-treat policy pid pick before (Says k (BadFraming fault) reply) = fits-plain before (Says k (BadFraming fault) reply) k (drops (why.BadFrame fault)) (λ fw down fate. refl)
+fits-treat policy pid pick before (HouseSays k id given) = fits-plain before (HouseSays k id given) k (house_says (rows_of k before) id given) (λ fw down fate. refl)
 fits-treat policy pid pick before (Gone k) = fits-plain before (Gone k) k silent (λ fw down fate. refl)
 fits-treat policy pid pick before (Heard p) = fits-dest before p (dest before p)
 fits-treat policy pid pick before item = fits-none before (treat policy pid pick before item) refl

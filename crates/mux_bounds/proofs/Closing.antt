@@ -2,6 +2,7 @@
 use Rattle.std.proofs.Common.{◌≡◌, ℕ, ◌≤◌, List, [], ◌∷◌, length, length-append, true, false, Bool, refl, ◌∙◌, ap, arith, sym, None, subst}
 use Rattle.std.specs.Prelude.{◌==◌, ◌&&◌, ◌||◌, not, nat_lt}
 use Rattle.std.proofs.lemmas.Bool.Decides.{nat_tests}
+use Rattle.mux_history.specs.Controls.{house_says}
 use Rattle.mux_history.specs.Channels.{Channel, begun_by, held_of, is_held}
 use Rattle.mux_history.specs.Farewell.{has_open_matters}
 use Rattle.mux_history.specs.Gist.{Open}
@@ -10,7 +11,7 @@ use Rattle.mux_history.specs.Kept.{ForEach}
 use Rattle.mux_history.specs.Log.{admits, heard_row, makes_row, said_by_client, treat}
 use Rattle.mux_history.specs.Policy.{Policy}
 use Rattle.mux_history.specs.Requests.{asks, asks_of, is_sent, replies, reply_in, wanted_by}
-use Rattle.mux_history.specs.Rows.{Admit, Fate, Gone, Heard, Item, Row, Says, any_of, is_admit, is_lost, is_out, loses, rows_of}
+use Rattle.mux_history.specs.Rows.{Admit, Fate, Gone, Heard, HouseSays, Item, Row, Says, any_of, is_admit, is_lost, is_out, loses, rows_of}
 use Rattle.mux_history.specs.Said.{silent}
 use Rattle.mux_bounds.specs.Few.{HasNothing}
 use Rattle.mux_history.proofs.Dests.{dest-ok}
@@ -44,6 +45,7 @@ not-out own going lost = let bad : false ≡ true = sym (ap not (lost-out own lo
 live-begins : (policy : Policy) (pid pick : ℕ) (before : List Row) (item : Item) → ForEach (RowKnown policy pid) before → makes_row before item ≡ true → Begins before (treat policy pid pick before item)
 live-begins policy pid pick before (Says k saying reply) each makes = row-parts (Begins before) (Says k saying reply) k (said_by_client policy pid k (rows_of k before) pick saying reply) (rows_of k before) (λ fw parting down fate lost. absurd (not-out (rows_of k before) makes lost))
 live-begins policy pid pick before (Admit k) each makes = row-parts (Begins before) (Admit k) k (admits before) (rows_of k before) (λ fw parting down fate lost. (refl, refl))
+live-begins policy pid pick before (HouseSays k id given) each makes = row-parts (Begins before) (HouseSays k id given) k (house_says (rows_of k before) id given) (rows_of k before) (λ fw parting down fate lost. absurd (not-out (rows_of k before) makes lost))
 live-begins policy pid pick before (Gone k) each makes = row-parts (Begins before) (Gone k) k silent (rows_of k before) (λ fw parting down fate lost. (refl, refl))
 live-begins policy pid pick before (Heard p) each makes = dest-begins policy pid before p each (dest before p) refl
 live-begins policy pid pick before item each makes = λ lost. (refl, refl)

@@ -1,18 +1,21 @@
 -- What a client says itself comes after it was let in.
-use Rattle.std.proofs.Common.{◌≡◌, ℕ, List, [], ◌∷◌, ◌++◌, map, true, false, Bool, refl, ◌∙◌, ap, arith, sym, subst, Option, Some, None, inl, inr, zero, suc, take}
+use Rattle.std.proofs.Common.{◌≡◌, ℕ, List, [], ◌∷◌, ◌++◌, map, true, false, Bool, refl, ◌∙◌, ap, arith, sym, subst, Option, Some, None, inl, inr, zero, suc, take, length}
 use Rattle.std.specs.Prelude.{◌==◌, ◌⊎◌, ◌||◌, ◌&&◌, not, IsTrue, if◌then◌else◌}
 use Rattle.std.proofs.lemmas.Bool.Decides.{nat_tests}
 use Rattle.mux_outside.specs.declared.house.HouseReply.{HouseReply}
 use Rattle.mux_outside.specs.declared.mark.Mark.{Mark}
 use Rattle.mux_outside.specs.declared.mark.Mark.TheVariants as wire
 use Rattle.ssh_grammar.specs.Said.{BadFraming, Body, InProxy, Payload, Saying, parse}
+use Rattle.mux_outside.specs.declared.house_mark.HouseMark.{HouseMark}
+use Rattle.mux_outside.specs.declared.house_mark.HouseMark.TheVariants.{HouseAnswer, HouseAsked, HouseIn, HouseOrder, HouseSaid, HouseTook}
+use Rattle.mux_history.specs.declared.limits.TheConstants.{HOUSE}
 use Rattle.mux_history.specs.Choices.{Choices, FromLists, pick_of, replies_given, reply_at, with_reply}
-use Rattle.mux_history.specs.Controls.{body_asks, greeted}
-use Rattle.mux_history.specs.Journal.{IsLawful, LawfulMark, bytes_of, heard_item, is_accepted, is_known, items_in, log_of_journal, new_heard, new_sayings, said_item, server_end}
+use Rattle.mux_history.specs.Controls.{body_asks, greeted, house_says}
+use Rattle.mux_history.specs.Journal.{IsLawful, LawfulMark, bytes_of, heard_item, is_accepted, is_known, is_own_stream, items_in, log_of_journal, new_heard, new_sayings, said_item, server_end, unless_own}
 use Rattle.mux_history.specs.Kept.{ForEach}
 use Rattle.mux_history.specs.Log.{Setting, admits, is_took, makes_next, makes_row, more_all, more_of, said_by_client, treat}
 use Rattle.mux_history.specs.Policy.{Policy}
-use Rattle.mux_history.specs.Rows.{Admit, Fate, Gone, Item, Refused, Row, Says, ServerFailed, any_of, is_admit, is_end, is_ended, is_out, is_refusal, loses, rows_of}
+use Rattle.mux_history.specs.Rows.{Admit, Fate, Gone, HouseSays, Item, Refused, Row, Says, ServerFailed, Took, any_of, is_admit, is_end, is_ended, is_out, is_refusal, loses, rows_of}
 use Rattle.mux_history.specs.Said.{silent}
 use Rattle.mux_history.specs.Settings.{by_lists}
 use Rattle.mux_history.proofs.Bools.{or-left, or-right, or-yes, self}
@@ -73,6 +76,7 @@ Entered k rows = (is_ended rows ≡ true) ⊎ Has k rows
 
 abbrev pub OwnKnown : List Row → Item → Type 0
 OwnKnown rows (Says k saying given) = Entered k rows
+OwnKnown rows (HouseSays k id given) = Entered k rows
 OwnKnown rows (Gone k) = Entered k rows
 OwnKnown rows item = Unit {0}
 
@@ -82,6 +86,7 @@ entered-next k row rows (inr has) = inr (or-yes (admits_client k row.item) (any_
 
 own-next : (row : Row) (rows : List Row) (item : Item) → OwnKnown rows item → OwnKnown (row ∷ rows) item
 own-next row rows (Says k saying given) known = entered-next k row rows known
+own-next row rows (HouseSays k id given) known = entered-next k row rows known
 own-next row rows (Gone k) known = entered-next k row rows known
 own-next row rows item known = tt
 
@@ -104,6 +109,7 @@ going-in policy pid k rows item each other row entered makes = by_ended (is_ende
 
 first-treat : (policy : Policy) (pid pick : ℕ) (rows : List Row) (item : Item) → ForEach (RowKnown policy pid) rows → OwnKnown rows item → makes_next rows item ≡ true → LetFirst rows (treat policy pid pick rows item)
 first-treat policy pid pick rows (Says k saying given) each known makes = λ own. ap (λ c. any_of is_admit (rows_of c rows)) (client-of (Says k saying given) k (said_by_client policy pid k (rows_of k rows) pick saying given) (rows_of k rows)) ∙ going-in policy pid k rows (Says k saying given) each refl refl known makes
+first-treat policy pid pick rows (HouseSays k id given) each known makes = λ own. ap (λ c. any_of is_admit (rows_of c rows)) (client-of (HouseSays k id given) k (house_says (rows_of k rows) id given) (rows_of k rows)) ∙ going-in policy pid k rows (HouseSays k id given) each refl refl known makes
 first-treat policy pid pick rows (Gone k) each known makes = λ own. ap (λ c. any_of is_admit (rows_of c rows)) (client-of (Gone k) k silent (rows_of k rows)) ∙ going-in policy pid k rows (Gone k) each refl refl known makes
 first-treat policy pid pick rows item each known makes = λ own. absurd (let bad : false ≡ true = sym (ap is_own (treat-item policy pid pick rows item)) ∙ own in let h = bad in cc)
 
@@ -111,6 +117,14 @@ first-treat policy pid pick rows item each known makes = λ own. absurd (let bad
 abbrev pub EachItem : (Item → Type 0) → List Item → Type 0
 EachItem P [] = Unit {0}
 EachItem P (item ∷ rest) = P item × EachItem P rest
+
+-- a stream of the master's own gives none
+pub each-unless : (P : Item → Type 0) (stream : ℕ) (xs : List Item) → (is_own_stream stream ≡ false → EachItem P xs) → EachItem P (unless_own stream xs)
+each-unless P stream xs all = by_own (is_own_stream stream) refl
+  where
+    by_own : (b : Bool) → is_own_stream stream ≡ b → EachItem P (elim b as (λ _. List Item) [ true ↦ [] | false ↦ xs ])
+    by_own true e = tt
+    by_own false e = all e
 
 each-item : (P Q : Item → Type 0) → ((i : Item) → P i → Q i) → (xs : List Item) → EachItem P xs → EachItem Q xs
 each-item P Q step [] all = tt
@@ -187,11 +201,20 @@ module _ (policy : Policy) (pid : ℕ) (picks : List ℕ) (given : List HouseRep
           by_same : (b : Bool) → (k == t) ≡ b → (if b then true else is_accepted t before) ≡ true → Entered t (more_of setting (log_of_journal setting before) (Admit k))
           by_same true e some = subst (λ (j : ℕ). Entered j (more_of setting (log_of_journal setting before) (Admit k))) (same-number k t e) (accepted-row k (log_of_journal setting before))
           by_same false e some = entered-more t (log_of_journal setting before) (Admit k ∷ []) (ih some)
+      by_mark (wire.House m) accepted ih = by_house m accepted
+        where
+          by_same : (b : Bool) → (HOUSE == t) ≡ b → (if b then true else is_accepted t before) ≡ true → Entered t (more_of setting (log_of_journal setting before) (Admit HOUSE))
+          by_same true e some = subst (λ (j : ℕ). Entered j (more_of setting (log_of_journal setting before) (Admit HOUSE))) (same-number HOUSE t e) (accepted-row HOUSE (log_of_journal setting before))
+          by_same false e some = entered-more t (log_of_journal setting before) (Admit HOUSE ∷ []) (ih some)
+
+          by_house : (m : HouseMark) → is_accepted t (wire.House m ∷ before) ≡ true → Entered t (more_all setting (log_of_journal setting before) (items_in before (wire.House m)))
+          by_house HouseIn some = by_same (HOUSE == t) refl some
+          by_house m some = entered-more t (log_of_journal setting before) (items_in before (wire.House m)) (ih some)
       by_mark m accepted ih = entered-more t (log_of_journal setting before) (items_in before m) (ih accepted)
 
   -- a stream that is known and not the server's
-  known-entered : (marks : List Mark) (t : ℕ) → IsTrue (is_known t marks) → (t == 0) ≡ false → Entered t (log_of_journal setting marks)
-  known-entered marks t known real = accepted-entered marks t (sym (ap (λ b. b || is_accepted t marks) real) ∙ known)
+  known-entered : (marks : List Mark) (t : ℕ) → IsTrue (is_known t marks) → (t == 0) ≡ false → is_own_stream t ≡ false → Entered t (log_of_journal setting marks)
+  known-entered marks t known real client = accepted-entered marks t (sym (ap (λ b. b || (is_own_stream t || is_accepted t marks)) real ∙ ap (λ b. b || is_accepted t marks) client) ∙ known)
 
   -- ---- the items of a mark
 
@@ -209,24 +232,31 @@ module _ (policy : Policy) (pid : ℕ) (picks : List ℕ) (given : List HouseRep
   end-own rows [] = tt
   end-own rows (b ∷ rest) = tt
 
-  gone-own : (before : List Mark) (stream : ℕ) (item : Item) → OwnKnown (log_of_journal setting before) item → IsTrue (is_known stream before) → EachItem (OwnKnown (log_of_journal setting before)) (elim (stream == 0) as (λ _. List Item) [ true ↦ item ∷ [] | false ↦ Gone stream ∷ [] ])
+  gone-own : (before : List Mark) (stream : ℕ) (item : Item) → OwnKnown (log_of_journal setting before) item → IsTrue (is_known stream before) → EachItem (OwnKnown (log_of_journal setting before)) (elim (stream == 0) as (λ _. List Item) [ true ↦ item ∷ [] | false ↦ unless_own stream (Gone stream ∷ []) ])
   gone-own before stream item own known = by_stream (stream == 0) refl
     where
-      by_stream : (b : Bool) → (stream == 0) ≡ b → EachItem (OwnKnown (log_of_journal setting before)) (elim b as (λ _. List Item) [ true ↦ item ∷ [] | false ↦ Gone stream ∷ [] ])
+      by_stream : (b : Bool) → (stream == 0) ≡ b → EachItem (OwnKnown (log_of_journal setting before)) (elim b as (λ _. List Item) [ true ↦ item ∷ [] | false ↦ unless_own stream (Gone stream ∷ []) ])
       by_stream true e = (own, tt)
-      by_stream false e = (known-entered before stream known e, tt)
+      by_stream false e = each-unless (OwnKnown (log_of_journal setting before)) stream (Gone stream ∷ []) (λ client. (known-entered before stream known e client, tt))
 
   mark-own : (before : List Mark) (mark : Mark) → LawfulMark before mark → EachItem (OwnKnown (log_of_journal setting before)) (items_in before mark)
   mark-own before (wire.Accepts k) known = (tt, tt)
   mark-own before (wire.Gets stream bytes) known = by_stream (stream == 0) refl
     where
-      by_stream : (b : Bool) → (stream == 0) ≡ b → EachItem (OwnKnown (log_of_journal setting before)) (elim b as (λ _. List Item) [ true ↦ new_heard (bytes_of 0 before) (bytes_of 0 before ++ bytes) | false ↦ new_sayings stream (bytes_of stream before) (bytes_of stream before ++ bytes) ])
+      by_stream : (b : Bool) → (stream == 0) ≡ b → EachItem (OwnKnown (log_of_journal setting before)) (elim b as (λ _. List Item) [ true ↦ new_heard (bytes_of 0 before) (bytes_of 0 before ++ bytes) | false ↦ unless_own stream (new_sayings stream (bytes_of stream before) (bytes_of stream before ++ bytes)) ])
       by_stream true e = heard-own (log_of_journal setting before) _
-      by_stream false e = said-own (log_of_journal setting before) stream _ (known-entered before stream known.0 e)
+      by_stream false e = each-unless (OwnKnown (log_of_journal setting before)) stream _ (λ client. said-own (log_of_journal setting before) stream _ (known-entered before stream known.0 e client))
   mark-own before (wire.Ends stream) known = gone-own before stream (server_end (parse InProxy (bytes_of 0 before)).rest) (end-own (log_of_journal setting before) (parse InProxy (bytes_of 0 before)).rest) known
   mark-own before (wire.Fails stream) known = gone-own before stream ServerFailed tt known
   mark-own before (wire.WriteFails stream) known = gone-own before stream ServerFailed tt known
-  mark-own before (wire.Takes stream bytes) known = (tt, tt)
+  mark-own before (wire.Takes stream bytes) known = each-unless (OwnKnown (log_of_journal setting before)) stream (Took stream (length bytes) ∷ []) (λ client. (tt, tt))
+  mark-own before (wire.Joins listener stream) known = tt
+  mark-own before (wire.House HouseIn) known = (tt, tt)
+  mark-own before (wire.House (HouseSaid bytes)) known = said-own (log_of_journal setting before) HOUSE _ (accepted-entered before HOUSE known.0)
+  mark-own before (wire.House (HouseTook size)) known = (tt, tt)
+  mark-own before (wire.House (HouseAnswer k id given)) known = (accepted-entered before k known, tt)
+  mark-own before (wire.House (HouseAsked k id opening ask given)) known = tt
+  mark-own before (wire.House (HouseOrder order number)) known = tt
   mark-own before (wire.Holds stream) known = tt
   mark-own before (wire.Frees stream) known = tt
   mark-own before (wire.Waits waiting want streams listening) known = tt

@@ -1,6 +1,7 @@
 -- A row that loses its client says a farewell of at most 28,928 bytes; another says none.
 use Rattle.std.proofs.Common.{◌≡◌, ℕ, ◌+◌, ◌≤◌, List, [], ◌∷◌, length, true, false, Bool, refl, ap, arith, subst}
 use Rattle.std.specs.Prelude.{filter, flat_map}
+use Rattle.mux_history.specs.Controls.{house_says}
 use Rattle.mux_history.specs.Channels.{begun_by, held_of}
 use Rattle.mux_history.specs.Farewell.{farewell, leave_channel, leave_forwarding}
 use Rattle.mux_history.specs.Forwardings.{forwarded, forwardings_of}
@@ -8,7 +9,7 @@ use Rattle.mux_history.specs.Heard.{Breaks, Dest, Disconnects, ToClient, ToMaste
 use Rattle.mux_history.specs.Kept.{ForEach}
 use Rattle.mux_history.specs.Log.{admits, all_told, bare, heard_row, queued, row_of, said_by_client, treat}
 use Rattle.mux_history.specs.Policy.{Policy}
-use Rattle.mux_history.specs.Rows.{Admit, Gone, Heard, Item, Row, Says, loses, rows_of}
+use Rattle.mux_history.specs.Rows.{Admit, Gone, Heard, HouseSays, Item, Row, Says, loses, rows_of}
 use Rattle.mux_history.specs.Said.{Outcome, silent}
 use Rattle.mux_bounds.specs.Bounds.{weight}
 use Rattle.mux_history.proofs.OwnRows.{rows-twice}
@@ -69,6 +70,7 @@ leaves-dest before p (Breaks cause) = leaves-none before (heard_row before p (Br
 leaves-treat : (policy : Policy) (pid pick : ℕ) (before : List Row) (item : Item) → Leaves before (treat policy pid pick before item)
 leaves-treat policy pid pick before (Admit k) = leaves-row before (Admit k) k (admits before)
 leaves-treat policy pid pick before (Says k saying given) = leaves-row before (Says k saying given) k (said_by_client policy pid k (rows_of k before) pick saying given)
+leaves-treat policy pid pick before (HouseSays k id given) = leaves-row before (HouseSays k id given) k (house_says (rows_of k before) id given)
 leaves-treat policy pid pick before (Gone k) = leaves-row before (Gone k) k silent
 leaves-treat policy pid pick before (Heard p) = leaves-dest before p (dest before p)
 leaves-treat policy pid pick before item = leaves-none before (treat policy pid pick before item) refl

@@ -4,14 +4,14 @@ use Rattle.std.specs.Prelude.{◌==◌, Result, nat_lt, ◌⊎◌}
 use Rattle.std.proofs.Common.{inl, inr}
 use Rattle.std.proofs.lemmas.Bool.Decides.{nat_tests}
 use Rattle.mux_history.specs.Channels.{Channel, begun_by, held_of, opened_down, opened_up, with_own}
-use Rattle.mux_history.specs.Controls.{greeted, said_body}
+use Rattle.mux_history.specs.Controls.{greeted, house_says, said_body}
 use Rattle.mux_history.specs.Gist.{Confirmation, Gist, Open, Refuses, Requests, Succeeds, Transport, Within, read_gist, reading}
 use Rattle.mux_history.specs.Heard.{Breaks, Dest, Disconnects, ToClient, ToMaster, dest, for_client, for_lost, heard_for, heard_gist}
 use Rattle.mux_history.specs.Kept.{AtEach, ForEach}
 use Rattle.mux_history.specs.Ledger.{room}
 use Rattle.mux_history.specs.Log.{admits, heard_row, row_of, treat}
 use Rattle.mux_history.specs.Policy.{Policy, permits}
-use Rattle.mux_history.specs.Rows.{Admit, Fate, Gone, Heard, Item, Row, Says, is_lost, rows_of}
+use Rattle.mux_history.specs.Rows.{Admit, Fate, Gone, Heard, HouseSays, Item, Row, Says, is_lost, rows_of}
 use Rattle.mux_history.specs.Said.{Outcome, drops, fails_open, on_unused, said_gist, said_open, said_payload, sends, sends_as, sends_open, silent, tells}
 use Rattle.mux_bounds.specs.Few.{ChannelsBounded}
 use Rattle.mux_outside.specs.declared.house.HouseReply.{HouseReply}
@@ -144,6 +144,7 @@ few-treat policy pid pick before (Admit k) each = few-row before (Admit k) k (ad
 few-treat policy pid pick before (Says k (Payload p) reply) each = row-parts (Few before) (Says k (Payload p) reply) k (said_payload policy k (rows_of k before) pick p) (rows_of k before) (λ fw parting down fate. few-said policy before k pick p reply fw down fate)
 few-treat policy pid pick before (Says k (Body body) reply) each = few-row before (Says k (Body body) reply) k (said_body pid k reply (greeted (rows_of k before)) body) refl
 few-treat policy pid pick before (Says k (BadFraming fault) reply) each = few-row before (Says k (BadFraming fault) reply) k (drops (why.BadFrame fault)) refl
+few-treat policy pid pick before (HouseSays k id given) each = few-row before (HouseSays k id given) k (house_says (rows_of k before) id given) refl
 few-treat policy pid pick before (Gone k) each = few-row before (Gone k) k silent refl
 few-treat policy pid pick before (Heard p) each = few-dest policy pid before p each (dest before p) refl
 few-treat policy pid pick before item each = few-none before (treat policy pid pick before item) refl

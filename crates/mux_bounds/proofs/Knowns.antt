@@ -5,7 +5,7 @@ use Rattle.std.proofs.lemmas.Bool.Decides.{nat_tests}
 use Rattle.ssh_grammar.specs.Messages.{Opens}
 use Rattle.ssh_grammar.specs.declared.fault.Bad.{Bad}
 use Rattle.mux_history.specs.Channels.{Channel, after_farewell, after_item, begun_by, channels_of, is_held, is_number}
-use Rattle.mux_history.specs.Controls.{greeted, is_says}
+use Rattle.mux_history.specs.Controls.{greeted, house_says, is_says}
 use Rattle.mux_history.specs.Forwardings.{Forwarding, dropped, forwarded, forwardings_of, live_at, of_client, replied}
 use Rattle.mux_history.specs.Gist.{Confirmation, Gist, Open, Refuses, Requests, Succeeds, Transport, Within, read_gist}
 use Rattle.mux_history.specs.Heard.{Breaks, Dest, Disconnects, ToClient, ToMaster, dest, dest_gist, dest_open, heard_for}
@@ -14,7 +14,7 @@ use Rattle.mux_history.specs.Keys.{has_key}
 use Rattle.mux_history.specs.Log.{admits, heard_row, said_by_client, treat}
 use Rattle.mux_history.specs.Policy.{Policy}
 use Rattle.mux_history.specs.Requests.{Ask, asks, asks_of, is_sent, replies, wanted_by}
-use Rattle.mux_history.specs.Rows.{Admit, Fate, Gone, Heard, Item, Row, Says, any_of, is_admit, loses, rows_of}
+use Rattle.mux_history.specs.Rows.{Admit, Fate, Gone, Heard, HouseSays, Item, Row, Says, any_of, is_admit, loses, rows_of}
 use Rattle.mux_history.specs.Said.{silent}
 use Rattle.mux_history.proofs.Askers.{asks-local, asks_for, get-filter}
 use Rattle.mux_history.proofs.Bools.{or-left, or-right, self}
@@ -93,6 +93,7 @@ dest-quiet before p (Breaks cause) e = λ still quiet. refl
 treat-quiet : (policy : Policy) (pid pick : ℕ) (before : List Row) (item : Item) → Quiet before (treat policy pid pick before item)
 treat-quiet policy pid pick before (Says k saying given) = row-parts (Quiet before) (Says k saying given) k (said_by_client policy pid k (rows_of k before) pick saying given) (rows_of k before) (λ fw parting down fate still quiet. cc)
 treat-quiet policy pid pick before (Admit k) = row-parts (Quiet before) (Admit k) k (admits before) (rows_of k before) (λ fw parting down fate still quiet. refl)
+treat-quiet policy pid pick before (HouseSays k id given) = row-parts (Quiet before) (HouseSays k id given) k (house_says (rows_of k before) id given) (rows_of k before) (λ fw parting down fate still quiet. refl)
 treat-quiet policy pid pick before (Gone k) = row-parts (Quiet before) (Gone k) k silent (rows_of k before) (λ fw parting down fate still quiet. refl)
 treat-quiet policy pid pick before (Heard p) = dest-quiet before p (dest before p) refl
 treat-quiet policy pid pick before item = λ still quiet. refl
@@ -163,6 +164,7 @@ to-greeted policy pid before p k each to = by_case (greeted (rows_of k before)) 
 -- an item of a client alone
 abbrev pub is_own : Item → Bool
 is_own (Says k saying given) = true
+is_own (HouseSays k id given) = true
 is_own (Gone k) = true
 is_own item = false
 

@@ -4,13 +4,14 @@ use Rattle.std.specs.Prelude.{◌==◌, ◌⊎◌, ◌||◌, ◌&&◌, not, Resu
 use Rattle.std.proofs.lemmas.Bool.Decides.{nat_tests}
 use Rattle.std.proofs.lemmas.List.{append-nil}
 use Rattle.ssh_grammar.specs.declared.fault.Bad.{Bad}
+use Rattle.mux_history.specs.Controls.{house_says}
 use Rattle.mux_history.specs.Farewell.{late}
 use Rattle.mux_history.specs.Gist.{Gist, Open, Requests, read_gist}
 use Rattle.mux_history.specs.Heard.{Breaks, Dest, Disconnects, ToClient, ToMaster, dest, for_client, for_lost, for_master, heard_for, heard_gist, heard_master}
 use Rattle.mux_history.specs.Kept.{ForEach}
 use Rattle.mux_history.specs.Log.{bare, entered, goes, heard_row, makes_row, new_answers, queued, row_of, said_by_client, treat, with_farewell}
 use Rattle.mux_history.specs.Policy.{Policy}
-use Rattle.mux_history.specs.Rows.{Admit, Gone, Goes, Heard, Item, Row, Says, Took, any_of, is_admit, is_lost, is_out, loses, rows_of}
+use Rattle.mux_history.specs.Rows.{Admit, Goes, Gone, Heard, HouseSays, Item, Row, Says, Took, any_of, is_admit, is_lost, is_out, loses, rows_of}
 use Rattle.mux_history.specs.Said.{Outcome, silent}
 use Rattle.mux_history.specs.Steps.{one_if}
 use Rattle.mux_bounds.specs.Bounds.{weight}
@@ -129,6 +130,7 @@ heard-once before p (Breaks cause) e = keeps-none before (heard_row before p (Br
 treat-once : (policy : Policy) (pid pick : ℕ) (before : List Row) (item : Item) → makes_row before item ≡ true → LosesOnce before (treat policy pid pick before item)
 treat-once policy pid pick before (Admit k) makes = λ lost plain. absurd (let bad : true ≡ false = sym (ap admits_one (treat-item policy pid pick before (Admit k))) ∙ plain in let h = bad in cc)
 treat-once policy pid pick before (Says k saying given) makes = row-parts (LosesOnce before) (Says k saying given) k (said_by_client policy pid k (rows_of k before) pick saying given) (rows_of k before) (λ fw parting down fate l plain. (not-out (rows_of k before) makes, inl refl))
+treat-once policy pid pick before (HouseSays k id given) makes = row-parts (LosesOnce before) (HouseSays k id given) k (house_says (rows_of k before) id given) (rows_of k before) (λ fw parting down fate l plain. (not-out (rows_of k before) makes, inl refl))
 treat-once policy pid pick before (Gone k) makes = row-parts (LosesOnce before) (Gone k) k silent (rows_of k before) (λ fw parting down fate l plain. (not-out (rows_of k before) makes, inl refl))
 treat-once policy pid pick before (Heard p) makes = heard-once before p (dest before p) refl
 treat-once policy pid pick before item makes = keeps-none before (treat policy pid pick before item) refl

@@ -3,7 +3,7 @@ use Rattle.std.proofs.Common.{◌≡◌, ℕ, ◌+◌, ◌≤◌, List, [], ◌�
 use Rattle.std.specs.Prelude.{◌==◌, ◌&&◌, Result, nat_lt}
 use Rattle.std.proofs.lemmas.Bool.Decides.{nat_tests}
 use Rattle.mux_history.specs.Forwardings.{Forwarding, change_first, current, forwarded, forwardings_of, is_free_at, of_client, replied, requested, stopped}
-use Rattle.mux_history.specs.Controls.{said_body}
+use Rattle.mux_history.specs.Controls.{house_says, said_body}
 use Rattle.mux_history.specs.Controls.{greeted}
 use Rattle.mux_history.specs.Gist.{Gist, Requests, read_gist}
 use Rattle.mux_history.specs.Heard.{Breaks, Dest, Disconnects, ToClient, ToMaster, dest, heard_for}
@@ -12,7 +12,7 @@ use Rattle.mux_history.specs.Keys.{is_askable}
 use Rattle.mux_history.specs.Log.{admits, heard_row, row_of, treat}
 use Rattle.mux_history.specs.Policy.{Policy, permits}
 use Rattle.mux_history.specs.Requests.{asks, replies}
-use Rattle.mux_history.specs.Rows.{Admit, Fate, Gone, Heard, Item, Row, Says, rows_of}
+use Rattle.mux_history.specs.Rows.{Admit, Fate, Gone, Heard, HouseSays, Item, Row, Says, rows_of}
 use Rattle.mux_history.specs.Said.{Outcome, drops, is_full_of_asks, said_gist, said_payload, sends_if, silent}
 use Rattle.mux_bounds.specs.Few.{ForwardingsBounded}
 use Rattle.mux_outside.specs.declared.house.HouseReply.{HouseReply}
@@ -108,6 +108,7 @@ fits-treat policy pid pick before (Admit k) = fits-row before (Admit k) k (admit
 fits-treat policy pid pick before (Says k (Payload p) reply) = fits-row before (Says k (Payload p) reply) k (said_payload policy k (rows_of k before) pick p) (λ fw down fate. said-fits policy before k pick p reply fw down fate)
 fits-treat policy pid pick before (Says k (Body body) reply) = fits-row before (Says k (Body body) reply) k (said_body pid k reply (greeted (rows_of k before)) body) (λ fw down fate le. le)
 fits-treat policy pid pick before (Says k (BadFraming fault) reply) = fits-row before (Says k (BadFraming fault) reply) k (drops (why.BadFrame fault)) (λ fw down fate le. le)
+fits-treat policy pid pick before (HouseSays k id given) = fits-row before (HouseSays k id given) k (house_says (rows_of k before) id given) (λ fw down fate le. le)
 fits-treat policy pid pick before (Gone k) = fits-row before (Gone k) k silent (λ fw down fate le. le)
 fits-treat policy pid pick before (Heard p) = fits-dest before p (dest before p)
 fits-treat policy pid pick before item = λ le. le

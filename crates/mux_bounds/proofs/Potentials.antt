@@ -11,7 +11,7 @@ use Rattle.mux_history.specs.Log.{more_all, more_of}
 use Rattle.mux_history.specs.Pending.{pending_up}
 use Rattle.mux_history.specs.Policy.{Policy}
 use Rattle.mux_history.specs.Requests.{asks, asks_of, is_sent, replies, reply_in, wanted_by}
-use Rattle.mux_history.specs.Rows.{Admit, BadServer, Gone, Heard, Item, Row, RunEnd, Says, ServerCut, ServerEnd, ServerFailed, Took}
+use Rattle.mux_history.specs.Rows.{Admit, BadServer, Gone, Heard, HouseSays, Item, Row, RunEnd, Says, ServerCut, ServerEnd, ServerFailed, Took}
 use Rattle.mux_history.specs.Steps.{one_if}
 use Rattle.mux_history.proofs.LawfulItems.{treat-item}
 use Rattle.mux_history.proofs.MattersSteps.{admits_one}
@@ -96,6 +96,7 @@ owed-row policy pid before row facts mute = by_item row.item refl mute
         let l = live-step policy pid before row facts.known.0 facts.known.1 facts.first (leaves-little policy pid (row ∷ before) facts.known).0 in
         let b = ap (λ (x : Item). one_if (admits_one x)) e in
         omega (arith, g, w, h, l, b)
+    by_item (HouseSays k id answer) e m = let s = still (HouseSays k id answer) e refl refl refl refl in omega (arith, s)
     by_item (Gone k) e m = let s = still (Gone k) e refl refl refl refl in omega (arith, s)
     by_item (BadServer fault) e m = let s = still (BadServer fault) e refl refl refl refl in omega (arith, s)
     by_item ServerEnd e m = let s = still ServerEnd e refl refl refl refl in omega (arith, s)

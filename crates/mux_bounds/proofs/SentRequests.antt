@@ -5,13 +5,13 @@ use Rattle.mux_outside.specs.declared.house.HouseReply.{HouseReply}
 use Rattle.ssh_grammar.specs.Messages.{Global}
 use Rattle.ssh_grammar.specs.Said.{BadFraming, Body, Payload}
 use Rattle.mux_history.specs.declared.why.Why.TheVariants as why
-use Rattle.mux_history.specs.Controls.{greeted, said_body}
+use Rattle.mux_history.specs.Controls.{greeted, house_says, said_body}
 use Rattle.mux_history.specs.Gist.{Requests, read_gist}
 use Rattle.mux_history.specs.Heard.{Breaks, Dest, Disconnects, ToClient, ToMaster, dest, heard_for}
 use Rattle.mux_history.specs.Log.{admits, heard_row, row_of, treat}
 use Rattle.mux_history.specs.Policy.{Policy}
 use Rattle.mux_history.specs.Requests.{is_sent}
-use Rattle.mux_history.specs.Rows.{Admit, Fate, Gone, Heard, Item, Row, Says, rows_of}
+use Rattle.mux_history.specs.Rows.{Admit, Fate, Gone, Heard, HouseSays, Item, Row, Says, rows_of}
 use Rattle.mux_history.specs.Said.{Outcome, drops, is_full_of_asks, said_gist, said_payload, said_request, silent}
 use Rattle.mux_history.proofs.RightLogs.{RowKnown}
 use Rattle.mux_history.proofs.Sends.{as_row, row-parts}
@@ -54,6 +54,7 @@ treat-said policy pid pick before (Admit k) = row-not policy before (Admit k) k 
 treat-said policy pid pick before (Says k (Payload p) given) = row-parts (SaidRequest policy before) (Says k (Payload p) given) k (said_payload policy k (rows_of k before) pick p) (rows_of k before) (λ fw parting down fate. payload-said policy before k pick p given fw down fate)
 treat-said policy pid pick before (Says k (Body body) given) = row-not policy before (Says k (Body body) given) k (said_body pid k given (greeted (rows_of k before)) body) (λ j q other e. cc)
 treat-said policy pid pick before (Says k (BadFraming fault) given) = row-not policy before (Says k (BadFraming fault) given) k (drops (why.BadFrame fault)) (λ j q other e. cc)
+treat-said policy pid pick before (HouseSays k id given) = row-not policy before (HouseSays k id given) k (house_says (rows_of k before) id given) (λ j q given e. cc)
 treat-said policy pid pick before (Gone k) = row-not policy before (Gone k) k silent (λ j q given e. cc)
 treat-said policy pid pick before (Heard p) = dest-said policy before p (dest before p)
 treat-said policy pid pick before item = says-not policy (treat policy pid pick before item) before (λ j q given e. cc)

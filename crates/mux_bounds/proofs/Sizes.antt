@@ -11,9 +11,11 @@ use Rattle.ssh_grammar.specs.Said.{BadFraming, Body, InControl, InProxy, Mode, P
 use Rattle.ssh_grammar.specs.declared.fault.BadFrame.TheVariants as bad_frame
 use Rattle.ssh_grammar.specs.declared.framing.Framing.TheVariants as framing
 use Rattle.ssh_fields.specs.Fields.{of_four}
+use Rattle.mux_outside.specs.declared.house_mark.HouseMark.TheVariants.{HouseAnswer, HouseAsked, HouseIn, HouseOrder, HouseSaid, HouseTook}
+use Rattle.mux_history.specs.declared.limits.TheConstants.{HOUSE}
 use Rattle.mux_history.specs.Choices.{FromLists, pick_of, replies_given, reply_at, with_reply}
 use Rattle.mux_history.specs.Controls.{body_asks, greeted}
-use Rattle.mux_history.specs.Journal.{bytes_of, heard_item, items, items_in, new_heard, new_sayings, said_item, server_end}
+use Rattle.mux_history.specs.Journal.{bytes_of, heard_item, is_own_stream, items, items_in, new_heard, new_sayings, said_item, server_end, unless_own}
 use Rattle.mux_history.specs.Kept.{ForEach}
 use Rattle.mux_history.specs.Log.{log_of, makes_next, more_of, treat}
 use Rattle.mux_history.specs.Policy.{Policy}
@@ -127,20 +129,30 @@ end-item : (rest : List ℕ) → SmallItem (server_end rest)
 end-item [] = tt
 end-item (b ∷ rest) = tt
 
-gone-items : (stream : ℕ) (item : Item) → SmallItem item → SmallItems (elim (stream == 0) as (λ _. List Item) [ true ↦ item ∷ [] | false ↦ Gone stream ∷ [] ])
-gone-items stream item a = elim (stream == 0) as (λ b. SmallItems (elim b as (λ _. List Item) [ true ↦ item ∷ [] | false ↦ Gone stream ∷ [] ])) [ true ↦ (a, tt) | false ↦ (tt, tt) ]
+unless-items : (stream : ℕ) (xs : List Item) → SmallItems xs → SmallItems (unless_own stream xs)
+unless-items stream xs a = elim (is_own_stream stream) as (λ b. SmallItems (elim b as (λ _. List Item) [ true ↦ [] | false ↦ xs ])) [ true ↦ tt | false ↦ a ]
+
+gone-items : (stream : ℕ) (item : Item) → SmallItem item → SmallItems (elim (stream == 0) as (λ _. List Item) [ true ↦ item ∷ [] | false ↦ unless_own stream (Gone stream ∷ []) ])
+gone-items stream item a = elim (stream == 0) as (λ b. SmallItems (elim b as (λ _. List Item) [ true ↦ item ∷ [] | false ↦ unless_own stream (Gone stream ∷ []) ])) [ true ↦ (a, tt) | false ↦ unless-items stream (Gone stream ∷ []) (tt, tt) ]
 
 mark-items : (before : List Mark) (mark : Mark) → SmallItems (items_in before mark)
 mark-items before (wire.Accepts k) = (tt, tt)
 mark-items before (wire.Gets stream bytes) = by_stream (stream == 0)
   where
-    by_stream : (b : Bool) → SmallItems (elim b as (λ _. List Item) [ true ↦ new_heard (bytes_of 0 before) (bytes_of 0 before ++ bytes) | false ↦ new_sayings stream (bytes_of stream before) (bytes_of stream before ++ bytes) ])
+    by_stream : (b : Bool) → SmallItems (elim b as (λ _. List Item) [ true ↦ new_heard (bytes_of 0 before) (bytes_of 0 before ++ bytes) | false ↦ unless_own stream (new_sayings stream (bytes_of stream before) (bytes_of stream before ++ bytes)) ])
     by_stream true = heard-items _
-    by_stream false = says-items stream (drop (length (said (bytes_of stream before))) (said (bytes_of stream before ++ bytes))) (small-drop (length (said (bytes_of stream before))) (said (bytes_of stream before ++ bytes)) (parse-small (length (bytes_of stream before ++ bytes)) InControl (bytes_of stream before ++ bytes)))
+    by_stream false = unless-items stream _ (says-items stream (drop (length (said (bytes_of stream before))) (said (bytes_of stream before ++ bytes))) (small-drop (length (said (bytes_of stream before))) (said (bytes_of stream before ++ bytes)) (parse-small (length (bytes_of stream before ++ bytes)) InControl (bytes_of stream before ++ bytes))))
 mark-items before (wire.Ends stream) = gone-items stream (server_end (parse InProxy (bytes_of 0 before)).rest) (end-item (parse InProxy (bytes_of 0 before)).rest)
 mark-items before (wire.Fails stream) = gone-items stream ServerFailed tt
 mark-items before (wire.WriteFails stream) = gone-items stream ServerFailed tt
-mark-items before (wire.Takes stream bytes) = (tt, tt)
+mark-items before (wire.Takes stream bytes) = unless-items stream _ (tt, tt)
+mark-items before (wire.Joins listener stream) = tt
+mark-items before (wire.House HouseIn) = (tt, tt)
+mark-items before (wire.House (HouseSaid bytes)) = says-items HOUSE (drop (length (said (bytes_of HOUSE before))) (said (bytes_of HOUSE before ++ bytes))) (small-drop (length (said (bytes_of HOUSE before))) (said (bytes_of HOUSE before ++ bytes)) (parse-small (length (bytes_of HOUSE before ++ bytes)) InControl (bytes_of HOUSE before ++ bytes)))
+mark-items before (wire.House (HouseTook size)) = (tt, tt)
+mark-items before (wire.House (HouseAnswer k id given)) = (tt, tt)
+mark-items before (wire.House (HouseAsked k id opening ask given)) = tt
+mark-items before (wire.House (HouseOrder order number)) = tt
 mark-items before (wire.Holds stream) = tt
 mark-items before (wire.Frees stream) = tt
 mark-items before (wire.Waits waiting want streams listening) = tt

@@ -2,7 +2,7 @@
 use Rattle.std.proofs.Common.{◌≡◌, ℕ, ◌+◌, ◌≤◌, List, [], ◌∷◌, length, length-append, true, false, Bool, refl, ◌∙◌, ap, arith, sym, Option, Some, None, subst, Ok, Err}
 use Rattle.std.specs.Prelude.{◌==◌, ◌-◌, ◌||◌, Result, nat_le}
 use Rattle.std.proofs.lemmas.Bool.Decides.{nat_tests}
-use Rattle.mux_history.specs.Controls.{greeted, said_body}
+use Rattle.mux_history.specs.Controls.{greeted, house_says, said_body}
 use Rattle.mux_history.specs.Farewell.{farewell}
 use Rattle.mux_history.specs.Gist.{Gist, Requests, read_gist}
 use Rattle.mux_history.specs.Heard.{Breaks, Dest, Disconnects, ToClient, ToMaster, dest, heard_for}
@@ -10,7 +10,7 @@ use Rattle.mux_history.specs.Kept.{AtEach, ForEach}
 use Rattle.mux_history.specs.Log.{admits, all_told, bare, fate_with, heard_row, queued, row_of, treat}
 use Rattle.mux_history.specs.Policy.{Policy}
 use Rattle.mux_history.specs.Requests.{answers, is_sent, sent_flags, unanswered_asks, wanted, wanted_by, wanted_in}
-use Rattle.mux_history.specs.Rows.{Admit, Gone, Heard, Item, Row, Says, is_lost, loses, rows_of}
+use Rattle.mux_history.specs.Rows.{Admit, Gone, Heard, HouseSays, Item, Row, Says, is_lost, loses, rows_of}
 use Rattle.mux_history.specs.Said.{Outcome, drops, said_gist, said_payload, said_request, silent}
 use Rattle.mux_bounds.specs.Few.{UnansweredBounded}
 use Rattle.mux_outside.specs.declared.house.HouseReply.{HouseReply}
@@ -88,6 +88,7 @@ fits-treat policy pid pick before (Says k (Payload p) reply) = by-row (Fits befo
 fits-treat policy pid pick before (Says k (Body body) reply) = by-row (Fits before) (Says k (Body body) reply) k (said_body pid k reply (greeted (rows_of k before)) body) (rows_of k before) (λ fw down full. fits-none before (as_row (Says k (Body body) reply) k (said_body pid k reply (greeted (rows_of k before)) body).sent fw down (fate_with (said_body pid k reply (greeted (rows_of k before)) body).ends full)) refl)
 fits-treat policy pid pick before (Says k (BadFraming fault) reply) = by-row (Fits before) (Says k (BadFraming fault) reply) k (drops (why.BadFrame fault)) (rows_of k before) (λ fw down full. fits-none before (as_row (Says k (BadFraming fault) reply) k [] fw down (fate_with (drops (why.BadFrame fault)).ends full)) refl)
 fits-treat policy pid pick before (Admit k) = by-row (Fits before) (Admit k) k (admits before) (rows_of k before) (λ fw down full. fits-none before (as_row (Admit k) k (admits before).sent fw down (fate_with (admits before).ends full)) refl)
+fits-treat policy pid pick before (HouseSays k id given) = by-row (Fits before) (HouseSays k id given) k (house_says (rows_of k before) id given) (rows_of k before) (λ fw down full. fits-none before (as_row (HouseSays k id given) k (house_says (rows_of k before) id given).sent fw down (fate_with (house_says (rows_of k before) id given).ends full)) refl)
 fits-treat policy pid pick before (Gone k) = by-row (Fits before) (Gone k) k silent (rows_of k before) (λ fw down full. fits-none before (as_row (Gone k) k silent.sent fw down (fate_with silent.ends full)) refl)
 fits-treat policy pid pick before (Heard p) = fits-dest before p (dest before p)
 fits-treat policy pid pick before item = fits-none before (treat policy pid pick before item) refl

@@ -13,7 +13,7 @@ use Rattle.ssh_grammar.specs.declared.numbers.TheConstants.{ADMINISTRATIVELY_PRO
 use Rattle.ssh_grammar.proofs.Renumbered.{sender_within}
 use Rattle.mux_history.specs.declared.why.Why.TheVariants as why
 use Rattle.mux_history.specs.Channels.{held_of}
-use Rattle.mux_history.specs.Controls.{greeted, said_body}
+use Rattle.mux_history.specs.Controls.{greeted, house_says, said_body}
 use Rattle.mux_history.specs.Farewell.{late, late_refusal, late_success, with_ask}
 use Rattle.mux_history.specs.Gist.{Confirmation, Gist, Open, Refuses, Requests, Succeeds, Within, read_gist}
 use Rattle.mux_history.specs.Heard.{Breaks, Dest, Disconnects, ToClient, ToMaster, dest, for_client, for_lost, for_master, heard_for, heard_gist, heard_master}
@@ -22,14 +22,14 @@ use Rattle.mux_history.specs.Keys.{bound}
 use Rattle.mux_history.specs.Log.{admits, heard_row, row_of, treat}
 use Rattle.mux_history.specs.Policy.{Policy}
 use Rattle.mux_history.specs.Requests.{Ask, asker, asks, replies}
-use Rattle.mux_history.specs.Rows.{Admit, Gone, Heard, Item, Row, Says, is_lost, rows_of}
+use Rattle.mux_history.specs.Rows.{Admit, Gone, Heard, HouseSays, Item, Row, Says, is_lost, rows_of}
 use Rattle.mux_history.specs.Said.{Outcome, drops, said_gist, said_payload, sends, silent, tells}
 use Rattle.mux_bounds.specs.Bounds.{weight}
 use Rattle.mux_history.proofs.Askers.{asks-local, asks_for}
 use Rattle.mux_history.proofs.Finds.{filter-no, filter-yes}
 use Rattle.mux_history.proofs.RightLogs.{RowKnown}
 use Rattle.mux_history.proofs.SaidApart.{LawfulItem}
-use Rattle.mux_history.proofs.Sends.{Sent, admits-sent, body-sent, row-parts, sent-by}
+use Rattle.mux_history.proofs.Sends.{Sent, admits-sent, body-sent, house-sent, row-parts, sent-by}
 use Rattle.mux_bounds.proofs.Shorts.{AskShort, EachAsk, IsBrief, asks-brief}
 use Rattle.mux_bounds.proofs.Weights.{bound-brief, cancel-weight, close-weight, failure-weight, weight-one}
 
@@ -151,6 +151,7 @@ brings-treat policy pid pick before (Admit k) lawful brief = brings-row (Admit k
 brings-treat policy pid pick before (Says k (Payload p) given) lawful brief = brings-row (Says k (Payload p) given) k (said_payload policy k (rows_of k before) pick p) (rows_of k before) (payload-weight policy k (rows_of k before) pick p lawful.1)
 brings-treat policy pid pick before (Says k (Body body) given) lawful brief = brings-row (Says k (Body body) given) k (said_body pid k given (greeted (rows_of k before)) body) (rows_of k before) (none-weight (said_body pid k given (greeted (rows_of k before)) body).sent 0 (body-sent pid k given (greeted (rows_of k before)) body))
 brings-treat policy pid pick before (Says k (BadFraming fault) given) lawful brief = brings-row (Says k (BadFraming fault) given) k (drops (why.BadFrame fault)) (rows_of k before) (omega arith)
+brings-treat policy pid pick before (HouseSays k id given) lawful brief = brings-row (HouseSays k id given) k (house_says (rows_of k before) id given) (rows_of k before) (none-weight (house_says (rows_of k before) id given).sent 0 (house-sent (rows_of k before) id given))
 brings-treat policy pid pick before (Gone k) lawful brief = brings-row (Gone k) k silent (rows_of k before) (omega arith)
 brings-treat policy pid pick before (Heard p) lawful brief = brings-dest before p (dest before p) brief
 brings-treat policy pid pick before item lawful brief = brings-none (treat policy pid pick before item) refl

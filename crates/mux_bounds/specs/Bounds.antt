@@ -1,7 +1,9 @@
 -- How much may wait for the server.
-use Rattle.std.specs.Prelude.{ℕ, ◌+◌, ◌*◌, ◌≡◌, ◌<◌, ◌≤◌, ◌⊎◌, List, [], ◌∷◌, true, map, length}
+use Rattle.std.specs.Prelude.{ℕ, ◌+◌, ◌*◌, ◌≡◌, ◌<◌, ◌≤◌, ◌⊎◌, ◌||◌, List, [], ◌∷◌, Bool, true, false, MatchBool, map, length}
 use Rattle.mux_outside.specs.declared.house.HouseReply.{HouseReply}
 use Rattle.mux_outside.specs.declared.mark.Mark.{Mark}
+use Rattle.mux_outside.specs.declared.mark.Mark.TheVariants.{House}
+use Rattle.mux_outside.specs.declared.house_mark.HouseMark.TheVariants.{HouseIn, HouseSaid}
 use Rattle.ssh_grammar.specs.declared.numbers.TheConstants.{LONGEST_FRAME}
 use Rattle.ssh_grammar.specs.Messages.{Key}
 use Rattle.ssh_grammar.specs.SpellMessage.{cancel_forward}
@@ -14,7 +16,7 @@ use Rattle.mux_history.specs.Policy.{Policy}
 use Rattle.mux_history.specs.Keys.{is_askable}
 use Rattle.mux_history.specs.Log.{Setting}
 use Rattle.mux_history.specs.Journal.{IsLawful, log_of_journal}
-use Rattle.mux_history.specs.Promises.{IsCut, Throughout, WaitsAt}
+use Rattle.mux_history.specs.Promises.{IsCut, SpeaksInTime, Throughout, WaitsAt, is_asked}
 use Rattle.mux_history.specs.Wires.{ReadsWhenAsked, reads}
 use Rattle.mux_history.specs.Right.{AreFresh}
 use Rattle.mux_history.specs.Settings.{by_lists}
@@ -99,9 +101,12 @@ OverJournals P =
     (rows : List Row) → IsLawful marks → IsLog (by_lists policy pid picks given) marks rows
     → AreFresh rows → P (by_lists policy pid picks given) marks rows
 
--- the rows of the newest mark add no more
+-- the rows of the newest mark add no more, where the asks of a client count to the mark before
 abbrev pub AddsAtOnce : Setting → List Mark → List Row → Type 0
 AddsAtOnce setting [] rows = pending 0 rows ≡ []
+AddsAtOnce setting (House mark ∷ before) rows = let earlier = AddsAtOnce setting before rows in
+    MatchBool (is_asked mark) earlier
+    (length (pending 0 rows) ≤ waiting_up setting before + longest_mark)
 AddsAtOnce setting (mark ∷ before) rows =
     length (pending 0 rows) ≤ waiting_up setting before + longest_mark
 
@@ -110,9 +115,17 @@ MarksAddLittle = OverJournals AddsAtOnce
 
 -- ---- all marks
 
--- bytes are read and clients accepted only while less than 4,194,304 bytes wait for the server
+-- the house is let in, or says something
+abbrev pub speaks : Mark → Bool
+speaks (House HouseIn) = true
+speaks (House (HouseSaid bytes)) = true
+speaks mark = false
+
+-- bytes are read, clients accepted and the house heard only while less than 4,194,304 bytes wait for
+-- the server
 abbrev pub ReadsWithRoom : Setting → List Mark → Mark → Type 0
-ReadsWithRoom setting before mark = reads mark ≡ true → waiting_up setting before < READING_STOPS_AT
+ReadsWithRoom setting before mark =
+    (reads mark || speaks mark) ≡ true → waiting_up setting before < READING_STOPS_AT
 
 -- 8,388,608 bytes
 abbrev pub longest_server_queue : ℕ
@@ -132,11 +145,13 @@ ServerQueueIsBounded =
 -- ---- all marks of a wire
 
 -- where what is read and accepted comes right behind a wait for it, as every wire keeps it, and
--- where each wait keeps what a run promises of it, so much waits for the server at no row
+-- where each wait, and all that the house says, keeps what a run promises of it, so much waits for
+-- the server at no row
 abbrev pub RunsAreBounded : Type 0
 RunsAreBounded =
     OverJournals (λ setting marks rows. Throughout ReadsWhenAsked marks
-    → Throughout (WaitsAt setting) marks → AtEach StaysBelow rows)
+    → Throughout (WaitsAt setting) marks → Throughout (SpeaksInTime setting) marks
+    → AtEach StaysBelow rows)
 
 -- ---- bytes that are not cut yet
 

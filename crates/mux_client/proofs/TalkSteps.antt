@@ -8,7 +8,7 @@ use Rattle.ssh_grammar.specs.Frames.{More, first_frame, cut}
 use Rattle.ssh_grammar.proofs.Cuts.{cut-at}
 use Rattle.mux_outside.specs.Marks.{bytes_taken, taken_at}
 use Rattle.mux_outside.specs.declared.mark.Mark.{Mark}
-use Rattle.mux_outside.specs.declared.mark.Mark.TheVariants.{Waits, Accepts, Gets, Ends, Frees, Fails, Takes, Holds, WriteFails}
+use Rattle.mux_outside.specs.declared.mark.Mark.TheVariants.{Waits, Accepts, Gets, Ends, Frees, Fails, Takes, Holds, WriteFails, Joins, House}
 use Rattle.mux_outside.specs.declared.turn.Want.TheVariants.{Read}
 use Rattle.mux_client.specs.declared.asks.Asks.{Asks}
 use Rattle.mux_client.specs.declared.stage.Stage.{Stage}
@@ -137,6 +137,8 @@ IsOther (Fails k) = Unit {0}
 IsOther (Takes k bytes) = Unit {0}
 IsOther (Holds k) = Unit {0}
 IsOther (WriteFails k) = Unit {0}
+IsOther (Joins l t) = Unit {0}
+IsOther (House mark) = Unit {0}
 
 right-other : (asks : Asks) (marks : List Mark) (m : Mark) → IsOther m → WaitsRight asks marks m
 right-other asks marks (Waits waiting want streams listens) o = absurd o

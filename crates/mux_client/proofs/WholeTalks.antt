@@ -21,7 +21,7 @@ handed-as (Err e) answer P h p = subst P (sym h) p
 
 -- one step, and then one more
 pub accepts-then : {a b c : Seen} → AcceptsNone a b → AcceptsNone b c → AcceptsNone a c
-accepts-then x y = record { streams = y.streams ∙ x.streams; listens = y.listens ∙ x.listens; last = y.last ∙ x.last }
+accepts-then x y = record { streams = y.streams ∙ x.streams; listens = y.listens ∙ x.listens; last = y.last ∙ x.last; listeners = y.listeners ∙ x.listeners; own = y.own ∙ x.own }
 
 pub same-then : {a b c d e f : ℕ} → SameFaults a b d e → SameFaults b c e f → SameFaults a c d f
 same-then x y = record { same_server = y.same_server ∙ x.same_server; same_client = y.same_client ∙ x.same_client }

@@ -14,16 +14,20 @@ use Rattle.mux_client.specs.Client.{ClientState, Stands, place_of}
 
 -- ---- the wire
 
--- stream 0 alone is open, and no client is accepted
+-- stream 0 alone is open, no client is accepted, and no listener is open
 pub record IsAlone (seen : Seen) : Type 0 where
   pub streams : seen.streams ≡ 0 ∷ []
   pub listens : seen.listens ≡ false
+  pub listeners : seen.listeners ≡ []
+  pub own : seen.own ≡ []
 
--- no client came
+-- no client came, and no stream of the master's own
 pub record AcceptsNone (old new : Seen) : Type 0 where
   pub streams : new.streams ≡ old.streams
   pub listens : new.listens ≡ old.listens
   pub last : new.last ≡ old.last
+  pub listeners : new.listeners ≡ old.listeners
+  pub own : new.own ≡ old.own
 
 -- where stream 0 takes no bytes for now it is one of these, and else none is
 abbrev pub IsHeld : List ℕ → Type 0

@@ -243,7 +243,7 @@ fn turn<W: Wire, S: Sink>(
             Ok(())
         }
         Turn::Failed(_) => Err(Talked::ServerFailed),
-        Turn::Accepted(_) => Ok(()),
+        Turn::Accepted(_) | Turn::Joined(_, _) => Ok(()),
         Turn::NoMemory => Err(Talked::OutOfMemory),
     }
 }
@@ -295,6 +295,8 @@ pub fn talk<W: Wire, S: Sink>(
     requires server_alone { (W.seen wire.old).streams ≡ 0 ∷ [] }
     requires none_blocked { (W.seen wire.old).blocked ≡ [] }
     requires silent { (W.seen wire.old).listens ≡ false }
+    requires listeners { (W.seen wire.old).listeners ≡ [] }
+    requires own { (W.seen wire.old).own ≡ [] }
 
     // What was told, and what was shown.
     ensures whole { WholeTalk asks.now result (W.seen wire.old).told (W.seen wire.new).told

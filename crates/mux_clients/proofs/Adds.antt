@@ -5,14 +5,14 @@ use Rattle.mux_outside.specs.declared.house.HouseReply.{HouseReply}
 use Rattle.ssh_grammar.specs.declared.fault.BadControl.{BadControl}
 use Rattle.ssh_grammar.specs.declared.fault.BadControl.TheVariants as bad
 use Rattle.ssh_grammar.specs.declared.numbers.TheConstants.{VERSION}
-use Rattle.ssh_grammar.specs.Control.{Control, Hello, OpenForward, CloseForward}
+use Rattle.ssh_grammar.specs.Control.{Answer, Control, Hello, OpenForward, CloseForward}
 use Rattle.ssh_grammar.specs.ReadControl.{read_control}
 use Rattle.ssh_grammar.specs.Said.{Saying, Body, Payload, BadFraming}
 use Rattle.mux_history.specs.declared.why.Why.TheVariants as why
 use Rattle.mux_history.specs.Policy.{Policy}
-use Rattle.mux_history.specs.Rows.{Row, rows_of, any_of, is_admit, is_lost, is_refusal, loses, Item, Admit, Says, Gone, Fate, Refused}
+use Rattle.mux_history.specs.Rows.{Row, rows_of, any_of, is_admit, is_lost, is_refusal, loses, Item, Admit, Says, HouseSays, Gone, Fate, Refused}
 use Rattle.mux_history.specs.Choices.{FromLists, pick_of, replies_given, reply_at}
-use Rattle.mux_history.specs.Controls.{body_asks, greeted, later_control, later_unread, said_body, said_first, said_later}
+use Rattle.mux_history.specs.Controls.{answers_maybe, body_asks, greeted, house_answer, later_control, later_unread, said_body, said_first, said_later}
 use Rattle.mux_history.specs.Said.{Outcome, drops, silent, said_payload}
 use Rattle.mux_history.specs.Settings.{by_lists}
 use Rattle.mux_history.specs.Treat.{row_of, treat}
@@ -56,11 +56,15 @@ own-row-of item k o own none fine =
 
 -- ---- what is said refuses nobody
 
+maybe-fine : (o : Option Answer) → is_refusal (answers_maybe o).ends ≡ false
+maybe-fine None = refl
+maybe-fine (Some answer) = refl
+
 later-fine : (pid k : ℕ) (given : Option HouseReply) (c : Control) → is_refusal (later_control pid k given c).ends ≡ false
 later-fine pid k None (OpenForward id what) = refl
-later-fine pid k (Some given) (OpenForward id what) = refl
+later-fine pid k (Some given) (OpenForward id what) = maybe-fine (house_answer true id given)
 later-fine pid k None (CloseForward id what) = refl
-later-fine pid k (Some given) (CloseForward id what) = refl
+later-fine pid k (Some given) (CloseForward id what) = maybe-fine (house_answer false id given)
 later-fine pid k given c = refl
 
 unread-fine : (fault : BadControl) → is_refusal (later_unread fault).ends ≡ false
@@ -144,6 +148,17 @@ said-adds policy pid picks given k [] rows = adds-none k rows
 said-adds policy pid picks given k (x ∷ xs) rows =
     let next : List Row = more_of (by_lists policy pid picks given) rows (said_item k x) in
     adds-then k rows next (rows_said policy pid picks given k next xs) (adds-more policy pid picks given k x rows) (said-adds policy pid picks given k xs next)
+
+-- and of a reply of the house
+pub house-own : (k id : ℕ) (given : HouseReply) (row : Row) → row.item ≡ HouseSays k id given → row.client ≡ k → is_refusal row.fate ≡ false → IsOwn k row
+house-own k id given row item client fine = record {
+  client_is = client;
+  unadmitted = ap (λ (i : Item). elim row.fate as (λ _. Bool) [ Refused ↦ false | _ ↦ elim i as (λ _. Bool) [ Admit k ↦ true | _ ↦ false ] ]) item ∙ admit-by row.fate (HouseSays k id given) refl;
+  unrefused = fine;
+}
+
+pub house-adds : (k id : ℕ) (given : HouseReply) (row : Row) (rows : List Row) → row.item ≡ HouseSays k id given → row.client ≡ k → is_refusal row.fate ≡ false → AddsFor k rows (row ∷ rows)
+house-adds k id given row rows item client fine = adds-row k row rows (house-own k id given row item client fine)
 
 pub losses-add-for-one : LossesAddForOne
 losses-add-for-one policy pid picks given k rows = adds-row k (next_row (by_lists policy pid picks given) rows (Gone k)) rows (gone-own policy pid picks given k rows)

@@ -1,6 +1,6 @@
 -- The rows of a piece are those that the log has for it, and its bytes are read so afterwards.
 use Rattle.std.specs.Prelude.{◌≡◌, ◌+◌, ◌&&◌, not, ℕ, true, false, List, ◌∷◌, ◌++◌, length, Option, None}
-use Rattle.mux_outside.specs.House.{Asked}
+use Rattle.mux_outside.specs.declared.house_mark.HouseMark.{HouseMark as Asked}
 use Rattle.mux_outside.specs.declared.house.HouseReply.{HouseReply}
 use Rattle.ssh_fields.specs.Fields.{AreBytes}
 use Rattle.ssh_grammar.specs.Frames.{More}

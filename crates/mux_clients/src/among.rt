@@ -1,22 +1,24 @@
 //! One client among all of a master.
 
-ghost use Rattle.std.specs.Prelude.{◌≡◌, ◌++◌, ◌∷◌, ℕ, IfOk, OnOk, Ok, true, false};
+ghost use Rattle.std.specs.Prelude.{◌≡◌, ◌++◌, ◌∷◌, ℕ, IfOk, OnOk, Ok, Some, None, true, false};
 ghost use Rattle.ssh_grammar.specs.declared.framing.Framing.TheVariants.{Proxy};
 ghost use Rattle.ssh_grammar.specs.IsFrame.{IsContent};
 ghost use Rattle.ssh_grammar.specs.Frames.{frame_payload};
 ghost use Rattle.mux_clients.specs.State.{refusals_of};
-ghost use Rattle.mux_clients.specs.Asked.{AsksMore};
+ghost use Rattle.mux_clients.specs.Asked.{Heeds};
 ghost use Rattle.mux_clients.specs.Among.{ChangesOne, HearsAt, IsUntouched, client_index, is_present, numbers};
 ghost use Rattle.mux_clients.specs.Pieces.{HearsIn, unheard};
 ghost use Rattle.mux_clients.specs.Losing.{LosesIn, loss_between};
 ghost use Rattle.mux_clients.specs.Room.{HasRoom};
+ghost use Rattle.mux_clients.specs.Answering.{AnswersAt};
 
+use crate::asks::Asks;
 use crate::client::Client;
 use crate::heard::Heard;
 use crate::standing::Standing;
 use mux_core::Core;
 use mux_history::Why;
-use mux_outside::House;
+use mux_outside::{House, HouseReply};
 use proxy_frames::Queue;
 use ssh_fields::OutOfMemory;
 
@@ -82,25 +84,62 @@ pub fn hear_at(
     Ok(())
 }
 
+/// The house replies to an ask of the client of a number later than at once. Where the client is lost
+/// by that, it is pushed to `leaving`, with the cause.
+pub fn answer_at(
+    clients: &mut [Client],
+    number: u64,
+    id: u32,
+    reply: HouseReply,
+    leaving: &mut Vec<(u64, Option<Why>)>,
+    core: &mut Core,
+    up: &mut Queue,
+) -> Result<(), OutOfMemory>
+    requires room { HasRoom clients.old up.old }
+    ensures answers { OnOk result (AnswersAt number id reply leaving.old.items leaving.new.items
+        core.old core.new up.old up.new clients.old clients.new) }
+    ensures absent { is_present clients.old number ≡ false
+        → IsUntouched clients.old clients.new core.old core.new up.old up.new }
+    ensures unnoted { is_present clients.old number ≡ false
+        → leaving.new.items ≡ leaving.old.items }
+    ensures present { OnOk result ((j : ℕ) → is_present clients.new j ≡ is_present clients.old j) }
+    ensures numbers { OnOk result (numbers clients.new ≡ numbers clients.old) }
+    ensures room { OnOk result (HasRoom clients.old up.old → HasRoom clients.new up.new) }
+    ensures policy { core.new.policy ≡ core.old.policy }
+{
+    let i = index_of(clients, number);
+    if i < clients.len() {
+        let client = &mut clients[i];
+        let before = client.standing();
+        client.answered(id, reply, core, up)?;
+        note_loss(leaving, before, client.standing(), number)?;
+    }
+    Ok(())
+}
+
 /// A piece of the bytes of the client of a number, where it is read: what it did beyond the client.
+#[tactic(auto, using(crate::proofs::Heeding::asked_none))]
 pub fn got_at<H: House>(
     clients: &mut [Client],
     number: u64,
     pid: u32,
     bytes: &[u8],
     house: &mut H,
+    asks: &mut Asks,
     core: &mut Core,
     up: &mut Queue,
 ) -> Result<Heard, OutOfMemory>
     requires room { HasRoom clients.old up.old }
+    requires ordering { (H.known house.old).ordering ≡ None }
     ensures hears { IfOk result (λ heard. is_present clients.old number ≡ true
-        → ChangesOne number (HearsIn H.may (H.told house.old) (H.told house.new) pid bytes.now
+        → ChangesOne number (HearsIn H.may (Some asks.old) (Some asks.new) pid bytes.now
         core.old core.new up.old up.new heard) clients.old clients.new) }
     ensures absent { is_present clients.old number ≡ false
         → IsUntouched clients.old clients.new core.old core.new up.old up.new }
     ensures silent { is_present clients.old number ≡ false → result ≡ Ok unheard }
-    ensures asks { AsksMore (H.told house.old) (H.told house.new) }
-    ensures untold { is_present clients.old number ≡ false → H.told house.new ≡ H.told house.old }
+    ensures heeds { Heeds result asks.old asks.new (H.told house.old) (H.told house.new)
+        (H.known house.old) (H.known house.new) }
+    ensures untold { is_present clients.old number ≡ false → asks.new ≡ asks.old }
     ensures present { OnOk result ((j : ℕ) → is_present clients.new j ≡ is_present clients.old j) }
     ensures numbers { OnOk result (numbers clients.new ≡ numbers clients.old) }
     ensures room { OnOk result (HasRoom clients.old up.old → HasRoom clients.new up.new) }
@@ -108,7 +147,7 @@ pub fn got_at<H: House>(
 {
     let i = index_of(clients, number);
     if i < clients.len() {
-        return clients[i].hear(pid, bytes, house, core, up);
+        return clients[i].hear(pid, bytes, house, asks, core, up);
     }
     Ok(Heard {
         stops: false,

@@ -1,8 +1,8 @@
-ghost use Rattle.std.specs.Prelude.{◌≡◌, ◌≤◌, ◌+◌, [], ◌∷◌, ◌++◌, length, IfOk, OnOk, true, false, if◌then◌else◌};
+ghost use Rattle.std.specs.Prelude.{◌≡◌, ◌≤◌, ◌+◌, [], ◌∷◌, ◌++◌, length, IfOk, OnOk, Some, None, true, false, if◌then◌else◌};
 ghost use Rattle.ssh_grammar.specs.declared.framing.Framing.TheVariants.{Proxy};
 ghost use Rattle.ssh_grammar.specs.IsFrame.{IsContent};
 ghost use Rattle.ssh_grammar.specs.Frames.{frame_payload};
-ghost use Rattle.mux_clients.specs.Asked.{AsksMore};
+ghost use Rattle.mux_clients.specs.Asked.{Heeds};
 ghost use Rattle.mux_clients.specs.State.{client_took, part, refusals_of, KeepsRoom};
 ghost use Rattle.mux_clients.specs.Hears.{HearsTold};
 ghost use Rattle.ssh_grammar.specs.Said.{first_in};
@@ -11,15 +11,17 @@ ghost use Rattle.mux_clients.specs.Room.{LeavesRoom};
 ghost use Rattle.mux_clients.specs.Nexts.{SaysNext};
 ghost use Rattle.mux_clients.specs.Pieces.{HearsIn, HearsPiece};
 ghost use Rattle.mux_clients.specs.Losing.{LosesIn};
+ghost use Rattle.mux_clients.specs.Answering.{AnswersIn};
 ghost use Rattle.mux_clients.specs.Entering.{Enters, new_client};
 
+use crate::asks::Asks;
 use crate::decision::decide;
 use crate::heard::Heard;
 use crate::seat::Seat;
 use crate::standing::Standing;
 use client_teardown::FAREWELL_ROOM;
 use mux_core::Core;
-use mux_outside::House;
+use mux_outside::{House, HouseReply};
 use proxy_frames::{Framer, Framing, Next, Queue};
 use ssh_fields::OutOfMemory;
 use std::alloc::Global;
@@ -109,20 +111,23 @@ impl Client {
         pid: u32,
         bytes: &[u8],
         house: &mut H,
+        asks: &mut Asks,
         core: &mut Core,
         up: &mut Queue,
     ) -> Result<Heard, OutOfMemory>
         requires room { is_read self.old.seat.standing ≡ true → FAREWELL_ROOM ≤ up.old.spare }
+        requires ordering { (H.known house.old).ordering ≡ None }
         ensures number { OnOk result (self.new.seat.number ≡ self.old.seat.number) }
         ensures room { OnOk result (LeavesRoom up.old up.new self.old self.new) }
         ensures hears { IfOk result (λ heard.
-            HearsIn H.may (H.told house.old) (H.told house.new) pid bytes.now core.old core.new
+            HearsIn H.may (Some asks.old) (Some asks.new) pid bytes.now core.old core.new
             up.old up.new heard self.old self.new) }
-        ensures asks { AsksMore (H.told house.old) (H.told house.new) }
+        ensures heeds { Heeds result asks.old asks.new (H.told house.old) (H.told house.new)
+            (H.known house.old) (H.known house.new) }
         ensures policy { OnOk result (core.new.policy ≡ core.old.policy) }
     {
         if self.seat.is_read() {
-            return self.got(pid, bytes, house, core, up);
+            return self.got(pid, bytes, house, asks, core, up);
         }
         Ok(Heard {
             stops: false,
@@ -195,20 +200,46 @@ impl Client {
         self.seat.hears(payload, refusals, core, up)
     }
 
+    /// The house replies to an ask of it later than at once. One that is lost is told nothing.
+    pub fn answered(
+        &mut self,
+        id: u32,
+        reply: HouseReply,
+        core: &mut Core,
+        up: &mut Queue,
+    ) -> Result<(), OutOfMemory>
+        requires room { is_lost self.old.seat.standing ≡ false → FAREWELL_ROOM ≤ up.old.spare }
+        ensures answers { OnOk result (AnswersIn id reply core.old core.new up.old up.new self.old
+            self.new) }
+        ensures number { OnOk result (self.new.seat.number ≡ self.old.seat.number) }
+        ensures reads { is_lost self.new.seat.standing ≡ false
+            → (self.new.seat.standing ≡ self.old.seat.standing) × (self.new.rest ≡ self.old.rest) }
+        ensures policy { core.new.policy ≡ core.old.policy }
+        ensures room { OnOk result (LeavesRoom up.old up.new self.old self.new) }
+    {
+        if self.is_lost() {
+            return Ok(());
+        }
+        self.seat.answered(id, reply, core, up)
+    }
+
     // What it says next: whether anything whole was there.
     fn say_next<H: House>(
         &mut self,
         pid: u32,
         heard: &mut Heard,
         house: &mut H,
+        asks: &mut Asks,
         core: &mut Core,
         up: &mut Queue,
     ) -> Result<bool, OutOfMemory>
         requires read { is_read self.old.seat.standing ≡ true }
         requires room { FAREWELL_ROOM ≤ up.old.spare }
-        ensures asks { AsksMore (H.told house.old) (H.told house.new) }
+        requires ordering { (H.known house.old).ordering ≡ None }
+        ensures heeds { Heeds result asks.old asks.new (H.told house.old) (H.told house.new)
+            (H.known house.old) (H.known house.new) }
         ensures next { IfOk result (λ more.
-            SaysNext H.may (H.told house.old) (H.told house.new) pid more
+            SaysNext H.may (Some asks.old) (Some asks.new) pid more
             (first_in (mode_of self.old.seat.standing) self.old.rest) core.old core.new up.old
             up.new self.old heard.old self.new heard.new) }
         ensures policy { core.new.policy ≡ core.old.policy }
@@ -227,7 +258,14 @@ impl Client {
                     return Ok(true);
                 }
                 let body = self.framer.content();
-                let decision = decide(self.seat.number(), pid, self.seat.is_greeted(), body, house);
+                let decision = decide(
+                    self.seat.number(),
+                    pid,
+                    self.seat.is_greeted(),
+                    body,
+                    house,
+                    asks,
+                )?;
                 self.seat.follows(&decision, heard, core, up)?;
                 if self.seat.is_proxied() {
                     self.framer.switch(Framing::Proxy);
@@ -243,14 +281,17 @@ impl Client {
         pid: u32,
         bytes: &[u8],
         house: &mut H,
+        asks: &mut Asks,
         core: &mut Core,
         up: &mut Queue,
     ) -> Result<Heard, OutOfMemory>
         requires read { is_read self.old.seat.standing ≡ true }
         requires room { FAREWELL_ROOM ≤ up.old.spare }
-        ensures asks { AsksMore (H.told house.old) (H.told house.new) }
+        requires ordering { (H.known house.old).ordering ≡ None }
+        ensures heeds { Heeds result asks.old asks.new (H.told house.old) (H.told house.new)
+            (H.known house.old) (H.known house.new) }
         ensures hears { IfOk result (λ heard.
-            HearsPiece H.may (H.told house.old) (H.told house.new) pid bytes.now core.old up.old
+            HearsPiece H.may (Some asks.old) (Some asks.new) pid bytes.now core.old up.old
             self.old core.new up.new self.new heard) }
         ensures policy { OnOk result (core.new.policy ≡ core.old.policy) }
         ensures number { OnOk result (self.new.seat.number ≡ self.old.seat.number) }
@@ -262,7 +303,7 @@ impl Client {
         };
         self.framer.push(bytes)?;
         while self.seat.is_read() {
-            if !self.say_next(pid, &mut heard, house, core, up)? {
+            if !self.say_next(pid, &mut heard, house, asks, core, up)? {
                 break;
             }
         }

@@ -8,6 +8,7 @@ ghost use Rattle.mux_clients.specs.State.{full_of, part, refusals_of, told, Keep
 ghost use Rattle.mux_clients.specs.Says.{SaysPayload};
 ghost use Rattle.mux_clients.specs.Hears.{HearsTold};
 ghost use Rattle.mux_clients.specs.Losing.{Loses};
+ghost use Rattle.mux_clients.specs.Answering.{AnswersLater};
 ghost use Rattle.mux_clients.specs.Entering.{new_client};
 ghost use Rattle.mux_clients.specs.declared.standing.Standing.{Standing as TheStanding};
 ghost use Rattle.mux_clients.specs.Decisions.{frames, is_stops, GoesOn, StandsAs};
@@ -18,7 +19,7 @@ ghost use Rattle.mux_clients.specs.Stands.{is_lost, is_read};
 
 mod views;
 
-use crate::decision::{Decision, Fate};
+use crate::decision::{Decision, Fate, answer_of};
 use crate::heard::Heard;
 use crate::standing::Standing;
 use client_teardown::FAREWELL_ROOM;
@@ -27,6 +28,7 @@ use mux_core::{Core, Verdict};
 use mux_history::Why;
 use mux_history::limits::MAX_QUEUE;
 use mux_messages::hello;
+use mux_outside::HouseReply;
 use proxy_frames::Queue;
 use ssh_fields::{OutOfMemory, Small};
 use ssh_grammar::BadFrame;
@@ -255,6 +257,35 @@ impl Seat {
         }
         self.queue.push_bytes(frame.as_bytes())?;
         Ok(None)
+    }
+
+    /// The house replies to an ask of it later than at once: it is told that, unless it speaks to
+    /// the server.
+    pub fn answered(
+        &mut self,
+        id: u32,
+        reply: HouseReply,
+        core: &mut Core,
+        up: &mut Queue,
+    ) -> Result<(), OutOfMemory>
+        requires room { FAREWELL_ROOM ≤ up.old.spare }
+        ensures keeps { is_read self.new.standing ≡ true → self.new.standing ≡ self.old.standing }
+        ensures stays { is_lost self.new.standing ≡ false → self.new.standing ≡ self.old.standing }
+        ensures answers { OnOk result (AnswersLater id reply (part core.old self.old up.old)
+            (part core.new self.new up.new)) }
+        ensures policy { core.new.policy ≡ core.old.policy }
+        ensures spare { OnOk result (KeepsRoom up.old up.new self.new.standing) }
+    {
+        if self.is_proxied() {
+            return Ok(());
+        }
+        match self.tell_frame(&answer_of(true, id, reply))? {
+            None => Ok(()),
+            Some(why) => {
+                self.leave(why, core, up);
+                Ok(())
+            }
+        }
     }
 
     /// It follows what was decided of a control message.

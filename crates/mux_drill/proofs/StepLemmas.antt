@@ -3,11 +3,12 @@ use Rattle.std.proofs.Common.{◌≡◌, refl, sym, subst, ℕ, ◌+◌, ◌-◌
 use Rattle.std.proofs.lemmas.Grind.{common_steps}
 use Rattle.conf_rules.specs.Texts.{is_empty}
 use Rattle.mux_outside.specs.Streams.{among}
-use Rattle.mux_outside.specs.Wire.{TurnFits}
+use Rattle.mux_outside.specs.Wire.{OwnFits, TurnFits}
 use Rattle.mux_outside.specs.WireLog.{Logged}
+use Rattle.mux_outside.specs.declared.own_streams.TheConstants.{LAST_CLIENT}
 use Rattle.mux_outside.specs.declared.piece.TheConstants.{LONGEST_PIECE}
 use Rattle.mux_outside.specs.declared.turn.Turn.{Turn}
-use Rattle.mux_outside.specs.declared.turn.Turn.TheVariants.{Accepted, Got, End, Writable, Failed, NoMemory}
+use Rattle.mux_outside.specs.declared.turn.Turn.TheVariants.{Accepted, Got, End, Writable, Failed, Joined, NoMemory}
 use Rattle.mux_outside.specs.declared.turn.Want.TheVariants.{Read}
 use Rattle.mux_drill.specs.Frames.{confirmation_frame, adjust_frame, data_frame, close_frame, greeting, opener_in}
 use Rattle.mux_drill.specs.Inboxes.{stands_first}
@@ -25,6 +26,7 @@ SaysSome (Accepted c) bytes = Unit {0}
 SaysSome (End t) bytes = Unit {0}
 SaysSome (Writable t) bytes = Unit {0}
 SaysSome (Failed t) bytes = Unit {0}
+SaysSome (Joined l t) bytes = Unit {0}
 SaysSome NoMemory bytes = Unit {0}
 
 -- a list that isn't empty
@@ -65,9 +67,13 @@ pub both : (a b : Bool) → (a && b) ≡ true → IsTrue a × IsTrue b
 both true b e = (refl, e)
 both false b e = (e, cc)
 
--- the number above the last
-above : (c last : ℕ) → (nat_lt 0 c && (c - 1 == last)) ≡ true → c ≡ last + 1
-above c last e = grind (arith, common_steps)
+-- the number above the last, where one is left
+above : (c last : ℕ) → (nat_lt 0 c && (c - 1 == last && nat_lt last LAST_CLIENT)) ≡ true
+    → (c ≡ last + 1) × (last < LAST_CLIENT)
+above c last e =
+    let is : c ≡ last + 1 = grind (arith, common_steps) in
+    let left : last < LAST_CLIENT = grind (arith, common_steps) in
+    (is, left)
 
 -- the piece of some bytes
 pub piece_fits : (n : ℕ) (bytes : List ℕ) → 0 < n → 0 < length bytes
@@ -91,14 +97,16 @@ pub turn_fits : (turn : Turn) (log : Logged) (unread : List (List ℕ)) (says : 
     → may_happen turn log unread ≡ true → SaysSome turn says
     → TurnFits turn Read log.listens log.last log.streams log.blocked (take 37 says)
 turn_fits (Accepted c) log unread says may some =
-    let parts = both log.listens (nat_lt 0 c && (c - 1 == log.last)) may in
-    (refl, parts.0, above c log.last parts.1)
+    let parts = both log.listens _ may in
+    let number = above c log.last parts.1 in
+    (refl, parts.0, number.0, number.1)
 turn_fits (Got t) log unread says may some =
     let bounds = piece_short says some in
     (refl, may, bounds.0, bounds.1)
 turn_fits (End t) log unread says may some = (refl, (both (among t log.streams) _ may).0)
 turn_fits (Writable t) log unread says may some = cc
 turn_fits (Failed t) log unread says may some = cc
+turn_fits (Joined l t) log unread says may some = cc
 turn_fits NoMemory log unread says may some = tt
 
 -- a step that is met fits
@@ -110,3 +118,22 @@ begin_fits step log unread picks waiting plan stage piece is met gives =
     let down = both (stands_first step.client step.down unread) (may_happen step.turn log unread) up.1 in
     let P : Step → Type 0 = λ s. SaysSome s.turn s.says in
     rw gives (turn_fits step.turn log unread step.says down.1 (subst P (sym is) (says_some picks waiting plan stage)))
+
+-- a turn that may happen is none of the master's own, where there is nothing of its own
+pub turn_owns : (turn : Turn) (log : Logged) (unread : List (List ℕ)) (last : ℕ)
+    → may_happen turn log unread ≡ true → OwnFits turn [] [] last
+turn_owns (Accepted c) log unread last may = tt
+turn_owns (Got t) log unread last may = λ _. refl
+turn_owns (End t) log unread last may = λ _. refl
+turn_owns (Writable t) log unread last may = tt
+turn_owns (Failed t) log unread last may = tt
+turn_owns (Joined l t) log unread last may = cc
+turn_owns NoMemory log unread last may = tt
+
+-- nor is that of a step that is met
+pub begin_owns : (step : Step) (log : Logged) (unread : List (List ℕ)) (last : ℕ)
+    → is_met step log unread ≡ true → OwnFits step.turn [] [] last
+begin_owns step log unread last met =
+    let up = both (stands_first 0 step.up unread) (stands_first step.client step.down unread && may_happen step.turn log unread) met in
+    let down = both (stands_first step.client step.down unread) (may_happen step.turn log unread) up.1 in
+    turn_owns step.turn log unread last down.1

@@ -3,8 +3,9 @@ use Rattle.std.specs.Prelude.{◌≡◌, ℕ, ◌+◌, ◌-◌, ◌==◌, ◌&&�
 use Rattle.conf_rules.specs.Texts.{is_empty}
 use Rattle.mux_outside.specs.Streams.{among}
 use Rattle.mux_outside.specs.WireLog.{Logged}
+use Rattle.mux_outside.specs.declared.own_streams.TheConstants.{LAST_CLIENT}
 use Rattle.mux_outside.specs.declared.turn.Turn.{Turn}
-use Rattle.mux_outside.specs.declared.turn.Turn.TheVariants.{Accepted, Got, End, Writable, Failed, NoMemory}
+use Rattle.mux_outside.specs.declared.turn.Turn.TheVariants.{Accepted, Got, End, Writable, Failed, Joined, NoMemory}
 use Rattle.mux_drill.specs.Course.{spot_after}
 use Rattle.mux_drill.specs.Frames.{opener_in}
 use Rattle.mux_drill.specs.Inboxes.{unread_at, without_first, stands_first, all_read}
@@ -25,14 +26,16 @@ use Rattle.mux_drill.specs.declared.play.Change.TheVariants.{Nothing, GoesOn, Ta
 abbrev pub speaks : Said → Bool
 speaks said = not (is_empty said.rest)
 
--- whether what is outside lets a turn happen: a client comes where it listens, an open stream
--- speaks or ends, and the server ends where all was read
+-- whether what is outside lets a turn happen: a client comes where it listens and a number is left,
+-- an open stream speaks or ends, and the server ends where all was read
 abbrev pub may_happen : Turn → Logged → List (List ℕ) → Bool
-may_happen (Accepted c) log unread = log.listens && (nat_lt 0 c && (c - 1 == log.last))
+may_happen (Accepted c) log unread =
+    log.listens && (nat_lt 0 c && (c - 1 == log.last && nat_lt log.last LAST_CLIENT))
 may_happen (Got t) log unread = among t log.streams
 may_happen (End t) log unread = among t log.streams && (if t == 0 then all_read unread else true)
 may_happen (Writable t) log unread = false
 may_happen (Failed t) log unread = false
+may_happen (Joined l t) log unread = false
 may_happen NoMemory log unread = false
 
 -- whether all that a step needs was written, and its turn may happen
@@ -66,6 +69,7 @@ speaker_of (Accepted c) = c
 speaker_of (End t) = t
 speaker_of (Writable t) = t
 speaker_of (Failed t) = t
+speaker_of (Joined l t) = t
 speaker_of NoMemory = 0
 
 -- the numbers that the master picked: the server reads one with each open

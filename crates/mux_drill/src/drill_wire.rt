@@ -1,14 +1,18 @@
-ghost use Rattle.std.specs.Prelude.{◌≡◌, ◌≢◌, ◌<◌, ◌++◌, false, Some, IsErr, IsTrue, All, length};
+ghost use Rattle.std.specs.Prelude.{◌≡◌, ◌≢◌, ◌<◌, ◌++◌, [], false, Some, IsErr, IsTrue, All, length};
 ghost use Rattle.std.specs.Option.{option_map};
 ghost use Rattle.mux_outside.specs.Streams.{among};
 ghost use Rattle.mux_outside.specs.declared.turn.Want.TheVariants.{Read, WriteOnly};
 ghost use Rattle.mux_outside.specs.declared.turn.Turn.TheVariants.{End, NoMemory};
 ghost use Rattle.mux_outside.specs.declared.turn.Wrote.TheVariants.{Took, NoMemory as NoMemoryToWrite};
+ghost use Rattle.mux_outside.specs.Counts.{HasCause};
+ghost use Rattle.mux_outside.specs.OwnStreams.{is_finished};
 ghost use Rattle.mux_outside.specs.Wire.{openings_of, OpenFaults, joinings_of, JoinFaults, TurnFits, TurnFaults, WroteFits, WroteFaults};
+ghost use Rattle.mux_outside.specs.Wire.{OwnFits, OwnTurnFaults, OwnWroteFaults, NumberFits};
 ghost use Rattle.mux_outside.specs.Seen.{seen_after_open, seen_after_join, seen_after_turn, seen_after_write, seen_after_close, calls_after_wait, calls_after_write};
+ghost use Rattle.mux_outside.specs.Seen.{seen_after_note, seen_after_listen, seen_after_connect, seen_after_unlisten, seen_after_pause, seen_after_finish};
+ghost use Rattle.mux_outside.specs.WireLog.{Shows, ShowsMade};
 ghost use Rattle.mux_outside.specs.WireLog.{seen_in, LogsOpening, LogsJoining, LogsTurn, LogsWrite, LogsClose};
 ghost use Rattle.mux_drill.specs.Course.{full_tally};
-ghost use Rattle.mux_drill.specs.DrillWire.{tally_of, IsOver, IsNew, SamePlay, Opens, PlaysNext, TakesAll};
 ghost use Rattle.mux_drill.specs.Plan.{plan_of};
 ghost use Rattle.mux_drill.specs.declared.stage.Stage.TheVariants.{Ending};
 ghost use Rattle.mux_drill.specs.Play.{GivesNext, piece_of};
@@ -16,18 +20,24 @@ ghost use Rattle.mux_drill.specs.declared.play.Change.TheVariants.{Nothing};
 
 use crate::plan::Plan;
 use crate::play::{Change, Given, Play};
-use mux_outside::{FileError, Piece, Streams, Tally, Turn, Want, Wire, WireLog, Wrote};
+use mux_outside::{FileError, HouseMark, Piece, Streams, Tally, Turn, Want, Wire, WireLog, Wrote};
+use ssh_fields::OutOfMemory;
 use std::alloc::Global;
 
-/// A wire in memory, which plays the clients and the server of a drill, and tells everything.
+/// A wire in memory, which plays the clients and the server of a drill, and tells everything. It
+/// opens no listener and no stream of the master's own.
 #[derive(Drop)]
 pub struct DrillWire {
     alloc: Global,
     play: Play,
     log: WireLog,
+    ghost no_listener: { log.listeners ≡ [] },
+    ghost no_stream: { log.own ≡ [] },
 }
 
 impl DrillWire {
+    ghost use Rattle.mux_drill.specs.DrillWire.{IsNew};
+
     /// A wire that isn't open.
     pub fn new(alloc: Global) -> DrillWire
         ensures { IsNew result }
@@ -48,6 +58,8 @@ impl DrillWire {
 }
 
 impl Wire for DrillWire {
+    ghost use Rattle.mux_drill.specs.DrillWire.{tally_of, IsOver, SamePlay, Opens, PlaysNext, TakesAll};
+
     ghost openings = { λ w. Some w.log.openings };
 
     ghost joinings = { λ w. Some w.log.joinings };
@@ -59,6 +71,8 @@ impl Wire for DrillWire {
     ghost server_faults = { λ w. w.log.server_faults };
 
     ghost client_faults = { λ w. w.log.client_faults };
+
+    ghost own_faults = { λ w. w.log.own_faults };
 
     ghost tally = { λ w. tally_of w };
 
@@ -91,6 +105,8 @@ impl Wire for DrillWire {
         ensures turn { TurnFits result want self.old.log.listens self.old.log.last
             self.old.log.streams
             self.old.log.blocked into.new }
+        ensures own_turn { OwnFits result self.old.log.listeners self.old.log.own
+            self.old.log.last_own }
         ensures logs { LogsTurn result waiting.now want into.new self.old.log self.new.log }
         ensures drilled { result ≡ End 0
             → tally_of self.new ≡ full_tally self.old.play.course.plan }
@@ -115,6 +131,7 @@ impl Wire for DrillWire {
     fn write(&mut self, stream: u64, bytes: &[u8]) -> Wrote
         requires stream_open { IsTrue (among stream self.old.log.streams) }
         requires not_blocked { among stream self.old.log.blocked ≡ false }
+        requires not_finished { is_finished stream self.old.log.own ≡ false }
         requires some { 0 < length bytes.now }
         ensures wrote { WroteFits result (length bytes.now) }
         ensures logs { LogsWrite result stream bytes.now self.old.log self.new.log }
@@ -149,6 +166,46 @@ impl Wire for DrillWire {
         self.log.close(stream);
     }
 
+    fn note(&mut self, m: &HouseMark) -> Result<(), OutOfMemory>
+        ensures logs { Shows (seen_after_note result m.now (seen_in self.old.log))
+            self.old.log self.new.log }
+        ensures same { SamePlay self.old self.new }
+    {
+        self.log.noted(m)
+    }
+
+    fn listen(&mut self, _host: &[u8], _port: u32) -> Result<u64, FileError>
+        ensures logs { ShowsMade result (seen_in self.old.log) self.old.log self.new.log }
+        ensures fails { IsErr result }
+        ensures same { SamePlay self.old self.new }
+    {
+        self.log.listened(true)
+    }
+
+    fn connect(&mut self, _host: &[u8], _port: u32) -> Result<u64, FileError>
+        ensures logs { ShowsMade result (seen_in self.old.log) self.old.log self.new.log }
+        ensures fails { IsErr result }
+        ensures same { SamePlay self.old self.new }
+    {
+        self.log.connected(true)
+    }
+
+    fn unlisten(&mut self, _listener: u64)
+        ensures same { self.new ≡ self.old }
+    {}
+
+    fn pause(&mut self, _stream: u64)
+        ensures same { self.new ≡ self.old }
+    {}
+
+    fn resume(&mut self, _stream: u64)
+        ensures same { self.new ≡ self.old }
+    {}
+
+    fn finish(&mut self, _stream: u64)
+        ensures same { self.new ≡ self.old }
+    {}
+
     fn tally(&self) -> Tally
         ensures { result ≡ tally_of self.now }
     {
@@ -166,6 +223,7 @@ impl DrillWire {
         ensures turn { TurnFits result.turn want self.now.log.listens self.now.log.last
             self.now.log.streams
             self.now.log.blocked (piece_of result.change self.now.play) }
+        ensures own_turn { OwnFits result.turn [] [] self.now.log.last_own }
         ensures gives { want ≡ Read → result.turn ≢ NoMemory
             → GivesNext self.now.play self.now.log result }
         ensures starved { result.turn ≡ NoMemory → result.change ≡ Nothing }

@@ -1,7 +1,7 @@
 //! How a drill is played, turn by turn.
-ghost use Rattle.std.specs.Prelude.{◌≡◌, ◌≢◌, ◌≤◌, length, IsTrue, IfOk, true, false};
+ghost use Rattle.std.specs.Prelude.{◌≡◌, ◌≢◌, ◌≤◌, [], length, IsTrue, IfOk, true, false};
 ghost use Rattle.mux_outside.specs.Streams.{among};
-ghost use Rattle.mux_outside.specs.Wire.{TurnFits};
+ghost use Rattle.mux_outside.specs.Wire.{OwnFits, TurnFits};
 ghost use Rattle.mux_outside.specs.declared.turn.Want.TheVariants.{Read};
 ghost use Rattle.mux_outside.specs.declared.turn.Turn.TheVariants.{End, NoMemory};
 ghost use Rattle.mux_drill.specs.declared.stage.Stage.TheVariants.{Ending};
@@ -17,7 +17,7 @@ use crate::plan::Plan;
 use crate::saying::{Saying, first_piece};
 use crate::stage::Stage;
 use crate::step::Step;
-use mux_outside::{Turn, WireLog};
+use mux_outside::{LAST_CLIENT, Turn, WireLog};
 use ssh_fields::OutOfMemory;
 use std::alloc::Global;
 
@@ -55,7 +55,10 @@ fn may_happen(turn: Turn, log: &WireLog, unread: &Inboxes) -> bool
     ensures { result ≡ may_happen turn log.now unread.now }
 {
     match turn {
-        Turn::Accepted(client) => log.is_listening() && (0 < client && client - 1 == log.last()),
+        Turn::Accepted(client) => {
+            log.is_listening()
+                && (0 < client && (client - 1 == log.last() && log.last() < LAST_CLIENT))
+        }
         Turn::Got(stream) => log.streams().contains(stream),
         Turn::End(0) => log.streams().contains(0) && unread.all_read(),
         Turn::End(stream) => log.streams().contains(stream),
@@ -73,6 +76,7 @@ fn speaker_of(turn: Turn) -> u64
         Turn::End(stream) => stream,
         Turn::Writable(stream) => stream,
         Turn::Failed(stream) => stream,
+        Turn::Joined(_, stream) => stream,
         Turn::NoMemory => 0,
     }
 }
@@ -120,6 +124,7 @@ impl Play {
         requires { IsTrue (among 0 log.now.streams) }
         ensures fits { TurnFits result.turn Read log.now.listens log.now.last log.now.streams
             log.now.blocked (piece_of result.change self.now) }
+        ensures own_turn { OwnFits result.turn [] [] log.now.last_own }
         ensures gives { result.turn ≢ NoMemory → GivesNext self.now log.now result }
         ensures starved { result.turn ≡ NoMemory → result.change ≡ Nothing }
         ensures ends { result.turn ≡ End 0 → self.now.course.stage ≡ Ending }
@@ -137,6 +142,7 @@ impl Play {
         requires speaks { speaks self.now.said ≡ true }
         ensures fits { TurnFits result.turn Read log.now.listens log.now.last log.now.streams
             log.now.blocked (piece_of result.change self.now) }
+        ensures own_turn { OwnFits result.turn [] [] log.now.last_own }
         ensures gives { result.turn ≢ NoMemory → GivesNext self.now log.now result }
         ensures starved { result.turn ≢ NoMemory }
         ensures ends { result.turn ≢ End 0 }
@@ -159,6 +165,7 @@ impl Play {
         requires silent { speaks self.now.said ≡ false }
         ensures fits { TurnFits result.turn Read log.now.listens log.now.last log.now.streams
             log.now.blocked (piece_of result.change self.now) }
+        ensures own_turn { OwnFits result.turn [] [] log.now.last_own }
         ensures gives { result.turn ≢ NoMemory → GivesNext self.now log.now result }
         ensures starved { result.turn ≡ NoMemory → result.change ≡ Nothing }
         ensures ends { result.turn ≡ End 0 → self.now.course.stage ≡ Ending }

@@ -6,6 +6,7 @@ use Rattle.std.proofs.lemmas.Bool.{eqb-true, eq-eqb}
 use Rattle.std.proofs.lemmas.Bool.Decides.{eqb_tells}
 use Rattle.mux_outside.specs.Counts.{Rose, counted}
 use Rattle.mux_outside.specs.Seen.{Calls, calls_after_one, calls_after_wait, is_starved}
+use Rattle.mux_outside.specs.OwnStreams.{is_own}
 use Rattle.mux_outside.specs.Wire.{StreamFault}
 use Rattle.mux_outside.specs.declared.mark.Mark.{Mark}
 use Rattle.mux_outside.specs.declared.mark.Mark.TheVariants.{WriteFails}
@@ -13,7 +14,7 @@ use Rattle.mux_outside.specs.declared.turn.Turn.{Turn}
 use Rattle.mux_history.specs.declared.ended.Ended.{Ended}
 use Rattle.mux_history.specs.declared.ended.Ended.TheVariants as ended
 use Rattle.mux_machine.specs.declared.event.Event.{Event}
-use Rattle.mux_machine.specs.declared.event.Event.TheVariants.{Accepted, FromClient, ClientEnd, ClientFailed, FromServer, ServerEnd, ServerFailed}
+use Rattle.mux_machine.specs.declared.event.Event.TheVariants.{Accepted, FromClient, ClientEnd, ClientFailed, HouseSays, FromServer, ServerEnd, ServerFailed}
 use Rattle.mux_machine.specs.State.{State, numbers, queue_in}
 use Rattle.mux_machine.specs.Events.{Keeps, MayEnd, SameStreams, Tells, here}
 use Rattle.mux_engine.specs.Counted.{Counts, Cut, Waited, Well}
@@ -155,6 +156,7 @@ failing (Accepted j) k old new t keeps ends = absurd (cc)
 failing (FromClient j bytes) k old new t keeps ends = absurd (let z = t.1 in cc)
 failing (ClientEnd j) k old new t keeps ends = absurd (let z = t.1 in cc)
 failing (ClientFailed j) k old new t keeps ends = elim t.1 [ inl m ↦ absurd (cc) | inr m ↦ client-fails k j old new t.0 (sym (ap stream-of m)) keeps ends ]
+failing (HouseSays j id reply) k old new t keeps ends = absurd (let z = t.1 in cc)
 failing (FromServer bytes) k old new t keeps ends = absurd (cc)
 failing ServerEnd k old new t keeps ends = absurd (cc)
 failing ServerFailed k old new t keeps ends = elim t [ inl m ↦ absurd (cc) | inr m ↦ server-fails k old new (ap stream-of m) keeps ends ]
@@ -166,11 +168,11 @@ fault-ended k old new a b c d f fault = elim (eqb_tells k 0) [
   | inr q ↦ inl (f.client q.1, le-of a b (sym (of-client (k == 0) q.0 fault)))
 ]
   where
-    of-server : (t : Bool) → t ≡ true → MatchBool t (Rose a b × (d ≡ c)) ((b ≡ a) × Rose c d) → Rose a b
+    of-server : (t : Bool) → t ≡ true → MatchBool t (Rose a b × (d ≡ c)) ((b ≡ a) × MatchBool (is_own k) (d ≡ c) (Rose c d)) → Rose a b
     of-server true e x = x.0
     of-server false e x = absurd (cc)
 
-    of-client : (t : Bool) → t ≡ false → MatchBool t (Rose a b × (d ≡ c)) ((b ≡ a) × Rose c d) → b ≡ a
+    of-client : (t : Bool) → t ≡ false → MatchBool t (Rose a b × (d ≡ c)) ((b ≡ a) × MatchBool (is_own k) (d ≡ c) (Rose c d)) → b ≡ a
     of-client true e x = absurd (cc)
     of-client false e x = x.0
 
@@ -178,7 +180,7 @@ fault-ended k old new a b c d f fault = elim (eqb_tells k 0) [
 pub fault-later : (k a b c d : ℕ) → StreamFault k a b c d → a ≤ b
 fault-later k a b c d f = by_test (k == 0) f
   where
-    by_test : (t : Bool) → MatchBool t (Rose a b × (d ≡ c)) ((b ≡ a) × Rose c d) → a ≤ b
+    by_test : (t : Bool) → MatchBool t (Rose a b × (d ≡ c)) ((b ≡ a) × MatchBool (is_own k) (d ≡ c) (Rose c d)) → a ≤ b
     by_test true x = let r : Rose a b = x.0 in r.later
     by_test false x = le-of a b (sym x.0)
 

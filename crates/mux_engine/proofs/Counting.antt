@@ -1,10 +1,11 @@
 -- What a turn counts, and how it may end a run.
-use Rattle.std.proofs.Common.{◌≡◌, ◌≢◌, ◌≤◌, ◌<◌, ◌+◌, ◌-◌, ◌^◌, ℕ, Bool, true, false, List, Option, Some, None, refl, sym, ap, ◌∙◌, subst, inl, inr, cond, arith}
-use Rattle.std.specs.Prelude.{◌==◌, min, Result, Ok, Err}
+use Rattle.std.proofs.Common.{◌≡◌, ◌≢◌, ◌≤◌, ◌+◌, ℕ, Bool, true, false, List, Option, Some, None, refl, sym, ap, ◌∙◌, subst, inl, inr, cond, arith}
+use Rattle.std.specs.Prelude.{◌==◌, Result, Ok, Err}
 use Rattle.std.specs.Bool.{MatchBool}
 use Rattle.std.proofs.lemmas.Bool.{eq-eqb}
 use Rattle.mux_outside.specs.Counts.{Rose, counted}
 use Rattle.mux_outside.specs.Seen.{Calls, calls_after_wait, is_starved}
+use Rattle.mux_outside.specs.OwnStreams.{is_own}
 use Rattle.mux_outside.specs.Wire.{SameFaults, TurnFaults}
 use Rattle.mux_outside.specs.declared.mark.Mark.{Mark}
 use Rattle.mux_outside.specs.declared.mark.Mark.TheVariants.{Accepts, Gets, Ends, Fails, WriteFails}
@@ -13,11 +14,12 @@ use Rattle.mux_outside.specs.declared.turn.Turn.TheVariants as turn
 use Rattle.mux_history.specs.declared.ended.Ended.{Ended}
 use Rattle.mux_history.specs.declared.ended.Ended.TheVariants as ended
 use Rattle.mux_machine.specs.declared.event.Event.{Event}
-use Rattle.mux_machine.specs.declared.event.Event.TheVariants.{Accepted, FromClient, ClientEnd, ClientFailed, FromServer, ServerEnd, ServerFailed}
+use Rattle.mux_machine.specs.declared.event.Event.TheVariants.{Accepted, FromClient, ClientEnd, ClientFailed, HouseSays, FromServer, ServerEnd, ServerFailed}
 use Rattle.mux_machine.specs.Events.{MayEnd, Tells}
-use Rattle.mux_engine.specs.Counted.{Counts, Cut, Stops, Waited, Well}
+use Rattle.mux_engine.specs.Counted.{Counts, Cut}
+use Rattle.mux_engine.specs.Rests.{IsByRow}
 use Rattle.mux_engine.specs.Serving.{StaysOrFails}
-use Rattle.mux_engine.specs.Turns.{IsNext}
+use Rattle.mux_engine.specs.Turns.{IsEventOf}
 use Rattle.mux_engine.proofs.Arms.{well-wait}
 
 -- ---- calls
@@ -37,25 +39,21 @@ pub cut-wait : (t : Turn) (c : Calls) → Cut 1 c (calls_after_wait t c)
 cut-wait t c = record { few = counted-most c.waits; wants = wants-wait (is_starved t) c; late = late-wait t c }
 
 -- one that found memory, where its turn told an event
-tells-event : (e : Event) (t : Turn) (bytes : List ℕ) → IsNext (Some e) t bytes → is_starved t ≡ false
+tells-event : (e : Event) (t : Turn) (bytes : List ℕ) → IsEventOf e t bytes → is_starved t ≡ false
 tells-event e (turn.Accepted k) bytes next = refl
 tells-event e (turn.Got k) bytes next = refl
 tells-event e (turn.End k) bytes next = refl
 tells-event e (turn.Failed k) bytes next = refl
 tells-event e (turn.Writable k) bytes next = absurd next
+tells-event e (turn.Joined l k) bytes next = absurd next
 tells-event e turn.NoMemory bytes next = absurd next
 
-pub counts-event : {A E : Type 0} (r : Result A E) (e : Event) (t : Turn) (bytes : List ℕ) (c : Calls) → IsNext (Some e) t bytes → Counts 1 r c (calls_after_wait t c)
+pub counts-event : {A E : Type 0} (r : Result A E) (e : Event) (t : Turn) (bytes : List ℕ) (c : Calls) → IsEventOf e t bytes → Counts 1 r c (calls_after_wait t c)
 counts-event (Ok x) e t bytes c next = well-wait t c (tells-event e t bytes next)
 counts-event (Err x) e t bytes c next = cut-wait t c
 
 pub cut-none : (n : ℕ) (c : Calls) → Cut n c c
 cut-none n c = record { few = omega arith; wants = omega arith; late = λ z. refl }
-
--- first so many waits, then so many at most
-pub cut-on : (m n k : ℕ) (a b c : Calls) → m + n ≤ k → Well m a b → Cut n b c → Cut k a c
-cut-on m n k a b c le v w = let f : b.waits ≤ a.waits + m = v.waited.most in let g : c.waits ≤ b.waits + n = w.few in let e : b.wants ≡ a.wants = v.wants in let h : c.wants ≤ b.wants + 1 = w.wants in
-    record { few = omega arith; wants = omega arith; late = λ z. w.late (v.wants ∙ z) ∙ v.late z }
 
 -- ---- what a whole run counts
 
@@ -65,39 +63,6 @@ none-more given turns le = omega arith
 pub more-none : (given : ℕ) → given + 0 ≡ given
 more-none given = omega arith
 
-pub none-of : (given turns : ℕ) → given ≤ turns → turns ≡ 0 → given ≡ 0
-none-of given turns le z = omega arith
-
-all-waited : (n a b : ℕ) → Waited n a b → a < 2 ^ 64 → b ≡ min (a + n) (2 ^ 64 - 1)
-all-waited n a b w h = let m : b ≤ a + n = w.most in let l : min (a + n) (2 ^ 64 - 1) ≤ b = w.least in let f : b < 2 ^ 64 = w.fits h in omega arith
-
-some-waited : (n a b : ℕ) → n ≢ 0 → Waited n a b → counted a ≤ b
-some-waited n a b nz w = let l : min (a + n) (2 ^ 64 - 1) ≤ b = w.least in omega arith
-
--- one that want of memory cut short
-pub stops-cut : (turns : ℕ) (a b : Calls) → Cut turns a b → Stops turns ended.OutOfMemory a b
-stops-cut turns a b c = record {
-  few = c.few;
-  spent = λ e h. absurd (let z : ended.OutOfMemory ≡ ended.Spent = e in cc);
-  ends = λ s o. absurd (o refl);
-  wants = c.wants;
-  starved = λ n. refl;
-  late = c.late;
-}
-
--- one that waited so often
-pub stops-well : (given turns : ℕ) (answer : Ended) (a b : Calls) → given ≤ turns → (answer ≡ ended.Spent → given ≡ turns) → (given ≡ 0 → answer ≡ ended.Spent) → Well given a b → Stops turns answer a b
-stops-well given turns answer a b le spent none w =
-    let m : b.waits ≤ a.waits + given = w.waited.most in let e : b.wants ≡ a.wants = w.wants in
-    record {
-      few = omega arith;
-      spent = λ s h. all-waited turns a.waits b.waits (subst (λ n. Waited n a.waits b.waits) (spent s) w.waited) h;
-      ends = λ ns no. some-waited given a.waits b.waits (λ z. ns (none z)) w.waited;
-      wants = omega arith;
-      starved = λ n. absurd (n e);
-      late = w.late;
-    }
-
 -- one that gave no turn: no count of faults rose
 pub same-faults : {V : Type 0} (server client : V → ℕ) (old new : V) → new ≡ old → SameFaults (server old) (server new) (client old) (client new)
 same-faults server client old new e = record { same_server = ap server e; same_client = ap client e }
@@ -105,9 +70,6 @@ same-faults server client old new e = record { same_server = ap server e; same_c
 -- the counts stay over what leaves the wire as it was, and what leaves its counts
 pub faults-then : {V : Type 0} (server client : V → ℕ) (old mid new : V) → mid ≡ old → SameFaults (server mid) (server new) (client mid) (client new) → SameFaults (server old) (server new) (client old) (client new)
 faults-then server client old mid new e f = record { same_server = f.same_server ∙ ap server e; same_client = f.same_client ∙ ap client e }
-
-pub then-same : {V : Type 0} (server client : V → ℕ) (old mid new : V) → new ≡ mid → SameFaults (server old) (server mid) (client old) (client mid) → SameFaults (server old) (server new) (client old) (client new)
-then-same server client old mid new e f = record { same_server = ap server e ∙ f.same_server; same_client = ap client e ∙ f.same_client }
 
 -- ---- the server's stream
 
@@ -120,6 +82,7 @@ failed-by ServerFailed o may is = tt
 failed-by (Accepted k) o may is = absurd (let z : None ≡ Some ended.ServerFailed = sym may ∙ is in cc)
 failed-by (ClientEnd k) o may is = absurd (let z : None ≡ Some ended.ServerFailed = sym may ∙ is in cc)
 failed-by (ClientFailed k) o may is = absurd (let z : None ≡ Some ended.ServerFailed = sym may ∙ is in cc)
+failed-by (HouseSays k id reply) o may is = absurd (let z : None ≡ Some ended.ServerFailed = sym may ∙ is in cc)
 failed-by (FromClient k bytes) o may is = absurd (may.0 is)
 failed-by (FromServer bytes) o may is = absurd (may.0 is)
 failed-by ServerEnd o may is = absurd (may.0 is)
@@ -133,6 +96,7 @@ failed-stream ServerFailed k is t = elim t [ inl m ↦ ap stream-of m | inr m �
 failed-stream (Accepted j) k is t = absurd is
 failed-stream (ClientEnd j) k is t = absurd is
 failed-stream (ClientFailed j) k is t = absurd is
+failed-stream (HouseSays j id reply) k is t = absurd is
 failed-stream (FromClient j bytes) k is t = absurd is
 failed-stream (FromServer bytes) k is t = absurd is
 failed-stream ServerEnd k is t = absurd is
@@ -142,24 +106,26 @@ not-told ServerFailed mark is t f g = elim t [ inl m ↦ f m | inr m ↦ g m ]
 not-told (Accepted j) mark is t f g = is
 not-told (ClientEnd j) mark is t f g = is
 not-told (ClientFailed j) mark is t f g = is
+not-told (HouseSays j id reply) mark is t f g = is
 not-told (FromClient j bytes) mark is t f g = is
 not-told (FromServer bytes) mark is t f g = is
 not-told ServerEnd mark is t f g = is
 
 -- its count rose where a turn ended the run so
-rose-by : (e : Event) (t : Turn) (bytes : List ℕ) (a b c d : ℕ) → IsServerFailed e → IsNext (Some e) t bytes → TurnFaults t a b c d → Rose a b
-rose-by e (turn.Failed k) bytes a b c d is next f = by_server (k == 0) (eq-eqb k 0 (failed-stream e k is next)) f
+rose-by : (e : Event) (t : Turn) (bytes : List ℕ) (a b c d : ℕ) → IsServerFailed e → IsEventOf e t bytes → TurnFaults t a b c d → Rose a b
+rose-by e (turn.Failed k) bytes a b c d is next f = by_server (k == 0) (eq-eqb k 0 (failed-stream e k is next.1)) f
   where
-    by_server : (t : Bool) → t ≡ true → MatchBool t (Rose a b × (d ≡ c)) ((b ≡ a) × Rose c d) → Rose a b
+    by_server : (t : Bool) → t ≡ true → MatchBool t (Rose a b × (d ≡ c)) ((b ≡ a) × MatchBool (is_own k) (d ≡ c) (Rose c d)) → Rose a b
     by_server true e f = f.0
     by_server false e f = absurd (cc)
 rose-by e (turn.Accepted k) bytes a b c d is next f = absurd (not-told e (Accepts k) is next (λ z. cc) (λ z. cc))
-rose-by e (turn.Got k) bytes a b c d is next f = absurd (not-told e (Gets k bytes) is next (λ z. cc) (λ z. cc))
-rose-by e (turn.End k) bytes a b c d is next f = absurd (not-told e (Ends k) is next (λ z. cc) (λ z. cc))
+rose-by e (turn.Got k) bytes a b c d is next f = absurd (not-told e (Gets k bytes) is next.1 (λ z. cc) (λ z. cc))
+rose-by e (turn.End k) bytes a b c d is next f = absurd (not-told e (Ends k) is next.1 (λ z. cc) (λ z. cc))
 rose-by e (turn.Writable k) bytes a b c d is next f = absurd next
+rose-by e (turn.Joined l k) bytes a b c d is next f = absurd next
 rose-by e turn.NoMemory bytes a b c d is next f = absurd next
 
-pub turn-rose : (e : Event) (o : Option Ended) (t : Turn) (bytes : List ℕ) (a b c d : ℕ) → MayEnd e o → IsNext (Some e) t bytes → TurnFaults t a b c d → o ≡ Some ended.ServerFailed → Rose a b
+pub turn-rose : (e : Event) (o : Option Ended) (t : Turn) (bytes : List ℕ) (a b c d : ℕ) → MayEnd e o → IsEventOf e t bytes → TurnFaults t a b c d → o ≡ Some ended.ServerFailed → Rose a b
 turn-rose e o t bytes a b c d may next f over = rose-by e t bytes a b c d (failed-by e o may over) next f
 
 same-later : (a b : ℕ) → b ≡ a → a ≤ b
@@ -171,24 +137,40 @@ turn-later (turn.Accepted k) a b c d f = same-later a b f.same_server
 turn-later (turn.Got k) a b c d f = same-later a b f.same_server
 turn-later (turn.End k) a b c d f = same-later a b f.same_server
 turn-later (turn.Writable k) a b c d f = same-later a b f.same_server
+turn-later (turn.Joined l k) a b c d f = same-later a b f.same_server
 turn-later turn.NoMemory a b c d f = same-later a b f.same_server
 turn-later (turn.Failed k) a b c d f = by_server (k == 0) f
   where
-    by_server : (t : Bool) → MatchBool t (Rose a b × (d ≡ c)) ((b ≡ a) × Rose c d) → a ≤ b
+    by_server : (t : Bool) → MatchBool t (Rose a b × (d ≡ c)) ((b ≡ a) × MatchBool (is_own k) (d ≡ c) (Rose c d)) → a ≤ b
     by_server true f = let r : Rose a b = f.0 in r.later
     by_server false f = same-later a b f.0
 
 -- ---- how a run ends
 
 -- no event spends the turns
-pub turn-unspent : (e : Event) (o : Option Ended) → MayEnd e o → o ≢ Some ended.Spent
+turn-unspent : (e : Event) (o : Option Ended) → MayEnd e o → o ≢ Some ended.Spent
 turn-unspent (Accepted k) o may is = let z : None ≡ Some ended.Spent = sym may ∙ is in cc
 turn-unspent (ClientEnd k) o may is = let z : None ≡ Some ended.Spent = sym may ∙ is in cc
 turn-unspent (ClientFailed k) o may is = let z : None ≡ Some ended.Spent = sym may ∙ is in cc
+turn-unspent (HouseSays k id reply) o may is = let z : None ≡ Some ended.Spent = sym may ∙ is in cc
 turn-unspent ServerFailed o may is = let z : Some ended.ServerFailed ≡ Some ended.Spent = sym may ∙ is in cc
 turn-unspent (FromClient k bytes) o may is = may.1 is
 turn-unspent (FromServer bytes) o may is = may.1 is
 turn-unspent ServerEnd o may is = may.1 is
+
+-- and none refuses a forwarding that the run began with
+turn-permitted : (e : Event) (o : Option Ended) → MayEnd e o → (index : ℕ) → o ≢ Some (ended.StartRefused index)
+turn-permitted (Accepted k) o may index is = let z : None ≡ Some (ended.StartRefused index) = sym may ∙ is in cc
+turn-permitted (ClientEnd k) o may index is = let z : None ≡ Some (ended.StartRefused index) = sym may ∙ is in cc
+turn-permitted (ClientFailed k) o may index is = let z : None ≡ Some (ended.StartRefused index) = sym may ∙ is in cc
+turn-permitted (HouseSays k id reply) o may index is = let z : None ≡ Some (ended.StartRefused index) = sym may ∙ is in cc
+turn-permitted ServerFailed o may index is = let z : Some ended.ServerFailed ≡ Some (ended.StartRefused index) = sym may ∙ is in cc
+turn-permitted (FromClient k bytes) o may index is = may.2 index is
+turn-permitted (FromServer bytes) o may index is = may.2 index is
+turn-permitted ServerEnd o may index is = may.2 index is
+
+pub turn-by-row : (e : Event) (o : Option Ended) → MayEnd e o → IsByRow o
+turn-by-row e o may = record { unspent = turn-unspent e o may; permitted = turn-permitted e o may }
 
 counted-least : (m n : ℕ) → m ≤ n → counted m ≤ counted n
 counted-least m n h = omega arith
@@ -197,21 +179,13 @@ pub rose-behind : (m n o : ℕ) → m ≤ n → Rose n o → Rose m o
 rose-behind m n o h r = let l : n ≤ o = r.later in let c : counted n ≤ o = r.rose in let d : counted m ≤ counted n = counted-least m n h in
     record { later = omega arith; rose = omega arith }
 
-rose-before : (m n o : ℕ) → Rose m n → n ≤ o → Rose m o
-rose-before m n o r h = let l : m ≤ n = r.later in let c : counted m ≤ n = r.rose in record { later = omega arith; rose = omega arith }
-
--- a run that went on ended for the server's stream, or goes on
-pub fails-live : (old new : Option Ended) (a b : ℕ) (cause : Ended) → StaysOrFails old new a b → old ≡ None → new ≡ Some cause → Rose a b
-fails-live old new a b cause (inl s) on is = let z : None ≡ Some cause = sym on ∙ (sym s.0 ∙ is) in absurd (let h = z in cc)
-fails-live old new a b cause (inr f) on is = f.1
-
--- where the server's stream failed, its count rose by then
-pub fails-then : (old new : Option Ended) (a b c : ℕ) → a ≤ b → (old ≡ Some ended.ServerFailed → Rose a b) → StaysOrFails old new b c → new ≡ Some ended.ServerFailed → Rose a c
-fails-then old new a b c le was (inl s) is = rose-before a b c (was (sym s.0 ∙ is)) s.1
-fails-then old new a b c le was (inr f) is = rose-behind a b c le f.1
-
 pub later-on : (a b c : ℕ) → a ≤ b → b ≤ c → a ≤ c
 later-on a b c f g = omega arith
 
-pub later-then : (a b c d : ℕ) → a ≤ b → b ≤ c → c ≤ d → a ≤ d
-later-then a b c d f g h = omega arith
+-- a run that went on is ended by a row, if at all
+pub stays-by-row : (old new : Option Ended) (a b : ℕ) → StaysOrFails old new a b → IsByRow old → IsByRow new
+stays-by-row old new a b (inl s) row = subst IsByRow (sym s.0) row
+stays-by-row old new a b (inr f) row = record {
+  unspent = λ is. let z : Some ended.ServerFailed ≡ Some ended.Spent = sym f.0 ∙ is in cc;
+  permitted = λ index is. let z : Some ended.ServerFailed ≡ Some (ended.StartRefused index) = sym f.0 ∙ is in cc;
+}

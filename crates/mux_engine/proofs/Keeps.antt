@@ -9,7 +9,7 @@ use Rattle.mux_history.specs.Log.{Setting}
 use Rattle.mux_history.specs.Settings.{by_lists}
 use Rattle.mux_history.specs.Right.{AreFresh, IsRight}
 use Rattle.mux_history.specs.Journal.{bytes_of}
-use Rattle.mux_history.specs.Promises.{Throughout, WaitsAt}
+use Rattle.mux_history.specs.Promises.{SpeaksInTime, Throughout, WaitsAt}
 use Rattle.mux_history.proofs.Journals.{logs-right}
 use Rattle.mux_history.proofs.Picks.{picks-taken}
 use Rattle.mux_history.proofs.RightLogs.{right-known, numbers-apart}
@@ -38,8 +38,8 @@ module _ (policy : Policy) (pid : ℕ) (picks : List ℕ) (given : List HouseRep
   setting = by_lists policy pid picks given
 
   -- a right log
-  pub of-right : (journal : List Mark) (left : ℕ) (rows : List Row) → IsOfWire journal → Throughout (WaitsAt setting) journal → IsLog setting journal rows → IsRight setting journal left rows → KeepsRows setting rows
-  of-right journal left rows wire waits is right =
+  pub of-right : (journal : List Mark) (left : ℕ) (rows : List Row) → IsOfWire journal → Throughout (WaitsAt setting) journal → Throughout (SpeaksInTime setting) journal → IsLog setting journal rows → IsRight setting journal left rows → KeepsRows setting rows
+  of-right journal left rows wire waits speaks is right =
       let known = right-known policy pid picks given journal left rows wire.lawful right in
       record {
         kept = record {
@@ -62,17 +62,17 @@ module _ (policy : Policy) (pid : ℕ) (picks : List ℕ) (given : List HouseRep
         clients = matters-bounded policy pid rows known;
         nothing_left = leaves-nothing policy pid rows known;
         client_queues = queues-bounded policy pid rows known;
-        server_queue = runs-bounded policy pid picks given journal rows wire.lawful is right.fresh wire.asked waits;
+        server_queue = runs-bounded policy pid picks given journal rows wire.lawful is right.fresh wire.asked waits speaks;
       }
 
   -- the log of a journal, whole or cut
-  pub keeps-rows : (journal : List Mark) (rows : List Row) → IsOfWire journal → Throughout (WaitsAt setting) journal → IsLog setting journal rows → AreFresh rows → KeepsRows setting rows
-  keeps-rows journal rows wire waits (inl e) fresh =
-      of-right journal 0 rows wire waits (inl e)
+  pub keeps-rows : (journal : List Mark) (rows : List Row) → IsOfWire journal → Throughout (WaitsAt setting) journal → Throughout (SpeaksInTime setting) journal → IsLog setting journal rows → AreFresh rows → KeepsRows setting rows
+  keeps-rows journal rows wire waits speaks (inl e) fresh =
+      of-right journal 0 rows wire waits speaks (inl e)
       (subst (IsRight setting journal 0) (sym e) ((logs-right policy pid picks given journal).whole (subst AreFresh e fresh)))
-  keeps-rows journal rows wire waits (inr cut) fresh =
+  keeps-rows journal rows wire waits speaks (inr cut) fresh =
       let right = (logs-right policy pid picks given journal).cut rows cut fresh in
-      of-right journal right.0 rows wire waits (inr cut) right.1
+      of-right journal right.0 rows wire waits speaks (inr cut) right.1
 
 pub rests-short : (journal : List Mark) (t : ℕ) → RestsShort (bytes_of t journal)
 rests-short journal t = record { client = rest-few InControl (bytes_of t journal); server = rest-few InProxy (bytes_of t journal) }

@@ -1,10 +1,14 @@
 -- Lists of streams, and the streams that are open.
-use Rattle.std.proofs.Common.{◌≡◌, ◌≢◌, ◌<◌, ◌+◌, ℕ, zero, suc, Bool, true, false, not, ◌||◌, List, [], ◌∷◌, ◌++◌, length, get_or, drop, refl, sym, ap, ◌∙◌, inl, inr, cond, arith, drop-cons}
-use Rattle.std.specs.Prelude.{◌==◌}
+use Rattle.std.proofs.Common.{◌≡◌, ◌≢◌, ◌<◌, ◌+◌, ℕ, zero, suc, Bool, true, false, not, ◌||◌, ◌&&◌, List, [], ◌∷◌, ◌++◌, length, get_or, drop, refl, sym, ap, ◌∙◌, inl, inr, cond, arith, drop-cons}
+use Rattle.std.specs.Prelude.{◌==◌, filter}
 use Rattle.std.proofs.lemmas.Bool.{eq-eqb}
 use Rattle.std.proofs.lemmas.Bool.Decides.{eqb_tells}
 use Rattle.std.proofs.lemmas.List.Folds.{list_any-append}
+use Rattle.mux_outside.specs.OwnStreams.{is_own}
 use Rattle.mux_outside.specs.Streams.{among, without}
+use Rattle.mux_history.specs.declared.limits.TheConstants.{HOUSE}
+use Rattle.mux_history.specs.Journal.{is_own_stream}
+use Rattle.mux_history.specs.Promises.{not_own}
 use Rattle.mux_clients.specs.State.{ClientState}
 use Rattle.mux_clients.specs.Among.{is_present}
 use Rattle.mux_machine.specs.State.{State, in_client, is_here, numbers}
@@ -74,6 +78,58 @@ element-among (suc i) (x ∷ xs) lt = ap (λ b. (x == get_or xs i 0) || b) (elem
 
 pub drop-next : (i : ℕ) (xs : List ℕ) → i < length xs → drop i xs ≡ get_or xs i 0 ∷ drop (i + 1) xs
 drop-next i xs lt = let e : suc i ≡ i + 1 = omega arith in drop-cons xs i 0 lt ∙ ap (λ m. get_or xs i 0 ∷ drop m xs) e
+
+-- ---- lists without the master's own
+
+pub and-first : (a b : Bool) → (a && b) ≡ true → a ≡ true
+and-first true b e = refl
+and-first false b e = e
+
+pub and-second : (a b : Bool) → (a && b) ≡ true → b ≡ true
+and-second true b e = e
+and-second false b e = true-false (sym e)
+
+-- what is in a list that was filtered
+pub among-filter : (P : ℕ → Bool) (t : ℕ) (xs : List ℕ) → among t (filter P xs) ≡ (P t && among t xs)
+among-filter P t [] = sym (and-false (P t))
+  where
+    and-false : (b : Bool) → (b && false) ≡ false
+    and-false true = refl
+    and-false false = refl
+among-filter P t (x ∷ xs) = by_head (among-filter P t xs) (x == t) refl (P x) refl
+  where
+    same : (x == t) ≡ true → x ≡ t
+    same e = elim (eqb_tells x t) [ inl q ↦ q.1 | inr q ↦ true-false (sym e ∙ q.0) ]
+
+    or-right : (b : Bool) → (b || true) ≡ true
+    or-right true = refl
+    or-right false = refl
+
+    no-and : (b c : Bool) → b ≡ false → (b && c) ≡ false
+    no-and b c e = ap (λ x. x && c) e
+
+    by_head : among t (filter P xs) ≡ (P t && among t xs) → (b : Bool) → (x == t) ≡ b → (c : Bool) → P x ≡ c → among t (cond c (x ∷ filter P xs) (filter P xs)) ≡ (P t && ((x == t) || among t xs))
+    by_head ih true e true f = ap (λ b. b || among t (filter P xs)) e ∙ sym (ap (λ b. P t && (b || among t xs)) e ∙ (ap (λ b. b && true) (ap P (sym (same e)) ∙ f)))
+    by_head ih true e false f = ih ∙ (no-and (P t) (among t xs) (ap P (sym (same e)) ∙ f) ∙ sym (no-and (P t) ((x == t) || among t xs) (ap P (sym (same e)) ∙ f)))
+    by_head ih false e true f = ap (λ b. b || among t (filter P xs)) e ∙ (ih ∙ sym (ap (λ b. P t && (b || among t xs)) e))
+    by_head ih false e false f = ih ∙ sym (ap (λ b. P t && (b || among t xs)) e)
+
+pub among-not-own : (t : ℕ) (xs : List ℕ) → is_own t ≡ false → among t (not_own xs) ≡ among t xs
+among-not-own t xs e = among-filter (λ (i : ℕ). not (is_own i)) t xs ∙ ap (λ b. not b && among t xs) e
+
+-- a number of the master's own is that of one of its streams, or of the house
+pub own-or-house : (t : ℕ) → is_own_stream t ≡ false → t ≢ HOUSE → is_own t ≡ false
+own-or-house t e ne = by_own (is_own t) refl
+  where
+    by_own : (b : Bool) → is_own t ≡ b → is_own t ≡ false
+    by_own false f = f
+    by_own true f = true-false (sym (ap (λ b. b && not (t == HOUSE)) f ∙ ap not (test-other t HOUSE ne)) ∙ e)
+
+pub own-stream : (t : ℕ) → is_own t ≡ true → t ≢ HOUSE → is_own_stream t ≡ true
+own-stream t e ne = ap (λ b. b && not (t == HOUSE)) e ∙ ap not (test-other t HOUSE ne)
+
+pub not-own-stream : (t : ℕ) → is_own t ≡ false → is_own_stream t ≡ false
+not-own-stream t e = ap (λ b. b && not (t == HOUSE)) e
 
 -- ---- the streams that are open
 

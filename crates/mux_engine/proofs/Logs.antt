@@ -1,18 +1,18 @@
 -- What one mark more makes of the rows: of the other streams it leaves what they had.
-use Rattle.std.proofs.Common.{◌≡◌, ◌≢◌, ℕ, Bool, true, false, not, ◌||◌, ◌&&◌, List, [], ◌∷◌, length, refl, sym, ap, ◌∙◌, inl, inr}
+use Rattle.std.proofs.Common.{◌≡◌, ◌≢◌, ℕ, Bool, true, false, not, ◌||◌, ◌&&◌, List, [], ◌∷◌, length, refl, sym, ap, ◌∙◌, inl, inr, cond}
 use Rattle.std.specs.Prelude.{◌==◌}
 use Rattle.std.proofs.lemmas.Bool.Decides.{eqb_tells}
 use Rattle.mux_outside.specs.declared.house.HouseReply.{HouseReply}
 use Rattle.mux_outside.specs.declared.mark.Mark.{Mark}
-use Rattle.mux_outside.specs.declared.mark.Mark.TheVariants.{Waits, Accepts, Gets, Ends, Frees, Fails, Takes, Holds, WriteFails}
+use Rattle.mux_outside.specs.declared.mark.Mark.TheVariants.{Waits, Accepts, Gets, Ends, Frees, Fails, Takes, Holds, WriteFails, Joins, House}
 use Rattle.mux_history.specs.Policy.{Policy}
 use Rattle.mux_history.specs.Rows.{Row, rows_of, is_out, is_end, is_ended, loses, is_refusal, Item, Gone, Took, ServerFailed}
 use Rattle.mux_history.specs.Pending.{pending, pending_down, pending_up}
 use Rattle.mux_history.specs.Steps.{TakeStep, take_row}
 use Rattle.mux_history.specs.Settings.{by_lists}
 use Rattle.mux_history.specs.Log.{Setting, makes_next, more_all, more_of, next_row}
-use Rattle.mux_history.specs.Journal.{items_in, is_accepted, is_blocked, log_of_journal}
-use Rattle.mux_history.specs.Promises.{IsSettled, listens, stops, write_failed}
+use Rattle.mux_history.specs.Journal.{items_in, is_accepted, is_blocked, is_own_stream, lets_in, log_of_journal, unless_own}
+use Rattle.mux_history.specs.Promises.{IsSettled, has_failed, listens, stops, write_failed}
 use Rattle.mux_history.proofs.OwnRows.{idle_row}
 use Rattle.mux_history.proofs.PendingSteps.{take-leaves}
 use Rattle.mux_clients.proofs.Losses.{gone-row}
@@ -77,17 +77,18 @@ took-log policy pid picks replies rows t n = more-yes (by_lists policy pid picks
 -- ---- a stream that failed at a write
 
 -- of a client: it is gone
-lost-log : (policy : Policy) (pid : ℕ) (picks : List ℕ) (replies : List HouseReply) (k : ℕ) (marks : List Mark) → k ≢ 0 → (let set : Setting = by_lists policy pid picks replies in log_of_journal set (WriteFails k ∷ marks) ≡ more_of set (log_of_journal set marks) (Gone k))
-lost-log policy pid picks replies k marks nz =
+lost-log : (policy : Policy) (pid : ℕ) (picks : List ℕ) (replies : List HouseReply) (k : ℕ) (marks : List Mark) → k ≢ 0 → is_own_stream k ≡ false → (let set : Setting = by_lists policy pid picks replies in log_of_journal set (WriteFails k ∷ marks) ≡ more_of set (log_of_journal set marks) (Gone k))
+lost-log policy pid picks replies k marks nz client =
     let set : Setting = by_lists policy pid picks replies in
-    ap (λ b. more_all set (log_of_journal set marks) (elim b as (λ _. List Item) [ true ↦ ServerFailed ∷ [] | false ↦ Gone k ∷ [] ])) (test-other k 0 nz)
+    ap (λ b. more_all set (log_of_journal set marks) (elim b as (λ _. List Item) [ true ↦ ServerFailed ∷ [] | false ↦ unless_own k (Gone k ∷ []) ])) (test-other k 0 nz)
+    ∙ ap (λ b. more_all set (log_of_journal set marks) (elim b as (λ _. List Item) [ true ↦ [] | false ↦ Gone k ∷ [] ])) client
 
 gone-client : (policy : Policy) (pid : ℕ) (picks : List ℕ) (replies : List HouseReply) (k : ℕ) (rows : List Row) → (next_row (by_lists policy pid picks replies) rows (Gone k)).client ≡ k
 gone-client policy pid picks replies k rows = ap (λ (row : Row). row.client) (gone-row policy pid picks replies k rows)
 
 -- and out
-pub lost-out : (policy : Policy) (pid : ℕ) (picks : List ℕ) (replies : List HouseReply) (k : ℕ) (marks : List Mark) → k ≢ 0 → (let set : Setting = by_lists policy pid picks replies in is_ended (log_of_journal set marks) ≡ false → is_out (rows_of k (log_of_journal set (WriteFails k ∷ marks))) ≡ true)
-lost-out policy pid picks replies k marks nz live = ap (λ r. is_out (rows_of k r)) (lost-log policy pid picks replies k marks nz) ∙ by_out (is_out (rows_of k rows)) refl
+pub lost-out : (policy : Policy) (pid : ℕ) (picks : List ℕ) (replies : List HouseReply) (k : ℕ) (marks : List Mark) → k ≢ 0 → is_own_stream k ≡ false → (let set : Setting = by_lists policy pid picks replies in is_ended (log_of_journal set marks) ≡ false → is_out (rows_of k (log_of_journal set (WriteFails k ∷ marks))) ≡ true)
+lost-out policy pid picks replies k marks nz client live = ap (λ r. is_out (rows_of k r)) (lost-log policy pid picks replies k marks nz client) ∙ by_out (is_out (rows_of k rows)) refl
   where
     set : Setting
     set = by_lists policy pid picks replies
@@ -120,9 +121,13 @@ failed-rows policy pid picks replies k t marks ne nz = by_server (k == 0)
     rows : List Row
     rows = log_of_journal set marks
 
-    by_server : (b : Bool) → rows_of t (more_all set rows (elim b as (λ _. List Item) [ true ↦ ServerFailed ∷ [] | false ↦ Gone k ∷ [] ])) ≡ rows_of t rows
+    by_own : (b : Bool) → rows_of t (more_all set rows (elim b as (λ _. List Item) [ true ↦ [] | false ↦ Gone k ∷ [] ])) ≡ rows_of t rows
+    by_own true = refl
+    by_own false = one-other set t (Gone k) rows (ap (λ c. c == t) (gone-client policy pid picks replies k rows) ∙ test-other k t ne)
+
+    by_server : (b : Bool) → rows_of t (more_all set rows (elim b as (λ _. List Item) [ true ↦ ServerFailed ∷ [] | false ↦ unless_own k (Gone k ∷ []) ])) ≡ rows_of t rows
     by_server true = one-other set t ServerFailed rows (test-other 0 t (λ e. nz (sym e)))
-    by_server false = one-other set t (Gone k) rows (ap (λ c. c == t) (gone-client policy pid picks replies k rows) ∙ test-other k t ne)
+    by_server false = by_own (is_own_stream k)
 
 -- what waits for another client stays
 pub failed-pending : (policy : Policy) (pid : ℕ) (picks : List ℕ) (replies : List HouseReply) (k t : ℕ) (marks : List Mark) → k ≢ t → t ≢ 0 → (let set : Setting = by_lists policy pid picks replies in pending t (log_of_journal set (WriteFails k ∷ marks)) ≡ pending t (log_of_journal set marks))
@@ -135,10 +140,17 @@ failed-pending policy pid picks replies k t marks ne nz = by_number (log_of_jour
     by_number rows = ap (λ b. elim b as (λ _. List ℕ) [ true ↦ pending_up rows | false ↦ pending_down (rows_of t rows) ]) (test-other t 0 nz)
 
 pub took-pending : (policy : Policy) (pid : ℕ) (picks : List ℕ) (replies : List HouseReply) (k t : ℕ) (bytes : List ℕ) (marks : List Mark) → k ≢ t → (let set : Setting = by_lists policy pid picks replies in pending t (log_of_journal set (Takes k bytes ∷ marks)) ≡ pending t (log_of_journal set marks))
-took-pending policy pid picks replies k t bytes marks ne =
-    let set : Setting = by_lists policy pid picks replies in
-    let step : TakeStep k (length bytes) (log_of_journal set marks) = take-leaves k (length bytes) (log_of_journal set marks) in
-    ap (pending t) (took-log policy pid picks replies (log_of_journal set marks) k (length bytes)) ∙ step.others t (test-other t k (λ e. ne (sym e)))
+took-pending policy pid picks replies k t bytes marks ne = by_own (is_own_stream k)
+  where
+    set : Setting
+    set = by_lists policy pid picks replies
+
+    step : TakeStep k (length bytes) (log_of_journal set marks)
+    step = take-leaves k (length bytes) (log_of_journal set marks)
+
+    by_own : (b : Bool) → pending t (more_all set (log_of_journal set marks) (elim b as (λ _. List Item) [ true ↦ [] | false ↦ Took k (length bytes) ∷ [] ])) ≡ pending t (log_of_journal set marks)
+    by_own true = refl
+    by_own false = ap (pending t) (took-log policy pid picks replies (log_of_journal set marks) k (length bytes)) ∙ step.others t (test-other t k (λ e. ne (sym e)))
 
 -- ---- what the marks say of a stream
 
@@ -153,17 +165,26 @@ mark_stream (Fails k) = k
 mark_stream (Takes k bytes) = k
 mark_stream (Holds k) = k
 mark_stream (WriteFails k) = k
+mark_stream (Joins l k) = k
+mark_stream (House m) = 0
 
-pub blocked-other : (mark : Mark) (journal : List Mark) (t : ℕ) → mark_stream mark ≢ t → is_blocked t (mark ∷ journal) ≡ is_blocked t journal
-blocked-other (Waits waiting want streams listens) journal t ne = refl
-blocked-other (Accepts k) journal t ne = refl
-blocked-other (Gets k bytes) journal t ne = refl
-blocked-other (Ends k) journal t ne = refl
-blocked-other (Fails k) journal t ne = refl
-blocked-other (Takes k bytes) journal t ne = refl
-blocked-other (WriteFails k) journal t ne = refl
-blocked-other (Holds k) journal t ne = ap (λ b. elim b as (λ _. Bool) [ true ↦ true | false ↦ is_blocked t journal ]) (test-other k t ne)
-blocked-other (Frees k) journal t ne = ap (λ b. elim b as (λ _. Bool) [ true ↦ false | false ↦ is_blocked t journal ]) (test-other k t ne)
+-- it is no mark of the house
+abbrev pub NotHouse : Mark → Type 0
+NotHouse (House m) = ⊥
+NotHouse mark = Unit {0}
+
+pub blocked-other : (mark : Mark) (journal : List Mark) (t : ℕ) → NotHouse mark → mark_stream mark ≢ t → is_blocked t (mark ∷ journal) ≡ is_blocked t journal
+blocked-other (Waits waiting want streams listens) journal t plain ne = refl
+blocked-other (Accepts k) journal t plain ne = refl
+blocked-other (Gets k bytes) journal t plain ne = refl
+blocked-other (Ends k) journal t plain ne = refl
+blocked-other (Fails k) journal t plain ne = refl
+blocked-other (Takes k bytes) journal t plain ne = refl
+blocked-other (WriteFails k) journal t plain ne = refl
+blocked-other (Holds k) journal t plain ne = ap (λ b. elim b as (λ _. Bool) [ true ↦ true | false ↦ is_blocked t journal ]) (test-other k t ne)
+blocked-other (Frees k) journal t plain ne = ap (λ b. elim b as (λ _. Bool) [ true ↦ false | false ↦ is_blocked t journal ]) (test-other k t ne)
+blocked-other (Joins l k) journal t plain ne = refl
+blocked-other (House m) journal t plain ne = absurd plain
 
 pub failed-other : (mark : Mark) (journal : List Mark) (t : ℕ) → mark_stream mark ≢ t → write_failed t (mark ∷ journal) ≡ write_failed t journal
 failed-other (Waits waiting want streams listens) journal t ne = refl
@@ -175,10 +196,13 @@ failed-other (Frees k) journal t ne = refl
 failed-other (Takes k bytes) journal t ne = ap (λ b. elim b as (λ _. Bool) [ true ↦ false | false ↦ write_failed t journal ]) (test-other k t ne)
 failed-other (Holds k) journal t ne = ap (λ b. elim b as (λ _. Bool) [ true ↦ false | false ↦ write_failed t journal ]) (test-other k t ne)
 failed-other (WriteFails k) journal t ne = ap (λ b. elim b as (λ _. Bool) [ true ↦ true | false ↦ write_failed t journal ]) (test-other k t ne)
+failed-other (Joins l k) journal t ne = refl
+failed-other (House m) journal t ne = refl
 
 -- a mark that is no arrival
 abbrev pub NotArrival : Mark → Type 0
 NotArrival (Accepts k) = ⊥
+NotArrival (House m) = ⊥
 NotArrival mark = Unit {0}
 
 pub accepted-same : (mark : Mark) (journal : List Mark) (k : ℕ) → NotArrival mark → is_accepted k (mark ∷ journal) ≡ is_accepted k journal
@@ -191,6 +215,30 @@ accepted-same (Fails j) journal k n = refl
 accepted-same (Takes j bytes) journal k n = refl
 accepted-same (Holds j) journal k n = refl
 accepted-same (WriteFails j) journal k n = refl
+accepted-same (Joins l j) journal k n = refl
+accepted-same (House m) journal k n = absurd n
+
+-- what failed at a mark of another stream
+pub has-failed-other : (k t : ℕ) (journal : List Mark) → k ≢ t → (elim (k == t) as (λ _. Bool) [ true ↦ true | false ↦ has_failed t journal ]) ≡ has_failed t journal
+has-failed-other k t journal ne = ap (λ b. elim b as (λ _. Bool) [ true ↦ true | false ↦ has_failed t journal ]) (test-other k t ne)
+
+cond-true : (b : Bool) → cond b true true ≡ true
+cond-true true = refl
+cond-true false = refl
+
+-- who was accepted stays so
+pub accepted-more : (mark : Mark) (journal : List Mark) (k : ℕ) → is_accepted k journal ≡ true → is_accepted k (mark ∷ journal) ≡ true
+accepted-more (Accepts j) journal k a = ap (λ b. cond (j == k) true b) a ∙ cond-true (j == k)
+accepted-more (House m) journal k a = ap (λ b. cond (lets_in k m) true b) a ∙ cond-true (lets_in k m)
+accepted-more (Waits waiting want streams listens) journal k a = a
+accepted-more (Gets j bytes) journal k a = a
+accepted-more (Ends j) journal k a = a
+accepted-more (Frees j) journal k a = a
+accepted-more (Fails j) journal k a = a
+accepted-more (Takes j bytes) journal k a = a
+accepted-more (Holds j) journal k a = a
+accepted-more (WriteFails j) journal k a = a
+accepted-more (Joins l j) journal k a = a
 
 pub holds-blocked : (k t : ℕ) (marks : List Mark) (b : Bool) → (k == t) ≡ b → is_blocked t (Holds k ∷ marks) ≡ (elim b as (λ _. Bool) [ true ↦ true | false ↦ is_blocked t marks ])
 holds-blocked k t marks b e = ap (λ c. elim c as (λ _. Bool) [ true ↦ true | false ↦ is_blocked t marks ]) e

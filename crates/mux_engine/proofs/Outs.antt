@@ -3,23 +3,25 @@ use Rattle.std.proofs.Common.{◌≡◌, ◌≢◌, ℕ, Bool, true, false, not,
 use Rattle.std.specs.Prelude.{◌==◌, Result, map}
 use Rattle.ssh_grammar.specs.declared.fault.Bad.{Bad}
 use Rattle.ssh_grammar.specs.Said.{Saying, Body, Payload, BadFraming, InProxy, parse, said}
-use Rattle.mux_outside.specs.House.{Asked}
+use Rattle.mux_outside.specs.declared.house_mark.HouseMark.{HouseMark}
 use Rattle.mux_outside.specs.Streams.{among}
 use Rattle.mux_outside.specs.declared.house.HouseReply.{HouseReply}
 use Rattle.mux_outside.specs.declared.mark.Mark.{Mark}
-use Rattle.mux_outside.specs.declared.mark.Mark.TheVariants.{Waits, Accepts, Gets, Ends, Frees, Fails, Takes, Holds, WriteFails}
+use Rattle.mux_outside.specs.declared.mark.Mark.TheVariants.{Waits, Accepts, Gets, Ends, Frees, Fails, Takes, Holds, WriteFails, Joins, House}
+use Rattle.mux_outside.specs.declared.house_mark.HouseMark.TheVariants.{HouseIn, HouseSaid, HouseTook, HouseAsked, HouseAnswer, HouseOrder}
+use Rattle.mux_history.specs.declared.limits.TheConstants.{HOUSE}
 use Rattle.mux_history.specs.Choices.{pick_of, with_reply}
-use Rattle.mux_history.specs.Controls.{greeted}
+use Rattle.mux_history.specs.Controls.{greeted, house_says}
 use Rattle.mux_history.specs.Farewell.{farewell}
 use Rattle.mux_history.specs.Gist.{Gist, read_gist}
 use Rattle.mux_history.specs.Heard.{Breaks, Dest, Disconnects, ToClient, ToMaster, dest, for_client, for_lost, heard_for, heard_gist}
-use Rattle.mux_history.specs.Journal.{IsLawful, bytes_of, heard_item, items_in, log_of_journal, new_heard, new_sayings, said_item, server_end}
+use Rattle.mux_history.specs.Journal.{IsLawful, bytes_of, heard_item, is_own_stream, items_in, log_of_journal, new_heard, new_sayings, said_item, server_end, unless_own}
 use Rattle.mux_history.specs.Kept.{ForEach}
 use Rattle.mux_history.specs.Log.{Setting, admits, all_told, bare, fitting, goes, heard_row, is_took, makes_next, makes_row, more_all, more_of, new_answers, queued, row_of, said_by_client, treat, with_farewell}
 use Rattle.mux_history.specs.Pending.{joined, pending_down, took_by, waiting_down}
 use Rattle.mux_history.specs.Policy.{Policy}
 use Rattle.mux_history.specs.Right.{AreFresh}
-use Rattle.mux_history.specs.Rows.{Admit, BadServer, Gone, Heard, Item, Row, RunEnd, Says, ServerCut, ServerEnd, ServerFailed, Took, any_of, is_admit, is_ended, is_lost, is_out, is_refusal, loses, rows_of}
+use Rattle.mux_history.specs.Rows.{Admit, BadServer, Gone, Heard, HouseSays, Item, Row, RunEnd, Says, ServerCut, ServerEnd, ServerFailed, Took, any_of, is_admit, is_ended, is_lost, is_out, is_refusal, loses, rows_of}
 use Rattle.mux_history.specs.Said.{Outcome, silent}
 use Rattle.mux_history.specs.Settings.{by_lists}
 use Rattle.mux_history.proofs.Bools.{or-yes, same-number}
@@ -116,6 +118,7 @@ module _ (policy : Policy) (pid : ℕ) (k : ℕ) (real : k ≢ 0) where
   -- each item, as it is treated
   treat-leaves : (pick : ℕ) (rows : List Row) (item : Item) → Passes k item → makes_next rows item ≡ true → ForEach (RowKnown policy pid) rows → HearsNothing k rows → Leaves k rows (treat policy pid pick rows item)
   treat-leaves pick rows (Says j saying given) pass makes each is = not-own rows (Says j saying given) j (said_by_client policy pid j (rows_of j rows) pick saying given) is makes (λ on. next-live rows (Says j saying given) on) (λ over. after-end rows (Says j saying given) refl over)
+  treat-leaves pick rows (HouseSays j id given) pass makes each is = not-own rows (HouseSays j id given) j (house_says (rows_of j rows) id given) is makes (λ on. next-live rows (HouseSays j id given) on) (λ over. after-end rows (HouseSays j id given) refl over)
   treat-leaves pick rows (Gone j) pass makes each is = not-own rows (Gone j) j silent is makes (λ on. next-live rows (Gone j) on) (λ over. after-end rows (Gone j) refl over)
   treat-leaves pick rows (Admit j) pass makes each is = λ mine. absurd (pass (sym (client-of (Admit j) j (admits rows) (rows_of j rows)) ∙ mine))
   treat-leaves pick rows (Heard p) pass makes each is = heard-leaves rows p (dest rows p) refl each is
@@ -202,23 +205,37 @@ Spares k (Waits waiting want streams listens) = Unit {0}
 Spares k (Frees j) = Unit {0}
 Spares k (Holds j) = Unit {0}
 Spares k (Takes j bytes) = ⊥
+Spares k (Joins l t) = Unit {0}
+Spares k (House HouseIn) = HOUSE ≢ k
+Spares k (House (HouseTook n)) = ⊥
+Spares k (House m) = Unit {0}
 
 either-pass : (k : ℕ) (b : Bool) (xs ys : List Item) → EachItem (Passes k) xs → EachItem (Passes k) ys → EachItem (Passes k) (elim b as (λ _. List Item) [ true ↦ xs | false ↦ ys ])
 either-pass k true xs ys x y = x
 either-pass k false xs ys x y = y
 
+own-pass : (k j : ℕ) (xs : List Item) → EachItem (Passes k) xs → EachItem (Passes k) (unless_own j xs)
+own-pass k j xs each = either-pass k (is_own_stream j) [] xs tt each
+
 mark-pass : (k : ℕ) (before : List Mark) (mark : Mark) → Spares k mark → EachItem (Passes k) (items_in before mark)
 mark-pass k before (Accepts j) spares = (spares, tt)
-mark-pass k before (Gets j bytes) spares = either-pass k (j == 0) (new_heard (bytes_of 0 before) (bytes_of 0 before ++ bytes)) (new_sayings j (bytes_of j before) (bytes_of j before ++ bytes))
+mark-pass k before (Gets j bytes) spares = either-pass k (j == 0) (new_heard (bytes_of 0 before) (bytes_of 0 before ++ bytes)) (unless_own j (new_sayings j (bytes_of j before) (bytes_of j before ++ bytes)))
     (heard-pass k (drop (length (parse InProxy (bytes_of 0 before)).says) (parse InProxy (bytes_of 0 before ++ bytes)).says))
-    (said-pass k j (drop (length (said (bytes_of j before))) (said (bytes_of j before ++ bytes))))
-mark-pass k before (Ends j) spares = either-pass k (j == 0) (server_end (parse InProxy (bytes_of 0 before)).rest ∷ []) (Gone j ∷ []) (end-pass k (parse InProxy (bytes_of 0 before)).rest) (tt, tt)
-mark-pass k before (Fails j) spares = either-pass k (j == 0) (ServerFailed ∷ []) (Gone j ∷ []) (tt, tt) (tt, tt)
-mark-pass k before (WriteFails j) spares = either-pass k (j == 0) (ServerFailed ∷ []) (Gone j ∷ []) (tt, tt) (tt, tt)
+    (own-pass k j (new_sayings j (bytes_of j before) (bytes_of j before ++ bytes)) (said-pass k j (drop (length (said (bytes_of j before))) (said (bytes_of j before ++ bytes)))))
+mark-pass k before (Ends j) spares = either-pass k (j == 0) (server_end (parse InProxy (bytes_of 0 before)).rest ∷ []) (unless_own j (Gone j ∷ [])) (end-pass k (parse InProxy (bytes_of 0 before)).rest) (own-pass k j (Gone j ∷ []) (tt, tt))
+mark-pass k before (Fails j) spares = either-pass k (j == 0) (ServerFailed ∷ []) (unless_own j (Gone j ∷ [])) (tt, tt) (own-pass k j (Gone j ∷ []) (tt, tt))
+mark-pass k before (WriteFails j) spares = either-pass k (j == 0) (ServerFailed ∷ []) (unless_own j (Gone j ∷ [])) (tt, tt) (own-pass k j (Gone j ∷ []) (tt, tt))
 mark-pass k before (Waits waiting want streams listens) spares = tt
 mark-pass k before (Frees j) spares = tt
 mark-pass k before (Holds j) spares = tt
 mark-pass k before (Takes j bytes) spares = absurd spares
+mark-pass k before (Joins l t) spares = tt
+mark-pass k before (House HouseIn) spares = (spares, tt)
+mark-pass k before (House (HouseSaid bytes)) spares = said-pass k HOUSE (drop (length (said (bytes_of HOUSE before))) (said (bytes_of HOUSE before ++ bytes)))
+mark-pass k before (House (HouseTook n)) spares = absurd spares
+mark-pass k before (House (HouseAsked client id opening ask reply)) spares = tt
+mark-pass k before (House (HouseAnswer client id reply)) spares = (tt, tt)
+mark-pass k before (House (HouseOrder order number)) spares = tt
 
 -- what waits for a silent client after a mark that spares it
 pub waits-on : (policy : Policy) (pid k : ℕ) → k ≢ 0 → (picks : List ℕ) (given : List HouseReply) (mark : Mark) (before : List Mark) → Spares k mark → HearsNothing k (log_of_journal (by_lists policy pid picks given) before) → LogKnown policy pid (log_of_journal (by_lists policy pid picks given) (mark ∷ before))
@@ -228,7 +245,7 @@ waits-on policy pid k real picks given mark before spares is known = (stays-item
 -- ---- a client that was closed
 
 -- it hears nothing more
-closed-hears : {taken : ℕ} {drawn : List Asked} {s : State} {closed : List ℕ} {rows : List Row} → RowsFit taken drawn s closed rows → ForEach LetFirst rows → (k : ℕ) → among k closed ≡ true → HearsNothing k rows
+closed-hears : {taken : ℕ} {drawn : List HouseMark} {s : State} {closed : List ℕ} {rows : List Row} → RowsFit taken drawn s closed rows → ForEach LetFirst rows → (k : ℕ) → among k closed ≡ true → HearsNothing k rows
 closed-hears {rows = rows} fit first k c = record { out = fit.closed_out k c; silent = by_admitted (any_of is_admit (rows_of k rows)) refl }
   where
     by_greeted : any_of is_admit (rows_of k rows) ≡ false → (b : Bool) → greeted (rows_of k rows) ≡ b → b ≡ false
@@ -243,7 +260,7 @@ known-log : (policy : Policy) (pid : ℕ) (picks : List ℕ) (replies : List Hou
 known-log policy pid picks replies journal lawful fresh = right-known policy pid picks replies journal 0 (log_of_journal (by_lists policy pid picks replies) journal) lawful ((logs-right policy pid picks replies journal).whole fresh)
 
 -- and what waits for it stays
-pub waits-closed : {taken : ℕ} {drawn : List Asked} {s : State} {closed : List ℕ} (policy : Policy) (pid : ℕ) (picks : List ℕ) (replies : List HouseReply) (mark : Mark) (before : List Mark) → RowsFit taken drawn s closed (log_of_journal (by_lists policy pid picks replies) before)
+pub waits-closed : {taken : ℕ} {drawn : List HouseMark} {s : State} {closed : List ℕ} (policy : Policy) (pid : ℕ) (picks : List ℕ) (replies : List HouseReply) (mark : Mark) (before : List Mark) → RowsFit taken drawn s closed (log_of_journal (by_lists policy pid picks replies) before)
     → IsLawful (mark ∷ before) → AreFresh (log_of_journal (by_lists policy pid picks replies) (mark ∷ before)) → (k : ℕ) → k ≢ 0 → among k closed ≡ true → Spares k mark
     → pending_down (rows_of k (log_of_journal (by_lists policy pid picks replies) (mark ∷ before))) ≡ pending_down (rows_of k (log_of_journal (by_lists policy pid picks replies) before))
 waits-closed policy pid picks replies mark before fit lawful fresh k real c spares =

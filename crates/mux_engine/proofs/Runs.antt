@@ -1,11 +1,14 @@
 -- The start and the end of a run.
-use Rattle.std.proofs.Common.{◌≡◌, ◌≢◌, ◌≤◌, ℕ, Bool, true, false, List, [], ◌∷◌, ◌++◌, length, Option, Some, None, refl, sym, ap, ◌∙◌, subst, inl, arith, append-nil}
-use Rattle.std.specs.Prelude.{◌==◌, unwrap_or}
-use Rattle.mux_outside.specs.House.{Asked}
+use Rattle.std.proofs.Common.{◌≡◌, ◌≢◌, ◌≤◌, ℕ, Bool, true, false, List, [], ◌∷◌, ◌++◌, length, Option, refl, sym, ap, ◌∙◌, subst, inl, inr, ◌||◌, arith, append-nil}
+use Rattle.std.specs.Prelude.{◌==◌, All}
+use Rattle.std.proofs.lemmas.List.Elements.{All-nil}
+use Rattle.mux_outside.specs.House.{OpenAsk}
+use Rattle.mux_outside.specs.OwnStreams.{is_own}
 use Rattle.mux_outside.specs.Seen.{Seen}
 use Rattle.mux_outside.specs.Streams.{among}
 use Rattle.mux_outside.specs.declared.mark.Mark.{Mark}
 use Rattle.mux_outside.specs.declared.house.HouseReply.{HouseReply}
+use Rattle.mux_outside.specs.declared.house_mark.HouseMark.{HouseMark}
 use Rattle.mux_history.specs.declared.ended.Ended.{Ended}
 use Rattle.mux_history.specs.declared.ended.Ended.TheVariants as ended
 use Rattle.mux_history.specs.Policy.{Policy}
@@ -17,7 +20,7 @@ use Rattle.mux_history.specs.Settings.{by_lists}
 use Rattle.mux_history.specs.Solo.{end_of}
 use Rattle.mux_history.specs.Right.{AreFresh}
 use Rattle.mux_history.specs.Journal.{Tells, log_of_journal}
-use Rattle.mux_history.specs.Promises.{EndsAs, MayGive, waits_in}
+use Rattle.mux_history.specs.Promises.{EndsAs, MayGive, not_own, turns_in}
 use Rattle.mux_history.specs.Wires.{OfWire}
 use Rattle.mux_history.proofs.Wires.{wire-keeps}
 use Rattle.mux_bounds.specs.Bounds.{IsLog}
@@ -25,10 +28,11 @@ use Rattle.mux_clients.specs.Asked.{asked_of, TellsAsks}
 use Rattle.mux_machine.specs.State.{State, numbers}
 use Rattle.mux_machine.specs.Events.{here}
 use Rattle.mux_machine.specs.Stands.{Stands, StandsFor, log}
-use Rattle.mux_engine.specs.Run.{EndsRight, IsOfWire, IsRun}
-use Rattle.mux_engine.specs.Serving.{IsSound, Kept, Promised, Serving}
+use Rattle.mux_engine.specs.Run.{EndsRight, IsOfWire, IsRun, Rested, is_by_house}
+use Rattle.mux_engine.specs.Serving.{IsFree, IsSound, Kept, Promised, Serving}
+use Rattle.mux_engine.specs.Sides.{Resting, Side, asks_in, house_marks}
 use Rattle.mux_engine.proofs.Keeps.{keeps-rows, rests-short}
-use Rattle.mux_engine.proofs.Lists.{true-false}
+use Rattle.mux_engine.proofs.Lists.{not-own-stream, test-other, true-false}
 use Rattle.mux_engine.proofs.Marks.{log-is}
 use Rattle.mux_engine.proofs.Told.{tells-none, told-none}
 use Rattle.mux_engine.proofs.Unshared.{takes-unshared}
@@ -45,18 +49,19 @@ nothing-pending t = by_server (t == 0)
 -- ---- the end
 
 -- all of a run whose rows are known
-run-of : (May : HouseReply → Type 0) (before now : Option (List Asked)) (policy : Policy) (pid turns : ℕ) (start told : Option (List Mark)) (journal : List Mark) (picks : List ℕ) (replies : List HouseReply) (answer : Ended)
-    → IsOfWire journal → MayGive May replies → Tells start told journal → waits_in journal ≤ turns
+run-of : (May : HouseReply → Type 0) (Rest : Option (List HouseMark) → Type 0) (present : Bool) (before now : Option (List HouseMark)) (policy : Policy) (pid turns : ℕ) (start told : Option (List Mark)) (refused : Option ℕ) (journal : List Mark) (picks : List ℕ) (replies : List HouseReply) (answer : Ended)
+    → IsOfWire journal → MayGive May replies → Tells start told journal → turns_in journal ≤ turns
     → (rows : List Row)
     → Kept (by_lists policy pid picks replies) journal
     → IsLog (by_lists policy pid picks replies) journal rows
     → AreFresh rows → numbers_taken rows ≡ length picks → replies_given rows ≡ length replies
-    → (more : List Asked) → TellsAsks before now (asked_of rows ++ more)
+    → (more more_asks : List HouseMark) → TellsAsks before now (house_marks journal ++ more) → asks_in (house_marks journal ++ more) ≡ asked_of rows ++ more_asks → Rested Rest before journal → (present ≡ false → All (λ (mark : Mark). is_by_house mark ≡ false) journal)
     → (answer ≢ ended.OutOfMemory → rows ≡ log_of_journal (by_lists policy pid picks replies) journal)
-    → (answer ≢ ended.OutOfMemory → TellsAsks before now (asked_of rows))
-    → (answer ≢ ended.OutOfMemory → EndsRight (by_lists policy pid picks replies) turns journal answer)
-    → IsRun May policy pid turns before now start told answer
-run-of May before now policy pid turns start told journal picks replies answer wire may tells waits rows kept is fresh numbers answers more house whole house_whole ends = record {
+    → (answer ≢ ended.OutOfMemory → TellsAsks before now (house_marks journal))
+    → (answer ≢ ended.OutOfMemory → asks_in (house_marks journal) ≡ asked_of rows)
+    → (answer ≢ ended.OutOfMemory → EndsRight (by_lists policy pid picks replies) turns journal refused answer)
+    → IsRun May Rest present policy pid turns before now start told refused answer
+run-of May Rest present before now policy pid turns start told refused journal picks replies answer wire may tells given rows kept is fresh numbers answers more more_asks house asked rested absent whole house_whole asks_whole ends = record {
   journal = journal;
   picks = picks;
   replies = replies;
@@ -69,146 +74,160 @@ run-of May before now policy pid turns start told journal picks replies answer w
   is_log = is;
   whole = whole;
   fresh = fresh;
-  keeps = λ others is_too others_fresh. keeps-rows policy pid picks replies journal others wire kept.written.waits is_too others_fresh;
+  keeps = λ others is_too others_fresh. keeps-rows policy pid picks replies journal others wire kept.written.waits kept.written.speaks is_too others_fresh;
   alone = takes-unshared policy pid picks replies journal rows wire.lawful kept.written.takes is fresh;
   rests = rests-short journal;
-  waits = waits;
+  turns_given = given;
   numbers = numbers;
   answers = answers;
-  more_asks = more;
+  more = more;
+  more_asks = more_asks;
   house = house;
+  asked = asked;
   house_whole = house_whole;
+  asks_whole = asks_whole;
+  rested = rested;
+  absent = absent;
   ends = ends;
 }
 
-module _ (May : HouseReply → Type 0) (before now : Option (List Asked)) (policy : Policy) (pid turns : ℕ) (start : Option (List Mark)) where
+module _ (May : HouseReply → Type 0) (Rest : Resting) (before : Option (List HouseMark)) (policy : Policy) (pid turns : ℕ) (start : Option (List Mark)) (refused : Option ℕ) where
   -- each stream was offered what waits for it, and the run ends so
-  pub ends-run : (seen : Seen) (held : List ℕ) (given : ℕ) (s : State) (answer : Ended) (v : Serving May before now policy pid start seen held given [] s) → given ≤ turns → EndsAs turns v.journal s.ended answer → IsRun May policy pid turns before now start seen.told answer
-  ends-run seen held given s answer v le ends =
+  pub ends-run : (now : Side) (seen : Seen) (held failed : List ℕ) (given : ℕ) (todo : List ℕ) (s : State) (answer : Ended) (v : Serving May Rest before now policy pid start seen held failed given todo s) → now.unnoted ≡ [] → ((t : ℕ) → is_own t ≡ false → among t todo ≡ false) → given ≤ turns → EndsAs turns v.journal refused s.ended answer
+      → IsRun May Rest.rests Rest.present policy pid turns before now.told start seen.told refused answer
+  ends-run now seen held failed given todo s answer v noted offered le ends =
       let picks : List ℕ = v.picked ++ [] in
       let replies : List HouseReply = v.replies ++ [] in
       let rows : List Row = log_of_journal (by_lists policy pid picks replies) v.journal in
       let same : log s picks replies v.journal ≡ rows = log-is s policy pid picks replies v.journal v.policy_is v.pid_is in
       let stands : StandsFor picks replies (length v.picked) v.stands.asks s v.journal v.closed = v.stands.at [] [] in
       let fits = stands.rows in
-      let sound : IsSound (by_lists policy pid picks replies) v.journal [] s = v.sound [] [] in
+      let sound : IsSound (by_lists policy pid picks replies) v.journal todo s = v.sound [] [] in
       let asked : asked_of rows ≡ v.stands.asks = ap asked_of (sym same) ∙ fits.asked_is in
-      run-of May before now policy pid turns start seen.told v.journal picks replies answer
+      let all : house_marks v.journal ++ now.unnoted ≡ house_marks v.journal = ap (λ l. house_marks v.journal ++ l) noted ∙ append-nil (house_marks v.journal) in
+      run-of May Rest.rests Rest.present before now.told policy pid turns start seen.told refused v.journal picks replies answer
       (record { lawful = v.of_wire.lawful; asked = v.of_wire.asked })
       (subst (MayGive May) (sym (append-nil v.replies)) v.may)
       v.tells
-      (let w : waits_in v.journal ≡ given = v.waits in omega arith)
+      (let w : turns_in v.journal ≡ given = v.turns in omega arith)
       rows sound.kept (inl refl)
       (subst AreFresh same fits.fresh)
       (ap numbers_taken (sym same) ∙ (fits.taken_is ∙ ap length (sym (append-nil v.picked))))
       (ap replies_given (sym same) ∙ (fits.drawn_is ∙ (v.stands.each ∙ ap length (sym (append-nil v.replies)))))
-      []
-      (subst (TellsAsks before now) (sym (append-nil (asked_of rows) ∙ asked)) v.house)
+      now.unnoted [] v.house (v.asked ∙ (sym asked ∙ sym (append-nil (asked_of rows)))) v.rested v.absent
       (λ ne. refl)
-      (λ ne. subst (TellsAsks before now) (sym asked) v.house)
+      (λ ne. subst (TellsAsks before now.told) all v.house)
+      (λ ne. ap asks_in (sym all) ∙ (v.asked ∙ sym asked))
       (λ ne. record {
-        end = subst (λ o. EndsAs turns v.journal o answer) (fits.ended_is ∙ ap end_of same) ends;
-        settled = λ t. sound.settled t refl;
+        end = subst (λ o. EndsAs turns v.journal refused o answer) (fits.ended_is ∙ ap end_of same) ends;
+        settled = λ t client. sound.settled t (not-own-stream t client) (offered t client);
       })
 
-  -- it ended for this cause
-  pub ends-over : (seen : Seen) (held : List ℕ) (given : ℕ) (s : State) (cause : Ended) → Serving May before now policy pid start seen held given [] s → given ≤ turns → s.ended ≡ Some cause → IsRun May policy pid turns before now start seen.told cause
-  ends-over seen held given s cause v le e = ends-run seen held given s cause v le (subst (λ o. EndsAs turns v.journal o cause) (sym e) refl)
-
-  -- all turns were given
-  pub ends-spent : (seen : Seen) (held : List ℕ) (given : ℕ) (s : State) → Serving May before now policy pid start seen held given [] s → given ≡ turns → s.ended ≡ None → IsRun May policy pid turns before now start seen.told ended.Spent
-  ends-spent seen held given s v same e = ends-run seen held given s ended.Spent v (omega arith) (subst (λ o. EndsAs turns v.journal o ended.Spent) (sym e) (refl, v.waits ∙ same))
-
-  -- it ended for its cause, or else all turns were given
-  pub ends-as : (seen : Seen) (held : List ℕ) (given : ℕ) (s : State) → Serving May before now policy pid start seen held given [] s → given ≤ turns → (s.ended ≡ None → given ≡ turns) → IsRun May policy pid turns before now start seen.told (unwrap_or s.ended ended.Spent)
-  ends-as seen held given s v le spent = by_end s.ended refl
-    where
-      by_end : (o : Option Ended) → s.ended ≡ o → IsRun May policy pid turns before now start seen.told (unwrap_or o ended.Spent)
-      by_end (Some cause) e = ends-over seen held given s cause v le e
-      by_end None e = ends-spent seen held given s v (spent e) e
-
   -- there was no memory
-  pub ends-starved : (told : Option (List Mark)) → Promised May before now policy pid start told turns → IsRun May policy pid turns before now start told ended.OutOfMemory
-  ends-starved told p =
+  pub ends-starved : (now : Option (List HouseMark)) (told : Option (List Mark)) → Promised May Rest before now policy pid start told turns → IsRun May Rest.rests Rest.present policy pid turns before now start told refused ended.OutOfMemory
+  ends-starved now told p =
       let left = p.left [] [] in
-      run-of May before now policy pid turns start told p.journal (p.picked ++ []) (p.replies ++ []) ended.OutOfMemory
+      run-of May Rest.rests Rest.present before now policy pid turns start told refused p.journal (p.picked ++ []) (p.replies ++ []) ended.OutOfMemory
       p.of_wire
       (subst (MayGive May) (sym (append-nil p.replies)) p.may)
-      p.tells p.waits left.rows left.kept left.is_log left.fresh
+      p.tells p.turns left.rows left.kept left.is_log left.fresh
       (left.taken_is ∙ ap length (sym (append-nil p.picked)))
       (left.given_is ∙ (p.each ∙ ap length (sym (append-nil p.replies))))
-      p.more_asks
-      (subst (λ l. TellsAsks before now (l ++ p.more_asks)) (sym left.asked_is) p.house)
+      p.more p.more_asks p.house (p.asked ∙ ap (λ l. l ++ p.more_asks) (sym left.asked_is)) p.rested p.absent
+      (λ ne. absurd (ne refl))
       (λ ne. absurd (ne refl))
       (λ ne. absurd (ne refl))
       (λ ne. absurd (ne refl))
 
 -- with more turns
-pub promised-more : {May : HouseReply → Type 0} {before now : Option (List Asked)} {policy : Policy} {pid : ℕ} {start told : Option (List Mark)} (given more : ℕ) → given ≤ more → Promised May before now policy pid start told given → Promised May before now policy pid start told more
+pub promised-more : {May : HouseReply → Type 0} {Rest : Resting} {before now : Option (List HouseMark)} {policy : Policy} {pid : ℕ} {start told : Option (List Mark)} (given more : ℕ) → given ≤ more → Promised May Rest before now policy pid start told given → Promised May Rest before now policy pid start told more
 promised-more given more le p = record {
   journal = p.journal;
   picked = p.picked;
   replies = p.replies;
   asks = p.asks;
+  more = p.more;
   more_asks = p.more_asks;
   may = p.may;
   each = p.each;
   house = p.house;
+  asked = p.asked;
+  rested = p.rested;
+  absent = p.absent;
   tells = p.tells;
   of_wire = p.of_wire;
-  waits = let w : waits_in p.journal ≤ given = p.waits in omega arith;
+  turns = let w : turns_in p.journal ≤ given = p.turns in omega arith;
   left = p.left;
 }
 
 -- ---- the start
 
 of-nothing : (setting : Setting) → Kept setting []
-of-nothing setting = record { written = record { takes = tt; waits = tt }; open_streams = tt }
+of-nothing setting = record { written = record { takes = tt; waits = tt; speaks = tt }; open_streams = tt }
 
 -- there was no memory for an engine
-pub starts-starved : (May : HouseReply → Type 0) (house : Option (List Asked)) (policy : Policy) (pid : ℕ) (told : Option (List Mark)) (given : ℕ) → Promised May house house policy pid told told given
-starts-starved May house policy pid told given = record {
+pub starts-starved : (May : HouseReply → Type 0) (Rest : Resting) (house : Option (List HouseMark)) (policy : Policy) (pid : ℕ) (told : Option (List Mark)) (given : ℕ) → Promised May Rest house house policy pid told told given
+starts-starved May Rest house policy pid told given = record {
   journal = [];
   picked = [];
   replies = [];
   asks = [];
+  more = [];
   more_asks = [];
   may = tt;
   each = refl;
   house = tells-none house;
+  asked = refl;
+  rested = tt;
+  absent = λ e. All-nil (λ (mark : Mark). is_by_house mark ≡ false);
   tells = sym (told-none told);
-  of_wire = (let w = (wire-keeps (0 ∷ []) [] 0 []).none in record { lawful = w.lawful; asked = w.asked });
-  waits = (omega arith);
+  of_wire = (let w = (wire-keeps (0 ∷ []) [] 0 [] [] 0 []).none in record { lawful = w.lawful; asked = w.asked });
+  turns = (omega arith);
   left = λ picks later. record { kept = of-nothing (by_lists policy pid picks later); rows = []; is_log = inl refl; fresh = tt; taken_is = refl; given_is = refl; asked_is = refl };
 }
 
 -- a new engine is served
-pub starts : (May : HouseReply → Type 0) (house : Option (List Asked)) (policy : Policy) (pid : ℕ) (seen : Seen) (s : State) → Stands [] [] s [] [] → s.core.policy ≡ policy → s.pid ≡ pid → s.clients ≡ [] → s.refused ≡ []
-    → seen.streams ≡ 0 ∷ [] → seen.blocked ≡ [] → seen.listens ≡ true → Serving May house house policy pid seen.told seen [] 0 (0 ∷ here s) s
-starts May house policy pid seen s stands e f clients refused streams blocked listens =
+pub starts : (May : HouseReply → Type 0) (Rest : Resting) (now : Side) (policy : Policy) (pid : ℕ) (seen : Seen) (s : State) → Stands [] [] s [] [] → s.core.policy ≡ policy → s.pid ≡ pid → s.clients ≡ [] → s.refused ≡ []
+    → now.asks ≡ [] → now.unnoted ≡ [] → now.let_in ≡ false → seen.streams ≡ 0 ∷ [] → seen.blocked ≡ [] → seen.listens ≡ true → (v : Serving May Rest now.told now policy pid seen.told seen [] [] 0 (0 ∷ here s) s) × (v.journal ≡ [])
+starts May Rest now policy pid seen s stands e f clients refused unasked noted outside streams blocked listens =
     let none : here s ≡ [] = ap (λ cs. numbers cs ++ s.refused) clients ∙ refused in
-    let asks : stands.asks ≡ [] = no-asks stands.asks stands.each in
-    record {
-      journal = [];
-      closed = [];
-      picked = [];
-      replies = [];
-      policy_is = e;
-      pid_is = f;
-      may = tt;
-      stands = stands;
-      house = subst (TellsAsks house house) (sym asks) (tells-none house);
-      tells = sym (told-none seen.told);
-      of_wire = subst (λ (l : List ℕ). OfWire l seen.blocked seen.last []) (sym streams) (subst (λ (l : List ℕ). OfWire (0 ∷ []) l seen.last []) (sym blocked) (wire-keeps (0 ∷ []) [] seen.last []).none);
-      waits = refl;
-      open_are = streams ∙ ap (λ l. 0 ∷ l) (sym none);
-      held_is = sym blocked;
-      blocked_is = λ t o. ap (among t) blocked;
-      unseen = λ k lt. record { not_accepted = refl; never_blocked = refl; not_blocked = ap (among k) blocked };
-      hears = λ live h. listens;
-      sound = λ picks later. record { kept = of-nothing (by_lists policy pid picks later); failed_out = λ t w live. true-false (sym w); settled = λ t a. inl (nothing-pending t) };
-    }
+    let asks : stands.asks ≡ [] = no-asks stands.asks stands.each in (
+      record {
+        journal = [];
+        closed = [];
+        picked = [];
+        replies = [];
+        policy_is = e;
+        pid_is = f;
+        may = tt;
+        stands = stands;
+        house = subst (TellsAsks now.told now.told) (sym noted) (tells-none now.told);
+        asked = ap asks_in noted ∙ sym asks;
+        askers = subst (λ (l : List OpenAsk). All (λ (a : OpenAsk). false ≡ true) l) (sym unasked) (All-nil (λ (a : OpenAsk). false ≡ true));
+        house_in = sym outside;
+        house_there = λ e. true-false (sym e ∙ outside);
+        rested = tt;
+        absent = λ e. All-nil (λ (mark : Mark). is_by_house mark ≡ false);
+        tells = sym (told-none seen.told);
+        of_wire = subst (λ (l : List ℕ). OfWire l seen.blocked seen.last []) (sym streams) (subst (λ (l : List ℕ). OfWire (0 ∷ []) l seen.last []) (sym blocked) (wire-keeps (0 ∷ []) [] seen.last [] [] 0 []).none);
+        turns = refl;
+        open_are = ap not_own (streams ∙ ap (λ l. 0 ∷ l) (sym none));
+        apart = λ k a. true-false (sym a ∙ ap (among k) none);
+        held_is = sym blocked;
+        blocked_is = λ t a. ap (among t) blocked;
+        unseen = λ k lt le. record { not_accepted = refl; never_blocked = refl; not_blocked = ap (among k) blocked };
+        unused = λ k free. record { not_open = ap (among k) streams ∙ no-server k free; never_blocked = refl; not_blocked = ap (among k) blocked; never_failed = refl };
+        failed_are = λ t own a f. true-false (sym f);
+        hears = λ live h. listens;
+        sound = λ picks later. record { kept = of-nothing (by_lists policy pid picks later); failed_out = λ t client w live. true-false (sym w); settled = λ t client a. inl (nothing-pending t) };
+      },
+      refl,
+    )
   where
-    no-asks : (asks : List Asked) → length asks ≡ 0 → asks ≡ []
+    no-asks : (asks : List HouseMark) → length asks ≡ 0 → asks ≡ []
     no-asks [] e = refl
     no-asks (a ∷ rest) e = absurd (omega (arith, e))
+
+    no-server : (k : ℕ) → IsFree seen.last_own k → among k (0 ∷ []) ≡ false
+    no-server k (inl free) = ap (λ b. b || false) (test-other 0 k (λ q. true-false (sym free.0 ∙ ap is_own (sym q))))
+    no-server k (inr house) = ap (λ b. b || false) (test-other 0 k (λ q. absurd (omega (arith, q, house))))

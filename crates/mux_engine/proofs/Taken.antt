@@ -8,7 +8,9 @@ use Rattle.mux_outside.specs.declared.mark.Mark.{Mark}
 use Rattle.mux_outside.specs.declared.mark.Mark.TheVariants.{Takes}
 use Rattle.proxy_frames.specs.Queued.{without_first}
 use Rattle.mux_history.specs.Settings.{by_lists}
-use Rattle.mux_history.specs.Journal.{log_of_journal}
+use Rattle.mux_history.specs.Rows.{Item, Took}
+use Rattle.mux_history.specs.Log.{more_all}
+use Rattle.mux_history.specs.Journal.{is_own_stream, log_of_journal}
 use Rattle.mux_clients.specs.State.{ClientState}
 use Rattle.mux_clients.specs.Among.{is_present}
 use Rattle.mux_clients.specs.Asked.{asked_of}
@@ -47,7 +49,11 @@ pub took-asks : (s s' : State) (t : ℕ) (bytes : List ℕ) (marks : List Mark) 
 took-asks s s' t bytes marks same picks replies =
     ap (λ x. asked_of (log_of_journal (by_lists x s'.pid picks replies) (Takes t bytes ∷ marks))) same.policy
     ∙ (ap (λ x. asked_of (log_of_journal (by_lists s.core.policy x picks replies) (Takes t bytes ∷ marks))) same.pid
-    ∙ (ap asked_of (took-log s.core.policy s.pid picks replies (log s picks replies marks) t (length bytes)) ∙ append-nil (asked_of (log s picks replies marks))))
+    ∙ by_own (is_own_stream t))
+  where
+    by_own : (b : Bool) → asked_of (more_all (by_lists s.core.policy s.pid picks replies) (log s picks replies marks) (elim b as (λ _. List Item) [ true ↦ [] | false ↦ Took t (length bytes) ∷ [] ])) ≡ asked_of (log s picks replies marks)
+    by_own true = refl
+    by_own false = ap asked_of (took-log s.core.policy s.pid picks replies (log s picks replies marks) t (length bytes)) ∙ append-nil (asked_of (log s picks replies marks))
 
 -- ---- what waits is less
 

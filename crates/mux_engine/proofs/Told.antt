@@ -3,7 +3,7 @@ use Rattle.std.proofs.Common.{◌≡◌, List, [], ◌∷◌, ◌++◌, Option, 
 use Rattle.std.specs.Prelude.{reverse}
 use Rattle.std.specs.Option.{option_map}
 use Rattle.std.proofs.lemmas.List.{reverse-append}
-use Rattle.mux_outside.specs.House.{Asked}
+use Rattle.mux_outside.specs.declared.house_mark.HouseMark.{HouseMark}
 use Rattle.mux_outside.specs.declared.house.HouseReply.{HouseReply}
 use Rattle.mux_outside.specs.declared.mark.Mark.{Mark}
 use Rattle.mux_history.specs.Journal.{Tells}
@@ -30,17 +30,17 @@ told-none (Some m) = ap (λ (l : List Mark). Some l) (append-nil m)
 -- ---- what the house told
 
 -- where it was asked nothing it tells the same
-pub tells-none : (told : Option (List Asked)) → TellsAsks told told []
+pub tells-none : (told : Option (List HouseMark)) → TellsAsks told told []
 tells-none None = refl
-tells-none (Some asks) = ap (λ (l : List Asked). Some l) (sym (append-nil asks))
+tells-none (Some asks) = ap (λ (l : List HouseMark). Some l) (sym (append-nil asks))
 
-tells-twice : (before : Option (List Asked)) (a b : List Asked) → option_map (λ told. told ++ b) (option_map (λ told. told ++ a) before) ≡ option_map (λ told. told ++ (a ++ b)) before
+tells-twice : (before : Option (List HouseMark)) (a b : List HouseMark) → option_map (λ told. told ++ b) (option_map (λ told. told ++ a) before) ≡ option_map (λ told. told ++ (a ++ b)) before
 tells-twice None a b = refl
-tells-twice (Some asks) a b = ap (λ (l : List Asked). Some l) (append_assoc asks a b)
+tells-twice (Some asks) a b = ap (λ (l : List HouseMark). Some l) (append_assoc asks a b)
 
 -- first these, then those
-pub tells-then : (before mid now : Option (List Asked)) (a b : List Asked) → TellsAsks before mid a → TellsAsks mid now b → TellsAsks before now (a ++ b)
-tells-then before mid now a b first then = then ∙ (ap (λ (told : Option (List Asked)). option_map (λ l. l ++ b) told) first ∙ tells-twice before a b)
+pub tells-then : (before mid now : Option (List HouseMark)) (a b : List HouseMark) → TellsAsks before mid a → TellsAsks mid now b → TellsAsks before now (a ++ b)
+tells-then before mid now a b first then = then ∙ (ap (λ (told : Option (List HouseMark)). option_map (λ l. l ++ b) told) first ∙ tells-twice before a b)
 
 pub may-more : (May : HouseReply → Type 0) (xs ys : List HouseReply) → MayGive May xs → MayGive May ys → MayGive May (xs ++ ys)
 may-more May [] ys a b = b

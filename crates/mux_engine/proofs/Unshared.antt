@@ -2,23 +2,27 @@
 -- rows.
 use Rattle.std.proofs.Common.{◌≡◌, ℕ, Bool, true, false, List, [], ◌∷◌, ◌++◌, refl, sym, ap, ◌∙◌, subst, take, append_assoc, append-nil, inl, inr, arith}
 use Rattle.std.specs.Prelude.{◌==◌}
+use Rattle.std.specs.Bool.{MatchBool}
 use Rattle.std.proofs.lemmas.Bool.Decides.{nat_tests}
+use Rattle.mux_outside.specs.OwnStreams.{is_own}
 use Rattle.mux_outside.specs.declared.house.HouseReply.{HouseReply}
+use Rattle.mux_outside.specs.declared.house_mark.HouseMark.{HouseMark}
 use Rattle.mux_outside.specs.declared.mark.Mark.{Mark}
-use Rattle.mux_outside.specs.declared.mark.Mark.TheVariants.{Waits, Accepts, Gets, Ends, Frees, Fails, Takes, Holds, WriteFails}
+use Rattle.mux_outside.specs.declared.mark.Mark.TheVariants.{Waits, Accepts, Gets, Ends, Frees, Fails, Takes, Holds, WriteFails, Joins, House}
 use Rattle.mux_history.specs.Policy.{Policy}
 use Rattle.mux_history.specs.Rows.{Item, Row}
 use Rattle.mux_history.specs.Pending.{given_by, given_to, pending}
 use Rattle.mux_history.specs.Log.{Setting, more_all, more_of, makes_next, next_row}
 use Rattle.mux_history.specs.Settings.{by_lists}
 use Rattle.mux_history.specs.Right.{AreFresh, IsRight}
-use Rattle.mux_history.specs.Journal.{IsLawful, items_in, log_of_journal, taken_by, taken_in}
-use Rattle.mux_history.specs.Promises.{IsFront, TakesFront, Throughout}
+use Rattle.mux_history.specs.Journal.{IsLawful, house_items, is_own_stream, items_in, log_of_journal, taken_by, taken_in}
+use Rattle.mux_history.specs.Promises.{IsCut, IsFront, TakesFront, Throughout, is_asked}
 use Rattle.mux_history.proofs.Journals.{logs-right}
 use Rattle.mux_history.proofs.Written.{adds-up}
 use Rattle.mux_bounds.specs.Bounds.{IsLog}
 use Rattle.mux_isolation.proofs.AllRuns.{gives-alone}
 use Rattle.mux_engine.specs.Run.{TakesUnshared}
+use Rattle.mux_engine.proofs.Lists.{not-own-stream}
 
 -- ---- fronts
 
@@ -51,17 +55,21 @@ takes-front taken bytes waits all e (rest, f) = (rest, e ∙ (ap (λ l. taken ++
 none-front : (taken waits all : List ℕ) → all ≡ taken ++ waits → IsFront (taken ++ []) all
 none-front taken waits all e = (waits, e ∙ ap (λ l. l ++ waits) (sym (append-nil taken)))
 
-module _ (setting : Setting) (k : ℕ) (before : List Mark) (all : given_to k (log_of_journal setting before) ≡ taken_by k before ++ pending k (log_of_journal setting before)) where
+module _ (setting : Setting) (k : ℕ) (client : is_own k ≡ false) (before : List Mark) (all : given_to k (log_of_journal setting before) ≡ taken_by k before ++ pending k (log_of_journal setting before)) where
   abbrev goal : Mark → Type 0
   goal mark = IsFront (taken_by k before ++ taken_in k mark) (given_to k (log_of_journal setting before))
 
   nothing : IsFront (taken_by k before ++ []) (given_to k (log_of_journal setting before))
   nothing = none-front (taken_by k before) (pending k (log_of_journal setting before)) (given_to k (log_of_journal setting before)) all
 
-  some : (stream : ℕ) (bytes : List ℕ) → IsFront bytes (pending stream (log_of_journal setting before)) → (b : Bool) → (stream == k) ≡ b → IsFront (taken_by k before ++ elim b as (λ _. List ℕ) [ true ↦ bytes | false ↦ [] ]) (given_to k (log_of_journal setting before))
+  front-is : (stream : ℕ) (bytes : List ℕ) → stream ≡ k → MatchBool (is_own_stream stream) (Unit {0}) (IsFront bytes (pending stream (log_of_journal setting before))) → IsFront bytes (pending k (log_of_journal setting before))
+  front-is stream bytes e front =
+      subst (λ (j : ℕ). IsFront bytes (pending j (log_of_journal setting before))) e
+      (subst (λ (b : Bool). MatchBool b (Unit {0}) (IsFront bytes (pending stream (log_of_journal setting before)))) (not-own-stream stream (ap is_own e ∙ client)) front)
+
+  some : (stream : ℕ) (bytes : List ℕ) → MatchBool (is_own_stream stream) (Unit {0}) (IsFront bytes (pending stream (log_of_journal setting before))) → (b : Bool) → (stream == k) ≡ b → IsFront (taken_by k before ++ elim b as (λ _. List ℕ) [ true ↦ bytes | false ↦ [] ]) (given_to k (log_of_journal setting before))
   some stream bytes front true e =
-      takes-front (taken_by k before) bytes (pending k (log_of_journal setting before)) (given_to k (log_of_journal setting before)) all
-      (subst (λ j. IsFront bytes (pending j (log_of_journal setting before))) (same-number stream k e) front)
+      takes-front (taken_by k before) bytes (pending k (log_of_journal setting before)) (given_to k (log_of_journal setting before)) all (front-is stream bytes (same-number stream k e) front)
   some stream bytes front false e = nothing
 
   pub of-mark : (mark : Mark) → TakesFront setting before mark → goal mark
@@ -74,6 +82,8 @@ module _ (setting : Setting) (k : ℕ) (before : List Mark) (all : given_to k (l
   of-mark (Fails j) front = nothing
   of-mark (Holds j) front = nothing
   of-mark (WriteFails j) front = nothing
+  of-mark (Joins l j) front = nothing
+  of-mark (House m) front = nothing
 
 -- ---- all marks
 
@@ -81,23 +91,44 @@ module _ (policy : Policy) (pid : ℕ) (picks : List ℕ) (given : List HouseRep
   abbrev setting : Setting
   setting = by_lists policy pid picks given
 
-  begins : (journal : List Mark) (rows : List Row) → Throughout (TakesFront setting) journal → IsLog setting journal rows → (k : ℕ) → IsFront (taken_by k journal) (given_to k rows)
-  begins journal rows takes (inl e) k =
+  begins : (journal : List Mark) (rows : List Row) → Throughout (TakesFront setting) journal → IsLog setting journal rows → (k : ℕ) → is_own k ≡ false → IsFront (taken_by k journal) (given_to k rows)
+  begins journal rows takes (inl e) k client =
       subst (λ r. IsFront (taken_by k journal) (given_to k r)) (sym e)
-      (pending k (log_of_journal setting journal), sym (adds-up setting journal takes k))
-  begins [] rows takes (inr e) k = (given_to k rows, refl)
-  begins (mark ∷ before) rows takes (inr (n, e)) k =
-      front-more (taken_by k before ++ taken_in k mark) (given_to k (log_of_journal setting before)) (given_to k rows)
-      (of-mark setting k before (sym (adds-up setting before takes.1 k)) mark takes.0)
-      (subst (λ r. IsFront (given_to k (log_of_journal setting before)) (given_to k r)) (sym e) (gives-more setting k (log_of_journal setting before) (take n (items_in before mark))))
+      (pending k (log_of_journal setting journal), sym (adds-up setting journal takes k client))
+  begins journal rows takes (inr cut) k client = cut-begins journal takes cut
+    where
+      one : (mark : Mark) (before : List Mark) → Throughout (TakesFront setting) (mark ∷ before) → (n : ℕ) → rows ≡ more_all setting (log_of_journal setting before) (take n (items_in before mark)) → IsFront (taken_by k (mark ∷ before)) (given_to k rows)
+      one mark before takes n e =
+          front-more (taken_by k before ++ taken_in k mark) (given_to k (log_of_journal setting before)) (given_to k rows)
+          (of-mark setting k client before (sym (adds-up setting before takes.1 k client)) mark takes.0)
+          (subst (λ r. IsFront (given_to k (log_of_journal setting before)) (given_to k r)) (sym e) (gives-more setting k (log_of_journal setting before) (take n (items_in before mark))))
+
+      -- asks take nothing
+      house-mark : (m : HouseMark) (before : List Mark) → (IsCut setting before rows → IsFront (taken_by k before) (given_to k rows)) → Throughout (TakesFront setting) (House m ∷ before) → (b : Bool) → MatchBool b (IsCut setting before rows) ((n : ℕ) × (rows ≡ more_all setting (log_of_journal setting before) (take n (house_items before m)))) → IsFront (taken_by k (House m ∷ before)) (given_to k rows)
+      house-mark m before earlier takes true cut = subst (λ (l : List ℕ). IsFront l (given_to k rows)) (sym (append-nil (taken_by k before))) (earlier cut)
+      house-mark m before earlier takes false (n, e) = one (House m) before takes n e
+
+      cut-begins : (journal : List Mark) → Throughout (TakesFront setting) journal → IsCut setting journal rows → IsFront (taken_by k journal) (given_to k rows)
+      cut-begins [] takes cut = (given_to k rows, refl)
+      cut-begins (House m ∷ before) takes cut = house-mark m before (λ c. cut-begins before takes.1 c) takes (is_asked m) cut
+      cut-begins (Waits waiting want streams listens ∷ before) takes (n, e) = one (Waits waiting want streams listens) before takes n e
+      cut-begins (Accepts j ∷ before) takes (n, e) = one (Accepts j) before takes n e
+      cut-begins (Gets j bytes ∷ before) takes (n, e) = one (Gets j bytes) before takes n e
+      cut-begins (Ends j ∷ before) takes (n, e) = one (Ends j) before takes n e
+      cut-begins (Frees j ∷ before) takes (n, e) = one (Frees j) before takes n e
+      cut-begins (Fails j ∷ before) takes (n, e) = one (Fails j) before takes n e
+      cut-begins (Takes j bytes ∷ before) takes (n, e) = one (Takes j bytes) before takes n e
+      cut-begins (Holds j ∷ before) takes (n, e) = one (Holds j) before takes n e
+      cut-begins (WriteFails j ∷ before) takes (n, e) = one (WriteFails j) before takes n e
+      cut-begins (Joins l j ∷ before) takes (n, e) = one (Joins l j) before takes n e
 
   -- with the law that each is given what it would be given alone
   pub takes-unshared : (journal : List Mark) (rows : List Row) → IsLawful journal → Throughout (TakesFront setting) journal → IsLog setting journal rows → AreFresh rows → TakesUnshared setting journal rows
-  takes-unshared journal rows lawful takes (inl e) fresh k lt admitted =
+  takes-unshared journal rows lawful takes (inl e) fresh k lt client admitted =
       let right = (logs-right policy pid picks given journal).whole (subst AreFresh e fresh) in
       subst (IsFront (taken_by k journal)) (gives-alone policy pid picks given journal 0 rows lawful (subst (IsRight setting journal 0) (sym e) right) k lt admitted)
-      (begins journal rows takes (inl e) k)
-  takes-unshared journal rows lawful takes (inr cut) fresh k lt admitted =
+      (begins journal rows takes (inl e) k client)
+  takes-unshared journal rows lawful takes (inr cut) fresh k lt client admitted =
       let right = (logs-right policy pid picks given journal).cut rows cut fresh in
       subst (IsFront (taken_by k journal)) (gives-alone policy pid picks given journal right.0 rows lawful right.1 k lt admitted)
-      (begins journal rows takes (inr cut) k)
+      (begins journal rows takes (inr cut) k client)

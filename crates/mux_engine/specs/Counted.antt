@@ -1,9 +1,9 @@
 -- The calls of a wire that are made.
-use Rattle.std.specs.Prelude.{◌≡◌, ◌≢◌, ◌≤◌, ◌<◌, ◌+◌, ◌-◌, ◌^◌, min, ℕ, Result, Ok, Err}
+use Rattle.std.specs.Prelude.{◌≡◌, ◌≢◌, ◌≤◌, ◌<◌, ◌+◌, ◌-◌, ◌^◌, ◌⊎◌, min, ℕ, Bool, true, false, Result, Ok, Err}
 use Rattle.mux_outside.specs.Counts.{counted}
 use Rattle.mux_outside.specs.Seen.{Calls}
 use Rattle.mux_history.specs.declared.ended.Ended.{Ended}
-use Rattle.mux_history.specs.declared.ended.Ended.TheVariants.{OutOfMemory, Spent}
+use Rattle.mux_history.specs.declared.ended.Ended.TheVariants.{OutOfMemory, Spent as TurnsSpent}
 
 -- so many calls of `wait` were counted, whose count stays at the end of its type
 pub record Waited (waits old new : ℕ) : Type 0 where
@@ -28,13 +28,30 @@ abbrev pub Counts : {A E : Type 0} → ℕ → Result A E → Calls → Calls �
 Counts waits (Ok x) old new = Well waits old new
 Counts waits (Err e) old new = Cut waits old new
 
--- of a run: with its turns spent it made as many calls of `wait` as it has turns, and no other end
--- but for want of memory comes without one; where a call wanted memory it was the last, and the run
--- ended for want of memory
-pub record Stops (turns : ℕ) (answer : Ended) (old new : Calls) : Type 0 where
+-- a turn of a run: it made one call of `wait`; or none, where there is a house or the run doesn't go
+-- on
+abbrev pub Turned : Bool → Bool → Calls → Calls → Type 0
+Turned present on old new =
+    Well 1 old new ⊎ (Well 0 old new × ((present ≡ true) ⊎ (on ≡ false)))
+
+-- the turns of a run: where there is no house, it made as many calls of `wait` as it has turns, or one
+-- at least where it doesn't go on; where there is one, no more than those
+pub record Spent (present all : Bool) (turns : ℕ) (old new : Calls) : Type 0 where
   pub few : new.waits ≤ old.waits + turns
-  pub spent : answer ≡ Spent → old.waits < 2 ^ 64 → new.waits ≡ min (old.waits + turns) (2 ^ 64 - 1)
-  pub ends : answer ≢ Spent → answer ≢ OutOfMemory → counted old.waits ≤ new.waits
+  pub all_waited : present ≡ false → all ≡ true → Waited turns old.waits new.waits
+  pub one : present ≡ false → all ≡ false → counted old.waits ≤ new.waits
+  pub wants : new.wants ≡ old.wants
+  pub late : old.wants ≡ 0 → new.late ≡ old.late
+
+-- of a run: it made no more calls of `wait` than it has turns; where there is no house, it made as
+-- many with its turns spent, and no other end but for want of memory comes without one; where a call
+-- wanted memory it was the last, and the run ended for want of memory
+pub record Stops (present : Bool) (turns : ℕ) (answer : Ended) (old new : Calls) : Type 0 where
+  pub few : new.waits ≤ old.waits + turns
+  pub spent : present ≡ false → answer ≡ TurnsSpent → old.waits < 2 ^ 64
+      → new.waits ≡ min (old.waits + turns) (2 ^ 64 - 1)
+  pub ends : present ≡ false → answer ≢ TurnsSpent → answer ≢ OutOfMemory
+      → counted old.waits ≤ new.waits
   pub wants : new.wants ≤ old.wants + 1
   pub starved : new.wants ≢ old.wants → answer ≡ OutOfMemory
   pub late : old.wants ≡ 0 → new.late ≡ old.late

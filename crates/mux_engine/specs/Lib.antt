@@ -1,4 +1,9 @@
+pub mod Asking
 pub mod Counted
+pub mod Orders
+pub mod Owned
+pub mod Rests
 pub mod Run
 pub mod Serving
+pub mod Sides
 pub mod Turns

@@ -1,8 +1,12 @@
 -- What is promised of a whole run.
-use Rattle.std.specs.Prelude.{◌≡◌, ◌≢◌, ◌≤◌, ◌<◌, ℕ, List, ◌++◌, length, Option}
-use Rattle.mux_outside.specs.House.{Asked}
+use Rattle.std.specs.Prelude.{◌≡◌, ◌≢◌, ◌≤◌, ◌<◌, ℕ, Bool, false, not, List, ◌++◌, length, All, Option}
+use Rattle.std.specs.Option.{option_map}
+use Rattle.mux_outside.specs.declared.house_mark.HouseMark.{HouseMark}
 use Rattle.mux_outside.specs.declared.house.HouseReply.{HouseReply}
 use Rattle.mux_outside.specs.declared.mark.Mark.{Mark}
+use Rattle.mux_outside.specs.declared.mark.Mark.TheVariants.{Waits, House}
+use Rattle.mux_outside.specs.OwnStreams.{is_own}
+use Rattle.mux_outside.specs.declared.turn.Want.TheVariants.{Read}
 use Rattle.mux_history.specs.declared.ended.Ended.{Ended}
 use Rattle.mux_history.specs.declared.ended.Ended.TheVariants.{OutOfMemory}
 use Rattle.mux_history.specs.Policy.{Policy}
@@ -15,13 +19,14 @@ use Rattle.mux_history.specs.Solo.{solo}
 use Rattle.mux_history.specs.Right.{AreFresh, IsAdmitted, TakesPick}
 use Rattle.mux_history.specs.Journal.{IsLawful, Tells, bytes_of, log_of_journal, taken_by}
 use Rattle.mux_history.specs.Kept.{AtEach, ForEach, Kept, OwnWords}
-use Rattle.mux_history.specs.Promises.{ConnectionEnds, IsFront, MayGive, OpenStreams, Settled, Throughout, Written, waits_in}
+use Rattle.mux_history.specs.Promises.{ConnectionEnds, IsFront, MayGive, OpenStreams, Settled, Throughout, Written, is_asked, turns_in}
 use Rattle.mux_history.specs.Wires.{ReadsWhenAsked}
 use Rattle.mux_isolation.specs.Bytes.{GivesAlike, SendsAlike}
 use Rattle.mux_isolation.specs.Laws.{WaitsBounded}
 use Rattle.mux_bounds.specs.Bounds.{IsLog, RestsShort, StaysBelow}
 use Rattle.mux_bounds.specs.Few.{ChannelsBounded, ForwardingsBounded, LeavesNothing, MattersBounded, RequestsBounded, UnansweredBounded}
 use Rattle.mux_clients.specs.Asked.{asked_of, TellsAsks}
+use Rattle.mux_engine.specs.Sides.{asks_in, house_marks}
 
 -- a journal that a wire can give: it is lawful, and the wire read and accepted only right behind a
 -- wait for that
@@ -29,17 +34,33 @@ pub record IsOfWire (journal : List Mark) : Type 0 where
   pub lawful : IsLawful journal
   pub asked : Throughout ReadsWhenAsked journal
 
+-- what is so of each house at rest by what it told is so at each wait at which more is read
+abbrev pub RestedAt : (Option (List HouseMark) → Type 0) → Option (List HouseMark) → List Mark
+    → Mark → Type 0
+RestedAt Rest before journal (Waits waiting Read streams listens) =
+    Rest (option_map (λ told. told ++ house_marks journal) before)
+RestedAt Rest before journal mark = Unit {0}
+
+abbrev pub Rested : (Option (List HouseMark) → Type 0) → Option (List HouseMark) → List Mark
+    → Type 0
+Rested Rest before journal = Throughout (RestedAt Rest before) journal
+
+-- a mark of what a house does by itself
+abbrev pub is_by_house : Mark → Bool
+is_by_house (House mark) = not (is_asked mark)
+is_by_house mark = false
+
 -- how a run ends: as the journal says, and each stream was offered what waits for it
-pub record EndsRight (setting : Setting) (turns : ℕ) (journal : List Mark) (answer : Ended) :
-    Type 0 where
-  pub end : ConnectionEnds setting turns journal answer
+pub record EndsRight (setting : Setting) (turns : ℕ) (journal : List Mark) (refused : Option ℕ)
+    (answer : Ended) : Type 0 where
+  pub end : ConnectionEnds setting turns journal refused answer
   pub settled : Settled setting journal
 
 -- what the stream of each admitted client took begins, byte for byte, what its unshared connection
--- gives it
+-- gives it; the house has no stream
 abbrev pub TakesUnshared : Setting → List Mark → List Row → Type 0
 TakesUnshared setting journal rows =
-    (k : ℕ) → 0 < k → IsAdmitted k rows
+    (k : ℕ) → 0 < k → is_own k ≡ false → IsAdmitted k rows
     → IsFront (taken_by k journal) (given_to k (solo setting k rows))
 
 -- what is promised of rows: windows, permissions, askers, what is delivered and what goes up,
@@ -62,17 +83,19 @@ pub record KeepsRows (setting : Setting) (rows : List Row) : Type 0 where
   pub client_queues : AtEach WaitsBounded rows
   pub server_queue : AtEach StaysBelow rows
 
--- The journal is what the wire told in this run, where it tells: one that a wire can give. There
--- are numbers that were picked, and replies that the house may give, for which all is written and
--- kept open as it must be. The rows are those of the whole journal; want of memory may have cut
--- those of its last mark. Each number is fresh at its row, and there is one for each row that takes
--- one, and one reply for each row that asks; the house, which told `before` and tells `now`, was
--- told exactly the asks of these rows with these replies, and where memory was wanting perhaps some
--- more. These rows, and all others that want of memory may have left, keep what is promised of
--- rows; and but for want of memory the run ends right.
-pub record IsRun (May : HouseReply → Type 0) (policy : Policy) (pid turns : ℕ)
-    (before now : Option (List Asked)) (start told : Option (List Mark)) (answer : Ended) :
-    Type 0 where
+-- The journal is what the wire told in this run, where it tells, with the house's marks: one that a
+-- wire can give. There are numbers that were picked, and replies that the house may give at once, for
+-- which all is written and kept open as it must be. The rows are those of the whole journal; want of
+-- memory may have cut those of its last event. Each number is fresh at its row, and there is one for
+-- each row that takes one, and one reply for each row that asks; the house, which told `before` and
+-- tells `now`, told what the journal has of it, where its asks are those of these rows, and where
+-- memory was wanting perhaps some more; where none is present, the journal has nothing of a house but
+-- the asks of clients. These rows, and all others that want of memory may have left, keep what is
+-- promised of rows; and but for want of memory the run ends right, where `refused` is the forwarding
+-- of the start that was refused, if none may be.
+pub record IsRun (May : HouseReply → Type 0) (Rest : Option (List HouseMark) → Type 0)
+    (present : Bool) (policy : Policy) (pid turns : ℕ) (before now : Option (List HouseMark))
+    (start told : Option (List Mark)) (refused : Option ℕ) (answer : Ended) : Type 0 where
   pub journal : List Mark
   pub picks : List ℕ
   pub replies : List HouseReply
@@ -90,11 +113,16 @@ pub record IsRun (May : HouseReply → Type 0) (policy : Policy) (pid turns : �
       → AreFresh others → KeepsRows (by_lists policy pid picks replies) others
   pub alone : TakesUnshared (by_lists policy pid picks replies) journal rows
   pub rests : (t : ℕ) → RestsShort (bytes_of t journal)
-  pub waits : waits_in journal ≤ turns
+  pub turns_given : turns_in journal ≤ turns
   pub numbers : numbers_taken rows ≡ length picks
   pub answers : replies_given rows ≡ length replies
-  pub more_asks : List Asked
-  pub house : TellsAsks before now (asked_of rows ++ more_asks)
-  pub house_whole : answer ≢ OutOfMemory → TellsAsks before now (asked_of rows)
+  pub more : List HouseMark
+  pub more_asks : List HouseMark
+  pub house : TellsAsks before now (house_marks journal ++ more)
+  pub asked : asks_in (house_marks journal ++ more) ≡ asked_of rows ++ more_asks
+  pub house_whole : answer ≢ OutOfMemory → TellsAsks before now (house_marks journal)
+  pub asks_whole : answer ≢ OutOfMemory → asks_in (house_marks journal) ≡ asked_of rows
+  pub rested : Rested Rest before journal
+  pub absent : present ≡ false → All (λ (mark : Mark). is_by_house mark ≡ false) journal
   pub ends : answer ≢ OutOfMemory
-      → EndsRight (by_lists policy pid picks replies) turns journal answer
+      → EndsRight (by_lists policy pid picks replies) turns journal refused answer

@@ -1,28 +1,33 @@
 -- What holds between an engine and its wire while it is served.
-use Rattle.std.specs.Prelude.{◌≡◌, ◌≤◌, ◌<◌, ◌⊎◌, ◌||◌, ◌==◌, ℕ, Bool, true, false, List, ◌∷◌, ◌++◌, length, Option, Some, None, Result, MatchResult}
+use Rattle.std.specs.Prelude.{◌≡◌, ◌≤◌, ◌<◌, ◌+◌, ◌⊎◌, ◌||◌, ◌==◌, ℕ, Bool, true, false, List, [], ◌∷◌, ◌++◌, length, IsTrue, All, Option, Some, None, Result, MatchResult}
 use Rattle.mux_outside.specs.Counts.{Rose}
-use Rattle.mux_outside.specs.House.{Asked}
+use Rattle.mux_outside.specs.House.{OpenAsk}
+use Rattle.mux_outside.specs.OwnStreams.{is_own}
 use Rattle.mux_outside.specs.Seen.{Seen}
 use Rattle.mux_outside.specs.Streams.{among}
 use Rattle.mux_outside.specs.declared.house.HouseReply.{HouseReply}
+use Rattle.mux_outside.specs.declared.house_mark.HouseMark.{HouseMark}
 use Rattle.mux_outside.specs.declared.mark.Mark.{Mark}
+use Rattle.mux_outside.specs.declared.own_streams.TheConstants.{LAST_CLIENT}
 use Rattle.mux_history.specs.declared.ended.Ended.{Ended}
 use Rattle.mux_history.specs.declared.ended.Ended.TheVariants.{ServerFailed}
+use Rattle.mux_history.specs.declared.limits.TheConstants.{HOUSE}
 use Rattle.mux_history.specs.Policy.{Policy}
 use Rattle.mux_history.specs.Rows.{Row, rows_of, is_out}
 use Rattle.mux_history.specs.Choices.{numbers_taken, replies_given}
 use Rattle.mux_history.specs.Log.{Setting}
 use Rattle.mux_history.specs.Settings.{by_lists}
 use Rattle.mux_history.specs.Right.{AreFresh}
-use Rattle.mux_history.specs.Journal.{Tells, is_accepted, is_blocked, log_of_journal}
-use Rattle.mux_history.specs.Promises.{IsSettled, MayGive, OpenStreams, Written, waits_in, write_failed}
+use Rattle.mux_history.specs.Journal.{Tells, is_accepted, is_blocked, is_own_stream, log_of_journal}
+use Rattle.mux_history.specs.Promises.{IsSettled, MayGive, OpenStreams, Written, has_failed, not_own, turns_in, write_failed}
 use Rattle.mux_history.specs.Wires.{OfWire}
 use Rattle.mux_bounds.specs.Bounds.{IsLog}
 use Rattle.mux_clients.specs.Asked.{asked_of, TellsAsks}
 use Rattle.mux_machine.specs.State.{State, is_here}
 use Rattle.mux_machine.specs.Events.{here}
 use Rattle.mux_machine.specs.Stands.{Stands}
-use Rattle.mux_engine.specs.Run.{IsOfWire}
+use Rattle.mux_engine.specs.Run.{IsOfWire, Rested, is_by_house}
+use Rattle.mux_engine.specs.Sides.{Resting, Side, asks_in, house_marks}
 
 -- a stream that is open: the server's, and that of a client that is here
 abbrev pub is_open : State → ℕ → Bool
@@ -34,13 +39,15 @@ pub record Kept (setting : Setting) (journal : List Mark) : Type 0 where
   pub open_streams : OpenStreams setting journal
 
 -- all that was promised so far: while the run goes on, a client to whose stream a write failed is
--- out; and the streams that are not in `todo` were offered what waits for them
+-- out; and the streams that are not in `todo` were offered what waits for them. No row tells of the
+-- master's own streams
 pub record IsSound (setting : Setting) (journal : List Mark) (todo : List ℕ) (s : State) :
     Type 0 where
   pub kept : Kept setting journal
-  pub failed_out : (t : ℕ) → write_failed t journal ≡ true → s.ended ≡ None
-      → is_out (rows_of t (log_of_journal setting journal)) ≡ true
-  pub settled : (t : ℕ) → among t todo ≡ false → IsSettled setting journal t
+  pub failed_out : (t : ℕ) → is_own_stream t ≡ false → write_failed t journal ≡ true
+      → s.ended ≡ None → is_out (rows_of t (log_of_journal setting journal)) ≡ true
+  pub settled : (t : ℕ) → is_own_stream t ≡ false → among t todo ≡ false
+      → IsSettled setting journal t
 
 -- a client that did not come yet
 pub record IsUnseen (journal : List Mark) (blocked : List ℕ) (k : ℕ) : Type 0 where
@@ -48,14 +55,29 @@ pub record IsUnseen (journal : List Mark) (blocked : List ℕ) (k : ℕ) : Type 
   pub never_blocked : is_blocked k journal ≡ false
   pub not_blocked : among k blocked ≡ false
 
--- with the numbers that were picked and the replies that the house gave, one to each ask that it
--- was told since it told `before`, the engine stands for what the wire told since the start, in
--- which `given` turns were asked for; the journal is one that a wire can give; the streams that are
--- open are the server's and those of the clients that are here; and whatever is picked and replied
--- later, all is sound
-pub record Serving (May : HouseReply → Type 0) (before now : Option (List Asked)) (policy : Policy)
-    (pid : ℕ) (start : Option (List Mark)) (seen : Seen) (held : List ℕ) (given : ℕ) (todo : List ℕ)
-    (s : State) : Type 0 where
+-- the number of none of the wire's streams so far
+pub record IsUnused (journal : List Mark) (seen : Seen) (k : ℕ) : Type 0 where
+  pub not_open : among k seen.streams ≡ false
+  pub never_blocked : is_blocked k journal ≡ false
+  pub not_blocked : among k seen.blocked ≡ false
+  pub never_failed : has_failed k journal ≡ false
+
+-- such a number is one that is still to be given to a stream of the master's own, and that of the
+-- house
+abbrev pub IsFree : ℕ → ℕ → Type 0
+IsFree last k = (IsTrue (is_own k) × (last < k)) ⊎ (k ≡ HOUSE)
+
+-- with the numbers that were picked and the replies that the house gave at once, one to each ask
+-- that it was told since it told `before`, the engine stands for what the wire told since the start,
+-- in which `given` turns were given; all that the house told since is there but its last asks; one
+-- that was let in is present, and where none is the journal has nothing of a house but the asks of
+-- clients; the journal is one that a wire can give; the streams that are open are the server's, those
+-- of the clients that are here and the master's own; and whatever is picked and replied later, all is
+-- sound
+pub record Serving (May : HouseReply → Type 0) (Rest : Resting)
+    (before : Option (List HouseMark)) (now : Side) (policy : Policy) (pid : ℕ)
+    (start : Option (List Mark)) (seen : Seen) (held failed : List ℕ) (given : ℕ)
+    (todo : List ℕ) (s : State) : Type 0 where
   pub journal : List Mark
   pub closed : List ℕ
   pub picked : List ℕ
@@ -64,43 +86,58 @@ pub record Serving (May : HouseReply → Type 0) (before now : Option (List Aske
   pub pid_is : s.pid ≡ pid
   pub may : MayGive May replies
   pub stands : Stands picked replies s journal closed
-  pub house : TellsAsks before now stands.asks
+  pub house : TellsAsks before now.told (house_marks journal ++ now.unnoted)
+  pub asked : asks_in (house_marks journal ++ now.unnoted) ≡ stands.asks
+  pub askers : All (λ (a : OpenAsk). IsTrue (is_accepted a.client journal)) now.asks
+  pub house_in : is_accepted HOUSE journal ≡ now.let_in
+  pub house_there : now.let_in ≡ true → Rest.present ≡ true
+  pub rested : Rested Rest.rests before journal
+  pub absent : Rest.present ≡ false → All (λ (mark : Mark). is_by_house mark ≡ false) journal
   pub tells : Tells start seen.told journal
   pub of_wire : OfWire seen.streams seen.blocked seen.last journal
-  pub waits : waits_in journal ≡ given
-  pub open_are : seen.streams ≡ 0 ∷ here s
+  pub turns : turns_in journal ≡ given
+  pub open_are : not_own seen.streams ≡ 0 ∷ not_own (here s)
+  pub apart : (k : ℕ) → among k (here s) ≡ true → is_own_stream k ≡ false
   pub held_is : held ≡ seen.blocked
-  pub blocked_is : (t : ℕ) → is_open s t ≡ true → among t seen.blocked ≡ is_blocked t journal
-  pub unseen : (k : ℕ) → seen.last < k → IsUnseen journal seen.blocked k
+  pub blocked_is : (t : ℕ) → among t seen.streams ≡ true
+      → among t seen.blocked ≡ is_blocked t journal
+  pub unseen : (k : ℕ) → seen.last < k → k ≤ LAST_CLIENT → IsUnseen journal seen.blocked k
+  pub unused : (k : ℕ) → IsFree seen.last_own k → IsUnused journal seen k
+  pub failed_are : (t : ℕ) → IsTrue (is_own t) → among t seen.streams ≡ true
+      → has_failed t journal ≡ true → among t failed ≡ true
   pub hears : s.ended ≡ None → s.listening ≡ true → seen.listens ≡ true
   pub sound : (picks : List ℕ) (given_later : List HouseReply)
       → IsSound (by_lists policy pid (picked ++ picks) (replies ++ given_later)) journal todo s
 
 -- the same, whatever came before, and whichever streams are to be offered what waits for them
-pub record IsServed (May : HouseReply → Type 0) (now : Option (List Asked)) (seen : Seen)
-    (held : List ℕ) (s : State) : Type 0 where
-  pub before : Option (List Asked)
+pub record IsServed (May : HouseReply → Type 0)
+    (Rest : Bool → Resting) (seen : Seen) (held : List ℕ) (s : State) :
+    Type 0 where
+  pub present : Bool
+  pub before : Option (List HouseMark)
+  pub now : Side
   pub policy : Policy
   pub pid : ℕ
   pub start : Option (List Mark)
+  pub failed : List ℕ
   pub given : ℕ
   pub todo : List ℕ
-  pub serving : Serving May before now policy pid start seen held given todo s
+  pub serving : Serving May (Rest present) before now policy pid start seen held failed given todo s
 
--- the same, with these streams still to be offered what waits for them
-pub record IsServedBut (May : HouseReply → Type 0) (now : Option (List Asked)) (seen : Seen)
-    (held : List ℕ) (todo : List ℕ) (s : State) : Type 0 where
-  pub before : Option (List Asked)
+-- the same with this house, whatever came before it
+pub record ServedWith (May : HouseReply → Type 0) (Rest : Resting)
+    (now : Side) (seen : Seen) (held failed todo : List ℕ) (s : State) : Type 0 where
+  pub before : Option (List HouseMark)
   pub policy : Policy
   pub pid : ℕ
   pub start : Option (List Mark)
   pub given : ℕ
-  pub serving : Serving May before now policy pid start seen held given todo s
+  pub serving : Serving May Rest before now policy pid start seen held failed given todo s
 
 -- ---- want of memory
 
 -- rows that were left of the journal: so many took a number, and they ask this
-pub record IsLeft (setting : Setting) (journal : List Mark) (taken : ℕ) (asks : List Asked) :
+pub record IsLeft (setting : Setting) (journal : List Mark) (taken : ℕ) (asks : List HouseMark) :
     Type 0 where
   pub kept : Kept setting journal
   pub rows : List Row
@@ -110,20 +147,25 @@ pub record IsLeft (setting : Setting) (journal : List Mark) (taken : ℕ) (asks 
   pub given_is : replies_given rows ≡ length asks
   pub asked_is : asked_of rows ≡ asks
 
--- what is left of it for want of memory
-pub record Promised (May : HouseReply → Type 0) (before now : Option (List Asked)) (policy : Policy)
-    (pid : ℕ) (start told : Option (List Mark)) (given : ℕ) : Type 0 where
+-- what is left of it for want of memory: the house may have told some more
+pub record Promised (May : HouseReply → Type 0) (Rest : Resting)
+    (before now : Option (List HouseMark)) (policy : Policy) (pid : ℕ)
+    (start told : Option (List Mark)) (given : ℕ) : Type 0 where
   pub journal : List Mark
   pub picked : List ℕ
   pub replies : List HouseReply
-  pub asks : List Asked
-  pub more_asks : List Asked
+  pub asks : List HouseMark
+  pub more : List HouseMark
+  pub more_asks : List HouseMark
   pub may : MayGive May replies
   pub each : length asks ≡ length replies
-  pub house : TellsAsks before now (asks ++ more_asks)
+  pub house : TellsAsks before now (house_marks journal ++ more)
+  pub asked : asks_in (house_marks journal ++ more) ≡ asks ++ more_asks
+  pub rested : Rested Rest.rests before journal
+  pub absent : Rest.present ≡ false → All (λ (mark : Mark). is_by_house mark ≡ false) journal
   pub tells : Tells start told journal
   pub of_wire : IsOfWire journal
-  pub waits : waits_in journal ≤ given
+  pub turns : turns_in journal ≤ given
   pub left : (picks : List ℕ) (given_later : List HouseReply)
       → IsLeft (by_lists policy pid (picked ++ picks) (replies ++ given_later)) journal
       (length picked) asks
@@ -131,17 +173,69 @@ pub record Promised (May : HouseReply → Type 0) (before now : Option (List Ask
 -- ---- going on
 
 -- whatever came before: a run that was served with `todo` still to be offered is served on with
--- `rest`, or what was promised is left
+-- `rest`, or what was promised is left. The house is not called meanwhile
 abbrev pub ServesOn :
-    {A E : Type 0} → Result A E → (HouseReply → Type 0) → Option (List Asked)
-    → Option (List Asked) → Seen → Seen → List ℕ → List ℕ → List ℕ → (A → List ℕ) → State → State
-    → Type 0
-ServesOn result May now now' seen seen' held held' todo rest s s' =
-    (before : Option (List Asked)) (policy : Policy) (pid : ℕ) (start : Option (List Mark))
-    (given : ℕ) → Serving May before now policy pid start seen held given todo s
+    {A E : Type 0} → Result A E → (HouseReply → Type 0)
+    → (Bool → Resting) → Seen → Seen → List ℕ → List ℕ → List ℕ
+    → (A → List ℕ) → State → State → Type 0
+ServesOn result May Rest seen seen' held held' todo rest s s' =
+    (present : Bool) (before : Option (List HouseMark)) (now : Side) (policy : Policy) (pid : ℕ)
+    (start : Option (List Mark)) (failed : List ℕ) (given : ℕ)
+    → Serving May (Rest present) before now policy pid start seen held failed given todo s
     → MatchResult result
-    (λ x. Serving May before now' policy pid start seen' held' given (rest x) s')
-    (λ e. Promised May before now' policy pid start seen'.told given)
+    (λ x. Serving May (Rest present) before now policy pid start seen' held' failed given (rest x)
+    s')
+    (λ e. Promised May (Rest present) before now.told policy pid start seen'.told given)
+
+-- the same where streams of the master's own are offered what waits for them
+abbrev pub OwnOn :
+    {A E : Type 0} → Result A E → (HouseReply → Type 0)
+    → (Bool → Resting) → Seen → Seen → List ℕ → List ℕ → List ℕ
+    → List ℕ → Type 0
+OwnOn result May Rest seen seen' held held' failed failed' =
+    (present : Bool) (before : Option (List HouseMark)) (now : Side) (policy : Policy) (pid : ℕ)
+    (start : Option (List Mark)) (given : ℕ) (todo : List ℕ) (s : State)
+    → Serving May (Rest present) before now policy pid start seen held failed given todo s
+    → MatchResult result
+    (λ x. Serving May (Rest present) before now policy pid start seen' held' failed' given todo s)
+    (λ e. Promised May (Rest present) before now.told policy pid start seen'.told given)
+
+-- the same where the house is called: with so many turns more, or with so many at most
+abbrev pub RunsOn :
+    {A E : Type 0} → Result A E → (HouseReply → Type 0) → Resting
+    → Side → Side → Seen → Seen → List ℕ → List ℕ → List ℕ → List ℕ → ℕ → (A → ℕ) → List ℕ
+    → (A → List ℕ) → State → State → Type 0
+RunsOn result May Rest now now' seen seen' held held' failed failed' most more todo rest s s' =
+    (before : Option (List HouseMark)) (policy : Policy) (pid : ℕ) (start : Option (List Mark))
+    (given : ℕ) → Serving May Rest before now policy pid start seen held failed given todo s
+    → MatchResult result
+    (λ x. Serving May Rest before now' policy pid start seen' held' failed' (given + more x)
+    (rest x) s')
+    (λ e. Promised May Rest before now'.told policy pid start seen'.told (given + most))
+
+-- the streams that are to be offered what waits for them: where all were, the house may be left
+abbrev pub to_offer : Bool → State → List ℕ
+to_offer true s = HOUSE ∷ []
+to_offer false s = 0 ∷ here s
+
+-- behind a turn of the run, which was given; where the run doesn't go on perhaps none was
+abbrev pub EndsTurn :
+    Bool → ℕ → (HouseReply → Type 0) → Resting
+    → Option (List HouseMark) → Side → Policy → ℕ → Option (List Mark) → Seen → List ℕ → List ℕ
+    → List ℕ → State → Type 0
+EndsTurn on given May Rest before now policy pid start seen held failed todo s =
+    Serving May Rest before now policy pid start seen held failed (given + 1) todo s
+    ⊎ ((on ≡ false) × Serving May Rest before now policy pid start seen held failed given todo s)
+
+-- behind the turns of a run, which were all given unless it doesn't go on
+pub record Spends (all : Bool) (turns : ℕ) (May : HouseReply → Type 0)
+    (Rest : Resting) (before : Option (List HouseMark)) (now : Side)
+    (policy : Policy) (pid : ℕ) (start : Option (List Mark)) (seen : Seen) (held failed : List ℕ)
+    (todo : List ℕ) (s : State) : Type 0 where
+  pub given : ℕ
+  pub most : given ≤ turns
+  pub all_given : all ≡ true → given ≡ turns
+  pub serving : Serving May Rest before now policy pid start seen held failed given todo s
 
 -- ---- the end
 

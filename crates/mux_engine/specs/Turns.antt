@@ -1,6 +1,10 @@
--- What turns are wanted, and their events.
-use Rattle.std.specs.Prelude.{List, ℕ, Option, Some, None, length, nat_lt, if◌then◌else◌}
+-- What turns are wanted, and what they tell.
+use Rattle.std.specs.Prelude.{◌≡◌, ℕ, false, List, [], ◌∷◌, ◌++◌, length, nat_lt, if◌then◌else◌, IsTrue}
+use Rattle.mux_outside.specs.OwnStreams.{is_own}
+use Rattle.mux_outside.specs.Streams.{without}
 use Rattle.mux_outside.specs.declared.mark.Mark.TheVariants.{Accepts, Gets, Ends, Fails}
+use Rattle.mux_outside.specs.declared.own_turn.OwnTurn.{OwnTurn}
+use Rattle.mux_outside.specs.declared.own_turn.OwnTurn.TheVariants as own
 use Rattle.mux_outside.specs.declared.turn.Turn.{Turn}
 use Rattle.mux_outside.specs.declared.turn.Turn.TheVariants as turn
 use Rattle.mux_outside.specs.declared.turn.Want.{Want}
@@ -9,22 +13,49 @@ use Rattle.mux_history.specs.declared.limits.TheConstants.{READING_STOPS_AT}
 use Rattle.mux_machine.specs.declared.event.Event.{Event}
 use Rattle.mux_machine.specs.Events.{Tells}
 use Rattle.mux_machine.specs.State.{State, queue_in}
+use Rattle.mux_engine.specs.declared.events.Next.{Next}
+use Rattle.mux_engine.specs.declared.events.Next.TheVariants as next
 
 -- while 4,194,304 bytes or more wait for the server, nothing is read
 abbrev pub want_of : State → Want
 want_of s = if nat_lt (length (queue_in s 0)) READING_STOPS_AT then Read else WriteOnly
 
--- the event that a turn tells, if it tells one
-abbrev pub IsNext : Option Event → Turn → List ℕ → Type 0
-IsNext None (turn.Writable t) bytes = Unit {0}
-IsNext None turn.NoMemory bytes = Unit {0}
-IsNext None (turn.Accepted k) bytes = ⊥
-IsNext None (turn.Got t) bytes = ⊥
-IsNext None (turn.End t) bytes = ⊥
-IsNext None (turn.Failed t) bytes = ⊥
-IsNext (Some e) (turn.Accepted k) bytes = Tells e (Accepts k)
-IsNext (Some e) (turn.Got t) bytes = Tells e (Gets t bytes)
-IsNext (Some e) (turn.End t) bytes = Tells e (Ends t)
-IsNext (Some e) (turn.Failed t) bytes = Tells e (Fails t)
-IsNext (Some e) (turn.Writable t) bytes = ⊥
-IsNext (Some e) turn.NoMemory bytes = ⊥
+-- the event that a turn tells
+abbrev pub IsEventOf : Event → Turn → List ℕ → Type 0
+IsEventOf e (turn.Accepted k) bytes = Tells e (Accepts k)
+IsEventOf e (turn.Got t) bytes = (is_own t ≡ false) × Tells e (Gets t bytes)
+IsEventOf e (turn.End t) bytes = (is_own t ≡ false) × Tells e (Ends t)
+IsEventOf e (turn.Failed t) bytes = (is_own t ≡ false) × Tells e (Fails t)
+IsEventOf e (turn.Writable t) bytes = ⊥
+IsEventOf e (turn.Joined l t) bytes = ⊥
+IsEventOf e turn.NoMemory bytes = ⊥
+
+-- what it tells of the master's own listeners and streams
+abbrev pub IsOwnOf : OwnTurn → Turn → List ℕ → Type 0
+IsOwnOf (own.Joined l t) given bytes = given ≡ turn.Joined l t
+IsOwnOf (own.Got t got) given bytes =
+    IsTrue (is_own t) × (given ≡ turn.Got t) × (got.now ≡ bytes)
+IsOwnOf (own.End t) given bytes = IsTrue (is_own t) × (given ≡ turn.End t)
+IsOwnOf (own.Writable t) given bytes = IsTrue (is_own t) × (given ≡ turn.Writable t)
+IsOwnOf (own.Failed t) given bytes = IsTrue (is_own t) × (given ≡ turn.Failed t)
+
+-- what a turn tells: an event of the engine, something of the master's own, that another stream
+-- takes bytes again, or that there was no memory
+abbrev pub IsNext : Next → Turn → List ℕ → Type 0
+IsNext (next.Event e) given bytes = IsEventOf e given bytes
+IsNext (next.Own o) given bytes = IsOwnOf o given bytes
+IsNext (next.Freed t) given bytes = (is_own t ≡ false) × (given ≡ turn.Writable t)
+IsNext next.NoMemory given bytes = given ≡ turn.NoMemory
+
+-- the house's streams then, those that are blocked, and those that failed
+abbrev pub own_heard : OwnTurn → List ℕ → List ℕ
+own_heard (own.Joined l t) streams = streams ++ t ∷ []
+own_heard told streams = streams
+
+abbrev pub held_heard : OwnTurn → List ℕ → List ℕ
+held_heard (own.Writable t) held = without t held
+held_heard told held = held
+
+abbrev pub failed_heard : OwnTurn → List ℕ → List ℕ
+failed_heard (own.Failed t) failed = failed ++ t ∷ []
+failed_heard told failed = failed

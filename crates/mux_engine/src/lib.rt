@@ -1,7 +1,12 @@
 //! A run of the master: `serve` drives an engine over a wire.
 #![tactic(auto)]
 
+mod asking;
 mod events;
+mod housing;
+mod orders;
+mod owned;
+mod room;
 mod serving;
 mod settling;
 

@@ -1,81 +1,394 @@
-ghost use Rattle.std.specs.Prelude.{[], ◌∷◌, ◌≡◌, ◌≢◌, ◌≤◌, ◌+◌, List, ℕ, true, OnOk, IfOk, MatchResult, Some, None};
+ghost use Rattle.std.specs.Prelude.{[], ◌∷◌, ◌≡◌, ◌≢◌, ◌≤◌, ◌+◌, List, ℕ, true, false, OnOk, IfOk, MatchResult, Some, None};
+ghost use Rattle.std.specs.Result.{result_unwrap_or};
 ghost use Rattle.std.specs.declared.option.Option.{Option};
 ghost use Rattle.mux_outside.specs.Counts.{Rose};
-ghost use Rattle.mux_outside.specs.House.{Asked as TheAsked};
+ghost use Rattle.mux_outside.specs.House.{OwnTurnFits, known_after_own_turn, nothing_known};
 ghost use Rattle.mux_outside.specs.Wire.{SameFaults};
+ghost use Rattle.mux_outside.specs.declared.house_mark.HouseMark.{HouseMark as TheHouseMark};
 ghost use Rattle.mux_outside.specs.declared.mark.Mark.{Mark as TheMark};
-ghost use Rattle.mux_history.specs.declared.ended.Ended.TheVariants.{ServerFailed, OutOfMemory as WantOfMemory, Spent as TurnsSpent};
+ghost use Rattle.mux_history.specs.declared.ended.Ended.TheVariants.{ServerFailed, OutOfMemory as WantOfMemory, StartRefused as StartWasRefused};
+ghost use Rattle.mux_history.specs.declared.limits.TheConstants.{HOUSE as TheHouse};
 ghost use Rattle.mux_history.specs.Policy.{Policy as ThePolicy};
 ghost use Rattle.mux_machine.specs.Events.{went_of, here};
-ghost use Rattle.mux_engine.specs.Counted.{Counts, Stops};
+ghost use Rattle.mux_engine.specs.Counted.{Counts, Cut, Spent, Stops, Turned, Well};
+ghost use Rattle.mux_engine.specs.Rests.{IsAlone, IsByRow, IsReady, ended_as, refused_if};
 ghost use Rattle.mux_engine.specs.Run.{IsRun};
-ghost use Rattle.mux_engine.specs.Serving.{IsServedBut, Promised, Serving};
-ghost use Rattle.mux_engine.specs.Turns.{want_of};
+ghost use Rattle.mux_engine.specs.Serving.{EndsTurn, Promised, RunsOn, ServedWith, Serving, Spends, StaysOrFails, to_offer};
+ghost use Rattle.mux_engine.specs.Sides.{Housed, RestsOf, SameHouse, SamePlaces, noted, outside};
+ghost use Rattle.mux_engine.specs.Turns.{failed_heard, held_heard, own_heard};
 
-use crate::events::event_of;
-use crate::settling::{flush, settle};
+use crate::asking::heed;
+use crate::events::{Next, next_of};
+use crate::housing::{let_in, reply_all, step_house, wanted};
+use crate::owned::list_waiting;
+use crate::room::Lists;
+use crate::settling::{close_lost, flush, hush};
 use forward_rules::Policy;
+use mux_clients::Asks;
 use mux_history::Ended;
-use mux_history::limits::READING_STOPS_AT;
 use mux_machine::{Engine, Went};
-use mux_outside::{House, Piece, Streams, Turn, Want, Wire};
+use mux_outside::{House, OwnTurn, Piece, Wire};
 use ssh_fields::OutOfMemory;
 use std::alloc::Global;
 
-// What the next turn may be: while 4,194,304 bytes or more wait for the server, nothing is read.
-fn wanted(engine: &Engine) -> Want
-    ensures { result ≡ want_of engine.now }
+// Keeps what one of the master's own listeners and streams told, and hands it on.
+fn hear<H: House>(house: &mut H, lists: &mut Lists, told: OwnTurn<'_>) -> Result<(), OutOfMemory>
+    requires ordering { (H.known house.old).ordering ≡ None }
+    requires fits { OwnTurnFits told (H.known house.old) (H.quiet house.old) }
+    ensures known { OnOk result (H.known house.new
+        ≡ known_after_own_turn told.entry (H.known house.old)) }
+    ensures own { OnOk result (lists.new.own ≡ own_heard told.entry lists.old.own) }
+    ensures held { OnOk result (lists.new.held ≡ held_heard told.entry lists.old.held) }
+    ensures failed { OnOk result (lists.new.failed ≡ failed_heard told.entry lists.old.failed) }
+    ensures must { H.must house.new ≡ H.must house.old }
+    ensures told { H.told house.new ≡ H.told house.old }
 {
-    if engine.queue_of(0).len() < READING_STOPS_AT {
-        Want::Read
-    } else {
-        Want::WriteOnly
+    match told {
+        OwnTurn::Joined { stream, .. } => lists.own.push(stream)?,
+        OwnTurn::Writable(stream) => lists.held.remove(stream),
+        OwnTurn::Failed(stream) => lists.failed.push(stream)?,
+        _ => {}
     }
+    house.turn(told)
 }
 
-// One turn: what the wire tells next goes into the engine.
+// One call of `wait`: what the wire tells next goes into the engine, or to the house.
 fn turn<W: Wire, H: House>(
     engine: &mut Engine,
     wire: &mut W,
     house: &mut H,
-    held: &mut Streams,
+    lists: &mut Lists,
     piece: &mut Piece,
 ) -> Result<Went, OutOfMemory>
-    requires served { IsServedBut H.may (H.told house.old) (W.seen wire.old) held.old []
-        engine.old }
+    requires served { ServedWith H.may (RestsOf H.told H.quiet (H.known house.old).present)
+        (noted (H.told house.old) (H.known house.old)) (W.seen wire.old) lists.old.held
+        lists.old.failed [] engine.old }
+    requires housed { Housed (H.known house.old) (W.seen wire.old) lists.old.own }
+    requires alone { IsAlone (H.known house.old) }
+    requires ready { IsReady (H.known house.old) (H.quiet house.old) (H.queue house.old)
+        lists.old.held lists.old.failed lists.old.own engine.old }
     requires closed { engine.old.leaving ≡ [] }
     requires refused { engine.old.refused ≡ [] }
     requires on { engine.old.ended ≡ None }
     requires hears { (W.seen wire.old).listens ≡ engine.old.listening }
-    ensures serving { (before : Option (List TheAsked)) (policy : ThePolicy) (pid : ℕ)
-        (start : Option (List TheMark)) (given : ℕ) →
-        Serving H.may before (H.told house.old) policy pid start (W.seen wire.old) held.old given []
-        engine.old →
-        MatchResult result
-        (λ went. Serving H.may before (H.told house.new) policy pid start (W.seen wire.new) held.new
-        (given + 1) (0 ∷ here engine.new) engine.new)
-        (λ e. Promised H.may before (H.told house.new) policy pid start (W.seen wire.new).told
-        (given + 1)) }
+    ensures serving { RunsOn result H.may (RestsOf H.told H.quiet (H.known house.old).present)
+        (noted (H.told house.old) (H.known house.old))
+        (noted (H.told house.new) (H.known house.new)) (W.seen wire.old) (W.seen wire.new)
+        lists.old.held lists.new.held lists.old.failed lists.new.failed 1 (λ went. 1) []
+        (λ went. 0 ∷ here engine.new) engine.old engine.new }
+    ensures housed { OnOk result (Housed (H.known house.new) (W.seen wire.new) lists.new.own) }
+    ensures alone { OnOk result (IsAlone (H.known house.new)) }
+    ensures held_is { OnOk result (lists.new.held ≡ (W.seen wire.new).blocked) }
+    ensures present { OnOk result ((H.known house.new).present ≡ (H.known house.old).present) }
     ensures went { IfOk result (λ went. went ≡ went_of engine.new.ended) }
     ensures failed { OnOk result (engine.new.ended ≡ Some ServerFailed
         → Rose (W.server_faults wire.old) (W.server_faults wire.new)) }
-    ensures unspent { OnOk result (engine.new.ended ≢ Some TurnsSpent) }
+    ensures by_row { OnOk result (IsByRow engine.new.ended) }
+    ensures unopened { (H.known house.old).present ≡ false
+        → (W.seen wire.new).last_own ≡ (W.seen wire.old).last_own }
     ensures later { W.server_faults wire.old ≤ W.server_faults wire.new }
     ensures calls { Counts 1 result (W.calls wire.old) (W.calls wire.new) }
     ensures openings { W.openings wire.new ≡ W.openings wire.old }
     ensures joinings { W.joinings wire.new ≡ W.joinings wire.old }
 {
-    let next = wire.wait(engine.waiting(), wanted(engine), piece);
-    match event_of(next, piece.as_bytes()) {
-        Some(e) => engine.event(e, house),
-        None => match next {
-            Turn::Writable(stream) => {
-                held.remove(stream);
-                Ok(Went::On)
-            }
-            _ => Err(OutOfMemory),
-        },
+    list_waiting(
+        house,
+        engine.waiting(),
+        &lists.own,
+        &lists.failed,
+        &mut lists.todo,
+    )?;
+    let told = wire.wait(&lists.todo, wanted(engine), piece);
+    match next_of(told, piece.as_bytes()) {
+        Next::Event(e) => heed(engine, wire, house, &mut lists.asks, e),
+        Next::Own(told) => {
+            hear(house, lists, told)?;
+            Ok(Went::On)
+        }
+        Next::Freed(stream) => {
+            lists.held.remove(stream);
+            Ok(Went::On)
+        }
+        Next::NoMemory => Err(OutOfMemory),
     }
+}
+
+// The forwarding of the start that ends the run, since it was refused.
+fn refusal<H: House>(house: &H) -> Option<usize>
+    ensures { result ≡ refused_if (H.known house.now).present (H.must house.now)
+        (H.refused house.now) }
+{
+    if !house.present() || !house.must() {
+        return None;
+    }
+    house.refused_start()
+}
+
+// Whether the run goes on no more: it ended, or a forwarding of the start was refused.
+fn is_over<H: House>(engine: &Engine, house: &H) -> bool
+    ensures on { result ≡ false → engine.now.ended ≡ None }
+    ensures over { result ≡ true → engine.now.ended ≡ None
+        → refused_if (H.known house.now).present (H.must house.now) (H.refused house.now) ≢ None }
+{
+    if engine.ended().is_some() {
+        return true;
+    }
+    refusal(house).is_some()
+}
+
+// A turn of the run, which is an order of the house, a piece that it said, or a wait: whether the run
+// goes on.
+fn one_turn<W: Wire, H: House>(
+    alloc: Global,
+    engine: &mut Engine,
+    wire: &mut W,
+    house: &mut H,
+    lists: &mut Lists,
+    piece: &mut Piece,
+) -> Result<bool, OutOfMemory>
+    requires served { ServedWith H.may (RestsOf H.told H.quiet (H.known house.old).present)
+        (noted (H.told house.old) (H.known house.old)) (W.seen wire.old) lists.old.held
+        lists.old.failed (0 ∷ here engine.old) engine.old }
+    requires housed { Housed (H.known house.old) (W.seen wire.old) lists.old.own }
+    requires alone { IsAlone (H.known house.old) }
+    requires on { engine.old.ended ≡ None }
+    ensures serving { (before : Option (List TheHouseMark)) (policy : ThePolicy) (pid : ℕ)
+        (start : Option (List TheMark)) (given : ℕ) →
+        Serving H.may (RestsOf H.told H.quiet (H.known house.old).present) before
+        (noted (H.told house.old) (H.known house.old)) policy pid start (W.seen wire.old)
+        lists.old.held lists.old.failed given (0 ∷ here engine.old) engine.old →
+        MatchResult result
+        (λ on. EndsTurn on given H.may (RestsOf H.told H.quiet (H.known house.old).present) before
+        (noted (H.told house.new) (H.known house.new)) policy pid start (W.seen wire.new)
+        lists.new.held lists.new.failed (to_offer lists.new.settled engine.new) engine.new)
+        (λ e. Promised H.may (RestsOf H.told H.quiet (H.known house.old).present) before
+        (H.told house.new) policy pid start (W.seen wire.new).told (given + 1)) }
+    ensures housed { OnOk result (Housed (H.known house.new) (W.seen wire.new) lists.new.own) }
+    ensures alone { OnOk result (IsAlone (H.known house.new)) }
+    ensures held_is { OnOk result (lists.new.held ≡ (W.seen wire.new).blocked) }
+    ensures present { OnOk result ((H.known house.new).present ≡ (H.known house.old).present) }
+    ensures on { IfOk result (λ on. on ≡ true → engine.new.ended ≡ None) }
+    ensures settled { IfOk result (λ on. on ≡ true → lists.new.settled ≡ false) }
+    ensures over { IfOk result (λ on. on ≡ false → engine.new.ended ≡ None
+        → refused_if (H.known house.new).present (H.must house.new) (H.refused house.new) ≢ None) }
+    ensures failed { OnOk result (engine.new.ended ≡ Some ServerFailed
+        → Rose (W.server_faults wire.old) (W.server_faults wire.new)) }
+    ensures by_row { OnOk result (IsByRow engine.new.ended) }
+    ensures idle { engine.old.waiting ≡ [] → (H.known house.old).present ≡ false
+        → IfOk result (λ on. Well 1 (W.calls wire.old) (W.calls wire.new)) }
+    ensures unopened { (H.known house.old).present ≡ false
+        → (W.seen wire.new).last_own ≡ (W.seen wire.old).last_own }
+    ensures later { W.server_faults wire.old ≤ W.server_faults wire.new }
+    ensures calls { MatchResult result
+        (λ on. Turned (H.known house.old).present on (W.calls wire.old) (W.calls wire.new))
+        (λ e. Cut 1 (W.calls wire.old) (W.calls wire.new)) }
+    ensures openings { W.openings wire.new ≡ W.openings wire.old }
+    ensures joinings { W.joinings wire.new ≡ W.joinings wire.old }
+{
+    if step_house(alloc, engine, wire, house, lists, piece)? {
+        lists.settled = false;
+        return Ok(engine.ended().is_none());
+    }
+    close_lost::<W, H>(engine, wire, &mut lists.held);
+    hush::<W, H>(engine, wire);
+    if is_over(engine, house) {
+        lists.settled = true;
+        return Ok(false);
+    }
+    let went = turn(engine, wire, house, lists, piece)?;
+    lists.settled = false;
+    Ok(went == Went::On)
+}
+
+// The turns of a run: whether all were given and it goes on.
+fn turns_of<W: Wire, H: House>(
+    alloc: Global,
+    engine: &mut Engine,
+    wire: &mut W,
+    house: &mut H,
+    lists: &mut Lists,
+    turns: u64,
+) -> Result<bool, OutOfMemory>
+    requires served { ServedWith H.may (RestsOf H.told H.quiet (H.known house.old).present)
+        (noted (H.told house.old) (H.known house.old)) (W.seen wire.old) lists.old.held
+        lists.old.failed (0 ∷ here engine.old) engine.old }
+    requires housed { Housed (H.known house.old) (W.seen wire.old) lists.old.own }
+    requires alone { IsAlone (H.known house.old) }
+    requires on { engine.old.ended ≡ None }
+    requires unsettled { lists.old.settled ≡ false }
+    requires quiet { (H.known house.old).present ≡ false → engine.old.waiting ≡ [] }
+    ensures serving { (before : Option (List TheHouseMark)) (policy : ThePolicy) (pid : ℕ)
+        (start : Option (List TheMark)) →
+        Serving H.may (RestsOf H.told H.quiet (H.known house.old).present) before
+        (noted (H.told house.old) (H.known house.old)) policy pid start (W.seen wire.old)
+        lists.old.held lists.old.failed 0 (0 ∷ here engine.old) engine.old →
+        MatchResult result
+        (λ all. Spends all turns H.may (RestsOf H.told H.quiet (H.known house.old).present) before
+        (noted (H.told house.new) (H.known house.new)) policy pid start (W.seen wire.new)
+        lists.new.held lists.new.failed (to_offer lists.new.settled engine.new) engine.new)
+        (λ e. Promised H.may (RestsOf H.told H.quiet (H.known house.old).present) before
+        (H.told house.new) policy pid start (W.seen wire.new).told turns) }
+    ensures housed { OnOk result (Housed (H.known house.new) (W.seen wire.new) lists.new.own) }
+    ensures held_is { OnOk result (lists.new.held ≡ (W.seen wire.new).blocked) }
+    ensures present { OnOk result ((H.known house.new).present ≡ (H.known house.old).present) }
+    ensures on { IfOk result (λ all. all ≡ true → engine.new.ended ≡ None) }
+    ensures over { IfOk result (λ all. all ≡ false → engine.new.ended ≡ None
+        → refused_if (H.known house.new).present (H.must house.new) (H.refused house.new) ≢ None) }
+    ensures failed { OnOk result (engine.new.ended ≡ Some ServerFailed
+        → Rose (W.server_faults wire.old) (W.server_faults wire.new)) }
+    ensures by_row { OnOk result (IsByRow engine.new.ended) }
+    ensures unopened { (H.known house.old).present ≡ false
+        → (W.seen wire.new).last_own ≡ (W.seen wire.old).last_own }
+    ensures later { W.server_faults wire.old ≤ W.server_faults wire.new }
+    ensures calls { MatchResult result
+        (λ all. Spent (H.known house.old).present all turns (W.calls wire.old) (W.calls wire.new))
+        (λ e. Cut turns (W.calls wire.old) (W.calls wire.new)) }
+    ensures idle { turns ≡ 0 → (house.new ≡ house.old) × (engine.new ≡ engine.old)
+        × SameFaults (W.server_faults wire.old) (W.server_faults wire.new)
+        (W.client_faults wire.old) (W.client_faults wire.new) }
+    ensures openings { W.openings wire.new ≡ W.openings wire.old }
+    ensures joinings { W.joinings wire.new ≡ W.joinings wire.old }
+{
+    let mut piece = Piece::new(alloc)?;
+    for _ in 0..turns {
+        if !one_turn(alloc, engine, wire, house, lists, &mut piece)? {
+            return Ok(false);
+        }
+    }
+    Ok(true)
+}
+
+// Why a run ended, with its turns spent unless something else ended it.
+fn answer_of<H: House>(engine: &Engine, house: &H) -> Ended
+    ensures { result ≡ ended_as engine.now.ended
+        (refused_if (H.known house.now).present (H.must house.now) (H.refused house.now)) }
+{
+    if let Some(cause) = engine.ended() {
+        return cause;
+    }
+    match refusal(house) {
+        Some(index) => Ended::StartRefused { index },
+        None => Ended::Spent,
+    }
+}
+
+// Lets the house in as a client where it is present, before all else.
+fn enter<W: Wire, H: House>(
+    engine: &mut Engine,
+    wire: &mut W,
+    house: &H,
+    asks: &mut Asks,
+) -> Result<(), OutOfMemory>
+    requires on { engine.old.ended ≡ None }
+    requires refused { engine.old.refused ≡ [] }
+    ensures serving { (before : Option (List TheHouseMark)) (policy : ThePolicy) (pid : ℕ)
+        (start : Option (List TheMark)) (held failed : List ℕ) (given : ℕ) →
+        (v : Serving H.may (RestsOf H.told H.quiet (H.known house.now).present) before
+        (outside (H.told house.now) (H.known house.now)) policy pid start (W.seen wire.old) held
+        failed given (0 ∷ here engine.old) engine.old) → v.journal ≡ [] →
+        MatchResult result
+        (λ done. Serving H.may (RestsOf H.told H.quiet (H.known house.now).present) before
+        (noted (H.told house.now) (H.known house.now)) policy pid start (W.seen wire.new) held
+        failed given (0 ∷ here engine.new) engine.new × (engine.new.ended ≡ None))
+        (λ e. Promised H.may (RestsOf H.told H.quiet (H.known house.now).present) before
+        (H.told house.now) policy pid start (W.seen wire.new).told given) }
+    ensures places { SamePlaces (W.seen wire.old) (W.seen wire.new) }
+    ensures alone { (H.known house.now).present ≡ false → (engine.new ≡ engine.old)
+        × (wire.new ≡ wire.old) }
+    ensures calls { W.calls wire.new ≡ W.calls wire.old }
+    ensures faults { W.server_faults wire.new ≡ W.server_faults wire.old }
+    ensures openings { W.openings wire.new ≡ W.openings wire.old }
+    ensures joinings { W.joinings wire.new ≡ W.joinings wire.old }
+{
+    if !house.present() {
+        return Ok(());
+    }
+    let_in::<W, H>(engine, wire, asks)
+}
+
+// Behind the turns of a run, where all were given a house is asked for its replies once more.
+fn last_replies<W: Wire, H: House>(
+    engine: &mut Engine,
+    wire: &mut W,
+    house: &mut H,
+    lists: &mut Lists,
+    all: bool,
+) -> Result<(), OutOfMemory>
+    requires served { ServedWith H.may (RestsOf H.told H.quiet (H.known house.old).present)
+        (noted (H.told house.old) (H.known house.old)) (W.seen wire.old) lists.old.held
+        lists.old.failed (0 ∷ here engine.old) engine.old }
+    requires housed { Housed (H.known house.old) (W.seen wire.old) lists.old.own }
+    requires held_is { lists.old.held ≡ (W.seen wire.old).blocked }
+    requires on { all ≡ true → engine.old.ended ≡ None }
+    ensures serving { RunsOn result H.may (RestsOf H.told H.quiet (H.known house.old).present)
+        (noted (H.told house.old) (H.known house.old))
+        (noted (H.told house.new) (H.known house.new)) (W.seen wire.old) (W.seen wire.new)
+        lists.old.held lists.new.held lists.old.failed lists.new.failed 0 (λ done. 0)
+        (0 ∷ here engine.old) (λ done. 0 ∷ here engine.new) engine.old engine.new }
+    ensures known { OnOk result (SameHouse (H.known house.old) (H.known house.new)) }
+    ensures places { SamePlaces (W.seen wire.old) (W.seen wire.new) }
+    ensures unasked { all ≡ false → house.new ≡ house.old }
+    ensures ended { OnOk result (engine.new.ended ≡ engine.old.ended) }
+    ensures alone { (H.known house.old).present ≡ false → (engine.new ≡ engine.old)
+        × (wire.new ≡ wire.old) }
+    ensures calls { Counts 0 result (W.calls wire.old) (W.calls wire.new) }
+    ensures faults { W.server_faults wire.new ≡ W.server_faults wire.old }
+    ensures openings { W.openings wire.new ≡ W.openings wire.old }
+    ensures joinings { W.joinings wire.new ≡ W.joinings wire.old }
+{
+    if !all {
+        return Ok(());
+    }
+    if !house.present() {
+        return Ok(());
+    }
+    reply_all(engine, wire, house, lists)
+}
+
+// Behind the turns of a run: the house's last replies, and then each stream is offered what waits for
+// it, unless it was.
+fn finish<W: Wire, H: House>(
+    engine: &mut Engine,
+    wire: &mut W,
+    house: &mut H,
+    lists: &mut Lists,
+    all: bool,
+) -> Result<(), OutOfMemory>
+    requires served { ServedWith H.may (RestsOf H.told H.quiet (H.known house.old).present)
+        (noted (H.told house.old) (H.known house.old)) (W.seen wire.old) lists.old.held
+        lists.old.failed (to_offer lists.old.settled engine.old) engine.old }
+    requires housed { Housed (H.known house.old) (W.seen wire.old) lists.old.own }
+    requires held_is { lists.old.held ≡ (W.seen wire.old).blocked }
+    requires on { all ≡ true → engine.old.ended ≡ None }
+    ensures serving { RunsOn result H.may (RestsOf H.told H.quiet (H.known house.old).present)
+        (noted (H.told house.old) (H.known house.old))
+        (noted (H.told house.new) (H.known house.new)) (W.seen wire.old) (W.seen wire.new)
+        lists.old.held lists.new.held lists.old.failed lists.new.failed 0 (λ done. 0)
+        (to_offer lists.old.settled engine.old) (λ done. TheHouse ∷ []) engine.old engine.new }
+    ensures known { OnOk result (SameHouse (H.known house.old) (H.known house.new)) }
+    ensures places { SamePlaces (W.seen wire.old) (W.seen wire.new) }
+    ensures unasked { all ≡ false → house.new ≡ house.old }
+    ensures ended { OnOk result (StaysOrFails engine.old.ended engine.new.ended
+        (W.server_faults wire.old) (W.server_faults wire.new)) }
+    ensures calls { Counts 0 result (W.calls wire.old) (W.calls wire.new) }
+    ensures openings { W.openings wire.new ≡ W.openings wire.old }
+    ensures joinings { W.joinings wire.new ≡ W.joinings wire.old }
+    ensures idle { engine.old.waiting ≡ [] → (H.known house.old).present ≡ false
+        → (engine.new ≡ engine.old)
+        × SameFaults (W.server_faults wire.old) (W.server_faults wire.new)
+        (W.client_faults wire.old) (W.client_faults wire.new) }
+{
+    if lists.settled {
+        return Ok(());
+    }
+    last_replies(engine, wire, house, lists, all)?;
+    flush::<W, H>(
+        engine,
+        wire,
+        &mut lists.held,
+        &mut lists.todo,
+        &mut lists.asks,
+    )
 }
 
 // Serves a wire for so many turns: why it ended.
@@ -86,51 +399,57 @@ fn run<W: Wire, H: House>(
     house: &mut H,
     turns: u64,
 ) -> Result<Ended, OutOfMemory>
-    requires running { IsServedBut H.may (H.told house.old) (W.seen wire.old) []
-        (0 ∷ here engine.old) engine.old }
+    requires running { (v : ServedWith H.may (RestsOf H.told H.quiet (H.known house.old).present)
+        (outside (H.told house.old) (H.known house.old)) (W.seen wire.old) [] []
+        (0 ∷ here engine.old) engine.old) × (v.serving.journal ≡ []) }
+    requires housed { Housed (H.known house.old) (W.seen wire.old) [] }
+    requires alone { IsAlone (H.known house.old) }
     requires on { engine.old.ended ≡ None }
+    requires refused { engine.old.refused ≡ [] }
     requires quiet { engine.old.waiting ≡ [] }
-    ensures ran { (before : Option (List TheAsked)) (policy : ThePolicy) (pid : ℕ)
+    ensures ran { (before : Option (List TheHouseMark)) (policy : ThePolicy) (pid : ℕ)
         (start : Option (List TheMark)) →
-        Serving H.may before (H.told house.old) policy pid start (W.seen wire.old) [] 0
-        (0 ∷ here engine.old) engine.old →
-        MatchResult result
-        (λ answer. IsRun H.may policy pid turns before (H.told house.new) start
-        (W.seen wire.new).told answer)
-        (λ e. IsRun H.may policy pid turns before (H.told house.new) start (W.seen wire.new).told
-        WantOfMemory) }
+        (v : Serving H.may (RestsOf H.told H.quiet (H.known house.old).present) before
+        (outside (H.told house.old) (H.known house.old)) policy pid start (W.seen wire.old) [] [] 0 (0 ∷ here engine.old) engine.old) → v.journal ≡ [] →
+        IsRun H.may (RestsOf H.told H.quiet (H.known house.old).present).rests
+        (H.known house.old).present policy pid turns before (H.told house.new)
+        start (W.seen wire.new).told
+        (refused_if (H.known house.old).present (H.must house.new) (H.refused house.new))
+        (result_unwrap_or result WantOfMemory) }
+    ensures permitted { IfOk result (λ answer. (index : ℕ) → answer ≡ StartWasRefused index
+        → refused_if (H.known house.old).present (H.must house.new) (H.refused house.new)
+        ≡ Some index) }
     ensures failed { IfOk result (λ answer. answer ≡ ServerFailed
         → Rose (W.server_faults wire.old) (W.server_faults wire.new)) }
-    ensures calls { MatchResult result
-        (λ answer. Stops turns answer (W.calls wire.old) (W.calls wire.new))
-        (λ e. Stops turns WantOfMemory (W.calls wire.old) (W.calls wire.new)) }
+    ensures calls { Stops (H.known house.old).present turns (result_unwrap_or result WantOfMemory)
+        (W.calls wire.old) (W.calls wire.new) }
+    ensures unopened { (H.known house.old).present ≡ false
+        → (W.seen wire.new).last_own ≡ (W.seen wire.old).last_own }
+    ensures places { OnOk result (((W.seen wire.new).listeners ≡ (H.known house.new).listeners)
+        × ((W.seen wire.new).own ≡ (H.known house.new).streams)) }
     ensures openings { W.openings wire.new ≡ W.openings wire.old }
     ensures joinings { W.joinings wire.new ≡ W.joinings wire.old }
-    ensures idle { turns ≡ 0
+    ensures idle { turns ≡ 0 → (H.known house.old).present ≡ false
         → SameFaults (W.server_faults wire.old) (W.server_faults wire.new)
         (W.client_faults wire.old) (W.client_faults wire.new) }
 {
-    let mut piece = Piece::new(alloc)?;
-    let mut held = Streams::new(alloc);
-    let mut todo = Streams::new(alloc);
-    for _ in 0..turns {
-        settle(engine, wire, house, &mut held, &mut todo)?;
-        if let Some(cause) = engine.ended() {
-            return Ok(cause);
-        }
-        if let Went::Ended(_) = turn(engine, wire, house, &mut held, &mut piece)? {
-            break;
-        }
-    }
-    flush(engine, wire, house, &mut held, &mut todo)?;
-    Ok(engine.ended().unwrap_or(Ended::Spent))
+    let mut lists = Lists::new(alloc);
+    enter(engine, wire, house, &mut lists.asks)?;
+    let all = turns_of(alloc, engine, wire, house, &mut lists, turns)?;
+    finish(engine, wire, house, &mut lists, all)?;
+    Ok(answer_of(engine, house))
 }
 
 /// Serves an open wire until the run ends, for so many turns at most: why it ended. It permits what
 /// the policy does, and tells the process id to clients that check. What the wire tells of this run
-/// is written and kept open as it must be, and ends as it must; the house is told each ask of its
-/// clients. It waits once for each turn, and writes nothing before. Behind a call that wanted
-/// memory none is made.
+/// is written and kept open as it must be, and ends as it must. A turn is a call of `wait`, an order
+/// of the house that is carried out, or a piece that the house said; without a house it waits once
+/// for each turn, and writes nothing before. The house is told each ask of its clients; where it is
+/// present it is let in as a client, and is at rest at each wait at which more is read: what is so of
+/// each house at rest by what it told is so there. Behind a call that wanted memory none is made.
+/// But for want of memory the wire's own listeners and streams are at the end those that the house
+/// knows, as it ordered them; without a house none was opened. The forwarding of the start that an
+/// answer names was refused, where none may be.
 pub fn serve<W: Wire, H: House>(
     alloc: Global,
     policy: Policy,
@@ -142,14 +461,28 @@ pub fn serve<W: Wire, H: House>(
     requires server_alone { (W.seen wire.old).streams ≡ 0 ∷ [] }
     requires none_blocked { (W.seen wire.old).blocked ≡ [] }
     requires listens { (W.seen wire.old).listens ≡ true }
-    ensures kept { IsRun H.may policy pid turns (H.told house.old) (H.told house.new)
-        (W.seen wire.old).told (W.seen wire.new).told result }
+    requires own { (W.seen wire.old).own ≡ [] }
+    requires listeners { (W.seen wire.old).listeners ≡ [] }
+    requires blank { H.known house.old ≡ nothing_known (H.known house.old).present }
+    ensures kept { IsRun H.may (RestsOf H.told H.quiet (H.known house.old).present).rests
+        (H.known house.old).present policy pid turns (H.told house.old)
+        (H.told house.new) (W.seen wire.old).told (W.seen wire.new).told
+        (refused_if (H.known house.old).present (H.must house.new) (H.refused house.new)) result }
+    ensures permitted { (index : ℕ) → result ≡ StartWasRefused index
+        → refused_if (H.known house.old).present (H.must house.new) (H.refused house.new)
+        ≡ Some index }
     ensures failed { result ≡ ServerFailed
         → Rose (W.server_faults wire.old) (W.server_faults wire.new) }
-    ensures calls { Stops turns result (W.calls wire.old) (W.calls wire.new) }
+    ensures calls { Stops (H.known house.old).present turns result (W.calls wire.old)
+        (W.calls wire.new) }
+    ensures unopened { (H.known house.old).present ≡ false
+        → (W.seen wire.new).last_own ≡ (W.seen wire.old).last_own }
+    ensures places { result ≢ WantOfMemory
+        → ((W.seen wire.new).listeners ≡ (H.known house.new).listeners)
+        × ((W.seen wire.new).own ≡ (H.known house.new).streams) }
     ensures openings { W.openings wire.new ≡ W.openings wire.old }
     ensures joinings { W.joinings wire.new ≡ W.joinings wire.old }
-    ensures idle { turns ≡ 0
+    ensures idle { turns ≡ 0 → (H.known house.old).present ≡ false
         → SameFaults (W.server_faults wire.old) (W.server_faults wire.new)
         (W.client_faults wire.old) (W.client_faults wire.new) }
 {

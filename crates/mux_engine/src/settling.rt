@@ -1,37 +1,50 @@
-ghost use Rattle.std.specs.Prelude.{[], ◌∷◌, ◌≡◌, ◌≢◌, ◌≤◌, ◌<◌, length, List, ℕ, true, false, None, OnOk, IfOk, if◌then◌else◌};
+ghost use Rattle.std.specs.Prelude.{[], ◌∷◌, ◌++◌, ◌≡◌, ◌≢◌, ◌≤◌, ◌<◌, length, List, ℕ, Bool, true, false, None, OnOk, IfOk, IsTrue, if◌then◌else◌};
 ghost use Rattle.std.specs.declared.option.Option.{Option};
-ghost use Rattle.mux_outside.specs.House.{Asked as TheAsked};
+ghost use Rattle.mux_outside.specs.House.{Known as TheKnown, Quiet as TheQuiet};
+ghost use Rattle.mux_outside.specs.OwnStreams.{is_one, is_own};
 ghost use Rattle.mux_outside.specs.Streams.{among, without};
 ghost use Rattle.mux_outside.specs.Wire.{SameFaults};
+ghost use Rattle.mux_outside.specs.declared.house_mark.HouseMark.{HouseMark as TheHouseMark};
 ghost use Rattle.mux_outside.specs.declared.mark.Mark.{Mark as TheMark};
 ghost use Rattle.mux_history.specs.Policy.{Policy as ThePolicy};
+ghost use Rattle.mux_history.specs.declared.limits.TheConstants.{HOUSE as TheHouse};
 ghost use Rattle.mux_machine.specs.Events.{here};
 ghost use Rattle.mux_machine.specs.State.{queue_in};
 ghost use Rattle.mux_engine.specs.Counted.{Counts};
-ghost use Rattle.mux_engine.specs.Serving.{IsServed, IsServedBut, Serving, ServesOn, StaysOrFails, is_open};
+ghost use Rattle.mux_engine.specs.Rests.{IsReady};
+ghost use Rattle.mux_engine.specs.Serving.{IsServed, Serving, ServesOn, StaysOrFails, is_open};
+ghost use Rattle.mux_engine.specs.Sides.{Housed, RestsOf, SamePlaces, Side as TheSide};
 
 use crate::events::event_of_fault;
+use mux_clients::Asks;
+use mux_history::limits::HOUSE;
 use mux_machine::Engine;
-use mux_outside::{House, Streams, Wire, Wrote};
+use mux_outside::{House, NoHouse, Streams, Wire, Wrote};
 use ssh_fields::OutOfMemory;
 
 // Offers a stream what waits for it, once: whether it took some and can be offered the rest. A
-// client whose stream fails leaves its farewell to the server, whose stream is offered that later.
+// client whose stream fails leaves its farewell to the server, whose stream is offered that later;
+// it asks no house, and `asks` is room for none.
 fn offer_once<W: Wire, H: House>(
     engine: &mut Engine,
     wire: &mut W,
-    house: &mut H,
     held: &mut Streams,
+    asks: &mut Asks,
     stream: u64,
 ) -> Result<bool, OutOfMemory>
-    requires served { IsServed H.may (H.told house.old) (W.seen wire.old) held.old engine.old }
+    requires served { IsServed H.may (RestsOf H.told H.quiet) (W.seen wire.old) held.old
+        engine.old }
     requires stream_open { is_open engine.old stream ≡ true }
+    requires no_house { stream ≢ TheHouse }
     requires free { among stream (W.seen wire.old).blocked ≡ false }
+    requires numbered { (t : ℕ) → IsTrue (is_one t (W.seen wire.old).own) → IsTrue (is_own t) }
     ensures serving { (todo : List ℕ) → among 0 (stream ∷ todo) ≡ true →
-        ServesOn result H.may (H.told house.old) (H.told house.new) (W.seen wire.old)
-        (W.seen wire.new) held.old held.new todo
-        (λ more. if more then stream ∷ todo else without stream todo) engine.old engine.new }
+        ServesOn result H.may (RestsOf H.told H.quiet) (W.seen wire.old) (W.seen wire.new) held.old
+        held.new todo (λ more. if more then stream ∷ todo else without stream todo)
+        engine.old engine.new }
     ensures streams { OnOk result (here engine.new ≡ here engine.old) }
+    ensures holds { OnOk result ((t : ℕ) → among t held.old ≡ true → among t held.new ≡ true) }
+    ensures places { SamePlaces (W.seen wire.old) (W.seen wire.new) }
     ensures less { IfOk result (λ more. more ≡ true →
         length (queue_in engine.new stream) < length (queue_in engine.old stream)) }
     ensures free { IfOk result (λ more. more ≡ true →
@@ -60,7 +73,7 @@ fn offer_once<W: Wire, H: House>(
             Ok(false)
         }
         Wrote::Failed => {
-            engine.event(event_of_fault(stream), house)?;
+            engine.event(event_of_fault(stream), &mut NoHouse, asks)?;
             Ok(false)
         }
         Wrote::NoMemory => Err(OutOfMemory),
@@ -71,16 +84,21 @@ fn offer_once<W: Wire, H: House>(
 fn offer<W: Wire, H: House>(
     engine: &mut Engine,
     wire: &mut W,
-    house: &mut H,
     held: &mut Streams,
+    asks: &mut Asks,
     stream: u64,
 ) -> Result<(), OutOfMemory>
-    requires served { IsServed H.may (H.told house.old) (W.seen wire.old) held.old engine.old }
+    requires served { IsServed H.may (RestsOf H.told H.quiet) (W.seen wire.old) held.old
+        engine.old }
     requires stream_open { is_open engine.old stream ≡ true }
+    requires no_house { stream ≢ TheHouse }
+    requires numbered { (t : ℕ) → IsTrue (is_one t (W.seen wire.old).own) → IsTrue (is_own t) }
     ensures serving { (todo : List ℕ) → among 0 (stream ∷ todo) ≡ true →
-        ServesOn result H.may (H.told house.old) (H.told house.new) (W.seen wire.old)
-        (W.seen wire.new) held.old held.new (stream ∷ todo) (λ done. todo) engine.old engine.new }
+        ServesOn result H.may (RestsOf H.told H.quiet) (W.seen wire.old) (W.seen wire.new) held.old
+        held.new (stream ∷ todo) (λ done. todo) engine.old engine.new }
     ensures streams { OnOk result (here engine.new ≡ here engine.old) }
+    ensures holds { OnOk result ((t : ℕ) → among t held.old ≡ true → among t held.new ≡ true) }
+    ensures places { SamePlaces (W.seen wire.old) (W.seen wire.new) }
     ensures ended { OnOk result (StaysOrFails engine.old.ended engine.new.ended
         (W.server_faults wire.old) (W.server_faults wire.new)) }
     ensures client { OnOk result (stream ≢ 0 → engine.new.ended ≡ engine.old.ended) }
@@ -94,7 +112,7 @@ fn offer<W: Wire, H: House>(
     if held.contains(stream) {
         return Ok(());
     }
-    while offer_once(engine, wire, house, held, stream)? {}
+    while offer_once::<W, H>(engine, wire, held, asks, stream)? {}
     Ok(())
 }
 
@@ -102,16 +120,19 @@ fn offer<W: Wire, H: House>(
 fn offer_clients<W: Wire, H: House>(
     engine: &mut Engine,
     wire: &mut W,
-    house: &mut H,
     held: &mut Streams,
     todo: &mut Streams,
+    asks: &mut Asks,
 ) -> Result<(), OutOfMemory>
-    requires served { IsServedBut H.may (H.told house.old) (W.seen wire.old) held.old
-        (0 ∷ here engine.old) engine.old }
-    ensures serving { ServesOn result H.may (H.told house.old) (H.told house.new)
-        (W.seen wire.old) (W.seen wire.new) held.old held.new (0 ∷ here engine.old) (λ done. 0 ∷ [])
-        engine.old engine.new }
+    requires served { IsServed H.may (RestsOf H.told H.quiet) (W.seen wire.old) held.old
+        engine.old }
+    requires numbered { (t : ℕ) → IsTrue (is_one t (W.seen wire.old).own) → IsTrue (is_own t) }
+    ensures serving { (left : List ℕ) → ServesOn result H.may (RestsOf H.told H.quiet)
+        (W.seen wire.old) (W.seen wire.new) held.old held.new
+        (0 ∷ (without TheHouse (here engine.old) ++ left)) (λ done. 0 ∷ left) engine.old engine.new }
     ensures streams { OnOk result (here engine.new ≡ here engine.old) }
+    ensures holds { OnOk result ((t : ℕ) → among t held.old ≡ true → among t held.new ≡ true) }
+    ensures places { SamePlaces (W.seen wire.old) (W.seen wire.new) }
     ensures ended { OnOk result (engine.new.ended ≡ engine.old.ended) }
     ensures later { W.server_faults wire.old ≤ W.server_faults wire.new }
     ensures calls { Counts 0 result (W.calls wire.old) (W.calls wire.new) }
@@ -121,21 +142,26 @@ fn offer_clients<W: Wire, H: House>(
 {
     todo.refill(engine.waiting().as_slice())?;
     todo.remove(0);
+    todo.remove(HOUSE);
     for stream in todo.as_slice() {
-        offer(engine, wire, house, held, *stream)?;
+        offer::<W, H>(engine, wire, held, asks, *stream)?;
     }
     Ok(())
 }
 
 // Accepts no more clients where the engine wants none, or its run is over.
-fn hush<W: Wire, H: House>(engine: &Engine, wire: &mut W)
+pub fn hush<W: Wire, H: House>(engine: &Engine, wire: &mut W)
     requires hears { engine.now.ended ≡ None → engine.now.listening ≡ true
         → (W.seen wire.old).listens ≡ true }
-    ensures serving { (before now : Option (List TheAsked)) (policy : ThePolicy) (pid : ℕ)
-        (start : Option (List TheMark)) (held : List ℕ) (given : ℕ) (todo : List ℕ) →
-        Serving H.may before now policy pid start (W.seen wire.old) held given todo engine.now →
-        Serving H.may before now policy pid start (W.seen wire.new) held given todo engine.now }
+    ensures serving { (present : Bool) (before : Option (List TheHouseMark)) (now : TheSide)
+        (policy : ThePolicy) (pid : ℕ) (start : Option (List TheMark)) (held failed : List ℕ)
+        (given : ℕ) (todo : List ℕ) →
+        Serving H.may (RestsOf H.told H.quiet present) before now policy pid start
+        (W.seen wire.old) held failed given todo engine.now →
+        Serving H.may (RestsOf H.told H.quiet present) before now policy pid start
+        (W.seen wire.new) held failed given todo engine.now }
     ensures hears { engine.now.ended ≡ None → (W.seen wire.new).listens ≡ engine.now.listening }
+    ensures places { SamePlaces (W.seen wire.old) (W.seen wire.new) }
     ensures faults { W.server_faults wire.new ≡ W.server_faults wire.old }
     ensures client { W.client_faults wire.new ≡ W.client_faults wire.old }
     ensures calls { W.calls wire.new ≡ W.calls wire.old }
@@ -149,21 +175,24 @@ fn hush<W: Wire, H: House>(engine: &Engine, wire: &mut W)
 }
 
 // Offers each stream what waits for it: the server's last, since a client that is lost leaves its
-// farewell to it. Where clients are accepted no more, none is once a client can read the answer to
-// its wish.
+// farewell to it. The house was handed over what waits for it before. Where clients are accepted no
+// more, none is once a client can read the answer to its wish.
 pub fn flush<W: Wire, H: House>(
     engine: &mut Engine,
     wire: &mut W,
-    house: &mut H,
     held: &mut Streams,
     todo: &mut Streams,
+    asks: &mut Asks,
 ) -> Result<(), OutOfMemory>
-    requires served { IsServedBut H.may (H.told house.old) (W.seen wire.old) held.old
-        (0 ∷ here engine.old) engine.old }
-    ensures serving { ServesOn result H.may (H.told house.old) (H.told house.new)
-        (W.seen wire.old) (W.seen wire.new) held.old held.new (0 ∷ here engine.old) (λ done. [])
-        engine.old engine.new }
+    requires served { IsServed H.may (RestsOf H.told H.quiet) (W.seen wire.old) held.old
+        engine.old }
+    requires numbered { (t : ℕ) → IsTrue (is_one t (W.seen wire.old).own) → IsTrue (is_own t) }
+    ensures serving { (left : List ℕ) → ServesOn result H.may (RestsOf H.told H.quiet)
+        (W.seen wire.old) (W.seen wire.new) held.old held.new
+        (0 ∷ (without TheHouse (here engine.old) ++ left)) (λ done. left) engine.old engine.new }
     ensures streams { OnOk result (here engine.new ≡ here engine.old) }
+    ensures holds { OnOk result ((t : ℕ) → among t held.old ≡ true → among t held.new ≡ true) }
+    ensures places { SamePlaces (W.seen wire.old) (W.seen wire.new) }
     ensures ended { OnOk result (StaysOrFails engine.old.ended engine.new.ended
         (W.server_faults wire.old) (W.server_faults wire.new)) }
     ensures later { W.server_faults wire.old ≤ W.server_faults wire.new }
@@ -175,19 +204,31 @@ pub fn flush<W: Wire, H: House>(
         (W.client_faults wire.old) (W.client_faults wire.new) }
 {
     hush::<W, H>(engine, wire);
-    offer_clients(engine, wire, house, held, todo)?;
-    offer(engine, wire, house, held, 0)
+    offer_clients::<W, H>(engine, wire, held, todo, asks)?;
+    offer::<W, H>(engine, wire, held, asks, 0)
 }
 
 // Closes the streams of the clients that are lost or refused.
-fn close_lost<W: Wire, H: House>(engine: &mut Engine, wire: &mut W, held: &mut Streams)
-    ensures serving { (before now : Option (List TheAsked)) (policy : ThePolicy) (pid : ℕ)
-        (start : Option (List TheMark)) (given : ℕ) →
-        Serving H.may before now policy pid start (W.seen wire.old) held.old given [] engine.old →
-        Serving H.may before now policy pid start (W.seen wire.new) held.new given [] engine.new }
+pub fn close_lost<W: Wire, H: House>(engine: &mut Engine, wire: &mut W, held: &mut Streams)
+    requires served { IsServed H.may (RestsOf H.told H.quiet) (W.seen wire.old) held.old
+        engine.old }
+    ensures serving { (present : Bool) (before : Option (List TheHouseMark)) (now : TheSide)
+        (policy : ThePolicy) (pid : ℕ) (start : Option (List TheMark)) (failed : List ℕ)
+        (given : ℕ) (todo : List ℕ) →
+        Serving H.may (RestsOf H.told H.quiet present) before now policy pid start
+        (W.seen wire.old) held.old failed given todo engine.old →
+        Serving H.may (RestsOf H.told H.quiet present) before now policy pid start
+        (W.seen wire.new) held.new failed given todo engine.new }
+    ensures housed { (known : TheKnown) (own : List ℕ) → Housed known (W.seen wire.old) own
+        → Housed known (W.seen wire.new) own }
+    ensures ready { (known : TheKnown) (quiet : TheQuiet) (queue : ℕ → List ℕ)
+        (failed own : List ℕ) → Housed known (W.seen wire.old) own
+        → IsReady known quiet queue held.old failed own engine.old
+        → IsReady known quiet queue held.new failed own engine.new }
     ensures closed { engine.new.leaving ≡ [] }
     ensures refused { engine.new.refused ≡ [] }
     ensures ended { engine.new.ended ≡ engine.old.ended }
+    ensures unopened { (W.seen wire.new).last_own ≡ (W.seen wire.old).last_own }
     ensures faults { W.server_faults wire.new ≡ W.server_faults wire.old }
     ensures calls { W.calls wire.new ≡ W.calls wire.old }
     ensures openings { W.openings wire.new ≡ W.openings wire.old }
@@ -198,36 +239,4 @@ fn close_lost<W: Wire, H: House>(engine: &mut Engine, wire: &mut W, held: &mut S
         held.remove(client);
         engine.closed(client);
     }
-}
-
-// Makes the wire ready for a turn: each stream is offered what waits for it, and the streams of
-// lost clients are closed.
-pub fn settle<W: Wire, H: House>(
-    engine: &mut Engine,
-    wire: &mut W,
-    house: &mut H,
-    held: &mut Streams,
-    todo: &mut Streams,
-) -> Result<(), OutOfMemory>
-    requires served { IsServedBut H.may (H.told house.old) (W.seen wire.old) held.old
-        (0 ∷ here engine.old) engine.old }
-    ensures serving { ServesOn result H.may (H.told house.old) (H.told house.new)
-        (W.seen wire.old) (W.seen wire.new) held.old held.new (0 ∷ here engine.old) (λ done. [])
-        engine.old engine.new }
-    ensures closed { OnOk result (engine.new.leaving ≡ []) }
-    ensures refused { OnOk result (engine.new.refused ≡ []) }
-    ensures hears { OnOk result (engine.new.ended ≡ None
-        → (W.seen wire.new).listens ≡ engine.new.listening) }
-    ensures ended { OnOk result (StaysOrFails engine.old.ended engine.new.ended
-        (W.server_faults wire.old) (W.server_faults wire.new)) }
-    ensures later { W.server_faults wire.old ≤ W.server_faults wire.new }
-    ensures calls { Counts 0 result (W.calls wire.old) (W.calls wire.new) }
-    ensures openings { W.openings wire.new ≡ W.openings wire.old }
-    ensures joinings { W.joinings wire.new ≡ W.joinings wire.old }
-    ensures idle { OnOk result (engine.old.waiting ≡ [] → engine.new.ended ≡ engine.old.ended) }
-{
-    flush(engine, wire, house, held, todo)?;
-    close_lost::<W, H>(engine, wire, held);
-    hush::<W, H>(engine, wire);
-    Ok(())
 }

@@ -6,13 +6,14 @@ use Rattle.std.proofs.lemmas.List.Elements.{filter-append}
 use Rattle.std.proofs.lemmas.Option.{slice_get_within}
 use Rattle.std.proofs.lemmas.Bool.Decides.{nat_tests}
 use Rattle.mux_history.specs.Gist.{Confirmation, Gist, Open, Refuses, Requests, Succeeds, Transport, Within, read_gist}
+use Rattle.mux_history.specs.Controls.{house_says}
 use Rattle.mux_history.specs.Heard.{Breaks, Dest, Disconnects, ToClient, ToMaster, dest, dest_asker, dest_gist, dest_success, heard_for, heard_master}
 use Rattle.mux_history.specs.Keys.{learns_port}
 use Rattle.mux_history.specs.Ledger.{asked}
 use Rattle.mux_history.specs.Log.{admits, bare, heard_row, said_by_client, treat}
 use Rattle.mux_history.specs.Policy.{Policy}
 use Rattle.mux_history.specs.Requests.{Ask, asker, asks, asks_of, is_reply, is_sent, replies, reply_in, wanted_by}
-use Rattle.mux_history.specs.Rows.{Admit, BadServer, Gone, Heard, Item, Row, RunEnd, Says, ServerCut, ServerEnd, ServerFailed, Took, is_end, rows_of}
+use Rattle.mux_history.specs.Rows.{Admit, BadServer, Gone, Heard, HouseSays, Item, Row, RunEnd, Says, ServerCut, ServerEnd, ServerFailed, Took, is_end, rows_of}
 use Rattle.mux_history.specs.Said.{silent}
 use Rattle.ssh_grammar.specs.Messages.{Cancel, Forward, Global, KeepAlive, OtherName}
 use Rattle.ssh_grammar.specs.SpellMessage.{wants}
@@ -229,6 +230,7 @@ orderly-heard before orderly p (Breaks why) e going = cc
 pub orderly-treat : (policy : Policy) (pid pick : ℕ) (before : List Row) (item : Item) → Orderly before → is_end (treat policy pid pick before item).fate ≡ false → Orderly (treat policy pid pick before item ∷ before)
 orderly-treat policy pid pick before (Admit k) orderly going = row-parts (OrderlyNext before) (Admit k) k (admits before) (rows_of k before) (λ fw parting down fate going'. orderly-still _ before refl orderly) going
 orderly-treat policy pid pick before (Says k saying reply) orderly going = row-parts (OrderlyNext before) (Says k saying reply) k (said_by_client policy pid k (rows_of k before) pick saying reply) (rows_of k before) (λ fw parting down fate going'. orderly-still _ before refl orderly) going
+orderly-treat policy pid pick before (HouseSays k id given) orderly going = row-parts (OrderlyNext before) (HouseSays k id given) k (house_says (rows_of k before) id given) (rows_of k before) (λ fw parting down fate going'. orderly-still _ before refl orderly) going
 orderly-treat policy pid pick before (Gone k) orderly going = row-parts (OrderlyNext before) (Gone k) k silent (rows_of k before) (λ fw parting down fate going'. orderly-still _ before refl orderly) going
 orderly-treat policy pid pick before (Heard p) orderly going = orderly-heard before orderly p (dest before p) refl going
 orderly-treat policy pid pick before (Took stream size) orderly going = orderly-still _ before refl orderly

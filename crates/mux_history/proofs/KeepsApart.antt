@@ -4,13 +4,13 @@ use Rattle.std.specs.Prelude.{◌==◌, Result, min, ◌^◌, ◌-◌}
 use Rattle.std.proofs.lemmas.List.{append-nil}
 use Rattle.std.proofs.lemmas.Bool.Decides.{nat_tests}
 use Rattle.mux_history.specs.Channels.{Channel, after_item, begun_by, channels_of, heard_by, is_number, live_in, opened_down, with_down, with_ups}
-use Rattle.mux_history.specs.Controls.{greeted, said_body}
+use Rattle.mux_history.specs.Controls.{greeted, house_says, said_body}
 use Rattle.mux_history.specs.Gist.{Confirmation, Gist, Open, Refuses, Requests, Succeeds, Transport, Within, read_gist, reading}
 use Rattle.mux_history.specs.Heard.{Breaks, Dest, Disconnects, ToClient, ToMaster, dest, dest_gist, finishes, heard_for, heard_master, next_index}
 use Rattle.mux_history.specs.Kept.{Every}
 use Rattle.mux_history.specs.Log.{admits, bare, heard_row, said_by_client, treat}
 use Rattle.mux_history.specs.Policy.{Policy}
-use Rattle.mux_history.specs.Rows.{Admit, BadServer, Fate, Gone, Heard, Item, Row, RunEnd, Says, ServerCut, ServerEnd, ServerFailed, Took, rows_of}
+use Rattle.mux_history.specs.Rows.{Admit, BadServer, Fate, Gone, Heard, HouseSays, Item, Row, RunEnd, Says, ServerCut, ServerEnd, ServerFailed, Took, rows_of}
 use Rattle.mux_history.specs.Said.{Outcome, said_payload, silent}
 use Rattle.ssh_grammar.specs.Messages.{Opens}
 use Rattle.ssh_grammar.specs.Said.{BadFraming, Body, Payload}
@@ -23,7 +23,7 @@ use Rattle.mux_history.proofs.Finds.{Each}
 use Rattle.mux_history.proofs.Quiets.{IsQuiet, Quiet}
 use Rattle.mux_history.proofs.Readings.{reading-ok}
 use Rattle.mux_history.proofs.SaidApart.{IsFresh, LawfulItem, Next, good-parted, good-said, good-still, item-ids, item-master}
-use Rattle.mux_history.proofs.Sends.{admits-sent, as_row, body-sent, down-ids, down-step, down-then, quiet-heard, quiet-master, row-parts, ups-ids}
+use Rattle.mux_history.proofs.Sends.{admits-sent, as_row, body-sent, down-ids, down-step, down-then, house-sent, quiet-heard, quiet-master, row-parts, ups-ids}
 
 -- ---- what the server says
 
@@ -131,6 +131,7 @@ good-treat policy pid pick before (Admit k) good lawful fresh = row-parts (GoodN
 good-treat policy pid pick before (Says k (Payload p) reply) good lawful fresh = row-parts (GoodNext before) (Says k (Payload p) reply) k (said_payload policy k (rows_of k before) pick p) (rows_of k before) (λ fw parting down fate fresh'. good-said before good k lawful.0 p reply fw parting down fate policy pick lawful.1 fresh') fresh
 good-treat policy pid pick before (Says k (Body body) reply) good lawful fresh = row-parts (GoodNext before) (Says k (Body body) reply) k (said_body pid k reply (greeted (rows_of k before)) body) (rows_of k before) (λ fw parting down fate fresh'. good-mute before good (as_row (Says k (Body body) reply) k (said_body pid k reply (greeted (rows_of k before)) body).sent fw down fate) parting (body-sent pid k reply (greeted (rows_of k before)) body) (λ x. refl) refl) fresh
 good-treat policy pid pick before (Says k (BadFraming fault) reply) good lawful fresh = row-parts (GoodNext before) (Says k (BadFraming fault) reply) k (said_by_client policy pid k (rows_of k before) pick (BadFraming fault) reply) (rows_of k before) (λ fw parting down fate fresh'. good-mute before good (as_row (Says k (BadFraming fault) reply) k [] fw down fate) parting refl (λ x. refl) refl) fresh
+good-treat policy pid pick before (HouseSays k id given) good lawful fresh = row-parts (GoodNext before) (HouseSays k id given) k (house_says (rows_of k before) id given) (rows_of k before) (λ fw parting down fate fresh'. good-mute before good (as_row (HouseSays k id given) k (house_says (rows_of k before) id given).sent fw down fate) parting (house-sent (rows_of k before) id given) (λ x. refl) refl) fresh
 good-treat policy pid pick before (Gone k) good lawful fresh = row-parts (GoodNext before) (Gone k) k silent (rows_of k before) (λ fw parting down fate fresh'. good-mute before good (as_row (Gone k) k [] fw down fate) parting refl (λ x. refl) refl) fresh
 good-treat policy pid pick before (Heard p) good lawful fresh = good-heard-row before good p (dest before p) refl fresh
 good-treat policy pid pick before (BadServer fault) good lawful fresh = good-bare before good (BadServer fault) (finishes (ended.Broke (min (next_index before) (2 ^ 64 - 1)) (broke.Frame fault))) tt refl

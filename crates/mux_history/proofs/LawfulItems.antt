@@ -2,11 +2,11 @@
 use Rattle.std.proofs.Common.{◌≡◌, ℕ, List, [], ◌∷◌, true, false, Bool, refl, ◌∙◌, ap, Some, None}
 use Rattle.std.specs.Prelude.{◌||◌, ◌&&◌}
 use Rattle.mux_history.specs.Choices.{Choices, FromLists, pick_of, replies_given, reply_at, with_reply}
-use Rattle.mux_history.specs.Controls.{body_asks, greeted}
+use Rattle.mux_history.specs.Controls.{body_asks, greeted, house_says}
 use Rattle.mux_history.specs.Heard.{Breaks, Dest, Disconnects, ToClient, ToMaster, dest, heard_for}
 use Rattle.mux_history.specs.Log.{admits, heard_row, log_of, makes_next, more_of, row_of, said_by_client, treat}
 use Rattle.mux_history.specs.Policy.{Policy}
-use Rattle.mux_history.specs.Rows.{Admit, Gone, Heard, Item, Row, Says, any_of, rows_of}
+use Rattle.mux_history.specs.Rows.{Admit, Gone, Heard, HouseSays, Item, Row, Says, any_of, rows_of}
 use Rattle.mux_history.specs.Said.{Outcome, silent}
 use Rattle.mux_history.specs.Settings.{by_lists}
 use Rattle.mux_outside.specs.declared.house.HouseReply.{HouseReply}
@@ -35,6 +35,7 @@ LawfulItems (item ∷ before) = LawfulIn before item × LawfulItems before
 pub treat-item : (policy : Policy) (pid pick : ℕ) (before : List Row) (item : Item) → (treat policy pid pick before item).item ≡ item
 treat-item policy pid pick before (Admit k) = item-of (Admit k) k (admits before) (rows_of k before)
 treat-item policy pid pick before (Says k saying reply) = item-of (Says k saying reply) k (said_by_client policy pid k (rows_of k before) pick saying reply) (rows_of k before)
+treat-item policy pid pick before (HouseSays k id given) = item-of (HouseSays k id given) k (house_says (rows_of k before) id given) (rows_of k before)
 treat-item policy pid pick before (Gone k) = item-of (Gone k) k silent (rows_of k before)
 treat-item policy pid pick before (Heard p) = by_dest (dest before p)
   where

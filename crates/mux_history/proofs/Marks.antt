@@ -1,12 +1,17 @@
 -- The items of a lawful wire are lawful.
-use Rattle.std.proofs.Common.{◌≡◌, ℕ, zero, suc, ◌-◌, ◌<◌, List, [], ◌∷◌, ◌++◌, length, true, false, Bool, refl, ◌∙◌, ap, arith, map, sym, subst, take, drop}
+use Rattle.std.proofs.Common.{◌≡◌, ℕ, zero, suc, ◌-◌, ◌<◌, ◌≤◌, List, [], ◌∷◌, ◌++◌, length, true, false, Bool, refl, ◌∙◌, ap, arith, map, sym, subst, take, drop}
 use Rattle.std.specs.Prelude.{◌==◌, ◌||◌, nat_le, nat_lt, nat_eq, reverse}
 use Rattle.std.proofs.lemmas.Bool.Decides.{nat_tests}
 use Rattle.std.proofs.lemmas.List.{reverse-append}
 use Rattle.ssh_fields.proofs.Fields.{AreBytes-append, AreBytes-take, AreBytes-drop}
-use Rattle.mux_history.specs.Journal.{IsLawful, LawfulMark, bytes_in, bytes_of, heard_item, items, items_in, last_client, new_heard, new_sayings, said_item, server_end}
+use Rattle.mux_history.specs.Journal.{IsLawful, LawfulHouse, LawfulMark, house_items, house_said, is_own_stream, lets_in, unless_own, bytes_in, bytes_of, heard_item, items, items_in, last_client, new_heard, new_sayings, said_item, server_end}
 use Rattle.mux_history.specs.Rows.{Admit, Gone, Item, Says, ServerFailed, any_of}
+use Rattle.mux_outside.specs.OwnStreams.{is_own}
+use Rattle.mux_outside.specs.declared.own_streams.TheConstants.{LAST_CLIENT}
+use Rattle.mux_outside.specs.declared.house_mark.HouseMark.{HouseMark}
+use Rattle.mux_outside.specs.declared.house_mark.HouseMark.TheVariants.{HouseAnswer, HouseAsked, HouseIn, HouseOrder, HouseSaid, HouseTook}
 use Rattle.mux_outside.specs.declared.mark.Mark.{Mark}
+use Rattle.mux_history.specs.declared.limits.TheConstants.{HOUSE}
 use Rattle.mux_outside.specs.declared.mark.Mark.TheVariants.{Accepts, Frees, Gets, Holds, Takes, Waits, WriteFails}
 use Rattle.ssh_fields.specs.Fields.{AreBytes, of_four}
 use Rattle.ssh_grammar.specs.Frames.{Faulty, Frame, Front, More, cut_content, cut_length, cut_padding, cut_rest, first_frame, shortest}
@@ -138,7 +143,12 @@ stream-bytes : (k : ℕ) (marks : List Mark) → IsLawful marks → AreBytes (by
 stream-bytes k [] lawful = tt
 stream-bytes k (mark ∷ before) lawful = AreBytes-append (bytes_of k before) (bytes_in k mark) (stream-bytes k before lawful.1) (by_mark mark lawful.0)
   where
+    by_house : (mark : HouseMark) → LawfulHouse before mark → AreBytes (house_said mark)
+    by_house (HouseSaid bytes) a = a.3
+    by_house mark a = tt
+
     by_mark : (mark : Mark) → LawfulMark before mark → AreBytes (bytes_in k mark)
+    by_mark (wire.House mark) a = elim (HOUSE == k) as (λ b. AreBytes (elim b as (λ _. List ℕ) [ true ↦ house_said mark | false ↦ [] ])) [ true ↦ by_house mark a | false ↦ tt ]
     by_mark (wire.Gets stream bytes) a = elim (stream == k) as (λ b. AreBytes (elim b as (λ _. List ℕ) [ true ↦ bytes | false ↦ [] ])) [ true ↦ a.3 | false ↦ tt ]
     by_mark mark a = tt
 
@@ -148,22 +158,33 @@ not-zero k e z = grind (arith, nat_tests)
 -- a mark accepts a client, or its items are plain
 abbrev Accepting : Mark → Type 0
 Accepting (wire.Accepts k) = Unit {0}
+Accepting (wire.House HouseIn) = Unit {0}
 Accepting mark = ⊥
 
-gone-or : (stream : ℕ) (item : Item) → Plain item → EachPlain (elim (stream == 0) as (λ _. List Item) [ true ↦ item ∷ [] | false ↦ Gone stream ∷ [] ])
-gone-or stream item a = elim (stream == 0) as (λ b. EachPlain (elim b as (λ _. List Item) [ true ↦ item ∷ [] | false ↦ Gone stream ∷ [] ])) [ true ↦ (a, tt) | false ↦ (tt, tt) ]
+unless-plain : (stream : ℕ) (items : List Item) → EachPlain items → EachPlain (unless_own stream items)
+unless-plain stream items a = elim (is_own_stream stream) as (λ b. EachPlain (elim b as (λ _. List Item) [ true ↦ [] | false ↦ items ])) [ true ↦ tt | false ↦ a ]
+
+gone-or : (stream : ℕ) (item : Item) → Plain item → EachPlain (elim (stream == 0) as (λ _. List Item) [ true ↦ item ∷ [] | false ↦ unless_own stream (Gone stream ∷ []) ])
+gone-or stream item a = elim (stream == 0) as (λ b. EachPlain (elim b as (λ _. List Item) [ true ↦ item ∷ [] | false ↦ unless_own stream (Gone stream ∷ []) ])) [ true ↦ (a, tt) | false ↦ unless-plain stream (Gone stream ∷ []) (tt, tt) ]
 
 plain-mark : (before : List Mark) (mark : Mark) → IsLawful before → LawfulMark before mark → (Accepting mark → ⊥) → EachPlain (items_in before mark)
 plain-mark before (wire.Accepts k) all lawful never = absurd (never tt)
 plain-mark before (wire.Gets stream bytes) all lawful never = by_stream (stream == 0) refl
   where
-    by_stream : (b : Bool) → (stream == 0) ≡ b → EachPlain (elim b as (λ _. List Item) [ true ↦ new_heard (bytes_of 0 before) (bytes_of 0 before ++ bytes) | false ↦ new_sayings stream (bytes_of stream before) (bytes_of stream before ++ bytes) ])
+    by_stream : (b : Bool) → (stream == 0) ≡ b → EachPlain (elim b as (λ _. List Item) [ true ↦ new_heard (bytes_of 0 before) (bytes_of 0 before ++ bytes) | false ↦ unless_own stream (new_sayings stream (bytes_of stream before) (bytes_of stream before ++ bytes)) ])
     by_stream true e = heard-plain (drop (length (parse InProxy (bytes_of 0 before)).says) (parse InProxy (bytes_of 0 before ++ bytes)).says)
-    by_stream false e = says-plain stream (not-zero stream e) (drop (length (said (bytes_of stream before))) (said (bytes_of stream before ++ bytes))) (sayings-drop (length (said (bytes_of stream before))) (said (bytes_of stream before ++ bytes)) (parse-bytes (length (bytes_of stream before ++ bytes)) InControl (bytes_of stream before ++ bytes) (AreBytes-append (bytes_of stream before) bytes (stream-bytes stream before all) lawful.3)))
+    by_stream false e = unless-plain stream (new_sayings stream (bytes_of stream before) (bytes_of stream before ++ bytes)) (says-plain stream (not-zero stream e) (drop (length (said (bytes_of stream before))) (said (bytes_of stream before ++ bytes))) (sayings-drop (length (said (bytes_of stream before))) (said (bytes_of stream before ++ bytes)) (parse-bytes (length (bytes_of stream before ++ bytes)) InControl (bytes_of stream before ++ bytes) (AreBytes-append (bytes_of stream before) bytes (stream-bytes stream before all) lawful.3))))
 plain-mark before (wire.Ends stream) all lawful never = gone-or stream (server_end (parse InProxy (bytes_of 0 before)).rest) (end-plain (parse InProxy (bytes_of 0 before)).rest)
 plain-mark before (wire.Fails stream) all lawful never = gone-or stream ServerFailed tt
 plain-mark before (wire.WriteFails stream) all lawful never = gone-or stream ServerFailed tt
-plain-mark before (wire.Takes stream bytes) all lawful never = (tt, tt)
+plain-mark before (wire.Takes stream bytes) all lawful never = unless-plain stream _ (tt, tt)
+plain-mark before (wire.Joins listener stream) all lawful never = tt
+plain-mark before (wire.House HouseIn) all lawful never = absurd (never tt)
+plain-mark before (wire.House (HouseSaid bytes)) all lawful never = says-plain HOUSE (not-zero HOUSE refl) (drop (length (said (bytes_of HOUSE before))) (said (bytes_of HOUSE before ++ bytes))) (sayings-drop (length (said (bytes_of HOUSE before))) (said (bytes_of HOUSE before ++ bytes)) (parse-bytes (length (bytes_of HOUSE before ++ bytes)) InControl (bytes_of HOUSE before ++ bytes) (AreBytes-append (bytes_of HOUSE before) bytes (stream-bytes HOUSE before all) lawful.3)))
+plain-mark before (wire.House (HouseTook size)) all lawful never = (tt, tt)
+plain-mark before (wire.House (HouseAnswer k id given)) all lawful never = (tt, tt)
+plain-mark before (wire.House (HouseAsked k id opening ask given)) all lawful never = tt
+plain-mark before (wire.House (HouseOrder order number)) all lawful never = tt
 plain-mark before (wire.Holds stream) all lawful never = tt
 plain-mark before (wire.Frees stream) all lawful never = tt
 plain-mark before (wire.Waits waiting want streams listening) all lawful never = tt
@@ -172,18 +193,27 @@ plain-mark before (wire.Waits waiting want streams listening) all lawful never =
 
 abbrev pub accepts : ℕ → Mark → Bool
 accepts k (wire.Accepts j) = j == k
+accepts k (wire.House mark) = lets_in k mark
 accepts k mark = false
+
+house-above : (k : ℕ) → k ≤ LAST_CLIENT → (HOUSE == k) ≡ false
+house-above k le = grind (arith, nat_tests)
+
+no-house : (k : ℕ) → k ≤ LAST_CLIENT → (mark : HouseMark) → lets_in k mark ≡ false
+no-house k le HouseIn = house-above k le
+no-house k le mark = refl
 
 other-client : (j k : ℕ) → j < k → (j == k) ≡ false
 other-client j k lt = grind (arith, nat_tests)
 
 -- clients above the last one were not accepted
-pub none-above : (k : ℕ) (marks : List Mark) → IsLawful marks → last_client marks < k → any_of (accepts k) marks ≡ false
-none-above k [] lawful lt = refl
-none-above k (mark ∷ before) lawful lt = by_mark mark lawful.0 lt (none-above k before lawful.1)
+pub none-above : (k : ℕ) → k ≤ LAST_CLIENT → (marks : List Mark) → IsLawful marks → last_client marks < k → any_of (accepts k) marks ≡ false
+none-above k le [] lawful lt = refl
+none-above k le (mark ∷ before) lawful lt = by_mark mark lawful.0 lt (none-above k le before lawful.1)
   where
     by_mark : (mark : Mark) → LawfulMark before mark → last_client (mark ∷ before) < k → (last_client before < k → any_of (accepts k) before ≡ false) → any_of (accepts k) (mark ∷ before) ≡ false
-    by_mark (wire.Accepts j) a lt ih = ap (λ b. b || any_of (accepts k) before) (other-client j k lt) ∙ ih (omega (arith, a, lt))
+    by_mark (wire.Accepts j) a lt ih = ap (λ b. b || any_of (accepts k) before) (other-client j k lt) ∙ ih (let above = a.0 in omega (arith, above, lt))
+    by_mark (wire.House mark) a lt ih = ap (λ b. b || any_of (accepts k) before) (no-house k le mark) ∙ ih lt
     by_mark mark a lt ih = ih lt
 
 -- what no mark accepts no item admits
@@ -196,6 +226,7 @@ items-admit k (mark ∷ before) lawful none = by_mark mark lawful.0 (or-left (ac
 
     by_mark : (mark : Mark) → LawfulMark before mark → accepts k mark ≡ false → any_of (admits_client k) (items before) ≡ false → any_of (admits_client k) (reverse (items_in before mark) ++ items before) ≡ false
     by_mark (wire.Accepts j) a other ih = ap (λ b. b || any_of (admits_client k) (items before)) other ∙ ih
+    by_mark (wire.House HouseIn) a other ih = ap (λ b. b || any_of (admits_client k) (items before)) other ∙ ih
     by_mark mark a other ih = plain mark a (λ h. h) ih
 
 pub items-lawful : (marks : List Mark) → IsLawful marks → LawfulItems (items marks)
@@ -206,7 +237,8 @@ items-lawful (mark ∷ before) lawful = by_mark mark lawful.0 (items-lawful befo
     plain mark a never ih = plain-lawful (reverse (items_in before mark)) (items before) (plain-reverse (items_in before mark) (plain-mark before mark lawful.1 a never)) ih
 
     by_mark : (mark : Mark) → LawfulMark before mark → LawfulItems (items before) → LawfulItems (reverse (items_in before mark) ++ items before)
-    by_mark (wire.Accepts k) a ih = (items-admit k before lawful.1 (none-above k before lawful.1 a), ih)
+    by_mark (wire.Accepts k) a ih = (items-admit k before lawful.1 (none-above k a.1 before lawful.1 a.0), ih)
+    by_mark (wire.House HouseIn) a ih = (subst (λ (b : List Mark). any_of (admits_client HOUSE) (items b) ≡ false) (sym a) refl, ih)
     by_mark mark a ih = plain mark a (λ h. h) ih
 
 -- so are all but the newest

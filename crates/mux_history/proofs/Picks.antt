@@ -3,7 +3,7 @@ use Rattle.std.proofs.Common.{◌≡◌, ℕ, List, [], ◌∷◌, true, false, 
 use Rattle.std.specs.Prelude.{◌&&◌, Result, is_some}
 use Rattle.mux_history.specs.Channels.{own_of}
 use Rattle.mux_history.specs.Choices.{FromLists, pick_of, said_number, takes_number, with_reply}
-use Rattle.mux_history.specs.Controls.{greeted, said_body}
+use Rattle.mux_history.specs.Controls.{greeted, house_says, said_body}
 use Rattle.mux_history.specs.Gist.{Gist, read_gist, sender_of}
 use Rattle.mux_history.specs.Heard.{Breaks, Dest, Disconnects, ToClient, ToMaster, dest, heard_for}
 use Rattle.mux_history.specs.Journal.{IsLawful, items}
@@ -12,7 +12,7 @@ use Rattle.mux_history.specs.Log.{admits, bare, heard_row, log_of, makes_next, m
 use Rattle.mux_history.specs.Policy.{Policy}
 use Rattle.mux_history.specs.Requests.{is_sent}
 use Rattle.mux_history.specs.Right.{IsRight, TakesPick, carried_number}
-use Rattle.mux_history.specs.Rows.{Admit, BadServer, Fate, Gone, Heard, Item, Row, RunEnd, Says, ServerCut, ServerEnd, ServerFailed, Took, any_of, rows_of}
+use Rattle.mux_history.specs.Rows.{Admit, BadServer, Fate, Gone, Heard, HouseSays, Item, Row, RunEnd, Says, ServerCut, ServerEnd, ServerFailed, Took, any_of, rows_of}
 use Rattle.mux_history.specs.Said.{Outcome, drops, said_gist, said_payload, silent}
 use Rattle.mux_history.specs.Settings.{by_lists}
 use Rattle.mux_outside.specs.declared.house.HouseReply.{HouseReply}
@@ -75,6 +75,7 @@ treat-taken policy pid pick before (Admit k) lawful = other-taken pick (Admit k)
 treat-taken policy pid pick before (Says k (Payload p) reply) lawful = payload-taken policy before k pick p reply lawful.1
 treat-taken policy pid pick before (Says k (Body body) reply) lawful = other-taken pick (Says k (Body body) reply) k (said_body pid k reply (greeted (rows_of k before)) body) (rows_of k before) refl
 treat-taken policy pid pick before (Says k (BadFraming fault) reply) lawful = other-taken pick (Says k (BadFraming fault) reply) k (drops (why.BadFrame fault)) (rows_of k before) refl
+treat-taken policy pid pick before (HouseSays k id given) lawful = other-taken pick (HouseSays k id given) k (house_says (rows_of k before) id given) (rows_of k before) refl
 treat-taken policy pid pick before (Gone k) lawful = other-taken pick (Gone k) k silent (rows_of k before) refl
 treat-taken policy pid pick before (Heard p) lawful = heard-taken pick before p (dest before p)
 treat-taken policy pid pick before (Took stream size) lawful = unowned-taken pick (bare (Took stream size) stream silent) refl

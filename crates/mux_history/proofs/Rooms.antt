@@ -4,7 +4,7 @@ use Rattle.std.specs.Prelude.{◌==◌, ◌&&◌, ◌⊎◌, Result}
 use Rattle.std.specs.List.{AllByRecursion}
 use Rattle.std.proofs.lemmas.Bool.Decides.{nat_tests}
 use Rattle.mux_history.specs.Channels.{Channel, after_farewell, after_item, begun_by, channels_of, heard_by, is_confirmed, is_held, is_number, opened_down, opened_up, own_of, with_down, with_up, with_ups}
-use Rattle.mux_history.specs.Controls.{greeted, said_body}
+use Rattle.mux_history.specs.Controls.{greeted, house_says, said_body}
 use Rattle.mux_history.specs.Gist.{Act, Answers, Asks, Carries, Closes, Confirmation, Confirms, Ends, Fails, Gist, Grants, Open, Refuses, Requests, Succeeds, Transport, Within, read_gist, reading}
 use Rattle.mux_history.specs.Heard.{Breaks, Dest, Disconnects, ToClient, ToMaster, dest, dest_within, heard_for, heard_master}
 use Rattle.mux_history.specs.Kept.{AtEach, Every, ForEach}
@@ -12,7 +12,7 @@ use Rattle.mux_history.specs.Laws.{IsWithin, RoomsHold, kept}
 use Rattle.mux_history.specs.Ledger.{answered, asked, breach, carried, sum_of}
 use Rattle.mux_history.specs.Log.{admits, all_told, bare, heard_row, queued, row_of, treat}
 use Rattle.mux_history.specs.Policy.{Policy}
-use Rattle.mux_history.specs.Rows.{Admit, BadServer, Fate, Gone, Heard, Item, Row, RunEnd, Says, ServerCut, ServerEnd, ServerFailed, Took, rows_of}
+use Rattle.mux_history.specs.Rows.{Admit, BadServer, Fate, Gone, Heard, HouseSays, Item, Row, RunEnd, Says, ServerCut, ServerEnd, ServerFailed, Took, rows_of}
 use Rattle.mux_history.specs.Said.{Outcome, drops, is_failing, said_gist, said_payload, said_within, silent}
 use Rattle.mux_outside.specs.declared.house.HouseReply.{HouseReply}
 use Rattle.ssh_fields.specs.Fields.{AreBytes}
@@ -32,7 +32,7 @@ use Rattle.mux_history.proofs.Renumbered.{reads-sent, resent, sender-in, word}
 use Rattle.mux_history.proofs.RightLogs.{LogKnown, RowKnown}
 use Rattle.mux_history.proofs.RoomActs.{Accounted, KnownIn, MayAct, SafeDown, SafeUp, UpLegal, accounted-down, accounted-harmless, accounted-reading, accounted-up, known-in, may-of, some-same, within-up}
 use Rattle.mux_history.proofs.SaidApart.{LawfulItem}
-use Rattle.mux_history.proofs.Sends.{Sent, admits-sent, as_row, body-sent, row-split, sent-by}
+use Rattle.mux_history.proofs.Sends.{Sent, admits-sent, as_row, body-sent, house-sent, row-split, sent-by}
 
 -- ---- a row
 
@@ -237,6 +237,7 @@ accounts-treat policy pid pick before (Admit k) good lawful = mute-row before go
 accounts-treat policy pid pick before (Says k (Payload p) reply) good lawful = row-any (Accounts before) (Says k (Payload p) reply) k (said_payload policy k (rows_of k before) pick p) (rows_of k before) (λ fw parting down fate. by-items before (as_row (Says k (Payload p) reply) k (said_payload policy k (rows_of k before) pick p).sent fw down fate) good parting (said-item before good k p reply (said_payload policy k (rows_of k before) pick p).sent fw down fate (said-ups before good k policy pick p lawful.1)))
 accounts-treat policy pid pick before (Says k (Body body) reply) good lawful = mute-row before good (Says k (Body body) reply) k (said_body pid k reply (greeted (rows_of k before)) body) (none-harmless _ (body-sent pid k reply (greeted (rows_of k before)) body)) (λ x. refl)
 accounts-treat policy pid pick before (Says k (BadFraming fault) reply) good lawful = mute-row before good (Says k (BadFraming fault) reply) k (drops (why.BadFrame fault)) tt (λ x. refl)
+accounts-treat policy pid pick before (HouseSays k id given) good lawful = mute-row before good (HouseSays k id given) k (house_says (rows_of k before) id given) (none-harmless _ (house-sent (rows_of k before) id given)) (λ x. refl)
 accounts-treat policy pid pick before (Gone k) good lawful = mute-row before good (Gone k) k silent tt (λ x. refl)
 accounts-treat policy pid pick before (Heard p) good lawful = heard-accounts before good p (dest before p) refl
 accounts-treat policy pid pick before (Took stream size) good lawful = by-items before (bare (Took stream size) stream silent) good tt (still-item before (bare (Took stream size) stream silent) tt (λ x. refl))

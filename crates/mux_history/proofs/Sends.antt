@@ -2,7 +2,7 @@
 use Rattle.std.proofs.Common.{◌≡◌, ℕ, List, [], ◌∷◌, length, true, false, Bool, refl, Option, Some, None, inl, inr, Ok, Err}
 use Rattle.std.specs.Prelude.{◌==◌, ◌&&◌, ◌⊎◌, Result, nat_lt, codes}
 use Rattle.mux_history.specs.Channels.{Channel, held_of, is_held, is_number, with_down, with_own, with_up, with_ups}
-use Rattle.mux_history.specs.Controls.{answers_ask, said_body, said_first, said_later}
+use Rattle.mux_history.specs.Controls.{answers_ask, answers_maybe, house_answer, house_says, in_proxy, said_body, said_first, said_later}
 use Rattle.mux_history.specs.Farewell.{farewell}
 use Rattle.mux_history.specs.Forwardings.{current, is_free_at}
 use Rattle.mux_history.specs.Gist.{Confirmation, Gist, Open, Refuses, Requests, Succeeds, Transport, Within, read_gist, reading, sender_of}
@@ -15,7 +15,7 @@ use Rattle.mux_history.specs.Policy.{Policy, permits}
 use Rattle.mux_history.specs.Rows.{Fate, Item, Refused, Row, any_of, loses}
 use Rattle.mux_history.specs.Said.{Outcome, confirmed_at, drops, fails_open, is_failing, is_full_of_asks, on_breach, on_confirmed, on_unused, on_waiting, said_gist, said_open, said_request, sends, sends_as, sends_if, sends_open, silent, tells, waiting_at}
 use Rattle.mux_outside.specs.declared.house.HouseReply.{HouseReply}
-use Rattle.ssh_grammar.specs.Control.{CloseForward, Control, Greets, Hello, OpenForward}
+use Rattle.ssh_grammar.specs.Control.{Answer, CloseForward, Control, Greets, Hello, OpenForward}
 use Rattle.ssh_grammar.specs.Frames.{frame_answer}
 use Rattle.ssh_grammar.specs.Messages.{Cancel, Direct, Forward, Global, KeepAlive, Opens, OtherName, Session}
 use Rattle.ssh_grammar.specs.ReadControl.{read_control}
@@ -118,9 +118,16 @@ sent-by policy k own pick p (Within s act) = by_failing (is_failing act)
     by_failing false = by_confirmed (confirmed_at own s)
 
 -- a control message sends nothing
+maybe-sent : (o : Option Answer) → (answers_maybe o).sent ≡ []
+maybe-sent None = refl
+maybe-sent (Some answer) = refl
+
 ask-sent : (opening : Bool) (id : ℕ) (o : Option HouseReply) → (answers_ask opening id o).sent ≡ []
 ask-sent opening id None = refl
-ask-sent opening id (Some given) = refl
+ask-sent opening id (Some given) = maybe-sent (house_answer opening id given)
+
+pub house-sent : (own : List Row) (id : ℕ) (given : HouseReply) → (house_says own id given).sent ≡ []
+house-sent own id given = elim (in_proxy own) as (λ b. (elim b as (λ _. Outcome) [ true ↦ silent | false ↦ answers_ask true id (Some given) ]).sent ≡ []) [ true ↦ refl | false ↦ ask-sent true id (Some given) ]
 
 later-sent : (pid k : ℕ) (given : Option HouseReply) (r : Result Control BadControl) → (said_later pid k given r).sent ≡ []
 later-sent pid k given (Ok (OpenForward id what)) = ask-sent true id given

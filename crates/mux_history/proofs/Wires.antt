@@ -1,10 +1,17 @@
 -- The marks that a wire's law allows make a lawful journal.
-use Rattle.std.proofs.Common.{◌≡◌, ℕ, ◌≤◌, ◌<◌, List, [], ◌∷◌, ◌++◌, length, take, true, false, Bool, refl, ◌∙◌, ap, arith, sym, subst, length-take}
-use Rattle.std.specs.Prelude.{◌==◌, ◌||◌, not, reverse, All, IsTrue, if◌then◌else◌}
+use Rattle.std.proofs.Common.{◌≡◌, ℕ, Some, None, ◌≤◌, ◌<◌, List, [], ◌∷◌, ◌++◌, length, take, true, false, Bool, refl, ◌∙◌, ap, arith, sym, subst, length-take}
+use Rattle.std.specs.Prelude.{◌==◌, ◌||◌, ◌&&◌, not, reverse, All, IsTrue, if◌then◌else◌}
 use Rattle.std.proofs.lemmas.Bool.Decides.{nat_tests}
 use Rattle.mux_outside.specs.Streams.{among, without}
-use Rattle.mux_outside.specs.Wire.{TurnFits, WroteFits, blocked_after, blocked_after_write, last_after, open_after, wait_marks, write_marks}
+use Rattle.mux_outside.specs.Wire.{IsNewOwn, OwnFits, TurnFits, WroteFits, blocked_after, blocked_after_write, last_after, open_after, wait_marks, write_marks}
+use Rattle.mux_outside.specs.OwnStreams.{is_own}
+use Rattle.mux_outside.specs.declared.house_mark.HouseMark.{HouseMark}
+use Rattle.mux_outside.specs.declared.house_mark.HouseMark.TheVariants.{HouseOrder}
+use Rattle.mux_outside.specs.declared.order.Order.TheVariants.{Connect}
+use Rattle.mux_outside.specs.declared.own_streams.OwnStream.{OwnStream}
+use Rattle.mux_outside.specs.declared.own_streams.TheConstants.{LAST_OWN}
 use Rattle.mux_outside.specs.declared.mark.Mark.{Mark}
+use Rattle.mux_history.specs.declared.limits.TheConstants.{HOUSE}
 use Rattle.mux_outside.specs.declared.mark.Mark.TheVariants as wire
 use Rattle.mux_outside.specs.declared.turn.Turn.{Turn}
 use Rattle.mux_outside.specs.declared.turn.Turn.TheVariants as turns
@@ -14,8 +21,8 @@ use Rattle.mux_outside.specs.declared.turn.Wrote.{Wrote}
 use Rattle.mux_outside.specs.declared.turn.Wrote.TheVariants as wrote
 use Rattle.ssh_fields.specs.Fields.{AreBytes}
 use Rattle.ssh_fields.proofs.Fields.{AreBytes-take}
-use Rattle.mux_history.specs.Journal.{is_accepted, is_blocked, is_known}
-use Rattle.mux_history.specs.Wires.{FollowsRead, OfWire, ReadsWhenAsked, WireKeeps, reads}
+use Rattle.mux_history.specs.Journal.{LawfulHouse, connects, is_accepted, is_blocked, is_known, is_own_stream, lets_in}
+use Rattle.mux_history.specs.Wires.{FollowsRead, OfWire, ReadsWhenAsked, WireKeeps, is_connect, reads}
 use Rattle.mux_history.proofs.Finds.{filter-no, filter-yes}
 use Rattle.mux_history.proofs.Bools.{or-yes}
 
@@ -65,19 +72,45 @@ other-than t s (x ∷ streams) there = by_case (λ h. other-than t s streams h) 
 
 -- ---- streams that are known, and that hold back
 
-known-before : (t k : ℕ) (marks : List Mark) → is_known t marks ≡ true → is_known t (wire.Accepts k ∷ marks) ≡ true
-known-before t k marks known = by_server (t == 0) known
+known-on : (t : ℕ) (b : Bool) (marks : List Mark) → is_known t marks ≡ true → ((t == 0) || (is_own_stream t || (if b then true else is_accepted t marks))) ≡ true
+known-on t b marks known = by_server (t == 0) known
   where
     by_same : (b : Bool) → is_accepted t marks ≡ true → (if b then true else is_accepted t marks) ≡ true
     by_same true e = refl
     by_same false e = e
 
-    by_server : (b : Bool) → (b || is_accepted t marks) ≡ true → (b || (if k == t then true else is_accepted t marks)) ≡ true
+    by_own : (o : Bool) → (o || is_accepted t marks) ≡ true → (o || (if b then true else is_accepted t marks)) ≡ true
+    by_own true e = refl
+    by_own false e = by_same b e
+
+    by_server : (s : Bool) → (s || (is_own_stream t || is_accepted t marks)) ≡ true → (s || (is_own_stream t || (if b then true else is_accepted t marks))) ≡ true
     by_server true e = refl
-    by_server false e = by_same (k == t) e
+    by_server false e = by_own (is_own_stream t) e
+
+known-before : (t k : ℕ) (marks : List Mark) → is_known t marks ≡ true → is_known t (wire.Accepts k ∷ marks) ≡ true
+known-before t k marks known = known-on t (k == t) marks known
+
+known-house : (t : ℕ) (m : HouseMark) (marks : List Mark) → is_known t marks ≡ true → is_known t (wire.House m ∷ marks) ≡ true
+known-house t m marks known = known-on t (lets_in t m) marks known
 
 known-new : (t k : ℕ) (marks : List Mark) → (k == t) ≡ true → is_known t (wire.Accepts k ∷ marks) ≡ true
-known-new t k marks same = or-yes (t == 0) (is_accepted t (wire.Accepts k ∷ marks)) (ap (λ b. if b then true else is_accepted t marks) same)
+known-new t k marks same = or-yes (t == 0) (is_own_stream t || is_accepted t (wire.Accepts k ∷ marks)) (or-yes (is_own_stream t) (is_accepted t (wire.Accepts k ∷ marks)) (ap (λ b. if b then true else is_accepted t marks) same))
+
+-- the master's own streams are
+own-known : (t : ℕ) (marks : List Mark) → is_own_stream t ≡ true → is_known t marks ≡ true
+own-known t marks own = or-yes (t == 0) (is_own_stream t || is_accepted t marks) (ap (λ b. b || is_accepted t marks) own)
+
+same-own : (n t : ℕ) → (n == t) ≡ true → is_own_stream n ≡ true → is_own_stream t ≡ true
+same-own n t e own = subst (λ (j : ℕ). is_own_stream j ≡ true) (same e) own
+  where
+    same : (n == t) ≡ true → n ≡ t
+    same e = grind (arith, nat_tests)
+
+new-own : (last n : ℕ) → IsNewOwn last n → is_own_stream n ≡ true
+new-own last n new = ap (λ b. b && not (n == HOUSE)) new.own ∙ ap not (no_house new.at_most)
+  where
+    no_house : n ≤ LAST_OWN → (n == HOUSE) ≡ false
+    no_house le = grind (arith, nat_tests)
 
 server-known : (t : ℕ) → among t (0 ∷ []) ≡ true → is_known t [] ≡ true
 server-known t there = by_case (0 == t) refl there
@@ -86,11 +119,18 @@ server-known t there = by_case (0 == t) refl there
     turned e = grind (arith, nat_tests)
 
     by_case : (b : Bool) → (0 == t) ≡ b → (b || false) ≡ true → is_known t [] ≡ true
-    by_case true e some = ap (λ b. b || false) (turned e)
+    by_case true e some = ap (λ b. b || (is_own_stream t || false)) (turned e)
     by_case false e some = cc
 
 held-more : (t s : ℕ) (marks : List Mark) → is_blocked s marks ≡ true → is_blocked s (wire.Holds t ∷ marks) ≡ true
 held-more t s marks held = by_case (t == s)
+  where
+    by_case : (b : Bool) → (elim b as (λ _. Bool) [ true ↦ true | false ↦ is_blocked s marks ]) ≡ true
+    by_case true = refl
+    by_case false = held
+
+held-house : (s : ℕ) (m : HouseMark) (marks : List Mark) → is_blocked s marks ≡ true → is_blocked s (wire.House m ∷ marks) ≡ true
+held-house s m marks held = by_case (connects s m)
   where
     by_case : (b : Bool) → (elim b as (λ _. Bool) [ true ↦ true | false ↦ is_blocked s marks ]) ≡ true
     by_case true = refl
@@ -104,50 +144,58 @@ still before mark quiet reading = absurd (let bad : true ≡ false = sym reading
 read-after : (waiting streams : List ℕ) (wanted : Want) (listens : Bool) (before : List Mark) → wanted ≡ want.Read → FollowsRead (wire.Waits waiting wanted streams listens ∷ before)
 read-after waiting streams wanted listens before e = subst (λ (x : Want). FollowsRead (wire.Waits waiting x streams listens ∷ before)) (sym e) tt
 
-module _ (streams blocked : List ℕ) (last : ℕ) (marks : List Mark) where
+module _ (streams blocked : List ℕ) (last : ℕ) (listeners : List ℕ) (own : List OwnStream) (last_own : ℕ) (marks : List Mark) where
   all-held : OfWire streams blocked last marks → (waiting : List ℕ) → All (λ t. IsTrue (among t blocked)) waiting → All (λ t. IsTrue (is_blocked t marks)) waiting
   all-held of waiting all k d lt = of.holds _ (all k d lt)
 
-  turn-kept : (given : Turn) (waiting : List ℕ) (wanted : Want) (listens : Bool) (bytes : List ℕ) → AreBytes bytes → All (λ t. IsTrue (among t blocked)) waiting → TurnFits given wanted listens last streams blocked bytes → OfWire streams blocked last marks → OfWire (open_after given streams) (blocked_after given blocked) (last_after given last) (reverse (wait_marks given waiting wanted streams listens bytes) ++ marks)
-  turn-kept (turns.Accepted k) waiting wanted listens bytes are all fits of =
+  turn-kept : (given : Turn) (waiting : List ℕ) (wanted : Want) (listens : Bool) (bytes : List ℕ) → AreBytes bytes → All (λ t. IsTrue (among t blocked)) waiting → TurnFits given wanted listens last streams blocked bytes → OwnFits given listeners own last_own → OfWire streams blocked last marks → OfWire (open_after given streams) (blocked_after given blocked) (last_after given last) (reverse (wait_marks given waiting wanted streams listens bytes) ++ marks)
+  turn-kept (turns.Accepted k) waiting wanted listens bytes are all fits own_fits of =
       let low = of.below in
       let next = fits.2 in
+      let most = fits.3 in
       record {
-        lawful = (omega (arith, low, next), (all-held of waiting all, of.lawful));
+        lawful = ((omega (arith, low, next), omega (arith, next, most)), (all-held of waiting all, of.lawful));
         asked = (λ reading. read-after waiting streams wanted listens marks fits.0, (still marks (wire.Waits waiting wanted streams listens) refl, of.asked));
         known = λ t there. among-last (is_known t (wire.Accepts k ∷ marks) ≡ true) t k streams (λ old. known-before t k marks (of.known t old)) (λ same. known-new t k marks same) there;
         holds = of.holds;
         below = omega arith;
       }
-  turn-kept (turns.Got t) waiting wanted listens bytes are all fits of = record {
+  turn-kept (turns.Got t) waiting wanted listens bytes are all fits own_fits of = record {
     lawful = ((of.known t fits.1, fits.2, fits.3, are), (all-held of waiting all, of.lawful));
     asked = (λ reading. read-after waiting streams wanted listens marks fits.0, (still marks (wire.Waits waiting wanted streams listens) refl, of.asked));
     known = of.known;
     holds = of.holds;
     below = of.below;
   }
-  turn-kept (turns.End t) waiting wanted listens bytes are all fits of = record {
+  turn-kept (turns.End t) waiting wanted listens bytes are all fits own_fits of = record {
     lawful = (of.known t fits.1, (all-held of waiting all, of.lawful));
     asked = (still (wire.Waits waiting wanted streams listens ∷ marks) (wire.Ends t) refl, (still marks (wire.Waits waiting wanted streams listens) refl, of.asked));
     known = of.known;
     holds = of.holds;
     below = of.below;
   }
-  turn-kept (turns.Writable t) waiting wanted listens bytes are all fits of = record {
+  turn-kept (turns.Writable t) waiting wanted listens bytes are all fits own_fits of = record {
     lawful = (of.holds t fits.1, (all-held of waiting all, of.lawful));
     asked = (still (wire.Waits waiting wanted streams listens ∷ marks) (wire.Frees t) refl, (still marks (wire.Waits waiting wanted streams listens) refl, of.asked));
     known = of.known;
     holds = λ s there. ap (λ b. elim b as (λ _. Bool) [ true ↦ false | false ↦ is_blocked s marks ]) (other-than t s blocked there) ∙ of.holds s (was-among t s blocked there);
     below = of.below;
   }
-  turn-kept (turns.Failed t) waiting wanted listens bytes are all fits of = record {
+  turn-kept (turns.Failed t) waiting wanted listens bytes are all fits own_fits of = record {
     lawful = (of.known t fits, (all-held of waiting all, of.lawful));
     asked = (still (wire.Waits waiting wanted streams listens ∷ marks) (wire.Fails t) refl, (still marks (wire.Waits waiting wanted streams listens) refl, of.asked));
     known = of.known;
     holds = of.holds;
     below = of.below;
   }
-  turn-kept turns.NoMemory waiting wanted listens bytes are all fits of = of
+  turn-kept (turns.Joined l t) waiting wanted listens bytes are all fits own_fits of = record {
+    lawful = (tt, (all-held of waiting all, of.lawful));
+    asked = (λ reading. read-after waiting streams wanted listens marks fits, (still marks (wire.Waits waiting wanted streams listens) refl, of.asked));
+    known = λ s there. among-last (is_known s marks ≡ true) s t streams (λ old. of.known s old) (λ same. own-known s marks (same-own t s same (new-own last_own t own_fits.1))) there;
+    holds = of.holds;
+    below = of.below;
+  }
+  turn-kept turns.NoMemory waiting wanted listens bytes are all fits own_fits of = of
 
   some-taken : (n : ℕ) (bytes : List ℕ) → 1 ≤ n → n ≤ length bytes → 0 < length (take n bytes)
   some-taken n bytes some most = omega (arith, length-take n bytes)
@@ -185,13 +233,33 @@ module _ (streams blocked : List ℕ) (last : ℕ) (marks : List Mark) where
     below = of.below;
   }
 
+  note-kept : (mark : HouseMark) → LawfulHouse marks mark → is_connect mark ≡ false → OfWire streams blocked last marks → OfWire streams blocked last (wire.House mark ∷ marks)
+  note-kept mark lawful other of = record {
+    lawful = (lawful, of.lawful);
+    asked = (still marks (wire.House mark) refl, of.asked);
+    known = λ t there. known-house t mark marks (of.known t there);
+    holds = λ t there. held-house t mark marks (of.holds t there);
+    below = of.below;
+  }
+
+  connect-kept : (host : List ℕ) (port n : ℕ) → is_own_stream n ≡ true → OfWire streams blocked last marks → OfWire (streams ++ n ∷ []) (blocked ++ n ∷ []) last (wire.House (HouseOrder (Connect host port) (Some n)) ∷ marks)
+  connect-kept host port n own_n of = record {
+    lawful = (tt, of.lawful);
+    asked = (still marks (wire.House (HouseOrder (Connect host port) (Some n))) refl, of.asked);
+    known = λ t there. among-last (is_known t (wire.House (HouseOrder (Connect host port) (Some n)) ∷ marks) ≡ true) t n streams (λ old. known-house t (HouseOrder (Connect host port) (Some n)) marks (of.known t old)) (λ same. own-known t (wire.House (HouseOrder (Connect host port) (Some n)) ∷ marks) (same-own n t same own_n)) there;
+    holds = λ s held. among-last (is_blocked s (wire.House (HouseOrder (Connect host port) (Some n)) ∷ marks) ≡ true) s n blocked (λ old. held-house s (HouseOrder (Connect host port) (Some n)) marks (of.holds s old)) (λ same. ap (λ b. elim b as (λ _. Bool) [ true ↦ true | false ↦ is_blocked s marks ]) same) held;
+    below = of.below;
+  }
+
   no-stream : (t : ℕ) → IsTrue (among t []) → IsTrue (is_blocked t [])
   no-stream t there = there
 
-  pub wire-keeps : WireKeeps streams blocked last marks
+  pub wire-keeps : WireKeeps streams blocked last listeners own last_own marks
   wire-keeps = record {
     none = record { lawful = tt; asked = tt; known = server-known; holds = no-stream; below = omega arith };
     turn = turn-kept;
     write = write-kept;
     close = close-kept;
+    note = note-kept;
+    connect = connect-kept;
   }

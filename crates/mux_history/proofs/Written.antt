@@ -1,19 +1,23 @@
 -- What a stream took and what waits for it make up what it is given.
 use Rattle.std.proofs.Common.{◌≡◌, ℕ, Some, None, List, [], ◌∷◌, ◌++◌, true, false, Bool, refl, ◌∙◌, ap, sym, subst, map, drop, length, append_assoc, arith}
-use Rattle.std.specs.Prelude.{◌==◌, ◌&&◌}
+use Rattle.std.specs.Prelude.{◌==◌, ◌&&◌, MatchBool, not}
 use Rattle.std.proofs.lemmas.List.{append-nil}
 use Rattle.std.proofs.Math.Seq.{drop-append_seam}
 use Rattle.std.proofs.lemmas.Bool.Decides.{nat_tests}
 use Rattle.mux_history.specs.Choices.{Choices, FromLists, TheirOwn, pick_of, replies_given, reply_at, with_reply}
 use Rattle.mux_history.specs.Controls.{body_asks, greeted}
-use Rattle.mux_history.specs.Journal.{bytes_of, heard_item, items, items_in, log_of_journal, new_heard, new_sayings, said_item, server_end, taken_by, taken_in}
+use Rattle.mux_history.specs.Journal.{bytes_of, heard_item, house_items, is_own_stream, unless_own, items, items_in, log_of_journal, new_heard, new_sayings, said_item, server_end, taken_by, taken_in}
 use Rattle.mux_history.specs.Laws.{AddsUp}
 use Rattle.mux_history.specs.Log.{Setting, bare, is_took, makes_next, more_all, more_of, next_row, treat}
 use Rattle.mux_history.specs.Pending.{given_by, given_to, joined, pending, pending_down, pending_up, took_by, took_up}
 use Rattle.mux_history.specs.Promises.{IsFront, TakesFront, Throughout}
 use Rattle.mux_history.specs.Rows.{Gone, Item, Row, Says, ServerFailed, Took, rows_of, sent_by}
 use Rattle.mux_history.specs.Said.{silent}
+use Rattle.mux_outside.specs.OwnStreams.{is_own}
+use Rattle.mux_outside.specs.declared.house_mark.HouseMark.{HouseMark}
+use Rattle.mux_outside.specs.declared.house_mark.HouseMark.TheVariants.{HouseAnswer, HouseAsked, HouseIn, HouseOrder, HouseSaid, HouseTook}
 use Rattle.mux_outside.specs.declared.mark.Mark.{Mark}
+use Rattle.mux_history.specs.declared.limits.TheConstants.{HOUSE}
 use Rattle.mux_outside.specs.declared.mark.Mark.TheVariants.{Accepts, Frees, Gets, Takes, Waits, WriteFails}
 use Rattle.ssh_grammar.specs.Frames.{frame_payload}
 use Rattle.ssh_grammar.specs.Said.{BadFraming, Body, InProxy, Payload, Saying, parse}
@@ -157,10 +161,35 @@ end-still : (rest : List ℕ) → is_took (server_end rest) ≡ false
 end-still [] = refl
 end-still (b ∷ rest) = refl
 
-gone-still : (stream : ℕ) (item : Item) → is_took item ≡ false → AreStill (elim (stream == 0) as (λ _. List Item) [ true ↦ item ∷ [] | false ↦ Gone stream ∷ [] ])
-gone-still stream item still = elim (stream == 0) as (λ b. AreStill (elim b as (λ _. List Item) [ true ↦ item ∷ [] | false ↦ Gone stream ∷ [] ])) [ true ↦ (still, tt) | false ↦ (refl, tt) ]
+unless-still : (stream : ℕ) (items : List Item) → AreStill items → AreStill (unless_own stream items)
+unless-still stream items still = elim (is_own_stream stream) as (λ b. AreStill (elim b as (λ _. List Item) [ true ↦ [] | false ↦ items ])) [ true ↦ tt | false ↦ still ]
 
-module _ (setting : Setting) (before : List Mark) (t : ℕ) (known : Holds t (taken_by t before) (log_of_journal setting before)) where
+gone-still : (stream : ℕ) (item : Item) → is_took item ≡ false → AreStill (elim (stream == 0) as (λ _. List Item) [ true ↦ item ∷ [] | false ↦ unless_own stream (Gone stream ∷ []) ])
+gone-still stream item still = elim (stream == 0) as (λ b. AreStill (elim b as (λ _. List Item) [ true ↦ item ∷ [] | false ↦ unless_own stream (Gone stream ∷ []) ])) [ true ↦ (still, tt) | false ↦ unless-still stream (Gone stream ∷ []) (refl, tt) ]
+
+-- a stream that is no own one is another than one that is
+other-own : (t s : ℕ) → is_own t ≡ false → is_own s ≡ true → (s == t) ≡ false
+other-own t s e f = by_case (s == t) refl
+  where
+    same : (s == t) ≡ true → s ≡ t
+    same g = grind (arith, nat_tests)
+
+    by_case : (b : Bool) → (s == t) ≡ b → (s == t) ≡ false
+    by_case false g = g
+    by_case true g = let bad : true ≡ false = sym f ∙ (ap is_own (same g) ∙ e) in let h = bad in cc
+
+own-of : (s : ℕ) → is_own_stream s ≡ true → is_own s ≡ true
+own-of s e = by_case (is_own s) e
+  where
+    by_case : (b : Bool) → (b && not (s == HOUSE)) ≡ true → b ≡ true
+    by_case true e = refl
+    by_case false e = e
+
+-- what another takes
+holds-other : (t s n : ℕ) (taken : List ℕ) (rows : List Row) → (s == t) ≡ false → Holds t taken rows → Holds t taken (bare (Took s n) s silent ∷ rows)
+holds-other t s n taken rows other h = ap (λ xs. taken ++ xs) (pending-other t s n rows other) ∙ (h ∙ sym (ap (λ xs. given_to t rows ++ xs) (given-took t s n) ∙ append-nil (given_to t rows)))
+
+module _ (setting : Setting) (before : List Mark) (t : ℕ) (client : is_own t ≡ false) (known : Holds t (taken_by t before) (log_of_journal setting before)) where
   abbrev log : List Row
   log = log_of_journal setting before
 
@@ -172,23 +201,47 @@ module _ (setting : Setting) (before : List Mark) (t : ℕ) (known : Holds t (ta
 
   pub one-mark : (m : Mark) → TakesFront setting before m → taken_by t (m ∷ before) ++ pending t (log_of_journal setting (m ∷ before)) ≡ given_to t (log_of_journal setting (m ∷ before))
   one-mark (wire.Accepts k) front = nothing (wire.Accepts k) refl (refl, tt)
-  one-mark (wire.Gets stream bytes) front = nothing (wire.Gets stream bytes) refl (elim (stream == 0) as (λ b. AreStill (elim b as (λ _. List Item) [ true ↦ new_heard (bytes_of 0 before) (bytes_of 0 before ++ bytes) | false ↦ new_sayings stream (bytes_of stream before) (bytes_of stream before ++ bytes) ])) [ true ↦ heard-still _ | false ↦ said-still stream _ ])
+  one-mark (wire.Gets stream bytes) front = nothing (wire.Gets stream bytes) refl (elim (stream == 0) as (λ b. AreStill (elim b as (λ _. List Item) [ true ↦ new_heard (bytes_of 0 before) (bytes_of 0 before ++ bytes) | false ↦ unless_own stream (new_sayings stream (bytes_of stream before) (bytes_of stream before ++ bytes)) ])) [ true ↦ heard-still _ | false ↦ unless-still stream _ (said-still stream _) ])
   one-mark (wire.Ends stream) front = nothing (wire.Ends stream) refl (gone-still stream (server_end (parse InProxy (bytes_of 0 before)).rest) (end-still (parse InProxy (bytes_of 0 before)).rest))
   one-mark (wire.Fails stream) front = nothing (wire.Fails stream) refl (gone-still stream ServerFailed refl)
   one-mark (wire.WriteFails stream) front = nothing (wire.WriteFails stream) refl (gone-still stream ServerFailed refl)
   one-mark (wire.Holds stream) front = nothing (wire.Holds stream) refl tt
   one-mark (wire.Frees stream) front = nothing (wire.Frees stream) refl tt
   one-mark (wire.Waits waiting want streams listening) front = nothing (wire.Waits waiting want streams listening) refl tt
-  one-mark (wire.Takes stream bytes) front =
-      subst (λ (rows : List Row). taken_by t (wire.Takes stream bytes ∷ before) ++ pending t rows ≡ given_to t rows) (sym rows_are) (holds-took t stream (taken_by t before) bytes log front known)
+  one-mark (wire.Joins listener stream) front = nothing (wire.Joins listener stream) refl tt
+  one-mark (wire.House mark) front = by_mark mark
     where
-      rows_are : log_of_journal setting (wire.Takes stream bytes ∷ before) ≡ bare (Took stream (length bytes)) stream silent ∷ log
-      rows_are = more-took setting log stream (length bytes)
+      by_house : (xs : List ℕ) → (HOUSE == t) ≡ false → (elim (HOUSE == t) as (λ _. List ℕ) [ true ↦ xs | false ↦ [] ]) ≡ []
+      by_house xs e = ap (λ b. elim b as (λ _. List ℕ) [ true ↦ xs | false ↦ [] ]) e
+
+      by_mark : (mark : HouseMark) → taken_by t (wire.House mark ∷ before) ++ pending t (log_of_journal setting (wire.House mark ∷ before)) ≡ given_to t (log_of_journal setting (wire.House mark ∷ before))
+      by_mark HouseIn = nothing (wire.House HouseIn) refl (refl, tt)
+      by_mark (HouseSaid bytes) = nothing (wire.House (HouseSaid bytes)) refl (said-still HOUSE _)
+      by_mark (HouseTook n) =
+          subst (λ (rows : List Row). (taken_by t before ++ []) ++ pending t rows ≡ given_to t rows) (sym (more-took setting log HOUSE n))
+          (ap (λ xs. xs ++ pending t (bare (Took HOUSE n) HOUSE silent ∷ log)) (append-nil (taken_by t before)) ∙ holds-other t HOUSE n (taken_by t before) log (other-own t HOUSE client refl) known)
+      by_mark (HouseAnswer k id given) = nothing (wire.House (HouseAnswer k id given)) refl (refl, tt)
+      by_mark (HouseAsked k id opening ask given) = nothing (wire.House (HouseAsked k id opening ask given)) refl tt
+      by_mark (HouseOrder order number) = nothing (wire.House (HouseOrder order number)) refl tt
+  one-mark (wire.Takes stream bytes) front = by_own (is_own_stream stream) refl front
+    where
+      none : (stream == t) ≡ false → taken_in t (wire.Takes stream bytes) ≡ []
+      none e = ap (λ b. elim b as (λ _. List ℕ) [ true ↦ bytes | false ↦ [] ]) e
+
+      items_are : (b : Bool) → is_own_stream stream ≡ b → items_in before (wire.Takes stream bytes) ≡ (elim b as (λ _. List Item) [ true ↦ [] | false ↦ Took stream (length bytes) ∷ [] ])
+      items_are b e = ap (λ c. elim c as (λ _. List Item) [ true ↦ [] | false ↦ Took stream (length bytes) ∷ [] ]) e
+
+      rows_are : is_own_stream stream ≡ false → log_of_journal setting (wire.Takes stream bytes ∷ before) ≡ bare (Took stream (length bytes)) stream silent ∷ log
+      rows_are e = ap (more_all setting log) (items_are false e) ∙ more-took setting log stream (length bytes)
+
+      by_own : (b : Bool) → is_own_stream stream ≡ b → MatchBool b (Unit {0}) (IsFront bytes (pending stream log)) → taken_by t (wire.Takes stream bytes ∷ before) ++ pending t (log_of_journal setting (wire.Takes stream bytes ∷ before)) ≡ given_to t (log_of_journal setting (wire.Takes stream bytes ∷ before))
+      by_own true e front = nothing (wire.Takes stream bytes) (none (other-own t stream client (own-of stream e))) (subst AreStill (sym (items_are true e)) tt)
+      by_own false e front = subst (λ (rows : List Row). taken_by t (wire.Takes stream bytes ∷ before) ++ pending t rows ≡ given_to t rows) (sym (rows_are e)) (holds-took t stream (taken_by t before) bytes log front known)
 
 pub adds-up : (setting : Setting) (marks : List Mark) → Throughout (TakesFront setting) marks → AddsUp setting marks
-adds-up setting [] fronts t = by_stream (t == 0)
+adds-up setting [] fronts t client = by_stream (t == 0)
   where
     by_stream : (b : Bool) → (elim b as (λ _. List ℕ) [ true ↦ [] | false ↦ [] ]) ≡ []
     by_stream true = refl
     by_stream false = refl
-adds-up setting (m ∷ before) fronts t = one-mark setting before t (adds-up setting before fronts.1 t) m fronts.0
+adds-up setting (m ∷ before) fronts t client = one-mark setting before t client (adds-up setting before fronts.1 t client) m fronts.0

@@ -8,6 +8,7 @@ use Rattle.ssh_grammar.specs.declared.numbers.TheConstants as number
 use Rattle.ssh_grammar.specs.Control.{Control, Hello, NewSession, AliveCheck, Terminate, OpenForward, CloseForward, StdioForward, StopListening, Proxy, Answer, Okay, Failed, Alive, RemotePort, Proxies, no_descriptors, no_forwardings, unsupported}
 use Rattle.ssh_grammar.specs.ReadControl.{read_control}
 use Rattle.ssh_grammar.specs.Frames.{frame_answer}
+use Rattle.ssh_grammar.specs.Said.{Saying, Body, Payload, BadFraming}
 use Rattle.mux_history.specs.declared.why.Why.TheVariants as why
 use Rattle.mux_history.specs.declared.ended.Ended.TheVariants as ended
 use Rattle.mux_history.specs.Rows.{Row, any_of, Item, Says, End}
@@ -60,17 +61,23 @@ said_first (Err fault) = first_unread fault
 
 -- ---- after it
 
--- what the house said of an ask; a port is no answer to a close
-abbrev pub house_answer : Bool → ℕ → HouseReply → Answer
-house_answer opening id reply.Done = Okay id
-house_answer true id (reply.Port port) = RemotePort id port
-house_answer false id (reply.Port port) = Failed id no_forwardings
-house_answer opening id reply.Refused = Failed id no_forwardings
+-- what the house said of an ask, which may be nothing yet; a port is no answer to a close
+abbrev pub house_answer : Bool → ℕ → HouseReply → Option Answer
+house_answer opening id reply.Done = Some (Okay id)
+house_answer true id (reply.Port port) = Some (RemotePort id port)
+house_answer false id (reply.Port port) = Some (Failed id no_forwardings)
+house_answer opening id reply.Refused = Some (Failed id no_forwardings)
+house_answer opening id reply.Later = None
+
+-- an answer as a frame, where there is one
+abbrev pub answers_maybe : Option Answer → Outcome
+answers_maybe None = silent
+answers_maybe (Some answer) = answers_with answer
 
 -- the answer to an ask, once the house has replied
 abbrev pub answers_ask : Bool → ℕ → Option HouseReply → Outcome
 answers_ask opening id None = silent
-answers_ask opening id (Some given) = answers_with (house_answer opening id given)
+answers_ask opening id (Some given) = answers_maybe (house_answer opening id given)
 
 -- a message after the hello, by its type
 abbrev pub later_control : ℕ → ℕ → Option HouseReply → Control → Outcome
@@ -114,6 +121,15 @@ asks_house _ = false
 abbrev pub body_asks : List ℕ → Bool
 body_asks body = elim (read_control body) [ Err fault ↦ false | Ok c ↦ asks_house c ]
 
+-- a PROXY
+abbrev pub is_proxy : Control → Bool
+is_proxy (Proxy id) = true
+is_proxy _ = false
+
+-- the same of a body
+abbrev pub body_proxies : List ℕ → Bool
+body_proxies body = elim (read_control body) [ Err fault ↦ false | Ok c ↦ is_proxy c ]
+
 -- a STOP_LISTENING
 abbrev pub is_stop : Control → Bool
 is_stop (StopListening id) = true
@@ -122,3 +138,26 @@ is_stop _ = false
 -- the same of a body
 abbrev pub body_stops : List ℕ → Bool
 body_stops body = elim (read_control body) [ Err fault ↦ false | Ok c ↦ is_stop c ]
+
+-- ---- what the house replies later
+
+-- a saying behind which the client speaks to the server
+abbrev pub proxies_by : Saying → Bool
+proxies_by (Body body) = body_proxies body
+proxies_by (Payload p) = true
+proxies_by (BadFraming fault) = false
+
+-- the client has said PROXY: the last that it said is that, or a payload
+abbrev pub in_proxy : List Row → Bool
+in_proxy [] = false
+in_proxy (row ∷ before) = elim row.item [
+  | Says k saying given ↦ proxies_by saying
+  | _ ↦ in_proxy before
+]
+
+-- the reply to an ask, as a frame; a port is told only of an ask that opens
+abbrev pub house_says : List Row → ℕ → HouseReply → Outcome
+house_says own id given = elim (in_proxy own) [
+  | true ↦ silent
+  | false ↦ answers_ask true id (Some given)
+]

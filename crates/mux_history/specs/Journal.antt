@@ -1,17 +1,33 @@
 -- What a wire was seen to do, the newest mark first, and the items that it gives.
-use Rattle.std.specs.Prelude.{ℕ, ◌==◌, ◌≡◌, ◌<◌, ◌≤◌, List, [], ◌∷◌, ◌++◌, None, Option, Bool, true, ◌||◌, if◌then◌else◌, option_map, false, length, drop, map, reverse, All, IsTrue}
+use Rattle.std.specs.Prelude.{ℕ, ◌==◌, ◌≡◌, ◌<◌, ◌≤◌, ◌&&◌, not, List, [], ◌∷◌, ◌++◌, Some, None, Option, Bool, true, ◌||◌, if◌then◌else◌, option_map, false, length, drop, map, reverse, All, IsTrue}
 use Rattle.mux_outside.specs.declared.mark.Mark.{Mark}
-use Rattle.mux_outside.specs.declared.mark.Mark.TheVariants.{Waits, Accepts, Gets, Ends, Frees, Fails, Takes, Holds, WriteFails}
+use Rattle.mux_outside.specs.declared.mark.Mark.TheVariants.{Waits, Accepts, Gets, Ends, Frees, Fails, Takes, Holds, WriteFails, House}
+use Rattle.mux_outside.specs.OwnStreams.{is_own}
+use Rattle.mux_outside.specs.declared.house_mark.HouseMark.{HouseMark}
+use Rattle.mux_outside.specs.declared.house_mark.HouseMark.TheVariants.{HouseIn, HouseSaid, HouseTook, HouseAnswer, HouseOrder}
+use Rattle.mux_outside.specs.declared.order.Order.TheVariants.{Connect}
+use Rattle.mux_outside.specs.declared.own_streams.TheConstants.{LAST_CLIENT}
 use Rattle.ssh_fields.specs.Fields.{AreBytes}
 use Rattle.ssh_grammar.specs.Said.{Saying, Body, Payload, BadFraming, said, InProxy, parse}
-use Rattle.mux_history.specs.Rows.{Item, Admit, Says, Gone, Heard, BadServer, ServerEnd, ServerCut, ServerFailed, Took, Row}
+use Rattle.mux_history.specs.Rows.{Item, Admit, Says, HouseSays, Gone, Heard, BadServer, ServerEnd, ServerCut, ServerFailed, Took, Row}
+use Rattle.mux_history.specs.declared.limits.TheConstants.{HOUSE}
 use Rattle.mux_history.specs.Log.{Setting, more_all}
 
 -- ---- what streams gave and took
 
--- the bytes that a stream gave at a mark
+-- a stream of the master's own; the house itself has none, and its number is that of a client
+abbrev pub is_own_stream : ℕ → Bool
+is_own_stream t = is_own t && not (t == HOUSE)
+
+-- the bytes that the house said at a mark, as a client
+abbrev pub house_said : HouseMark → List ℕ
+house_said (HouseSaid bytes) = bytes
+house_said _ = []
+
+-- the bytes that a stream gave at a mark, or the house as a client
 abbrev pub bytes_in : ℕ → Mark → List ℕ
 bytes_in t (Gets stream bytes) = elim (stream == t) [ true ↦ bytes | false ↦ [] ]
+bytes_in t (House mark) = elim (HOUSE == t) [ true ↦ house_said mark | false ↦ [] ]
 bytes_in t _ = []
 
 -- all bytes that a stream gave, in order
@@ -29,13 +45,21 @@ abbrev pub taken_by : ℕ → List Mark → List ℕ
 taken_by t [] = []
 taken_by t (mark ∷ before) = taken_by t before ++ taken_in t mark
 
--- the stream takes no bytes for now: it held back, and was not freed since
+-- the house ordered this stream, which is made and not connected yet
+abbrev pub connects : ℕ → HouseMark → Bool
+connects t (HouseOrder (Connect host port) (Some stream)) = stream == t
+connects t _ = false
+
+-- the stream takes no bytes for now: it held back, or was made by an order to connect, and was not
+-- freed since
 abbrev pub is_blocked : ℕ → List Mark → Bool
 is_blocked t [] = false
 is_blocked t (Holds stream ∷ before) =
     elim (stream == t) [ true ↦ true | false ↦ is_blocked t before ]
 is_blocked t (Frees stream ∷ before) =
     elim (stream == t) [ true ↦ false | false ↦ is_blocked t before ]
+is_blocked t (House mark ∷ before) =
+    elim (connects t mark) [ true ↦ true | false ↦ is_blocked t before ]
 is_blocked t (mark ∷ before) = is_blocked t before
 
 -- ---- items
@@ -64,24 +88,42 @@ abbrev pub server_end : List ℕ → Item
 server_end [] = ServerEnd
 server_end (b ∷ rest) = ServerCut (length (b ∷ rest))
 
+-- the items of a house's mark, in order: it is let in, speaks and takes as a client does; its orders,
+-- and the asks that it is told, give none
+abbrev pub house_items : List Mark → HouseMark → List Item
+house_items before HouseIn = Admit HOUSE ∷ []
+house_items before (HouseSaid bytes) =
+    new_sayings HOUSE (bytes_of HOUSE before) (bytes_of HOUSE before ++ bytes)
+house_items before (HouseTook size) = Took HOUSE size ∷ []
+house_items before (HouseAnswer client id given) = HouseSays client id given ∷ []
+house_items before _ = []
+
+-- an item of a client's stream; a stream of the master's own gives none
+abbrev pub unless_own : ℕ → List Item → List Item
+unless_own stream items = elim (is_own_stream stream) [ true ↦ [] | false ↦ items ]
+
 -- the items of one mark after those before it, in order
 abbrev pub items_in : List Mark → Mark → List Item
 items_in before (Accepts k) = Admit k ∷ []
 items_in before (Gets stream bytes) = elim (stream == 0) [
   | true ↦ new_heard (bytes_of 0 before) (bytes_of 0 before ++ bytes)
-  | false ↦ new_sayings stream (bytes_of stream before) (bytes_of stream before ++ bytes)
+  | false ↦ unless_own stream
+      (new_sayings stream (bytes_of stream before) (bytes_of stream before ++ bytes))
 ]
 items_in before (Ends stream) = elim (stream == 0) [
   | true ↦ server_end (parse InProxy (bytes_of 0 before)).rest ∷ []
-  | false ↦ Gone stream ∷ []
+  | false ↦ unless_own stream (Gone stream ∷ [])
 ]
-items_in before (Fails stream) =
-    elim (stream == 0) [ true ↦ ServerFailed ∷ [] | false ↦ Gone stream ∷ [] ]
+items_in before (Fails stream) = elim (stream == 0) [
+  | true ↦ ServerFailed ∷ []
+  | false ↦ unless_own stream (Gone stream ∷ [])
+]
 items_in before (WriteFails stream) = elim (stream == 0) [
   | true ↦ ServerFailed ∷ []
-  | false ↦ Gone stream ∷ []
+  | false ↦ unless_own stream (Gone stream ∷ [])
 ]
-items_in before (Takes stream bytes) = Took stream (length bytes) ∷ []
+items_in before (Takes stream bytes) = unless_own stream (Took stream (length bytes) ∷ [])
+items_in before (House mark) = house_items before mark
 items_in before _ = []
 
 -- all items, the newest first
@@ -108,21 +150,38 @@ last_client [] = 0
 last_client (Accepts k ∷ before) = k
 last_client (mark ∷ before) = last_client before
 
--- a client was accepted
+-- a house's mark lets it in, as this client
+abbrev pub lets_in : ℕ → HouseMark → Bool
+lets_in k HouseIn = HOUSE == k
+lets_in k _ = false
+
+-- a client was accepted, or is the house and was let in
 abbrev pub is_accepted : ℕ → List Mark → Bool
 is_accepted k [] = false
 is_accepted k (Accepts j ∷ before) = if j == k then true else is_accepted k before
+is_accepted k (House mark ∷ before) = if lets_in k mark then true else is_accepted k before
 is_accepted k (mark ∷ before) = is_accepted k before
 
--- the stream is the server's, or that of a client that was accepted
+-- the stream is the server's, one of the master's own, or that of a client that was accepted
 abbrev pub is_known : ℕ → List Mark → Bool
-is_known stream before = (stream == 0) || is_accepted stream before
+is_known stream before = (stream == 0) || (is_own_stream stream || is_accepted stream before)
 
--- each client has a number above the last one's, and every other mark names the server's stream or
--- that of a client that was accepted; what comes are 1 to 65,536 bytes, what is taken is some, and
+-- the house is let in before all else, and as a client it says some bytes and takes only then; it
+-- replies to clients that were accepted
+abbrev pub LawfulHouse : List Mark → HouseMark → Type 0
+LawfulHouse before HouseIn = before ≡ []
+LawfulHouse before (HouseSaid bytes) =
+    IsTrue (is_accepted HOUSE before) × (0 < length bytes) × (length bytes ≤ 65536) × AreBytes bytes
+LawfulHouse before (HouseTook size) = IsTrue (is_accepted HOUSE before)
+LawfulHouse before (HouseAnswer client id given) = IsTrue (is_accepted client before)
+LawfulHouse before _ = Unit {0}
+
+-- each client has a number above the last one's and up to the last that a client may have, and every
+-- other mark names the server's stream, one of the master's own or that of a client that was
+-- accepted; what comes are 1 to 65,536 bytes, what is taken is some, and
 -- only streams that hold back are freed or waited for
 abbrev pub LawfulMark : List Mark → Mark → Type 0
-LawfulMark before (Accepts k) = last_client before < k
+LawfulMark before (Accepts k) = (last_client before < k) × (k ≤ LAST_CLIENT)
 LawfulMark before (Gets stream bytes) =
     IsTrue (is_known stream before) × (0 < length bytes) × (length bytes ≤ 65536) × AreBytes bytes
 LawfulMark before (Ends stream) = IsTrue (is_known stream before)
@@ -134,6 +193,8 @@ LawfulMark before (Holds stream) = IsTrue (is_known stream before)
 LawfulMark before (WriteFails stream) = IsTrue (is_known stream before)
 LawfulMark before (Waits waiting want streams listens) =
     All (λ t. IsTrue (is_blocked t before)) waiting
+LawfulMark before (House mark) = LawfulHouse before mark
+LawfulMark before _ = Unit {0}
 
 -- each mark is lawful after those before it
 abbrev pub IsLawful : List Mark → Type 0

@@ -1,12 +1,13 @@
 -- Laws of the history: how look-ups go on by one row, and what holds at every row of a right log.
 use Rattle.std.specs.Prelude.{ℕ, ◌≡◌, ◌≤◌, ◌+◌, ◌-◌, ◌==◌, ◌&&◌, not, Bool, List, ◌∷◌, ◌++◌, Option, Some, None, true, false, filter, map}
 use Rattle.std.specs.List.{AllByRecursion}
+use Rattle.mux_outside.specs.OwnStreams.{is_own}
 use Rattle.mux_outside.specs.declared.mark.Mark.{Mark}
 use Rattle.mux_outside.specs.declared.house.HouseReply.{HouseReply}
 use Rattle.ssh_grammar.specs.declared.side.Side.{Side}
 use Rattle.mux_history.specs.Gist.{Act, Carries, Grants}
 use Rattle.mux_history.specs.Policy.{Policy}
-use Rattle.mux_history.specs.Rows.{Row, rows_of, Item, Says, Gone, Heard, Took}
+use Rattle.mux_history.specs.Rows.{Row, rows_of, Item, Says, HouseSays, Gone, Heard, Took}
 use Rattle.mux_history.specs.Heard.{ToClient, dest}
 use Rattle.mux_history.specs.Pending.{pending, given_to}
 use Rattle.mux_history.specs.Channels.{Channel, after_farewell, after_item, begun_by, channels_of, held_of, is_confirmed, is_held, is_up, live_in}
@@ -41,9 +42,11 @@ pub record IsLocal (k : ℕ) (rows : List Row) : Type 0 where
 abbrev pub LookUpsAreLocal : Type 0
 LookUpsAreLocal = (k : ℕ) (rows : List Row) → IsLocal k rows
 
--- an item of this client alone: what it says, its end, and what it takes
+-- an item of this client alone: what it says, what the house replies it, its end, and what it
+-- takes
 abbrev pub IsOf : ℕ → Item → Type 0
 IsOf k (Says j saying given) = j ≡ k
+IsOf k (HouseSays j id given) = j ≡ k
 IsOf k (Gone j) = j ≡ k
 IsOf k (Took j size) = j ≡ k
 IsOf k item = ⊥
@@ -109,10 +112,11 @@ AccountsGoOn = (way : Side) (n : ℕ) (x : Channel) → RoomsGoOn way n x
 
 -- ---- what a stream took and what waits for it make up what it is given
 
--- of every stream
+-- of the server's stream and those of clients: the master's own have no rows, and what the house
+-- takes is told by its length alone
 abbrev pub AddsUp : Setting → List Mark → Type 0
 AddsUp setting marks =
-    (t : ℕ) → taken_by t marks ++ pending t (log_of_journal setting marks)
+    (t : ℕ) → is_own t ≡ false → taken_by t marks ++ pending t (log_of_journal setting marks)
     ≡ given_to t (log_of_journal setting marks)
 
 -- where each take is the front of what waited

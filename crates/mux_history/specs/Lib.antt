@@ -31,3 +31,4 @@ pub mod Laws
 pub mod Steps
 pub mod WorkedLimits
 pub mod WorkedPolicy
+pub mod WorkedHouse

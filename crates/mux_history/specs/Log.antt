@@ -1,6 +1,6 @@
 -- The log: each row is what its item does after the rows before it.
 use Rattle.std.specs.Prelude.{ℕ, List, [], ◌∷◌, Bool, true, false, not}
-use Rattle.mux_history.specs.Rows.{Row, rows_of, is_out, is_ended, Item, Says, Gone, Took, RunEnd}
+use Rattle.mux_history.specs.Rows.{Row, rows_of, is_out, is_ended, Item, Says, HouseSays, Gone, Took, RunEnd}
 use Rattle.mux_history.specs.Policy.{Policy}
 use Rattle.mux_history.specs.Choices.{Choices, pick_of, with_reply}
 pub use Rattle.mux_history.specs.Treat.{
@@ -29,6 +29,7 @@ pub use Rattle.mux_history.specs.Treat.{
 -- what is taken makes a row always; items of a client that is out make none
 abbrev pub makes_row : List Row → Item → Bool
 makes_row rows (Says k saying given) = not (is_out (rows_of k rows))
+makes_row rows (HouseSays k id given) = not (is_out (rows_of k rows))
 makes_row rows (Gone k) = not (is_out (rows_of k rows))
 makes_row rows (RunEnd cause) = false
 makes_row rows _ = true

@@ -1,20 +1,23 @@
 -- What a run promises at each mark of its journal.
-use Rattle.std.specs.Prelude.{ℕ, ◌==◌, ◌≡◌, ◌≤◌, ◌+◌, ◌↔◌, ◌⊎◌, List, [], ◌∷◌, ◌++◌, Option, Some, None, Bool, true, false, not, ◌&&◌, filter, length, take, All, IsTrue}
+use Rattle.std.specs.Prelude.{ℕ, ◌==◌, ◌≡◌, ◌≤◌, ◌<◌, ◌+◌, ◌↔◌, ◌⊎◌, List, [], ◌∷◌, ◌++◌, Option, Some, None, Bool, true, false, not, ◌&&◌, filter, length, take, All, IsTrue, MatchBool}
 use Rattle.mux_outside.specs.declared.mark.Mark.{Mark}
-use Rattle.mux_outside.specs.declared.mark.Mark.TheVariants.{Waits, Takes, Holds, WriteFails}
+use Rattle.mux_outside.specs.declared.mark.Mark.TheVariants.{Waits, Fails, Takes, Holds, WriteFails, House}
+use Rattle.mux_outside.specs.OwnStreams.{is_own}
+use Rattle.mux_outside.specs.declared.house_mark.HouseMark.{HouseMark}
+use Rattle.mux_outside.specs.declared.house_mark.HouseMark.TheVariants.{HouseSaid, HouseAsked, HouseOrder}
 use Rattle.mux_outside.specs.declared.turn.Want.{Want}
 use Rattle.mux_outside.specs.declared.turn.Want.TheVariants.{WriteOnly}
 use Rattle.mux_outside.specs.declared.house.HouseReply.{HouseReply}
 use Rattle.ssh_grammar.specs.Said.{Body}
-use Rattle.mux_history.specs.declared.limits.TheConstants.{READING_STOPS_AT}
+use Rattle.mux_history.specs.declared.limits.TheConstants.{HOUSE, READING_STOPS_AT}
 use Rattle.mux_history.specs.declared.ended.Ended.{Ended}
-use Rattle.mux_history.specs.declared.ended.Ended.TheVariants.{Spent}
+use Rattle.mux_history.specs.declared.ended.Ended.TheVariants.{Spent, StartRefused}
 use Rattle.mux_history.specs.Rows.{Row, rows_of, is_ended, Says}
 use Rattle.mux_history.specs.Pending.{pending}
 use Rattle.mux_history.specs.Controls.{greeted, body_stops}
 use Rattle.mux_history.specs.Log.{Setting, goes, served, more_all}
 use Rattle.mux_history.specs.Solo.{end_of}
-use Rattle.mux_history.specs.Journal.{is_blocked, items_in, log_of_journal}
+use Rattle.mux_history.specs.Journal.{house_items, is_blocked, is_own_stream, items_in, log_of_journal}
 
 -- a fact of each mark and the marks before it
 abbrev pub Throughout : (List Mark → Mark → Type 0) → List Mark → Type 0
@@ -32,10 +35,11 @@ is_empty (b ∷ bytes) = false
 abbrev pub IsFront : List ℕ → List ℕ → Type 0
 IsFront front bytes = (rest : List ℕ) × (bytes ≡ front ++ rest)
 
--- of a take
+-- of a take; no row tells what the master's own streams take
 abbrev pub TakesFront : Setting → List Mark → Mark → Type 0
 TakesFront setting before (Takes stream bytes) =
-    IsFront bytes (pending stream (log_of_journal setting before))
+    MatchBool (is_own_stream stream) (Unit {0})
+    (IsFront bytes (pending stream (log_of_journal setting before)))
 TakesFront setting before _ = Unit {0}
 
 -- the stream's last answer to a write was a failure
@@ -63,17 +67,38 @@ IsSettled setting marks t =
 abbrev pub has_output : List Row → ℕ → Bool
 has_output rows t = not (is_empty (pending t rows))
 
--- a call of `wait`: the run goes on; the waiting streams are exactly the open ones with output, each
--- of them blocked; no more is read exactly while 4,194,304 bytes or more wait for the server; and
--- every stream that is not waited for is settled
+-- the stream failed, at a wait or at a write
+abbrev pub has_failed : ℕ → List Mark → Bool
+has_failed t [] = false
+has_failed t (Fails stream ∷ before) =
+    elim (stream == t) [ true ↦ true | false ↦ has_failed t before ]
+has_failed t (WriteFails stream ∷ before) =
+    elim (stream == t) [ true ↦ true | false ↦ has_failed t before ]
+has_failed t (mark ∷ before) = has_failed t before
+
+-- without the master's own, and without the house
+abbrev pub not_own : List ℕ → List ℕ
+not_own streams = filter (λ t. not (is_own t)) streams
+
+-- a stream of the master's own may be waited for as long as it did not fail
+abbrev pub MayWait : List Mark → ℕ → Type 0
+MayWait before t = IsTrue (is_own t) → has_failed t before ≡ false
+
+-- a call of `wait`: the run goes on; of the server's stream and those of clients, the waiting ones
+-- are exactly the open ones with output; none of the master's own that waits has failed; each that
+-- waits is blocked; no more is read exactly while 4,194,304 bytes or more wait for the server; every
+-- stream that is not waited for is settled; and the house was handed all that it is told as a client
 pub record WaitsRight (setting : Setting) (before : List Mark) (waiting : List ℕ) (want : Want)
     (streams : List ℕ) : Type 0 where
   pub goes_on : is_ended (log_of_journal setting before) ≡ false
-  pub waits_for : waiting ≡ filter (has_output (log_of_journal setting before)) streams
+  pub waits_for : not_own waiting
+      ≡ filter (has_output (log_of_journal setting before)) (not_own streams)
+  pub own : All (MayWait before) waiting
   pub blocked : All (λ t. IsTrue (is_blocked t before)) waiting
   pub write_only : (want ≡ WriteOnly) ↔
       (READING_STOPS_AT ≤ length (pending 0 (log_of_journal setting before)))
-  pub settled : (t : ℕ) → IsSettled setting before t
+  pub settled : (t : ℕ) → is_own t ≡ false → IsSettled setting before t
+  pub house : pending HOUSE (log_of_journal setting before) ≡ []
 
 -- of a wait
 abbrev pub WaitsAt : Setting → List Mark → Mark → Type 0
@@ -81,14 +106,21 @@ WaitsAt setting before (Waits waiting want streams listens) =
     WaitsRight setting before waiting want streams
 WaitsAt setting before _ = Unit {0}
 
--- takes and waits
+-- the house speaks only while fewer than 4,194,304 bytes wait for the server
+abbrev pub SpeaksInTime : Setting → List Mark → Mark → Type 0
+SpeaksInTime setting before (House (HouseSaid bytes)) =
+    length (pending 0 (log_of_journal setting before)) < READING_STOPS_AT
+SpeaksInTime setting before mark = Unit {0}
+
+-- takes and waits, and what the house says
 pub record Written (setting : Setting) (marks : List Mark) : Type 0 where
   pub takes : Throughout (TakesFront setting) marks
   pub waits : Throughout (WaitsAt setting) marks
+  pub speaks : Throughout (SpeaksInTime setting) marks
 
--- of all streams, when the run ends
+-- of the server's stream and those of clients, when the run ends
 abbrev pub Settled : Setting → List Mark → Type 0
-Settled setting marks = (t : ℕ) → IsSettled setting marks t
+Settled setting marks = (t : ℕ) → is_own t ≡ false → IsSettled setting marks t
 
 -- ---- Open: the streams that are open at a wait, and whether clients are accepted
 
@@ -109,9 +141,9 @@ listens [] = true
 listens (row ∷ before) = not (stops row (rows_of row.client before)) && listens before
 
 -- the server's stream, and those of the admitted clients that are not lost, in the order in which
--- they came
+-- they came: of the streams that are open, all but the master's own; and the house has none
 pub record OpenRight (rows : List Row) (streams : List ℕ) (accepts : Bool) : Type 0 where
-  pub open_streams : streams ≡ 0 ∷ served rows
+  pub open_streams : not_own streams ≡ 0 ∷ not_own (served rows)
   pub listening : accepts ≡ listens rows
 
 -- of a wait
@@ -132,21 +164,49 @@ waits_in [] = 0
 waits_in (Waits waiting want streams accepts ∷ before) = waits_in before + 1
 waits_in (mark ∷ before) = waits_in before
 
--- the answer is what the log's end names; or all turns were given and no row ended the run
-abbrev pub EndsAs : ℕ → List Mark → Option Ended → Ended → Type 0
-EndsAs turns marks (Some cause) answer = answer ≡ cause
-EndsAs turns marks None answer = (answer ≡ Spent) × (waits_in marks ≡ turns)
+-- a piece that the house said, or an order of it
+abbrev pub counts_as_turn : HouseMark → Bool
+counts_as_turn (HouseSaid bytes) = true
+counts_as_turn (HouseOrder order number) = true
+counts_as_turn mark = false
 
--- of a run of at most so many turns
-abbrev pub ConnectionEnds : Setting → ℕ → List Mark → Ended → Type 0
-ConnectionEnds setting turns marks answer =
-    EndsAs turns marks (end_of (log_of_journal setting marks)) answer
+-- how many turns were given: of the wire, of pieces said, and of orders
+abbrev pub turns_in : List Mark → ℕ
+turns_in [] = 0
+turns_in (Waits waiting want streams accepts ∷ before) = turns_in before + 1
+turns_in (House mark ∷ before) = elim (counts_as_turn mark) [
+  | true ↦ turns_in before + 1
+  | false ↦ turns_in before
+]
+turns_in (mark ∷ before) = turns_in before
+
+-- the answer is what the log's end names; where no row ended the run, the forwarding of the start
+-- that was refused first, where none may be; or else all turns were given
+abbrev pub EndsAs : ℕ → List Mark → Option ℕ → Option Ended → Ended → Type 0
+EndsAs turns marks refused (Some cause) answer = answer ≡ cause
+EndsAs turns marks (Some index) None answer = answer ≡ StartRefused index
+EndsAs turns marks None None answer = (answer ≡ Spent) × (turns_in marks ≡ turns)
+
+-- of a run of at most so many turns; a forwarding of the start was refused, and none may be, or none
+-- was
+abbrev pub ConnectionEnds : Setting → ℕ → List Mark → Option ℕ → Ended → Type 0
+ConnectionEnds setting turns marks refused answer =
+    EndsAs turns marks refused (end_of (log_of_journal setting marks)) answer
 
 -- ---- Want of memory
 
--- the log without some of the newest items of the last mark
+-- an ask of a client, which was told by what the client said before
+abbrev pub is_asked : HouseMark → Bool
+is_asked (HouseAsked client id opening ask given) = true
+is_asked mark = false
+
+-- the log without some of the newest items of the last mark, where asks count to the mark before
 abbrev pub IsCut : Setting → List Mark → List Row → Type 0
 IsCut setting [] rows = rows ≡ []
+IsCut setting (House mark ∷ before) rows = let earlier = IsCut setting before rows in
+    MatchBool (is_asked mark) earlier
+    ((n : ℕ) × (rows ≡ more_all setting (log_of_journal setting before)
+    (take n (house_items before mark))))
 IsCut setting (mark ∷ before) rows =
     (n : ℕ) × (rows ≡ more_all setting (log_of_journal setting before)
     (take n (items_in before mark)))

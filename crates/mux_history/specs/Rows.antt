@@ -7,12 +7,13 @@ use Rattle.mux_history.specs.declared.why.Why.{Why}
 use Rattle.mux_history.specs.declared.ended.Ended.{Ended}
 
 -- what happened at once: a client came in; said something, with the reply of the house where it
--- asks the house; or its stream is gone; the server said a payload, or a frame that is none; its
+-- asks the house; the house replied to an ask later; or its stream is gone; the server said a payload, or a frame that is none; its
 -- stream ended, ended so many bytes into a frame, or failed; a stream took bytes. RunEnd shows a
 -- client alone how the run ended.
 pub data Item : Type 0 where
   Admit : (client : ℕ) → Item
   Says : (client : ℕ) (saying : Saying) (reply : Option HouseReply) → Item
+  HouseSays : (client id : ℕ) (reply : HouseReply) → Item
   Gone : (client : ℕ) → Item
   Heard : (payload : List ℕ) → Item
   BadServer : (fault : BadFrame) → Item

@@ -10,13 +10,13 @@ use Rattle.mux_history.specs.declared.why.Why.{Why}
 use Rattle.mux_history.specs.declared.why.Why.TheVariants as why
 use Rattle.mux_history.specs.declared.broke.Break.TheVariants as broke
 use Rattle.mux_history.specs.declared.ended.Ended.TheVariants as ended
-use Rattle.mux_history.specs.Rows.{Row, rows_of, loses, is_lost, is_admit, is_out, Item, Admit, Says, Gone, Heard, BadServer, ServerEnd, ServerCut, ServerFailed, Took, RunEnd, Fate, Goes, Refused, Drop, End}
+use Rattle.mux_history.specs.Rows.{Row, rows_of, loses, is_lost, is_admit, is_out, Item, Admit, Says, HouseSays, Gone, Heard, BadServer, ServerEnd, ServerCut, ServerFailed, Took, RunEnd, Fate, Goes, Refused, Drop, End}
 use Rattle.mux_history.specs.Pending.{waiting_down}
 use Rattle.mux_history.specs.Requests.{answers}
 use Rattle.mux_history.specs.Policy.{Policy}
 use Rattle.mux_history.specs.Farewell.{farewell, has_open_matters}
 use Rattle.mux_history.specs.Said.{Outcome, silent, tells, drops, said_payload}
-use Rattle.mux_history.specs.Controls.{greeted, said_body}
+use Rattle.mux_history.specs.Controls.{greeted, house_says, said_body}
 use Rattle.mux_history.specs.Heard.{Dest, ToMaster, ToClient, Disconnects, Breaks, dest, heard_for, heard_master, finishes, broken}
 
 -- ---- a client's row: the answers that its requests and replies complete, the queue's bound, the
@@ -142,6 +142,8 @@ treat policy pid pick rows (Admit k) = row_of (Admit k) k (admits rows) (rows_of
 treat policy pid pick rows (Says k saying given) =
     row_of (Says k saying given) k (said_by_client policy pid k (rows_of k rows) pick saying given)
     (rows_of k rows)
+treat policy pid pick rows (HouseSays k id given) =
+    row_of (HouseSays k id given) k (house_says (rows_of k rows) id given) (rows_of k rows)
 treat policy pid pick rows (Gone k) = row_of (Gone k) k silent (rows_of k rows)
 treat policy pid pick rows (Heard p) = heard_row rows p (dest rows p)
 treat policy pid pick rows (BadServer fault) =

@@ -1,22 +1,29 @@
 -- What any wire does: its marks make a lawful journal, and it reads and accepts only where it was
 -- just waited for so.
-use Rattle.std.specs.Prelude.{ℕ, ◌≡◌, ◌≤◌, ◌<◌, List, [], ◌∷◌, ◌++◌, Bool, true, false, All, IsTrue, length, reverse}
+use Rattle.std.specs.Prelude.{ℕ, ◌≡◌, ◌≤◌, ◌<◌, List, [], ◌∷◌, ◌++◌, Bool, true, false, Some, All, IsTrue, length, reverse}
 use Rattle.mux_outside.specs.declared.mark.Mark.{Mark}
-use Rattle.mux_outside.specs.declared.mark.Mark.TheVariants.{Accepts, Gets, Waits}
+use Rattle.mux_outside.specs.declared.mark.Mark.TheVariants.{Accepts, Gets, Joins, Waits, House}
+use Rattle.mux_outside.specs.declared.house_mark.HouseMark.{HouseMark}
+use Rattle.mux_outside.specs.declared.house_mark.HouseMark.TheVariants.{HouseOrder}
+use Rattle.mux_outside.specs.declared.order.Order.{Order}
+use Rattle.mux_outside.specs.declared.order.Order.TheVariants.{Connect}
+use Rattle.mux_outside.specs.declared.own_streams.OwnStream.{OwnStream}
+use Rattle.mux_outside.specs.OwnStreams.{is_own}
 use Rattle.mux_outside.specs.declared.turn.Turn.{Turn}
 use Rattle.mux_outside.specs.declared.turn.Want.{Want}
 use Rattle.mux_outside.specs.declared.turn.Want.TheVariants.{Read}
 use Rattle.mux_outside.specs.declared.turn.Wrote.{Wrote}
 use Rattle.mux_outside.specs.Streams.{among, without}
-use Rattle.mux_outside.specs.Wire.{TurnFits, WroteFits, blocked_after, blocked_after_write, last_after, open_after, wait_marks, write_marks}
+use Rattle.mux_outside.specs.Wire.{OwnFits, TurnFits, WroteFits, blocked_after, blocked_after_write, last_after, open_after, wait_marks, write_marks}
 use Rattle.ssh_fields.specs.Fields.{AreBytes}
-use Rattle.mux_history.specs.Journal.{IsLawful, is_blocked, is_known, last_client}
+use Rattle.mux_history.specs.Journal.{IsLawful, LawfulHouse, is_own_stream, is_blocked, is_known, last_client}
 use Rattle.mux_history.specs.Promises.{Throughout}
 
--- bytes that are read, and clients that are accepted
+-- bytes that are read, clients that are accepted, and sockets that are joined
 abbrev pub reads : Mark → Bool
 reads (Accepts k) = true
 reads (Gets stream bytes) = true
+reads (Joins listener stream) = true
 reads mark = false
 
 -- the wire was just waited for, to read as well as to write
@@ -37,14 +44,22 @@ pub record OfWire (streams blocked : List ℕ) (last : ℕ) (marks : List Mark) 
   pub holds : (t : ℕ) → IsTrue (among t blocked) → IsTrue (is_blocked t marks)
   pub below : last_client marks ≤ last
 
+-- the house's mark tells that a stream was made
+abbrev pub is_connect : HouseMark → Bool
+is_connect (HouseOrder (Connect host port) (Some stream)) = true
+is_connect mark = false
+
 -- that is what the law of each wire keeps: right after it was opened; at each turn that it may
 -- give, where only streams that hold back are waited for; at each answer that it may give to a
--- write of some bytes to a stream that is open; and where a stream is closed
-pub record WireKeeps (streams blocked : List ℕ) (last : ℕ) (marks : List Mark) : Type 0 where
+-- write of some bytes to a stream that is open; where a stream is closed; where a house's mark is
+-- noted; and where a stream is made, once that is noted too
+pub record WireKeeps (streams blocked : List ℕ) (last : ℕ) (listeners : List ℕ)
+    (own : List OwnStream) (last_own : ℕ) (marks : List Mark) : Type 0 where
   pub none : OfWire (0 ∷ []) [] last []
   pub turn : (given : Turn) (waiting : List ℕ) (want : Want) (listens : Bool) (bytes : List ℕ)
       → AreBytes bytes → All (λ t. IsTrue (among t blocked)) waiting
-      → TurnFits given want listens last streams blocked bytes → OfWire streams blocked last marks
+      → TurnFits given want listens last streams blocked bytes
+      → OwnFits given listeners own last_own → OfWire streams blocked last marks
       → OfWire (open_after given streams) (blocked_after given blocked) (last_after given last)
       (reverse (wait_marks given waiting want streams listens bytes) ++ marks)
   pub write : (answer : Wrote) (t : ℕ) (bytes : List ℕ) → AreBytes bytes → 0 < length bytes
@@ -54,8 +69,15 @@ pub record WireKeeps (streams blocked : List ℕ) (last : ℕ) (marks : List Mar
       (reverse (write_marks answer t bytes) ++ marks)
   pub close : (t : ℕ) → OfWire streams blocked last marks
       → OfWire (without t streams) (without t blocked) last marks
+  pub note : (mark : HouseMark) → LawfulHouse marks mark → is_connect mark ≡ false
+      → OfWire streams blocked last marks → OfWire streams blocked last (House mark ∷ marks)
+  pub connect : (host : List ℕ) (port n : ℕ) → is_own_stream n ≡ true
+      → OfWire streams blocked last marks
+      → OfWire (streams ++ n ∷ []) (blocked ++ n ∷ []) last
+      (House (HouseOrder (Connect host port) (Some n)) ∷ marks)
 
 -- of every wire
 abbrev pub WiresKeepTheLaw : Type 0
-WiresKeepTheLaw = (streams blocked : List ℕ) (last : ℕ) (marks : List Mark)
-    → WireKeeps streams blocked last marks
+WiresKeepTheLaw = (streams blocked : List ℕ) (last : ℕ) (listeners : List ℕ)
+    (own : List OwnStream) (last_own : ℕ) (marks : List Mark)
+    → WireKeeps streams blocked last listeners own last_own marks

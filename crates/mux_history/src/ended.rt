@@ -20,6 +20,9 @@ pub enum Ended {
     /// 1.
     #[error("server message {index}: {why}")]
     Broke { index: u64, why: Break },
+    /// A forwarding that the run began with was refused, and none may be.
+    #[error("a forwarding was refused")]
+    StartRefused { index: usize },
     /// All turns were given.
     #[error("turns are spent")]
     Spent,

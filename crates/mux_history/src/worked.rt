@@ -4,6 +4,7 @@
 mod alone;
 mod control;
 mod forwards;
+mod house;
 mod limits;
 mod losses;
 mod paths;

@@ -2,7 +2,7 @@
 use Rattle.std.proofs.Common.{◌≡◌, ℕ, List, [], length, true, false, Bool, refl, sym, Option, Some, None, subst, Ok, Err}
 use Rattle.std.specs.Prelude.{◌==◌, ◌&&◌, Result, nat_lt, codes}
 use Rattle.mux_history.specs.Channels.{Channel, held_of, with_own}
-use Rattle.mux_history.specs.Controls.{greeted, said_body}
+use Rattle.mux_history.specs.Controls.{greeted, house_says, said_body}
 use Rattle.mux_history.specs.Forwardings.{current, is_free_at}
 use Rattle.mux_history.specs.Gist.{Act, Carries, Closes, Confirmation, Fails, Gist, Open, Refuses, Requests, Succeeds, Transport, Within, read_gist}
 use Rattle.mux_history.specs.Heard.{Breaks, Dest, Disconnects, ToClient, ToMaster, dest, heard_for, heard_master}
@@ -11,7 +11,7 @@ use Rattle.mux_history.specs.Keys.{is_askable}
 use Rattle.mux_history.specs.Ledger.{breach}
 use Rattle.mux_history.specs.Log.{admits, bare, heard_row, row_of, treat}
 use Rattle.mux_history.specs.Policy.{Policy, permits}
-use Rattle.mux_history.specs.Rows.{Admit, Gone, Heard, Item, Row, Says, any_of, rows_of}
+use Rattle.mux_history.specs.Rows.{Admit, Gone, Heard, HouseSays, Item, Row, Says, any_of, rows_of}
 use Rattle.mux_history.specs.Said.{Outcome, confirmed_at, drops, fails_open, is_failing, is_full_of_asks, on_breach, on_confirmed, on_unused, on_waiting, said_gist, said_open, said_payload, said_request, sends, sends_as, sends_if, sends_open, silent, waiting_at}
 use Rattle.ssh_fields.specs.Fields.{AreBytes}
 use Rattle.ssh_grammar.specs.Messages.{Cancel, Direct, Forward, Global, KeepAlive, Opens, OtherName, Session}
@@ -26,7 +26,7 @@ use Rattle.mux_history.proofs.Legal.{fits-of}
 use Rattle.mux_history.proofs.Renumbered.{reads-sent, sender-in, word}
 use Rattle.mux_history.proofs.RightLogs.{LogKnown, by-treat}
 use Rattle.mux_history.proofs.SaidApart.{LawfulItem, ok-same}
-use Rattle.mux_history.proofs.Sends.{admits-sent, body-sent, row-split}
+use Rattle.mux_history.proofs.Sends.{admits-sent, body-sent, house-sent, row-split}
 use Rattle.mux_isolation.proofs.Mays.{MaySend, SendsAllowed}
 
 -- ---- what goes up
@@ -164,6 +164,7 @@ up-treat policy pid pick before (Admit k) lawful = up-row policy before (Admit k
 up-treat policy pid pick before (Says k (Payload p) reply) lawful = up-row policy before (Says k (Payload p) reply) k (said_payload policy k (rows_of k before) pick p) (up-payload policy k (rows_of k before) pick p lawful.1)
 up-treat policy pid pick before (Says k (Body body) reply) lawful = up-row policy before (Says k (Body body) reply) k (said_body pid k reply (greeted (rows_of k before)) body) (up-none policy (rows_of k before) (said_body pid k reply (greeted (rows_of k before)) body).sent (body-sent pid k reply (greeted (rows_of k before)) body))
 up-treat policy pid pick before (Says k (BadFraming fault) reply) lawful = up-row policy before (Says k (BadFraming fault) reply) k (drops (why.BadFrame fault)) tt
+up-treat policy pid pick before (HouseSays k id given) lawful = up-row policy before (HouseSays k id given) k (house_says (rows_of k before) id given) (up-none policy (rows_of k before) (house_says (rows_of k before) id given).sent (house-sent (rows_of k before) id given))
 up-treat policy pid pick before (Gone k) lawful = up-row policy before (Gone k) k silent tt
 up-treat policy pid pick before (Heard p) lawful = up-heard policy before p (dest before p)
 up-treat policy pid pick before item lawful = tt

@@ -2,12 +2,13 @@
 use Rattle.std.proofs.Common.{◌≡◌, ◌++◌, drop, length, length-append, length-drop, ℕ, ◌+◌, ◌≤◌, List, [], ◌∷◌, length, true, false, Bool, refl, ap, arith, sym, subst}
 use Rattle.std.specs.Prelude.{◌==◌, nat_le}
 use Rattle.std.proofs.lemmas.Bool.Decides.{nat_tests}
+use Rattle.mux_history.specs.Controls.{house_says}
 use Rattle.mux_history.specs.Heard.{Breaks, Dest, Disconnects, ToClient, ToMaster, dest, heard_for, heard_master}
 use Rattle.mux_history.specs.Kept.{AtEach, ForEach}
 use Rattle.mux_history.specs.Log.{admits, all_told, bare, fitting, heard_row, row_of, said_by_client, treat}
 use Rattle.mux_history.specs.Pending.{joined, pending_down, took_by, waiting_down}
 use Rattle.mux_history.specs.Policy.{Policy}
-use Rattle.mux_history.specs.Rows.{Admit, Gone, Heard, Item, Row, Says, Took, rows_of}
+use Rattle.mux_history.specs.Rows.{Admit, Gone, Heard, HouseSays, Item, Row, Says, Took, rows_of}
 use Rattle.mux_history.specs.Said.{Outcome, silent}
 use Rattle.mux_isolation.specs.Laws.{WaitsBounded}
 use Rattle.mux_history.proofs.Finds.{filter-no, filter-yes}
@@ -47,6 +48,7 @@ keeps-heard before p (Breaks why) = keeps-none before (heard_row before p (Break
 pub keeps-treat : (policy : Policy) (pid pick : ℕ) (before : List Row) (item : Item) → Keeps before (treat policy pid pick before item)
 keeps-treat policy pid pick before (Admit k) = keeps-row before (Admit k) k (admits before)
 keeps-treat policy pid pick before (Says k saying reply) = keeps-row before (Says k saying reply) k (said_by_client policy pid k (rows_of k before) pick saying reply)
+keeps-treat policy pid pick before (HouseSays k id given) = keeps-row before (HouseSays k id given) k (house_says (rows_of k before) id given)
 keeps-treat policy pid pick before (Gone k) = keeps-row before (Gone k) k silent
 keeps-treat policy pid pick before (Heard p) = keeps-heard before p (dest before p)
 keeps-treat policy pid pick before item = keeps-none before (treat policy pid pick before item) refl

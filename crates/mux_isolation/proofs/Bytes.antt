@@ -47,7 +47,7 @@ given-alone k lt (row ∷ own) =
 
 -- what was taken and what waits make up what the unshared connection gives
 pub takes-alike : (setting : Setting) (marks : List Mark) → Throughout (TakesFront setting) marks → GivesAlike setting (log_of_journal setting marks) → TakesAlike setting marks
-takes-alike setting marks takes gives k lt admitted = (
+takes-alike setting marks takes gives k lt client admitted = (
   pending k (log_of_journal setting marks),
-  sym (gives k lt admitted) ∙ sym (adds-up setting marks takes k),
+  sym (gives k lt admitted) ∙ sym (adds-up setting marks takes k client),
 )

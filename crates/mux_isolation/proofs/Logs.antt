@@ -8,7 +8,7 @@ use Rattle.mux_history.specs.Log.{Setting, admits, bare, log_of, makes_next, mor
 use Rattle.mux_history.specs.Policy.{Policy}
 use Rattle.mux_history.specs.Requests.{replies}
 use Rattle.mux_history.specs.Right.{AreFresh}
-use Rattle.mux_history.specs.Rows.{Admit, BadServer, Gone, Heard, Item, Row, RunEnd, Says, ServerCut, ServerEnd, ServerFailed, Took, any_of, is_admit, is_end, is_ended, rows_of}
+use Rattle.mux_history.specs.Rows.{Admit, BadServer, Gone, Heard, HouseSays, Item, Row, RunEnd, Says, ServerCut, ServerEnd, ServerFailed, Took, any_of, is_admit, is_end, is_ended, rows_of}
 use Rattle.mux_history.specs.Said.{silent}
 use Rattle.mux_history.specs.Settings.{by_lists, by_own}
 use Rattle.mux_history.specs.Solo.{IsUnshared, end_of, item_for, items_for, run_end, seen_alone}
@@ -58,6 +58,7 @@ module _ (policy : Policy) (pid pick k : ℕ) (real : k ≡ 0 → ⊥) (before :
       let same : j ≡ k = sym (client-of (Admit j) j (admits before) (rows_of j before)) ∙ mine in
       (is-of j k same, any-part (λ row. admits_client k row.item) k before (subst (λ (i : ℕ). any_of (λ row. admits_client i row.item) before ≡ false) same lawful))
   once-item (Says j saying reply) lawful mine = tt
+  once-item (HouseSays j id given) lawful mine = tt
   once-item (Gone j) lawful mine = tt
   once-item (Heard p) lawful mine = tt
   once-item (BadServer fault) lawful mine = tt

@@ -8,7 +8,7 @@ use Rattle.mux_history.specs.Gist.{Confirmation, Gist, Open, Within, read_gist, 
 use Rattle.mux_history.specs.Heard.{Breaks, ToClient, dest, own_number}
 use Rattle.mux_history.specs.Kept.{Every}
 use Rattle.mux_history.specs.Policy.{Policy}
-use Rattle.mux_history.specs.Rows.{Admit, BadServer, Fate, Gone, Heard, Item, Row, RunEnd, Says, ServerCut, ServerEnd, ServerFailed, Took, rows_of}
+use Rattle.mux_history.specs.Rows.{Admit, BadServer, Fate, Gone, Heard, HouseSays, Item, Row, RunEnd, Says, ServerCut, ServerEnd, ServerFailed, Took, rows_of}
 use Rattle.mux_history.specs.Said.{Outcome, drops, said_gist, said_payload}
 use Rattle.mux_history.specs.Solo.{item_for, own_ups}
 use Rattle.mux_outside.specs.declared.house.HouseReply.{HouseReply}
@@ -94,6 +94,7 @@ module _ (before : List Row) (good : AreApart (channels_of before)) (k : ℕ) wh
   small-item (Heard p) = λ m n reads some. small-own n
   small-item (Admit j) = tt
   small-item (Says j saying reply) = tt
+  small-item (HouseSays j id given) = tt
   small-item (Gone j) = tt
   small-item (BadServer fault) = tt
   small-item ServerEnd = tt

@@ -18,7 +18,7 @@ use Rattle.mux_isolation.proofs.Meets.{own_numbered}
 use Rattle.mux_isolation.proofs.Numbers.{AllNamed, channels-alone}
 use Rattle.mux_isolation.proofs.Rows.{AllSmall, alone-all, forwardings-alone, replies-alone}
 use Rattle.mux_isolation.proofs.Solos.{alone, alone_row}
-use Rattle.mux_isolation.proofs.Treats.{alone-admits, greeted-alone, out-alone}
+use Rattle.mux_isolation.proofs.Treats.{alone-admits, greeted-alone, proxy-alone, out-alone}
 use Rattle.mux_isolation.proofs.Unshared.{AllOwn, one-more, solo-alone}
 use Rattle.mux_isolation.proofs.ViewSaid.{own_view}
 use Rattle.mux_isolation.proofs.Views.{view-own}
@@ -47,7 +47,7 @@ held-alone own named = ap (λ xs. map channel_view (filter is_held xs)) (channel
 
 view-alone : (k : ℕ) (own : List Row) → AllOf k own → AllNamed own → AllSmall own → own_view (alone own) ≡ view_alone (own_view own)
 view-alone k own all named small =
-    rw (alone-admits own, greeted-alone own, lost-alone own, out-alone own, held-alone own named, asks-alone own, replies-alone own small, wanted-alone own, forwardings-alone k own all small, pending-alone own) refl
+    rw (alone-admits own, greeted-alone own, proxy-alone own, lost-alone own, out-alone own, held-alone own named, asks-alone own, replies-alone own small, wanted-alone own, forwardings-alone k own all small, pending-alone own) refl
 
 view-renamed : (policy : Policy) (pid k : ℕ) (own : List Row) → AllOf k own → AllNamed own → AllSmall own → AllOwn policy pid own → ViewIsRenamed (by_own policy pid) k own
 view-renamed policy pid k own all named small known =

@@ -3,7 +3,7 @@
 use Rattle.std.proofs.Common.{◌≡◌, ℕ, ◌+◌, List, [], ◌∷◌, ◌++◌, length, true, false, Bool, refl, ◌∙◌, ap, map, sym, Option, Some, None, Ok, Err, drop, zero, suc}
 use Rattle.std.specs.Prelude.{◌==◌, ◌&&◌, not, Result, nat_lt, nat_le, codes}
 use Rattle.mux_history.specs.Channels.{Channel, held_of, with_own}
-use Rattle.mux_history.specs.Controls.{answers_ask, house_answer, said_body, said_first, said_later}
+use Rattle.mux_history.specs.Controls.{answers_ask, answers_maybe, house_answer, house_says, in_proxy, said_body, said_first, said_later}
 use Rattle.mux_history.specs.Forwardings.{current, is_free_at}
 use Rattle.mux_history.specs.Gist.{Closes, Confirmation, Fails, Gist, Open, Refuses, Requests, Succeeds, Transport, Within, read_gist, reading}
 use Rattle.mux_history.specs.Kept.{Every}
@@ -56,9 +56,16 @@ module _ (before : List Row) (k : ℕ) where
   answer-tell (RemotePort id port) m reads = cc
   answer-tell (Proxies id) m reads = cc
 
+  maybe-tell : (o : Option Answer) → Every (TellOk before k) (answers_maybe o).told
+  maybe-tell None = tt
+  maybe-tell (Some answer) = (answer-tell answer, tt)
+
   asked-tell : (opening : Bool) (id : ℕ) (given : Option HouseReply) → Every (TellOk before k) (answers_ask opening id given).told
   asked-tell opening id None = tt
-  asked-tell opening id (Some given) = (answer-tell (house_answer opening id given), tt)
+  asked-tell opening id (Some given) = maybe-tell (house_answer opening id given)
+
+  pub house-tell : (own : List Row) (id : ℕ) (given : HouseReply) → Every (TellOk before k) (house_says own id given).told
+  house-tell own id given = elim (in_proxy own) as (λ b. Every (TellOk before k) (elim b as (λ _. Outcome) [ true ↦ silent | false ↦ answers_ask true id (Some given) ]).told) [ true ↦ tt | false ↦ asked-tell true id (Some given) ]
 
   later-tell : (pid : ℕ) (given : Option HouseReply) (r : Result Control BadControl) → Every (TellOk before k) (said_later pid k given r).told
   later-tell pid given (Ok (Hello version extensions)) = tt

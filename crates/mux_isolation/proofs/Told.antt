@@ -2,7 +2,7 @@
 use Rattle.std.proofs.Common.{◌≡◌, ℕ, List, [], ◌∷◌, length, true, false, Bool, refl, ◌∙◌, ap, sym, Some, subst, Ok, Err}
 use Rattle.std.specs.Prelude.{◌&&◌, filter, find, Result, nat_lt, codes, option_map}
 use Rattle.mux_history.specs.Channels.{Channel, channels_of, held_of, is_held, is_number, with_own}
-use Rattle.mux_history.specs.Controls.{greeted, said_body}
+use Rattle.mux_history.specs.Controls.{greeted, house_says, said_body}
 use Rattle.mux_history.specs.Forwardings.{Forwarding}
 use Rattle.mux_history.specs.Gist.{Act, Carries, Confirmation, Gist, Open, Refuses, Requests, Succeeds, Transport, Within, read_gist, recipient_of}
 use Rattle.mux_history.specs.Heard.{Breaks, Dest, Disconnects, ToClient, ToMaster, dest, dest_gist, for_client, for_lost, for_master, heard_for, heard_gist, heard_master, renamed}
@@ -11,7 +11,7 @@ use Rattle.mux_history.specs.Ledger.{breach}
 use Rattle.mux_history.specs.Log.{admits, all_told, bare, heard_row, row_of, treat}
 use Rattle.mux_history.specs.Pending.{waiting_down}
 use Rattle.mux_history.specs.Policy.{Policy}
-use Rattle.mux_history.specs.Rows.{Admit, Gone, Heard, Item, Row, Says, is_lost, rows_of}
+use Rattle.mux_history.specs.Rows.{Admit, Gone, Heard, HouseSays, Item, Row, Says, is_lost, rows_of}
 use Rattle.mux_history.specs.Said.{Outcome, drops, said_payload, sends, silent, tells}
 use Rattle.ssh_grammar.specs.Frames.{frame_payload}
 use Rattle.ssh_grammar.specs.Messages.{Opens}
@@ -31,7 +31,7 @@ use Rattle.mux_history.proofs.Sends.{row-split}
 use Rattle.mux_isolation.proofs.Mays.{MayTell, TellsAllowed}
 use Rattle.mux_isolation.proofs.Meets.{Meets}
 use Rattle.mux_isolation.proofs.Named.{Met, holder-local, met, number-met}
-use Rattle.mux_isolation.proofs.SaidTold.{TellOk, admits-tell, all-tell, body-tell, fitting-tell, payload-tell}
+use Rattle.mux_isolation.proofs.SaidTold.{TellOk, admits-tell, all-tell, body-tell, fitting-tell, house-tell, payload-tell}
 
 -- ---- what is told for what the server says
 
@@ -134,6 +134,7 @@ down-treat policy pid pick before (Admit k) good = down-row before (Admit k) k (
 down-treat policy pid pick before (Says k (Payload p) reply) good = down-row before (Says k (Payload p) reply) k (said_payload policy k (rows_of k before) pick p) (payload-tell before k policy (rows_of k before) pick p)
 down-treat policy pid pick before (Says k (Body body) reply) good = down-row before (Says k (Body body) reply) k (said_body pid k reply (greeted (rows_of k before)) body) (body-tell before k pid reply (greeted (rows_of k before)) body)
 down-treat policy pid pick before (Says k (BadFraming fault) reply) good = down-row before (Says k (BadFraming fault) reply) k (drops (why.BadFrame fault)) tt
+down-treat policy pid pick before (HouseSays k id given) good = down-row before (HouseSays k id given) k (house_says (rows_of k before) id given) (house-tell before k (rows_of k before) id given)
 down-treat policy pid pick before (Gone k) good = down-row before (Gone k) k silent tt
 down-treat policy pid pick before (Heard p) good = down-heard before good p (dest before p) refl
 down-treat policy pid pick before item good = tt

@@ -1,15 +1,15 @@
 -- Each row of a client, alone: the same row under the client's own numbers.
-use Rattle.std.proofs.Common.{◌≡◌, ℕ, List, [], ◌∷◌, ◌++◌, true, false, Bool, refl, ◌∙◌, ap, sym, Option, None, subst, Ok, Err}
+use Rattle.std.proofs.Common.{◌≡◌, ℕ, List, [], ◌∷◌, ◌++◌, true, false, Bool, refl, ◌∙◌, ap, sym, Option, None, subst, Ok, Err, Some}
 use Rattle.std.specs.Prelude.{◌==◌, ◌||◌, not, Result, nat_lt}
 use Rattle.mux_history.specs.Channels.{channels_of, own_of}
 use Rattle.mux_history.specs.Choices.{said_number}
-use Rattle.mux_history.specs.Controls.{greeted, is_says, said_body}
+use Rattle.mux_history.specs.Controls.{answers_ask, greeted, house_says, in_proxy, is_says, said_body, proxies_by}
 use Rattle.mux_history.specs.Gist.{Gist, read_gist, sender_of}
 use Rattle.mux_history.specs.Heard.{Breaks, Dest, Disconnects, ToClient, ToMaster, dest, heard_for}
 use Rattle.mux_history.specs.Kept.{Every}
 use Rattle.mux_history.specs.Log.{admits, all_told, bare, entered, heard_row, makes_row, matters_of, open_matters, queued, row_of, treat}
 use Rattle.mux_history.specs.Policy.{Policy}
-use Rattle.mux_history.specs.Rows.{Admit, BadServer, Fate, Gone, Heard, Item, Refused, Row, RunEnd, Says, ServerCut, ServerEnd, ServerFailed, Took, any_of, is_admit, is_end, is_ended, is_out, is_refusal, loses, rows_of}
+use Rattle.mux_history.specs.Rows.{Admit, BadServer, Fate, Gone, Heard, HouseSays, Item, Refused, Row, RunEnd, Says, ServerCut, ServerEnd, ServerFailed, Took, any_of, is_admit, is_end, is_ended, is_out, is_refusal, loses, rows_of}
 use Rattle.mux_history.specs.Said.{Outcome, drops, said_gist, said_payload, silent, tells}
 use Rattle.mux_history.specs.Solo.{item_for, own_ups}
 use Rattle.mux_outside.specs.declared.house.HouseReply.{HouseReply}
@@ -31,7 +31,7 @@ use Rattle.mux_history.proofs.Quiets.{Quiet}
 use Rattle.mux_history.proofs.Readings.{reading-err, reading-ok}
 use Rattle.mux_history.proofs.Renumbered.{sender-in, sent-again}
 use Rattle.mux_history.proofs.SaidApart.{LawfulItem, admits_client}
-use Rattle.mux_history.proofs.Sends.{admits-sent, as_row, body-sent, quiet-heard, row-parts}
+use Rattle.mux_history.proofs.Sends.{admits-sent, as_row, body-sent, house-sent, quiet-heard, row-parts}
 use Rattle.mux_isolation.proofs.Alike.{message-said, numbered}
 use Rattle.mux_isolation.proofs.Alone.{loses-alone}
 use Rattle.mux_isolation.proofs.HeardAlone.{alike, heard-treats}
@@ -106,6 +106,15 @@ greeted-alone (row ∷ own) = ap (λ b. b || greeted (alone own)) (by_item row.i
     by_item (Heard p) = refl
     by_item item = refl
 
+pub proxy-alone : (own : List Row) → in_proxy (alone own) ≡ in_proxy own
+proxy-alone [] = refl
+proxy-alone (row ∷ own) = by_item row.item (proxy-alone own)
+  where
+    by_item : (item : Item) → in_proxy (alone own) ≡ in_proxy own → elim (item_for own item) as (λ _. Bool) [ Says k saying given ↦ proxies_by saying | _ ↦ in_proxy (alone own) ] ≡ elim item as (λ _. Bool) [ Says k saying given ↦ proxies_by saying | _ ↦ in_proxy own ]
+    by_item (Heard p) ih = ih
+    by_item (Says k saying given) ih = refl
+    by_item item ih = ih
+
 pub out-alone : (own : List Row) → is_out (alone own) ≡ is_out own
 out-alone [] = refl
 out-alone (row ∷ own) = ap (λ b. (b || is_refusal row.fate) || is_out (alone own)) (loses-alone own row) ∙ ap (λ b. (loses row || is_refusal row.fate) || b) (out-alone own)
@@ -179,6 +188,19 @@ module _ (policy : Policy) (pid pick : ℕ) (before : List Row) (good : AreApart
     treats = λ admitted. outcome-treats k named small (Gone k) (λ rows. silent) silent (named-mute before good k (Gone k) [] refl (λ x. tt) refl refl refl [] tt _ _) refl;
   }
 
+  own-house : (k id : ℕ) (given : HouseReply) → AllNamed (rows_of k before) → AllSmall (rows_of k before) → not (is_out (rows_of k before)) ≡ true → OwnFacts policy pid k (rows_of k before) (HouseSays k id given) (row_of (HouseSays k id given) k (house_says (rows_of k before) id given) (rows_of k before))
+  own-house k id given named small makes = record {
+    client = client-of (HouseSays k id given) k (house_says (rows_of k before) id given) (rows_of k before);
+    is = item-of (HouseSays k id given) k (house_says (rows_of k before) id given) (rows_of k before);
+    named = row-parts (RowNamed (rows_of k before)) (HouseSays k id given) k (house_says (rows_of k before) id given) (rows_of k before) row_named;
+    small = tt;
+    makes = makes-same k (HouseSays k id given) refl makes;
+    treats = λ admitted. outcome-treats k named small (HouseSays k id given) (λ rows. house_says rows id given) (house_says (rows_of k before) id given) (row_named [] tt _ _) (ap (λ b. elim b as (λ _. Outcome) [ true ↦ silent | false ↦ answers_ask true id (Some given) ]) (proxy-alone (rows_of k before)));
+  }
+    where
+      row_named : (fw : List (List ℕ)) → Every Quiet fw → (down : List (List ℕ)) (fate : Fate) → RowNamed (rows_of k before) (as_row (HouseSays k id given) k (house_says (rows_of k before) id given).sent fw down fate)
+      row_named fw parting down fate = named-mute before good k (HouseSays k id given) (house_says (rows_of k before) id given).sent (house-sent (rows_of k before) id given) (λ x. tt) refl refl refl fw parting down fate
+
   own-control : (k : ℕ) (body : List ℕ) (reply : Option HouseReply) → AllNamed (rows_of k before) → AllSmall (rows_of k before) → not (is_out (rows_of k before)) ≡ true → OwnFacts policy pid k (rows_of k before) (Says k (Body body) reply) (row_of (Says k (Body body) reply) k (said_body pid k reply (greeted (rows_of k before)) body) (rows_of k before))
   own-control k body reply named small makes = record {
     client = client-of (Says k (Body body) reply) k (said_body pid k reply (greeted (rows_of k before)) body) (rows_of k before);
@@ -251,6 +273,7 @@ module _ (policy : Policy) (pid pick : ℕ) (before : List Row) (good : AreApart
     own-treat (Says j (Payload p) reply) lawful makes mine = at-client (Says j (Payload p) reply) _ j (client-of (Says j (Payload p) reply) j (said_payload policy j (rows_of j before) pick p) (rows_of j before)) mine (λ named small once. own-proxy j p reply lawful.1 named small makes)
     own-treat (Says j (Body body) reply) lawful makes mine = at-client (Says j (Body body) reply) _ j (client-of (Says j (Body body) reply) j (said_body pid j reply (greeted (rows_of j before)) body) (rows_of j before)) mine (λ named small once. own-control j body reply named small makes)
     own-treat (Says j (BadFraming fault) reply) lawful makes mine = at-client (Says j (BadFraming fault) reply) _ j (client-of (Says j (BadFraming fault) reply) j (drops (why.BadFrame fault)) (rows_of j before)) mine (λ named small once. own-bad j fault reply named small makes)
+    own-treat (HouseSays j id given) lawful makes mine = at-client (HouseSays j id given) _ j (client-of (HouseSays j id given) j (house_says (rows_of j before) id given) (rows_of j before)) mine (λ named small once. own-house j id given named small makes)
     own-treat (Gone j) lawful makes mine = at-client (Gone j) _ j (client-of (Gone j) j silent (rows_of j before)) mine (λ named small once. own-gone j named small makes)
     own-treat (Heard p) lawful makes mine = by-dest p (dest before p) refl mine
     own-treat (Took j size) lawful makes mine = at-client (Took j size) (bare (Took j size) j silent) j refl mine (λ named small once. own-took policy pid before good j size named)

@@ -6,13 +6,13 @@ use Rattle.std.proofs.Math.Seq.{drop-append_seam}
 use Rattle.ssh_grammar.specs.Frames.{frame_payload}
 use Rattle.ssh_grammar.specs.SpellMessage.{request_failure}
 use Rattle.mux_history.specs.Channels.{held_of}
-use Rattle.mux_history.specs.Controls.{is_says}
+use Rattle.mux_history.specs.Controls.{is_says, proxies_by}
 use Rattle.mux_history.specs.Farewell.{farewell, leave_channel, leave_forwarding}
 use Rattle.mux_history.specs.Forwardings.{Forwarding, current, dropped, forwarded, forwardings_of}
 use Rattle.mux_history.specs.Log.{all_told, bare, fate_with, fitting, goes, new_answers, overflow, queued, row_of, with_farewell}
 use Rattle.mux_history.specs.Pending.{joined, took_by}
 use Rattle.mux_history.specs.Requests.{Ask, answers, answers_to, asks, asks_of, is_sent, replies, reply_in, sent_flags, wanted, wanted_by}
-use Rattle.mux_history.specs.Rows.{Item, Row, is_admit, is_lost, is_refusal, loses, rows_of}
+use Rattle.mux_history.specs.Rows.{Item, Row, Says, is_admit, is_lost, is_refusal, loses, rows_of}
 use Rattle.mux_history.specs.Said.{Outcome}
 use Rattle.mux_isolation.specs.View.{ChannelView, View, Waiting, left_of}
 use Rattle.mux_history.proofs.CurrentSteps.{current-step, forwarded_at, is_on, on-forwarded}
@@ -87,6 +87,7 @@ abbrev pub next_view : Row → View → View
 next_view row v = record {
   admitted = is_admit row || v.admitted;
   has_greeted = is_says row.item || v.has_greeted;
+  proxied = elim row.item as (λ _. Bool) [ Says k saying given ↦ proxies_by saying | _ ↦ v.proxied ];
   lost = loses row || v.lost;
   out = (loses row || is_refusal row.fate) || v.out;
   channels = next_channels row v.channels;

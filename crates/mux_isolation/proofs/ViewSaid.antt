@@ -14,7 +14,7 @@ use Rattle.ssh_grammar.specs.declared.side.Side.TheVariants.{Up}
 use Rattle.mux_history.specs.declared.limits.TheConstants.{MAX_CHANNELS, MAX_CHANNEL_REQUESTS, MAX_FORWARDINGS, MAX_GLOBAL_REQUESTS, MAX_WINDOW}
 use Rattle.mux_history.specs.declared.why.Why.TheVariants as why
 use Rattle.mux_history.specs.Channels.{Channel, held_of, is_number, is_up, with_own}
-use Rattle.mux_history.specs.Controls.{greeted, said_body}
+use Rattle.mux_history.specs.Controls.{greeted, in_proxy, said_body}
 use Rattle.mux_history.specs.Forwardings.{Forwarding, current, is_free_at}
 use Rattle.mux_history.specs.Gist.{Act, Answers, Asks, Carries, Confirmation, Ends, Gist, Grants, Open, Refuses, Requests, Succeeds, Transport, Within, read_gist}
 use Rattle.mux_history.specs.Keys.{is_askable}
@@ -34,6 +34,7 @@ abbrev pub own_view : List Row → View
 own_view own = record {
   admitted = any_of is_admit own;
   has_greeted = greeted own;
+  proxied = in_proxy own;
   lost = is_lost own;
   out = is_out own;
   channels = map channel_view (held_of own);

@@ -1,9 +1,9 @@
 -- Rows of others leave the view of a client, and its own rows follow it.
-use Rattle.std.proofs.Common.{◌≡◌, ℕ, List, [], ◌∷◌, map, length, drop, true, false, Bool, refl, ◌∙◌, ap, arith, sym, subst}
+use Rattle.std.proofs.Common.{◌≡◌, ℕ, List, [], ◌∷◌, map, length, drop, true, false, Bool, refl, ◌∙◌, ap, arith, sym, subst, Some}
 use Rattle.std.specs.Prelude.{◌==◌, ◌||◌, ◌&&◌, not, filter, nat_lt}
 use Rattle.std.proofs.lemmas.Bool.Decides.{nat_tests}
 use Rattle.mux_history.specs.Channels.{Channel, channels_of, held_of, is_held}
-use Rattle.mux_history.specs.Controls.{greeted}
+use Rattle.mux_history.specs.Controls.{answers_ask, greeted, house_says, in_proxy}
 use Rattle.mux_history.specs.Farewell.{has_open_matters}
 use Rattle.mux_history.specs.Forwardings.{Forwarding, current, forwardings_of}
 use Rattle.mux_history.specs.Heard.{ToClient, dest, heard_for}
@@ -12,7 +12,7 @@ use Rattle.mux_history.specs.Log.{admits, bare, heard_row, makes_row, row_of, sa
 use Rattle.mux_history.specs.Pending.{pending_down}
 use Rattle.mux_history.specs.Policy.{Policy}
 use Rattle.mux_history.specs.Requests.{Ask, asks, replies, wanted}
-use Rattle.mux_history.specs.Rows.{Admit, Gone, Heard, Item, Row, Says, Took, any_of, is_admit, is_lost, is_out, rows_of}
+use Rattle.mux_history.specs.Rows.{Admit, Gone, Heard, HouseSays, Item, Row, Says, Took, any_of, is_admit, is_lost, is_out, rows_of}
 use Rattle.mux_history.specs.Said.{Outcome, silent}
 use Rattle.mux_isolation.specs.Laws.{SameStep, StepsAlike}
 use Rattle.mux_isolation.specs.View.{View, channel_view, left_of, view_of}
@@ -56,6 +56,7 @@ view-own k rows =
     with_parts xs us fs = record {
       admitted = any_of is_admit (rows_of k rows);
       has_greeted = greeted (rows_of k rows);
+      proxied = in_proxy (rows_of k rows);
       lost = is_lost (rows_of k rows);
       out = is_out (rows_of k rows);
       channels = map channel_view xs;
@@ -108,6 +109,9 @@ module _ (policy : Policy) (pid pick k : ℕ) (rows others : List Row) (same : v
   own-step (Says j saying given) is = subst (λ (i : ℕ). SameStep k rows others (treat policy pid pick rows (Says i saying given)) (treat policy pid pick others (Says i saying given))) (sym is)
       (of-row (Says k saying given) (said_by_client policy pid k (rows_of k rows) pick saying given) (said_by_client policy pid k (rows_of k others) pick saying given)
       (said-alike (rows_of k rows) (rows_of k others) same-own policy pid k pick saying given))
+  own-step (HouseSays j id given) is = subst (λ (i : ℕ). SameStep k rows others (treat policy pid pick rows (HouseSays i id given)) (treat policy pid pick others (HouseSays i id given))) (sym is)
+      (of-row (HouseSays k id given) (house_says (rows_of k rows) id given) (house_says (rows_of k others) id given)
+      (ap (λ (v : View). elim v.proxied as (λ _. Outcome) [ true ↦ silent | false ↦ answers_ask true id (Some given) ]) same-own))
   own-step (Gone j) is = subst (λ (i : ℕ). SameStep k rows others (treat policy pid pick rows (Gone i)) (treat policy pid pick others (Gone i))) (sym is) (of-row (Gone k) silent silent refl)
   own-step (Took j size) is = step (bare (Took j size) j silent) (bare (Took j size) j silent) refl is
   own-step item is = absurd is
@@ -120,6 +124,7 @@ module _ (policy : Policy) (pid pick k : ℕ) (rows others : List Row) (same : v
 
   makes-same : (item : Item) → IsOf k item → makes_row rows item ≡ makes_row others item
   makes-same (Says j saying given) is = ap (λ i. not (is_out (rows_of i rows))) is ∙ (ap (λ (v : View). not v.out) same ∙ ap (λ i. not (is_out (rows_of i others))) (sym is))
+  makes-same (HouseSays j id given) is = ap (λ i. not (is_out (rows_of i rows))) is ∙ (ap (λ (v : View). not v.out) same ∙ ap (λ i. not (is_out (rows_of i others))) (sym is))
   makes-same (Gone j) is = ap (λ i. not (is_out (rows_of i rows))) is ∙ (ap (λ (v : View). not v.out) same ∙ ap (λ i. not (is_out (rows_of i others))) (sym is))
   makes-same (Took j size) is = refl
   makes-same item is = absurd is

@@ -1,8 +1,9 @@
 -- What an admitted client is given, byte for byte, is what its unshared connection gives it; and
 -- what is sent for it is what that connection sends.
-use Rattle.std.specs.Prelude.{ℕ, ◌≡◌, ◌<◌, List, flat_map, reverse}
+use Rattle.std.specs.Prelude.{ℕ, ◌≡◌, ◌<◌, false, List, flat_map, reverse}
 use Rattle.mux_outside.specs.declared.house.HouseReply.{HouseReply}
 use Rattle.mux_outside.specs.declared.mark.Mark.{Mark}
+use Rattle.mux_outside.specs.OwnStreams.{is_own}
 use Rattle.mux_history.specs.Rows.{Row, rows_of}
 use Rattle.mux_history.specs.Pending.{given_to}
 use Rattle.mux_history.specs.Policy.{Policy}
@@ -24,10 +25,10 @@ GivesAlike setting rows =
 abbrev pub BytesAreUnshared : Type 0
 BytesAreUnshared = OverRight GivesAlike
 
--- so the bytes that its stream took begin what the unshared connection gives
+-- so the bytes that its stream took begin what the unshared connection gives; the house has none
 abbrev pub TakesAlike : Setting → List Mark → Type 0
 TakesAlike setting marks =
-    (k : ℕ) → 0 < k → IsAdmitted k (log_of_journal setting marks)
+    (k : ℕ) → 0 < k → is_own k ≡ false → IsAdmitted k (log_of_journal setting marks)
     → IsFront (taken_by k marks) (given_to k (solo setting k (log_of_journal setting marks)))
 
 -- where each take is the front of what waited

@@ -9,7 +9,7 @@ use Rattle.mux_history.specs.Ledger.{answered, asked, carried, granted, initial,
 use Rattle.mux_history.specs.Requests.{Ask, asks, replies, wanted}
 use Rattle.mux_history.specs.Forwardings.{Forwarding, current}
 use Rattle.mux_history.specs.Pending.{pending_down}
-use Rattle.mux_history.specs.Controls.{greeted}
+use Rattle.mux_history.specs.Controls.{greeted, in_proxy}
 
 -- ---- a channel
 
@@ -92,13 +92,14 @@ left_of (true ∷ flags) (p ∷ heard) = left_of flags heard
 
 -- ---- the client
 
--- it was let in, has greeted, is lost, or is out: lost or refused; its channels that are not over;
--- how many requests were sent for it and how many have a reply, those sent without one, and with
+-- it was let in, has greeted, has said PROXY, is lost, or is out: lost or refused; its channels that
+-- are not over; how many requests were sent for it and how many have a reply, those sent without one, and with
 -- the refusals behind them; its forwardings that are asked or live, each with the cancel that means
 -- it; and the bytes that wait for it
 pub record View : Type 0 where
   pub admitted : Bool
   pub has_greeted : Bool
+  pub proxied : Bool
   pub lost : Bool
   pub out : Bool
   pub channels : List ChannelView
@@ -114,6 +115,7 @@ abbrev pub view_of : ℕ → List Row → View
 view_of k rows = record {
   admitted = any_of is_admit (rows_of k rows);
   has_greeted = greeted (rows_of k rows);
+  proxied = in_proxy (rows_of k rows);
   lost = is_lost (rows_of k rows);
   out = is_out (rows_of k rows);
   channels = map channel_view (filter (λ x. x.client == k) (held_of rows));

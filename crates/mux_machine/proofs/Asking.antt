@@ -1,6 +1,6 @@
 -- Events at which the house isn't asked.
 use Rattle.std.proofs.Common.{◌≡◌, ℕ, Bool, true, false, List, [], ◌∷◌, ◌++◌, length, Option, refl, sym, ap, ◌∙◌, subst, append-nil, append_assoc, length-append, arith}
-use Rattle.mux_outside.specs.House.{Asked}
+use Rattle.mux_outside.specs.declared.house_mark.HouseMark.{HouseMark as Asked}
 use Rattle.mux_outside.specs.declared.house.HouseReply.{HouseReply}
 use Rattle.mux_outside.specs.declared.mark.Mark.{Mark}
 use Rattle.mux_history.specs.Rows.{Row, Item}
@@ -8,7 +8,7 @@ use Rattle.mux_history.specs.Settings.{by_lists}
 use Rattle.mux_history.specs.Log.{Setting, makes_next, more_all, more_of, next_row}
 use Rattle.mux_history.specs.Journal.{items_in, log_of_journal}
 use Rattle.mux_clients.specs.Asked.{asked_by, asked_of}
-use Rattle.mux_clients.proofs.Asks.{tells_none}
+use Rattle.mux_clients.proofs.Heeding.{tells_none}
 use Rattle.mux_machine.specs.State.{State}
 use Rattle.mux_machine.specs.Stands.{GoesAlone, GoesOn, Stands, log, setting}
 

@@ -4,7 +4,7 @@ use Rattle.std.specs.Prelude.{filter, ◌==◌, is_some}
 use Rattle.std.proofs.lemmas.Bool.{eq-eqb}
 use Rattle.std.proofs.lemmas.Bool.Decides.{eqb_tells}
 use Rattle.std.proofs.lemmas.List.Folds.{list_any-append}
-use Rattle.mux_outside.specs.House.{Asked}
+use Rattle.mux_outside.specs.declared.house_mark.HouseMark.{HouseMark as Asked}
 use Rattle.mux_outside.specs.Streams.{among}
 use Rattle.mux_outside.specs.declared.house.HouseReply.{HouseReply}
 use Rattle.mux_outside.specs.declared.mark.Mark.{Mark}
@@ -239,7 +239,7 @@ bytes-new s core' up' k b marks closed rows al st =
     let v : IsStrange s marks closed k = st.strange k al.1 in
     record {
       are_bytes = are-bytes-on s marks (Accepts k) tt al st.are_bytes;
-      clients = λ l. reads-by s core' up' k b marks (v.no_bytes al.0) (st.clients (sym (ended-new k b rows) ∙ l));
+      clients = λ l. reads-by s core' up' k b marks (v.no_bytes (al.0, al.2)) (st.clients (sym (ended-new k b rows) ∙ l));
       server = λ l. subst (ServerReads (bytes_of 0 marks ++ [])) (sym (kept-new s core' up' k b).server) (subst (λ x. ServerReads x s.server) (sym (append-nil (bytes_of 0 marks))) (st.server (sym (ended-new k b rows) ∙ l)));
       there = λ l j a p. elim (eqb_tells k j) [
         | inl t ↦ true_false (sym (here-new s core' up' k b) ∙ (ap (is_here new) t.1 ∙ p))

@@ -2,7 +2,7 @@
 use Rattle.std.proofs.Common.{◌≡◌, ℕ, Bool, true, false, List, [], ◌∷◌, ◌++◌, length, drop, Option, Some, None, refl, sym, ap, ◌∙◌, subst, append_assoc}
 use Rattle.std.specs.Prelude.{◌==◌}
 use Rattle.ssh_grammar.specs.Said.{InProxy, parse, said}
-use Rattle.mux_outside.specs.House.{Asked}
+use Rattle.mux_outside.specs.declared.house_mark.HouseMark.{HouseMark as Asked}
 use Rattle.mux_outside.specs.declared.house.HouseReply.{HouseReply}
 use Rattle.mux_outside.specs.declared.mark.Mark.{Mark}
 use Rattle.mux_outside.specs.declared.mark.Mark.TheVariants.{Gets}
@@ -11,7 +11,7 @@ use Rattle.mux_history.specs.declared.ended.Ended.TheVariants as ended
 use Rattle.mux_history.specs.Rows.{Item, Row}
 use Rattle.mux_history.specs.Settings.{by_lists}
 use Rattle.mux_history.specs.Solo.{end_of}
-use Rattle.mux_history.specs.Journal.{bytes_of, log_of_journal, new_heard, new_sayings}
+use Rattle.mux_history.specs.Journal.{bytes_of, is_own_stream, log_of_journal, new_heard, new_sayings, unless_own}
 use Rattle.mux_history.specs.Log.{more_all}
 use Rattle.mux_machine.specs.declared.event.Event.{Event}
 use Rattle.mux_machine.specs.declared.event.Event.TheVariants as event
@@ -25,7 +25,7 @@ use Rattle.mux_machine.proofs.Unfailed.{NotFailed, hears-unfailed, says-unfailed
 -- ---- a piece
 
 none-unfailed : (o : Option Ended) → o ≡ None → NotFailed o
-none-unfailed o e = (λ f. let z : None ≡ Some ended.ServerFailed = sym e ∙ f in cc, λ f. let z : None ≡ Some ended.Spent = sym e ∙ f in cc)
+none-unfailed o e = (λ f. let z : None ≡ Some ended.ServerFailed = sym e ∙ f in cc, λ f. let z : None ≡ Some ended.Spent = sym e ∙ f in cc, λ index f. let z : None ≡ Some (ended.StartRefused index) = sym e ∙ f in cc)
 
 piece-unfailed : (s : State) (picks : List ℕ) (replies : List HouseReply) (k : ℕ) (bytes : List ℕ) (marks : List Mark) → NotFailed (end_of (log s picks replies marks)) → NotFailed (end_of (log s picks replies (Gets k bytes ∷ marks)))
 piece-unfailed s picks replies k bytes marks n = by_stream (k == 0)
@@ -33,9 +33,13 @@ piece-unfailed s picks replies k bytes marks n = by_stream (k == 0)
     rows : List Row
     rows = log s picks replies marks
 
-    by_stream : (b : Bool) → NotFailed (end_of (more_all (setting s picks replies) rows (elim b as (λ _. List Item) [ true ↦ new_heard (bytes_of 0 marks) (bytes_of 0 marks ++ bytes) | false ↦ new_sayings k (bytes_of k marks) (bytes_of k marks ++ bytes) ])))
+    by_own : (b : Bool) → NotFailed (end_of (more_all (setting s picks replies) rows (elim b as (λ _. List Item) [ true ↦ [] | false ↦ new_sayings k (bytes_of k marks) (bytes_of k marks ++ bytes) ])))
+    by_own true = n
+    by_own false = says-unfailed s.core.policy s.pid picks replies k (drop (length (said (bytes_of k marks))) (said (bytes_of k marks ++ bytes))) rows n
+
+    by_stream : (b : Bool) → NotFailed (end_of (more_all (setting s picks replies) rows (elim b as (λ _. List Item) [ true ↦ new_heard (bytes_of 0 marks) (bytes_of 0 marks ++ bytes) | false ↦ unless_own k (new_sayings k (bytes_of k marks) (bytes_of k marks ++ bytes)) ])))
     by_stream true = hears-unfailed s.core.policy s.pid picks replies (drop (length (parse InProxy (bytes_of 0 marks)).says) (parse InProxy (bytes_of 0 marks ++ bytes)).says) rows n
-    by_stream false = says-unfailed s.core.policy s.pid picks replies k (drop (length (said (bytes_of k marks))) (said (bytes_of k marks ++ bytes))) rows n
+    by_stream false = by_own (is_own_stream k)
 
 piece-ends : (May : HouseReply → Type 0) (before told : Option (List Asked)) (s new : State) (k : ℕ) (bytes : List ℕ) (picked : List ℕ) (given : List HouseReply) (marks : List Mark) (closed : List ℕ)
     → SameRun s new → GoesOn May before told s new (Gets k bytes) → Stands picked given s marks closed → IsAllowed s marks (Gets k bytes) → s.ended ≡ None → NotFailed new.ended

@@ -1,9 +1,9 @@
 -- An engine is the same for a journal whether there was memory or not.
 use Rattle.std.proofs.Common.{◌≡◌, ℕ, Bool, true, false, List, ◌∷◌, ◌++◌, Option, sym, subst}
-use Rattle.mux_outside.specs.House.{Asked}
+use Rattle.mux_outside.specs.declared.house_mark.HouseMark.{HouseMark as Asked}
 use Rattle.mux_outside.specs.declared.house.HouseReply.{HouseReply}
 use Rattle.mux_outside.specs.declared.mark.Mark.{Mark}
-use Rattle.mux_outside.specs.declared.mark.Mark.TheVariants.{Waits, Accepts, Gets, Ends, Frees, Fails, Takes, Holds, WriteFails}
+use Rattle.mux_outside.specs.declared.mark.Mark.TheVariants.{Waits, Accepts, Gets, Ends, Frees, Fails, Takes, Holds, WriteFails, House, Joins}
 use Rattle.mux_history.specs.Rows.{Row}
 use Rattle.mux_machine.specs.declared.event.Event.{Event}
 use Rattle.mux_machine.specs.Events.{EndsBy}
@@ -61,6 +61,8 @@ allowed-fed s b marks (Takes k bytes) al = al
 allowed-fed s b marks (Frees k) al = al
 allowed-fed s b marks (Holds k) al = al
 allowed-fed s b marks (Waits waiting want streams listens) al = al
+allowed-fed s b marks (House mark) al = al
+allowed-fed s b marks (Joins listener stream) al = al
 
 goes-fed : (May : HouseReply → Type 0) (before told : Option (List Asked)) (s t : State) (a b : Bool) (mark : Mark) → GoesOn May before told (fed a s) t mark → GoesOn May before told s (fed b t) mark
 goes-fed May before told s t a b mark h picked given marks closed st al =

@@ -4,7 +4,7 @@ use Rattle.std.specs.Prelude.{◌==◌, ◌^◌, ◌-◌, min, is_some}
 use Rattle.std.proofs.lemmas.Bool.{eq-eqb}
 use Rattle.ssh_fields.specs.Fields.{AreBytes}
 use Rattle.ssh_grammar.specs.Said.{InControl, Stopped, parse, said}
-use Rattle.mux_outside.specs.House.{Asked}
+use Rattle.mux_outside.specs.declared.house_mark.HouseMark.{HouseMark as Asked}
 use Rattle.mux_outside.specs.declared.house.HouseReply.{HouseReply}
 use Rattle.mux_outside.specs.declared.mark.Mark.{Mark}
 use Rattle.mux_outside.specs.declared.mark.Mark.TheVariants.{Gets}
@@ -14,7 +14,7 @@ use Rattle.mux_history.specs.Settings.{by_lists}
 use Rattle.mux_history.specs.Solo.{end_of}
 use Rattle.mux_history.specs.Promises.{listens}
 use Rattle.mux_history.specs.Log.{more_all}
-use Rattle.mux_history.specs.Journal.{bytes_of, log_of_journal, new_heard, new_sayings}
+use Rattle.mux_history.specs.Journal.{bytes_of, is_own_stream, log_of_journal, new_heard, new_sayings, unless_own}
 use Rattle.mux_clients.specs.declared.heard.Heard.{Heard}
 use Rattle.mux_clients.specs.State.{ClientState}
 use Rattle.mux_clients.specs.Stands.{is_lost, is_read, standing_of}
@@ -30,7 +30,7 @@ use Rattle.mux_machine.specs.Stands.{BytesFit, ClientReads, EachReads, GoesOn, I
 use Rattle.mux_machine.proofs.Lists.{test_other, true_false}
 use Rattle.mux_machine.proofs.Moved.{here-same, moved}
 use Rattle.mux_machine.proofs.OneClient.{apart-here, numbers-one, open-here, reads-one, unclosed-one}
-use Rattle.mux_machine.proofs.Over.{are-bytes-on, some-end, strange-on}
+use Rattle.mux_machine.proofs.Over.{are-bytes-on, some-end, strange-on, unless-not}
 use Rattle.mux_machine.proofs.Pairs.{IsPair, pair, redo}
 use Rattle.mux_machine.proofs.Refused.{apart-refused}
 use Rattle.mux_machine.proofs.Sayings.{SaysOn, says-on}
@@ -161,8 +161,8 @@ bytes-gain May before told taken dn s new bytes x y heard picked used asks marks
 
 -- ---- all of it
 
-pub gets-log : (s : State) (picks : List ℕ) (replies : List HouseReply) (k : ℕ) (bytes : List ℕ) (marks : List Mark) → k ≢ 0 → log s picks replies (Gets k bytes ∷ marks) ≡ rows_given s.core.policy s.pid picks replies k (bytes_of k marks) bytes (log s picks replies marks)
-gets-log s picks replies k bytes marks nz = ap (λ b. more_all (setting s picks replies) (log s picks replies marks) (elim b as (λ _. List Rattle.mux_history.specs.Rows.Item) [ true ↦ new_heard (bytes_of 0 marks) (bytes_of 0 marks ++ bytes) | false ↦ new_sayings k (bytes_of k marks) (bytes_of k marks ++ bytes) ])) (test_other k 0 nz)
+pub gets-log : (s : State) (picks : List ℕ) (replies : List HouseReply) (k : ℕ) (bytes : List ℕ) (marks : List Mark) → k ≢ 0 → is_own_stream k ≡ false → log s picks replies (Gets k bytes ∷ marks) ≡ rows_given s.core.policy s.pid picks replies k (bytes_of k marks) bytes (log s picks replies marks)
+gets-log s picks replies k bytes marks nz own = ap (λ b. more_all (setting s picks replies) (log s picks replies marks) (elim b as (λ _. List Rattle.mux_history.specs.Rows.Item) [ true ↦ new_heard (bytes_of 0 marks) (bytes_of 0 marks ++ bytes) | false ↦ unless_own k (new_sayings k (bytes_of k marks) (bytes_of k marks ++ bytes)) ])) (test_other k 0 nz) ∙ ap (more_all (setting s picks replies) (log s picks replies marks)) (unless-not k (new_sayings k (bytes_of k marks) (bytes_of k marks ++ bytes)) own)
 
 piece-rows-of : (May : HouseReply → Type 0) (before told : Option (List Asked)) (s new : State) (bytes : List ℕ) (x y : ClientState) (heard : Heard) (c : PieceAt May before told s new bytes x y heard) (picks : List ℕ) (replies : List HouseReply) (taken : ℕ) (dn : List Asked) (marks : List Mark) (closed : List ℕ) (rows : List Row)
     → is_ended rows ≡ false → InFits rows x → RowsFit taken dn s closed rows → BytesFit s marks closed rows → ClientReads (bytes_of x.seat.number marks) x
@@ -218,7 +218,7 @@ goes-piece May before told s new bytes x y heard none here nz fits reads c picke
         let next : Rattle.mux_clients.specs.Pieces.ReplyNext h.used rows r = (replies, ap (λ n. drop n r) (v.rows.drawn_is ∙ st.each) ∙ drop-front given (h.used ++ replies)) in
         let rows' : List Row = rows_given s.core.policy s.pid p r k (bytes_of k marks) bytes rows in
         let w : PieceRows s new x y heard h.picked h.used h.asks rows rows' (bytes_of k marks) bytes = piece-rows-of May before told s new bytes x y heard c p r (length picked) st.asks marks closed rows live fx v.rows v.bytes (reads marks (v.bytes.clients live)) come next in
-        let is : log new p r (Gets k bytes ∷ marks) ≡ rows' = log-as p r (Gets k bytes ∷ marks) ∙ gets-log s p r k bytes marks nz in (
+        let is : log new p r (Gets k bytes ∷ marks) ≡ rows' = log-as p r (Gets k bytes ∷ marks) ∙ gets-log s p r k bytes marks nz al.2 in (
           record {
             rows = subst (RowsFit (length (picked ++ h.picked)) (st.asks ++ h.asks) new closed) (sym is)
                 (subst (λ n. RowsFit n (st.asks ++ h.asks) new closed rows') (sym (length-append picked h.picked))

@@ -6,7 +6,7 @@ use Rattle.std.proofs.lemmas.Bool.{eq-eqb}
 use Rattle.std.proofs.lemmas.Bool.Decides.{eqb_tells}
 use Rattle.std.proofs.lemmas.List.Folds.{list_any-append}
 use Rattle.ssh_grammar.specs.Said.{InProxy, parse}
-use Rattle.mux_outside.specs.House.{Asked}
+use Rattle.mux_outside.specs.declared.house_mark.HouseMark.{HouseMark as Asked}
 use Rattle.mux_outside.specs.Streams.{among}
 use Rattle.mux_outside.specs.declared.house.HouseReply.{HouseReply}
 use Rattle.mux_outside.specs.declared.mark.Mark.{Mark}
@@ -185,7 +185,7 @@ read-here Rattle.mux_clients.specs.declared.standing.Standing.TheVariants.Proxie
 read-here Rattle.mux_clients.specs.declared.standing.Standing.TheVariants.Unread e = refl
 read-here (Rattle.mux_clients.specs.declared.standing.Standing.TheVariants.Lost why) e = true_false (sym e)
 
-reads-kept : (marks : List Mark) (cs ds : List ClientState) → KeepReading cs ds → EachReads marks cs → EachReads marks ds
+pub reads-kept : (marks : List Mark) (cs ds : List ClientState) → KeepReading cs ds → EachReads marks cs → EachReads marks ds
 reads-kept marks [] ds h e = subst (EachReads marks) (sym h) tt
 reads-kept marks (c ∷ cs) [] h e = absurd h
 reads-kept marks (c ∷ cs) (d ∷ ds) h e = (one (bytes_of d.seat.number marks) (subst (λ n. ClientReads (bytes_of n marks) c) (sym h.0.0) e.0), reads-kept marks cs ds h.1 e.1)

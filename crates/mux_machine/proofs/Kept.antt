@@ -2,7 +2,7 @@
 use Rattle.std.proofs.Common.{◌≡◌, ◌≢◌, ℕ, Bool, true, false, List, [], ◌∷◌, ◌++◌, Option, Some, None, refl, sym, ap, ◌∙◌, subst, inl, inr, ◌⊎◌, cond, append-nil, length}
 use Rattle.std.specs.Prelude.{◌==◌, MatchBool}
 use Rattle.std.proofs.lemmas.Bool.{eqb-true}
-use Rattle.mux_outside.specs.House.{Asked}
+use Rattle.mux_outside.specs.declared.house_mark.HouseMark.{HouseMark as Asked}
 use Rattle.mux_outside.specs.declared.house.HouseReply.{HouseReply}
 use Rattle.mux_history.specs.declared.why.Why.{Why}
 use Rattle.mux_history.specs.declared.broke.Break.TheVariants as broke
@@ -26,7 +26,7 @@ use Rattle.mux_machine.proofs.Hearing.{numbers-kept}
 use Rattle.mux_machine.proofs.Lists.{test_other}
 use Rattle.mux_machine.proofs.Looked.{so-here}
 use Rattle.mux_machine.proofs.OneClient.{numbers-one, same-one}
-use Rattle.mux_machine.proofs.Stepped.{DidAlone, DidAsking, Gained, Lost, SameRun, same-run}
+use Rattle.mux_machine.proofs.Stepped.{Replied, DidAlone, DidAsking, Gained, Lost, SameRun, same-run}
 
 -- ---- one client goes on, or none
 
@@ -112,6 +112,27 @@ gained-pid May before told s new k bytes h = by_heard (is_heard s.clients k) ref
     by_heard true e = (h.gains e).pid
     by_heard false e = ap (λ (t : State). t.pid) (h.stays e)
 
+-- ---- a client to which the house replies
+
+replied-others : (k id : ℕ) (given : HouseReply) (s new : State) → Replied s new k id given → KeepsOthers k s new
+replied-others k id given s new h = by_served (is_served s.clients k) refl
+  where
+    by_served : (b : Bool) → is_served s.clients k ≡ b → KeepsOthers k s new
+    by_served true e = let c = h.answers e in record {
+      others = λ j ne. same-others k j _ s.clients new.clients ne (numbers-kept s.clients new.clients c.reading) c.changes;
+      streams = record { clients = numbers-kept s.clients new.clients c.reading; refused = c.refused };
+      more_leaving = c.noted;
+      leaving = c.leaving;
+    }
+    by_served false e = keeps-all k s new (h.stays e)
+
+replied-ends : (k id : ℕ) (given : HouseReply) (s new : State) → s.ended ≡ None → Replied s new k id given → new.ended ≡ None
+replied-ends k id given s new live h = by_served (is_served s.clients k) refl
+  where
+    by_served : (b : Bool) → is_served s.clients k ≡ b → new.ended ≡ None
+    by_served true e = (h.answers e).ended ∙ live
+    by_served false e = ap (λ (t : State). t.ended) (h.stays e) ∙ live
+
 -- ---- a client that comes
 
 look-last : (k j : ℕ) (cs : List ClientState) → k ≢ j → SameClient j cs (cs ++ new_client k ∷ [])
@@ -164,6 +185,13 @@ server-unspent s = by_rest s.server.rest
     by_rest [] e = cc
     by_rest (b ∷ more) e = cc
 
+server-permitted : (s : State) (index : ℕ) → server_cause s ≢ ended.StartRefused index
+server-permitted s index = by_rest s.server.rest
+  where
+    by_rest : (rest : List ℕ) → (elim rest as (λ _. Ended) [ [] ↦ ended.ServerEnd | b ∷ more ↦ ended.Broke s.server.index (broke.Cut (length (b ∷ more))) ]) ≢ ended.StartRefused index
+    by_rest [] e = cc
+    by_rest (b ∷ more) e = cc
+
 over-keeps : (s new : State) (e : Event) (cause : Ended) → s.ended ≡ None → new ≡ over s cause → Rattle.mux_machine.specs.Events.LeavesOthers e s (over s cause) → Arrives e s (over s cause) → Keeps e s new
 over-keeps s new e cause live is others arrives = subst (λ (t : State). Keeps e s t) (sym is) record {
   pid = refl;
@@ -199,6 +227,7 @@ did-keeps s new (event.Accepted k) live d = let c : Comes k s new = comes k s ne
 did-keeps s new (event.FromClient k bytes) live d = absurd d
 did-keeps s new (event.ClientEnd k) live d = client-keeps k s new (event.ClientEnd k) live (same-run s new (event.ClientEnd k) d) (lost-others k s new d) (λ h. h.others) (λ h. h)
 did-keeps s new (event.ClientFailed k) live d = client-keeps k s new (event.ClientFailed k) live (same-run s new (event.ClientFailed k) d) (lost-others k s new d) (λ h. h.others) (λ h. h)
+did-keeps s new (event.HouseSays k id given) live d = client-keeps k s new (event.HouseSays k id given) live (same-run s new (event.HouseSays k id given) d) (replied-others k id given s new d) (λ h. h.others) (λ h. h)
 did-keeps s new (event.FromServer bytes) live d = record {
   pid = d.pid;
   policy = d.piece.hearing.policy;
@@ -217,10 +246,12 @@ did-ends s new (event.Accepted k) live d server = (comes k s new d).ended_is ∙
 did-ends s new (event.FromClient k bytes) live d server = absurd d
 did-ends s new (event.ClientEnd k) live d server = lost-ends k s new live d
 did-ends s new (event.ClientFailed k) live d server = lost-ends k s new live d
+did-ends s new (event.HouseSays k id given) live d server = replied-ends k id given s new live d
 did-ends s new (event.FromServer bytes) live d server = server bytes refl
 did-ends s new event.ServerEnd live d server = (
   λ e. server-cause s (let f : Some (server_cause s) ≡ Some ended.ServerFailed = sym (ap (λ (t : State). t.ended) d) ∙ e in cc),
   λ e. server-unspent s (let f : Some (server_cause s) ≡ Some ended.Spent = sym (ap (λ (t : State). t.ended) d) ∙ e in cc),
+  λ index e. server-permitted s index (let f : Some (server_cause s) ≡ Some (ended.StartRefused index) = sym (ap (λ (t : State). t.ended) d) ∙ e in cc),
 )
 did-ends s new event.ServerFailed live d server = ap (λ (t : State). t.ended) d
 

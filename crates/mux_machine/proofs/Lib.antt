@@ -1,3 +1,4 @@
+pub mod Heeded
 mod Asking
 mod Closes
 mod Comes
@@ -29,3 +30,5 @@ mod Takes
 mod Unfailed
 mod Waits
 mod Written
+pub mod Replied
+pub mod Twins

@@ -2,7 +2,7 @@
 use Rattle.std.proofs.Common.{◌≡◌, ◌≢◌, ℕ, Bool, true, false, not, List, [], ◌∷◌, ◌++◌, length, None, refl, sym, ap, ◌∙◌, subst, cond, append-nil}
 use Rattle.std.specs.Prelude.{◌==◌, is_some}
 use Rattle.std.specs.List.{AllByRecursion}
-use Rattle.mux_outside.specs.House.{Asked}
+use Rattle.mux_outside.specs.declared.house_mark.HouseMark.{HouseMark as Asked}
 use Rattle.mux_outside.specs.declared.house.HouseReply.{HouseReply}
 use Rattle.mux_outside.specs.declared.mark.Mark.{Mark}
 use Rattle.mux_outside.specs.declared.mark.Mark.TheVariants.{Ends, Fails, WriteFails}
@@ -10,7 +10,7 @@ use Rattle.mux_history.specs.Rows.{Row, rows_of, is_out, is_ended, Gone, Goes}
 use Rattle.mux_history.specs.Farewell.{farewell}
 use Rattle.mux_history.specs.Settings.{by_lists}
 use Rattle.mux_history.specs.Log.{Setting, more_of, next_row}
-use Rattle.mux_history.specs.Journal.{bytes_in, bytes_of, is_accepted, log_of_journal}
+use Rattle.mux_history.specs.Journal.{bytes_in, bytes_of, is_accepted, is_own_stream, log_of_journal, unless_own}
 use Rattle.mux_clients.specs.declared.standing.Standing.TheVariants.{Lost}
 use Rattle.mux_clients.specs.State.{ClientState, part}
 use Rattle.mux_clients.specs.Stands.{Fits, is_lost, is_read}
@@ -31,7 +31,7 @@ use Rattle.mux_machine.proofs.Grows.{grows-row}
 use Rattle.mux_machine.proofs.Lists.{true_false}
 use Rattle.mux_machine.proofs.Moved.{here-same, moved}
 use Rattle.mux_machine.proofs.OneClient.{all-fit, apart-here, changes-to, numbers-one, open-here, reads-one}
-use Rattle.mux_machine.proofs.Over.{are-bytes-on, next-live, one-more, some-end, strange-on}
+use Rattle.mux_machine.proofs.Over.{are-bytes-on, next-live, unless-not, one-more, some-end, strange-on}
 use Rattle.mux_machine.proofs.Refused.{apart-refused}
 
 pub gone-event : (mark : Mark) (k : ℕ) → IsGone mark k → IsEvent mark
@@ -52,15 +52,22 @@ gone-accepts (Fails i) marks k j g = refl
 gone-accepts (WriteFails i) marks k j g = refl
 gone-accepts mark marks k j g = absurd g
 
-by-number : (s : Setting) (rows : List Row) (k : ℕ) (b : Bool) (xs : List _) → b ≡ false → Rattle.mux_history.specs.Log.more_all s rows (elim b as (λ _. List Rattle.mux_history.specs.Rows.Item) [ true ↦ xs | false ↦ Gone k ∷ [] ]) ≡ more_of s rows (Gone k)
-by-number s rows k true xs e = absurd (cc)
-by-number s rows k false xs e = refl
+by-number : (s : Setting) (rows : List Row) (k : ℕ) (b : Bool) (xs : List _) → b ≡ false → is_own_stream k ≡ false → Rattle.mux_history.specs.Log.more_all s rows (elim b as (λ _. List Rattle.mux_history.specs.Rows.Item) [ true ↦ xs | false ↦ unless_own k (Gone k ∷ []) ]) ≡ more_of s rows (Gone k)
+by-number s rows k true xs e own = absurd (cc)
+by-number s rows k false xs e own = ap (Rattle.mux_history.specs.Log.more_all s rows) (unless-not k (Gone k ∷ []) own)
 
-pub gone-log : (s : State) (picks : List ℕ) (replies : List HouseReply) (mark : Mark) (marks : List Mark) (k : ℕ) → k ≢ 0 → IsGone mark k → log s picks replies (mark ∷ marks) ≡ more_of (setting s picks replies) (log s picks replies marks) (Gone k)
-gone-log s picks replies (Ends j) marks k nz g = by-number (setting s picks replies) (log s picks replies marks) j (j == 0) _ (Rattle.mux_machine.proofs.Lists.test_other j 0 (λ e. nz (sym g ∙ e))) ∙ ap (λ i. more_of (setting s picks replies) (log s picks replies marks) (Gone i)) g
-gone-log s picks replies (Fails j) marks k nz g = by-number (setting s picks replies) (log s picks replies marks) j (j == 0) _ (Rattle.mux_machine.proofs.Lists.test_other j 0 (λ e. nz (sym g ∙ e))) ∙ ap (λ i. more_of (setting s picks replies) (log s picks replies marks) (Gone i)) g
-gone-log s picks replies (WriteFails j) marks k nz g = by-number (setting s picks replies) (log s picks replies marks) j (j == 0) _ (Rattle.mux_machine.proofs.Lists.test_other j 0 (λ e. nz (sym g ∙ e))) ∙ ap (λ i. more_of (setting s picks replies) (log s picks replies marks) (Gone i)) g
-gone-log s picks replies mark marks k nz g = absurd g
+pub gone-log : (s : State) (picks : List ℕ) (replies : List HouseReply) (mark : Mark) (marks : List Mark) (k : ℕ) → k ≢ 0 → IsGone mark k → is_own_stream k ≡ false → log s picks replies (mark ∷ marks) ≡ more_of (setting s picks replies) (log s picks replies marks) (Gone k)
+gone-log s picks replies (Ends j) marks k nz g own = by-number (setting s picks replies) (log s picks replies marks) j (j == 0) _ (Rattle.mux_machine.proofs.Lists.test_other j 0 (λ e. nz (sym g ∙ e))) (ap is_own_stream g ∙ own) ∙ ap (λ i. more_of (setting s picks replies) (log s picks replies marks) (Gone i)) g
+gone-log s picks replies (Fails j) marks k nz g own = by-number (setting s picks replies) (log s picks replies marks) j (j == 0) _ (Rattle.mux_machine.proofs.Lists.test_other j 0 (λ e. nz (sym g ∙ e))) (ap is_own_stream g ∙ own) ∙ ap (λ i. more_of (setting s picks replies) (log s picks replies marks) (Gone i)) g
+gone-log s picks replies (WriteFails j) marks k nz g own = by-number (setting s picks replies) (log s picks replies marks) j (j == 0) _ (Rattle.mux_machine.proofs.Lists.test_other j 0 (λ e. nz (sym g ∙ e))) (ap is_own_stream g ∙ own) ∙ ap (λ i. more_of (setting s picks replies) (log s picks replies marks) (Gone i)) g
+gone-log s picks replies mark marks k nz g own = absurd g
+
+-- it isn't the master's own
+pub gone-client : (s : State) (marks : List Mark) (mark : Mark) (k : ℕ) → IsGone mark k → IsAllowed s marks mark → is_own_stream k ≡ false
+gone-client s marks (Ends j) k g al = ap is_own_stream (sym g) ∙ al.1
+gone-client s marks (Fails j) k g al = ap is_own_stream (sym g) ∙ al.1
+gone-client s marks (WriteFails j) k g al = ap is_own_stream (sym g) ∙ al.1
+gone-client s marks mark k g al = absurd g
 
 -- ---- one that is out makes no row
 
@@ -78,7 +85,7 @@ still-gone s new k mark nz g live same out picked given marks closed st al = sub
       let v : StandsFor (picked ++ picks) (given ++ replies) (length picked) st.asks s marks closed = st.at picks replies in
       let rows : List Row = log s (picked ++ picks) (given ++ replies) marks in
       let on : is_ended rows ≡ false = sym (some-end rows) ∙ ap is_some (sym v.rows.ended_is ∙ live) in
-      let is : log s (picked ++ picks) (given ++ replies) (mark ∷ marks) ≡ rows = gone-log s (picked ++ picks) (given ++ replies) mark marks k nz g ∙ no-gone (setting s (picked ++ picks) (given ++ replies)) rows k on (out (picked ++ picks) (given ++ replies) (length picked) st.asks marks closed v al on) in
+      let is : log s (picked ++ picks) (given ++ replies) (mark ∷ marks) ≡ rows = gone-log s (picked ++ picks) (given ++ replies) mark marks k nz g (gone-client s marks mark k g al) ∙ no-gone (setting s (picked ++ picks) (given ++ replies)) rows k on (out (picked ++ picks) (given ++ replies) (length picked) st.asks marks closed v al on) in
       record {
         rows = subst (RowsFit (length picked) st.asks s closed) (sym is) v.rows;
         bytes = subst (BytesFit s (mark ∷ marks) closed) (sym is) record {
@@ -175,7 +182,7 @@ goes-lost s new k mark nz g live here c picked given marks closed st al = record
       let on : is_ended rows ≡ false = sym (some-end rows) ∙ ap is_some (sym v.rows.ended_is ∙ live) in
       let in' : is_out (rows_of k rows) ≡ false = found k (λ x y. (is_lost x.seat.standing ≡ false) × Loses (part s.core x.seat s.up) (part new.core y.seat new.up)) rows s.clients new.clients (λ x y h. h.0) (all-fit rows s.clients v.rows.fit.each) here c.changes in
       let is : log new (picked ++ picks) (given ++ replies) (mark ∷ marks) ≡ lost_row k rows ∷ rows =
-      log-as (picked ++ picks) (given ++ replies) (mark ∷ marks) ∙ (gone-log s (picked ++ picks) (given ++ replies) mark marks k nz g
+      log-as (picked ++ picks) (given ++ replies) (mark ∷ marks) ∙ (gone-log s (picked ++ picks) (given ++ replies) mark marks k nz g (gone-client s marks mark k g al)
       ∙ (one-more s (picked ++ picks) (given ++ replies) rows (Gone k) on (ap not in') ∙ ap (λ r. r ∷ rows) (gone-row s.core.policy s.pid (picked ++ picks) (given ++ replies) k rows))) in
       record {
         rows = subst (RowsFit (length picked) st.asks new closed) (sym is) (rows-lost (length picked) st.asks s new k (picked ++ picks) (given ++ replies) closed rows nz c on here v.rows);

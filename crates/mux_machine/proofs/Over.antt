@@ -2,10 +2,12 @@
 use Rattle.std.proofs.Common.{◌≡◌, ◌≢◌, ℕ, Bool, true, false, List, [], ◌∷◌, ◌++◌, length, drop, map, Some, None, refl, sym, ap, ◌∙◌, subst, inl, inr, cond, append-nil}
 use Rattle.std.specs.Prelude.{◌==◌, is_some}
 use Rattle.std.proofs.lemmas.Bool.Decides.{eqb_tells}
-use Rattle.mux_outside.specs.House.{Asked}
+use Rattle.mux_outside.specs.declared.house_mark.HouseMark.{HouseMark as Asked}
 use Rattle.mux_outside.specs.declared.house.HouseReply.{HouseReply}
 use Rattle.mux_outside.specs.declared.mark.Mark.{Mark}
-use Rattle.mux_outside.specs.declared.mark.Mark.TheVariants.{Accepts, Gets, Ends, Fails, WriteFails}
+use Rattle.mux_outside.specs.declared.mark.Mark.TheVariants.{Accepts, Gets, Ends, Fails, WriteFails, House}
+use Rattle.mux_outside.specs.declared.house_mark.HouseMark.TheVariants.{HouseAnswer}
+use Rattle.mux_history.specs.declared.limits.TheConstants.{HOUSE}
 use Rattle.ssh_fields.specs.Fields.{AreBytes}
 use Rattle.ssh_grammar.specs.Said.{Saying, Body, Payload, BadFraming, InProxy, parse, said}
 use Rattle.mux_history.specs.declared.ended.Ended.{Ended}
@@ -16,7 +18,7 @@ use Rattle.mux_history.specs.Heard.{finishes}
 use Rattle.mux_history.specs.Pending.{pending_up}
 use Rattle.mux_history.specs.Solo.{end_of}
 use Rattle.mux_history.specs.Log.{Setting, bare, is_took, makes_next, makes_row, more_all, more_of, next_row}
-use Rattle.mux_history.specs.Journal.{bytes_in, bytes_of, heard_item, is_accepted, items_in, new_heard, new_sayings, said_item, server_end}
+use Rattle.mux_history.specs.Journal.{bytes_in, bytes_of, heard_item, is_accepted, is_own_stream, unless_own, items_in, new_heard, new_sayings, said_item, server_end}
 use Rattle.mux_clients.specs.State.{ClientState}
 use Rattle.mux_clients.specs.Among.{EachFits}
 use Rattle.mux_clients.specs.Asked.{asked_of}
@@ -72,13 +74,25 @@ by-stream : (b : Bool) (xs ys : List Item) → NoneTaken xs → NoneTaken ys →
 by-stream true xs ys m n = m
 by-stream false xs ys m n = n
 
+none-own : (k : ℕ) (xs : List Item) → NoneTaken xs → NoneTaken (unless_own k xs)
+none-own k xs n = elim (is_own_stream k) as (λ b. NoneTaken (elim b as (λ _. List Item) [ true ↦ [] | false ↦ xs ])) [ true ↦ tt | false ↦ n ]
+
+-- a stream that isn't the master's own gives its items
+pub unless-not : (k : ℕ) (xs : List Item) → is_own_stream k ≡ false → unless_own k xs ≡ xs
+unless-not k xs e = ap (λ b. elim b as (λ _. List Item) [ true ↦ [] | false ↦ xs ]) e
+
+-- what the house said at a mark that isn't its words
+pub none-said-by : (j : ℕ) → (elim (HOUSE == j) as (λ _. List ℕ) [ true ↦ [] | false ↦ [] ]) ≡ []
+none-said-by j = elim (HOUSE == j) as (λ b. (elim b as (λ _. List ℕ) [ true ↦ [] | false ↦ [] ]) ≡ []) [ true ↦ refl | false ↦ refl ]
+
 none-taken : (before : List Mark) (mark : Mark) → IsEvent mark → NoneTaken (items_in before mark)
 none-taken before (Accepts k) h = (refl, tt)
-none-taken before (Gets k bytes) h = by-stream (k == 0) (new_heard (bytes_of 0 before) (bytes_of 0 before ++ bytes)) (new_sayings k (bytes_of k before) (bytes_of k before ++ bytes))
-    (none-heard (drop (length (parse InProxy (bytes_of 0 before)).says) (parse InProxy (bytes_of 0 before ++ bytes)).says)) (none-said k (drop (length (said (bytes_of k before))) (said (bytes_of k before ++ bytes))))
-none-taken before (Ends k) h = by-stream (k == 0) (server_end (parse InProxy (bytes_of 0 before)).rest ∷ []) (Gone k ∷ []) (none-end (parse InProxy (bytes_of 0 before)).rest) (refl, tt)
-none-taken before (Fails k) h = by-stream (k == 0) (ServerFailed ∷ []) (Gone k ∷ []) (refl, tt) (refl, tt)
-none-taken before (WriteFails k) h = by-stream (k == 0) (ServerFailed ∷ []) (Gone k ∷ []) (refl, tt) (refl, tt)
+none-taken before (Gets k bytes) h = by-stream (k == 0) (new_heard (bytes_of 0 before) (bytes_of 0 before ++ bytes)) (unless_own k (new_sayings k (bytes_of k before) (bytes_of k before ++ bytes)))
+    (none-heard (drop (length (parse InProxy (bytes_of 0 before)).says) (parse InProxy (bytes_of 0 before ++ bytes)).says)) (none-own k _ (none-said k (drop (length (said (bytes_of k before))) (said (bytes_of k before ++ bytes)))))
+none-taken before (Ends k) h = by-stream (k == 0) (server_end (parse InProxy (bytes_of 0 before)).rest ∷ []) (unless_own k (Gone k ∷ [])) (none-end (parse InProxy (bytes_of 0 before)).rest) (none-own k (Gone k ∷ []) (refl, tt))
+none-taken before (Fails k) h = by-stream (k == 0) (ServerFailed ∷ []) (unless_own k (Gone k ∷ [])) (refl, tt) (none-own k (Gone k ∷ []) (refl, tt))
+none-taken before (WriteFails k) h = by-stream (k == 0) (ServerFailed ∷ []) (unless_own k (Gone k ∷ [])) (refl, tt) (none-own k (Gone k ∷ []) (refl, tt))
+none-taken before (House (HouseAnswer k id given)) h = (refl, tt)
 none-taken before mark h = absurd h
 
 -- ---- strangers
@@ -105,13 +119,14 @@ still-strange s marks (Gets k bytes) j h al a = (
 still-strange s marks (Ends k) j h al a = (a, λ nz. refl)
 still-strange s marks (Fails k) j h al a = (a, λ nz. refl)
 still-strange s marks (WriteFails k) j h al a = (a, λ nz. refl)
+still-strange s marks (House (HouseAnswer k id given)) j h al a = (a, λ nz. none-said-by j)
 still-strange s marks mark j h al a = absurd h
 
 pub strange-on : (s : State) (marks : List Mark) (closed : List ℕ) (mark : Mark) (j : ℕ) → IsEvent mark → IsAllowed s marks mark → ((j : ℕ) → is_accepted j marks ≡ false → IsStrange s marks closed j) → is_accepted j (mark ∷ marks) ≡ false → IsStrange s (mark ∷ marks) closed j
 strange-on s marks closed mark j h al was a =
     let q = still-strange s marks mark j h al a in
     let v : IsStrange s marks closed j = was j q.0 in
-    record { not_here = v.not_here; not_closed_yet = v.not_closed_yet; no_bytes = λ nz. ap (λ b. bytes_of j marks ++ b) (q.1 nz) ∙ (append-nil (bytes_of j marks) ∙ v.no_bytes nz) }
+    record { not_here = v.not_here; not_closed_yet = v.not_closed_yet; no_bytes = λ nz. ap (λ b. bytes_of j marks ++ b) (q.1 nz.0) ∙ (append-nil (bytes_of j marks) ∙ v.no_bytes nz) }
 
 -- ---- what comes is bytes
 
@@ -127,6 +142,7 @@ bytes-at s marks (Gets k bytes) j h al = by_stream (k == j)
     by_stream true = al.1
     by_stream false = tt
 bytes-at s marks (Ends k) j h al = tt
+bytes-at s marks (House (HouseAnswer k id given)) j h al = subst AreBytes (sym (none-said-by j)) tt
 bytes-at s marks (Fails k) j h al = tt
 bytes-at s marks (WriteFails k) j h al = tt
 bytes-at s marks mark j h al = absurd h

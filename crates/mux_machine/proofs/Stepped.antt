@@ -1,9 +1,10 @@
 -- What the code of each event does is what the laws take.
 use Rattle.std.proofs.Common.{◌≡◌, ◌≢◌, ℕ, Bool, true, false, List, [], ◌∷◌, Option, Some, None, refl, sym, ap, ◌∙◌, subst, inl, inr, length, Result, Ok, Err, OnOk}
-use Rattle.mux_outside.specs.House.{Asked}
+use Rattle.mux_outside.specs.declared.house_mark.HouseMark.{HouseMark as Asked}
 use Rattle.mux_outside.specs.declared.house.HouseReply.{HouseReply}
 use Rattle.mux_outside.specs.declared.mark.Mark.{Mark}
-use Rattle.mux_outside.specs.declared.mark.Mark.TheVariants.{Accepts, Gets, Ends, Fails, WriteFails}
+use Rattle.mux_outside.specs.declared.mark.Mark.TheVariants.{Accepts, Gets, Ends, Fails, WriteFails, House}
+use Rattle.mux_outside.specs.declared.house_mark.HouseMark.TheVariants.{HouseAnswer}
 use Rattle.mux_history.specs.declared.broke.Break.TheVariants as broke
 use Rattle.mux_history.specs.declared.ended.Ended.{Ended}
 use Rattle.mux_history.specs.declared.ended.Ended.TheVariants as ended
@@ -12,7 +13,7 @@ use Rattle.mux_clients.specs.Server.{stream_end}
 use Rattle.mux_machine.specs.declared.event.Event.{Event}
 use Rattle.mux_machine.specs.declared.event.Event.TheVariants as event
 use Rattle.mux_machine.specs.Events.{Tells}
-use Rattle.mux_machine.specs.Moves.{GainsAt, HeardAt, IsEvent, IsGone, LosesAt, not_lost}
+use Rattle.mux_machine.specs.Moves.{AnsweredAt, GainsAt, HeardAt, IsEvent, IsGone, LosesAt, not_lost}
 use Rattle.mux_machine.specs.State.{State, entered, numbers, over, server_cause}
 use Rattle.mux_machine.specs.Stands.{GoesAlone, GoesOn}
 use Rattle.mux_machine.specs.Steps.{EntersAt, is_heard, is_served}
@@ -22,6 +23,7 @@ use Rattle.mux_machine.proofs.Gains.{goes-gained}
 use Rattle.mux_machine.proofs.Hearing.{goes-heard}
 use Rattle.mux_machine.proofs.Looked.{none-so, so-here}
 use Rattle.mux_machine.proofs.Loses.{goes-lost}
+use Rattle.mux_machine.proofs.Replied.{goes-replied, goes-unreplied}
 use Rattle.mux_machine.proofs.Over.{goes-ended, goes-failed, goes-over, goes-unwritten}
 use Rattle.mux_machine.proofs.Still.{goes-unheard, goes-unlost}
 
@@ -40,12 +42,18 @@ pub record Gained (May : HouseReply → Type 0) (before told : Option (List Aske
   pub policy : new.core.policy ≡ s.core.policy
   pub numbers_are : numbers new.clients ≡ numbers s.clients
 
+-- the house replied to a client
+pub record Replied (s new : State) (k id : ℕ) (given : HouseReply) : Type 0 where
+  pub answers : is_served s.clients k ≡ true → AnsweredAt s new k id given
+  pub stays : is_served s.clients k ≡ false → new ≡ s
+
 -- an event, of those at which the house isn't asked
 abbrev pub DidAlone : State → State → Event → Type 0
 DidAlone s new (event.Accepted k) = EntersAt s new k
 DidAlone s new (event.FromClient k bytes) = ⊥
 DidAlone s new (event.ClientEnd k) = Lost s new k
 DidAlone s new (event.ClientFailed k) = Lost s new k
+DidAlone s new (event.HouseSays k id given) = Replied s new k id given
 DidAlone s new (event.FromServer bytes) = HeardAt s new bytes.now
 DidAlone s new event.ServerEnd = new ≡ over s (server_cause s)
 DidAlone s new event.ServerFailed = new ≡ over s ended.ServerFailed
@@ -88,6 +96,24 @@ lost-pid s new k h = by_served (is_served s.clients k) refl
     by_served true e = ((h.loses e).pid, (h.loses e).policy)
     by_served false e = (ap (λ (t : State). t.pid) (h.stays e), ap (λ (t : State). t.core.policy) (h.stays e))
 
+-- ---- a client to which the house replies
+
+replied-goes : (s new : State) (k id : ℕ) (given : HouseReply) → k ≢ 0 → s.ended ≡ None → Replied s new k id given → GoesAlone s new (House (HouseAnswer k id given))
+replied-goes s new k id given nz live h = by_served (is_served s.clients k) refl
+  where
+    by_served : (b : Bool) → is_served s.clients k ≡ b → GoesAlone s new (House (HouseAnswer k id given))
+    by_served true e = goes-replied s new k id given nz live (so-here not_lost k s.clients e) (h.answers e)
+    by_served false e = λ picked used marks closed st al.
+        subst (λ (t : State). Rattle.mux_machine.specs.Stands.Stands picked used t (House (HouseAnswer k id given) ∷ marks) closed) (sym (h.stays e))
+        (goes-unreplied s k id given live (none-so not_lost k s.clients (st.at [] []).rows.fit.apart e) picked used marks closed st al)
+
+replied-pid : (s new : State) (k id : ℕ) (given : HouseReply) → Replied s new k id given → (new.pid ≡ s.pid) × (new.core.policy ≡ s.core.policy)
+replied-pid s new k id given h = by_served (is_served s.clients k) refl
+  where
+    by_served : (b : Bool) → is_served s.clients k ≡ b → (new.pid ≡ s.pid) × (new.core.policy ≡ s.core.policy)
+    by_served true e = ((h.answers e).pid, (h.answers e).policy)
+    by_served false e = (ap (λ (t : State). t.pid) (h.stays e), ap (λ (t : State). t.core.policy) (h.stays e))
+
 -- ---- a client that says something
 
 pub gained-goes : (May : HouseReply → Type 0) (before told : Option (List Asked)) (s new : State) (k : ℕ) (bytes : List ℕ) → k ≢ 0 → s.ended ≡ None → Gained May before told s new k bytes → GoesOn May before told s new (Gets k bytes)
@@ -113,6 +139,7 @@ alone s new (event.ClientFailed k) mark live d t = elim t.1 [
   | inl m ↦ subst (GoesAlone s new) (sym m) (lost-goes s new k (Fails k) t.0 refl live d)
   | inr m ↦ subst (GoesAlone s new) (sym m) (lost-goes s new k (WriteFails k) t.0 refl live d)
 ]
+alone s new (event.HouseSays k id given) mark live d t = subst (GoesAlone s new) (sym t.1) (replied-goes s new k id given t.0 live d)
 alone s new (event.FromServer bytes) mark live d t = subst (GoesAlone s new) (sym t) (goes-heard s new bytes.now live d)
 alone s new event.ServerEnd mark live d t = subst (GoesAlone s new) (sym t) (over-goes s new (server_cause s) (Ends 0) d (goes-ended s live))
 alone s new event.ServerFailed mark live d t = elim t [
@@ -130,6 +157,7 @@ same-run s new (event.Accepted k) d = record { pid = entered-pid s new k d; poli
 same-run s new (event.FromClient k bytes) d = absurd d
 same-run s new (event.ClientEnd k) d = record { pid = (lost-pid s new k d).0; policy = (lost-pid s new k d).1 }
 same-run s new (event.ClientFailed k) d = record { pid = (lost-pid s new k d).0; policy = (lost-pid s new k d).1 }
+same-run s new (event.HouseSays k id given) d = record { pid = (replied-pid s new k id given d).0; policy = (replied-pid s new k id given d).1 }
 same-run s new (event.FromServer bytes) d = record { pid = d.pid; policy = d.piece.hearing.policy }
 same-run s new event.ServerEnd d = record { pid = ap (λ (t : State). t.pid) d; policy = ap (λ (t : State). t.core.policy) d }
 same-run s new event.ServerFailed d = record { pid = ap (λ (t : State). t.pid) d; policy = ap (λ (t : State). t.core.policy) d }
@@ -146,6 +174,10 @@ asking-goes May before told s new e mark live d t = absurd d
 pub lost-on : {T E : Type 0} (r : Result T E) (s new : State) (k : ℕ) → OnOk r (is_served s.clients k ≡ true → LosesAt s new k) → OnOk r (is_served s.clients k ≡ false → new ≡ s) → OnOk r (Lost s new k)
 lost-on (Ok x) s new k loses stays = record { loses = loses; stays = stays }
 lost-on (Err e) s new k loses stays = tt
+
+pub replied-on : {T E : Type 0} (r : Result T E) (s new : State) (k id : ℕ) (given : HouseReply) → OnOk r (is_served s.clients k ≡ true → AnsweredAt s new k id given) → OnOk r (is_served s.clients k ≡ false → new ≡ s) → OnOk r (Replied s new k id given)
+replied-on (Ok x) s new k id given answers stays = record { answers = answers; stays = stays }
+replied-on (Err e) s new k id given answers stays = tt
 
 pub gained-on : {T E : Type 0} (r : Result T E) (May : HouseReply → Type 0) (before told : Option (List Asked)) (s new : State) (k : ℕ) (bytes : List ℕ) → OnOk r (is_heard s.clients k ≡ true → GainsAt May before told s new k bytes) → OnOk r (is_heard s.clients k ≡ false → new ≡ s) → (is_heard s.clients k ≡ false → told ≡ before) → OnOk r (new.core.policy ≡ s.core.policy) → OnOk r (numbers new.clients ≡ numbers s.clients)
     → OnOk r (Gained May before told s new k bytes)
@@ -166,6 +198,7 @@ tells-event (event.Accepted k) mark t = subst IsEvent (sym t) tt
 tells-event (event.FromClient k bytes) mark t = subst IsEvent (sym t.1) tt
 tells-event (event.ClientEnd k) mark t = subst IsEvent (sym t.1) tt
 tells-event (event.ClientFailed k) mark t = elim t.1 [ inl m ↦ subst IsEvent (sym m) tt | inr m ↦ subst IsEvent (sym m) tt ]
+tells-event (event.HouseSays k id given) mark t = subst IsEvent (sym t.1) tt
 tells-event (event.FromServer bytes) mark t = subst IsEvent (sym t) tt
 tells-event event.ServerEnd mark t = subst IsEvent (sym t) tt
 tells-event event.ServerFailed mark t = elim t [ inl m ↦ subst IsEvent (sym m) tt | inr m ↦ subst IsEvent (sym m) tt ]

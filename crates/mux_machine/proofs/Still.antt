@@ -4,7 +4,7 @@ use Rattle.std.specs.Prelude.{◌==◌, is_some}
 use Rattle.std.proofs.lemmas.Bool.{eq-eqb, eqb-true}
 use Rattle.ssh_grammar.specs.Said.{InControl, Parsed, Saying, Stopped, parse, said}
 use Rattle.ssh_grammar.proofs.Parses.{parse-append}
-use Rattle.mux_outside.specs.House.{Asked}
+use Rattle.mux_outside.specs.declared.house_mark.HouseMark.{HouseMark as Asked}
 use Rattle.mux_outside.specs.Streams.{among}
 use Rattle.mux_outside.specs.declared.house.HouseReply.{HouseReply}
 use Rattle.mux_outside.specs.declared.mark.Mark.{Mark}
@@ -18,7 +18,7 @@ use Rattle.mux_clients.specs.State.{ClientState}
 use Rattle.mux_clients.specs.Stands.{is_lost, is_read, mode_of}
 use Rattle.mux_clients.specs.Among.{EachFits, is_present}
 use Rattle.mux_clients.specs.Asked.{asked_of}
-use Rattle.mux_clients.proofs.Asks.{tells_none}
+use Rattle.mux_clients.proofs.Heeding.{tells_none}
 use Rattle.mux_clients.proofs.Stood.{out_is}
 use Rattle.mux_machine.specs.Moves.{IsGone, NoneStands, not_lost}
 use Rattle.mux_machine.specs.State.{State}
@@ -165,7 +165,7 @@ goes-unheard May told s k bytes nz none unread picked given marks closed st al =
         let v = stood picks replies in
         let rows : List Row = log s (picked ++ picks) (given ++ replies) marks in
         let live : is_ended rows ≡ false = sym (some-end rows) ∙ ap is_some (sym v.rows.ended_is ∙ none) in
-        let is : log s (picked ++ picks) (given ++ replies) (Gets k bytes ∷ marks) ≡ rows = gets-log s (picked ++ picks) (given ++ replies) k bytes marks nz ∙ says-nothing (length picked) st.asks s (picked ++ picks) (given ++ replies) marks closed rows k bytes live (al.0 nz) unread v.rows v.bytes in
+        let is : log s (picked ++ picks) (given ++ replies) (Gets k bytes ∷ marks) ≡ rows = gets-log s (picked ++ picks) (given ++ replies) k bytes marks nz al.2 ∙ says-nothing (length picked) st.asks s (picked ++ picks) (given ++ replies) marks closed rows k bytes live (al.0 nz) unread v.rows v.bytes in
         subst (λ q. log s q r (Gets k bytes ∷ marks) ≡ log s q r marks) (sym e.0) (subst (λ q. log s (picked ++ picks) q (Gets k bytes ∷ marks) ≡ log s (picked ++ picks) q marks) (sym e.1) is)
 
     stands : Stands picked given s (Gets k bytes ∷ marks) closed
@@ -195,7 +195,7 @@ pub goes-unlost : (s : State) (k : ℕ) (mark : Mark) → k ≢ 0 → IsGone mar
 goes-unlost s k mark nz g live none = still-gone s s k mark nz g live refl (λ picks replies taken dn marks closed v al on. lost-out taken dn s marks closed (log s picks replies marks) k on (accepted marks mark al g) none v.rows v.bytes)
   where
     accepted : (marks : List Mark) (mark : Mark) → IsAllowed s marks mark → IsGone mark k → is_accepted k marks ≡ true
-    accepted marks (Rattle.mux_outside.specs.declared.mark.Mark.TheVariants.Ends j) al g = ap (λ i. is_accepted i marks) (sym g) ∙ al (λ z. nz (sym g ∙ z))
-    accepted marks (Rattle.mux_outside.specs.declared.mark.Mark.TheVariants.Fails j) al g = ap (λ i. is_accepted i marks) (sym g) ∙ al (λ z. nz (sym g ∙ z))
-    accepted marks (Rattle.mux_outside.specs.declared.mark.Mark.TheVariants.WriteFails j) al g = ap (λ i. is_accepted i marks) (sym g) ∙ al (λ z. nz (sym g ∙ z))
+    accepted marks (Rattle.mux_outside.specs.declared.mark.Mark.TheVariants.Ends j) al g = ap (λ i. is_accepted i marks) (sym g) ∙ al.0 (λ z. nz (sym g ∙ z))
+    accepted marks (Rattle.mux_outside.specs.declared.mark.Mark.TheVariants.Fails j) al g = ap (λ i. is_accepted i marks) (sym g) ∙ al.0 (λ z. nz (sym g ∙ z))
+    accepted marks (Rattle.mux_outside.specs.declared.mark.Mark.TheVariants.WriteFails j) al g = ap (λ i. is_accepted i marks) (sym g) ∙ al.0 (λ z. nz (sym g ∙ z))
     accepted marks mark al g = absurd g

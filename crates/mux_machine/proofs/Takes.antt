@@ -3,7 +3,7 @@ use Rattle.std.proofs.Common.{◌≡◌, ◌≢◌, ℕ, Bool, true, false, ◌|
 use Rattle.std.specs.Prelude.{◌==◌}
 use Rattle.std.proofs.lemmas.Bool.{eqb-true, eq-eqb}
 use Rattle.std.proofs.lemmas.Bool.Decides.{eqb_tells}
-use Rattle.mux_outside.specs.House.{Asked}
+use Rattle.mux_outside.specs.declared.house_mark.HouseMark.{HouseMark as Asked}
 use Rattle.mux_outside.specs.Streams.{among}
 use Rattle.mux_outside.specs.declared.house.HouseReply.{HouseReply}
 use Rattle.mux_outside.specs.declared.mark.Mark.{Mark}
@@ -14,7 +14,7 @@ use Rattle.mux_history.specs.Pending.{pending_down, pending_up}
 use Rattle.mux_history.specs.Said.{silent}
 use Rattle.mux_history.specs.Settings.{by_lists}
 use Rattle.mux_history.specs.Log.{Setting, bare, makes_next, more_of, next_row}
-use Rattle.mux_history.specs.Journal.{bytes_of}
+use Rattle.mux_history.specs.Journal.{bytes_of, is_own_stream}
 use Rattle.mux_core.specs.Stands as core
 use Rattle.mux_core.proofs.Idle.{idle-stays}
 use Rattle.mux_clients.specs.State.{ClientState}
@@ -39,8 +39,8 @@ took_row t n = bare (Took t n) t silent
 pub more-yes : (s : Setting) (rows : List Row) (item : Item) → makes_next rows item ≡ true → more_of s rows item ≡ next_row s rows item ∷ rows
 more-yes s rows item e = ap (λ b. elim b as (λ _. List Row) [ false ↦ rows | true ↦ next_row s rows item ∷ rows ]) e
 
-took-log : (s : State) (picks : List ℕ) (replies : List HouseReply) (t : ℕ) (bytes : List ℕ) (marks : List Mark) → log s picks replies (Takes t bytes ∷ marks) ≡ took_row t (length bytes) ∷ log s picks replies marks
-took-log s picks replies t bytes marks = more-yes (setting s picks replies) (log s picks replies marks) (Took t (length bytes)) (by_end (is_ended (log s picks replies marks)))
+took-log : (s : State) (picks : List ℕ) (replies : List HouseReply) (t : ℕ) (bytes : List ℕ) (marks : List Mark) → is_own_stream t ≡ false → log s picks replies (Takes t bytes ∷ marks) ≡ took_row t (length bytes) ∷ log s picks replies marks
+took-log s picks replies t bytes marks own = ap (λ b. Rattle.mux_history.specs.Log.more_all (setting s picks replies) (log s picks replies marks) (elim b as (λ _. List Rattle.mux_history.specs.Rows.Item) [ true ↦ [] | false ↦ Took t (length bytes) ∷ [] ])) own ∙ more-yes (setting s picks replies) (log s picks replies marks) (Took t (length bytes)) (by_end (is_ended (log s picks replies marks)))
   where
     by_end : (b : Bool) → (elim b as (λ _. Bool) [ true ↦ true | false ↦ true ]) ≡ true
     by_end true = refl
@@ -238,9 +238,9 @@ goes-took s t n bytes e picked given marks closed st here = record {
       let same : Same s (taken s t n) = taken-same s t n in
       let rows : List Row = log s (picked ++ picks) (given ++ replies) marks in
       let is : log (taken s t n) (picked ++ picks) (given ++ replies) (Takes t bytes ∷ marks) ≡ took_row t n ∷ rows =
-      log-same s (taken s t n) same (picked ++ picks) (given ++ replies) (Takes t bytes ∷ marks) ∙ (took-log s (picked ++ picks) (given ++ replies) t bytes marks ∙ ap (λ m. took_row t m ∷ rows) e) in
+      log-same s (taken s t n) same (picked ++ picks) (given ++ replies) (Takes t bytes ∷ marks) ∙ (took-log s (picked ++ picks) (given ++ replies) t bytes marks here.1 ∙ ap (λ m. took_row t m ∷ rows) e) in
       record {
-        rows = subst (RowsFit (length picked) st.asks (taken s t n) closed) (sym is) (rows-took (length picked) st.asks s t n closed rows here v.rows);
+        rows = subst (RowsFit (length picked) st.asks (taken s t n) closed) (sym is) (rows-took (length picked) st.asks s t n closed rows here.0 v.rows);
         bytes = subst (BytesFit (taken s t n) (Takes t bytes ∷ marks) closed) (sym is) (bytes-took s t n bytes marks closed rows v.bytes);
       };
 }

@@ -38,7 +38,7 @@ use Rattle.mux_clients.proofs.Hearings.{heard-goes}
 -- ---- a row
 
 abbrev pub IsUnfailed : Fate → Type 0
-IsUnfailed (End cause) = (cause ≢ ended.ServerFailed) × (cause ≢ ended.Spent)
+IsUnfailed (End cause) = (cause ≢ ended.ServerFailed) × (cause ≢ ended.Spent) × ((index : ℕ) → cause ≢ ended.StartRefused index)
 IsUnfailed fate = Unit {0}
 
 with-full : (f : Fate) (full : Option Why) → IsUnfailed f → IsUnfailed (fate_with f full)
@@ -148,12 +148,16 @@ fine-unread : (fault : BadControl) → IsFine (first_unread fault)
 fine-unread (bad.Unknown kind id) = tt
 fine-unread fault = tt
 
+fine-maybe : (o : Option Rattle.ssh_grammar.specs.Control.Answer) → IsFine (Rattle.mux_history.specs.Controls.answers_maybe o)
+fine-maybe None = tt
+fine-maybe (Some answer) = tt
+
 fine-ask : (opening : Bool) (id : ℕ) (given : Option HouseReply) → IsFine (Rattle.mux_history.specs.Controls.answers_ask opening id given)
 fine-ask opening id None = tt
-fine-ask opening id (Some reply) = tt
+fine-ask opening id (Some reply) = fine-maybe (Rattle.mux_history.specs.Controls.house_answer opening id reply)
 
 fine-later : (pid k : ℕ) (given : Option HouseReply) (c : Control) → IsFine (later_control pid k given c)
-fine-later pid k given (Terminate id) = (λ e. cc, λ e. cc)
+fine-later pid k given (Terminate id) = (λ e. cc, λ e. cc, λ index e. cc)
 fine-later pid k given (OpenForward id what) = fine-ask true id given
 fine-later pid k given (CloseForward id what) = fine-ask false id given
 fine-later pid k given c = tt
@@ -214,24 +218,24 @@ master-fine p = by_read (read_gist p)
 payload-unfailed : (rows : List Row) (p : List ℕ) (d : Dest) → IsUnfailed (heard_row rows p d).fate
 payload-unfailed rows p ToMaster = master-fine p
 payload-unfailed rows p (ToClient k) = row-unfailed (Heard p) k (heard_for (rows_of k rows) p) (rows_of k rows) (subst IsUnfailed (sym (heard-goes (rows_of k rows) p)) tt)
-payload-unfailed rows p Disconnects = (λ e. cc, λ e. cc)
-payload-unfailed rows p (Breaks cause) = (λ e. cc, λ e. cc)
+payload-unfailed rows p Disconnects = (λ e. cc, λ e. cc, λ index e. cc)
+payload-unfailed rows p (Breaks cause) = (λ e. cc, λ e. cc, λ index e. cc)
 
 heard-unfailed : (policy : Policy) (pid : ℕ) (picks : List ℕ) (given : List HouseReply) (x : Saying) (rows : List Row) → IsUnfailed (next_row (by_lists policy pid picks given) rows (heard_item x)).fate
 heard-unfailed policy pid picks given (Body p) rows = payload-unfailed rows p (dest rows p)
 heard-unfailed policy pid picks given (Payload p) rows = payload-unfailed rows p (dest rows p)
-heard-unfailed policy pid picks given (BadFraming fault) rows = (λ e. cc, λ e. cc)
+heard-unfailed policy pid picks given (BadFraming fault) rows = (λ e. cc, λ e. cc, λ index e. cc)
 
 -- ---- the end of the run
 
 abbrev pub NotFailed : Option Ended → Type 0
-NotFailed o = (o ≢ Some ended.ServerFailed) × (o ≢ Some ended.Spent)
+NotFailed o = (o ≢ Some ended.ServerFailed) × (o ≢ Some ended.Spent) × ((index : ℕ) → o ≢ Some (ended.StartRefused index))
 
 abbrev fate_end : Option Ended → Fate → Option Ended
 fate_end before fate = elim fate as (λ _. Option Ended) [ End cause ↦ Some cause | Goes ↦ before | Refused ↦ before | Drop why ↦ before ]
 
 fate-unfailed : (before : Option Ended) (f : Fate) → IsUnfailed f → NotFailed before → NotFailed (fate_end before f)
-fate-unfailed before (End cause) h n = (λ t. h.0 (let s : Some cause ≡ Some ended.ServerFailed = t in cc), λ t. h.1 (let s : Some cause ≡ Some ended.Spent = t in cc))
+fate-unfailed before (End cause) h n = (λ t. h.0 (let s : Some cause ≡ Some ended.ServerFailed = t in cc), λ t. h.1 (let s : Some cause ≡ Some ended.Spent = t in cc), λ index t. h.2 index (let s : Some cause ≡ Some (ended.StartRefused index) = t in cc))
 fate-unfailed before Goes h n = n
 fate-unfailed before Refused h n = n
 fate-unfailed before (Drop cause) h n = n

@@ -4,7 +4,7 @@ use Rattle.std.specs.Prelude.{◌==◌, MatchBool}
 use Rattle.std.specs.List.{AllByRecursion}
 use Rattle.std.proofs.lemmas.List.{take_at}
 use Rattle.proxy_frames.specs.State.{QueueState}
-use Rattle.mux_outside.specs.House.{Asked}
+use Rattle.mux_outside.specs.declared.house_mark.HouseMark.{HouseMark as Asked}
 use Rattle.mux_outside.specs.declared.house.HouseReply.{HouseReply}
 use Rattle.mux_history.specs.declared.why.Why.{Why}
 use Rattle.mux_history.specs.declared.ended.Ended.{Ended}
@@ -13,14 +13,15 @@ use Rattle.mux_core.specs.State.{CoreState}
 use Rattle.mux_clients.specs.declared.heard.Heard.{Heard}
 use Rattle.mux_clients.specs.State.{ClientState, part}
 use Rattle.mux_clients.specs.Stands.{is_lost, is_read}
-use Rattle.mux_clients.specs.Among.{ChangesOne, is_present}
+use Rattle.mux_clients.specs.Among.{ChangesOne, KeepReading, is_present}
+use Rattle.mux_clients.specs.Answering.{AnswersAt, AnswersNoting}
 use Rattle.mux_clients.specs.Entering.{new_client}
 use Rattle.mux_clients.specs.Losing.{Loses, LosesIn, loss_between, loss_in}
 use Rattle.mux_clients.specs.Pieces.{HearsIn, HearsPiece}
 use Rattle.mux_clients.specs.Room.{HasRoom, served_in}
 use Rattle.mux_clients.specs.Server.{HearsBytes, ServerState}
 use Rattle.mux_clients.proofs.Runs.{read-here}
-use Rattle.mux_machine.specs.Moves.{GainsAt, HeardAt, LosesAt, not_lost}
+use Rattle.mux_machine.specs.Moves.{AnsweredAt, GainsAt, HeardAt, LosesAt, not_lost}
 use Rattle.mux_machine.specs.State.{State, entered, in_client, numbers}
 use Rattle.mux_machine.specs.Steps.{EntersAt, Receives, is_heard, is_served, waiting_of}
 use Rattle.mux_machine.proofs.Lists.{true_false}
@@ -81,6 +82,48 @@ lose-written s parts new k n lent cs shown core up ls ws view is p =
       ended = refl;
       changes = subst (λ (l : List ClientState). ChangesOne k (λ x y. (is_lost x.seat.standing ≡ false) × Loses (part parts.core x.seat parts.up) (part core y.seat up)) parts.clients l) (sym whole) two;
       leaving = p.leaves;
+      waiting = p.waits ∙ ap (waiting_of up.waiting) p.shows;
+    })
+
+-- ---- a client to which the house replies
+
+replies-of : (k id : ℕ) (given : HouseReply) (noted : List (ℕ × Option Why)) (old new : CoreState) (up up' : QueueState) (x y : ClientState) → not_lost x.seat.standing ≡ true → AnswersNoting k id given noted old new up up' x y → (is_lost x.seat.standing ≡ false) × AnswersNoting k id given noted old new up up' x y
+replies-of k id given noted old new up up' x y e h = (by_lost (is_lost x.seat.standing) refl, h)
+  where
+    by_lost : (b : Bool) → is_lost x.seat.standing ≡ b → is_lost x.seat.standing ≡ false
+    by_lost true t = true_false (sym (sym (ap not t) ∙ e))
+    by_lost false t = t
+
+pub record AnswerParts (parts : State) (k id : ℕ) (given : HouseReply) (n : ℕ) (lent cs shown : List ClientState) (core : CoreState) (up : QueueState) (ls : List (ℕ × Option Why)) (ws : List ℕ) : Type 0 where
+  pub served : is_served parts.clients k ≡ true
+  pub lends : lent ≡ parts.clients
+  pub all : n ≡ length parts.clients
+  pub same : length cs ≡ length lent
+  pub shows : shown ≡ take n (cs ++ drop (length cs) parts.clients)
+  pub policy : core.policy ≡ parts.core.policy
+  pub answers : AnswersAt k id given parts.leaving ls parts.core core parts.up up lent cs
+  pub waits : ws ≡ waiting_of up.waiting shown
+
+pub answer-written : (s parts new : State) (k id : ℕ) (given : HouseReply) (n : ℕ) (lent cs shown : List ClientState) (core : CoreState) (up : QueueState) (ls : List (ℕ × Option Why)) (ws : List ℕ) → parts ≡ s → new ≡ lose_new parts n cs core up ls ws → AnswerParts parts k id given n lent cs shown core up ls ws → AnsweredAt s new k id given
+answer-written s parts new k id given n lent cs shown core up ls ws view is p =
+    let whole : take n (cs ++ drop (length cs) parts.clients) ≡ cs = whole-written n cs parts.clients p.all (p.same ∙ ap length p.lends) in
+    let here : is_present parts.clients k ≡ true = so-here not_lost k parts.clients p.served in
+    let a : AnswersAt k id given parts.leaving ls parts.core core parts.up up parts.clients cs = subst (λ (l : List ClientState). AnswersAt k id given parts.leaving ls parts.core core parts.up up l cs) p.lends p.answers in
+    let two : ChangesOne k (λ x y. (is_lost x.seat.standing ≡ false) × AnswersNoting k id given a.noted parts.core core parts.up up x y) parts.clients cs =
+    changes-as k (λ x y. (not_lost x.seat.standing ≡ true) × AnswersNoting k id given a.noted parts.core core parts.up up x y) (λ x y. (is_lost x.seat.standing ≡ false) × AnswersNoting k id given a.noted parts.core core parts.up up x y) parts.clients cs
+    (λ x y r. replies-of k id given a.noted parts.core core parts.up up x y r.0 r.1) (changes-so not_lost k (AnswersNoting k id given a.noted parts.core core parts.up up) parts.clients cs p.served (a.changes here)) in
+    subst (λ (x : State). AnsweredAt x new k id given) view
+    (subst (λ (y : State). AnsweredAt parts y k id given) (sym is) record {
+      pid = refl;
+      policy = p.policy;
+      server = refl;
+      refused = refl;
+      listening = refl;
+      ended = refl;
+      noted = a.noted;
+      leaving = a.leaves;
+      changes = subst (λ (l : List ClientState). ChangesOne k (λ x y. (is_lost x.seat.standing ≡ false) × AnswersNoting k id given a.noted parts.core core parts.up up x y) parts.clients l) (sym whole) two;
+      reading = subst (λ (l : List ClientState). KeepReading parts.clients l) (sym whole) a.reading;
       waiting = p.waits ∙ ap (waiting_of up.waiting) p.shows;
     })
 

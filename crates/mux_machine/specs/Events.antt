@@ -5,9 +5,10 @@ use Rattle.mux_history.specs.declared.ended.Ended.TheVariants as ended
 use Rattle.mux_history.specs.declared.why.Why.{Why}
 use Rattle.mux_outside.specs.declared.house.HouseReply.{HouseReply}
 use Rattle.mux_outside.specs.declared.mark.Mark.{Mark}
-use Rattle.mux_outside.specs.declared.mark.Mark.TheVariants.{Accepts, Gets, Ends, Fails, WriteFails}
+use Rattle.mux_outside.specs.declared.mark.Mark.TheVariants.{Accepts, Gets, Ends, Fails, WriteFails, House}
+use Rattle.mux_outside.specs.declared.house_mark.HouseMark.TheVariants.{HouseAnswer}
 use Rattle.mux_machine.specs.declared.event.Event.{Event}
-use Rattle.mux_machine.specs.declared.event.Event.TheVariants.{Accepted, FromClient, ClientEnd, ClientFailed, FromServer, ServerEnd, ServerFailed}
+use Rattle.mux_machine.specs.declared.event.Event.TheVariants.{Accepted, FromClient, ClientEnd, ClientFailed, HouseSays, FromServer, ServerEnd, ServerFailed}
 use Rattle.mux_machine.specs.declared.event.Went.{Went}
 use Rattle.mux_machine.specs.declared.event.Went.TheVariants.{On, Ended as Over}
 use Rattle.mux_machine.specs.State.{State, SameClient, numbers}
@@ -19,6 +20,7 @@ Tells (Accepted k) mark = mark ≡ Accepts k
 Tells (FromClient k bytes) mark = (k ≢ 0) × (mark ≡ Gets k bytes.now)
 Tells (ClientEnd k) mark = (k ≢ 0) × (mark ≡ Ends k)
 Tells (ClientFailed k) mark = (k ≢ 0) × ((mark ≡ Fails k) ⊎ (mark ≡ WriteFails k))
+Tells (HouseSays k id given) mark = (k ≢ 0) × (mark ≡ House (HouseAnswer k id given))
 Tells (FromServer bytes) mark = mark ≡ Gets 0 bytes.now
 Tells ServerEnd mark = mark ≡ Ends 0
 Tells ServerFailed mark = (mark ≡ Fails 0) ⊎ (mark ≡ WriteFails 0)
@@ -59,18 +61,23 @@ LeavesOthers (Accepted k) old new = (j : ℕ) → k ≢ j → SameClient j old.c
 LeavesOthers (FromClient k bytes) old new = (j : ℕ) → k ≢ j → SameClient j old.clients new.clients
 LeavesOthers (ClientEnd k) old new = (j : ℕ) → k ≢ j → SameClient j old.clients new.clients
 LeavesOthers (ClientFailed k) old new = (j : ℕ) → k ≢ j → SameClient j old.clients new.clients
+LeavesOthers (HouseSays k id given) old new = (j : ℕ) → k ≢ j
+    → SameClient j old.clients new.clients
 LeavesOthers (FromServer bytes) old new = Unit {0}
 LeavesOthers ServerEnd old new = new.clients ≡ old.clients
 LeavesOthers ServerFailed old new = new.clients ≡ old.clients
 
 -- how an event may end a run that goes on: only what a client or the server says may, and the end
--- or the failure of the server; none spends the turns of the run
+-- or the failure of the server; none spends the turns of the run, and none refuses a forwarding that
+-- it began with
 abbrev pub MayEnd : Event → Option Ended → Type 0
 MayEnd (Accepted k) now = now ≡ None
 MayEnd (ClientEnd k) now = now ≡ None
 MayEnd (ClientFailed k) now = now ≡ None
+MayEnd (HouseSays k id given) now = now ≡ None
 MayEnd ServerFailed now = now ≡ Some ended.ServerFailed
 MayEnd event now = (now ≢ Some ended.ServerFailed) × (now ≢ Some ended.Spent)
+    × ((index : ℕ) → now ≢ Some (ended.StartRefused index))
 
 -- from each journal for which the engine stood while the run went on
 abbrev pub EndsBy : Event → State → State → Mark → Type 0

@@ -5,3 +5,4 @@ pub mod Shown
 pub mod Stands
 pub mod State
 pub mod Steps
+pub mod Twins

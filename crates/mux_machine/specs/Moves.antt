@@ -2,19 +2,22 @@
 -- journal with the mark.
 use Rattle.std.specs.Prelude.{◌≡◌, ◌≢◌, ◌==◌, ◌&&◌, ℕ, Bool, true, false, not, List, [], ◌∷◌, ◌++◌, length, Option, Some, None}
 use Rattle.std.specs.List.{AllByRecursion}
-use Rattle.mux_outside.specs.House.{Asked}
+use Rattle.mux_outside.specs.declared.house_mark.HouseMark.{HouseMark as Asked}
 use Rattle.mux_outside.specs.declared.house.HouseReply.{HouseReply}
 use Rattle.mux_outside.specs.declared.mark.Mark.{Mark}
-use Rattle.mux_outside.specs.declared.mark.Mark.TheVariants.{Accepts, Gets, Ends, Fails, Takes, WriteFails}
+use Rattle.mux_outside.specs.declared.mark.Mark.TheVariants.{Accepts, Gets, Ends, Fails, Takes, WriteFails, House}
+use Rattle.mux_outside.specs.declared.house_mark.HouseMark.TheVariants.{HouseAnswer}
 use Rattle.proxy_frames.specs.State.{QueueState}
 use Rattle.mux_history.specs.declared.ended.Ended.{Ended}
+use Rattle.mux_history.specs.declared.why.Why.{Why}
 use Rattle.mux_history.specs.declared.ended.Ended.TheVariants as ended
 use Rattle.mux_core.specs.State.{CoreState}
 use Rattle.mux_clients.specs.declared.heard.Heard.{Heard}
 use Rattle.mux_clients.specs.declared.standing.Standing.{Standing}
 use Rattle.mux_clients.specs.State.{ClientState}
 use Rattle.mux_clients.specs.Stands.{is_lost, is_read}
-use Rattle.mux_clients.specs.Among.{ChangesOne, is_present}
+use Rattle.mux_clients.specs.Among.{ChangesOne, KeepReading, is_present}
+use Rattle.mux_clients.specs.Answering.{AnswersNoting}
 use Rattle.mux_clients.specs.Entering.{Enters}
 use Rattle.mux_clients.specs.Losing.{Loses}
 use Rattle.mux_clients.specs.Pieces.{HearsPiece}
@@ -32,6 +35,7 @@ IsEvent (Gets k bytes) = Unit {0}
 IsEvent (Ends k) = Unit {0}
 IsEvent (Fails k) = Unit {0}
 IsEvent (WriteFails k) = Unit {0}
+IsEvent (House (HouseAnswer k id given)) = Unit {0}
 IsEvent mark = ⊥
 
 -- a stream is gone
@@ -80,6 +84,21 @@ pub record GainsAt (May : HouseReply → Type 0) (before told : Option (List Ask
   pub ended : new.ended ≡ heard.ended
   pub waiting : new.waiting ≡ waiting_in new
 
+-- the house replied to a client that isn't lost
+pub record AnsweredAt (s new : State) (k id : ℕ) (given : HouseReply) : Type 0 where
+  pub pid : new.pid ≡ s.pid
+  pub policy : new.core.policy ≡ s.core.policy
+  pub server : new.server ≡ s.server
+  pub refused : new.refused ≡ s.refused
+  pub listening : new.listening ≡ s.listening
+  pub ended : new.ended ≡ s.ended
+  pub noted : List (ℕ × Option Why)
+  pub leaving : new.leaving ≡ s.leaving ++ noted
+  pub changes : ChangesOne k (λ x y. (is_lost x.seat.standing ≡ false)
+      × AnswersNoting k id given noted s.core new.core s.up new.up x y) s.clients new.clients
+  pub reading : KeepReading s.clients new.clients
+  pub waiting : new.waiting ≡ waiting_in new
+
 -- the server gave bytes
 pub record HeardAt (s new : State) (bytes : List ℕ) : Type 0 where
   pub pid : new.pid ≡ s.pid
@@ -125,6 +144,12 @@ pub record LossLaws : Type 0 where
       → is_present s.clients k ≡ true → LosesAt s new k → GoesAlone s new mark
   pub stays : (s : State) (k : ℕ) (mark : Mark) → k ≢ 0 → IsGone mark k → s.ended ≡ None
       → NoneStands not_lost k s.clients → GoesAlone s s mark
+
+-- the house replies to a client later, and to one that is lost
+abbrev pub AnsweredGoesOn : Type 0
+AnsweredGoesOn = (s new : State) (k id : ℕ) (given : HouseReply) → k ≢ 0 → s.ended ≡ None
+    → is_present s.clients k ≡ true → AnsweredAt s new k id given
+    → GoesAlone s new (House (HouseAnswer k id given))
 
 -- a client that is read gave bytes
 abbrev pub GainedGoesOn : (HouseReply → Type 0) → Type 0

@@ -3,11 +3,13 @@
 use Rattle.std.specs.Prelude.{◌≡◌, ◌≢◌, ◌^◌, ◌-◌, min, ℕ, Bool, true, false, not, List, [], ◌∷◌, ◌++◌, length, filter, Option}
 use Rattle.ssh_fields.specs.Fields.{AreBytes}
 use Rattle.ssh_grammar.specs.Said.{InControl, InProxy, parse}
-use Rattle.mux_outside.specs.House.{Asked}
+use Rattle.mux_outside.specs.declared.house_mark.HouseMark.{HouseMark as Asked}
 use Rattle.mux_outside.specs.declared.house.HouseReply.{HouseReply}
 use Rattle.mux_outside.specs.Streams.{among}
 use Rattle.mux_outside.specs.declared.mark.Mark.{Mark}
-use Rattle.mux_outside.specs.declared.mark.Mark.TheVariants.{Waits, Accepts, Gets, Ends, Frees, Fails, Takes, Holds, WriteFails}
+use Rattle.mux_outside.specs.declared.mark.Mark.TheVariants.{Waits, Accepts, Gets, Ends, Frees, Fails, Takes, Holds, WriteFails, Joins, House}
+use Rattle.mux_outside.specs.declared.house_mark.HouseMark.{HouseMark}
+use Rattle.mux_outside.specs.declared.house_mark.HouseMark.TheVariants.{HouseAnswer}
 use Rattle.mux_history.specs.declared.why.Why.{Why}
 use Rattle.mux_history.specs.Rows.{Row, rows_of, is_out, is_ended, losses, any_of, is_lost as has_loss, is_admit, Admit, Refused}
 use Rattle.mux_history.specs.Choices.{numbers_taken, replies_given}
@@ -16,7 +18,7 @@ use Rattle.mux_history.specs.Heard.{next_index}
 use Rattle.mux_history.specs.Settings.{by_lists}
 use Rattle.mux_history.specs.Log.{Setting, bare, served, entered}
 use Rattle.mux_history.specs.Solo.{end_of}
-use Rattle.mux_history.specs.Journal.{bytes_of, log_of_journal}
+use Rattle.mux_history.specs.Journal.{bytes_of, is_own_stream, log_of_journal}
 pub use Rattle.mux_history.specs.Journal.{is_accepted}
 use Rattle.mux_history.specs.Promises.{listens, MayGive}
 use Rattle.mux_clients.specs.State.{ClientState}
@@ -93,11 +95,12 @@ pub record ServerReads (bytes : List ℕ) (server : ServerState) : Type 0 where
   pub mode_is : (parse InProxy bytes).mode ≡ InProxy
   pub rest_is : (parse InProxy bytes).rest ≡ server.rest
 
--- a client that was never accepted: nobody knows of it, and it said nothing
+-- a client that was never accepted: nobody knows of it, and it said nothing, unless its number is that
+-- of a stream of the master's own
 pub record IsStrange (s : State) (marks : List Mark) (closed : List ℕ) (k : ℕ) : Type 0 where
   pub not_here : is_here s k ≡ false
   pub not_closed_yet : among k closed ≡ false
-  pub no_bytes : k ≢ 0 → bytes_of k marks ≡ []
+  pub no_bytes : (k ≢ 0) × (is_own_stream k ≡ false) → bytes_of k marks ≡ []
 
 pub record BytesFit (s : State) (marks : List Mark) (closed : List ℕ) (rows : List Row) :
     Type 0 where
@@ -128,15 +131,25 @@ pub record Stands (picked : List ℕ) (given : List HouseReply) (s : State) (mar
 
 -- ---- one step more
 
+-- a reply of the house is for a client that was accepted
+abbrev pub HouseAllowed : List Mark → HouseMark → Type 0
+HouseAllowed marks (HouseAnswer client id given) = (client ≢ 0) × (is_accepted client marks ≡ true)
+HouseAllowed marks mark = Unit {0}
+
 -- what may come after these marks: a client is accepted once, and other marks name one that was
--- accepted
+-- accepted; none names a stream of the master's own
 abbrev pub IsAllowed : State → List Mark → Mark → Type 0
-IsAllowed s marks (Accepts k) = (k ≢ 0) × (is_accepted k marks ≡ false)
-IsAllowed s marks (Gets k bytes) = (k ≢ 0 → is_accepted k marks ≡ true) × AreBytes bytes
-IsAllowed s marks (Ends k) = k ≢ 0 → is_accepted k marks ≡ true
-IsAllowed s marks (Fails k) = k ≢ 0 → is_accepted k marks ≡ true
-IsAllowed s marks (WriteFails k) = k ≢ 0 → is_accepted k marks ≡ true
-IsAllowed s marks (Takes k bytes) = k ≢ 0 → is_present s.clients k ≡ true
+IsAllowed s marks (Accepts k) =
+    (k ≢ 0) × (is_accepted k marks ≡ false) × (is_own_stream k ≡ false)
+IsAllowed s marks (Gets k bytes) =
+    (k ≢ 0 → is_accepted k marks ≡ true) × AreBytes bytes × (is_own_stream k ≡ false)
+IsAllowed s marks (Ends k) = (k ≢ 0 → is_accepted k marks ≡ true) × (is_own_stream k ≡ false)
+IsAllowed s marks (Fails k) = (k ≢ 0 → is_accepted k marks ≡ true) × (is_own_stream k ≡ false)
+IsAllowed s marks (WriteFails k) = (k ≢ 0 → is_accepted k marks ≡ true) × (is_own_stream k ≡ false)
+IsAllowed s marks (Takes k bytes) =
+    (k ≢ 0 → is_present s.clients k ≡ true) × (is_own_stream k ≡ false)
+IsAllowed s marks (House mark) = HouseAllowed marks mark
+IsAllowed s marks (Joins listener stream) = Unit {0}
 IsAllowed s marks (Frees k) = Unit {0}
 IsAllowed s marks (Holds k) = Unit {0}
 IsAllowed s marks (Waits waiting want streams listens) = Unit {0}

@@ -1,10 +1,10 @@
-ghost use Rattle.std.specs.Prelude.{◌≡◌, ◌≤◌, ◌*◌, [], true, false, IfOk, OnOk, OnErr, IsErr, None};
+ghost use Rattle.std.specs.Prelude.{◌≡◌, ◌≤◌, ◌*◌, [], true, false, IfOk, OnOk, OnErr, IsErr, Some, None};
 ghost use Rattle.mux_outside.specs.declared.mark.Mark.{Mark as TheMark};
 ghost use Rattle.client_teardown.specs.declared.farewell.TheConstants.{FAREWELL_ROOM as TheRoom};
 ghost use Rattle.mux_history.specs.declared.limits.TheConstants.{MAX_CLIENTS as TheMost};
-ghost use Rattle.mux_clients.specs.Asked.{AsksMore};
+ghost use Rattle.mux_clients.specs.Asked.{Heeds};
 ghost use Rattle.mux_machine.specs.Events.{EndsBy, Keeps, Tells, went_of};
-ghost use Rattle.mux_machine.specs.Moves.{GainsAt, HeardAt, LosesAt};
+ghost use Rattle.mux_machine.specs.Moves.{AnsweredAt, GainsAt, HeardAt, LosesAt};
 ghost use Rattle.mux_machine.specs.Ready.{IsReady};
 ghost use Rattle.mux_machine.specs.Stands.{GoesOn, Stands};
 ghost use Rattle.mux_machine.specs.State.{numbers, over};
@@ -15,10 +15,10 @@ mod views;
 use crate::clients::*;
 use crate::event::{Event, Went};
 use forward_rules::Policy;
-use mux_clients::{Client, Server, got_at, lose_at};
+use mux_clients::{Asks, Client, Server, answer_at, got_at, lose_at};
 use mux_core::Core;
 use mux_history::{Ended, Why};
-use mux_outside::{House, Streams};
+use mux_outside::{House, HouseReply, Streams};
 use proxy_frames::Queue;
 use ssh_fields::OutOfMemory;
 use std::alloc::Global;
@@ -103,13 +103,21 @@ impl Engine {
         })
     }
 
-    /// Takes in what happened at a stream, and tells the house what the client asks by it. A client
+    /// Takes in what happened at a stream, or a reply of the house. The house is told what the client
+    /// asks by it, and that is added to `asks`. A client
     /// is accepted once, with a number from 1 on, and all other events of clients name one that was
     /// accepted. Once there was no memory there is none for any later event.
-    pub fn event<H: House>(&mut self, e: Event<'_>, house: &mut H) -> Result<Went, OutOfMemory>
+    pub fn event<H: House>(
+        &mut self,
+        e: Event<'_>,
+        house: &mut H,
+        asks: &mut Asks,
+    ) -> Result<Went, OutOfMemory>
+        requires ordering { (H.known house.old).ordering ≡ None }
         ensures stands { OnOk result ((mark : TheMark) → Tells e.entry mark
-            → GoesOn H.may (H.told house.old) (H.told house.new) self.old self.new mark) }
-        ensures asks { AsksMore (H.told house.old) (H.told house.new) }
+            → GoesOn H.may (Some asks.old) (Some asks.new) self.old self.new mark) }
+        ensures heeds { Heeds result asks.old asks.new (H.told house.old) (H.told house.new)
+            (H.known house.old) (H.known house.new) }
         ensures keeps { OnOk result (Keeps e.entry self.old self.new) }
         ensures ends { OnOk result ((mark : TheMark) → Tells e.entry mark
             → EndsBy e.entry self.old self.new mark) }
@@ -125,7 +133,7 @@ impl Engine {
         }
         // It stays so where there is no memory on the way.
         self.starved = true;
-        self.step(e, house)?;
+        self.step(e, house, asks)?;
         self.starved = false;
         Ok(went_by(self.ended))
     }
@@ -133,13 +141,20 @@ impl Engine {
 
 impl Engine {
     // What an event does while the run goes on.
-    fn step<H: House>(&mut self, e: Event<'_>, house: &mut H) -> Result<(), OutOfMemory>
+    fn step<H: House>(
+        &mut self,
+        e: Event<'_>,
+        house: &mut H,
+        asks: &mut Asks,
+    ) -> Result<(), OutOfMemory>
+        requires ordering { (H.known house.old).ordering ≡ None }
         requires goes { self.old.ended ≡ None }
         requires starved { self.old.starved ≡ true }
         requires ready { IsReady self.old }
         ensures stands { OnOk result ((mark : TheMark) → Tells e.entry mark
-            → GoesOn H.may (H.told house.old) (H.told house.new) self.old self.new mark) }
-        ensures asks { AsksMore (H.told house.old) (H.told house.new) }
+            → GoesOn H.may (Some asks.old) (Some asks.new) self.old self.new mark) }
+        ensures heeds { Heeds result asks.old asks.new (H.told house.old) (H.told house.new)
+            (H.known house.old) (H.known house.new) }
         ensures keeps { OnOk result (Keeps e.entry self.old self.new) }
         ensures ends { OnOk result ((mark : TheMark) → Tells e.entry mark
             → EndsBy e.entry self.old self.new mark) }
@@ -148,9 +163,10 @@ impl Engine {
     {
         match e {
             Event::Accepted(client) => self.enter(client),
-            Event::FromClient(client, bytes) => self.got(client, bytes, house),
+            Event::FromClient(client, bytes) => self.got(client, bytes, house, asks),
             Event::ClientEnd(client) => self.lose(client),
             Event::ClientFailed(client) => self.lose(client),
+            Event::HouseSays(client, id, reply) => self.answer(client, id, reply),
             Event::FromServer(bytes) => self.hear(bytes),
             Event::ServerEnd => {
                 let cause = self.server.end();
@@ -185,18 +201,26 @@ impl Engine {
     }
 
     // A client's stream gave bytes, which are read as long as it is.
-    fn got<H: House>(&mut self, client: u64, bytes: &[u8], house: &mut H) -> Result<(), OutOfMemory>
+    fn got<H: House>(
+        &mut self,
+        client: u64,
+        bytes: &[u8],
+        house: &mut H,
+        asks: &mut Asks,
+    ) -> Result<(), OutOfMemory>
+        requires ordering { (H.known house.old).ordering ≡ None }
         requires goes { self.old.ended ≡ None }
         requires starved { self.old.starved ≡ true }
         requires ready { IsReady self.old }
         ensures gains { OnOk result (is_heard self.old.clients client ≡ true
-            → GainsAt H.may (H.told house.old) (H.told house.new) self.old self.new client
+            → GainsAt H.may (Some asks.old) (Some asks.new) self.old self.new client
             bytes.now) }
         ensures stays { OnOk result (is_heard self.old.clients client ≡ false
             → self.new ≡ self.old) }
         ensures untold { is_heard self.old.clients client ≡ false
-            → H.told house.new ≡ H.told house.old }
-        ensures asks { AsksMore (H.told house.old) (H.told house.new) }
+            → asks.new ≡ asks.old }
+        ensures heeds { Heeds result asks.old asks.new (H.told house.old) (H.told house.new)
+            (H.known house.old) (H.known house.new) }
         ensures policy { OnOk result (self.new.core.policy ≡ self.old.core.policy) }
         ensures numbers { OnOk result (numbers self.new.clients ≡ numbers self.old.clients) }
         ensures ready { OnOk result (IsReady self.new) }
@@ -211,6 +235,7 @@ impl Engine {
             self.pid,
             bytes,
             house,
+            asks,
             &mut self.core,
             &mut self.up,
         )?;
@@ -236,6 +261,35 @@ impl Engine {
         }
         self.leaving.push((client, None))?;
         lose_at(&mut self.clients, client, &mut self.core, &mut self.up);
+        list_waiting(&mut self.waiting, &self.up, &self.clients)
+    }
+
+    // The house replies to a client's ask later than at once.
+    fn answer(&mut self, client: u64, id: u32, reply: HouseReply) -> Result<(), OutOfMemory>
+        requires starved { self.old.starved ≡ true }
+        requires ready { IsReady self.old }
+        ensures answers { OnOk result (is_served self.old.clients client ≡ true
+            → AnsweredAt self.old self.new client id reply) }
+        ensures stays { OnOk result (is_served self.old.clients client ≡ false
+            → self.new ≡ self.old) }
+        ensures numbers { OnOk result (numbers self.new.clients ≡ numbers self.old.clients) }
+        ensures ready { OnOk result (IsReady self.new) }
+        ensures starved { self.new.starved ≡ true }
+    {
+        if !is_served(&self.clients, client) {
+            return Ok(());
+        }
+        let mut lost = Vec::new(self.alloc);
+        answer_at(
+            &mut self.clients,
+            client,
+            id,
+            reply,
+            &mut lost,
+            &mut self.core,
+            &mut self.up,
+        )?;
+        self.leaving.extend_from_slice(&lost)?;
         list_waiting(&mut self.waiting, &self.up, &self.clients)
     }
 

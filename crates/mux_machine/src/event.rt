@@ -1,4 +1,5 @@
 use mux_history::Ended;
+use mux_outside::HouseReply;
 
 /// What happened at a stream.
 #[derive(Clone, Copy)]
@@ -11,6 +12,8 @@ pub enum Event<'a> {
     ClientEnd(u64),
     /// A client's stream failed.
     ClientFailed(u64),
+    /// The house replied to a client's ask, with the id of the ask, later than at once.
+    HouseSays(u64, u32, HouseReply),
     /// The server's stream gave bytes.
     FromServer(&'a [u8]),
     /// The server's stream ended.

@@ -1,6 +1,7 @@
 //! What happens to an engine: each function's contract is the law.
 
-ghost use Rattle.mux_machine.specs.Moves.{ClosedGoesOn, EnteredGoesOn, GainedGoesOn, HeardGoesOn, LossLaws, OverStays, ServerLaws, TakenGoesOn, UnheardStays};
+ghost use Rattle.mux_machine.specs.Moves.{AnsweredGoesOn, ClosedGoesOn, EnteredGoesOn, GainedGoesOn, HeardGoesOn, LossLaws, OverStays, ServerLaws, TakenGoesOn, UnheardStays};
+ghost use Rattle.mux_machine.specs.Twins.{HouseIsClient, OwnIsSilent, StandsAlike};
 
 use mux_outside::House;
 
@@ -47,4 +48,17 @@ pub fn a_client_is_not_read<H: House>()
 /// The server gave bytes.
 pub fn the_server_is_heard()
     ensures { HeardGoesOn }
+{}
+
+/// The house replies to a client's ask later than at once.
+pub fn the_house_replies()
+    ensures { AnsweredGoesOn }
+{}
+
+/// The house is let in, speaks and takes as a client does, and what else is told of it and of its
+/// streams leaves the engine as it was.
+pub fn the_house_is_a_client()
+    ensures alike { StandsAlike }
+    ensures client { HouseIsClient }
+    ensures own { OwnIsSilent }
 {}

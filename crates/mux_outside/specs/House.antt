@@ -1,28 +1,256 @@
--- What a house is asked.
-use Rattle.std.specs.Prelude.{ℕ, Bool, List}
+-- What is known of a house, the marks that its calls add, and what each call leaves.
+use Rattle.std.specs.Prelude.{◌≡◌, ◌≢◌, ◌<◌, ◌≤◌, ℕ, Bool, true, false, not, ◌&&◌, ◌==◌, if◌then◌else◌, List, [], ◌∷◌, ◌++◌, length, drop, IsTrue, Result, Ok, Err, Option, Some, None}
+use Rattle.std.specs.List.{list_any}
+use Rattle.mux_outside.specs.OwnStreams.{new_stream, is_one, is_silent, with_pause, with_finish, with_end, without_stream}
+use Rattle.mux_outside.specs.Streams.{among, without}
 use Rattle.mux_outside.specs.declared.house.FwdAsk.{FwdAsk}
 use Rattle.mux_outside.specs.declared.house.HouseReply.{HouseReply}
+use Rattle.mux_outside.specs.declared.house.HouseReply.TheVariants.{Done, Port, Refused, Later}
+use Rattle.mux_outside.specs.declared.house_mark.HouseMark.{HouseMark}
+use Rattle.mux_outside.specs.declared.house_mark.HouseMark.TheVariants.{HouseSaid, HouseTook, HouseAsked, HouseAnswer, HouseOrder}
+use Rattle.mux_outside.specs.declared.order.Order.{Order}
+use Rattle.mux_outside.specs.declared.order.Order.TheVariants.{Listen, Connect, Unlisten, Pause, Resume, Finish, Close}
+use Rattle.mux_outside.specs.declared.own_streams.OwnStream.{OwnStream}
+use Rattle.mux_outside.specs.declared.own_turn.OwnTurn.{OwnTurn}
+use Rattle.mux_outside.specs.declared.own_turn.OwnTurn.TheVariants.{Joined, Got, End, Writable, Failed}
+use Rattle.mux_outside.specs.declared.piece.TheConstants.{LONGEST_PIECE}
+use Rattle.mux_outside.specs.declared.start_ask.StartAsk.{StartAsk}
 
--- an ask, as the house was told it, and its reply
-pub record Asked : Type 0 where
+-- ---- what is always known
+
+-- an ask that got the reply Later and has no answer yet
+pub record OpenAsk : Type 0 where
   pub client : ℕ
+  pub id : ℕ
   pub opening : Bool
-  pub kind : ℕ
-  pub listen_host : List ℕ
-  pub listen_port : ℕ
-  pub connect_host : List ℕ
-  pub connect_port : ℕ
-  pub reply : HouseReply
 
--- a client's ask with this reply
-abbrev pub asked : ℕ → Bool → FwdAsk → HouseReply → Asked
-asked client opening what reply = record {
-  client = client;
-  opening = opening;
+-- whether it is there at all; the listeners and streams that it was told and hasn't ordered to
+-- close, and how the streams stand by its orders; its open asks, in order; and the Listen or Connect
+-- whose number it waits for
+pub record Known : Type 0 where
+  pub present : Bool
+  pub listeners : List ℕ
+  pub streams : List OwnStream
+  pub asks : List OpenAsk
+  pub ordering : Option Order
+
+-- whether it has nothing to say, nothing to order and nothing to answer
+pub record Quiet : Type 0 where
+  pub says : Bool
+  pub orders : Bool
+  pub answers : Bool
+
+-- nothing of the kind is known
+abbrev pub nothing_known : Bool → Known
+nothing_known present =
+    record { present = present; listeners = []; streams = []; asks = []; ordering = None }
+
+-- a house is at rest: it has nothing to give
+abbrev pub IsAtRest : Quiet → Type 0
+IsAtRest quiet = quiet ≡ record { says = true; orders = true; answers = true }
+
+-- no mark was told
+abbrev pub NoMark : Option (List HouseMark) → Type 0
+NoMark None = Unit {0}
+NoMark (Some marks) = marks ≡ []
+
+-- a house that has nothing yet and has told nothing
+pub record IsBlank (known : Known) (told : Option (List HouseMark)) : Type 0 where
+  pub nothing : known ≡ nothing_known known.present
+  pub no_mark : NoMark told
+
+-- ---- ask
+
+-- a client's ask as the marks have it
+abbrev pub ask_of : FwdAsk → StartAsk
+ask_of what = record {
   kind = what.kind;
   listen_host = what.listen_host.now;
   listen_port = what.listen_port;
   connect_host = what.connect_host.now;
   connect_port = what.connect_port;
-  reply = reply;
+  path = false;
 }
+
+-- the marks that an ask adds: for want of memory none
+abbrev pub ask_marks : {E : Type 0} → Result HouseReply E → ℕ → ℕ → Bool → FwdAsk
+    → List HouseMark
+ask_marks (Ok reply) client id opening what =
+    HouseAsked client id opening (ask_of what) reply ∷ []
+ask_marks (Err e) client id opening what = []
+
+-- the open asks after an ask with this reply
+abbrev pub asks_after : HouseReply → ℕ → ℕ → Bool → List OpenAsk → List OpenAsk
+asks_after Later client id opening asks =
+    asks ++ record { client = client; id = id; opening = opening } ∷ []
+asks_after Done client id opening asks = asks
+asks_after (Port port) client id opening asks = asks
+asks_after Refused client id opening asks = asks
+
+abbrev pub known_after_ask : HouseReply → ℕ → ℕ → Bool → Known → Known
+known_after_ask reply client id opening known =
+    record known { asks = asks_after reply client id opening known.asks }
+
+-- ---- answer
+
+-- whether an open ask has this client and id
+abbrev pub is_ask : ℕ → ℕ → OpenAsk → Bool
+is_ask client id ask = (ask.client == client) && (ask.id == id)
+
+-- whether one of the open asks is an opening one or a closing one with this client and id
+abbrev pub has_ask : ℕ → ℕ → Bool → List OpenAsk → Bool
+has_ask client id true asks = list_any (λ a. is_ask client id a && a.opening) asks
+has_ask client id false asks = list_any (λ a. is_ask client id a && not a.opening) asks
+
+-- the open asks without the first that has this client and id
+abbrev pub without_ask : ℕ → ℕ → List OpenAsk → List OpenAsk
+without_ask client id [] = []
+without_ask client id (ask ∷ asks) =
+    let later = without_ask client id asks in
+    if is_ask client id ask then asks else ask ∷ later
+
+-- which reply the first open ask of a client and id may get: Port only where it is an opening one
+abbrev pub ReplyFits : HouseReply → ℕ → ℕ → List OpenAsk → Type 0
+ReplyFits Done client id asks = IsTrue (list_any (is_ask client id) asks)
+ReplyFits Refused client id asks = IsTrue (list_any (is_ask client id) asks)
+ReplyFits (Port port) client id asks = IsTrue (has_ask client id true asks)
+ReplyFits Later client id asks = ⊥
+
+-- which answer may be given
+abbrev pub AnswerFits : Option (ℕ × ℕ × HouseReply) → List OpenAsk → Type 0
+AnswerFits None asks = Unit {0}
+AnswerFits (Some a) asks = ReplyFits a.2 a.0 a.1 asks
+
+abbrev pub answer_marks : Option (ℕ × ℕ × HouseReply) → List HouseMark
+answer_marks None = []
+answer_marks (Some a) = HouseAnswer a.0 a.1 a.2 ∷ []
+
+abbrev pub known_after_answer : Option (ℕ × ℕ × HouseReply) → Known → Known
+known_after_answer None known = known
+known_after_answer (Some a) known = record known { asks = without_ask a.0 a.1 known.asks }
+
+-- whether no answer came
+abbrev pub gives_none : {X : Type 0} → Option X → Bool
+gives_none None = true
+gives_none (Some x) = false
+
+-- ---- says and takes
+
+-- what was said has a byte at least, and fits a piece
+abbrev pub SaysFits : {E : Type 0} → Result Bool E → List ℕ → Type 0
+SaysFits (Ok true) bytes = (0 < length bytes) × (length bytes ≤ LONGEST_PIECE)
+SaysFits (Ok false) bytes = Unit {0}
+SaysFits (Err e) bytes = Unit {0}
+
+abbrev pub says_marks : {E : Type 0} → Result Bool E → List ℕ → List HouseMark
+says_marks (Ok true) bytes = HouseSaid bytes ∷ []
+says_marks (Ok false) bytes = []
+says_marks (Err e) bytes = []
+
+-- whether it said that it has nothing to say
+abbrev pub says_nothing : {E : Type 0} → Result Bool E → Bool
+says_nothing (Ok true) = false
+says_nothing (Ok false) = true
+says_nothing (Err e) = false
+
+abbrev pub takes_marks : {E : Type 0} → Result (Unit {0}) E → List ℕ → List HouseMark
+takes_marks (Ok x) bytes = HouseTook (length bytes) ∷ []
+takes_marks (Err e) bytes = []
+
+-- ---- order
+
+-- which orders may be given: of its own listeners and streams
+abbrev pub OrderFits : Option Order → Known → Type 0
+OrderFits None known = Unit {0}
+OrderFits (Some (Listen host port)) known = Unit {0}
+OrderFits (Some (Connect host port)) known = Unit {0}
+OrderFits (Some (Unlisten l)) known = IsTrue (among l known.listeners)
+OrderFits (Some (Pause t)) known = IsTrue (is_one t known.streams)
+OrderFits (Some (Resume t)) known = IsTrue (is_one t known.streams)
+OrderFits (Some (Finish t)) known = IsTrue (is_one t known.streams)
+OrderFits (Some (Close t)) known = IsTrue (is_one t known.streams)
+
+-- the marks that an order adds: that of a Listen or a Connect comes with its number
+abbrev pub order_marks : Option Order → List HouseMark
+order_marks None = []
+order_marks (Some (Listen host port)) = []
+order_marks (Some (Connect host port)) = []
+order_marks (Some (Unlisten l)) = HouseOrder (Unlisten l) None ∷ []
+order_marks (Some (Pause t)) = HouseOrder (Pause t) None ∷ []
+order_marks (Some (Resume t)) = HouseOrder (Resume t) None ∷ []
+order_marks (Some (Finish t)) = HouseOrder (Finish t) None ∷ []
+order_marks (Some (Close t)) = HouseOrder (Close t) None ∷ []
+
+abbrev pub known_after_order : Option Order → Known → Known
+known_after_order None known = known
+known_after_order (Some (Listen host port)) known =
+    record known { ordering = Some (Listen host port) }
+known_after_order (Some (Connect host port)) known =
+    record known { ordering = Some (Connect host port) }
+known_after_order (Some (Unlisten l)) known =
+    record known { listeners = without l known.listeners }
+known_after_order (Some (Pause t)) known =
+    record known { streams = with_pause true t known.streams }
+known_after_order (Some (Resume t)) known =
+    record known { streams = with_pause false t known.streams }
+known_after_order (Some (Finish t)) known =
+    record known { streams = with_finish t known.streams }
+known_after_order (Some (Close t)) known =
+    record known { streams = without_stream t known.streams }
+
+-- ---- ordered
+
+-- a number is none of its listeners and streams
+pub record IsNewTo (known : Known) (number : ℕ) : Type 0 where
+  pub no_listener : among number known.listeners ≡ false
+  pub no_stream : is_one number known.streams ≡ false
+
+-- which number may be told
+abbrev pub NumberFits : Option ℕ → Known → Type 0
+NumberFits None known = Unit {0}
+NumberFits (Some number) known = IsNewTo known number
+
+-- what was ordered has this number from now on
+abbrev pub with_number : Option Order → Option ℕ → Known → Known
+with_number (Some (Listen host port)) (Some n) known =
+    record known { listeners = known.listeners ++ n ∷ []; ordering = None }
+with_number (Some (Connect host port)) (Some n) known =
+    record known { streams = known.streams ++ new_stream n ∷ []; ordering = None }
+with_number order number known = record known { ordering = None }
+
+abbrev pub known_after_ordered : Option ℕ → Known → Known
+known_after_ordered number known = with_number known.ordering number known
+
+abbrev pub ordered_marks : Option Order → Option ℕ → List HouseMark
+ordered_marks None number = []
+ordered_marks (Some order) number = HouseOrder order number ∷ []
+
+-- ---- turn
+
+-- a stream of its own that isn't paused by its orders and hasn't ended
+pub record Gives (known : Known) (t : ℕ) : Type 0 where
+  pub own : IsTrue (is_one t known.streams)
+  pub loud : is_silent t known.streams ≡ false
+
+-- which turns may be handed on
+abbrev pub OwnTurnFits : OwnTurn → Known → Quiet → Type 0
+OwnTurnFits (Joined l t) known quiet = IsTrue (among l known.listeners) × IsNewTo known t
+OwnTurnFits (Got t bytes) known quiet =
+    Gives known t × IsAtRest quiet × (0 < length bytes.now) × (length bytes.now ≤ LONGEST_PIECE)
+OwnTurnFits (End t) known quiet = Gives known t
+OwnTurnFits (Writable t) known quiet = IsTrue (is_one t known.streams)
+OwnTurnFits (Failed t) known quiet = IsTrue (is_one t known.streams)
+
+abbrev pub known_after_own_turn : OwnTurn → Known → Known
+known_after_own_turn (Joined l t) known =
+    record known { streams = known.streams ++ new_stream t ∷ [] }
+known_after_own_turn (Got t bytes) known = known
+known_after_own_turn (End t) known = record known { streams = with_end t known.streams }
+known_after_own_turn (Writable t) known = known
+known_after_own_turn (Failed t) known = known
+
+-- ---- queues
+
+-- what waits for a stream after another stream, or this one, took so many bytes
+abbrev pub queue_after_took : ℕ → ℕ → ℕ → List ℕ → List ℕ
+queue_after_took stream n t queue = if t == stream then drop n queue else queue

@@ -3,6 +3,7 @@ pub mod Counts
 pub mod Files
 pub mod House
 pub mod Marks
+pub mod OwnStreams
 pub mod Piece
 pub mod Runner
 pub mod Script

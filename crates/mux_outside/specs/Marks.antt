@@ -1,7 +1,7 @@
 -- What the marks of a wire say of its streams.
 use Rattle.std.specs.Prelude.{ℕ, ◌==◌, if◌then◌else◌, List, [], flat_map}
 use Rattle.mux_outside.specs.declared.mark.Mark.{Mark}
-use Rattle.mux_outside.specs.declared.mark.Mark.TheVariants.{Waits, Accepts, Gets, Ends, Frees, Fails, Takes, Holds, WriteFails}
+use Rattle.mux_outside.specs.declared.mark.Mark.TheVariants.{Waits, Accepts, Gets, Ends, Frees, Fails, Takes, Holds, WriteFails, Joins, House}
 
 -- the bytes that a stream took at one mark
 abbrev pub taken_at : ℕ → Mark → List ℕ
@@ -14,6 +14,8 @@ taken_at stream (Frees t) = []
 taken_at stream (Fails t) = []
 taken_at stream (Holds t) = []
 taken_at stream (WriteFails t) = []
+taken_at stream (Joins l t) = []
+taken_at stream (House mark) = []
 
 -- all bytes that a stream took
 abbrev pub bytes_taken : ℕ → List Mark → List ℕ

@@ -1,43 +1,72 @@
 -- What a script gives: the turns of its steps, and the answers to writes by its entries.
-use Rattle.std.specs.Prelude.{◌<◌, ℕ, ◌+◌, ◌-◌, ◌^◌, Bool, not, ◌&&◌, if◌then◌else◌, ◌==◌, nat_lt, List, [], ◌∷◌, length, take, drop, min, max, Option, Some, None, unwrap_or, slice_get}
+use Rattle.std.specs.Prelude.{◌<◌, ℕ, ◌+◌, Bool, not, ◌&&◌, if◌then◌else◌, ◌==◌, nat_lt, List, [], ◌∷◌, length, take, drop, min, max, Option, Some, None, unwrap_or, slice_get}
 use Rattle.std.specs.Option.{option_map}
+use Rattle.mux_outside.specs.OwnStreams.{is_own, is_silent}
 use Rattle.mux_outside.specs.Streams.{among}
+use Rattle.mux_outside.specs.declared.own_streams.OwnStream.{OwnStream}
+use Rattle.mux_outside.specs.declared.own_streams.TheConstants.{LAST_CLIENT, LAST_OWN}
 use Rattle.mux_outside.specs.declared.piece.TheConstants.{LONGEST_PIECE}
 use Rattle.mux_outside.specs.declared.plan.Given.{Given}
 use Rattle.mux_outside.specs.declared.plan.Place.{Place}
 use Rattle.mux_outside.specs.declared.plan.State.{State}
 use Rattle.mux_outside.specs.declared.script.Step.{Step}
-use Rattle.mux_outside.specs.declared.script.Step.TheVariants.{Accept, Bytes, End, Fail, Writable}
+use Rattle.mux_outside.specs.declared.script.Step.TheVariants.{Accept, Bytes, End, Fail, Writable, Join}
 use Rattle.mux_outside.specs.declared.script.WriteEntry.{WriteEntry}
 use Rattle.mux_outside.specs.declared.script.WriteEntry.TheVariants.{All, Some as SomeBytes, Later, Fail as FailWrite}
 use Rattle.mux_outside.specs.declared.turn.Turn.{Turn}
-use Rattle.mux_outside.specs.declared.turn.Turn.TheVariants.{Accepted, Got, End as Ended, Writable as IsWritable, Failed}
+use Rattle.mux_outside.specs.declared.turn.Turn.TheVariants.{Accepted, Got, End as Ended, Writable as IsWritable, Failed, Joined}
 use Rattle.mux_outside.specs.declared.turn.Wrote.{Wrote}
 use Rattle.mux_outside.specs.declared.turn.Wrote.TheVariants.{Took, Later as IsLater, Failed as FailedWrite}
 
 -- ---- steps
 
--- whether a step isn't skipped: by the listening, the last client, the open and the blocked streams
-abbrev pub is_given : Bool → ℕ → List ℕ → List ℕ → Step → Bool
-is_given listens last streams blocked Accept = listens && nat_lt last (2 ^ 64 - 1)
-is_given listens last streams blocked (Bytes t text) = among t streams && not (length text == 0)
-is_given listens last streams blocked (End t) = among t streams
-is_given listens last streams blocked (Fail t) = among t streams
-is_given listens last streams blocked (Writable t) = among t streams && among t blocked
+-- what steps are skipped by: the listening, the last client, the open and the blocked streams, and the
+-- master's own listeners, its own streams and the last number of either
+pub record Standing : Type 0 where
+  pub listens : Bool
+  pub last : ℕ
+  pub streams : List ℕ
+  pub blocked : List ℕ
+  pub listeners : List ℕ
+  pub own : List OwnStream
+  pub last_own : ℕ
+
+-- whether a step isn't skipped
+abbrev pub is_given : Standing → Step → Bool
+is_given at Accept = at.listens && nat_lt at.last LAST_CLIENT
+is_given at (Bytes t text) =
+    among t at.streams && (not (is_silent t at.own) && not (length text == 0))
+is_given at (End t) = among t at.streams && not (is_silent t at.own)
+is_given at (Fail t) = among t at.streams
+is_given at (Writable t) = among t at.streams && among t at.blocked
+is_given at (Join l t) =
+    among l at.listeners && (nat_lt at.last_own t && not (nat_lt LAST_OWN t))
+
+-- the state of the wire so
+abbrev pub standing_of : State → Standing
+standing_of state = record {
+  listens = state.listening;
+  last = state.last;
+  streams = state.streams.now;
+  blocked = state.blocked.now;
+  listeners = state.listeners.now;
+  own = state.own.now;
+  last_own = state.last_own;
+}
 
 -- the same in a state of the wire
 abbrev pub is_given_in : State → Step → Bool
-is_given_in state step =
-    is_given state.listening state.last state.streams.now state.blocked.now step
+is_given_in state step = is_given (standing_of state) step
 
 -- a client can come only while there is a number above that of the last one
 abbrev pub FirstGives : ℕ → List Step → Type 0
 FirstGives last [] = Unit {0}
-FirstGives last (Accept ∷ steps) = last < 2 ^ 64 - 1
+FirstGives last (Accept ∷ steps) = last < LAST_CLIENT
 FirstGives last (Bytes t text ∷ steps) = Unit {0}
 FirstGives last (End t ∷ steps) = Unit {0}
 FirstGives last (Fail t ∷ steps) = Unit {0}
 FirstGives last (Writable t ∷ steps) = Unit {0}
+FirstGives last (Join l t ∷ steps) = Unit {0}
 
 -- the steps from the first one that isn't skipped
 abbrev pub from_first : (Step → Bool) → List Step → List Step
@@ -54,6 +83,7 @@ turn_of last (Bytes t text ∷ steps) = Got t
 turn_of last (End t ∷ steps) = Ended t
 turn_of last (Fail t ∷ steps) = Failed t
 turn_of last (Writable t ∷ steps) = IsWritable t
+turn_of last (Join l t ∷ steps) = Joined l t
 
 -- the bytes that it gives, if any: they come in pieces
 abbrev pub bytes_of : List Step → Option (List ℕ)
@@ -63,6 +93,7 @@ bytes_of (Bytes t text ∷ steps) = Some (take LONGEST_PIECE text)
 bytes_of (End t ∷ steps) = None
 bytes_of (Fail t ∷ steps) = None
 bytes_of (Writable t ∷ steps) = None
+bytes_of (Join l t ∷ steps) = None
 
 -- the buffer after that turn
 abbrev pub piece_of : List Step → List ℕ → List ℕ
@@ -80,6 +111,7 @@ steps_after (Bytes t text ∷ steps) = Bytes t (drop LONGEST_PIECE text) ∷ ste
 steps_after (End t ∷ steps) = steps
 steps_after (Fail t ∷ steps) = steps
 steps_after (Writable t ∷ steps) = steps
+steps_after (Join l t ∷ steps) = steps
 
 -- a step that has given so many bytes
 abbrev pub cut_step : ℕ → Step → Step
@@ -88,6 +120,7 @@ cut_step n (Bytes t text) = Bytes t (drop n text)
 cut_step n (End t) = End t
 cut_step n (Fail t) = Fail t
 cut_step n (Writable t) = Writable t
+cut_step n (Join l t) = Join l t
 
 -- steps of which the first has given so many bytes
 abbrev pub cut_first : ℕ → List Step → List Step

@@ -1,10 +1,10 @@
 -- How a wire in memory follows its script.
-use Rattle.std.specs.Prelude.{◌≡◌, ℕ, Bool, true, false, List, slice_index, Result, Ok, Err}
+use Rattle.std.specs.Prelude.{◌≡◌, ◌<◌, ◌≤◌, ◌⊎◌, ℕ, Bool, true, false, List, slice_index, Result, Ok, Err}
 use Rattle.mux_outside.specs.Streams.{among}
 use Rattle.mux_outside.specs.declared.file_error.FileError.{FileError}
 use Rattle.mux_outside.specs.declared.file_error.FileError.TheVariants.{Failed, OutOfMemory}
 use Rattle.mux_outside.specs.Counts.{counted}
-use Rattle.mux_outside.specs.WireLog.{Logged, nothing_logged}
+use Rattle.mux_outside.specs.WireLog.{Logged, nothing_logged, standing_in}
 use Rattle.mux_outside.specs.Script.{is_given, from_first, turn_of, piece_of, steps_after, steps_from, entry_at, answer_of}
 use Rattle.mux_outside.specs.declared.script.Step.{Step}
 use Rattle.mux_outside.specs.declared.script.WriteEntry.{WriteEntry}
@@ -13,13 +13,13 @@ use Rattle.mux_outside.specs.declared.turn.Want.TheVariants.{Read, WriteOnly}
 use Rattle.mux_outside.specs.declared.turn.Turn.{Turn}
 use Rattle.mux_outside.specs.declared.turn.Turn.TheVariants.{Writable}
 use Rattle.mux_outside.specs.declared.turn.Wrote.{Wrote}
+use Rattle.mux_outside.specs.declared.own_streams.TheConstants.{LAST_OWN}
 use Rattle.mux_outside.specs.declared.plan.Place.{Place}
 use Rattle.mux_outside.specs.declared.script_wire.ScriptWire.{ScriptWire}
 
 -- the steps from a place on without those that are skipped now
 abbrev pub steps_ahead : Logged → List Step → Place → List Step
-steps_ahead log steps place = from_first (is_given log.listens log.last log.streams log.blocked)
-    (steps_from steps place)
+steps_ahead log steps place = from_first (is_given (standing_in log)) (steps_from steps place)
 
 -- a turn is that of the next step that isn't skipped, and the place after it leaves those behind it
 pub record GivesStep (log : Logged) (steps : List Step) (old new : Place) (turn : Turn)
@@ -53,7 +53,7 @@ pub record KeepsWrites (old new : ScriptWire) : Type 0 where
   pub writes_kept : new.writes ≡ old.writes
   pub written_kept : new.written ≡ old.written
 
--- which calls of open fail stays
+-- which calls of open, listen and connect fail stays
 pub record KeepsOpens (old new : ScriptWire) : Type 0 where
   pub fails_kept : new.fails ≡ old.fails
   pub opens_kept : new.opens ≡ old.opens
@@ -88,6 +88,14 @@ abbrev pub OpensByNumber : Result (Unit {0}) FileError → ScriptWire → Script
 OpensByNumber (Ok x) old new = CountsOpen false old new
 OpensByNumber (Err Failed) old new = CountsOpen true old new
 OpensByNumber (Err OutOfMemory) old new = KeepsOpens old new
+
+-- a call of listen or connect fails where its number is among those that fail or none is left for
+-- what was to be made, and isn't counted for want of memory
+abbrev pub MakesByNumber : Result ℕ FileError → ScriptWire → ScriptWire → Type 0
+MakesByNumber (Ok n) old new = CountsOpen false old new × (old.log.last_own < LAST_OWN)
+MakesByNumber (Err Failed) old new =
+    (among (counted old.opens) old.fails ≡ true) ⊎ (LAST_OWN ≤ old.log.last_own)
+MakesByNumber (Err OutOfMemory) old new = KeepsOpens old new
 
 -- a wire at the start of its script
 pub record Starts (w : ScriptWire) (steps : List Step) (writes : List WriteEntry) (fails : List ℕ)

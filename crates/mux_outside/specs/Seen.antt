@@ -3,24 +3,33 @@ use Rattle.std.specs.Prelude.{ℕ, Bool, true, false, if◌then◌else◌, ◌==
 use Rattle.std.specs.Option.{option_map}
 use Rattle.mux_outside.specs.Counts.{counted}
 use Rattle.mux_outside.specs.Streams.{without}
-use Rattle.mux_outside.specs.Wire.{wait_marks, open_after, blocked_after, last_after, write_marks, blocked_after_write}
+use Rattle.mux_outside.specs.OwnStreams.{new_stream, with_pause, with_finish, without_stream}
+use Rattle.mux_outside.specs.Wire.{wait_marks, open_after, blocked_after, last_after, own_after, last_own_after, write_marks, blocked_after_write}
 use Rattle.mux_outside.specs.declared.file_error.FileError.{FileError}
 use Rattle.mux_outside.specs.declared.turn.Want.{Want}
 use Rattle.mux_outside.specs.declared.turn.Turn.{Turn}
-use Rattle.mux_outside.specs.declared.turn.Turn.TheVariants.{Accepted, Got, End, Writable, Failed, NoMemory}
+use Rattle.mux_outside.specs.declared.turn.Turn.TheVariants.{Accepted, Got, End, Writable, Failed, Joined, NoMemory}
 use Rattle.mux_outside.specs.declared.turn.Wrote.{Wrote}
 use Rattle.mux_outside.specs.declared.turn.Wrote.TheVariants.{Took, Later, Failed as FailedWrite, NoMemory as NoMemoryToWrite}
+use Rattle.mux_outside.specs.declared.house_mark.HouseMark.{HouseMark}
 use Rattle.mux_outside.specs.declared.mark.Mark.{Mark}
+use Rattle.mux_outside.specs.declared.mark.Mark.TheVariants.{House}
+use Rattle.mux_outside.specs.declared.own_streams.OwnStream.{OwnStream}
 
 -- what is seen of a wire: its marks so far, where they are told; the open streams, in the order in
--- which they were opened; those that take no bytes for now; whether clients are accepted; and the
--- last client accepted, 0 before the first
+-- which they were opened; those that take no bytes for now; whether clients are accepted; the last
+-- client accepted, 0 before the first; the master's own listeners that are open; its own streams that
+-- are open, which stand among the open streams too; and the last number of either, the last one of a
+-- client before the first
 pub record Seen : Type 0 where
   pub told : Option (List Mark)
   pub streams : List ℕ
   pub blocked : List ℕ
   pub listens : Bool
   pub last : ℕ
+  pub listeners : List ℕ
+  pub own : List OwnStream
+  pub last_own : ℕ
 
 -- how often `wait` was called; how many calls of `wait` and `write` found no memory; and how many
 -- came behind one that found none
@@ -31,14 +40,27 @@ pub record Calls : Type 0 where
 
 -- ---- what is seen
 
--- after a call of open: the server's stream alone is open, and clients are accepted
+-- after a call of open: the server's stream alone is open, no listener is, and clients are accepted
 abbrev pub seen_after_open : Result (Unit {0}) FileError → Seen → Seen
-seen_after_open (Ok x) seen = record seen { streams = 0 ∷ []; blocked = []; listens = true }
+seen_after_open (Ok x) seen = record seen {
+  streams = 0 ∷ [];
+  blocked = [];
+  listens = true;
+  listeners = [];
+  own = [];
+}
 seen_after_open (Err e) seen = seen
 
--- after a call of join: the server's stream alone is open, and clients aren't accepted
+-- after a call of join: the server's stream alone is open, no listener is, and clients aren't
+-- accepted
 abbrev pub seen_after_join : Result (Unit {0}) FileError → Seen → Seen
-seen_after_join (Ok x) seen = record seen { streams = 0 ∷ []; blocked = []; listens = false }
+seen_after_join (Ok x) seen = record seen {
+  streams = 0 ∷ [];
+  blocked = [];
+  listens = false;
+  listeners = [];
+  own = [];
+}
 seen_after_join (Err e) seen = seen
 
 -- after a turn
@@ -49,6 +71,8 @@ seen_after_turn turn waiting want bytes seen = record seen {
   streams = open_after turn seen.streams;
   blocked = blocked_after turn seen.blocked;
   last = last_after turn seen.last;
+  own = own_after turn seen.own;
+  last_own = last_own_after turn seen.last_own;
 }
 
 -- after a write
@@ -63,7 +87,42 @@ abbrev pub seen_after_close : ℕ → Seen → Seen
 seen_after_close stream seen = record seen {
   streams = without stream seen.streams;
   blocked = without stream seen.blocked;
+  own = without_stream stream seen.own;
 }
+
+-- after a house's mark was noted
+abbrev pub seen_after_note : {E : Type 0} → Result (Unit {0}) E → HouseMark → Seen → Seen
+seen_after_note (Ok x) mark seen =
+    record seen { told = option_map (λ m. m ++ House mark ∷ []) seen.told }
+seen_after_note (Err e) mark seen = seen
+
+-- after a listener was to be opened
+abbrev pub seen_after_listen : Result ℕ FileError → Seen → Seen
+seen_after_listen (Ok n) seen = record seen { listeners = seen.listeners ++ n ∷ []; last_own = n }
+seen_after_listen (Err e) seen = seen
+
+-- after a stream was to be made, which is blocked until it is connected
+abbrev pub seen_after_connect : Result ℕ FileError → Seen → Seen
+seen_after_connect (Ok n) seen = record seen {
+  streams = seen.streams ++ n ∷ [];
+  blocked = seen.blocked ++ n ∷ [];
+  own = seen.own ++ new_stream n ∷ [];
+  last_own = n;
+}
+seen_after_connect (Err e) seen = seen
+
+-- after a listener was closed
+abbrev pub seen_after_unlisten : ℕ → Seen → Seen
+seen_after_unlisten listener seen =
+    record seen { listeners = without listener seen.listeners }
+
+-- after an own stream was paused, or is paused no longer
+abbrev pub seen_after_pause : Bool → ℕ → Seen → Seen
+seen_after_pause b stream seen = record seen { own = with_pause b stream seen.own }
+
+-- after an own stream was finished
+abbrev pub seen_after_finish : ℕ → Seen → Seen
+seen_after_finish stream seen = record seen { own = with_finish stream seen.own }
 
 -- ---- how often it was called
 
@@ -90,6 +149,7 @@ is_starved (Got t) = false
 is_starved (End t) = false
 is_starved (Writable t) = false
 is_starved (Failed t) = false
+is_starved (Joined l t) = false
 
 -- whether there was none for the answer to a write
 abbrev pub is_starved_write : Wrote → Bool

@@ -1,8 +1,12 @@
 -- What a wire in memory keeps of its calls.
-use Rattle.std.specs.Prelude.{◌≡◌, ℕ, Bool, true, false, List, [], ◌++◌, Some, Result, Ok, Err}
+use Rattle.std.specs.Prelude.{◌≡◌, ◌<◌, ◌≤◌, ◌⊎◌, ℕ, Bool, true, false, List, [], ◌++◌, Some, Result, Ok, Err}
 use Rattle.mux_outside.specs.Seen.{Calls, Seen, no_calls, calls_after_wait, calls_after_write}
 use Rattle.mux_outside.specs.Seen.{seen_after_open, seen_after_join, seen_after_turn, seen_after_write, seen_after_close}
-use Rattle.mux_outside.specs.Wire.{openings_of, OpenFaults, joinings_of, JoinFaults, TurnFaults, WroteFaults}
+use Rattle.mux_outside.specs.Counts.{HasCause}
+use Rattle.mux_outside.specs.Script.{Standing}
+use Rattle.mux_outside.specs.Wire.{openings_of, OpenFaults, joinings_of, JoinFaults, TurnFaults, WroteFaults, OwnTurnFaults, OwnWroteFaults}
+use Rattle.mux_outside.specs.declared.own_streams.OwnStream.{OwnStream}
+use Rattle.mux_outside.specs.declared.own_streams.TheConstants.{LAST_CLIENT, LAST_OWN}
 use Rattle.mux_outside.specs.declared.file_error.FileError.{FileError}
 use Rattle.mux_outside.specs.declared.file_error.FileError.TheVariants.{Failed, OutOfMemory as NoMemory}
 use Rattle.mux_outside.specs.declared.mark.Mark.{Mark}
@@ -23,9 +27,13 @@ pub record Logged : Type 0 where
   pub blocked : List ℕ
   pub listens : Bool
   pub last : ℕ
+  pub listeners : List ℕ
+  pub own : List OwnStream
+  pub last_own : ℕ
   pub calls : Calls
   pub server_faults : ℕ
   pub client_faults : ℕ
+  pub own_faults : ℕ
 
 -- nothing was called
 abbrev pub nothing_logged : Logged
@@ -37,9 +45,13 @@ nothing_logged = record {
   blocked = [];
   listens = false;
   last = 0;
+  listeners = [];
+  own = [];
+  last_own = LAST_CLIENT;
   calls = no_calls;
   server_faults = 0;
   client_faults = 0;
+  own_faults = 0;
 }
 
 -- what is seen of a wire that tells its marks
@@ -50,6 +62,21 @@ seen_in log = record {
   blocked = log.blocked;
   listens = log.listens;
   last = log.last;
+  listeners = log.listeners;
+  own = log.own;
+  last_own = log.last_own;
+}
+
+-- what steps are skipped by, as the log has it
+abbrev pub standing_in : Logged → Standing
+standing_in log = record {
+  listens = log.listens;
+  last = log.last;
+  streams = log.streams;
+  blocked = log.blocked;
+  listeners = log.listeners;
+  own = log.own;
+  last_own = log.last_own;
 }
 
 -- after a call of open with this answer
@@ -61,6 +88,7 @@ pub record LogsOpening (answer : Result (Unit {0}) FileError) (control transport
   pub calls : new.calls ≡ old.calls
   pub cause : OpenFaults answer old.server_faults new.server_faults
       old.client_faults new.client_faults
+  pub own : new.own_faults ≡ old.own_faults
 
 -- after a call of join with this answer
 pub record LogsJoining (answer : Result (Unit {0}) FileError) (control : List ℕ) (old new : Logged)
@@ -71,6 +99,7 @@ pub record LogsJoining (answer : Result (Unit {0}) FileError) (control : List �
   pub calls : new.calls ≡ old.calls
   pub cause : JoinFaults answer old.server_faults new.server_faults
       old.client_faults new.client_faults
+  pub own : new.own_faults ≡ old.own_faults
 
 -- after a wait that gave this turn
 pub record LogsTurn (turn : Turn) (waiting : List ℕ) (want : Want) (bytes : List ℕ)
@@ -81,6 +110,7 @@ pub record LogsTurn (turn : Turn) (waiting : List ℕ) (want : Want) (bytes : Li
   pub calls : new.calls ≡ calls_after_wait turn old.calls
   pub cause : TurnFaults turn old.server_faults new.server_faults
       old.client_faults new.client_faults
+  pub own : OwnTurnFaults turn old.own_faults new.own_faults
 
 -- after a write that had this answer
 pub record LogsWrite (wrote : Wrote) (stream : ℕ) (bytes : List ℕ) (old new : Logged)
@@ -91,15 +121,38 @@ pub record LogsWrite (wrote : Wrote) (stream : ℕ) (bytes : List ℕ) (old new 
   pub calls : new.calls ≡ calls_after_write wrote old.calls
   pub cause : WroteFaults wrote stream old.server_faults new.server_faults
       old.client_faults new.client_faults
+  pub own : OwnWroteFaults wrote stream old.own_faults new.own_faults
 
--- after a stream was closed
-pub record LogsClose (stream : ℕ) (old new : Logged) : Type 0 where
+-- only what is seen changes, and so
+pub record Shows (after : Seen) (old new : Logged) : Type 0 where
   pub openings : new.openings ≡ old.openings
   pub joinings : new.joinings ≡ old.joinings
-  pub seen : seen_in new ≡ seen_after_close stream (seen_in old)
+  pub seen : seen_in new ≡ after
   pub calls : new.calls ≡ old.calls
   pub server : new.server_faults ≡ old.server_faults
   pub client : new.client_faults ≡ old.client_faults
+  pub own : new.own_faults ≡ old.own_faults
+
+-- what is seen changes so, and the own faults by the answer
+pub record ShowsMade (answer : Result ℕ FileError) (after : Seen) (old new : Logged)
+    : Type 0 where
+  pub openings : new.openings ≡ old.openings
+  pub joinings : new.joinings ≡ old.joinings
+  pub seen : seen_in new ≡ after
+  pub calls : new.calls ≡ old.calls
+  pub server : new.server_faults ≡ old.server_faults
+  pub client : new.client_faults ≡ old.client_faults
+  pub cause : HasCause answer old.own_faults new.own_faults
+
+-- after a stream was closed
+abbrev pub LogsClose : ℕ → Logged → Logged → Type 0
+LogsClose stream old new = Shows (seen_after_close stream (seen_in old)) old new
+
+-- whether a number was left for a listener or a stream that was to be made, and it wasn't to fail
+abbrev pub MakesAs : Bool → ℕ → Result ℕ FileError → Type 0
+MakesAs fails last (Ok n) = (fails ≡ false) × (last < LAST_OWN)
+MakesAs fails last (Err Failed) = (fails ≡ true) ⊎ (LAST_OWN ≤ last)
+MakesAs fails last (Err NoMemory) = Unit {0}
 
 -- the turn that a wait gives: there may be no memory to keep it
 abbrev pub turn_kept : {E : Type 0} → Result (Unit {0}) E → Turn → Turn

@@ -1,6 +1,7 @@
 ghost use Rattle.std.specs.Prelude.{◌≡◌, ◌++◌, IfOk};
 ghost use Rattle.mux_outside.specs.Marks.{bytes_taken as all_taken};
 
+use crate::house_mark::HouseMark;
 use crate::kept_streams::KeptStreams;
 use crate::turn::Want;
 use ssh_fields::{OutOfMemory, Text};
@@ -36,6 +37,10 @@ pub enum Mark {
     Holds(u64),
     /// A stream failed at a write.
     WriteFails(u64),
+    /// A socket was joined at this listener of the master's own, and is this stream.
+    Joins(u64, u64),
+    /// What happened between the master and its house.
+    House(HouseMark),
 }
 
 /// All bytes that a stream took, in order.

@@ -1,4 +1,4 @@
-ghost use Rattle.std.specs.Prelude.{◌≡◌, [], ◌∷◌, ◌++◌, IfOk, OnOk, OnErr};
+ghost use Rattle.std.specs.Prelude.{◌≡◌, [], ◌∷◌, ◌++◌, ◌-◌, IfOk, OnOk, OnErr, length, take};
 ghost use Rattle.mux_outside.specs.Streams.{without};
 
 use crate::kept_streams::KeptStreams;
@@ -64,6 +64,14 @@ impl OpenStreams {
         self.streams.push(stream)?;
         self.kept = None;
         Ok(())
+    }
+
+    /// Closes the stream that was opened last. It takes no memory.
+    pub fn pop(&mut self)
+        ensures { self.new ≡ take (length self.old - 1) self.old }
+    {
+        let _ = self.streams.pop();
+        self.kept = None;
     }
 
     /// Closes a stream. It takes no memory.

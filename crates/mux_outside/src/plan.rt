@@ -5,6 +5,7 @@ ghost use Rattle.mux_outside.specs.Streams.{among};
 ghost use Rattle.mux_outside.specs.Script.{is_given_in, cut_step, steps_from, from_first, FirstGives, turn_of, bytes_of, bytes_in, steps_after, entry_at, answer_of};
 ghost use Rattle.mux_outside.specs.Wire.{TurnFits};
 
+use crate::own_streams::{LAST_CLIENT, LAST_OWN, OwnStreams};
 use crate::piece::LONGEST_PIECE;
 use crate::script::{Step, WriteEntry};
 use crate::streams::Streams;
@@ -32,6 +33,9 @@ pub struct State<'a> {
     pub last: u64,
     pub streams: &'a Streams,
     pub blocked: &'a Streams,
+    pub listeners: &'a Streams,
+    pub own: &'a OwnStreams,
+    pub last_own: u64,
 }
 
 // Whether a step that has given so many bytes isn't skipped.
@@ -39,14 +43,19 @@ fn is_given(step: &Step, offset: usize, state: State<'_>) -> bool
     ensures { result ≡ is_given_in state.entry (cut_step offset step.now) }
 {
     match step {
-        Step::Accept => state.listening && state.last < u64::MAX,
+        Step::Accept => state.listening && state.last < LAST_CLIENT,
         Step::Bytes(stream, text) => {
-            state.streams.contains(*stream) && offset < text.as_bytes().len()
+            state.streams.contains(*stream)
+                && !state.own.is_silent(*stream)
+                && offset < text.as_bytes().len()
         }
-        Step::End(stream) => state.streams.contains(*stream),
+        Step::End(stream) => { state.streams.contains(*stream) && !state.own.is_silent(*stream) }
         Step::Fail(stream) => state.streams.contains(*stream),
         Step::Writable(stream) => {
             state.streams.contains(*stream) && state.blocked.contains(*stream)
+        }
+        Step::Join(listener, stream) => {
+            state.listeners.contains(*listener) && state.last_own < *stream && *stream <= LAST_OWN
         }
     }
 }
@@ -117,6 +126,11 @@ pub fn give<'a>(steps: &'a [Step], place: Place, last: u64) -> Given<'a>
         },
         Step::Writable(stream) => Given {
             turn: Turn::Writable(*stream),
+            bytes: None,
+            place: behind,
+        },
+        Step::Join(listener, stream) => Given {
+            turn: Turn::Joined(*listener, *stream),
             bytes: None,
             place: behind,
         },

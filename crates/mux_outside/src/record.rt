@@ -12,7 +12,8 @@ use crate::turn::{Turn, Want, Wrote};
 use ssh_fields::{OutOfMemory, Text};
 use std::alloc::Global;
 
-/// Records a call of `wait` and its turn, and opens the stream of a client that comes.
+/// Records a call of `wait` and its turn, and opens the stream of a client that comes or of a socket
+/// that is joined.
 pub fn record_wait(
     alloc: Global,
     marks: &mut Marks,
@@ -50,17 +51,19 @@ fn mark_of_turn(alloc: Global, turn: Turn, bytes: &[u8]) -> Result<Mark, OutOfMe
         Turn::End(stream) => Ok(Mark::Ends(stream)),
         Turn::Writable(stream) => Ok(Mark::Frees(stream)),
         Turn::Failed(stream) => Ok(Mark::Fails(stream)),
+        Turn::Joined(listener, stream) => Ok(Mark::Joins(listener, stream)),
         Turn::NoMemory => Err(OutOfMemory),
     }
 }
 
-// Opens the stream of a client that comes.
+// Opens the stream of a client that comes or of a socket that is joined.
 fn open_stream(turn: Turn, streams: &mut OpenStreams) -> Result<(), OutOfMemory>
     ensures ok { OnOk result (streams.new ≡ open_after turn streams.old) }
     ensures err { OnErr result (streams.new ≡ streams.old) }
 {
     match turn {
         Turn::Accepted(client) => streams.push(client),
+        Turn::Joined(_, stream) => streams.push(stream),
         _ => Ok(()),
     }
 }

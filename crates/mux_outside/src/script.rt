@@ -6,14 +6,19 @@ pub enum Step {
     /// A client comes. It is skipped where the wire doesn't listen.
     Accept,
     /// A stream gives bytes, more than 65,536 in pieces. It is skipped where the stream isn't open
-    /// or no byte is left.
+    /// or no byte is left, and where it is one of the master's own that is paused or has ended.
     Bytes(u64, Text),
-    /// A stream ends. It is skipped where the stream isn't open.
+    /// A stream ends. It is skipped where the stream isn't open, and where it is one of the
+    /// master's own that is paused or has ended.
     End(u64),
     /// A stream fails. It is skipped where the stream isn't open.
     Fail(u64),
     /// A stream takes bytes again. It is skipped where the stream isn't open or isn't blocked.
     Writable(u64),
+    /// A socket is joined at a listener of the master's own, and is this stream. It is skipped
+    /// where the listener isn't open, and where the stream's number isn't above the last one of the
+    /// master's own or is past the last that there is.
+    Join(u64, u64),
 }
 
 /// Steps in order.

@@ -1,4 +1,4 @@
-ghost use Rattle.std.specs.Prelude.{◌≡◌, ◌≢◌, ◌<◌, ◌≤◌, ◌++◌, ℕ, List, false, Some, IsTrue, All, IfSome, length, unwrap_or};
+ghost use Rattle.std.specs.Prelude.{◌≡◌, ◌≢◌, ◌<◌, ◌≤◌, ◌++◌, ℕ, List, true, false, Some, IsTrue, All, IfSome, length, unwrap_or};
 ghost use Rattle.std.specs.Option.{option_map};
 ghost use Rattle.mux_outside.specs.Streams.{among};
 ghost use Rattle.mux_outside.specs.Tally.{no_tally};
@@ -9,13 +9,19 @@ ghost use Rattle.mux_outside.specs.Wire.{openings_of, OpenFaults, joinings_of, J
 ghost use Rattle.mux_outside.specs.Script.{bytes_in};
 ghost use Rattle.mux_outside.specs.Seen.{seen_after_close, seen_after_join, seen_after_open, seen_after_turn, seen_after_write};
 ghost use Rattle.mux_outside.specs.Seen.{calls_after_wait, calls_after_write};
-ghost use Rattle.mux_outside.specs.ScriptWire.{GivesAt, GivesNext, FollowsEntry, OpensByNumber, Starts};
-ghost use Rattle.mux_outside.specs.WireLog.{seen_in, LogsOpening, LogsJoining, LogsTurn, LogsWrite, LogsClose};
+ghost use Rattle.mux_outside.specs.Seen.{seen_after_note, seen_after_listen, seen_after_connect, seen_after_unlisten, seen_after_pause, seen_after_finish};
+ghost use Rattle.mux_outside.specs.Counts.{HasCause};
+ghost use Rattle.mux_outside.specs.OwnStreams.{is_finished};
+ghost use Rattle.mux_outside.specs.Wire.{OwnFits, OwnTurnFaults, OwnWroteFaults, NumberFits};
+ghost use Rattle.mux_outside.specs.ScriptWire.{GivesAt, GivesNext, FollowsEntry, OpensByNumber, MakesByNumber, Starts};
+ghost use Rattle.mux_outside.specs.WireLog.{seen_in, Shows, ShowsMade};
+ghost use Rattle.mux_outside.specs.WireLog.{LogsOpening, LogsJoining, LogsTurn, LogsWrite, LogsClose};
 ghost use Rattle.mux_outside.specs.ScriptWire.{KeepsSteps, KeepsWrites, KeepsOpens, SameScript};
 
 use crate::calls::Calls;
 use crate::counts::counted;
 use crate::file_error::FileError;
+use crate::house_mark::HouseMark;
 use crate::piece::{LONGEST_PIECE, Piece};
 use crate::plan::{Given, Place, State, answer_at, find, give};
 use crate::script::{Step, Steps, Writes};
@@ -23,6 +29,7 @@ use crate::streams::Streams;
 use crate::turn::{Tally, Turn, Want, Wrote};
 use crate::wire::Wire;
 use crate::wire_log::WireLog;
+use ssh_fields::OutOfMemory;
 use std::alloc::Global;
 
 /// A wire in memory, which gives the turns of its steps, answers writes by its entries, and tells
@@ -36,14 +43,14 @@ pub struct ScriptWire {
     // how many writes were answered
     written: usize,
     fails: Calls,
-    // how many calls of `open` and `join` were counted
+    // how many calls of `open`, `join`, `listen` and `connect` were counted
     opens: u64,
     log: WireLog,
 }
 
 impl ScriptWire {
-    /// A wire that isn't open. The calls of `open` and `join`, counted together,
-    /// fail that have one of the given numbers.
+    /// A wire that isn't open. The calls of `open`, `join`, `listen` and `connect`, counted
+    /// together, fail that have one of the given numbers.
     pub fn new(alloc: Global, steps: Steps, writes: Writes, fails: Calls) -> ScriptWire
         ensures starts { Starts result steps writes fails }
     {
@@ -80,6 +87,7 @@ fn given<'a>(
     requires some { want ≡ WriteOnly → 0 < length waiting.now }
     ensures turn { (piece : List ℕ) → TurnFits result.turn want log.now.listens log.now.last
         log.now.streams log.now.blocked (unwrap_or (bytes_in result) piece) }
+    ensures own_turn { OwnFits result.turn log.now.listeners log.now.own log.now.last_own }
     ensures short { IfSome (bytes_in result) (λ bytes. length bytes ≤ LONGEST_PIECE) }
     ensures script { (piece : List ℕ) → GivesAt want waiting.now log.now steps.now place
         result.place result.turn piece (unwrap_or (bytes_in result) piece) }
@@ -91,6 +99,9 @@ fn given<'a>(
                 last: log.last(),
                 streams: log.streams(),
                 blocked: log.blocked(),
+                listeners: log.listeners(),
+                own: log.own(),
+                last_own: log.last_own(),
             };
             let place = find(steps, place, state);
             give(steps, place, log.last())
@@ -115,6 +126,8 @@ impl Wire for ScriptWire {
     ghost server_faults = { λ w. w.log.server_faults };
 
     ghost client_faults = { λ w. w.log.client_faults };
+
+    ghost own_faults = { λ w. w.log.own_faults };
 
     ghost tally = { λ _. no_tally };
 
@@ -154,6 +167,8 @@ impl Wire for ScriptWire {
         ensures turn { TurnFits result want self.old.log.listens self.old.log.last
             self.old.log.streams
             self.old.log.blocked into.new }
+        ensures own_turn { OwnFits result self.old.log.listeners self.old.log.own
+            self.old.log.last_own }
         ensures logs { LogsTurn result waiting.now want into.new self.old.log self.new.log }
         ensures script { result ≢ NoMemory
             → GivesNext want waiting.now self.old self.new result into.old into.new }
@@ -175,6 +190,7 @@ impl Wire for ScriptWire {
     fn write(&mut self, stream: u64, bytes: &[u8]) -> Wrote
         requires stream_open { IsTrue (among stream self.old.log.streams) }
         requires not_blocked { among stream self.old.log.blocked ≡ false }
+        requires not_finished { is_finished stream self.old.log.own ≡ false }
         requires some { 0 < length bytes.now }
         ensures wrote { WroteFits result (length bytes.now) }
         ensures logs { LogsWrite result stream bytes.now self.old.log self.new.log }
@@ -203,6 +219,76 @@ impl Wire for ScriptWire {
         ensures same { SameScript self.old self.new }
     {
         self.log.close(stream);
+    }
+
+    fn note(&mut self, m: &HouseMark) -> Result<(), OutOfMemory>
+        ensures logs { Shows (seen_after_note result m.now (seen_in self.old.log))
+            self.old.log self.new.log }
+        ensures same { SameScript self.old self.new }
+    {
+        self.log.noted(m)
+    }
+
+    fn listen(&mut self, _host: &[u8], _port: u32) -> Result<u64, FileError>
+        ensures fits { NumberFits result self.old.log.last_own }
+        ensures logs { ShowsMade result (seen_after_listen result (seen_in self.old.log))
+            self.old.log self.new.log }
+        ensures exact { MakesByNumber result self.old self.new }
+        ensures script { KeepsSteps self.old self.new × KeepsWrites self.old self.new }
+    {
+        let opens = counted(self.opens);
+        let answer = self.log.listened(self.fails.contains(opens));
+        if answer != Err(FileError::OutOfMemory) {
+            self.opens = opens;
+        }
+        answer
+    }
+
+    fn connect(&mut self, _host: &[u8], _port: u32) -> Result<u64, FileError>
+        ensures fits { NumberFits result self.old.log.last_own }
+        ensures logs { ShowsMade result (seen_after_connect result (seen_in self.old.log))
+            self.old.log self.new.log }
+        ensures exact { MakesByNumber result self.old self.new }
+        ensures script { KeepsSteps self.old self.new × KeepsWrites self.old self.new }
+    {
+        let opens = counted(self.opens);
+        let answer = self.log.connected(self.fails.contains(opens));
+        if answer != Err(FileError::OutOfMemory) {
+            self.opens = opens;
+        }
+        answer
+    }
+
+    fn unlisten(&mut self, listener: u64)
+        ensures logs { Shows (seen_after_unlisten listener (seen_in self.old.log))
+            self.old.log self.new.log }
+        ensures same { SameScript self.old self.new }
+    {
+        self.log.unlistened(listener);
+    }
+
+    fn pause(&mut self, stream: u64)
+        ensures logs { Shows (seen_after_pause true stream (seen_in self.old.log))
+            self.old.log self.new.log }
+        ensures same { SameScript self.old self.new }
+    {
+        self.log.paused(stream, true);
+    }
+
+    fn resume(&mut self, stream: u64)
+        ensures logs { Shows (seen_after_pause false stream (seen_in self.old.log))
+            self.old.log self.new.log }
+        ensures same { SameScript self.old self.new }
+    {
+        self.log.paused(stream, false);
+    }
+
+    fn finish(&mut self, stream: u64)
+        ensures logs { Shows (seen_after_finish stream (seen_in self.old.log))
+            self.old.log self.new.log }
+        ensures same { SameScript self.old self.new }
+    {
+        self.log.finished(stream);
     }
 
     fn tally(&self) -> Tally {

@@ -1,7 +1,10 @@
-use ssh_fields::{ListOf, Text};
+ghost use Rattle.std.specs.Prelude.{◌≡◌, IfOk};
 
-/// A forwarding that is asked for by the configuration or by words: its kind, and both ends. An
-/// absent end has an empty host and port 0.
+use ssh_fields::{ListOf, OutOfMemory, Text};
+use std::alloc::Global;
+
+/// A forwarding that is asked for by the configuration, by words or by a client: its kind, and both
+/// ends. An absent end has an empty host and port 0.
 #[derive(Debug, Drop)]
 pub struct StartAsk {
     /// 1 for a local forwarding, 2 for a remote and 3 for a dynamic one.
@@ -12,6 +15,24 @@ pub struct StartAsk {
     pub connect_port: u32,
     /// Whether an end is a path.
     pub path: bool,
+}
+
+impl StartAsk {
+    /// The same once more.
+    pub fn copy(&self, alloc: Global) -> Result<StartAsk, OutOfMemory>
+        ensures { IfOk result (λ ask. ask ≡ self.now) }
+    {
+        let listen_host = Text::copy(alloc, self.listen_host.as_bytes())?;
+        let connect_host = Text::copy(alloc, self.connect_host.as_bytes())?;
+        Ok(StartAsk {
+            kind: self.kind,
+            listen_host,
+            listen_port: self.listen_port,
+            connect_host,
+            connect_port: self.connect_port,
+            path: self.path,
+        })
+    }
 }
 
 /// Such forwardings in order.

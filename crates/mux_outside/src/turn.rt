@@ -23,6 +23,8 @@ pub enum Turn {
     Writable(u64),
     /// A stream failed.
     Failed(u64),
+    /// A socket was joined at this listener of the master's own, and is this stream.
+    Joined(u64, u64),
     /// There was no memory, and nothing has changed.
     NoMemory,
 }

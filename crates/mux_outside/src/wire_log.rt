@@ -1,17 +1,24 @@
 //! What a wire in memory keeps of its calls.
-ghost use Rattle.std.specs.Prelude.{◌≡◌, ◌≢◌, ◌++◌, IfOk, OnOk, false, length};
+ghost use Rattle.std.specs.Prelude.{◌≡◌, ◌≢◌, ◌≤◌, ◌++◌, List, IfOk, OnOk, OnErr, false, length};
 ghost use Rattle.mux_outside.specs.Marks.{bytes_taken as all_taken};
 ghost use Rattle.mux_outside.specs.declared.turn.Turn.TheVariants.{NoMemory};
 ghost use Rattle.mux_outside.specs.Wire.{WroteFits};
 ghost use Rattle.mux_outside.specs.WireLog.{nothing_logged, turn_kept, answer_kept, OpensAs};
+ghost use Rattle.mux_outside.specs.WireLog.{seen_in, Shows, ShowsMade, MakesAs};
+ghost use Rattle.mux_outside.specs.Seen.{seen_after_note, seen_after_listen, seen_after_connect, seen_after_unlisten, seen_after_pause, seen_after_finish};
+ghost use Rattle.mux_outside.specs.Wire.{NumberFits, OwnFits};
+ghost use Rattle.mux_outside.specs.OwnStreams.{joined_after};
+ghost use Rattle.mux_outside.specs.declared.own_streams.OwnStream.{OwnStream};
 ghost use Rattle.mux_outside.specs.WireLog.{LogsOpening, LogsJoining, LogsTurn, LogsWrite, LogsClose};
 
 use crate::call_counts::CallCounts;
 use crate::counts::{count_fault, raised};
 use crate::file_error::FileError;
+use crate::house_mark::HouseMark;
 use crate::mark::{Mark, Opening, bytes_taken};
 use crate::marks::Marks;
 use crate::open_streams::OpenStreams;
+use crate::own_streams::{LAST_CLIENT, LAST_OWN, OwnStreams};
 use crate::record::{record_wait, record_write};
 use crate::streams::Streams;
 use crate::turn::{Turn, Want, Wrote};
@@ -30,13 +37,19 @@ pub struct WireLog {
     blocked: Streams,
     listening: bool,
     last: u64,
+    listeners: Streams,
+    own: OwnStreams,
+    last_own: u64,
     calls: CallCounts,
     server_faults: u64,
     client_faults: u64,
+    own_faults: u64,
 }
 
 impl Model for WireLog {
+    ghost use Rattle.std.specs.Prelude.{◌≤◌};
     ghost use Rattle.mux_outside.specs.WireLog.{Logged};
+    ghost use Rattle.mux_outside.specs.declared.own_streams.TheConstants.{LAST_CLIENT};
 
     ghost Value = { Logged };
 
@@ -48,10 +61,16 @@ impl Model for WireLog {
       blocked = l.blocked;
       listens = l.listening;
       last = l.last;
+      listeners = l.listeners;
+      own = l.own;
+      last_own = l.last_own;
       calls = l.calls;
       server_faults = l.server_faults;
       client_faults = l.client_faults;
+      own_faults = l.own_faults;
     } };
+
+    ghost invariant = { λ l. LAST_CLIENT ≤ l.last_own };
 }
 
 impl WireLog {
@@ -68,9 +87,13 @@ impl WireLog {
             blocked: Streams::new(alloc),
             listening: false,
             last: 0,
+            listeners: Streams::new(alloc),
+            own: OwnStreams::new(alloc),
+            last_own: LAST_CLIENT,
             calls: CallCounts::new(),
             server_faults: 0,
             client_faults: 0,
+            own_faults: 0,
         }
     }
 
@@ -102,6 +125,28 @@ impl WireLog {
         self.last
     }
 
+    /// The master's own listeners that are open, in the order in which they were opened.
+    pub fn listeners(&self) -> &Streams
+        ensures { result.now ≡ self.now.listeners }
+    {
+        &self.listeners
+    }
+
+    /// The master's own streams that are open.
+    pub fn own(&self) -> &OwnStreams
+        ensures { result.now ≡ self.now.own }
+    {
+        &self.own
+    }
+
+    /// The last number of the master's own listeners and streams.
+    pub fn last_own(&self) -> u64
+        ensures value { result ≡ self.now.last_own }
+        ensures least { LAST_CLIENT ≤ result }
+    {
+        self.last_own
+    }
+
     /// The marks so far.
     pub fn marks(&self) -> &[Mark]
         ensures { result.now ≡ self.now.marks }
@@ -131,7 +176,8 @@ impl WireLog {
     }
 
     /// Keeps a call of `open` with these arguments, which succeeds or fails. After success the
-    /// server's stream alone is open, and clients are accepted; a failure counts as the server's.
+    /// server's stream alone is open, no listener is, and clients are accepted; a failure counts as the
+    /// server's.
     pub fn opened(&mut self, control: &[u8], transport: &[u8], opens: bool) -> Result<(), FileError>
         ensures opens { OpensAs opens result }
         ensures logs { LogsOpening result control.now transport.now self.old self.new }
@@ -151,12 +197,15 @@ impl WireLog {
         }
         self.streams = OpenStreams::new(streams);
         self.blocked = Streams::new(self.alloc);
+        self.listeners = Streams::new(self.alloc);
+        self.own = OwnStreams::new(self.alloc);
         self.listening = true;
         Ok(())
     }
 
     /// Keeps a call of `join` with this argument, which succeeds or fails. After success the server's
-    /// stream alone is open, and clients aren't accepted; a failure counts as the server's.
+    /// stream alone is open, no listener is, and clients aren't accepted; a failure counts as the
+    /// server's.
     pub fn joined(&mut self, control: &[u8], joins: bool) -> Result<(), FileError>
         ensures joins { OpensAs joins result }
         ensures logs { LogsJoining result control.now self.old self.new }
@@ -173,6 +222,8 @@ impl WireLog {
         }
         self.streams = OpenStreams::new(streams);
         self.blocked = Streams::new(self.alloc);
+        self.listeners = Streams::new(self.alloc);
+        self.own = OwnStreams::new(self.alloc);
         self.listening = false;
         Ok(())
     }
@@ -186,10 +237,15 @@ impl WireLog {
         want: Want,
         bytes: &[u8],
     ) -> Result<(), OutOfMemory>
+        requires { OwnFits turn self.old.listeners self.old.own self.old.last_own }
         ensures logs { LogsTurn (turn_kept result turn) waiting.now want bytes.now
             self.old self.new }
         ensures memory { OnOk result (turn ≢ NoMemory) }
     {
+        if self.own_made(turn).is_err() {
+            self.calls.waited(Turn::NoMemory);
+            return Err(OutOfMemory);
+        }
         if record_wait(
             self.alloc,
             &mut self.marks,
@@ -202,21 +258,46 @@ impl WireLog {
         )
         .is_err()
         {
+            self.own_unmade(turn);
             self.calls.waited(Turn::NoMemory);
             return Err(OutOfMemory);
         }
         self.calls.waited(turn);
         match turn {
             Turn::Accepted(client) => self.last = client,
+            Turn::End(stream) => self.own.end(stream),
             Turn::Writable(stream) => self.blocked.remove(stream),
             Turn::Failed(stream) => count_fault(
                 stream,
                 &mut self.server_faults,
                 &mut self.client_faults,
+                &mut self.own_faults,
             ),
+            Turn::Joined(_, stream) => self.last_own = stream,
             _ => {}
         }
         Ok(())
+    }
+
+    // Keeps the stream of a socket that is joined.
+    fn own_made(&mut self, turn: Turn) -> Result<(), OutOfMemory>
+        ensures ok { OnOk result (self.new ≡ record self.old { own = joined_after turn self.old.own }) }
+        ensures err { OnErr result (self.new ≡ self.old) }
+    {
+        if let Turn::Joined(_, stream) = turn {
+            self.own.push(stream)?;
+        }
+        Ok(())
+    }
+
+    // Forgets it again.
+    fn own_unmade(&mut self, turn: Turn)
+        ensures { (own : List OwnStream) → self.old.own ≡ joined_after turn own
+            → self.new ≡ record self.old { own = own } }
+    {
+        if let Turn::Joined(_, _) = turn {
+            self.own.pop();
+        }
     }
 
     /// Keeps a call of `write` that has this answer. Where there is no memory for it, the call is
@@ -240,7 +321,12 @@ impl WireLog {
         }
         self.calls.wrote(wrote);
         if wrote == Wrote::Failed {
-            count_fault(stream, &mut self.server_faults, &mut self.client_faults);
+            count_fault(
+                stream,
+                &mut self.server_faults,
+                &mut self.client_faults,
+                &mut self.own_faults,
+            );
         }
         Ok(())
     }
@@ -258,5 +344,79 @@ impl WireLog {
     {
         self.streams.remove(stream);
         self.blocked.remove(stream);
+        self.own.remove(stream);
+    }
+
+    /// Keeps a house's mark.
+    pub fn noted(&mut self, mark: &HouseMark) -> Result<(), OutOfMemory>
+        ensures { Shows (seen_after_note result mark.now (seen_in self.old)) self.old self.new }
+    {
+        let mark = mark.copy(self.alloc)?;
+        self.marks.told.push(Mark::House(mark))?;
+        Ok(())
+    }
+
+    /// Keeps that a listener was to be opened.
+    pub fn listened(&mut self, fails: bool) -> Result<u64, FileError>
+        ensures makes { MakesAs fails self.old.last_own result }
+        ensures fits { NumberFits result self.old.last_own }
+        ensures logs { ShowsMade result (seen_after_listen result (seen_in self.old))
+            self.old self.new }
+    {
+        if fails || self.last_own >= LAST_OWN {
+            self.own_faults = raised(self.own_faults);
+            return Err(FileError::Failed);
+        }
+        let number = self.last_own + 1;
+        self.listeners.push(number)?;
+        self.last_own = number;
+        Ok(number)
+    }
+
+    /// Keeps that a stream was to be made.
+    pub fn connected(&mut self, fails: bool) -> Result<u64, FileError>
+        ensures makes { MakesAs fails self.old.last_own result }
+        ensures fits { NumberFits result self.old.last_own }
+        ensures logs { ShowsMade result (seen_after_connect result (seen_in self.old))
+            self.old self.new }
+    {
+        if fails || self.last_own >= LAST_OWN {
+            self.own_faults = raised(self.own_faults);
+            return Err(FileError::Failed);
+        }
+        let number = self.last_own + 1;
+        self.own.push(number)?;
+        if self.streams.push(number).is_err() {
+            self.own.pop();
+            return Err(FileError::OutOfMemory);
+        }
+        if self.blocked.push(number).is_err() {
+            self.own.pop();
+            self.streams.pop();
+            return Err(FileError::OutOfMemory);
+        }
+        self.last_own = number;
+        Ok(number)
+    }
+
+    /// Keeps that a listener was closed.
+    pub fn unlistened(&mut self, listener: u64)
+        ensures { Shows (seen_after_unlisten listener (seen_in self.old)) self.old self.new }
+    {
+        self.listeners.remove(listener);
+    }
+
+    /// Keeps that an own stream was paused, or is so no longer.
+    pub fn paused(&mut self, stream: u64, paused: bool)
+        ensures { Shows (seen_after_pause paused stream (seen_in self.old)) self.old self.new }
+    {
+        self.own.set_paused(stream, paused);
+    }
+
+    /// Keeps that an own stream was finished.
+    pub fn finished(&mut self, stream: u64)
+        ensures { Shows (seen_after_finish stream (seen_in self.old)) self.old self.new }
+    {
+        self.own.finish(stream);
     }
 }

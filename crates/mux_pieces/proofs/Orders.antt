@@ -5,12 +5,12 @@ use Rattle.std.proofs.lemmas.Bool.Decides.{nat_tests}
 use Rattle.std.proofs.lemmas.List.{reverse-reverse}
 use Rattle.ssh_grammar.specs.Said.{heard, said}
 use Rattle.mux_outside.specs.declared.mark.Mark.{Mark}
-use Rattle.mux_history.specs.Journal.{bytes_of, heard_item, items, said_item}
+use Rattle.mux_history.specs.Journal.{bytes_of, heard_item, is_own_stream, items, said_item}
 use Rattle.mux_history.specs.Rows.{BadServer, Heard, Item, Says}
 use Rattle.mux_history.proofs.Bools.{self}
 use Rattle.mux_history.proofs.Finds.{filter-no, filter-yes}
 use Rattle.mux_pieces.specs.Pieces.{is_by_server, is_said_by, order_of, without_words}
-use Rattle.mux_pieces.proofs.Sayings.{heard-are, none-said, sayings-are}
+use Rattle.mux_pieces.proofs.Sayings.{heard-are, none-said, own-nobody, sayings-are, zero-nobody}
 
 -- ---- who says an item is seen without its words
 
@@ -106,9 +106,13 @@ module _ (marks others : List Mark) (same : (t : ℕ) → bytes_of t marks ≡ b
   clients-same : (k : ℕ) → filter (is_said_by k) (reverse (items marks)) ≡ filter (is_said_by k) (reverse (items others))
   clients-same k = by_zero (k == 0) refl
     where
+      by_own : (k == 0) ≡ false → (b : Bool) → is_own_stream k ≡ b → filter (is_said_by k) (reverse (items marks)) ≡ filter (is_said_by k) (reverse (items others))
+      by_own e true own = none-said k (own-nobody k own) marks ∙ sym (none-said k (own-nobody k own) others)
+      by_own e false client = sayings-are marks k (is-above k e) client ∙ (ap (λ b. map (said_item k) (said b)) (same k) ∙ sym (sayings-are others k (is-above k e) client))
+
       by_zero : (b : Bool) → (k == 0) ≡ b → filter (is_said_by k) (reverse (items marks)) ≡ filter (is_said_by k) (reverse (items others))
-      by_zero true e = none-said k (is-zero k e) marks ∙ sym (none-said k (is-zero k e) others)
-      by_zero false e = sayings-are marks k (is-above k e) ∙ (ap (λ b. map (said_item k) (said b)) (same k) ∙ sym (sayings-are others k (is-above k e)))
+      by_zero true e = none-said k (zero-nobody k (is-zero k e)) marks ∙ sym (none-said k (zero-nobody k (is-zero k e)) others)
+      by_zero false e = by_own e (is_own_stream k) refl
 
   server-same : filter is_by_server (reverse (items marks)) ≡ filter is_by_server (reverse (items others))
   server-same = heard-are marks ∙ (ap (λ b. map heard_item (heard b)) (same 0) ∙ sym (heard-are others))

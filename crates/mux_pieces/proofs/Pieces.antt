@@ -8,7 +8,10 @@ use Rattle.ssh_grammar.proofs.Parses.{parse-append}
 use Rattle.mux_outside.specs.declared.mark.Mark.{Mark}
 use Rattle.mux_outside.specs.declared.mark.Mark.TheVariants as wire
 use Rattle.mux_outside.specs.declared.turn.Want.{Want}
-use Rattle.mux_history.specs.Journal.{bytes_in, bytes_of, heard_item, items, items_in, new_heard, new_sayings, said_item, server_end}
+use Rattle.mux_outside.specs.declared.house_mark.HouseMark.{HouseMark}
+use Rattle.mux_outside.specs.declared.house_mark.HouseMark.TheVariants.{HouseAnswer, HouseAsked, HouseIn, HouseOrder, HouseSaid, HouseTook}
+use Rattle.mux_history.specs.declared.limits.TheConstants.{HOUSE}
+use Rattle.mux_history.specs.Journal.{bytes_in, bytes_of, heard_item, is_own_stream, items, items_in, new_heard, new_sayings, said_item, server_end, unless_own}
 use Rattle.mux_history.specs.Rows.{Item, Gone}
 use Rattle.mux_pieces.specs.Pieces.{AreAlike}
 
@@ -58,12 +61,20 @@ items-parts f mode x a b = ap (map f) (new-parts mode x a b) ∙ map-append f _ 
 
 -- the items of a piece of the stream, which is the server's or a client's
 abbrev new_items : Bool → ℕ → List ℕ → List ℕ → List Item
-new_items is_server t x y = elim is_server as (λ _. List Item) [ true ↦ new_heard x y | false ↦ new_sayings t x y ]
+new_items is_server t x y = elim is_server as (λ _. List Item) [ true ↦ new_heard x y | false ↦ unless_own t (new_sayings t x y) ]
+
+-- the items of a client's piece, of which one of the master's own has none
+abbrev new_said : ℕ → List ℕ → List ℕ → List Item
+new_said t x y = unless_own t (new_sayings t x y)
 
 new-items-parts : (b : Bool) (t : ℕ) (x a c : List ℕ)
     → new_items b t x (x ++ (a ++ c)) ≡ new_items b t x (x ++ a) ++ new_items b t (x ++ a) ((x ++ a) ++ c)
 new-items-parts true t x a c = items-parts heard_item InProxy x a c
-new-items-parts false t x a c = items-parts (said_item t) InControl x a c
+new-items-parts false t x a c = by_own (is_own_stream t)
+  where
+    by_own : (b : Bool) → elim b as (λ _. List Item) [ true ↦ [] | false ↦ new_sayings t x (x ++ (a ++ c)) ] ≡ elim b as (λ _. List Item) [ true ↦ [] | false ↦ new_sayings t x (x ++ a) ] ++ elim b as (λ _. List Item) [ true ↦ [] | false ↦ new_sayings t (x ++ a) ((x ++ a) ++ c) ]
+    by_own true = refl
+    by_own false = items-parts (said_item t) InControl x a c
 
 -- ---- a piece in two parts
 
@@ -107,10 +118,10 @@ module _ (before : List Mark) (waiting : List ℕ) (want : Want) (streams : List
       let x0 = bytes_of 0 before in
       let y0 = bytes_of 0 (then_waits t a) in
       let y' = bytes_of t (then_waits t a) in
-      ap (λ c. reverse (elim c as (λ _. List Item) [ true ↦ new_heard y0 (y0 ++ b) | false ↦ new_sayings t y' (y' ++ b) ]) ++ (reverse (elim c as (λ _. List Item) [ true ↦ new_heard x0 (x0 ++ a) | false ↦ new_sayings t x (x ++ a) ]) ++ items before)) e
-      ∙ (ap (λ y. reverse (new_sayings t y (y ++ b)) ++ (reverse (new_sayings t x (x ++ a)) ++ items before)) (behind t a)
-      ∙ (joined (new_sayings t (x ++ a) ((x ++ a) ++ b)) (new_sayings t x (x ++ a)) (new_sayings t x (x ++ (a ++ b))) (items before) (new-items-parts false t x a b)
-      ∙ sym (ap (λ c. reverse (elim c as (λ _. List Item) [ true ↦ new_heard x0 (x0 ++ (a ++ b)) | false ↦ new_sayings t x (x ++ (a ++ b)) ]) ++ items before) e)))
+      ap (λ c. reverse (elim c as (λ _. List Item) [ true ↦ new_heard y0 (y0 ++ b) | false ↦ new_said t y' (y' ++ b) ]) ++ (reverse (elim c as (λ _. List Item) [ true ↦ new_heard x0 (x0 ++ a) | false ↦ new_said t x (x ++ a) ]) ++ items before)) e
+      ∙ (ap (λ y. reverse (new_said t y (y ++ b)) ++ (reverse (new_said t x (x ++ a)) ++ items before)) (behind t a)
+      ∙ (joined (new_said t (x ++ a) ((x ++ a) ++ b)) (new_said t x (x ++ a)) (new_said t x (x ++ (a ++ b))) (items before) (new-items-parts false t x a b)
+      ∙ sym (ap (λ c. reverse (elim c as (λ _. List Item) [ true ↦ new_heard x0 (x0 ++ (a ++ b)) | false ↦ new_said t x (x ++ (a ++ b)) ]) ++ items before) e)))
 
   items-alike : (t : ℕ) (a b : List ℕ) → items (wire.Gets t b ∷ then_waits t a) ≡ items (wire.Gets t (a ++ b) ∷ before)
   items-alike t a b = elim (eqb_tells t 0) [
@@ -130,9 +141,9 @@ parts-alike before t a b waiting want streams listens = record {
 module _ (marks others : List Mark) (same : (t : ℕ) → bytes_of t marks ≡ bytes_of t others) where
   mark-alike : (mark : Mark) → items_in marks mark ≡ items_in others mark
   mark-alike (wire.Gets t bytes) =
-      ap (λ x. elim (t == 0) as (λ _. List Item) [ true ↦ new_heard x (x ++ bytes) | false ↦ new_sayings t (bytes_of t marks) (bytes_of t marks ++ bytes) ]) (same 0)
-      ∙ ap (λ x. elim (t == 0) as (λ _. List Item) [ true ↦ new_heard (bytes_of 0 others) (bytes_of 0 others ++ bytes) | false ↦ new_sayings t x (x ++ bytes) ]) (same t)
-  mark-alike (wire.Ends t) = ap (λ x. elim (t == 0) as (λ _. List Item) [ true ↦ server_end (parse InProxy x).rest ∷ [] | false ↦ Gone t ∷ [] ]) (same 0)
+      ap (λ x. elim (t == 0) as (λ _. List Item) [ true ↦ new_heard x (x ++ bytes) | false ↦ new_said t (bytes_of t marks) (bytes_of t marks ++ bytes) ]) (same 0)
+      ∙ ap (λ x. elim (t == 0) as (λ _. List Item) [ true ↦ new_heard (bytes_of 0 others) (bytes_of 0 others ++ bytes) | false ↦ new_said t x (x ++ bytes) ]) (same t)
+  mark-alike (wire.Ends t) = ap (λ x. elim (t == 0) as (λ _. List Item) [ true ↦ server_end (parse InProxy x).rest ∷ [] | false ↦ unless_own t (Gone t ∷ []) ]) (same 0)
   mark-alike (wire.Accepts k) = refl
   mark-alike (wire.Fails t) = refl
   mark-alike (wire.WriteFails t) = refl
@@ -140,6 +151,16 @@ module _ (marks others : List Mark) (same : (t : ℕ) → bytes_of t marks ≡ b
   mark-alike (wire.Waits waiting want streams listens) = refl
   mark-alike (wire.Frees t) = refl
   mark-alike (wire.Holds t) = refl
+  mark-alike (wire.Joins listener t) = refl
+  mark-alike (wire.House mark) = house-alike mark
+    where
+      house-alike : (mark : HouseMark) → items_in marks (wire.House mark) ≡ items_in others (wire.House mark)
+      house-alike (HouseSaid bytes) = ap (λ x. new_sayings HOUSE x (x ++ bytes)) (same HOUSE)
+      house-alike HouseIn = refl
+      house-alike (HouseTook size) = refl
+      house-alike (HouseAsked k id opening ask given) = refl
+      house-alike (HouseAnswer k id given) = refl
+      house-alike (HouseOrder order number) = refl
 
 pub goes-on : (marks others : List Mark) (mark : Mark) → AreAlike marks others → AreAlike (mark ∷ marks) (mark ∷ others)
 goes-on marks others mark h = record {

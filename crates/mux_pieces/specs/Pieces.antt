@@ -5,7 +5,7 @@ use Rattle.mux_outside.specs.declared.mark.Mark.{Mark}
 use Rattle.mux_outside.specs.declared.mark.Mark.TheVariants.{Waits, Gets}
 use Rattle.mux_outside.specs.declared.turn.Want.{Want}
 use Rattle.ssh_grammar.specs.Said.{Body, heard, said}
-use Rattle.mux_history.specs.Journal.{bytes_of, heard_item, items, log_of_journal, said_item}
+use Rattle.mux_history.specs.Journal.{bytes_of, heard_item, is_own_stream, items, log_of_journal, said_item}
 use Rattle.mux_history.specs.Policy.{Policy}
 use Rattle.mux_history.specs.Rows.{BadServer, Heard, Item, Says}
 use Rattle.mux_history.specs.Settings.{by_lists}
@@ -50,10 +50,11 @@ is_by_server (Heard p) = true
 is_by_server (BadServer fault) = true
 is_by_server item = false
 
--- what the items of a client say, the oldest first, is what all its bytes say, however these came
+-- what the items of a client say, the house among them, the oldest first, is what all its bytes say,
+-- however these came; the master's own streams say nothing
 abbrev pub SayingsAreOfBytes : Type 0
 SayingsAreOfBytes =
-    (marks : List Mark) (k : ℕ) → 0 < k
+    (marks : List Mark) (k : ℕ) → 0 < k → is_own_stream k ≡ false
     → filter (is_said_by k) (reverse (items marks)) ≡ map (said_item k) (said (bytes_of k marks))
 
 -- the same of the server

@@ -2,7 +2,7 @@
 use Rattle.std.specs.Prelude.{◌≡◌, ◌≢◌, ℕ, true, IsSome, IsSomeAnd, nat_eq}
 use Rattle.indexmap.specs.IndexMap.{IndexMap, get}
 use Rattle.mux_outside.specs.declared.turn.Turn.{Turn}
-use Rattle.mux_outside.specs.declared.turn.Turn.TheVariants.{Accepted, Got, End, Writable, Failed, NoMemory}
+use Rattle.mux_outside.specs.declared.turn.Turn.TheVariants.{Accepted, Got, End, Writable, Failed, Joined, NoMemory}
 use Rattle.mux_sockets.specs.declared.sockets.ready.Entry.{Entry}
 
 module _ {S : Type 0} where
@@ -36,4 +36,5 @@ module _ {S : Type 0} where
   HasClient (End t) entries = Unit {0}
   HasClient (Writable t) entries = Unit {0}
   HasClient (Failed t) entries = Unit {0}
+  HasClient (Joined l t) entries = Unit {0}
   HasClient NoMemory entries = Unit {0}

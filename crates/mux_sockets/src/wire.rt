@@ -4,6 +4,8 @@ ghost use Rattle.mux_outside.specs.Streams.{among};
 ghost use Rattle.mux_outside.specs.Tally.{no_tally};
 ghost use Rattle.mux_outside.specs.Wire.{JoinFaults, OpenFaults, TurnFits, TurnFaults, open_after, blocked_after, last_after};
 ghost use Rattle.mux_outside.specs.Wire.{WroteFits, WroteFaults, blocked_after_write};
+ghost use Rattle.mux_outside.specs.Wire.{OwnFits, OwnTurnFaults, OwnWroteFaults};
+ghost use Rattle.mux_outside.specs.declared.own_streams.TheConstants.{LAST_CLIENT};
 ghost use Rattle.mux_outside.specs.declared.turn.Want.TheVariants.{Read as WantsAll};
 ghost use Rattle.mux_outside.specs.declared.turn.Turn.TheVariants.{NoMemory};
 ghost use Rattle.indexmap.specs.IndexMap.{get};
@@ -13,18 +15,18 @@ ghost use Rattle.mux_sockets.specs.Untold.{untold};
 
 use crate::sockets::{Fault, Sockets};
 use mux_outside::{
-    CallCounts, FileError, Piece, Streams, Tally, Turn, Want, Wire, Wrote, count_fault, raised,
+    CallCounts, FileError, HouseMark, LAST_CLIENT, Piece, Streams, Tally, Turn, Want, Wire, Wrote,
+    count_fault, raised,
 };
+use ssh_fields::OutOfMemory;
 use std::alloc::Global;
 use std::fs::Files;
 use std::net::Net;
 
-// The sockets have no stream of the number behind it.
-const LAST_CLIENT: u64 = u64::MAX - 1;
-
 /// A wire over the system's sockets: a Unix socket for the clients, and a Unix socket or TCP for
 /// the server. A client that fails, resets or takes its bytes slowly is that client's matter alone;
-/// while the system has no descriptors left, clients wait.
+/// while the system has no descriptors left, clients wait. It opens no listener and no stream of the
+/// master's own.
 #[derive(Drop)]
 pub struct RealWire<R: Files + Net + Clone + Drop> {
     rt: R,
@@ -37,6 +39,7 @@ pub struct RealWire<R: Files + Net + Clone + Drop> {
     calls: CallCounts,
     server_faults: u64,
     client_faults: u64,
+    own_faults: u64,
 }
 
 impl<R: Files + Net + Clone + Drop> RealWire<R> {
@@ -49,6 +52,7 @@ impl<R: Files + Net + Clone + Drop> RealWire<R> {
         ensures calls { result.calls ≡ no_calls }
         ensures server { result.server_faults ≡ 0 }
         ensures client { result.client_faults ≡ 0 }
+        ensures own { result.own_faults ≡ 0 }
     {
         RealWire {
             rt,
@@ -61,13 +65,14 @@ impl<R: Files + Net + Clone + Drop> RealWire<R> {
             calls: CallCounts::new(),
             server_faults: 0,
             client_faults: 0,
+            own_faults: 0,
         }
     }
 
     // The number of the client that may come now.
     fn next_client(&self, want: Want) -> Option<u64>
-        ensures { IfSome result (λ k.
-            (want ≡ WantsAll) × (self.now.listening ≡ true) × (k ≡ self.now.last + 1)) }
+        ensures { IfSome result (λ k. (want ≡ WantsAll) × (self.now.listening ≡ true)
+            × (k ≡ self.now.last + 1) × (self.now.last < LAST_CLIENT)) }
     {
         if want == Want::Read && self.listening && self.last < LAST_CLIENT {
             Some(self.last + 1)
@@ -80,12 +85,13 @@ impl<R: Files + Net + Clone + Drop> RealWire<R> {
 impl<R: Files + Net + Clone + Drop> RealWire<R> {
     // The turn of what the sockets found. What they may not find is a fault of the server's stream.
     fn turn_of(&mut self, found: Turn, want: Want, client: Option<u64>) -> Turn
-        requires next { IfSome client (λ k.
-            (want ≡ WantsAll) × (self.old.listening ≡ true) × (k ≡ self.old.last + 1)) }
+        requires next { IfSome client (λ k. (want ≡ WantsAll) × (self.old.listening ≡ true)
+            × (k ≡ self.old.last + 1) × (self.old.last < LAST_CLIENT)) }
         requires server { IsTrue (among 0 self.old.streams) }
         ensures turn { (before now : List ℕ) → FoundFits found client before now
             → TurnFits result want self.old.listening self.old.last self.old.streams
             self.old.blocked now }
+        ensures own_turn { OwnFits result [] [] LAST_CLIENT }
         ensures told { (before now : List ℕ) → FoundFits found client before now
             → TurnFits found want self.old.listening self.old.last self.old.streams
             self.old.blocked now → Tells found result }
@@ -99,6 +105,7 @@ impl<R: Files + Net + Clone + Drop> RealWire<R> {
         ensures calls { self.new.calls ≡ self.old.calls }
         ensures cause { TurnFaults result self.old.server_faults self.new.server_faults
             self.old.client_faults self.new.client_faults }
+        ensures own { OwnTurnFaults result self.old.own_faults self.new.own_faults }
     {
         match found {
             Turn::Accepted(number) if client == Some(number) => {
@@ -116,7 +123,12 @@ impl<R: Files + Net + Clone + Drop> RealWire<R> {
                 Turn::Writable(t)
             }
             Turn::Failed(t) if self.streams.contains(t) => {
-                count_fault(t, &mut self.server_faults, &mut self.client_faults);
+                count_fault(
+                    t,
+                    &mut self.server_faults,
+                    &mut self.client_faults,
+                    &mut self.own_faults,
+                );
                 Turn::Failed(t)
             }
             Turn::NoMemory => Turn::NoMemory,
@@ -138,6 +150,7 @@ impl<R: Files + Net + Clone + Drop> RealWire<R> {
         ensures calls { self.new.calls ≡ self.old.calls }
         ensures cause { WroteFaults result stream self.old.server_faults self.new.server_faults
             self.old.client_faults self.new.client_faults }
+        ensures own { OwnWroteFaults result stream self.old.own_faults self.new.own_faults }
     {
         // The room for a stream that blocks comes before the write, which can't be taken back.
         if self.blocked.push(stream).is_err() {
@@ -155,7 +168,12 @@ impl<R: Files + Net + Clone + Drop> RealWire<R> {
             }
             Wrote::Failed => {
                 let _ = self.blocked.pop();
-                count_fault(stream, &mut self.server_faults, &mut self.client_faults);
+                count_fault(
+                    stream,
+                    &mut self.server_faults,
+                    &mut self.client_faults,
+                    &mut self.own_faults,
+                );
                 Wrote::Failed
             }
             Wrote::NoMemory => {
@@ -179,6 +197,8 @@ impl<R: Files + Net + Clone + Drop> Wire for RealWire<R> {
 
     ghost client_faults = { λ w. w.client_faults };
 
+    ghost own_faults = { λ w. w.own_faults };
+
     ghost tally = { λ _. no_tally };
 
     fn open(&mut self, control: &[u8], transport: &[u8]) -> Result<(), FileError>
@@ -191,6 +211,7 @@ impl<R: Files + Net + Clone + Drop> Wire for RealWire<R> {
         ensures calls { self.new.calls ≡ self.old.calls }
         ensures cause { OpenFaults result self.old.server_faults self.new.server_faults
             self.old.client_faults self.new.client_faults }
+        ensures own { self.new.own_faults ≡ self.old.own_faults }
     {
         let mut streams = Streams::new(self.alloc);
         streams.push(0)?;
@@ -224,6 +245,7 @@ impl<R: Files + Net + Clone + Drop> Wire for RealWire<R> {
         ensures calls { self.new.calls ≡ self.old.calls }
         ensures cause { JoinFaults result self.old.server_faults self.new.server_faults
             self.old.client_faults self.new.client_faults }
+        ensures own { self.new.own_faults ≡ self.old.own_faults }
     {
         let mut streams = Streams::new(self.alloc);
         streams.push(0)?;
@@ -264,6 +286,7 @@ impl<R: Files + Net + Clone + Drop> Wire for RealWire<R> {
         ensures calls { self.new.calls ≡ self.old.calls }
         ensures server { self.new.server_faults ≡ self.old.server_faults }
         ensures client { self.new.client_faults ≡ self.old.client_faults }
+        ensures own { self.new.own_faults ≡ self.old.own_faults }
     {
         self.listening = false;
         if let Some(sockets) = &mut self.sockets {
@@ -276,6 +299,28 @@ impl<R: Files + Net + Clone + Drop> Wire for RealWire<R> {
         self.blocked.remove(stream);
         drop_socket(&mut self.sockets, stream);
     }
+
+    fn note(&mut self, _m: &HouseMark) -> Result<(), OutOfMemory> {
+        Ok(())
+    }
+
+    fn listen(&mut self, _host: &[u8], _port: u32) -> Result<u64, FileError> {
+        self.own_faults = raised(self.own_faults);
+        Err(FileError::Failed)
+    }
+
+    fn connect(&mut self, _host: &[u8], _port: u32) -> Result<u64, FileError> {
+        self.own_faults = raised(self.own_faults);
+        Err(FileError::Failed)
+    }
+
+    fn unlisten(&mut self, _listener: u64) {}
+
+    fn pause(&mut self, _stream: u64) {}
+
+    fn resume(&mut self, _stream: u64) {}
+
+    fn finish(&mut self, _stream: u64) {}
 
     fn tally(&self) -> Tally {
         Tally::zero()

@@ -1,5 +1,5 @@
 //! The marks of a wire as lines.
-use mux_outside::{KeptStreams, Mark, Want};
+use mux_outside::{HouseMark, KeptStreams, Mark, Want};
 use ssh_fields::{OutOfMemory, Text, Texts};
 use std::alloc::Global;
 
@@ -25,6 +25,8 @@ fn mark_line(alloc: Global, mark: &Mark) -> Result<Text, OutOfMemory> {
         Mark::Takes(stream, bytes) => bytes_line(alloc, b"takes", *stream, bytes),
         Mark::Holds(stream) => stream_line(alloc, b"holds", *stream),
         Mark::WriteFails(stream) => stream_line(alloc, b"loses", *stream),
+        Mark::Joins(listener, stream) => join_line(alloc, *listener, *stream),
+        Mark::House(mark) => Text::copy(alloc, house_word(mark)),
     }
 }
 
@@ -59,6 +61,26 @@ fn add_numbers(line: &mut Text, alloc: Global, streams: &KeptStreams) -> Result<
         line.add(number.as_bytes())?;
     }
     Ok(())
+}
+
+// The line of a socket that is joined: its listener and its stream.
+fn join_line(alloc: Global, listener: u64, stream: u64) -> Result<Text, OutOfMemory> {
+    let mut line = stream_line(alloc, b"joins", listener)?;
+    let number = format!(in alloc; " {stream}")?;
+    line.add(number.as_bytes())?;
+    Ok(line)
+}
+
+// The line of a house's mark.
+fn house_word(mark: &HouseMark) -> &'static [u8] {
+    match mark {
+        HouseMark::HouseIn => b"house in",
+        HouseMark::HouseSaid(_) => b"house said",
+        HouseMark::HouseTook(_) => b"house took",
+        HouseMark::HouseAsked { .. } => b"house asked",
+        HouseMark::HouseAnswer { .. } => b"house answer",
+        HouseMark::HouseOrder { .. } => b"house order",
+    }
 }
 
 // The line of what happened to a stream.

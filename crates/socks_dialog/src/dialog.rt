@@ -133,12 +133,20 @@ impl Dialog {
         self.next()
     }
 
+    /// The version that the client speaks: its first byte.
+    pub fn version(&self) -> u8
+        requires { HasConnect self.now }
+        ensures { result ≡ version_of self.now }
+    {
+        self.bytes[0]
+    }
+
     /// The reply where the end is reached.
     pub fn granted(&self) -> Small
         requires { HasConnect self.now }
         ensures { result ≡ granted_to (version_of self.now) }
     {
-        granted_in(self.bytes[0])
+        granted_in(self.version())
     }
 
     /// The reply where it isn't, for a reason of an open failure (RFC 4254, section 5.1).
@@ -146,6 +154,6 @@ impl Dialog {
         requires { HasConnect self.now }
         ensures { result ≡ refused_to (version_of self.now) reason }
     {
-        refused_in(self.bytes[0], reason)
+        refused_in(self.version(), reason)
     }
 }

@@ -16,4 +16,5 @@ mod step;
 mod text;
 
 pub use dialog::{Dialog, LONGEST_DIALOG};
+pub use replies::{granted_in, refused_in};
 pub use step::Step;

@@ -66,6 +66,7 @@ closed statuses.Transport e = absurd cc
 closed statuses.Broke e = absurd cc
 closed statuses.Spent e = absurd cc
 closed statuses.Memory e = absurd cc
+closed statuses.StartRefused e = absurd cc
 closed statuses.Refused e = absurd cc
 closed statuses.BadMaster e = absurd cc
 
@@ -100,6 +101,7 @@ module _ (start told : Option (List Mark)) (out out' : Option (List ℕ)) (b n :
   own-answers what endings.TurnsSpent h r = with-line what endings.TurnsSpent statuses.Spent h r
   own-answers what endings.MasterRefused h r = with-line what endings.MasterRefused statuses.Refused h r
   own-answers what endings.MasterBroke h r = with-line what endings.MasterBroke statuses.BadMaster h r
+  own-answers what endings.StartRefused h r = absurd (none-ends what endings.StartRefused refl h)
   own-answers what (endings.ServerBroke index why) h r = absurd (none-ends what (endings.ServerBroke index why) refl h)
   own-answers what (endings.BadWords e) h r = absurd (none-ends what (endings.BadWords e) refl h)
   own-answers what (endings.BadLine file line cause) h r = absurd (none-ends what (endings.BadLine file line cause) refl h)

@@ -15,13 +15,13 @@ use Rattle.ssh_mux.specs.declared.status.Status.{Status}
 use Rattle.ssh_mux.specs.declared.status.Status.TheVariants as statuses
 use Rattle.ssh_mux.specs.Answers.{Comes, IsRefused, may_open, so_far, touches}
 use Rattle.ssh_mux.specs.Causes.{Caused}
-use Rattle.ssh_mux.specs.Drill.{DrillGoes, DrillServes, DrillShares, DrillTells, EndsDrill, IsDrill, IsDrilled, RefusesAll, RunsDrill, SumsUp, drill_text, drill_transport}
+use Rattle.ssh_mux.specs.Drill.{DrillGoes, DrillServes, DrillShares, DrillTells, EndsDrill, IsDrill, IsDrilled, NoneRests, RefusesAll, RunsDrill, SumsUp, drill_text, drill_transport}
 use Rattle.ssh_mux.specs.Ending.{shown}
 use Rattle.ssh_mux.specs.Err.{Reports}
 use Rattle.ssh_mux.specs.Master.{EndsMaster}
 use Rattle.ssh_mux.specs.Out.{HandsOver, OutTakes}
 use Rattle.ssh_mux.specs.Outcomes.{Known, Certain, Listing, Master, Client, drills}
-use Rattle.ssh_mux.specs.Sharing.{CallsEnd, IdleCause, IsShared, OpensAt, Shares, WaitsFor, WireCause, told_as}
+use Rattle.ssh_mux.specs.Sharing.{CallsEnd, IdleCause, IsShared, OpensAt, Shares, StartCause, WaitsFor, WireCause, told_as}
 use Rattle.ssh_mux.specs.Status.{status_of}
 use Rattle.ssh_mux.proofs.EndLemmas.{reported}
 use Rattle.ssh_mux.proofs.StillLemmas.{loud, quiet-out}
@@ -74,10 +74,10 @@ handed-ends text (Err ending) before now h = absurd h
 
 module _ (words : List Bytes) (turns : ℕ) (openings openings' : Option (List Opening)) (start told : Option (List Mark)) (tally : Tally) (out out' : Option (List ℕ)) where
   abbrev Shared : Result Status Ending → Type 0
-  Shared result = Shares RefusesAll any_policy 0 turns None None start told result
+  Shared result = Shares RefusesAll NoneRests any_policy 0 turns None None start told None result
 
   abbrev Ran : Result Status Ending → Type 0
-  Ran result = IsShared RefusesAll any_policy 0 turns None None start told result
+  Ran result = IsShared RefusesAll NoneRests any_policy 0 turns None None start told None result
 
   -- of a run that ended well
   summed-run : (due : Status) (result : Result Status Ending) → Ran (Ok due) → HandsOver result (drill_text tally) out out' → RunsDrill turns start told tally result out out'
@@ -103,17 +103,22 @@ module _ (words : List Bytes) (turns : ℕ) (openings openings' : Option (List O
 
 -- of one that ended badly
 module _ (words : List Bytes) (turns : ℕ) (openings openings' : Option (List Opening)) (start told : Option (List Mark)) (tally : Tally) (out : Option (List ℕ)) where
-  unsummed-run : (meant : Ending) → IsShared RefusesAll any_policy 0 turns None None start told (Err meant) → RunsDrill turns start told tally (Err meant) out out
+  -- no forwarding of a start is refused
+  drilled : (meant : Ending) → EndsMaster (Err meant) → StartCause (status_of (shown meant)) None → EndsDrill (Err meant)
+  drilled endings.StartRefused e r = absurd cc
+  drilled meant e r = e
+
+  unsummed-run : (meant : Ending) → IsShared RefusesAll NoneRests any_policy 0 turns None None start told None (Err meant) → RunsDrill turns start told tally (Err meant) out out
   unsummed-run meant h = record { answer = h.answer; run = h.run; ends = subst (λ e. SumsUp e tally (Err meant) out out) h.is_told (refl, refl) }
 
-  unsummed-shared : (meant : Ending) → Shares RefusesAll any_policy 0 turns None None start told (Err meant) → DrillShares turns start told tally (Err meant) out out
+  unsummed-shared : (meant : Ending) → Shares RefusesAll NoneRests any_policy 0 turns None None start told None (Err meant) → DrillShares turns start told tally (Err meant) out out
   unsummed-shared endings.NotOpened h = (h, refl)
   unsummed-shared endings.NoMemory (inl h) = inl (h, refl)
   unsummed-shared endings.NoMemory (inr h) = inr (unsummed-run endings.NoMemory h)
   unsummed-shared meant h = unsummed-run meant h
 
-  pub unsummed-goes : (meant : Ending) → EndsMaster (Err meant) → OpensAt [] (drill_transport words) (status_of (shown meant)) openings openings' → Shares RefusesAll any_policy 0 turns None None start told (Err meant) → DrillGoes words turns (Err meant) openings openings' start told tally out out
-  unsummed-goes meant e o h = record { ends = e; opened = o; shared = unsummed-shared meant h }
+  pub unsummed-goes : (meant : Ending) → EndsMaster (Err meant) → StartCause (status_of (shown meant)) None → OpensAt [] (drill_transport words) (status_of (shown meant)) openings openings' → Shares RefusesAll NoneRests any_policy 0 turns None None start told None (Err meant) → DrillGoes words turns (Err meant) openings openings' start told tally out out
+  unsummed-goes meant e r o h = record { ends = drilled meant e r; opened = o; shared = unsummed-shared meant h }
 
 pub summed-cause : (text : Bytes) (result : Result Status Ending) (before now : Option (List ℕ)) (s s' c c' : ℕ) → HandsOver result text before now → WireCause (so_far result) s s' c c'
 summed-cause text (Ok statuses.Done) before now s s' c c' d = tt

@@ -6,8 +6,9 @@ use Rattle.conf_rules.specs.Diagnostics.{Ending}
 use Rattle.conf_rules.specs.Outcome.{Ends, Writes, Opens, Drills, Joins}
 use Rattle.conf_rules.specs.Texts.{Bytes}
 use Rattle.conf_rules.specs.Told.{Told}
-use Rattle.mux_outside.specs.House.{Asked}
+use Rattle.mux_engine.specs.Sides.{Resting}
 use Rattle.mux_outside.specs.declared.house.HouseReply.{HouseReply}
+use Rattle.mux_outside.specs.declared.house_mark.HouseMark.{HouseMark}
 use Rattle.mux_outside.specs.declared.mark.Mark.{Mark}
 use Rattle.mux_outside.specs.declared.mark.Opening.{Opening}
 use Rattle.mux_history.specs.declared.ended.Ended.TheVariants as answers
@@ -26,7 +27,7 @@ use Rattle.ssh_mux.specs.Out.{OutStays, OutTakes}
 use Rattle.ssh_mux.specs.Outcomes.{Known, Certain, Listing, Master, Client, asks, drills, opens}
 use Rattle.ssh_mux.specs.Master.{ends_sharing}
 use Rattle.ssh_mux.specs.Places.{EndPlace}
-use Rattle.ssh_mux.specs.Sharing.{CallsEnd, IdleCause, IsServed, IsShared, OpensOnce, Serves, Shares, TellsEnd, WaitsFor, WireCause}
+use Rattle.ssh_mux.specs.Sharing.{CallsEnd, IdleCause, IsServed, IsShared, OpensOnce, Serves, Shares, StartCause, TellsEnd, WaitsFor, WireCause}
 use Rattle.ssh_mux.specs.Sharing.{told_as}
 use Rattle.ssh_mux.specs.Status.{status_of}
 use Rattle.ssh_mux.proofs.StillLemmas.{loud, not_true}
@@ -131,15 +132,15 @@ unopened (Master transport os ls) status before now h = inr h
 pub opened_after : (k : Known) (status : Status) (ending : Ending) (b n : Option (List ℕ)) (f f' : ℕ) (before now : Option (List Opening)) → Reports status ending b n f f' → OpensOnce k (status_of ending) before now → OpensOnce k status before now
 opened_after k status ending b n f f' before now r h = carried (λ s. OpensOnce k s before now) status ending (reported status ending b n f f' r) (unopened k (status_of ending) before now h) h
 
-module _ (May : HouseReply → Type 0) (policy : Policy) (pid turns : ℕ) (before now : Option (List Asked)) (start told : Option (List Mark)) (b n : Option (List ℕ)) (f f' : ℕ) where
+module _ (May : HouseReply → Type 0) (Rest : Resting) (policy : Policy) (pid turns : ℕ) (before now : Option (List HouseMark)) (start told : Option (List Mark)) (refused : Option ℕ) (b n : Option (List ℕ)) (f f' : ℕ) where
   abbrev Served : Status → Type 0
-  Served status = Serves May policy pid turns before now start told status b n f f'
+  Served status = Serves May Rest policy pid turns before now start told refused status b n f f'
 
   abbrev Shared : Result Status MeantEnding → Type 0
-  Shared result = Shares May policy pid turns before now start told result
+  Shared result = Shares May Rest policy pid turns before now start told refused result
 
   -- an end with the line that was handed over
-  with-line : (meant : MeantEnding) (status : Status) → IsShared May policy pid turns before now start told (Err meant) → Reports status (shown meant) b n f f' → IsServed May policy pid turns before now start told status b n f f'
+  with-line : (meant : MeantEnding) (status : Status) → IsShared May Rest policy pid turns before now start told refused (Err meant) → Reports status (shown meant) b n f f' → IsServed May Rest policy pid turns before now start told refused status b n f f'
   with-line meant status h r = record { answer = h.answer; run = h.run; line = subst (λ x. TellsEnd x status b n f f') h.is_told r }
 
   memory-serves : (meant : MeantEnding) → Shared (Err meant) → Reports statuses.Memory (shown meant) b n f f' → Served statuses.Memory
@@ -149,7 +150,7 @@ module _ (May : HouseReply → Type 0) (policy : Policy) (pid turns : ℕ) (befo
   memory-serves meant h r = inr (with-line meant statuses.Memory h r)
 
   -- no run ends as words and configurations do
-  none-ends : (meant : MeantEnding) → ends_sharing meant ≡ false → IsShared May policy pid turns before now start told (Err meant) → ⊥
+  none-ends : (meant : MeantEnding) → ends_sharing meant ≡ false → IsShared May Rest policy pid turns before now start told refused (Err meant) → ⊥
   none-ends meant e h = by_end h.answer h.is_told
     where
       by_end : (x : Rattle.mux_history.specs.declared.ended.Ended.Ended) → Err meant ≡ told_as x → ⊥
@@ -158,6 +159,7 @@ module _ (May : HouseReply → Type 0) (policy : Policy) (pid turns : ℕ) (befo
       by_end (answers.Terminated client id) t = absurd cc
       by_end answers.ServerFailed t = let m : meant ≡ endings.TransportFailed = cc in let z : ends_sharing meant ≡ true = ap ends_sharing m in absurd cc
       by_end (answers.Broke index why) t = let m : meant ≡ endings.ServerBroke index why = cc in let z : ends_sharing meant ≡ true = ap ends_sharing m in absurd cc
+      by_end (answers.StartRefused index) t = let m : meant ≡ endings.StartRefused = cc in let z : ends_sharing meant ≡ true = ap ends_sharing m in absurd cc
       by_end answers.Spent t = let m : meant ≡ endings.TurnsSpent = cc in let z : ends_sharing meant ≡ true = ap ends_sharing m in absurd cc
       by_end answers.OutOfMemory t = let m : meant ≡ endings.NoMemory = cc in let z : ends_sharing meant ≡ true = ap ends_sharing m in absurd cc
 
@@ -167,6 +169,7 @@ module _ (May : HouseReply → Type 0) (policy : Policy) (pid turns : ℕ) (befo
   own-serves endings.TransportFailed h r = with-line endings.TransportFailed statuses.Transport h r
   own-serves (endings.ServerBroke index why) h r = with-line (endings.ServerBroke index why) statuses.Broke h r
   own-serves endings.TurnsSpent h r = with-line endings.TurnsSpent statuses.Spent h r
+  own-serves endings.StartRefused h r = with-line endings.StartRefused statuses.StartRefused h r
   own-serves (endings.BadWords e) h r = absurd (none-ends (endings.BadWords e) refl h)
   own-serves (endings.BadLine file line cause) h r = absurd (none-ends (endings.BadLine file line cause) refl h)
   own-serves (endings.BadListing key error) h r = absurd (none-ends (endings.BadListing key error) refl h)
@@ -198,18 +201,19 @@ done-is status answers.Disconnected t = cc
 done-is status (answers.Terminated client id) t = cc
 done-is status answers.ServerFailed t = absurd cc
 done-is status (answers.Broke index why) t = absurd cc
+done-is status (answers.StartRefused index) t = absurd cc
 done-is status answers.Spent t = absurd cc
 done-is status answers.OutOfMemory t = absurd cc
 
-shared-well-now : (May : HouseReply → Type 0) (policy : Policy) (pid turns : ℕ) (before now : Option (List Asked)) (start told : Option (List Mark)) (b : Option (List ℕ)) (f : ℕ) (status : Status) → IsShared May policy pid turns before now start told (Ok status) → Serves May policy pid turns before now start told status b b f f
-shared-well-now May policy pid turns before now start told b f status h =
+shared-well-now : (May : HouseReply → Type 0) (Rest : Resting) (policy : Policy) (pid turns : ℕ) (before now : Option (List HouseMark)) (start told : Option (List Mark)) (refused : Option ℕ) (b : Option (List ℕ)) (f : ℕ) (status : Status) → IsShared May Rest policy pid turns before now start told refused (Ok status) → Serves May Rest policy pid turns before now start told refused status b b f f
+shared-well-now May Rest policy pid turns before now start told refused b f status h =
     let e : status ≡ statuses.Done = done-is status h.answer h.is_told in
-    subst (λ s. Serves May policy pid turns before now start told s b b f f) (sym e)
+    subst (λ s. Serves May Rest policy pid turns before now start told refused s b b f f) (sym e)
     (record { answer = h.answer; run = h.run; line = subst (λ x. TellsEnd x statuses.Done b b f f) (ap (λ (s : Status). Ok s) (sym e) ∙ h.is_told) (refl, refl) })
 
-pub shared_well : (May : HouseReply → Type 0) (policy : Policy) (pid turns : ℕ) (before now : Option (List Asked)) (start told : Option (List Mark)) (b : Option (List ℕ)) (f : ℕ) (shares : Bool) (status : Status) → OnTrue shares (IsShared May policy pid turns before now start told (Ok status)) → OnTrue shares (Serves May policy pid turns before now start told status b b f f)
-shared_well May policy pid turns before now start told b f false status h = tt
-shared_well May policy pid turns before now start told b f true status h = shared-well-now May policy pid turns before now start told b f status h
+pub shared_well : (May : HouseReply → Type 0) (Rest : Resting) (policy : Policy) (pid turns : ℕ) (before now : Option (List HouseMark)) (start told : Option (List Mark)) (refused : Option ℕ) (b : Option (List ℕ)) (f : ℕ) (shares : Bool) (status : Status) → OnTrue shares (IsShared May Rest policy pid turns before now start told refused (Ok status)) → OnTrue shares (Serves May Rest policy pid turns before now start told refused status b b f f)
+shared_well May Rest policy pid turns before now start told refused b f false status h = tt
+shared_well May Rest policy pid turns before now start told refused b f true status h = shared-well-now May Rest policy pid turns before now start told refused b f status h
 
 pub calls_after : (turns : ℕ) (status : Status) (ending : Ending) (b n : Option (List ℕ)) (f f' : ℕ) (old calls : Calls) → Reports status ending b n f f' → CallsEnd turns (status_of ending) old calls → CallsEnd turns status old calls
 calls_after turns status ending b n f f' old calls r h = carried (λ s. CallsEnd turns s old calls) status ending (reported status ending b n f f' r) (record { few = h.few; wants = h.wants; starved = λ ne. refl; late = h.late }) h
@@ -220,6 +224,9 @@ on-memory false = tt
 
 pub wire_after : (k : Known) (status : Status) (ending : Ending) (b n : Option (List ℕ)) (f f' s s' c c' : ℕ) → Reports status ending b n f f' → OnTrue (touches k (status_of ending)) (WireCause (status_of ending) s s' c c') → OnTrue (touches k status) (WireCause status s s' c c')
 wire_after k status ending b n f f' s s' c c' r h = carried (λ x. OnTrue (touches k x) (WireCause x s s' c c')) status ending (reported status ending b n f f' r) (on-memory (opens k || drills k)) h
+
+pub start_after : (k : Known) (status : Status) (ending : Ending) (b n : Option (List ℕ)) (f f' : ℕ) (refused : Option ℕ) → Reports status ending b n f f' → OnTrue (may_share k (status_of ending)) (StartCause (status_of ending) refused) → OnTrue (may_share k status) (StartCause status refused)
+start_after k status ending b n f f' refused r h = carried (λ x. OnTrue (may_share k x) (StartCause x refused)) status ending (reported status ending b n f f' r) (on-memory (opens k)) h
 
 pub waits_after : (k : Known) (turns : ℕ) (status : Status) (ending : Ending) (b n : Option (List ℕ)) (f f' : ℕ) (old calls : Calls) → Reports status ending b n f f' → OnTrue (touches k (status_of ending)) (WaitsFor turns (status_of ending) old calls) → OnTrue (touches k status) (WaitsFor turns status old calls)
 waits_after k turns status ending b n f f' old calls r h = carried (λ x. OnTrue (touches k x) (WaitsFor turns x old calls)) status ending (reported status ending b n f f' r) (on-memory (opens k || drills k)) h

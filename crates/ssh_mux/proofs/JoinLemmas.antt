@@ -102,6 +102,7 @@ ends-taken e statuses.Transport before now h = h
 ends-taken e statuses.Broke before now h = h
 ends-taken e statuses.Spent before now h = h
 ends-taken e statuses.Memory before now h = h
+ends-taken e statuses.StartRefused before now h = h
 ends-taken e statuses.Refused before now h = h
 ends-taken e statuses.BadMaster before now h = h
 

@@ -1,64 +1,82 @@
 -- What a master leaves behind that was opened, and what others leave.
-use Rattle.std.proofs.Common.{◌≡◌, ◌⊎◌, inl, inr, ℕ, true, false, List, Option, Some, None, unwrap_or, Result, Ok, Err, refl, sym, subst, ◌∙◌}
+use Rattle.std.proofs.Common.{◌≡◌, ◌⊎◌, inl, inr, ℕ, Bool, true, false, List, Option, Some, None, unwrap_or, IsSome, Result, Ok, Err, refl, sym, subst, ◌∙◌}
+use Rattle.std.specs.Bool.{OnFalse, OnTrue}
 use Rattle.conf_rules.specs.Outcome.{Ends, Writes, Drills, Opens, Joins}
 use Rattle.conf_rules.specs.Texts.{Bytes}
 use Rattle.mux_engine.specs.Counted.{Stops}
 use Rattle.mux_engine.specs.Run.{IsRun}
+use Rattle.mux_engine.specs.Sides.{Resting}
 use Rattle.mux_history.specs.declared.ended.Ended.{Ended}
 use Rattle.mux_history.specs.declared.ended.Ended.TheVariants as ends
 use Rattle.mux_history.specs.Policy.{Policy}
-use Rattle.mux_outside.specs.House.{Asked as HouseAsk}
 use Rattle.mux_outside.specs.Seen.{Calls}
 use Rattle.mux_outside.specs.Wire.{SameFaults}
 use Rattle.mux_outside.specs.declared.house.HouseReply.{HouseReply}
+use Rattle.mux_outside.specs.declared.house_mark.HouseMark.{HouseMark}
 use Rattle.mux_outside.specs.declared.mark.Mark.{Mark}
 use Rattle.mux_outside.specs.declared.mark.Opening.{Opening}
 use Rattle.ssh_mux.specs.declared.ending.Ending.{Ending}
 use Rattle.ssh_mux.specs.declared.ending.Ending.TheVariants as endings
 use Rattle.ssh_mux.specs.declared.status.Status.{Status}
 use Rattle.ssh_mux.specs.declared.status.Status.TheVariants as statuses
-use Rattle.ssh_mux.specs.Answers.{Comes, so_far, may_open, may_share}
+use Rattle.ssh_mux.specs.Answers.{Comes, so_far, may_open, may_share, serves_house}
 use Rattle.ssh_mux.specs.Causes.{OutCause}
 use Rattle.ssh_mux.specs.Ending.{shown}
 use Rattle.ssh_mux.specs.Master.{EndsMaster}
 use Rattle.ssh_mux.specs.Out.{OutTakes}
 use Rattle.ssh_mux.specs.Outcomes.{Known, Certain, Listing, Master, Client, opens_at, opens, writes_out}
-use Rattle.ssh_mux.specs.Sharing.{IdleCause, OpensAt, OpensOnce, Shares, WaitsFor, pid_of, told_as}
+use Rattle.ssh_mux.specs.Sharing.{IdleCause, OpensAt, OpensOnce, Shares, StartCause, WaitsFor, pid_of, told_as}
 use Rattle.ssh_mux.specs.Status.{status_of}
-use Rattle.ssh_mux.proofs.StillLemmas.{loud, quiet-count}
+use Rattle.ssh_mux.proofs.StillLemmas.{follows, loud, on_true, quiet-count, served-house}
 
 -- ---- how a run that was served ends
 
-pub shares_end : (May : HouseReply → Type 0) (policy : Policy) (pid turns : ℕ) (before now : Option (List HouseAsk)) (start told : Option (List Mark)) (result : Result Status Ending) (ended : Ended) → result ≡ told_as ended → IsRun May policy pid turns before now start told ended → Shares May policy pid turns before now start told result
-shares_end May policy pid turns before now start told result ended e run = subst (λ r. Shares May policy pid turns before now start told r) (sym e) (by_end ended run) where
-  by_end : (x : Ended) → IsRun May policy pid turns before now start told x → Shares May policy pid turns before now start told (told_as x)
+pub shares_end : (May : HouseReply → Type 0) (Rest : Resting) (policy : Policy) (pid turns : ℕ) (before now : Option (List HouseMark)) (start told : Option (List Mark)) (refused : Option ℕ) (result : Result Status Ending) (ended : Ended) → result ≡ told_as ended → IsRun May Rest.rests Rest.present policy pid turns before now start told refused ended → Shares May Rest policy pid turns before now start told refused result
+shares_end May Rest policy pid turns before now start told refused result ended e run = subst (λ r. Shares May Rest policy pid turns before now start told refused r) (sym e) (by_end ended run) where
+  by_end : (x : Ended) → IsRun May Rest.rests Rest.present policy pid turns before now start told refused x → Shares May Rest policy pid turns before now start told refused (told_as x)
   by_end ends.OutOfMemory run = inr (record { answer = ends.OutOfMemory; is_told = refl; run = run })
   by_end ends.ServerEnd run = record { answer = ends.ServerEnd; is_told = refl; run = run }
   by_end ends.Disconnected run = record { answer = ends.Disconnected; is_told = refl; run = run }
   by_end (ends.Terminated client id) run = record { answer = ends.Terminated client id; is_told = refl; run = run }
   by_end ends.ServerFailed run = record { answer = ends.ServerFailed; is_told = refl; run = run }
   by_end (ends.Broke index why) run = record { answer = ends.Broke index why; is_told = refl; run = run }
+  by_end (ends.StartRefused index) run = record { answer = ends.StartRefused index; is_told = refl; run = run }
   by_end ends.Spent run = record { answer = ends.Spent; is_told = refl; run = run }
 
-pub waits_end : (turns : ℕ) (ended : Ended) (old new : Calls) → Stops turns ended old new → WaitsFor turns (so_far (told_as ended)) old new
-waits_end turns ends.Spent old new h = h.spent refl
-waits_end turns ends.OutOfMemory old new h = tt
-waits_end turns ends.ServerEnd old new h = h.ends (λ e. absurd cc) (λ e. absurd cc)
-waits_end turns ends.Disconnected old new h = h.ends (λ e. absurd cc) (λ e. absurd cc)
-waits_end turns (ends.Terminated client id) old new h = h.ends (λ e. absurd cc) (λ e. absurd cc)
-waits_end turns ends.ServerFailed old new h = h.ends (λ e. absurd cc) (λ e. absurd cc)
-waits_end turns (ends.Broke index why) old new h = h.ends (λ e. absurd cc) (λ e. absurd cc)
+-- a house, where one is present, may wait in place of the wire
+pub waits_end : (present : Bool) (turns : ℕ) (ended : Ended) (old new : Calls) → Stops present turns ended old new → OnFalse present (WaitsFor turns (so_far (told_as ended)) old new)
+waits_end true turns ended old new h = tt
+waits_end false turns ends.Spent old new h = h.spent refl refl
+waits_end false turns ends.OutOfMemory old new h = tt
+waits_end false turns (ends.StartRefused index) old new h = tt
+waits_end false turns ends.ServerEnd old new h = h.ends refl (λ e. absurd cc) (λ e. absurd cc)
+waits_end false turns ends.Disconnected old new h = h.ends refl (λ e. absurd cc) (λ e. absurd cc)
+waits_end false turns (ends.Terminated client id) old new h = h.ends refl (λ e. absurd cc) (λ e. absurd cc)
+waits_end false turns ends.ServerFailed old new h = h.ends refl (λ e. absurd cc) (λ e. absurd cc)
+waits_end false turns (ends.Broke index why) old new h = h.ends refl (λ e. absurd cc) (λ e. absurd cc)
 
-pub idle_end : (ended : Ended) (s s' s'' c c' c'' : ℕ) → SameFaults s s' c c' → SameFaults s' s'' c' c'' → IdleCause (so_far (told_as ended)) s s'' c c''
-idle_end ended s s' s'' c c' c'' a b = by_end ended (record { same_server = b.same_server ∙ a.same_server; same_client = b.same_client ∙ a.same_client }) where
+pub idle_end : (present : Bool) (ended : Ended) (s s' s'' c c' c'' : ℕ) → SameFaults s s' c c' → (present ≡ false → SameFaults s' s'' c' c'') → OnFalse present (IdleCause (so_far (told_as ended)) s s'' c c'')
+idle_end true ended s s' s'' c c' c'' a b = tt
+idle_end false ended s s' s'' c c' c'' a b = by_end ended (record { same_server = (b refl).same_server ∙ a.same_server; same_client = (b refl).same_client ∙ a.same_client }) where
   by_end : (x : Ended) → SameFaults s s'' c c'' → IdleCause (so_far (told_as x)) s s'' c c''
   by_end ends.OutOfMemory h = tt
-  by_end ends.Spent h = h
   by_end ends.ServerEnd h = h
   by_end ends.Disconnected h = h
   by_end (ends.Terminated client id) h = h
   by_end ends.ServerFailed h = h
   by_end (ends.Broke index why) h = h
+  by_end (ends.StartRefused index) h = h
+  by_end ends.Spent h = h
+
+pub start_end : (ended : Ended) (refused : Option ℕ) → ((index : ℕ) → ended ≡ ends.StartRefused index → refused ≡ Some index) → StartCause (so_far (told_as ended)) refused
+start_end (ends.StartRefused index) refused h = subst (λ (x : Option ℕ). IsSome x) (sym (h index refl)) refl
+start_end ends.ServerEnd refused h = tt
+start_end ends.Disconnected refused h = tt
+start_end (ends.Terminated client id) refused h = tt
+start_end ends.ServerFailed refused h = tt
+start_end (ends.Broke index why) refused h = tt
+start_end ends.Spent refused h = tt
+start_end ends.OutOfMemory refused h = tt
 
 -- the process id of the facts, or 0
 pub pid_is : (pid : Option ℕ) → unwrap_or pid 0 ≡ pid_of pid
@@ -78,6 +96,7 @@ certain-comes transport os ls control (Err endings.NotOpened) h = refl
 certain-comes transport os ls control (Err endings.TransportFailed) h = refl
 certain-comes transport os ls control (Err (endings.ServerBroke index why)) h = refl
 certain-comes transport os ls control (Err endings.TurnsSpent) h = refl
+certain-comes transport os ls control (Err endings.StartRefused) h = refl
 certain-comes transport os ls control (Err endings.NoMemory) h = tt
 certain-comes transport os ls control (Err ending) h = absurd cc
 
@@ -88,6 +107,7 @@ some-comes transport os ls (Err endings.NotOpened) h = refl
 some-comes transport os ls (Err endings.TransportFailed) h = refl
 some-comes transport os ls (Err (endings.ServerBroke index why)) h = refl
 some-comes transport os ls (Err endings.TurnsSpent) h = refl
+some-comes transport os ls (Err endings.StartRefused) h = refl
 some-comes transport os ls (Err endings.NoMemory) h = tt
 some-comes transport os ls (Err ending) h = absurd cc
 
@@ -103,8 +123,19 @@ master-opens (Err endings.NotOpened) h = refl
 master-opens (Err endings.TransportFailed) h = refl
 master-opens (Err (endings.ServerBroke index why)) h = refl
 master-opens (Err endings.TurnsSpent) h = refl
+master-opens (Err endings.StartRefused) h = refl
 master-opens (Err endings.NoMemory) h = refl
 master-opens (Err ending) h = absurd cc
+
+pub opens-for : (k : Known) (transport : Bytes) (os ls : List Bytes) (control : Bytes) → IsMaster k transport os ls control → opens k ≡ true
+opens-for k transport os ls control (inl e) = subst (λ x. opens x ≡ true) (sym e) refl
+opens-for k transport os ls control (inr e) = subst (λ x. opens x ≡ true) (sym e) refl
+
+pub master-waits : (k : Known) (transport : Bytes) (os ls : List Bytes) (control : Bytes) (present : Bool) (turns : ℕ) (status : Status) (old new : Calls) → IsMaster k transport os ls control → OnFalse present (WaitsFor turns status old new) → OnFalse (serves_house present k) (OnTrue (may_share k status) (WaitsFor turns status old new))
+master-waits k transport os ls control present turns status old new m h = served-house present (opens k) (OnTrue (may_share k status) (WaitsFor turns status old new)) (opens-for k transport os ls control m) (follows present (WaitsFor turns status old new) (OnTrue (may_share k status) (WaitsFor turns status old new)) (on_true (may_share k status) (WaitsFor turns status old new)) h)
+
+pub master-idle : (k : Known) (transport : Bytes) (os ls : List Bytes) (control : Bytes) (present : Bool) (status : Status) (s s' c c' : ℕ) → IsMaster k transport os ls control → OnFalse present (IdleCause status s s' c c') → OnFalse (serves_house present k) (IdleCause status s s' c c')
+master-idle k transport os ls control present status s s' c c' m h = served-house present (opens k) (IdleCause status s s' c c') (opens-for k transport os ls control m) h
 
 pub master-shares : (k : Known) (transport : Bytes) (os ls : List Bytes) (control : Bytes) (result : Result Status Ending) → IsMaster k transport os ls control → EndsMaster result → may_share k (so_far result) ≡ true
 master-shares k transport os ls control result (inl e) h = rw (master-opens result h) (subst (λ x. opens x ≡ true) (sym e) refl)

@@ -7,10 +7,11 @@ use Rattle.conf_rules.specs.declared.causes.ResolveError.TheVariants.{At, OutOfM
 use Rattle.conf_rules.specs.Diagnostics as ends
 use Rattle.conf_rules.specs.Diagnostics.{Ending}
 use Rattle.conf_rules.specs.Outcome.{Ends, Writes, Opens, Drills, Joins}
+use Rattle.mux_engine.specs.Sides.{Resting}
 use Rattle.mux_history.specs.Policy.{Policy}
 use Rattle.mux_outside.specs.Seen.{Calls}
-use Rattle.mux_outside.specs.House.{Asked}
 use Rattle.mux_outside.specs.declared.house.HouseReply.{HouseReply}
+use Rattle.mux_outside.specs.declared.house_mark.HouseMark.{HouseMark}
 use Rattle.mux_outside.specs.declared.mark.Mark.{Mark}
 use Rattle.mux_outside.specs.declared.mark.Opening.{Opening}
 use Rattle.ssh_mux.specs.declared.ending.Ending.{Ending as MeantEnding}
@@ -22,7 +23,7 @@ use Rattle.ssh_mux.specs.Causes.{OutCause}
 use Rattle.ssh_mux.specs.Ending.{shown}
 use Rattle.ssh_mux.specs.Out.{OutStays, OutTakes}
 use Rattle.ssh_mux.specs.Outcomes.{Known, Certain, Listing, Master, Client, drills, opens}
-use Rattle.ssh_mux.specs.Sharing.{CallsEnd, IdleCause, OpensOnce, Shares, WaitsFor, WireCause}
+use Rattle.ssh_mux.specs.Sharing.{CallsEnd, IdleCause, OpensOnce, Shares, StartCause, WaitsFor, WireCause}
 use Rattle.ssh_mux.specs.Status.{status_of, refusal_status, listing_status}
 
 -- ---- small facts
@@ -40,6 +41,22 @@ not_false b P e = subst (λ x. OnFalse x P) (sym e) tt
 
 pub not_true : (b : Bool) (P : Type 0) → b ≡ false → OnTrue b P
 not_true b P e = subst (λ x. OnTrue x P) (sym e) tt
+
+-- what holds at any rate
+pub where_false : (b : Bool) (P : Type 0) → P → OnFalse b P
+where_false true P h = tt
+where_false false P h = h
+
+-- what follows there
+pub follows : (b : Bool) (P Q : Type 0) → (P → Q) → OnFalse b P → OnFalse b Q
+follows true P Q f h = tt
+follows false P Q f h = f h
+
+-- a house that a master serves, where something opens
+pub served-house : (present shares : Bool) (P : Type 0) → shares ≡ true → OnFalse present P → OnFalse (present && shares) P
+served-house true true P e h = tt
+served-house true false P e h = absurd cc
+served-house false shares P e h = h
 
 -- what stays where one of two things is not
 pub or-else : (a b : Bool) (P : Type 0) → OnFalse a P → OnFalse (a || b) P
@@ -91,6 +108,7 @@ loud ends.NotOpened = refl
 loud ends.TransportFailed = refl
 loud (ends.ServerBroke index why) = refl
 loud ends.TurnsSpent = refl
+loud ends.StartRefused = refl
 loud ends.MasterRefused = refl
 loud ends.MasterBroke = refl
 loud ends.NoMemory = refl
@@ -189,15 +207,16 @@ only-memory endings.NotOpened h = absurd cc
 only-memory endings.TransportFailed h = absurd cc
 only-memory (endings.ServerBroke index why) h = absurd cc
 only-memory endings.TurnsSpent h = absurd cc
+only-memory endings.StartRefused h = absurd cc
 only-memory endings.MasterRefused h = absurd cc
 only-memory endings.MasterBroke h = absurd cc
 
-pub still-shared : (k : Known) (meant : MeantEnding) (May : HouseReply → Type 0) (policy : Policy) (pid turns : ℕ) (told : Option (List Asked)) (start : Option (List Mark)) → IsRefused k (shown meant) → OnTrue (may_share k (status_of (shown meant))) (Shares May policy pid turns told told start start (Err meant))
-still-shared k meant May policy pid turns told start h = on (unshared k (shown meant) h) where
-  on : Unshared k (shown meant) → OnTrue (may_share k (status_of (shown meant))) (Shares May policy pid turns told told start start (Err meant))
-  on (inl e) = not_true (may_share k (status_of (shown meant))) (Shares May policy pid turns told told start start (Err meant)) e
-  on (inr e) = on_true (may_share k (status_of (shown meant))) (Shares May policy pid turns told told start start (Err meant))
-      (subst (λ m. Shares May policy pid turns told told start start (Err m)) (sym (only-memory meant e)) (inl (record { same_wire = refl; same_house = refl })))
+pub still-shared : (k : Known) (meant : MeantEnding) (May : HouseReply → Type 0) (Rest : Resting) (policy : Policy) (pid turns : ℕ) (told : Option (List HouseMark)) (start : Option (List Mark)) (refused : Option ℕ) → IsRefused k (shown meant) → OnTrue (may_share k (status_of (shown meant))) (Shares May Rest policy pid turns told told start start refused (Err meant))
+still-shared k meant May Rest policy pid turns told start refused h = on (unshared k (shown meant) h) where
+  on : Unshared k (shown meant) → OnTrue (may_share k (status_of (shown meant))) (Shares May Rest policy pid turns told told start start refused (Err meant))
+  on (inl e) = not_true (may_share k (status_of (shown meant))) (Shares May Rest policy pid turns told told start start refused (Err meant)) e
+  on (inr e) = on_true (may_share k (status_of (shown meant))) (Shares May Rest policy pid turns told told start start refused (Err meant))
+      (subst (λ m. Shares May Rest policy pid turns told told start start refused (Err m)) (sym (only-memory meant e)) (inl (record { same_wire = refl; same_house = refl })))
 
 -- there may be no memory for anything
 pub starved-due : (k : Known) → IsRefused k ends.NoMemory
@@ -219,6 +238,12 @@ still-wire k ending s s' c c' h = on (unshared k ending h) where
   on : Unshared k ending → OnTrue (may_share k (status_of ending)) (WireCause (status_of ending) s s' c c')
   on (inl e) = not_true (may_share k (status_of ending)) (WireCause (status_of ending) s s' c c') e
   on (inr e) = subst (λ x. OnTrue (may_share k x) (WireCause x s s' c c')) (sym e) (on_true (may_share k statuses.Memory) (WireCause statuses.Memory s s' c c') tt)
+
+pub still-start : (k : Known) (ending : Ending) (refused : Option ℕ) → IsRefused k ending → OnTrue (may_share k (status_of ending)) (StartCause (status_of ending) refused)
+still-start k ending refused h = on (unshared k ending h) where
+  on : Unshared k ending → OnTrue (may_share k (status_of ending)) (StartCause (status_of ending) refused)
+  on (inl e) = not_true (may_share k (status_of ending)) (StartCause (status_of ending) refused) e
+  on (inr e) = subst (λ x. OnTrue (may_share k x) (StartCause x refused)) (sym e) (on_true (may_share k statuses.Memory) (StartCause statuses.Memory refused) tt)
 
 pub still-waits : (k : Known) (ending : Ending) (turns : ℕ) (old new : Calls) → IsRefused k ending → OnTrue (may_share k (status_of ending)) (WaitsFor turns (status_of ending) old new)
 still-waits k ending turns old new h = on (unshared k ending h) where
@@ -265,6 +290,18 @@ shut-all k status e d = rw (e, d) (and-false (may_open status)) where
   and-false : (b : Bool) → (b && false) ≡ false
   and-false true = refl
   and-false false = refl
+
+-- of a command that opens nothing
+pub unopened-waits : (b : Bool) (k : Known) (status : Status) (turns : ℕ) (old new : Calls) → opens k ≡ false → drills k ≡ false → OnFalse b (OnTrue (touches k status) (WaitsFor turns status old new))
+unopened-waits b k status turns old new e d = where_false b (OnTrue (touches k status) (WaitsFor turns status old new)) (not_true (touches k status) (WaitsFor turns status old new) (shut-all k status e d))
+
+-- of one that was refused
+pub refused-waits : (b : Bool) (k : Known) (ending : Ending) (turns : ℕ) (old new : Calls) → IsRefused k ending → OnFalse b (OnTrue (touches k (status_of ending)) (WaitsFor turns (status_of ending) old new))
+refused-waits b k ending turns old new h = where_false b (OnTrue (touches k (status_of ending)) (WaitsFor turns (status_of ending) old new)) (still-waited k ending turns old new h)
+
+-- of a master that was refused
+pub unshared-waits : (b : Bool) (k : Known) (ending : Ending) (turns : ℕ) (old new : Calls) → IsRefused k ending → OnFalse b (OnTrue (may_share k (status_of ending)) (WaitsFor turns (status_of ending) old new))
+unshared-waits b k ending turns old new h = where_false b (OnTrue (may_share k (status_of ending)) (WaitsFor turns (status_of ending) old new)) (still-waits k ending turns old new h)
 
 pub still-idle : (status : Status) (s c : ℕ) → IdleCause status s s c c
 still-idle statuses.Open s c = tt

@@ -5,7 +5,7 @@ use Rattle.conf_rules.specs.declared.causes.Cause.TheVariants.{ReadFault, RunFau
 use Rattle.conf_rules.specs.declared.causes.ResolveError.{ResolveError}
 use Rattle.conf_rules.specs.declared.causes.ResolveError.TheVariants.{At}
 use Rattle.conf_rules.specs.Diagnostics.{Ending, BadLine, BadListing, NoControlPath}
-use Rattle.conf_rules.specs.Diagnostics.{NotOpened, TransportFailed, ServerBroke, TurnsSpent, NoMemory}
+use Rattle.conf_rules.specs.Diagnostics.{NotOpened, TransportFailed, ServerBroke, TurnsSpent, StartRefused, NoMemory}
 use Rattle.conf_rules.specs.Diagnostics.{MasterRefused, MasterBroke}
 use Rattle.conf_rules.specs.Outcome.{Outcome, Ends, Writes, Opens, Drills, Joins}
 use Rattle.mux_client.specs.declared.asks.Asks.{Asks}
@@ -32,13 +32,18 @@ abbrev pub refuses_master : Ending → Bool
 refuses_master NoControlPath = true
 refuses_master ending = is_refusal ending
 
--- whether a master or a drill may end so: its sockets weren't opened, or it was served
+-- whether a drill may end so: its sockets weren't opened, or it was served
+abbrev pub ends_drill : Ending → Bool
+ends_drill NotOpened = true
+ends_drill TransportFailed = true
+ends_drill (ServerBroke index why) = true
+ends_drill TurnsSpent = true
+ends_drill other = false
+
+-- whether a master may end so: as a drill, or by a forwarding of its start
 abbrev pub ends_master : Ending → Bool
-ends_master NotOpened = true
-ends_master TransportFailed = true
-ends_master (ServerBroke index why) = true
-ends_master TurnsSpent = true
-ends_master other = false
+ends_master StartRefused = true
+ends_master ending = ends_drill ending
 
 -- whether a client may end so: its sockets weren't opened, or it asked a running master
 abbrev pub ends_client : Ending → Bool
@@ -63,7 +68,7 @@ IsDue known (BadLine (At file line RunFault)) = IsTrue (looks known)
 IsDue (Certain (Ends due)) ending = ending ≡ due
 IsDue (Certain (Writes text)) ending = ⊥
 IsDue (Certain (Opens control transport opens listens)) ending = IsTrue (ends_master ending)
-IsDue (Certain (Drills seed clients messages)) ending = IsTrue (ends_master ending)
+IsDue (Certain (Drills seed clients messages)) ending = IsTrue (ends_drill ending)
 IsDue (Certain (Joins control asked what)) ending = IsAskDue (asks_for asked what) ending
 IsDue Listing ending = IsTrue (is_refusal ending)
 IsDue (Master transport opens listens) ending = IsTrue (refuses_master ending || ends_master ending)
@@ -133,6 +138,10 @@ may_share known status = may_open status && opens known
 -- whether one may have been opened at all, for a master or a drill
 abbrev pub touches : Known → Status → Bool
 touches known status = may_open status && (opens known || drills known)
+
+-- whether a house is served, where one is present: by a master alone
+abbrev pub serves_house : Bool → Known → Bool
+serves_house present known = present && opens known
 
 -- whether one may have been joined, for a client
 abbrev pub may_ask : Known → Status → Bool

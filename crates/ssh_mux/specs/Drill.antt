@@ -1,9 +1,10 @@
 -- What a drill opens, how its run goes, and what it writes.
-use Rattle.std.specs.Prelude.{◌≡◌, ℕ, IsTrue, ◌⊎◌, List, [], ◌∷◌, ◌++◌, codes, Option, None, Result, Ok, Err}
+use Rattle.std.specs.Prelude.{◌≡◌, ℕ, Bool, true, false, IsTrue, ◌⊎◌, List, [], ◌∷◌, ◌++◌, codes, Option, None, Result, Ok, Err}
 use Rattle.conf_rules.specs.Diagnostics.{line_of, NoMemory}
 use Rattle.conf_rules.specs.Numbers.{digits_of}
 use Rattle.conf_rules.specs.Texts.{Bytes}
 use Rattle.mux_engine.specs.Run.{IsRun}
+use Rattle.mux_engine.specs.Sides.{Resting, RestsOf}
 use Rattle.mux_history.specs.declared.ended.Ended.{Ended}
 use Rattle.mux_history.specs.Policy.{any_policy}
 use Rattle.mux_outside.specs.declared.file_error.FileError.TheVariants.{Failed}
@@ -11,6 +12,7 @@ use Rattle.mux_outside.specs.declared.house.HouseReply.{HouseReply}
 use Rattle.mux_outside.specs.declared.house.HouseReply.TheVariants.{Refused}
 use Rattle.mux_outside.specs.declared.mark.Mark.{Mark}
 use Rattle.mux_outside.specs.declared.mark.Opening.{Opening}
+use Rattle.mux_outside.specs.declared.no_house.NoHouse.{NoHouse}
 use Rattle.mux_outside.specs.declared.turn.Tally.{Tally}
 use Rattle.mux_outside.specs.Sink.{TakesTold}
 use Rattle.ssh_mux.specs.declared.ending.Ending.{Ending as MeantEnding}
@@ -51,6 +53,11 @@ drill_text tally =
 abbrev pub RefusesAll : HouseReply → Type 0
 RefusesAll reply = reply ≡ Refused
 
+-- it has no house, so none is at rest
+abbrev pub NoneRests : Resting
+NoneRests = RestsOf {T = NoHouse} (λ house. None)
+    (λ house. record { says = true; orders = true; answers = true }) false
+
 -- What was written of the end of a run. Where it ended well: the summary, without a word; a prefix
 -- of it where it could not be written; or nothing but the line of want of memory. Else the line of
 -- its ending.
@@ -71,7 +78,8 @@ DrillTells (Err ending) tally status out out' err err' faults faults' =
 pub record IsDrilled (turns : ℕ) (start told : Option (List Mark)) (tally : Tally) (status : Status)
     (out out' err err' : Option (List ℕ)) (faults faults' : ℕ) : Type 0 where
   pub answer : Ended
-  pub run : IsRun RefusesAll any_policy 0 turns None None start told answer
+  pub run :
+      IsRun RefusesAll NoneRests.rests false any_policy 0 turns None None start told None answer
   pub ends : DrillTells (told_as answer) tally status out out' err err' faults faults'
 
 -- nothing is served, and no summary is written
@@ -100,10 +108,16 @@ pub record IsDrill (words : List Bytes) (turns : ℕ) (status : Status)
 
 -- ---- before a line is written
 
--- a drill ends without a line, or as a master whose control path was found
+-- whether a drill ends so: as a master whose control path was found, which has no forwardings of its
+-- own
+abbrev pub ends_drilling : MeantEnding → Bool
+ends_drilling endings.StartRefused = false
+ends_drilling ending = ends_sharing ending
+
+-- it ends without a line, or by such an ending
 abbrev pub EndsDrill : Result Status MeantEnding → Type 0
 EndsDrill (Ok status) = IsTrue (is_silent status)
-EndsDrill (Err ending) = IsTrue (ends_sharing ending)
+EndsDrill (Err ending) = IsTrue (ends_drilling ending)
 
 -- where its run ended well, the summary was handed over
 abbrev pub SumsUp : Result Status MeantEnding → Tally → Result Status MeantEnding
@@ -115,7 +129,8 @@ SumsUp (Err ending) tally result out out' = (result ≡ Err ending) × (out' ≡
 pub record RunsDrill (turns : ℕ) (start told : Option (List Mark)) (tally : Tally)
     (result : Result Status MeantEnding) (out out' : Option (List ℕ)) : Type 0 where
   pub answer : Ended
-  pub run : IsRun RefusesAll any_policy 0 turns None None start told answer
+  pub run :
+      IsRun RefusesAll NoneRests.rests false any_policy 0 turns None None start told None answer
   pub ends : SumsUp (told_as answer) tally result out out'
 
 -- where the wire wasn't opened nothing is served

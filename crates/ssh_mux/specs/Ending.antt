@@ -20,6 +20,7 @@ shown endings.NotOpened = defined.NotOpened
 shown endings.TransportFailed = defined.TransportFailed
 shown (endings.ServerBroke index why) = defined.ServerBroke index (break_text why)
 shown endings.TurnsSpent = defined.TurnsSpent
+shown endings.StartRefused = defined.StartRefused
 shown endings.MasterRefused = defined.MasterRefused
 shown endings.MasterBroke = defined.MasterBroke
 shown endings.NoMemory = defined.NoMemory

@@ -11,6 +11,7 @@ ends_sharing endings.NotOpened = true
 ends_sharing endings.TransportFailed = true
 ends_sharing (endings.ServerBroke index why) = true
 ends_sharing endings.TurnsSpent = true
+ends_sharing endings.StartRefused = true
 ends_sharing endings.NoMemory = true
 ends_sharing ending = false
 

@@ -1,16 +1,17 @@
 -- What a master opens, and how its run goes.
-use Rattle.std.specs.Prelude.{◌≡◌, ◌≢◌, ◌≤◌, ◌<◌, ◌+◌, ◌-◌, ◌^◌, min, ℕ, ◌⊎◌, List, [], ◌∷◌, ◌++◌, Option, Some, None, option_map, Result, Ok, Err}
+use Rattle.std.specs.Prelude.{◌≡◌, ◌≢◌, ◌≤◌, ◌<◌, ◌+◌, ◌-◌, ◌^◌, min, ℕ, ◌⊎◌, List, [], ◌∷◌, ◌++◌, Option, Some, None, option_map, IsSome, Result, Ok, Err}
 use Rattle.std.specs.Bool.{OnTrue}
 use Rattle.conf_rules.specs.Outcome.{Drills, Opens}
 use Rattle.conf_rules.specs.Texts.{Bytes}
 use Rattle.forward_rules.specs.Allows.{read_policy}
 use Rattle.mux_engine.specs.Run.{IsRun}
+use Rattle.mux_engine.specs.Sides.{Resting}
 use Rattle.mux_history.specs.declared.ended.Ended.{Ended}
 use Rattle.mux_history.specs.declared.ended.Ended.TheVariants as ends
 use Rattle.mux_history.specs.Policy.{Entries, Policy}
 use Rattle.mux_outside.specs.Counts.{Rose, counted}
-use Rattle.mux_outside.specs.House.{Asked}
 use Rattle.mux_outside.specs.declared.house.HouseReply.{HouseReply}
+use Rattle.mux_outside.specs.declared.house_mark.HouseMark.{HouseMark}
 use Rattle.mux_outside.specs.declared.mark.Mark.{Mark}
 use Rattle.mux_outside.specs.declared.mark.Opening.{Opening}
 use Rattle.mux_outside.specs.Seen.{Calls}
@@ -19,7 +20,7 @@ use Rattle.ssh_mux.specs.declared.ending.Ending.{Ending as MeantEnding}
 use Rattle.ssh_mux.specs.declared.ending.Ending.TheVariants as endings
 use Rattle.ssh_mux.specs.declared.status.Status.{Status}
 use Rattle.ssh_mux.specs.declared.status.Status.TheVariants.{Done, Config, Outside, Write}
-use Rattle.ssh_mux.specs.declared.status.Status.TheVariants.{Open, Transport, Broke, Spent, Memory}
+use Rattle.ssh_mux.specs.declared.status.Status.TheVariants.{Open, Transport, Broke, Spent, StartRefused, Memory}
 use Rattle.ssh_mux.specs.Answers.{may_share, so_far}
 use Rattle.ssh_mux.specs.Ending.{shown}
 use Rattle.ssh_mux.specs.Err.{Reports}
@@ -85,43 +86,45 @@ told_as ends.Disconnected = Ok Done
 told_as (ends.Terminated client id) = Ok Done
 told_as ends.ServerFailed = Err endings.TransportFailed
 told_as (ends.Broke index why) = Err (endings.ServerBroke index why)
+told_as (ends.StartRefused index) = Err endings.StartRefused
 told_as ends.Spent = Err endings.TurnsSpent
 told_as ends.OutOfMemory = Err endings.NoMemory
 
 -- nothing is served: the wire and the house tell what they told before
-pub record IsUnserved (before now : Option (List Asked)) (start told : Option (List Mark)) :
+pub record IsUnserved (before now : Option (List HouseMark)) (start told : Option (List Mark)) :
     Type 0 where
   pub same_wire : told ≡ start
   pub same_house : now ≡ before
 
--- a run that keeps its promises, and its very end; `before` and `now` are what the house tells,
--- `start` and `told` what the wire does
-pub record IsShared (May : HouseReply → Type 0) (policy : Policy) (pid turns : ℕ)
-    (before now : Option (List Asked)) (start told : Option (List Mark))
-    (result : Result Status MeantEnding) : Type 0 where
+-- a run that keeps its promises, and its very end; `Rest` is whether a house is present, and what
+-- is so of it at rest; `before` and `now` are what the house tells, `start` and `told` what the wire
+-- does; `refused` is the forwarding of the start that was refused, if none may be
+pub record IsShared (May : HouseReply → Type 0) (Rest : Resting) (policy : Policy)
+    (pid turns : ℕ) (before now : Option (List HouseMark)) (start told : Option (List Mark))
+    (refused : Option ℕ) (result : Result Status MeantEnding) : Type 0 where
   pub answer : Ended
   pub is_told : result ≡ told_as answer
-  pub run : IsRun May policy pid turns before now start told answer
+  pub run : IsRun May Rest.rests Rest.present policy pid turns before now start told refused answer
 
 -- where the sockets weren't opened nothing is served
-abbrev pub Shares :
-    (HouseReply → Type 0) → Policy → ℕ → ℕ → Option (List Asked) → Option (List Asked)
-    → Option (List Mark) → Option (List Mark) → Result Status MeantEnding → Type 0
-Shares May policy pid turns before now start told (Err endings.NotOpened) =
+abbrev pub Shares : (HouseReply → Type 0) → Resting → Policy → ℕ → ℕ
+    → Option (List HouseMark) → Option (List HouseMark) → Option (List Mark) → Option (List Mark)
+    → Option ℕ → Result Status MeantEnding → Type 0
+Shares May Rest policy pid turns before now start told refused (Err endings.NotOpened) =
     IsUnserved before now start told
-Shares May policy pid turns before now start told (Err endings.NoMemory) =
+Shares May Rest policy pid turns before now start told refused (Err endings.NoMemory) =
     IsUnserved before now start told
-    ⊎ IsShared May policy pid turns before now start told (Err endings.NoMemory)
-Shares May policy pid turns before now start told result =
-    IsShared May policy pid turns before now start told result
+    ⊎ IsShared May Rest policy pid turns before now start told refused (Err endings.NoMemory)
+Shares May Rest policy pid turns before now start told refused result =
+    IsShared May Rest policy pid turns before now start told refused result
 
 -- the same of what comes of words: only a master serves
-abbrev pub SharesFor :
-    (HouseReply → Type 0) → Known → ℕ → ℕ → Option (List Asked) → Option (List Asked)
-    → Option (List Mark) → Option (List Mark) → Result Status MeantEnding → Type 0
-SharesFor May known pid turns before now start told result =
+abbrev pub SharesFor : (HouseReply → Type 0) → Resting → Known → ℕ → ℕ
+    → Option (List HouseMark) → Option (List HouseMark) → Option (List Mark) → Option (List Mark)
+    → Option ℕ → Result Status MeantEnding → Type 0
+SharesFor May Rest known pid turns before now start told refused result =
     OnTrue (may_share known (so_far result))
-    (Shares May (policy_in known) pid turns before now start told result)
+    (Shares May Rest (policy_in known) pid turns before now start told refused result)
 
 -- the line of an end was handed over, if it has one; there may be no memory for it
 abbrev pub TellsEnd :
@@ -131,34 +134,35 @@ TellsEnd (Err ending) status err err' faults faults' =
     Reports status (shown ending) err err' faults faults'
 
 -- a run that keeps its promises, and the line of its very end
-pub record IsServed (May : HouseReply → Type 0) (policy : Policy) (pid turns : ℕ)
-    (before now : Option (List Asked)) (start told : Option (List Mark))
-    (status : Status) (err err' : Option (List ℕ)) (faults faults' : ℕ) : Type 0 where
+pub record IsServed (May : HouseReply → Type 0) (Rest : Resting) (policy : Policy)
+    (pid turns : ℕ) (before now : Option (List HouseMark)) (start told : Option (List Mark))
+    (refused : Option ℕ) (status : Status) (err err' : Option (List ℕ)) (faults faults' : ℕ) :
+    Type 0 where
   pub answer : Ended
-  pub run : IsRun May policy pid turns before now start told answer
+  pub run : IsRun May Rest.rests Rest.present policy pid turns before now start told refused answer
   pub line : TellsEnd (told_as answer) status err err' faults faults'
 
 -- the same of the program: where its sockets weren't opened nothing is served
-abbrev pub Serves :
-    (HouseReply → Type 0) → Policy → ℕ → ℕ → Option (List Asked) → Option (List Asked)
-    → Option (List Mark) → Option (List Mark) → Status → Option (List ℕ) → Option (List ℕ)
-    → ℕ → ℕ → Type 0
-Serves May policy pid turns before now start told Open err err' faults faults' =
+abbrev pub Serves : (HouseReply → Type 0) → Resting → Policy → ℕ → ℕ
+    → Option (List HouseMark) → Option (List HouseMark) → Option (List Mark) → Option (List Mark)
+    → Option ℕ → Status → Option (List ℕ) → Option (List ℕ) → ℕ → ℕ → Type 0
+Serves May Rest policy pid turns before now start told refused Open err err' faults faults' =
     IsUnserved before now start told
-Serves May policy pid turns before now start told Memory err err' faults faults' =
+Serves May Rest policy pid turns before now start told refused Memory err err' faults faults' =
     IsUnserved before now start told
-    ⊎ IsServed May policy pid turns before now start told Memory err err' faults faults'
-Serves May policy pid turns before now start told status err err' faults faults' =
-    IsServed May policy pid turns before now start told status err err' faults faults'
+    ⊎ IsServed May Rest policy pid turns before now start told refused Memory err err'
+    faults faults'
+Serves May Rest policy pid turns before now start told refused status err err' faults faults' =
+    IsServed May Rest policy pid turns before now start told refused status err err' faults faults'
 
 -- the same of what comes of words
-abbrev pub ServesFor :
-    (HouseReply → Type 0) → Known → ℕ → ℕ → Option (List Asked) → Option (List Asked)
-    → Option (List Mark) → Option (List Mark) → Status → Option (List ℕ) → Option (List ℕ)
-    → ℕ → ℕ → Type 0
-ServesFor May known pid turns before now start told status err err' faults faults' =
+abbrev pub ServesFor : (HouseReply → Type 0) → Resting → Known → ℕ → ℕ
+    → Option (List HouseMark) → Option (List HouseMark) → Option (List Mark) → Option (List Mark)
+    → Option ℕ → Status → Option (List ℕ) → Option (List ℕ) → ℕ → ℕ → Type 0
+ServesFor May Rest known pid turns before now start told refused status err err' faults faults' =
     OnTrue (may_share known status)
-    (Serves May (policy_in known) pid turns before now start told status err err' faults faults')
+    (Serves May Rest (policy_in known) pid turns before now start told refused status err err'
+    faults faults')
 
 -- the process id that clients are told: 0 where none is known
 abbrev pub pid_of : Option ℕ → ℕ
@@ -174,6 +178,11 @@ WireCause Open server server' client client' = SomeFault server server' client c
 WireCause Transport server server' client client' = Rose server server'
 WireCause status server server' client client' = Unit
 
+-- a forwarding is told as refused only where one of the start was, and none may be
+abbrev pub StartCause : Status → Option ℕ → Type 0
+StartCause StartRefused refused = IsSome refused
+StartCause status refused = Unit
+
 -- `wait` is called at most so many times, and a call that finds no memory is the last
 pub record CallsEnd (turns : ℕ) (status : Status) (old new : Calls) : Type 0 where
   pub few : new.waits ≤ old.waits + turns
@@ -181,8 +190,9 @@ pub record CallsEnd (turns : ℕ) (status : Status) (old new : Calls) : Type 0 w
   pub starved : new.wants ≢ old.wants → status ≡ Memory
   pub late : old.wants ≡ 0 → new.late ≡ old.late
 
--- Where all turns were taken `wait` was called once for each, and a run with another end but for
--- want of memory called it at least once; its count stays at the end of its type.
+-- of a run without a house: where all turns were taken `wait` was called once for each, and with
+-- another end but for want of memory it was called at least once; its count stays at the end of its
+-- type
 abbrev pub WaitsFor : ℕ → Status → Calls → Calls → Type 0
 WaitsFor turns Spent old new =
     old.waits < 2 ^ 64 → new.waits ≡ min (old.waits + turns) (2 ^ 64 - 1)
@@ -192,8 +202,8 @@ WaitsFor turns Transport old new = counted old.waits ≤ new.waits
 WaitsFor turns Broke old new = counted old.waits ≤ new.waits
 WaitsFor turns status old new = Unit
 
--- what a run without turns leaves of the counts of faults: both, but where the sockets weren't
--- opened or memory was wanting
+-- what a run without turns and without a house leaves of the counts of faults: both, but where the
+-- sockets weren't opened or memory was wanting
 abbrev pub IdleCause : Status → ℕ → ℕ → ℕ → ℕ → Type 0
 IdleCause Open server server' client client' = Unit
 IdleCause Memory server server' client client' = Unit

@@ -7,11 +7,11 @@ use Rattle.conf_rules.specs.declared.causes.ResolveError.{ResolveError}
 use Rattle.conf_rules.specs.declared.causes.ResolveError.TheVariants as resolve_errors
 use Rattle.conf_rules.specs.Diagnostics.{Ending, BadWords, BadLine, BadListing, NoControlPath}
 use Rattle.conf_rules.specs.Diagnostics.{NotOpened, TransportFailed, ServerBroke}
-use Rattle.conf_rules.specs.Diagnostics.{TurnsSpent, MasterRefused, MasterBroke, NoMemory}
+use Rattle.conf_rules.specs.Diagnostics.{TurnsSpent, StartRefused, MasterRefused, MasterBroke, NoMemory}
 use Rattle.ssh_mux.specs.declared.status.Status.{Status}
 use Rattle.ssh_mux.specs.declared.status.Status.TheVariants.{Done, Usage, Config, Outside}
 use Rattle.ssh_mux.specs.declared.status.Status.TheVariants.{Write, Open, Transport, Broke}
-use Rattle.ssh_mux.specs.declared.status.Status.TheVariants.{Spent, Memory, Refused, BadMaster}
+use Rattle.ssh_mux.specs.declared.status.Status.TheVariants.{Spent, Memory, StartRefused as StartIsRefused, Refused, BadMaster}
 
 -- what the program's caller sees: 255, as of ssh itself, where words or configuration are refused
 abbrev pub code_of : Status → ℕ
@@ -25,6 +25,7 @@ code_of Transport = 6
 code_of Broke = 7
 code_of Spent = 8
 code_of Memory = 9
+code_of StartIsRefused = 10
 code_of Refused = 11
 code_of BadMaster = 12
 
@@ -50,6 +51,7 @@ status_of NotOpened = Open
 status_of TransportFailed = Transport
 status_of (ServerBroke index why) = Broke
 status_of TurnsSpent = Spent
+status_of StartRefused = StartIsRefused
 status_of MasterRefused = Refused
 status_of MasterBroke = BadMaster
 status_of NoMemory = Memory

@@ -31,6 +31,8 @@ pub enum Ending {
     ServerBroke { index: u64, why: Break },
     /// All turns were taken.
     TurnsSpent,
+    /// A forwarding asked for at the start was refused, and none may be.
+    StartRefused,
     /// The running master refused.
     MasterRefused,
     /// The running master broke the protocol.
@@ -98,6 +100,7 @@ impl Ending {
             Ending::TransportFailed => Status::Transport,
             Ending::ServerBroke { .. } => Status::Broke,
             Ending::TurnsSpent => Status::Spent,
+            Ending::StartRefused => Status::StartRefused,
             Ending::MasterRefused => Status::Refused,
             Ending::MasterBroke => Status::BadMaster,
             Ending::NoMemory => Status::Memory,
@@ -145,6 +148,7 @@ impl Ending {
                 put_break_text(alloc, out, why)
             }
             Ending::TurnsSpent => out.add(b"turns are spent"),
+            Ending::StartRefused => out.add(b"a forwarding was refused"),
             Ending::MasterRefused => out.add(b"the master refused"),
             Ending::MasterBroke => out.add(b"the master broke the protocol"),
             Ending::NoMemory => out.add(b"out of memory"),

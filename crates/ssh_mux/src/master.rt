@@ -4,7 +4,9 @@ ghost use Rattle.conf_rules.specs.declared.command.Command.TheVariants as comman
 ghost use Rattle.conf_rules.specs.declared.control.Control.{Control};
 ghost use Rattle.conf_rules.specs.Texts.{Bytes};
 ghost use Rattle.forward_rules.specs.Allows.{read_policy};
-ghost use Rattle.ssh_mux.specs.Answers.{Comes, Finds, so_far, may_share};
+ghost use Rattle.mux_engine.specs.Rests.{refused_if};
+ghost use Rattle.mux_engine.specs.Sides.{RestsOf};
+ghost use Rattle.ssh_mux.specs.Answers.{Comes, Finds, so_far, may_share, serves_house};
 ghost use Rattle.ssh_mux.specs.Causes.{Caused};
 ghost use Rattle.ssh_mux.specs.Commands.{RunsFor, RunsUnless, commands_of};
 ghost use Rattle.ssh_mux.specs.Master.{EndsMaster, OnlyStarves};
@@ -12,7 +14,7 @@ ghost use Rattle.ssh_mux.specs.Outcomes.{Client, Master, joins_at, machine, of_c
 ghost use Rattle.ssh_mux.specs.Places.{Placed, told_over};
 ghost use Rattle.ssh_mux.specs.Reads.{ReadsFor, ReadsUnless};
 ghost use Rattle.ssh_mux.specs.Sharing.{CallsEnd, IdleCause, OpensAt, OpensOnce, Shares};
-ghost use Rattle.ssh_mux.specs.Sharing.{WaitsFor, WireCause, pid_of, policy_of as the_policy_of, told_as};
+ghost use Rattle.ssh_mux.specs.Sharing.{StartCause, WaitsFor, WireCause, pid_of, policy_of as the_policy_of, told_as};
 
 use crate::ending::Ending;
 use crate::status::Status;
@@ -43,6 +45,7 @@ pub fn share<W: Wire, F: Files, R: Runner, H: House>(
     turns: u64,
 ) -> Result<Status, Ending>
     requires permitted { IsOk (read_policy opens.now listens.now) }
+    requires fresh { H.fresh house.old }
     ensures exact { Comes (of_command (machine (F.told files.old) (R.told runner.old) facts.now)
         (commands.Master asked.now transport.now opens.now listens.now)) result }
     ensures opened { OpensOnce
@@ -53,22 +56,33 @@ pub fn share<W: Wire, F: Files, R: Runner, H: House>(
     ensures served { OnTrue (may_share
         (of_command (machine (F.told files.old) (R.told runner.old) facts.now)
         (commands.Master asked.now transport.now opens.now listens.now)) (so_far result))
-        (Shares H.may (the_policy_of opens.now listens.now) (pid_of facts.now.pid) turns
-        (H.told house.old) (H.told house.new)
-        (W.seen wire.old).told (W.seen wire.new).told result) }
+        (Shares H.may (RestsOf H.told H.quiet (H.known house.old).present)
+        (the_policy_of opens.now listens.now) (pid_of facts.now.pid) turns
+        (H.told house.old) (H.told house.new) (W.seen wire.old).told (W.seen wire.new).told
+        (refused_if (H.known house.old).present (H.must house.new) (H.refused house.new)) result) }
+    ensures start { OnTrue (may_share
+        (of_command (machine (F.told files.old) (R.told runner.old) facts.now)
+        (commands.Master asked.now transport.now opens.now listens.now)) (so_far result))
+        (StartCause (so_far result)
+        (refused_if (H.known house.old).present (H.must house.new) (H.refused house.new))) }
     ensures wire_cause { OnTrue (may_share
         (of_command (machine (F.told files.old) (R.told runner.old) facts.now)
         (commands.Master asked.now transport.now opens.now listens.now)) (so_far result))
         (WireCause (so_far result) (W.server_faults wire.old) (W.server_faults wire.new)
         (W.client_faults wire.old) (W.client_faults wire.new)) }
     ensures calls { CallsEnd turns (so_far result) (W.calls wire.old) (W.calls wire.new) }
-    ensures waited { OnTrue (may_share
+    ensures waited { OnFalse (serves_house (H.known house.old).present
+        (of_command (machine (F.told files.old) (R.told runner.old) facts.now)
+        (commands.Master asked.now transport.now opens.now listens.now)))
+        (OnTrue (may_share
         (of_command (machine (F.told files.old) (R.told runner.old) facts.now)
         (commands.Master asked.now transport.now opens.now listens.now)) (so_far result))
-        (WaitsFor turns (so_far result) (W.calls wire.old) (W.calls wire.new)) }
-    ensures idle { turns ≡ 0 → IdleCause (so_far result)
-        (W.server_faults wire.old) (W.server_faults wire.new)
-        (W.client_faults wire.old) (W.client_faults wire.new) }
+        (WaitsFor turns (so_far result) (W.calls wire.old) (W.calls wire.new))) }
+    ensures idle { turns ≡ 0 → OnFalse (serves_house (H.known house.old).present
+        (of_command (machine (F.told files.old) (R.told runner.old) facts.now)
+        (commands.Master asked.now transport.now opens.now listens.now)))
+        (IdleCause (so_far result) (W.server_faults wire.old) (W.server_faults wire.new)
+        (W.client_faults wire.old) (W.client_faults wire.new)) }
     ensures wire { OnFalse (may_share
         (of_command (machine (F.told files.old) (R.told runner.old) facts.now)
         (commands.Master asked.now transport.now opens.now listens.now)) (so_far result))
@@ -150,7 +164,7 @@ pub fn policy_of(alloc: Global, opens: &Texts, listens: &Texts) -> Result<Policy
     }
 }
 
-/// Opens the wire, and serves it.
+/// Opens the wire, and serves it with a house that was never called.
 pub fn open_and_serve<W: Wire, H: House>(
     alloc: Global,
     control: &Text,
@@ -161,20 +175,27 @@ pub fn open_and_serve<W: Wire, H: House>(
     house: &mut H,
     turns: u64,
 ) -> Result<Status, Ending>
+    requires fresh { H.fresh house.old }
     ensures ends { EndsMaster result }
     ensures opened { OpensAt control.now transport.now (so_far result)
         (W.openings wire.old) (W.openings wire.new) }
     ensures joinings { W.joinings wire.new ≡ W.joinings wire.old }
-    ensures served { Shares H.may policy pid turns (H.told house.old) (H.told house.new)
-        (W.seen wire.old).told (W.seen wire.new).told result }
+    ensures served { Shares H.may (RestsOf H.told H.quiet (H.known house.old).present) policy pid
+        turns (H.told house.old) (H.told house.new) (W.seen wire.old).told (W.seen wire.new).told
+        (refused_if (H.known house.old).present (H.must house.new) (H.refused house.new)) result }
+    ensures start { StartCause (so_far result)
+        (refused_if (H.known house.old).present (H.must house.new) (H.refused house.new)) }
     ensures cause { WireCause (so_far result) (W.server_faults wire.old) (W.server_faults wire.new)
         (W.client_faults wire.old) (W.client_faults wire.new) }
     ensures calls { CallsEnd turns (so_far result) (W.calls wire.old) (W.calls wire.new) }
-    ensures waited { WaitsFor turns (so_far result) (W.calls wire.old) (W.calls wire.new) }
-    ensures idle { turns ≡ 0 → IdleCause (so_far result)
+    ensures waited { OnFalse (H.known house.old).present
+        (WaitsFor turns (so_far result) (W.calls wire.old) (W.calls wire.new)) }
+    ensures idle { turns ≡ 0 → OnFalse (H.known house.old).present (IdleCause (so_far result)
         (W.server_faults wire.old) (W.server_faults wire.new)
-        (W.client_faults wire.old) (W.client_faults wire.new) }
+        (W.client_faults wire.old) (W.client_faults wire.new)) }
 {
+    // A house that was never called says by this that nothing is known of it.
+    let _blank = house.present();
     match wire.open(control.as_bytes(), transport.as_bytes()) {
         Ok(()) => ending_of(serve(alloc, policy, pid, wire, house, turns)),
         Err(FileError::Failed) => Err(Ending::NotOpened),
@@ -191,6 +212,7 @@ fn ending_of(ended: Ended) -> Result<Status, Ending>
         Ended::ServerEnd | Ended::Disconnected | Ended::Terminated { .. } => Ok(Status::Done),
         Ended::ServerFailed => Err(Ending::TransportFailed),
         Ended::Broke { index, why } => Err(Ending::ServerBroke { index, why }),
+        Ended::StartRefused { .. } => Err(Ending::StartRefused),
         Ended::Spent => Err(Ending::TurnsSpent),
         Ended::OutOfMemory => Err(Ending::NoMemory),
     }

@@ -1,6 +1,8 @@
 ghost use Rattle.std.specs.Prelude.{◌≡◌};
-ghost use Rattle.std.specs.Bool.{OnTrue};
-ghost use Rattle.ssh_mux.specs.Answers.{Comes, Leaves, is_silent, may_ask, so_far, touches};
+ghost use Rattle.std.specs.Bool.{OnFalse, OnTrue};
+ghost use Rattle.mux_engine.specs.Rests.{refused_if};
+ghost use Rattle.mux_engine.specs.Sides.{RestsOf};
+ghost use Rattle.ssh_mux.specs.Answers.{Comes, Leaves, is_silent, may_ask, may_share, serves_house, so_far, touches};
 ghost use Rattle.ssh_mux.specs.Causes.{Caused, FaultCause, OutCause};
 ghost use Rattle.ssh_mux.specs.Client.{AnswersFor, ConversesFor, JoinsOnce, TalksFor};
 ghost use Rattle.ssh_mux.specs.Commands.{RunsFor, commands_for};
@@ -11,7 +13,7 @@ ghost use Rattle.ssh_mux.specs.Outcomes.{machine, known_of, drills};
 ghost use Rattle.ssh_mux.specs.Places.{Placed, told_for};
 ghost use Rattle.ssh_mux.specs.Reads.{ReadsFor};
 ghost use Rattle.ssh_mux.specs.Sharing.{CallsEnd, IdleCause, OpensOnce, ServesFor, SharesFor};
-ghost use Rattle.ssh_mux.specs.Sharing.{WaitsFor, WireCause, pid_of};
+ghost use Rattle.ssh_mux.specs.Sharing.{StartCause, WaitsFor, WireCause, pid_of};
 
 use crate::client::ask_master;
 use crate::drill::drill;
@@ -36,7 +38,8 @@ use std::alloc::Global;
 /// anything but forwardings of the master's own, and where its run ends well the summary of what
 /// the wire has counted goes to `out` in one `put`. A status other than that of success or of a
 /// failed `out` has its one line, which goes to `err` in one `put`; where there is no memory for it
-/// the status is that of want of memory.
+/// the status is that of want of memory. `house` is the master's own forwardings, which weren't called
+/// before; `-M` alone calls it.
 pub fn run<W: Wire, F: Files, R: Runner, S: Sink, H: House>(
     alloc: Global,
     words: &Texts,
@@ -49,6 +52,7 @@ pub fn run<W: Wire, F: Files, R: Runner, S: Sink, H: House>(
     house: &mut H,
     turns: u64,
 ) -> Status
+    requires fresh { H.fresh house.old }
     ensures ended { Ended
         (known_of (F.told files.old) (R.told runner.old) facts.now words.now)
         (told_for (machine (F.told files.old) (R.told runner.old) facts.now) words.now)
@@ -73,11 +77,16 @@ pub fn run<W: Wire, F: Files, R: Runner, S: Sink, H: House>(
     ensures joined { JoinsOnce
         (known_of (F.told files.old) (R.told runner.old) facts.now words.now)
         result (W.joinings wire.old) (W.joinings wire.new) }
-    ensures shared { ServesFor H.may
+    ensures shared { ServesFor H.may (RestsOf H.told H.quiet (H.known house.old).present)
         (known_of (F.told files.old) (R.told runner.old) facts.now words.now)
         (pid_of facts.now.pid) turns (H.told house.old) (H.told house.new)
-        (W.seen wire.old).told (W.seen wire.new).told result
+        (W.seen wire.old).told (W.seen wire.new).told
+        (refused_if (H.known house.old).present (H.must house.new) (H.refused house.new)) result
         (S.told err.old) (S.told err.new) (S.faults err.old) (S.faults err.new) }
+    ensures start { OnTrue (may_share
+        (known_of (F.told files.old) (R.told runner.old) facts.now words.now)
+        result) (StartCause result
+        (refused_if (H.known house.old).present (H.must house.new) (H.refused house.new))) }
     ensures wire_cause { OnTrue (touches
         (known_of (F.told files.old) (R.told runner.old) facts.now words.now)
         result) (WireCause result (W.server_faults wire.old) (W.server_faults wire.new)
@@ -94,12 +103,15 @@ pub fn run<W: Wire, F: Files, R: Runner, S: Sink, H: House>(
         (known_of (F.told files.old) (R.told runner.old) facts.now words.now)
         result) (TalksFor turns result (W.calls wire.old) (W.calls wire.new)) }
     ensures calls { CallsEnd turns result (W.calls wire.old) (W.calls wire.new) }
-    ensures waited { OnTrue (touches
+    ensures waited { OnFalse (serves_house (H.known house.old).present
+        (known_of (F.told files.old) (R.told runner.old) facts.now words.now))
+        (OnTrue (touches
         (known_of (F.told files.old) (R.told runner.old) facts.now words.now)
-        result) (WaitsFor turns result (W.calls wire.old) (W.calls wire.new)) }
-    ensures idle { turns ≡ 0 → IdleCause result
-        (W.server_faults wire.old) (W.server_faults wire.new)
-        (W.client_faults wire.old) (W.client_faults wire.new) }
+        result) (WaitsFor turns result (W.calls wire.old) (W.calls wire.new))) }
+    ensures idle { turns ≡ 0 → OnFalse (serves_house (H.known house.old).present
+        (known_of (F.told files.old) (R.told runner.old) facts.now words.now))
+        (IdleCause result (W.server_faults wire.old) (W.server_faults wire.new)
+        (W.client_faults wire.old) (W.client_faults wire.new)) }
     ensures drill { OnTrue
         (drills (known_of (F.told files.old) (R.told runner.old) facts.now words.now))
         (IsDrill words.now turns result (W.openings wire.old) (W.openings wire.new)
@@ -130,6 +142,7 @@ fn obey<W: Wire, F: Files, R: Runner, S: Sink, H: House>(
     house: &mut H,
     turns: u64,
 ) -> Result<Status, Ending>
+    requires fresh { H.fresh house.old }
     ensures exact { Comes
         (known_of (F.told files.old) (R.told runner.old) facts.now words.now)
         result }
@@ -155,10 +168,15 @@ fn obey<W: Wire, F: Files, R: Runner, S: Sink, H: House>(
     ensures joined { JoinsOnce
         (known_of (F.told files.old) (R.told runner.old) facts.now words.now)
         (so_far result) (W.joinings wire.old) (W.joinings wire.new) }
-    ensures shared { SharesFor H.may
+    ensures shared { SharesFor H.may (RestsOf H.told H.quiet (H.known house.old).present)
         (known_of (F.told files.old) (R.told runner.old) facts.now words.now)
         (pid_of facts.now.pid) turns (H.told house.old) (H.told house.new)
-        (W.seen wire.old).told (W.seen wire.new).told result }
+        (W.seen wire.old).told (W.seen wire.new).told
+        (refused_if (H.known house.old).present (H.must house.new) (H.refused house.new)) result }
+    ensures start { OnTrue (may_share
+        (known_of (F.told files.old) (R.told runner.old) facts.now words.now)
+        (so_far result)) (StartCause (so_far result)
+        (refused_if (H.known house.old).present (H.must house.new) (H.refused house.new))) }
     ensures wire_cause { OnTrue (touches
         (known_of (F.told files.old) (R.told runner.old) facts.now words.now)
         (so_far result)) (WireCause (so_far result)
@@ -176,12 +194,15 @@ fn obey<W: Wire, F: Files, R: Runner, S: Sink, H: House>(
         (known_of (F.told files.old) (R.told runner.old) facts.now words.now)
         (so_far result)) (TalksFor turns (so_far result) (W.calls wire.old) (W.calls wire.new)) }
     ensures calls { CallsEnd turns (so_far result) (W.calls wire.old) (W.calls wire.new) }
-    ensures waited { OnTrue (touches
+    ensures waited { OnFalse (serves_house (H.known house.old).present
+        (known_of (F.told files.old) (R.told runner.old) facts.now words.now))
+        (OnTrue (touches
         (known_of (F.told files.old) (R.told runner.old) facts.now words.now)
-        (so_far result)) (WaitsFor turns (so_far result) (W.calls wire.old) (W.calls wire.new)) }
-    ensures idle { turns ≡ 0 → IdleCause (so_far result)
-        (W.server_faults wire.old) (W.server_faults wire.new)
-        (W.client_faults wire.old) (W.client_faults wire.new) }
+        (so_far result)) (WaitsFor turns (so_far result) (W.calls wire.old) (W.calls wire.new))) }
+    ensures idle { turns ≡ 0 → OnFalse (serves_house (H.known house.old).present
+        (known_of (F.told files.old) (R.told runner.old) facts.now words.now))
+        (IdleCause (so_far result) (W.server_faults wire.old) (W.server_faults wire.new)
+        (W.client_faults wire.old) (W.client_faults wire.new)) }
     ensures drill { OnTrue
         (drills (known_of (F.told files.old) (R.told runner.old) facts.now words.now))
         (DrillGoes words.now turns result (W.openings wire.old) (W.openings wire.new)

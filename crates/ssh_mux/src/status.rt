@@ -25,6 +25,8 @@ pub enum Status {
     Spent,
     /// There was no memory.
     Memory,
+    /// A forwarding asked for at the start was refused, and none may be.
+    StartRefused,
     /// The running master refused.
     Refused,
     /// The running master broke the protocol.
@@ -46,6 +48,7 @@ impl Status {
             Status::Broke => 7,
             Status::Spent => 8,
             Status::Memory => 9,
+            Status::StartRefused => 10,
             Status::Refused => 11,
             Status::BadMaster => 12,
         }

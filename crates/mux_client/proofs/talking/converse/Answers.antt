@@ -31,7 +31,7 @@ loop-init g c = let told = (g.W.Wire.seen c.args.wire.now).told in record {
   blocked = c.requires.none_blocked ∙ sym c.new-held.ensures;
   held = inl c.new-held.ensures;
   first = λ z. ap (λ (s : ClientState). s.stage) c.in_ok-client.ensures.new;
-  none_accepted = record { streams = refl; listens = refl; last = refl };
+  none_accepted = record { streams = refl; listens = refl; last = refl; listeners = refl; own = refl };
   calls = well-none (g.W.Wire.calls c.args.wire.now);
   cause = record { same_server = refl; same_client = refl };
   sink = refl;

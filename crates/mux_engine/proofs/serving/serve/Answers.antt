@@ -1,40 +1,55 @@
-use Rattle.std.proofs.Common.{refl}
-use Rattle.mux_engine.proofs.Counting.{cut-none, same-faults, stops-cut}
+use Rattle.std.proofs.Common.{ap, refl}
+use Rattle.mux_outside.specs.House.{Known}
+use Rattle.mux_engine.specs.Sides.{RestsOf, outside}
+use Rattle.mux_engine.proofs.Answering.{alone-blank, housed-blank}
+use Rattle.mux_engine.proofs.Counting.{cut-none, same-faults}
 use Rattle.mux_engine.proofs.Runs.{ends-starved, starts, starts-starved}
+use Rattle.mux_engine.proofs.Spending.{stops-cut}
 use Rattle.mux_engine.proofs.serving.serve.Goals as goal
 
 pub returns-in_default-clause-kept : goal.returns-in_default-clause-kept
 returns-in_default-clause-kept g c =
+    let H = g.H.House in
     let told = (g.W.Wire.seen c.args.wire.now).told in
-    ends-starved g.H.House.may (g.H.House.told c.args.house.now) (g.H.House.told c.args.house.now) c.args.policy c.args.pid c.args.turns told told
-    (starts-starved g.H.House.may (g.H.House.told c.args.house.now) c.args.policy c.args.pid told c.args.turns)
+    let Rest = RestsOf H.told H.quiet (H.known c.args.house.now).present in
+    ends-starved H.may Rest (H.told c.args.house.now) c.args.policy c.args.pid c.args.turns told _ (H.told c.args.house.now) told
+    (starts-starved H.may Rest (H.told c.args.house.now) c.args.policy c.args.pid told c.args.turns)
 
 pub returns-in_default-clause-calls : goal.returns-in_default-clause-calls
-returns-in_default-clause-calls g c =
-    stops-cut c.args.turns (g.W.Wire.calls c.args.wire.now) (g.W.Wire.calls c.args.wire.now) (cut-none c.args.turns (g.W.Wire.calls c.args.wire.now))
+returns-in_default-clause-calls g c = stops-cut _ c.args.turns _ _ (cut-none c.args.turns _)
 
 pub returns-in_default-clause-idle : goal.returns-in_default-clause-idle
-returns-in_default-clause-idle g c = λ z. same-faults g.W.Wire.server_faults g.W.Wire.client_faults c.args.wire.now c.args.wire.now refl
+returns-in_default-clause-idle g c = λ z p. same-faults g.W.Wire.server_faults g.W.Wire.client_faults _ _ refl
 
 pub run-requires-clause-running : goal.run-requires-clause-running
-run-requires-clause-running g c = record {
-  before = g.H.House.told c.args.house.now;
-  policy = c.args.policy;
-  pid = c.args.pid;
-  start = (g.W.Wire.seen c.args.wire.now).told;
-  given = 0;
-  serving = starts g.H.House.may (g.H.House.told c.args.house.now) c.args.policy c.args.pid (g.W.Wire.seen c.args.wire.now) c.in-Ok.engine c.in-Ok.ensures.stands c.in-Ok.ensures.policy c.in-Ok.ensures.pid c.in-Ok.ensures.clients c.in-Ok.ensures.refused
-      c.requires.server_alone c.requires.none_blocked c.requires.listens;
-}
+run-requires-clause-running g c = let H = g.H.House in let r = c.requires in let e = c.in-Ok.ensures in
+    let start = starts H.may (RestsOf H.told H.quiet (H.known c.args.house.now).present) (outside (H.told c.args.house.now) (H.known c.args.house.now)) c.args.policy c.args.pid (g.W.Wire.seen c.args.wire.now) c.in-Ok.engine
+    e.stands e.policy e.pid e.clients e.refused (ap (λ (k : Known). k.asks) r.blank) refl refl r.server_alone r.none_blocked r.listens in (
+      record {
+        before = H.told c.args.house.now;
+        policy = c.args.policy;
+        pid = c.args.pid;
+        start = (g.W.Wire.seen c.args.wire.now).told;
+        given = 0;
+        serving = start.0;
+      },
+      start.1,
+    )
+
+pub run-requires-clause-housed : goal.run-requires-clause-housed
+run-requires-clause-housed g c = let r = c.requires in housed-blank _ _ r.blank r.server_alone r.own r.listeners
+
+pub run-requires-clause-alone : goal.run-requires-clause-alone
+run-requires-clause-alone g c = alone-blank _ c.requires.blank
 
 pub returns-in-Ok-run-clause-kept : goal.returns-in-Ok-run-clause-kept
-returns-in-Ok-run-clause-kept g c =
-    c.in-Ok-run.ensures.ran (g.H.House.told c.args.house.now) c.args.policy c.args.pid (g.W.Wire.seen c.args.wire.now).told
-    (starts g.H.House.may (g.H.House.told c.args.house.now) c.args.policy c.args.pid (g.W.Wire.seen c.args.wire.now) c.in-Ok.engine c.in-Ok.ensures.stands c.in-Ok.ensures.policy c.in-Ok.ensures.pid c.in-Ok.ensures.clients c.in-Ok.ensures.refused
-    c.requires.server_alone c.requires.none_blocked c.requires.listens)
+returns-in-Ok-run-clause-kept g c = let H = g.H.House in let r = c.requires in let e = c.in-Ok.ensures in
+    let start = starts H.may (RestsOf H.told H.quiet (H.known c.args.house.now).present) (outside (H.told c.args.house.now) (H.known c.args.house.now)) c.args.policy c.args.pid (g.W.Wire.seen c.args.wire.now) c.in-Ok.engine
+    e.stands e.policy e.pid e.clients e.refused (ap (λ (k : Known). k.asks) r.blank) refl refl r.server_alone r.none_blocked r.listens in
+    c.in-Ok-run.ensures.ran (H.told c.args.house.now) c.args.policy c.args.pid (g.W.Wire.seen c.args.wire.now).told start.0 start.1
 
 pub returns-clause-kept : goal.returns-clause-kept
-returns-clause-kept g c =
-    c.in-Err.ensures.ran (g.H.House.told c.args.house.now) c.args.policy c.args.pid (g.W.Wire.seen c.args.wire.now).told
-    (starts g.H.House.may (g.H.House.told c.args.house.now) c.args.policy c.args.pid (g.W.Wire.seen c.args.wire.now) c.in-Ok.engine c.in-Ok.ensures.stands c.in-Ok.ensures.policy c.in-Ok.ensures.pid c.in-Ok.ensures.clients c.in-Ok.ensures.refused
-    c.requires.server_alone c.requires.none_blocked c.requires.listens)
+returns-clause-kept g c = let H = g.H.House in let r = c.requires in let e = c.in-Ok.ensures in
+    let start = starts H.may (RestsOf H.told H.quiet (H.known c.args.house.now).present) (outside (H.told c.args.house.now) (H.known c.args.house.now)) c.args.policy c.args.pid (g.W.Wire.seen c.args.wire.now) c.in-Ok.engine
+    e.stands e.policy e.pid e.clients e.refused (ap (λ (k : Known). k.asks) r.blank) refl refl r.server_alone r.none_blocked r.listens in
+    c.in-Err.ensures.ran (H.told c.args.house.now) c.args.policy c.args.pid (g.W.Wire.seen c.args.wire.now).told start.0 start.1

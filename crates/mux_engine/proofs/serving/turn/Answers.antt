@@ -1,112 +1,290 @@
-use Rattle.std.proofs.Common.{◌∷◌, ◌≡◌, ◌+◌, ◌∙◌, refl, sym, subst, ℕ, List, Some, None}
-use Rattle.std.specs.Prelude.{All, IsTrue, length, ◌<◌}
-use Rattle.ssh_fields.specs.Fields.{AreBytes}
-use Rattle.mux_outside.specs.Seen.{Calls, Seen, seen_after_turn}
-use Rattle.mux_outside.specs.Streams.{among, without}
-use Rattle.mux_outside.specs.Wire.{TurnFits}
-use Rattle.mux_outside.specs.declared.turn.Turn.TheVariants.{Writable}
-use Rattle.mux_outside.specs.declared.turn.Want.{Want}
-use Rattle.mux_history.specs.declared.ended.Ended.TheVariants.{Spent}
+use Rattle.std.proofs.Common.{◌≡◌, ◌++◌, ◌+◌, ◌∙◌, ◌∷◌, [], refl, sym, ap, subst, ℕ, List, arith}
+use Rattle.std.specs.Prelude.{All, IsTrue, length, ◌<◌, filter}
+use Rattle.mux_outside.specs.Counts.{Rose}
+use Rattle.mux_outside.specs.Seen.{Seen}
+use Rattle.mux_outside.specs.Streams.{among}
 use Rattle.mux_machine.specs.Events.{here}
-use Rattle.mux_machine.specs.State.{State}
-use Rattle.mux_engine.specs.Counted.{Counts, Cut, Well}
-use Rattle.mux_engine.specs.Serving.{Promised, Serving}
-use Rattle.mux_engine.specs.Turns.{IsNext, want_of}
-use Rattle.mux_engine.proofs.Arms.{well-wait}
-use Rattle.mux_engine.proofs.Counting.{counts-event, cut-wait, turn-later, turn-rose, turn-unspent}
-use Rattle.mux_engine.proofs.Turned.{both-ways, on-ok, seen-of, turn-cut, turn-ends, turn-frees, turn-goes, turn-nothing}
+use Rattle.mux_engine.specs.Owned.{waits_for}
+use Rattle.mux_engine.specs.Serving.{Serving}
+use Rattle.mux_engine.specs.Sides.{RestsOf, SameHouse, noted}
+use Rattle.mux_engine.specs.Turns.{IsEventOf, IsOwnOf}
+use Rattle.mux_engine.proofs.Arms.{on-err, on-ok}
+use Rattle.mux_engine.proofs.Counting.{turn-by-row, turn-rose}
+use Rattle.mux_engine.proofs.Cuts.{cut-here, cut-still}
+use Rattle.mux_engine.proofs.Handed.{AtWait, HasWaited, alone-as, alone-heard, at-wait, own-noted, has-waited, turn-ends, turn-fits, turn-frees, turn-heeds, turn-house, turn-housed, turn-own-housed, turn-owns, turn-starved}
+use Rattle.mux_engine.proofs.Places.{server-open}
+use Rattle.mux_engine.proofs.Runs.{promised-more}
+use Rattle.mux_engine.proofs.Told.{tells-none}
+use Rattle.mux_engine.proofs.Unopened.{event-opens, wait-opens}
 use Rattle.mux_engine.proofs.Waits.{some-waits, waiting-blocked, waiting-open}
 use Rattle.mux_engine.proofs.serving.turn.Goals as goal
 
-pub wait-next-requires-clause-waiting_blocked : goal.wait-next-requires-clause-waiting_blocked
-wait-next-requires-clause-waiting_blocked g c =
-    subst (λ (l : List ℕ). All (λ t. IsTrue (among t (g.W.Wire.seen c.args.wire.now).blocked)) l) (sym c.waiting.ensures.exact)
-    (waiting-blocked c.requires.served.serving c.requires.closed c.requires.refused c.requires.on)
+pub returns-in_err-list_waiting-clause-serving : goal.returns-in_err-list_waiting-clause-serving
+returns-in_err-list_waiting-clause-serving g c before policy pid start given v = on-err c.from_residual.result _ _ c.from_residual.ensures.0
+    (promised-more given (given + 1) (omega arith) (cut-still v _ refl))
 
-pub wait-next-requires-clause-waiting_open : goal.wait-next-requires-clause-waiting_open
-wait-next-requires-clause-waiting_open g c =
-    subst (λ (l : List ℕ). All (λ t. IsTrue (among t (g.W.Wire.seen c.args.wire.now).streams)) l) (sym c.waiting.ensures.exact)
-    (waiting-open c.requires.served.serving c.requires.closed c.requires.refused c.requires.on)
-
-pub wait-next-requires-clause-some : goal.wait-next-requires-clause-some
-wait-next-requires-clause-some g c write =
-    subst (λ (l : List ℕ). 0 < length l) (sym c.waiting.ensures.exact)
-    (some-waits c.requires.served.serving c.requires.closed c.requires.refused c.requires.on (sym c.wanted.ensures ∙ write))
-
-pub returns-in-Some-clause-serving : goal.returns-in-Some-clause-serving
-returns-in-Some-clause-serving g c before policy pid start given v =
+pub wait-told-requires-clause-waiting_blocked : goal.wait-told-requires-clause-waiting_blocked
+wait-told-requires-clause-waiting_blocked g c =
+    let H = g.H.House in
     let W = g.W.Wire in
-    let s : State = c.args.engine.now in
+    let house = c.args.house.now in
+    let lists = c.args.lists.now in
     let seen : Seen = W.seen c.args.wire.now in
-    let now : W.seen c.wait-next.new.self ≡ seen_after_turn c.wait-next.result s.waiting (want_of s) c.wait-next.new.into seen = c.wait-next.ensures.seen ∙ seen-of c.wait-next.result _ _ _ _ c.wait-next.new.into seen c.waiting.ensures.exact c.wanted.ensures in
-    let are : AreBytes c.wait-next.new.into = subst AreBytes c.as_bytes.ensures.bytes c.event_of.ensures.bytes in
-    let fits : TurnFits c.wait-next.result (want_of s) seen.listens seen.last seen.streams seen.blocked c.wait-next.new.into = subst (λ (w : Want). TurnFits c.wait-next.result w seen.listens seen.last seen.streams seen.blocked c.wait-next.new.into) c.wanted.ensures c.wait-next.ensures.turn in
-    let next : IsNext (Some c.in-Some.e) c.wait-next.result c.wait-next.new.into = subst (λ (b : List ℕ). IsNext (Some c.in-Some.e) c.wait-next.result b) c.as_bytes.ensures.bytes c.in-Some.ensures.next in
-    both-ways c.event.result _ _ _ _ c.event.ensures.stands c.event.ensures.keeps
-    (λ goes keeps. subst (λ (x : Seen). Serving g.H.House.may before (g.H.House.told c.event.new.house) policy pid start x c.args.held.now (given + 1) (0 ∷ here c.event.new.self) c.event.new.self) (sym now)
-    (turn-goes v c.requires.closed c.requires.refused c.requires.on c.requires.hears c.wait-next.result c.wait-next.new.into c.in-Some.e are fits next goes keeps))
-    (subst (λ (x : Seen). Promised g.H.House.may before (g.H.House.told c.event.new.house) policy pid start x.told (given + 1)) (sym now)
-    (turn-cut v c.requires.closed c.requires.refused c.requires.on c.requires.hears c.wait-next.result c.wait-next.new.into c.in-Some.e c.event.ensures.asks.0 are fits next c.event.ensures.asks.1))
+    let a : AtWait (RestsOf H.told H.quiet (H.known house).present) (noted (H.told house) (H.known house)) seen lists.own lists.held lists.failed (H.queue house) c.args.engine.now =
+    at-wait H.told H.quiet house (H.known house) seen lists.own lists.held lists.failed (H.queue house) c.args.engine.now c.requires.housed c.requires.ready c.requires.closed c.requires.refused c.requires.on c.requires.hears in
+    let todo : c.list_waiting.new.todo ≡ c.args.engine.now.waiting ++ filter (waits_for (H.queue house) lists.failed) lists.own =
+    c.in_ok-list_waiting.ensures ∙ ap (λ (l : List ℕ). l ++ filter (waits_for (H.queue house) lists.failed) lists.own) c.waiting.ensures.exact in
+    subst (λ (l : List ℕ). All (λ t. IsTrue (among t seen.blocked)) l) (sym todo) (waiting-blocked c.requires.served.serving a.none a.admitted a.live a.offered)
 
-pub returns-in-Some-clause-failed : goal.returns-in-Some-clause-failed
-returns-in-Some-clause-failed g c =
+pub wait-told-requires-clause-waiting_open : goal.wait-told-requires-clause-waiting_open
+wait-told-requires-clause-waiting_open g c =
+    let H = g.H.House in
     let W = g.W.Wire in
+    let house = c.args.house.now in
+    let lists = c.args.lists.now in
     let seen : Seen = W.seen c.args.wire.now in
-    let are : AreBytes c.wait-next.new.into = subst AreBytes c.as_bytes.ensures.bytes c.event_of.ensures.bytes in
-    let fits : TurnFits c.wait-next.result (want_of c.args.engine.now) seen.listens seen.last seen.streams seen.blocked c.wait-next.new.into = subst (λ (w : Want). TurnFits c.wait-next.result w seen.listens seen.last seen.streams seen.blocked c.wait-next.new.into) c.wanted.ensures c.wait-next.ensures.turn in
-    let next : IsNext (Some c.in-Some.e) c.wait-next.result c.wait-next.new.into = subst (λ (b : List ℕ). IsNext (Some c.in-Some.e) c.wait-next.result b) c.as_bytes.ensures.bytes c.in-Some.ensures.next in
-    on-ok c.event.result _ _ c.event.ensures.ends
-    (λ ends over. turn-rose c.in-Some.e c.event.new.self.ended c.wait-next.result c.wait-next.new.into _ _ _ _
-    (turn-ends c.requires.served.serving c.requires.closed c.requires.refused c.requires.on c.requires.hears c.event.new.self c.wait-next.result c.wait-next.new.into c.in-Some.e are fits next ends) next c.wait-next.ensures.cause over)
+    let a : AtWait (RestsOf H.told H.quiet (H.known house).present) (noted (H.told house) (H.known house)) seen lists.own lists.held lists.failed (H.queue house) c.args.engine.now =
+    at-wait H.told H.quiet house (H.known house) seen lists.own lists.held lists.failed (H.queue house) c.args.engine.now c.requires.housed c.requires.ready c.requires.closed c.requires.refused c.requires.on c.requires.hears in
+    let todo : c.list_waiting.new.todo ≡ c.args.engine.now.waiting ++ filter (waits_for (H.queue house) lists.failed) lists.own =
+    c.in_ok-list_waiting.ensures ∙ ap (λ (l : List ℕ). l ++ filter (waits_for (H.queue house) lists.failed) lists.own) c.waiting.ensures.exact in
+    subst (λ (l : List ℕ). All (λ t. IsTrue (among t seen.streams)) l) (sym todo) (waiting-open c.requires.served.serving a.none a.admitted a.live a.offered)
 
-pub returns-in-Some-clause-unspent : goal.returns-in-Some-clause-unspent
-returns-in-Some-clause-unspent g c =
+pub wait-told-requires-clause-server : goal.wait-told-requires-clause-server
+wait-told-requires-clause-server g c = server-open c.requires.served.serving
+
+pub wait-told-requires-clause-some : goal.wait-told-requires-clause-some
+wait-told-requires-clause-some g c write =
+    let H = g.H.House in
     let W = g.W.Wire in
+    let house = c.args.house.now in
+    let lists = c.args.lists.now in
     let seen : Seen = W.seen c.args.wire.now in
-    let are : AreBytes c.wait-next.new.into = subst AreBytes c.as_bytes.ensures.bytes c.event_of.ensures.bytes in
-    let fits : TurnFits c.wait-next.result (want_of c.args.engine.now) seen.listens seen.last seen.streams seen.blocked c.wait-next.new.into = subst (λ (w : Want). TurnFits c.wait-next.result w seen.listens seen.last seen.streams seen.blocked c.wait-next.new.into) c.wanted.ensures c.wait-next.ensures.turn in
-    let next : IsNext (Some c.in-Some.e) c.wait-next.result c.wait-next.new.into = subst (λ (b : List ℕ). IsNext (Some c.in-Some.e) c.wait-next.result b) c.as_bytes.ensures.bytes c.in-Some.ensures.next in
-    on-ok c.event.result _ _ c.event.ensures.ends
-    (λ ends. turn-unspent c.in-Some.e c.event.new.self.ended
-    (turn-ends c.requires.served.serving c.requires.closed c.requires.refused c.requires.on c.requires.hears c.event.new.self c.wait-next.result c.wait-next.new.into c.in-Some.e are fits next ends))
+    let a : AtWait (RestsOf H.told H.quiet (H.known house).present) (noted (H.told house) (H.known house)) seen lists.own lists.held lists.failed (H.queue house) c.args.engine.now =
+    at-wait H.told H.quiet house (H.known house) seen lists.own lists.held lists.failed (H.queue house) c.args.engine.now c.requires.housed c.requires.ready c.requires.closed c.requires.refused c.requires.on c.requires.hears in
+    let todo : c.list_waiting.new.todo ≡ c.args.engine.now.waiting ++ filter (waits_for (H.queue house) lists.failed) lists.own =
+    c.in_ok-list_waiting.ensures ∙ ap (λ (l : List ℕ). l ++ filter (waits_for (H.queue house) lists.failed) lists.own) c.waiting.ensures.exact in
+    subst (λ (l : List ℕ). 0 < length l) (sym todo) (some-waits c.requires.served.serving a.none a.admitted a.live a.offered (sym c.wanted.ensures ∙ write))
 
-pub returns-in-Some-clause-calls : goal.returns-in-Some-clause-calls
-returns-in-Some-clause-calls g c = subst (λ (x : Calls). Counts 1 c.event.result (g.W.Wire.calls c.args.wire.now) x) (sym c.wait-next.ensures.calls)
-    (counts-event c.event.result c.in-Some.e c.wait-next.result c.as_bytes.result.now (g.W.Wire.calls c.args.wire.now) c.in-Some.ensures.next)
+-- ---- an event
 
-pub returns-in-Writable-clause-unspent : goal.returns-in-Writable-clause-unspent
-returns-in-Writable-clause-unspent g c = λ e. let z : None ≡ Some Spent = sym c.requires.on ∙ e in cc
-
-pub returns-in-Writable-clause-calls : goal.returns-in-Writable-clause-calls
-returns-in-Writable-clause-calls g c = subst (λ (x : Calls). Well 1 (g.W.Wire.calls c.args.wire.now) x) (sym c.in-Writable.ensures.calls) (well-wait (Writable c.in-Writable.stream) (g.W.Wire.calls c.args.wire.now) refl)
-
-pub returns-in-Writable-clause-serving : goal.returns-in-Writable-clause-serving
-returns-in-Writable-clause-serving g c before policy pid start given v =
+pub returns-in-Event-clause-serving : goal.returns-in-Event-clause-serving
+returns-in-Event-clause-serving g c before policy pid start given v =
+    let H = g.H.House in
     let W = g.W.Wire in
-    let s : State = c.args.engine.now in
+    let house = c.args.house.now in
+    let lists = c.args.lists.now in
     let seen : Seen = W.seen c.args.wire.now in
-    let k : ℕ = c.in-Writable.stream in
-    let now : W.seen c.wait-next.new.self ≡ seen_after_turn (Writable k) s.waiting (want_of s) c.wait-next.new.into seen = c.in-Writable.ensures.seen ∙ seen-of (Writable k) _ _ _ _ c.wait-next.new.into seen c.waiting.ensures.exact c.wanted.ensures in
-    subst (λ (held : List ℕ). Serving g.H.House.may before (g.H.House.told c.args.house.now) policy pid start (W.seen c.wait-next.new.self) held (given + 1) (0 ∷ here s) s) (sym c.remove.ensures)
-    (subst (λ (x : Seen). Serving g.H.House.may before (g.H.House.told c.args.house.now) policy pid start x (without k c.args.held.now) (given + 1) (0 ∷ here s) s) (sym now)
-    (turn-frees v c.requires.closed c.requires.refused c.requires.on c.requires.hears k c.wait-next.new.into c.in-Writable.ensures.turn))
+    let a : AtWait (RestsOf H.told H.quiet (H.known house).present) (noted (H.told house) (H.known house)) seen lists.own lists.held lists.failed (H.queue house) c.args.engine.now =
+    at-wait H.told H.quiet house (H.known house) seen lists.own lists.held lists.failed (H.queue house) c.args.engine.now c.requires.housed c.requires.ready c.requires.closed c.requires.refused c.requires.on c.requires.hears in
+    let w : HasWaited seen (W.seen c.wait-told.new.self) lists.own lists.failed (H.queue house) c.args.engine.now c.wait-told.result c.wait-told.new.into =
+    has-waited seen (W.seen c.wait-told.new.self) lists.own lists.failed (H.queue house) c.args.engine.now c.wait-told.result c.wait-told.new.into c.as_bytes.result.now c.list_waiting.new.todo c.waiting.result.now c.wanted.result c.wait-told.ensures.seen c.in_ok-list_waiting.ensures c.waiting.ensures.exact c.wanted.ensures c.next_of.ensures.bytes c.as_bytes.ensures.bytes c.wait-told.ensures.turn c.wait-told.ensures.own_turn in
+    let next : IsEventOf c.in-Event.e c.wait-told.result c.wait-told.new.into = subst (λ (b : List ℕ). IsEventOf c.in-Event.e c.wait-told.result b) c.as_bytes.ensures.bytes c.in-Event.ensures.next in
+    turn-heeds v a w c.heed.result c.in-Event.e next c.heed.new.engine c.heed.new.asks (H.told house) (H.told c.heed.new.house) (H.known house) (H.known c.heed.new.house) (W.seen c.heed.new.wire) refl refl refl c.heed.ensures.heeded
 
-pub returns-in_default : goal.returns-in_default
-returns-in_default g c =
+pub returns-in-Event-clause-housed : goal.returns-in-Event-clause-housed
+returns-in-Event-clause-housed g c =
+    let H = g.H.House in
     let W = g.W.Wire in
-    let s : State = c.args.engine.now in
+    let house = c.args.house.now in
+    let lists = c.args.lists.now in
     let seen : Seen = W.seen c.args.wire.now in
-    let now : W.seen c.wait-next.new.self ≡ seen_after_turn c.wait-next.result s.waiting (want_of s) c.wait-next.new.into seen = c.wait-next.ensures.seen ∙ seen-of c.wait-next.result _ _ _ _ c.wait-next.new.into seen c.waiting.ensures.exact c.wanted.ensures in
-    let fits : TurnFits c.wait-next.result (want_of s) seen.listens seen.last seen.streams seen.blocked c.wait-next.new.into = subst (λ (w : Want). TurnFits c.wait-next.result w seen.listens seen.last seen.streams seen.blocked c.wait-next.new.into) c.wanted.ensures c.wait-next.ensures.turn in
-    let next : IsNext None c.wait-next.result c.wait-next.new.into = subst (λ (b : List ℕ). IsNext None c.wait-next.result b) c.as_bytes.ensures.bytes c.in-None.ensures.next in
-    record {
-      serving = λ before policy pid start given v. subst (λ (x : Seen). Promised g.H.House.may before (g.H.House.told c.args.house.now) policy pid start x.told (given + 1)) (sym now)
-          (turn-nothing v c.requires.closed c.requires.refused c.requires.on c.requires.hears c.wait-next.result c.wait-next.new.into fits next);
-      went = tt;
-      failed = tt;
-      unspent = tt;
-      later = turn-later c.wait-next.result _ _ _ _ c.wait-next.ensures.cause;
-      calls = subst (λ (x : Calls). Cut 1 (W.calls c.args.wire.now) x) (sym c.wait-next.ensures.calls) (cut-wait c.wait-next.result (W.calls c.args.wire.now));
-      openings = c.wait-next.ensures.openings;
-      joinings = c.wait-next.ensures.joinings;
-    }
+    let a : AtWait (RestsOf H.told H.quiet (H.known house).present) (noted (H.told house) (H.known house)) seen lists.own lists.held lists.failed (H.queue house) c.args.engine.now =
+    at-wait H.told H.quiet house (H.known house) seen lists.own lists.held lists.failed (H.queue house) c.args.engine.now c.requires.housed c.requires.ready c.requires.closed c.requires.refused c.requires.on c.requires.hears in
+    let w : HasWaited seen (W.seen c.wait-told.new.self) lists.own lists.failed (H.queue house) c.args.engine.now c.wait-told.result c.wait-told.new.into =
+    has-waited seen (W.seen c.wait-told.new.self) lists.own lists.failed (H.queue house) c.args.engine.now c.wait-told.result c.wait-told.new.into c.as_bytes.result.now c.list_waiting.new.todo c.waiting.result.now c.wanted.result c.wait-told.ensures.seen c.in_ok-list_waiting.ensures c.waiting.ensures.exact c.wanted.ensures c.next_of.ensures.bytes c.as_bytes.ensures.bytes c.wait-told.ensures.turn c.wait-told.ensures.own_turn in
+    let next : IsEventOf c.in-Event.e c.wait-told.result c.wait-told.new.into = subst (λ (b : List ℕ). IsEventOf c.in-Event.e c.wait-told.result b) c.as_bytes.ensures.bytes c.in-Event.ensures.next in
+    turn-housed c.heed.result H.may w c.in-Event.e next c.heed.new.engine c.heed.new.asks (H.told house) (H.told c.heed.new.house) (H.known house) (H.known c.heed.new.house) (W.seen c.heed.new.wire) c.heed.ensures.heeded c.requires.housed
+
+pub returns-in-Event-clause-alone : goal.returns-in-Event-clause-alone
+returns-in-Event-clause-alone g c =
+    let H = g.H.House in
+    on-ok c.heed.result (λ (same : SameHouse (H.known c.args.house.now) (H.known c.heed.new.house)). alone-as _ _ same c.requires.alone)
+    (turn-house c.heed.result H.may c.in-Event.e _ _ c.heed.new.asks _ _ (H.known c.args.house.now) (H.known c.heed.new.house) _ _ c.heed.ensures.heeded)
+
+pub returns-in-Event-clause-present : goal.returns-in-Event-clause-present
+returns-in-Event-clause-present g c =
+    let H = g.H.House in
+    on-ok c.heed.result (λ (same : SameHouse (H.known c.args.house.now) (H.known c.heed.new.house)). same.present)
+    (turn-house c.heed.result H.may c.in-Event.e _ _ c.heed.new.asks _ _ (H.known c.args.house.now) (H.known c.heed.new.house) _ _ c.heed.ensures.heeded)
+
+pub returns-in-Event-clause-failed : goal.returns-in-Event-clause-failed
+returns-in-Event-clause-failed g c =
+    let H = g.H.House in
+    let W = g.W.Wire in
+    let house = c.args.house.now in
+    let lists = c.args.lists.now in
+    let seen : Seen = W.seen c.args.wire.now in
+    let a : AtWait (RestsOf H.told H.quiet (H.known house).present) (noted (H.told house) (H.known house)) seen lists.own lists.held lists.failed (H.queue house) c.args.engine.now =
+    at-wait H.told H.quiet house (H.known house) seen lists.own lists.held lists.failed (H.queue house) c.args.engine.now c.requires.housed c.requires.ready c.requires.closed c.requires.refused c.requires.on c.requires.hears in
+    let w : HasWaited seen (W.seen c.wait-told.new.self) lists.own lists.failed (H.queue house) c.args.engine.now c.wait-told.result c.wait-told.new.into =
+    has-waited seen (W.seen c.wait-told.new.self) lists.own lists.failed (H.queue house) c.args.engine.now c.wait-told.result c.wait-told.new.into c.as_bytes.result.now c.list_waiting.new.todo c.waiting.result.now c.wanted.result c.wait-told.ensures.seen c.in_ok-list_waiting.ensures c.waiting.ensures.exact c.wanted.ensures c.next_of.ensures.bytes c.as_bytes.ensures.bytes c.wait-told.ensures.turn c.wait-told.ensures.own_turn in
+    let next : IsEventOf c.in-Event.e c.wait-told.result c.wait-told.new.into = subst (λ (b : List ℕ). IsEventOf c.in-Event.e c.wait-told.result b) c.as_bytes.ensures.bytes c.in-Event.ensures.next in
+    on-ok c.heed.result (λ may over. subst (λ (n : ℕ). Rose (W.server_faults c.args.wire.now) n) (sym c.heed.ensures.faults)
+    (turn-rose c.in-Event.e c.heed.new.engine.ended c.wait-told.result c.wait-told.new.into _ _ _ _ may next c.wait-told.ensures.cause over))
+    (turn-ends c.requires.served.serving a w c.heed.result c.in-Event.e next c.heed.new.engine c.heed.new.asks (H.told house) (H.told c.heed.new.house) (H.known house) (H.known c.heed.new.house) (W.seen c.heed.new.wire) c.heed.ensures.heeded)
+
+pub returns-in-Event-clause-by_row : goal.returns-in-Event-clause-by_row
+returns-in-Event-clause-by_row g c =
+    let H = g.H.House in
+    let W = g.W.Wire in
+    let house = c.args.house.now in
+    let lists = c.args.lists.now in
+    let seen : Seen = W.seen c.args.wire.now in
+    let a : AtWait (RestsOf H.told H.quiet (H.known house).present) (noted (H.told house) (H.known house)) seen lists.own lists.held lists.failed (H.queue house) c.args.engine.now =
+    at-wait H.told H.quiet house (H.known house) seen lists.own lists.held lists.failed (H.queue house) c.args.engine.now c.requires.housed c.requires.ready c.requires.closed c.requires.refused c.requires.on c.requires.hears in
+    let w : HasWaited seen (W.seen c.wait-told.new.self) lists.own lists.failed (H.queue house) c.args.engine.now c.wait-told.result c.wait-told.new.into =
+    has-waited seen (W.seen c.wait-told.new.self) lists.own lists.failed (H.queue house) c.args.engine.now c.wait-told.result c.wait-told.new.into c.as_bytes.result.now c.list_waiting.new.todo c.waiting.result.now c.wanted.result c.wait-told.ensures.seen c.in_ok-list_waiting.ensures c.waiting.ensures.exact c.wanted.ensures c.next_of.ensures.bytes c.as_bytes.ensures.bytes c.wait-told.ensures.turn c.wait-told.ensures.own_turn in
+    let next : IsEventOf c.in-Event.e c.wait-told.result c.wait-told.new.into = subst (λ (b : List ℕ). IsEventOf c.in-Event.e c.wait-told.result b) c.as_bytes.ensures.bytes c.in-Event.ensures.next in
+    on-ok c.heed.result (λ may. turn-by-row c.in-Event.e c.heed.new.engine.ended may)
+    (turn-ends c.requires.served.serving a w c.heed.result c.in-Event.e next c.heed.new.engine c.heed.new.asks (H.told house) (H.told c.heed.new.house) (H.known house) (H.known c.heed.new.house) (W.seen c.heed.new.wire) c.heed.ensures.heeded)
+
+-- ---- something of the master's own listeners and streams
+
+pub hear-requires-clause-fits : goal.hear-requires-clause-fits
+hear-requires-clause-fits g c =
+    let H = g.H.House in
+    let W = g.W.Wire in
+    let house = c.args.house.now in
+    let lists = c.args.lists.now in
+    let seen : Seen = W.seen c.args.wire.now in
+    let a : AtWait (RestsOf H.told H.quiet (H.known house).present) (noted (H.told house) (H.known house)) seen lists.own lists.held lists.failed (H.queue house) c.args.engine.now =
+    at-wait H.told H.quiet house (H.known house) seen lists.own lists.held lists.failed (H.queue house) c.args.engine.now c.requires.housed c.requires.ready c.requires.closed c.requires.refused c.requires.on c.requires.hears in
+    let w : HasWaited seen (W.seen c.wait-told.new.self) lists.own lists.failed (H.queue house) c.args.engine.now c.wait-told.result c.wait-told.new.into =
+    has-waited seen (W.seen c.wait-told.new.self) lists.own lists.failed (H.queue house) c.args.engine.now c.wait-told.result c.wait-told.new.into c.as_bytes.result.now c.list_waiting.new.todo c.waiting.result.now c.wanted.result c.wait-told.ensures.seen c.in_ok-list_waiting.ensures c.waiting.ensures.exact c.wanted.ensures c.next_of.ensures.bytes c.as_bytes.ensures.bytes c.wait-told.ensures.turn c.wait-told.ensures.own_turn in
+    let next : IsOwnOf c.in-Own.told c.wait-told.result c.wait-told.new.into = subst (λ (b : List ℕ). IsOwnOf c.in-Own.told c.wait-told.result b) c.as_bytes.ensures.bytes c.in-Own.ensures.next in
+    turn-fits w c.in-Own.told next (H.known house) (H.quiet house) c.requires.housed c.requires.alone c.requires.ready
+
+pub returns-in_err-hear-in-Own-clause-serving : goal.returns-in_err-hear-in-Own-clause-serving
+returns-in_err-hear-in-Own-clause-serving g c before policy pid start given v =
+    let H = g.H.House in
+    let W = g.W.Wire in
+    let house = c.args.house.now in
+    let lists = c.args.lists.now in
+    let seen : Seen = W.seen c.args.wire.now in
+    let a : AtWait (RestsOf H.told H.quiet (H.known house).present) (noted (H.told house) (H.known house)) seen lists.own lists.held lists.failed (H.queue house) c.args.engine.now =
+    at-wait H.told H.quiet house (H.known house) seen lists.own lists.held lists.failed (H.queue house) c.args.engine.now c.requires.housed c.requires.ready c.requires.closed c.requires.refused c.requires.on c.requires.hears in
+    let w : HasWaited seen (W.seen c.wait-told.new.self) lists.own lists.failed (H.queue house) c.args.engine.now c.wait-told.result c.wait-told.new.into =
+    has-waited seen (W.seen c.wait-told.new.self) lists.own lists.failed (H.queue house) c.args.engine.now c.wait-told.result c.wait-told.new.into c.as_bytes.result.now c.list_waiting.new.todo c.waiting.result.now c.wanted.result c.wait-told.ensures.seen c.in_ok-list_waiting.ensures c.waiting.ensures.exact c.wanted.ensures c.next_of.ensures.bytes c.as_bytes.ensures.bytes c.wait-told.ensures.turn c.wait-told.ensures.own_turn in
+    let next : IsOwnOf c.in-Own.told c.wait-told.result c.wait-told.new.into = subst (λ (b : List ℕ). IsOwnOf c.in-Own.told c.wait-told.result b) c.as_bytes.ensures.bytes c.in-Own.ensures.next in
+    on-err c.from_residual-in_err-hear-in-Own.result _ _ c.from_residual-in_err-hear-in-Own.ensures.0
+    (cut-here (turn-owns v a w c.in-Own.told next) _ _ _ [] refl (c.hear.ensures.told ∙ tells-none _) (omega arith))
+
+pub returns-in_ok-hear-in-Own-clause-serving : goal.returns-in_ok-hear-in-Own-clause-serving
+returns-in_ok-hear-in-Own-clause-serving g c before policy pid start given v =
+    let H = g.H.House in
+    let W = g.W.Wire in
+    let house = c.args.house.now in
+    let lists = c.args.lists.now in
+    let seen : Seen = W.seen c.args.wire.now in
+    let a : AtWait (RestsOf H.told H.quiet (H.known house).present) (noted (H.told house) (H.known house)) seen lists.own lists.held lists.failed (H.queue house) c.args.engine.now =
+    at-wait H.told H.quiet house (H.known house) seen lists.own lists.held lists.failed (H.queue house) c.args.engine.now c.requires.housed c.requires.ready c.requires.closed c.requires.refused c.requires.on c.requires.hears in
+    let w : HasWaited seen (W.seen c.wait-told.new.self) lists.own lists.failed (H.queue house) c.args.engine.now c.wait-told.result c.wait-told.new.into =
+    has-waited seen (W.seen c.wait-told.new.self) lists.own lists.failed (H.queue house) c.args.engine.now c.wait-told.result c.wait-told.new.into c.as_bytes.result.now c.list_waiting.new.todo c.waiting.result.now c.wanted.result c.wait-told.ensures.seen c.in_ok-list_waiting.ensures c.waiting.ensures.exact c.wanted.ensures c.next_of.ensures.bytes c.as_bytes.ensures.bytes c.wait-told.ensures.turn c.wait-told.ensures.own_turn in
+    let next : IsOwnOf c.in-Own.told c.wait-told.result c.wait-told.new.into = subst (λ (b : List ℕ). IsOwnOf c.in-Own.told c.wait-told.result b) c.as_bytes.ensures.bytes c.in-Own.ensures.next in
+    own-noted c.in-Own.told _ _ _ _ _ _ _ _ c.hear.ensures.told c.in_ok-hear-in-Own.ensures.known c.in_ok-hear-in-Own.ensures.held c.in_ok-hear-in-Own.ensures.failed (turn-owns v a w c.in-Own.told next)
+
+pub returns-in_ok-hear-in-Own-clause-housed : goal.returns-in_ok-hear-in-Own-clause-housed
+returns-in_ok-hear-in-Own-clause-housed g c =
+    let H = g.H.House in
+    let W = g.W.Wire in
+    let house = c.args.house.now in
+    let lists = c.args.lists.now in
+    let seen : Seen = W.seen c.args.wire.now in
+    let a : AtWait (RestsOf H.told H.quiet (H.known house).present) (noted (H.told house) (H.known house)) seen lists.own lists.held lists.failed (H.queue house) c.args.engine.now =
+    at-wait H.told H.quiet house (H.known house) seen lists.own lists.held lists.failed (H.queue house) c.args.engine.now c.requires.housed c.requires.ready c.requires.closed c.requires.refused c.requires.on c.requires.hears in
+    let w : HasWaited seen (W.seen c.wait-told.new.self) lists.own lists.failed (H.queue house) c.args.engine.now c.wait-told.result c.wait-told.new.into =
+    has-waited seen (W.seen c.wait-told.new.self) lists.own lists.failed (H.queue house) c.args.engine.now c.wait-told.result c.wait-told.new.into c.as_bytes.result.now c.list_waiting.new.todo c.waiting.result.now c.wanted.result c.wait-told.ensures.seen c.in_ok-list_waiting.ensures c.waiting.ensures.exact c.wanted.ensures c.next_of.ensures.bytes c.as_bytes.ensures.bytes c.wait-told.ensures.turn c.wait-told.ensures.own_turn in
+    let next : IsOwnOf c.in-Own.told c.wait-told.result c.wait-told.new.into = subst (λ (b : List ℕ). IsOwnOf c.in-Own.told c.wait-told.result b) c.as_bytes.ensures.bytes c.in-Own.ensures.next in
+    turn-own-housed w c.in-Own.told next (H.known house) _ _ c.requires.housed c.in_ok-hear-in-Own.ensures.known c.in_ok-hear-in-Own.ensures.own
+
+pub returns-in_ok-hear-in-Own-clause-alone : goal.returns-in_ok-hear-in-Own-clause-alone
+returns-in_ok-hear-in-Own-clause-alone g c =
+    let H = g.H.House in
+    let W = g.W.Wire in
+    let house = c.args.house.now in
+    let lists = c.args.lists.now in
+    let seen : Seen = W.seen c.args.wire.now in
+    let a : AtWait (RestsOf H.told H.quiet (H.known house).present) (noted (H.told house) (H.known house)) seen lists.own lists.held lists.failed (H.queue house) c.args.engine.now =
+    at-wait H.told H.quiet house (H.known house) seen lists.own lists.held lists.failed (H.queue house) c.args.engine.now c.requires.housed c.requires.ready c.requires.closed c.requires.refused c.requires.on c.requires.hears in
+    let w : HasWaited seen (W.seen c.wait-told.new.self) lists.own lists.failed (H.queue house) c.args.engine.now c.wait-told.result c.wait-told.new.into =
+    has-waited seen (W.seen c.wait-told.new.self) lists.own lists.failed (H.queue house) c.args.engine.now c.wait-told.result c.wait-told.new.into c.as_bytes.result.now c.list_waiting.new.todo c.waiting.result.now c.wanted.result c.wait-told.ensures.seen c.in_ok-list_waiting.ensures c.waiting.ensures.exact c.wanted.ensures c.next_of.ensures.bytes c.as_bytes.ensures.bytes c.wait-told.ensures.turn c.wait-told.ensures.own_turn in
+    let next : IsOwnOf c.in-Own.told c.wait-told.result c.wait-told.new.into = subst (λ (b : List ℕ). IsOwnOf c.in-Own.told c.wait-told.result b) c.as_bytes.ensures.bytes c.in-Own.ensures.next in
+    alone-heard c.in-Own.told _ _ _ (turn-fits w c.in-Own.told next (H.known house) (H.quiet house) c.requires.housed c.requires.alone c.requires.ready) c.in_ok-hear-in-Own.ensures.known c.requires.alone
+
+pub returns-in_ok-hear-in-Own-clause-held_is : goal.returns-in_ok-hear-in-Own-clause-held_is
+returns-in_ok-hear-in-Own-clause-held_is g c =
+    let H = g.H.House in
+    let W = g.W.Wire in
+    let house = c.args.house.now in
+    let lists = c.args.lists.now in
+    let seen : Seen = W.seen c.args.wire.now in
+    let a : AtWait (RestsOf H.told H.quiet (H.known house).present) (noted (H.told house) (H.known house)) seen lists.own lists.held lists.failed (H.queue house) c.args.engine.now =
+    at-wait H.told H.quiet house (H.known house) seen lists.own lists.held lists.failed (H.queue house) c.args.engine.now c.requires.housed c.requires.ready c.requires.closed c.requires.refused c.requires.on c.requires.hears in
+    let w : HasWaited seen (W.seen c.wait-told.new.self) lists.own lists.failed (H.queue house) c.args.engine.now c.wait-told.result c.wait-told.new.into =
+    has-waited seen (W.seen c.wait-told.new.self) lists.own lists.failed (H.queue house) c.args.engine.now c.wait-told.result c.wait-told.new.into c.as_bytes.result.now c.list_waiting.new.todo c.waiting.result.now c.wanted.result c.wait-told.ensures.seen c.in_ok-list_waiting.ensures c.waiting.ensures.exact c.wanted.ensures c.next_of.ensures.bytes c.as_bytes.ensures.bytes c.wait-told.ensures.turn c.wait-told.ensures.own_turn in
+    let next : IsOwnOf c.in-Own.told c.wait-told.result c.wait-told.new.into = subst (λ (b : List ℕ). IsOwnOf c.in-Own.told c.wait-told.result b) c.as_bytes.ensures.bytes c.in-Own.ensures.next in
+    c.in_ok-hear-in-Own.ensures.held ∙ (turn-owns c.requires.served.serving a w c.in-Own.told next).held_is
+
+-- ---- a stream takes bytes again
+
+pub returns-in-Freed-clause-serving : goal.returns-in-Freed-clause-serving
+returns-in-Freed-clause-serving g c before policy pid start given v =
+    let H = g.H.House in
+    let W = g.W.Wire in
+    let house = c.args.house.now in
+    let lists = c.args.lists.now in
+    let seen : Seen = W.seen c.args.wire.now in
+    let a : AtWait (RestsOf H.told H.quiet (H.known house).present) (noted (H.told house) (H.known house)) seen lists.own lists.held lists.failed (H.queue house) c.args.engine.now =
+    at-wait H.told H.quiet house (H.known house) seen lists.own lists.held lists.failed (H.queue house) c.args.engine.now c.requires.housed c.requires.ready c.requires.closed c.requires.refused c.requires.on c.requires.hears in
+    let w : HasWaited seen (W.seen c.wait-told.new.self) lists.own lists.failed (H.queue house) c.args.engine.now c.wait-told.result c.wait-told.new.into =
+    has-waited seen (W.seen c.wait-told.new.self) lists.own lists.failed (H.queue house) c.args.engine.now c.wait-told.result c.wait-told.new.into c.as_bytes.result.now c.list_waiting.new.todo c.waiting.result.now c.wanted.result c.wait-told.ensures.seen c.in_ok-list_waiting.ensures c.waiting.ensures.exact c.wanted.ensures c.next_of.ensures.bytes c.as_bytes.ensures.bytes c.wait-told.ensures.turn c.wait-told.ensures.own_turn in
+    subst (λ (l : List ℕ). Serving H.may (RestsOf H.told H.quiet (H.known house).present) before (noted (H.told house) (H.known house)) policy pid start (W.seen c.wait-told.new.self) l lists.failed (given + 1) (0 ∷ here c.args.engine.now) c.args.engine.now) (sym c.remove.ensures)
+    (turn-frees v a w c.in-Freed.stream c.in-Freed.ensures.next.0 c.in-Freed.ensures.next.1)
+
+-- ---- no memory
+
+pub returns-in-NoMemory-clause-serving : goal.returns-in-NoMemory-clause-serving
+returns-in-NoMemory-clause-serving g c before policy pid start given v =
+    let H = g.H.House in
+    let W = g.W.Wire in
+    let house = c.args.house.now in
+    let lists = c.args.lists.now in
+    let seen : Seen = W.seen c.args.wire.now in
+    let a : AtWait (RestsOf H.told H.quiet (H.known house).present) (noted (H.told house) (H.known house)) seen lists.own lists.held lists.failed (H.queue house) c.args.engine.now =
+    at-wait H.told H.quiet house (H.known house) seen lists.own lists.held lists.failed (H.queue house) c.args.engine.now c.requires.housed c.requires.ready c.requires.closed c.requires.refused c.requires.on c.requires.hears in
+    let w : HasWaited seen (W.seen c.wait-told.new.self) lists.own lists.failed (H.queue house) c.args.engine.now c.wait-told.result c.wait-told.new.into =
+    has-waited seen (W.seen c.wait-told.new.self) lists.own lists.failed (H.queue house) c.args.engine.now c.wait-told.result c.wait-told.new.into c.as_bytes.result.now c.list_waiting.new.todo c.waiting.result.now c.wanted.result c.wait-told.ensures.seen c.in_ok-list_waiting.ensures c.waiting.ensures.exact c.wanted.ensures c.next_of.ensures.bytes c.as_bytes.ensures.bytes c.wait-told.ensures.turn c.wait-told.ensures.own_turn in
+    turn-starved v a w c.in-NoMemory.ensures.next
+
+-- ---- where there is no house
+
+pub returns-in-Event-clause-unopened : goal.returns-in-Event-clause-unopened
+returns-in-Event-clause-unopened g c out =
+    let H = g.H.House in
+    let W = g.W.Wire in
+    event-opens c.heed.result H.may c.in-Event.e _ _ c.heed.new.asks _ _ _ _ _ _ c.heed.ensures.heeded
+    ∙ wait-opens c.wait-told.result c.list_waiting.new.todo c.wanted.result c.wait-told.new.into (H.known c.args.house.now) (W.seen c.args.wire.now) (W.seen c.wait-told.new.self) c.args.lists.now.own c.requires.housed c.requires.alone c.wait-told.ensures.own_turn c.wait-told.ensures.seen out
+
+pub returns-in_err-hear-in-Own-clause-unopened : goal.returns-in_err-hear-in-Own-clause-unopened
+returns-in_err-hear-in-Own-clause-unopened g c =
+    let H = g.H.House in
+    let W = g.W.Wire in
+    wait-opens c.wait-told.result c.list_waiting.new.todo c.wanted.result c.wait-told.new.into (H.known c.args.house.now) (W.seen c.args.wire.now) (W.seen c.wait-told.new.self) c.args.lists.now.own c.requires.housed c.requires.alone c.wait-told.ensures.own_turn c.wait-told.ensures.seen
+
+pub returns-in_ok-hear-in-Own-clause-unopened : goal.returns-in_ok-hear-in-Own-clause-unopened
+returns-in_ok-hear-in-Own-clause-unopened g c =
+    let H = g.H.House in
+    let W = g.W.Wire in
+    wait-opens c.wait-told.result c.list_waiting.new.todo c.wanted.result c.wait-told.new.into (H.known c.args.house.now) (W.seen c.args.wire.now) (W.seen c.wait-told.new.self) c.args.lists.now.own c.requires.housed c.requires.alone c.wait-told.ensures.own_turn c.wait-told.ensures.seen
+
+pub returns-in-Freed-clause-unopened : goal.returns-in-Freed-clause-unopened
+returns-in-Freed-clause-unopened g c =
+    let H = g.H.House in
+    let W = g.W.Wire in
+    wait-opens c.wait-told.result c.list_waiting.new.todo c.wanted.result c.wait-told.new.into (H.known c.args.house.now) (W.seen c.args.wire.now) (W.seen c.wait-told.new.self) c.args.lists.now.own c.requires.housed c.requires.alone c.wait-told.ensures.own_turn c.wait-told.ensures.seen
+
+pub returns-in-NoMemory-clause-unopened : goal.returns-in-NoMemory-clause-unopened
+returns-in-NoMemory-clause-unopened g c =
+    let H = g.H.House in
+    let W = g.W.Wire in
+    wait-opens c.wait-told.result c.list_waiting.new.todo c.wanted.result c.wait-told.new.into (H.known c.args.house.now) (W.seen c.args.wire.now) (W.seen c.wait-told.new.self) c.args.lists.now.own c.requires.housed c.requires.alone c.wait-told.ensures.own_turn c.wait-told.ensures.seen

@@ -1,10 +1,13 @@
-use Rattle.std.proofs.Common.{◌∙◌, ◌<◌, [], sym, ap, subst, ℕ, length}
+use Rattle.std.proofs.Common.{◌∙◌, ◌<◌, sym, ap, subst, ℕ, length}
 use Rattle.mux_outside.specs.Seen.{Seen, seen_after_close}
 use Rattle.mux_outside.specs.Streams.{without}
 use Rattle.mux_machine.specs.State.{State, closed_by}
 use Rattle.mux_machine.specs.Stands.{Closes, IsFirst}
+use Rattle.mux_engine.specs.Rests.{IsReady}
 use Rattle.mux_engine.specs.Serving.{Serving}
-use Rattle.mux_engine.proofs.Loops.{fewer, first-is, serve-closed}
+use Rattle.mux_engine.specs.Sides.{Housed, RestsOf}
+use Rattle.mux_engine.proofs.Closed.{fewer, first-is, housed-closed, serve-closed}
+use Rattle.mux_engine.proofs.Readied.{ready-closed}
 use Rattle.mux_engine.proofs.settling.close_lost.Goals as goal
 
 pub loop-client-smaller : goal.loop-client-smaller
@@ -19,12 +22,20 @@ loop-client-preserved g c =
     let first : IsFirst k s.leaving = first-is k c.in-Some.field-0-1 s.leaving (sym c.in-Some.ensures.exact) in
     let closes : Closes s (closed_by s k) k = subst (λ (t : State). Closes s t k) c.closed.ensures.exact c.closed.ensures.stands in
     record {
-      serving = λ before now policy pid start given v.
-          subst (λ (x : Seen). Serving g.H.House.may before now policy pid start x c.remove.new.self given [] c.closed.new.self) (sym c.close.ensures.seen)
-          (subst (λ h. Serving g.H.House.may before now policy pid start (seen_after_close k (g.W.Wire.seen c.loop-client.wire)) h given [] c.closed.new.self) (sym c.remove.ensures)
-          (subst (λ (t : State). Serving g.H.House.may before now policy pid start (seen_after_close k (g.W.Wire.seen c.loop-client.wire)) (without k c.loop-client.held) given [] t) (sym c.closed.ensures.exact)
-          (serve-closed (c.loop-client.invariant.serving before now policy pid start given v) k first closes)));
+      serving = λ present before now policy pid start failed given todo v.
+          subst (λ (x : Seen). Serving g.H.House.may (RestsOf g.H.House.told g.H.House.quiet present) before now policy pid start x c.remove.new.self failed given todo c.closed.new.self) (sym c.close.ensures.seen)
+          (subst (λ h. Serving g.H.House.may (RestsOf g.H.House.told g.H.House.quiet present) before now policy pid start (seen_after_close k (g.W.Wire.seen c.loop-client.wire)) h failed given todo c.closed.new.self) (sym c.remove.ensures)
+          (subst (λ (t : State). Serving g.H.House.may (RestsOf g.H.House.told g.H.House.quiet present) before now policy pid start (seen_after_close k (g.W.Wire.seen c.loop-client.wire)) (without k c.loop-client.held) failed given todo t) (sym c.closed.ensures.exact)
+          (serve-closed (c.loop-client.invariant.serving present before now policy pid start failed given todo v) k first closes)));
+      housed = λ known own h. let w = c.requires.served in
+          subst (λ (x : Seen). Housed known x own) (sym c.close.ensures.seen)
+          (housed-closed (c.loop-client.invariant.serving w.present w.before w.now w.policy w.pid w.start w.failed w.given w.todo w.serving) k first known own (c.loop-client.invariant.housed known own h));
+      ready = λ known quiet queue failed own h r. let w = c.requires.served in
+          subst (λ x. IsReady known quiet queue x failed own c.closed.new.self) (sym c.remove.ensures)
+          (subst (λ (t : State). IsReady known quiet queue (without k c.loop-client.held) failed own t) (sym c.closed.ensures.exact)
+          (ready-closed (c.loop-client.invariant.serving w.present w.before w.now w.policy w.pid w.start w.failed w.given w.todo w.serving) k first known quiet queue failed own (c.loop-client.invariant.housed known own h) (c.loop-client.invariant.ready known quiet queue failed own h r)));
       ended = ap (λ (t : State). t.ended) c.closed.ensures.exact ∙ c.loop-client.invariant.ended;
+      unopened = ap (λ (x : Seen). x.last_own) c.close.ensures.seen ∙ c.loop-client.invariant.unopened;
       faults = c.close.ensures.server ∙ c.loop-client.invariant.faults;
       calls = c.close.ensures.calls ∙ c.loop-client.invariant.calls;
       openings = c.close.ensures.openings ∙ c.loop-client.invariant.openings;

@@ -1,10 +1,11 @@
-use Rattle.std.proofs.Common.{[], ◌∷◌, ◌∙◌, refl, sym, ap, inl, subst, le_trans}
+use Rattle.std.proofs.Common.{◌∷◌, ◌∙◌, refl, sym, ap, inl, subst, le_trans}
+use Rattle.mux_outside.specs.OwnStreams.{is_one}
 use Rattle.mux_outside.specs.Seen.{Calls}
 use Rattle.mux_machine.specs.State.{State, queue_in}
 use Rattle.mux_engine.specs.Counted.{Cut, Well}
 use Rattle.mux_engine.proofs.Arms.{counts-then, le-of, on-err, on-ok, stays, then-stays-or-fails}
-use Rattle.mux_engine.proofs.Counting.{then-same}
-use Rattle.mux_engine.proofs.Loops.{counts-err, server-idle}
+use Rattle.mux_engine.proofs.Loops.{counts-err, more-left, no-zero, server-idle}
+use Rattle.mux_engine.proofs.Places.{places-then}
 use Rattle.mux_engine.proofs.settling.flush.Goals as goal
 
 pub hush-requires : goal.hush-requires
@@ -12,23 +13,48 @@ hush-requires g c = record { hears = c.requires.served.serving.hears }
 
 pub offer_clients-requires : goal.offer_clients-requires
 offer_clients-requires g c = let w = c.requires.served in record {
-  served = record { before = w.before; policy = w.policy; pid = w.pid; start = w.start; given = w.given; serving = c.hush.ensures.serving w.before _ w.policy w.pid w.start _ w.given _ w.serving };
+  served = record {
+    present = w.present;
+    before = w.before;
+    now = w.now;
+    policy = w.policy;
+    pid = w.pid;
+    start = w.start;
+    failed = w.failed;
+    given = w.given;
+    todo = w.todo;
+    serving = c.hush.ensures.serving w.present w.before w.now w.policy w.pid w.start _ w.failed w.given w.todo w.serving;
+  };
+  numbered = λ t one. c.requires.numbered t (ap (is_one t) (sym c.hush.ensures.places.own) ∙ one);
 }
 
 pub offer-requires-clause-served : goal.offer-requires-clause-served
 offer-requires-clause-served g c = let w = c.requires.served in record {
+  present = w.present;
   before = w.before;
+  now = w.now;
   policy = w.policy;
   pid = w.pid;
   start = w.start;
+  failed = w.failed;
   given = w.given;
-  todo = 0 ∷ [];
-  serving = c.in_ok-offer_clients.ensures.serving w.before w.policy w.pid w.start w.given (c.hush.ensures.serving w.before _ w.policy w.pid w.start _ w.given _ w.serving);
+  todo = 0 ∷ w.todo;
+  serving = c.in_ok-offer_clients.ensures.serving w.todo w.present w.before w.now w.policy w.pid w.start w.failed w.given
+      (more-left w.todo (c.hush.ensures.serving w.present w.before w.now w.policy w.pid w.start _ w.failed w.given w.todo w.serving));
 }
 
+pub offer-requires-clause-numbered : goal.offer-requires-clause-numbered
+offer-requires-clause-numbered g c = λ t one. c.requires.numbered t (ap (is_one t) (sym (c.offer_clients.ensures.places.own ∙ c.hush.ensures.places.own)) ∙ one)
+
+pub offer-requires-clause-no_house : goal.offer-requires-clause-no_house
+offer-requires-clause-no_house g c = no-zero
+
 pub returns-in_err-offer_clients-clause-serving : goal.returns-in_err-offer_clients-clause-serving
-returns-in_err-offer_clients-clause-serving g c before policy pid start given v = on-err c.from_residual.result _ _ c.from_residual.ensures.0
-    (c.in_err-offer_clients.ensures.serving before policy pid start given (c.hush.ensures.serving before _ policy pid start _ given _ v))
+returns-in_err-offer_clients-clause-serving g c left present before now policy pid start failed given v = on-err c.from_residual.result _ _ c.from_residual.ensures.0
+    (c.in_err-offer_clients.ensures.serving left present before now policy pid start failed given (c.hush.ensures.serving present before now policy pid start _ failed given _ v))
+
+pub returns-in_err-offer_clients-clause-places : goal.returns-in_err-offer_clients-clause-places
+returns-in_err-offer_clients-clause-places g c = places-then _ _ _ c.hush.ensures.places c.offer_clients.ensures.places
 
 pub returns-in_err-offer_clients-clause-later : goal.returns-in_err-offer_clients-clause-later
 returns-in_err-offer_clients-clause-later g c = le_trans (le-of _ _ (sym c.hush.ensures.faults)) c.offer_clients.ensures.later
@@ -38,11 +64,17 @@ returns-in_err-offer_clients-clause-calls g c = counts-err c.from_residual.resul
     (subst (λ (x : Calls). Cut 0 x (g.W.Wire.calls c.offer_clients.new.wire)) c.hush.ensures.calls c.in_err-offer_clients.ensures.calls)
 
 pub returns-clause-serving : goal.returns-clause-serving
-returns-clause-serving g c before policy pid start given v = c.offer.ensures.serving [] refl before policy pid start given
-    (c.in_ok-offer_clients.ensures.serving before policy pid start given (c.hush.ensures.serving before _ policy pid start _ given _ v))
+returns-clause-serving g c left present before now policy pid start failed given v = c.offer.ensures.serving left refl present before now policy pid start failed given
+    (c.in_ok-offer_clients.ensures.serving left present before now policy pid start failed given (c.hush.ensures.serving present before now policy pid start _ failed given _ v))
+
+pub returns-clause-places : goal.returns-clause-places
+returns-clause-places g c = places-then _ _ _ c.hush.ensures.places (places-then _ _ _ c.offer_clients.ensures.places c.offer.ensures.places)
 
 pub returns-clause-streams : goal.returns-clause-streams
 returns-clause-streams g c = on-ok c.offer.result (λ e. e ∙ c.in_ok-offer_clients.ensures.streams) c.offer.ensures.streams
+
+pub returns-clause-holds : goal.returns-clause-holds
+returns-clause-holds g c = on-ok c.offer.result (λ h t a. h t (c.in_ok-offer_clients.ensures.holds t a)) c.offer.ensures.holds
 
 pub returns-clause-ended : goal.returns-clause-ended
 returns-clause-ended g c = on-ok c.offer.result (λ e. then-stays-or-fails _ _ _ _ _ _ (stays _ _ _ _ refl c.hush.ensures.faults)
@@ -59,4 +91,4 @@ pub returns-clause-idle : goal.returns-clause-idle
 returns-clause-idle g c = λ none.
     let a = c.offer_clients.ensures.idle none in
     let b = c.offer.ensures.idle (ap (λ (s : State). queue_in s 0) a.0 ∙ server-idle c.requires.served.serving none) in
-    (b.0 ∙ a.0, then-same g.W.Wire.server_faults g.W.Wire.client_faults _ _ _ (b.1 ∙ a.1) (record { same_server = c.hush.ensures.faults; same_client = c.hush.ensures.client }))
+    (b.0 ∙ a.0, record { same_server = ap g.W.Wire.server_faults (b.1 ∙ a.1) ∙ c.hush.ensures.faults; same_client = ap g.W.Wire.client_faults (b.1 ∙ a.1) ∙ c.hush.ensures.client })

@@ -1,7 +1,8 @@
-use Rattle.std.proofs.Common.{◌≡◌, ◌∙◌, None, false, sym, ap, subst}
+use Rattle.std.proofs.Common.{◌≡◌, ◌∙◌, None, false, refl, sym, ap, subst}
 use Rattle.std.specs.Prelude.{is_some}
 use Rattle.mux_outside.specs.Seen.{Seen}
 use Rattle.mux_engine.specs.Serving.{Serving}
+use Rattle.mux_engine.specs.Sides.{RestsOf, SamePlaces}
 use Rattle.mux_engine.proofs.Lists.{true-false}
 use Rattle.mux_engine.proofs.Loops.{serve-hushed}
 use Rattle.mux_engine.proofs.settling.hush.Goals.{else-listening-via-then-listening+else-is_none, else-listening-via-else-listening}
@@ -15,5 +16,8 @@ silent g c live = elim c.else-listening.branch [
 ]
 
 pub returns-clause-serving : goal.returns-clause-serving
-returns-clause-serving g c before now policy pid start held given todo v =
-    subst (λ (x : Seen). Serving g.H.House.may before now policy pid start x held given todo c.args.engine.now) (sym c.stop_listening.ensures.seen) (serve-hushed v (silent g c))
+returns-clause-serving g c present before now policy pid start held failed given todo v =
+    subst (λ (x : Seen). Serving g.H.House.may (RestsOf g.H.House.told g.H.House.quiet present) before now policy pid start x held failed given todo c.args.engine.now) (sym c.stop_listening.ensures.seen) (serve-hushed v (silent g c))
+
+pub returns-clause-places : goal.returns-clause-places
+returns-clause-places g c = subst (SamePlaces (g.W.Wire.seen c.args.wire.now)) (sym c.stop_listening.ensures.seen) record { streams = refl; listeners = refl; own = refl; last_own = refl }

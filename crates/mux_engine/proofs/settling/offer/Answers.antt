@@ -1,15 +1,19 @@
 use Rattle.std.proofs.Common.{◌∷◌, ◌∙◌, sym, ap, refl, le_trans, le_refl}
+use Rattle.mux_outside.specs.OwnStreams.{is_one}
 use Rattle.mux_outside.specs.Streams.{among}
 use Rattle.mux_engine.proofs.Arms.{cut-then, idle-then, on-err, stays, then-stays-or-fails, well-none, well-then}
 use Rattle.mux_engine.proofs.Lists.{same-open}
 use Rattle.mux_engine.proofs.Loops.{counts-err, on-done, on-more, twice-among, zero-among}
-use Rattle.mux_engine.proofs.Offers.{held-back, wider}
+use Rattle.mux_engine.proofs.Places.{places-same, places-then}
+use Rattle.mux_engine.proofs.Todo.{held-back, wider}
 use Rattle.mux_engine.proofs.settling.offer.Goals as goal
 
 pub loop-init : goal.loop-init
 loop-init g c = let w = c.requires.served in record {
-  serving = λ before policy pid start given todo zero v. v;
+  serving = λ todo zero present before now policy pid start failed given v. v;
   streams = refl;
+  holds = λ t a. a;
+  places = places-same _ _ refl;
   free = ap (among c.args.stream) (sym w.serving.held_is) ∙ sym c.if-contains.ensures;
   ended = stays _ _ _ _ refl refl;
   client = λ nz. refl;
@@ -22,23 +26,29 @@ loop-init g c = let w = c.requires.served in record {
 
 pub offer_once-requires-clause-served : goal.offer_once-requires-clause-served
 offer_once-requires-clause-served g c = let w = c.requires.served in record {
+  present = w.present;
   before = w.before;
+  now = w.now;
   policy = w.policy;
   pid = w.pid;
   start = w.start;
+  failed = w.failed;
   given = w.given;
   todo = c.args.stream ∷ (0 ∷ w.todo);
-  serving = c.loop.invariant.serving w.before w.policy w.pid w.start w.given (0 ∷ w.todo) (zero-among c.args.stream w.todo) (wider c.args.stream (wider 0 w.serving));
+  serving = c.loop.invariant.serving (0 ∷ w.todo) (zero-among c.args.stream w.todo) w.present w.before w.now w.policy w.pid w.start w.failed w.given (wider c.args.stream (wider 0 w.serving));
 }
 
 pub offer_once-requires-clause-stream_open : goal.offer_once-requires-clause-stream_open
 offer_once-requires-clause-stream_open g c = same-open c.args.engine.now c.loop.engine c.args.stream c.loop.invariant.streams ∙ c.requires.stream_open
 
+pub offer_once-requires-clause-numbered : goal.offer_once-requires-clause-numbered
+offer_once-requires-clause-numbered g c = λ t one. c.requires.numbered t (ap (is_one t) (sym c.loop.invariant.places.own) ∙ one)
+
 -- ---- want of memory
 
 pub returns-in_err-offer_once-clause-serving : goal.returns-in_err-offer_once-clause-serving
-returns-in_err-offer_once-clause-serving g c todo zero before policy pid start given v = on-err c.from_residual.result _ _ c.from_residual.ensures.0
-    (c.in_err-offer_once.ensures.serving (c.args.stream ∷ todo) (twice-among c.args.stream todo zero) before policy pid start given (c.loop.invariant.serving before policy pid start given todo zero v))
+returns-in_err-offer_once-clause-serving g c todo zero present before now policy pid start failed given v = on-err c.from_residual.result _ _ c.from_residual.ensures.0
+    (c.in_err-offer_once.ensures.serving (c.args.stream ∷ todo) (twice-among c.args.stream todo zero) present before now policy pid start failed given (c.loop.invariant.serving todo zero present before now policy pid start failed given v))
 
 pub returns-in_err-offer_once-clause-later : goal.returns-in_err-offer_once-clause-later
 returns-in_err-offer_once-clause-later g c = le_trans c.loop.invariant.later c.offer_once.ensures.later
@@ -50,8 +60,10 @@ returns-in_err-offer_once-clause-calls g c = counts-err c.from_residual.result 0
 
 pub loop-preserved : goal.loop-preserved
 loop-preserved g c = record {
-  serving = λ before policy pid start given todo zero v. on-more c.args.stream todo _ c.if-branch.true (c.in_ok-offer_once.ensures.serving (c.args.stream ∷ todo) (twice-among c.args.stream todo zero) before policy pid start given (c.loop.invariant.serving before policy pid start given todo zero v));
+  serving = λ todo zero present before now policy pid start failed given v. on-more c.args.stream todo _ c.if-branch.true (c.in_ok-offer_once.ensures.serving (c.args.stream ∷ todo) (twice-among c.args.stream todo zero) present before now policy pid start failed given (c.loop.invariant.serving todo zero present before now policy pid start failed given v));
   streams = c.in_ok-offer_once.ensures.streams ∙ c.loop.invariant.streams;
+  holds = λ t a. c.in_ok-offer_once.ensures.holds t (c.loop.invariant.holds t a);
+  places = places-then _ _ _ c.loop.invariant.places c.offer_once.ensures.places;
   free = c.in_ok-offer_once.ensures.free c.if-branch.true;
   ended = then-stays-or-fails _ _ _ _ _ _ c.loop.invariant.ended c.in_ok-offer_once.ensures.ended;
   client = λ nz. c.in_ok-offer_once.ensures.client nz ∙ c.loop.invariant.client nz;
@@ -65,13 +77,16 @@ loop-preserved g c = record {
 -- ---- the end
 
 pub returns-clause-serving : goal.returns-clause-serving
-returns-clause-serving g c todo zero before policy pid start given v = on-done c.args.stream todo _ c.if-branch.false (c.in_ok-offer_once.ensures.serving (c.args.stream ∷ todo) (twice-among c.args.stream todo zero) before policy pid start given (c.loop.invariant.serving before policy pid start given todo zero v))
+returns-clause-serving g c todo zero present before now policy pid start failed given v = on-done c.args.stream todo _ c.if-branch.false (c.in_ok-offer_once.ensures.serving (c.args.stream ∷ todo) (twice-among c.args.stream todo zero) present before now policy pid start failed given (c.loop.invariant.serving todo zero present before now policy pid start failed given v))
 
 pub returns-clause-ended : goal.returns-clause-ended
 returns-clause-ended g c = then-stays-or-fails _ _ _ _ _ _ c.loop.invariant.ended c.in_ok-offer_once.ensures.ended
 
 pub returns-clause-client : goal.returns-clause-client
 returns-clause-client g c = λ nz. c.in_ok-offer_once.ensures.client nz ∙ c.loop.invariant.client nz
+
+pub returns-clause-holds : goal.returns-clause-holds
+returns-clause-holds g c = λ t a. c.in_ok-offer_once.ensures.holds t (c.loop.invariant.holds t a)
 
 pub returns-clause-later : goal.returns-clause-later
 returns-clause-later g c = le_trans c.loop.invariant.later c.offer_once.ensures.later
@@ -82,7 +97,7 @@ returns-clause-calls g c = well-then _ _ _ c.loop.invariant.calls c.in_ok-offer_
 -- ---- the stream is blocked
 
 pub returns-then-contains-clause-serving : goal.returns-then-contains-clause-serving
-returns-then-contains-clause-serving g c todo zero before policy pid start given v = held-back c.args.stream v c.requires.stream_open (sym c.if-contains.ensures)
+returns-then-contains-clause-serving g c todo zero present before now policy pid start failed given v = held-back c.args.stream v c.requires.stream_open c.requires.no_house (sym c.if-contains.ensures)
 
 pub returns-then-contains-clause-ended : goal.returns-then-contains-clause-ended
 returns-then-contains-clause-ended g c = stays _ _ _ _ refl refl
@@ -100,3 +115,14 @@ returns-in_err-offer_once-clause-idle g c = idle-then c.args.stream c.args.engin
 
 pub returns-then-contains-clause-idle : goal.returns-then-contains-clause-idle
 returns-then-contains-clause-idle g c = λ none. (refl, refl)
+
+-- ---- the streams and listeners
+
+pub returns-clause-places : goal.returns-clause-places
+returns-clause-places g c = places-then _ _ _ c.loop.invariant.places c.offer_once.ensures.places
+
+pub returns-in_err-offer_once-clause-places : goal.returns-in_err-offer_once-clause-places
+returns-in_err-offer_once-clause-places g c = places-then _ _ _ c.loop.invariant.places c.offer_once.ensures.places
+
+pub returns-then-contains-clause-places : goal.returns-then-contains-clause-places
+returns-then-contains-clause-places g c = places-same _ _ refl

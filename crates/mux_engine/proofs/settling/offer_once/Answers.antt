@@ -7,25 +7,36 @@ use Rattle.mux_outside.specs.declared.turn.Wrote.TheVariants as wrote
 use Rattle.mux_machine.specs.State.{State}
 use Rattle.mux_engine.specs.Counted.{Well}
 use Rattle.mux_engine.specs.Serving.{Serving}
+use Rattle.mux_engine.specs.Sides.{RestsOf}
 use Rattle.mux_engine.proofs.Arms.{Failing, empty-is, failing, fault-ended, fault-later, le-of, on-err, some-bytes, stays, unless-empty, well-one}
+use Rattle.mux_engine.proofs.Asks.{goes-asked, goes-unasked, none-asked, unasked-none}
+use Rattle.mux_engine.proofs.Holding.{client-unfinished, held-more}
+use Rattle.mux_engine.proofs.Lists.{not-own-stream}
 use Rattle.mux_engine.proofs.Marks.{serve-alone, serve-next}
-use Rattle.mux_engine.proofs.Offers.{AtStream, SameRun, at-stream, cut-fails, cut-holds, cut-starved, next-fails, next-holds, next-takes, nothing-left, stream-open}
-use Rattle.mux_engine.proofs.Silent.{stands-silent}
+use Rattle.mux_engine.proofs.Offers.{SameRun, cut-fails, cut-holds, cut-starved, next-fails, next-holds, next-takes}
+use Rattle.mux_engine.proofs.Places.{AtStream, at-stream, open-own, places-same, places-write, stream-open}
+use Rattle.mux_engine.proofs.Silent.{holds-alike}
 use Rattle.mux_engine.proofs.Taken.{queue-present, took-asks, took-less, took-run}
+use Rattle.mux_engine.proofs.Todo.{nothing-left}
+use Rattle.mux_machine.proofs.Twins.{stands-alike}
 use Rattle.mux_engine.proofs.settling.offer_once.Given as given_to
 use Rattle.mux_engine.proofs.settling.offer_once.Goals as goal
 
 pub returns-then-is_empty-clause-serving : goal.returns-then-is_empty-clause-serving
-returns-then-is_empty-clause-serving g c todo zero before policy pid start given v =
+returns-then-is_empty-clause-serving g c todo zero present before now policy pid start failed given v =
     nothing-left v c.args.stream c.queue_of-bytes.result.now (c.queue_of-bytes.ensures.waits v.picked v.replies v.journal v.closed v.stands (at-stream v.stands c.args.stream c.requires.stream_open).not_closed) (empty-is c.queue_of-bytes.result.now (sym c.if-is_empty.ensures))
 
 pub write-requires-clause-stream_open : goal.write-requires-clause-stream_open
-write-requires-clause-stream_open g c = let w = c.requires.served in stream-open w.serving c.args.stream c.requires.stream_open
+write-requires-clause-stream_open g c = let w = c.requires.served in stream-open w.serving c.args.stream c.requires.stream_open c.requires.no_house
+
+pub write-requires-clause-not_finished : goal.write-requires-clause-not_finished
+write-requires-clause-not_finished g c = let w = c.requires.served in
+    client-unfinished c.args.stream (g.W.Wire.seen c.args.wire.now).own c.requires.numbered (open-own w.serving c.args.stream c.requires.stream_open c.requires.no_house)
 
 -- ---- bytes that were taken
 
 pub returns-in-Took-clause-serving : goal.returns-in-Took-clause-serving
-returns-in-Took-clause-serving g c todo zero before policy pid start given v =
+returns-in-Took-clause-serving g c todo zero present before now policy pid start failed given v =
     let s : State = c.args.engine.now in
     let k : ℕ = c.args.stream in
     let n : ℕ = c.in-Took.n in
@@ -34,11 +45,11 @@ returns-in-Took-clause-serving g c todo zero before policy pid start given v =
     let some : 0 < length bytes = some-bytes bytes (sym c.if-is_empty.ensures) in
     let same : SameRun s c.took.new.self = took-run s c.took.new.self k n c.took.ensures.exact in
     let at : AtStream s v.journal v.closed k = at-stream v.stands k c.requires.stream_open in
-    subst (λ (x : Seen). Serving g.H.House.may before (g.H.House.told c.args.house.now) policy pid start x c.args.held.now given (k ∷ todo) c.took.new.self) (sym c.in-Took.ensures.seen)
-    (serve-alone v (seen_after_write (wrote.Took n) k bytes (g.W.Wire.seen c.args.wire.now)) c.args.held.now given (k ∷ todo) c.took.new.self (Takes k (take n bytes))
-    (c.took.ensures.stands (take n bytes) (length-take-le n bytes fits) v.picked v.replies v.journal v.closed v.stands (λ nz. queue-present s k bytes c.queue_of-bytes.ensures.exact some nz))
+    subst (λ (x : Seen). Serving g.H.House.may (RestsOf g.H.House.told g.H.House.quiet present) before now policy pid start x c.args.held.now failed given (k ∷ todo) c.took.new.self) (sym c.in-Took.ensures.seen)
+    (serve-alone v now (seen_after_write (wrote.Took n) k bytes (g.W.Wire.seen c.args.wire.now)) c.args.held.now failed given (k ∷ todo) c.took.new.self (Takes k (take n bytes))
+    (c.took.ensures.stands (take n bytes) (length-take-le n bytes fits) v.picked v.replies v.journal v.closed v.stands ((λ nz. queue-present s k bytes c.queue_of-bytes.ensures.exact some nz), not-own-stream k (open-own v k c.requires.stream_open c.requires.no_house)))
     (took-asks s c.took.new.self k (take n bytes) v.journal same)
-    (next-takes v c.took.new.self k n bytes c.requires.stream_open same c.queue_of-bytes.ensures.bytes c.in-Took.ensures.wrote.0 fits (c.queue_of-bytes.ensures.waits v.picked v.replies v.journal v.closed v.stands at.not_closed)))
+    (next-takes v c.took.new.self k n bytes c.requires.stream_open c.requires.no_house same c.queue_of-bytes.ensures.bytes c.in-Took.ensures.wrote.0 fits (c.queue_of-bytes.ensures.waits v.picked v.replies v.journal v.closed v.stands at.not_closed)))
 
 pub returns-in-Took-clause-streams : goal.returns-in-Took-clause-streams
 returns-in-Took-clause-streams g c = (took-run c.args.engine.now c.took.new.self c.args.stream c.in-Took.n c.took.ensures.exact).streams
@@ -68,52 +79,57 @@ returns-in-Took-clause-calls g c = subst (λ (x : Calls). Well 0 (g.W.Wire.calls
 -- ---- a stream that is blocked now
 
 pub returns-in_ok-push-in-Later-clause-serving : goal.returns-in_ok-push-in-Later-clause-serving
-returns-in_ok-push-in-Later-clause-serving g c todo zero before policy pid start given v =
+returns-in_ok-push-in-Later-clause-serving g c todo zero present before now policy pid start failed given v =
     let s : State = c.args.engine.now in
     let k : ℕ = c.args.stream in
     let bytes : List ℕ = c.queue_of-bytes.result.now in
-    subst (λ (x : Seen). Serving g.H.House.may before (g.H.House.told c.args.house.now) policy pid start x c.push.new.self given (without k todo) s) (sym c.in-Later.ensures.seen)
-    (subst (λ (h : List ℕ). Serving g.H.House.may before (g.H.House.told c.args.house.now) policy pid start (seen_after_write wrote.Later k bytes (g.W.Wire.seen c.args.wire.now)) h given (without k todo) s) (sym c.in_ok-push-in-Later.ensures.ok)
-    (serve-alone v (seen_after_write wrote.Later k bytes (g.W.Wire.seen c.args.wire.now)) (c.args.held.now ++ k ∷ []) given (without k todo) s (Holds k)
-    (stands-silent v.picked v.replies s (Holds k) v.journal v.closed tt v.stands) (λ picks replies. refl)
-    (next-holds v k bytes c.requires.stream_open c.queue_of-bytes.ensures.bytes (some-bytes c.queue_of-bytes.result.now (sym c.if-is_empty.ensures)))))
+    subst (λ (x : Seen). Serving g.H.House.may (RestsOf g.H.House.told g.H.House.quiet present) before now policy pid start x c.push.new.self failed given (without k todo) s) (sym c.in-Later.ensures.seen)
+    (subst (λ (h : List ℕ). Serving g.H.House.may (RestsOf g.H.House.told g.H.House.quiet present) before now policy pid start (seen_after_write wrote.Later k bytes (g.W.Wire.seen c.args.wire.now)) h failed given (without k todo) s) (sym c.in_ok-push-in-Later.ensures.ok)
+    (serve-alone v now (seen_after_write wrote.Later k bytes (g.W.Wire.seen c.args.wire.now)) (c.args.held.now ++ k ∷ []) failed given (without k todo) s (Holds k)
+    (stands-alike v.journal (Holds k ∷ v.journal) v.picked v.replies s v.closed (holds-alike k v.journal) v.stands) (λ picks replies. refl)
+    (next-holds v k bytes c.requires.stream_open c.requires.no_house c.queue_of-bytes.ensures.bytes (some-bytes c.queue_of-bytes.result.now (sym c.if-is_empty.ensures)))))
+
+pub returns-in_ok-push-in-Later-clause-holds : goal.returns-in_ok-push-in-Later-clause-holds
+returns-in_ok-push-in-Later-clause-holds g c = λ t a. ap (among t) c.in_ok-push-in-Later.ensures.ok ∙ held-more c.args.stream t c.args.held.now a
 
 pub returns-in_err-push-in-Later-clause-serving : goal.returns-in_err-push-in-Later-clause-serving
-returns-in_err-push-in-Later-clause-serving g c todo zero before policy pid start given v = on-err c.from_residual.result _ _ c.from_residual.ensures.0
-    (cut-holds v _ c.args.stream c.queue_of-bytes.result.now c.requires.stream_open c.queue_of-bytes.ensures.bytes (some-bytes c.queue_of-bytes.result.now (sym c.if-is_empty.ensures)) c.in-Later.ensures.seen)
+returns-in_err-push-in-Later-clause-serving g c todo zero present before now policy pid start failed given v = on-err c.from_residual.result _ _ c.from_residual.ensures.0
+    (cut-holds v _ c.args.stream c.queue_of-bytes.result.now (stream-open v c.args.stream c.requires.stream_open c.requires.no_house) c.queue_of-bytes.ensures.bytes (some-bytes c.queue_of-bytes.result.now (sym c.if-is_empty.ensures)) c.in-Later.ensures.seen)
 
 -- ---- a stream that failed
 
-failed : (g : given_to.Over) (c : goal.In_ok-event-in-Failed g) → Failing c.args.stream c.args.engine.now c.event.new.self
-failed g c =
+lost : (g : given_to.Over) (c : goal.In_ok-event-in-Failed g) → Failing c.args.stream c.args.engine.now c.event.new.self
+lost g c =
     let w = c.requires.served.serving in
     failing c.event_of_fault.result c.args.stream c.args.engine.now c.event.new.self c.event_of_fault.ensures.write c.in_ok-event-in-Failed.ensures.keeps
-    (c.in_ok-event-in-Failed.ensures.ends (WriteFails c.args.stream) c.event_of_fault.ensures.write w.picked w.replies w.journal w.closed w.stands (at-stream w.stands c.args.stream c.requires.stream_open).accepted)
+    (c.in_ok-event-in-Failed.ensures.ends (WriteFails c.args.stream) c.event_of_fault.ensures.write w.picked w.replies w.journal w.closed w.stands ((at-stream w.stands c.args.stream c.requires.stream_open).accepted, not-own-stream c.args.stream (open-own w c.args.stream c.requires.stream_open c.requires.no_house)))
 
 pub returns-in_ok-event-in-Failed-clause-serving : goal.returns-in_ok-event-in-Failed-clause-serving
-returns-in_ok-event-in-Failed-clause-serving g c todo zero before policy pid start given v =
+returns-in_ok-event-in-Failed-clause-serving g c todo zero present before now policy pid start failed given v =
     let s : State = c.args.engine.now in
     let k : ℕ = c.args.stream in
     let bytes : List ℕ = c.queue_of-bytes.result.now in
     let at : AtStream s v.journal v.closed k = at-stream v.stands k c.requires.stream_open in
-    let f : Failing k s c.event.new.self = failed g c in
-    let on = c.in_ok-event-in-Failed.ensures.stands (WriteFails k) c.event_of_fault.ensures.write v.picked v.replies v.journal v.closed v.stands at.accepted in
-    subst (λ (x : Seen). Serving g.H.House.may before (g.H.House.told c.event.new.house) policy pid start x c.args.held.now given (without k todo) c.event.new.self) (sym c.in-Failed.ensures.seen)
-    (serve-next v (g.H.House.told c.event.new.house) (seen_after_write wrote.Failed k bytes (g.W.Wire.seen c.args.wire.now)) c.args.held.now given (without k todo) c.event.new.self (WriteFails k) on
-    (next-fails v k bytes on c.requires.stream_open c.queue_of-bytes.ensures.bytes (some-bytes c.queue_of-bytes.result.now (sym c.if-is_empty.ensures)) zero f.policy f.pid f.streams f.live f.over))
+    let f : Failing k s c.event.new.self = lost g c in
+    let said = c.in_ok-event-in-Failed.ensures.stands (WriteFails k) c.event_of_fault.ensures.write v.picked v.replies v.journal v.closed v.stands (at.accepted, not-own-stream k (open-own v k c.requires.stream_open c.requires.no_house)) in
+    let none = none-asked said.asks (goes-asked (λ j. ⊥) said f.policy f.pid tt) in
+    let on = goes-unasked {May = g.H.House.may} v.stands said none in
+    subst (λ (x : Seen). Serving g.H.House.may (RestsOf g.H.House.told g.H.House.quiet present) before now policy pid start x c.args.held.now failed given (without k todo) c.event.new.self) (sym c.in-Failed.ensures.seen)
+    (serve-next v now (seen_after_write wrote.Failed k bytes (g.W.Wire.seen c.args.wire.now)) c.args.held.now failed given (without k todo) c.event.new.self (WriteFails k) on
+    (next-fails v k bytes on (unasked-none g.H.House.may v.stands said none) c.requires.stream_open c.requires.no_house c.queue_of-bytes.ensures.bytes (some-bytes c.queue_of-bytes.result.now (sym c.if-is_empty.ensures)) zero f.policy f.pid f.streams f.live f.over))
 
 pub returns-in_err-event-in-Failed-clause-serving : goal.returns-in_err-event-in-Failed-clause-serving
-returns-in_err-event-in-Failed-clause-serving g c todo zero before policy pid start given v = on-err c.from_residual-in_err-event-in-Failed.result _ _ c.from_residual-in_err-event-in-Failed.ensures.0
-    (cut-fails v _ _ c.args.stream c.queue_of-bytes.result.now c.requires.stream_open c.queue_of-bytes.ensures.bytes (some-bytes c.queue_of-bytes.result.now (sym c.if-is_empty.ensures)) c.in-Failed.ensures.seen c.event.ensures.asks)
+returns-in_err-event-in-Failed-clause-serving g c todo zero present before now policy pid start failed given v = on-err c.from_residual-in_err-event-in-Failed.result _ _ c.from_residual-in_err-event-in-Failed.ensures.0
+    (cut-fails v _ c.args.stream c.queue_of-bytes.result.now (stream-open v c.args.stream c.requires.stream_open c.requires.no_house) c.queue_of-bytes.ensures.bytes (some-bytes c.queue_of-bytes.result.now (sym c.if-is_empty.ensures)) c.in-Failed.ensures.seen)
 
 pub returns-in_ok-event-in-Failed-clause-streams : goal.returns-in_ok-event-in-Failed-clause-streams
-returns-in_ok-event-in-Failed-clause-streams g c = (failed g c).streams
+returns-in_ok-event-in-Failed-clause-streams g c = (lost g c).streams
 
 pub returns-in_ok-event-in-Failed-clause-ended : goal.returns-in_ok-event-in-Failed-clause-ended
-returns-in_ok-event-in-Failed-clause-ended g c = fault-ended c.args.stream c.args.engine.now c.event.new.self _ _ _ _ (failed g c) c.in-Failed.ensures.cause
+returns-in_ok-event-in-Failed-clause-ended g c = fault-ended c.args.stream c.args.engine.now c.event.new.self _ _ _ _ (lost g c) c.in-Failed.ensures.cause
 
 pub returns-in_ok-event-in-Failed-clause-client : goal.returns-in_ok-event-in-Failed-clause-client
-returns-in_ok-event-in-Failed-clause-client g c = (failed g c).client
+returns-in_ok-event-in-Failed-clause-client g c = (lost g c).client
 
 pub returns-in_ok-event-in-Failed-clause-later : goal.returns-in_ok-event-in-Failed-clause-later
 returns-in_ok-event-in-Failed-clause-later g c = fault-later c.args.stream _ _ _ _ c.in-Failed.ensures.cause
@@ -127,7 +143,7 @@ returns-in_ok-event-in-Failed-clause-calls g c = subst (λ (x : Calls). Well 0 (
 -- ---- no memory for the write
 
 pub returns-in-NoMemory-clause-serving : goal.returns-in-NoMemory-clause-serving
-returns-in-NoMemory-clause-serving g c todo zero before policy pid start given v = cut-starved v _ c.args.stream c.queue_of-bytes.result.now c.in-NoMemory.ensures.seen
+returns-in-NoMemory-clause-serving g c todo zero present before now policy pid start failed given v = cut-starved v _ c.args.stream c.queue_of-bytes.result.now c.in-NoMemory.ensures.seen
 
 -- ---- where nothing waits
 
@@ -151,3 +167,24 @@ returns-in-NoMemory-clause-idle g c = unless-empty c.queue_of-bytes.result.now _
 
 pub returns-then-is_empty-clause-idle : goal.returns-then-is_empty-clause-idle
 returns-then-is_empty-clause-idle g c = λ none. (refl, refl)
+
+pub returns-in-Took-clause-places : goal.returns-in-Took-clause-places
+returns-in-Took-clause-places g c = places-write (wrote.Took c.in-Took.n) c.args.stream c.queue_of-bytes.result.now _ _ c.in-Took.ensures.seen
+
+pub returns-in_ok-push-in-Later-clause-places : goal.returns-in_ok-push-in-Later-clause-places
+returns-in_ok-push-in-Later-clause-places g c = places-write wrote.Later c.args.stream c.queue_of-bytes.result.now _ _ c.in-Later.ensures.seen
+
+pub returns-in_err-push-in-Later-clause-places : goal.returns-in_err-push-in-Later-clause-places
+returns-in_err-push-in-Later-clause-places g c = places-write wrote.Later c.args.stream c.queue_of-bytes.result.now _ _ c.in-Later.ensures.seen
+
+pub returns-in_ok-event-in-Failed-clause-places : goal.returns-in_ok-event-in-Failed-clause-places
+returns-in_ok-event-in-Failed-clause-places g c = places-write wrote.Failed c.args.stream c.queue_of-bytes.result.now _ _ c.in-Failed.ensures.seen
+
+pub returns-in_err-event-in-Failed-clause-places : goal.returns-in_err-event-in-Failed-clause-places
+returns-in_err-event-in-Failed-clause-places g c = places-write wrote.Failed c.args.stream c.queue_of-bytes.result.now _ _ c.in-Failed.ensures.seen
+
+pub returns-in-NoMemory-clause-places : goal.returns-in-NoMemory-clause-places
+returns-in-NoMemory-clause-places g c = places-write wrote.NoMemory c.args.stream c.queue_of-bytes.result.now _ _ c.in-NoMemory.ensures.seen
+
+pub returns-then-is_empty-clause-places : goal.returns-then-is_empty-clause-places
+returns-then-is_empty-clause-places g c = places-same _ _ refl

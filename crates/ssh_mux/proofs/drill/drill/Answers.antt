@@ -6,7 +6,7 @@ use Rattle.ssh_mux.proofs.StillLemmas.{loud, not_false, on_false, quiet-count}
 use Rattle.ssh_mux.proofs.drill.drill.Goals as goal
 
 pub returns-in_err-serve_drill-clause-goes : goal.returns-in_err-serve_drill-clause-goes
-returns-in_err-serve_drill-clause-goes g c = let p = err_from_is_err_and c.from_residual.result c.from_residual.ensures.1 in rw (p.1, p.2) (unsummed-goes _ _ _ _ _ _ _ _ _ c.in_err-serve_drill.ensures.ends c.in_err-serve_drill.ensures.opened c.in_err-serve_drill.ensures.served)
+returns-in_err-serve_drill-clause-goes g c = let p = err_from_is_err_and c.from_residual.result c.from_residual.ensures.1 in rw (p.1, p.2) (unsummed-goes _ _ _ _ _ _ _ _ _ c.in_err-serve_drill.ensures.ends c.in_err-serve_drill.ensures.start c.in_err-serve_drill.ensures.opened c.in_err-serve_drill.ensures.served)
 
 pub returns-in_err-serve_drill-clause-unwritten : goal.returns-in_err-serve_drill-clause-unwritten
 returns-in_err-serve_drill-clause-unwritten g c = on_false _ _

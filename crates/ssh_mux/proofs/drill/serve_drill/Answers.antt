@@ -65,3 +65,9 @@ returns-clause-opened g c = rw (c.new-control.ensures, c.in_ok-transport.ensures
 
 pub returns-clause-served : goal.returns-clause-served
 returns-clause-served g c = rw (c.in_ok-policy.ensures.exact ∙ none-policy c.new-none.result c.new-none.ensures) at c.open_and_serve.ensures.served
+
+pub returns-in_err-transport-clause-start : goal.returns-in_err-transport-clause-start
+returns-in_err-transport-clause-start g c = let p = err_from_is_err_and c.from_residual.result c.from_residual.ensures.1 in rw (p.1, p.2) tt
+
+pub returns-in_err-policy-clause-start : goal.returns-in_err-policy-clause-start
+returns-in_err-policy-clause-start g c = let p = err_from_is_err_and c.from_residual-in_err-policy.result c.from_residual-in_err-policy.ensures.1 in let e = c.in_err-policy.ensures.err in rw (p.1, p.2, e) tt

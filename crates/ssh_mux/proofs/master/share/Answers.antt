@@ -2,13 +2,16 @@ use Rattle.std.proofs.Common.{Err, refl, ◌∙◌}
 use Rattle.std.proofs.lemmas.Result.{err_from_is_err_and}
 use Rattle.conf_rules.specs.declared.command.Command.TheVariants as commands
 use Rattle.conf_rules.specs.Diagnostics as ends
+use Rattle.mux_engine.specs.Rests.{refused_if}
+use Rattle.mux_engine.specs.Sides.{RestsOf}
 use Rattle.ssh_mux.specs.declared.ending.Ending.TheVariants as endings
+use Rattle.ssh_mux.specs.Answers.{serves_house, so_far}
 use Rattle.ssh_mux.specs.Outcomes.{machine, of_command}
 use Rattle.ssh_mux.specs.Sharing.{pid_of, policy_of}
 use Rattle.ssh_mux.proofs.CauseLemmas.{shared-cause, all-ran}
 use Rattle.ssh_mux.proofs.ReadLemmas.{all-read}
-use Rattle.ssh_mux.proofs.SharingLemmas.{pid_is, master-comes, master-opens, master-opened, master-shares}
-use Rattle.ssh_mux.proofs.StillLemmas.{on_false, on_true, not_false, still-due, still-opened, still-shared, still-wire, still-calls, still-idle, still-waits, starved-due}
+use Rattle.ssh_mux.proofs.SharingLemmas.{pid_is, master-comes, master-opens, master-opened, master-shares, master-idle, master-waits}
+use Rattle.ssh_mux.proofs.StillLemmas.{on_false, on_true, not_false, still-due, still-opened, still-shared, still-wire, still-calls, still-idle, still-waits, starved-due, still-start, unshared-waits, where_false}
 use Rattle.ssh_mux.proofs.master.share.Goals as goal
 
 pub returns-in_err-control-clause-exact : goal.returns-in_err-control-clause-exact
@@ -18,7 +21,7 @@ pub returns-in_err-control-clause-opened : goal.returns-in_err-control-clause-op
 returns-in_err-control-clause-opened g c = let p = err_from_is_err_and c.from_residual.result c.from_residual.ensures.1 in rw (p.1, p.2) (still-opened _ _ _ (c.in_err-control.ensures.exact _ _ _))
 
 pub returns-in_err-control-clause-served : goal.returns-in_err-control-clause-served
-returns-in_err-control-clause-served g c = let p = err_from_is_err_and c.from_residual.result c.from_residual.ensures.1 in rw (p.1, p.2) (still-shared _ _ _ _ _ _ _ _ (c.in_err-control.ensures.exact _ _ _))
+returns-in_err-control-clause-served g c = let p = err_from_is_err_and c.from_residual.result c.from_residual.ensures.1 in rw (p.1, p.2) (still-shared _ _ _ _ _ _ _ _ _ _ (c.in_err-control.ensures.exact _ _ _))
 
 pub returns-in_err-control-clause-wire_cause : goal.returns-in_err-control-clause-wire_cause
 returns-in_err-control-clause-wire_cause g c = let p = err_from_is_err_and c.from_residual.result c.from_residual.ensures.1 in rw (p.1, p.2) (still-wire _ _ _ _ _ _ (c.in_err-control.ensures.exact _ _ _))
@@ -69,7 +72,7 @@ pub returns-in_err-policy-clause-opened : goal.returns-in_err-policy-clause-open
 returns-in_err-policy-clause-opened g c = let p = err_from_is_err_and c.from_residual-in_err-policy.result c.from_residual-in_err-policy.ensures.1 in let e = c.in_err-policy.ensures.err in rw (p.1, p.2, e) (still-opened (of_command (machine (g.F.Files.told c.args.files.now) (g.R.Runner.told c.args.runner.now) c.args.facts.now) (commands.Master c.args.asked.now c.args.transport.now c.args.opens.now c.args.listens.now)) ends.NoMemory (g.W.Wire.openings c.args.wire.now) (starved-due (of_command (machine (g.F.Files.told c.args.files.now) (g.R.Runner.told c.args.runner.now) c.args.facts.now) (commands.Master c.args.asked.now c.args.transport.now c.args.opens.now c.args.listens.now))))
 
 pub returns-in_err-policy-clause-served : goal.returns-in_err-policy-clause-served
-returns-in_err-policy-clause-served g c = let p = err_from_is_err_and c.from_residual-in_err-policy.result c.from_residual-in_err-policy.ensures.1 in let e = c.in_err-policy.ensures.err in rw (p.1, p.2, e) (still-shared (of_command (machine (g.F.Files.told c.args.files.now) (g.R.Runner.told c.args.runner.now) c.args.facts.now) (commands.Master c.args.asked.now c.args.transport.now c.args.opens.now c.args.listens.now)) endings.NoMemory g.H.House.may (policy_of c.args.opens.now c.args.listens.now) (pid_of c.args.facts.now.pid) c.args.turns (g.H.House.told c.args.house.now) (g.W.Wire.seen c.args.wire.now).told (starved-due (of_command (machine (g.F.Files.told c.args.files.now) (g.R.Runner.told c.args.runner.now) c.args.facts.now) (commands.Master c.args.asked.now c.args.transport.now c.args.opens.now c.args.listens.now))))
+returns-in_err-policy-clause-served g c = let p = err_from_is_err_and c.from_residual-in_err-policy.result c.from_residual-in_err-policy.ensures.1 in let e = c.in_err-policy.ensures.err in rw (p.1, p.2, e) (still-shared (of_command (machine (g.F.Files.told c.args.files.now) (g.R.Runner.told c.args.runner.now) c.args.facts.now) (commands.Master c.args.asked.now c.args.transport.now c.args.opens.now c.args.listens.now)) endings.NoMemory g.H.House.may (RestsOf g.H.House.told g.H.House.quiet (g.H.House.known c.args.house.now).present) (policy_of c.args.opens.now c.args.listens.now) (pid_of c.args.facts.now.pid) c.args.turns (g.H.House.told c.args.house.now) (g.W.Wire.seen c.args.wire.now).told (refused_if (g.H.House.known c.args.house.now).present (g.H.House.must c.args.house.now) (g.H.House.refused c.args.house.now)) (starved-due (of_command (machine (g.F.Files.told c.args.files.now) (g.R.Runner.told c.args.runner.now) c.args.facts.now) (commands.Master c.args.asked.now c.args.transport.now c.args.opens.now c.args.listens.now))))
 
 pub returns-in_err-policy-clause-wire_cause : goal.returns-in_err-policy-clause-wire_cause
 returns-in_err-policy-clause-wire_cause g c = let p = err_from_is_err_and c.from_residual-in_err-policy.result c.from_residual-in_err-policy.ensures.1 in let e = c.in_err-policy.ensures.err in rw (p.1, p.2, e) (still-wire (of_command (machine (g.F.Files.told c.args.files.now) (g.R.Runner.told c.args.runner.now) c.args.facts.now) (commands.Master c.args.asked.now c.args.transport.now c.args.opens.now c.args.listens.now)) ends.NoMemory (g.W.Wire.server_faults c.args.wire.now) (g.W.Wire.server_faults c.args.wire.now) (g.W.Wire.client_faults c.args.wire.now) (g.W.Wire.client_faults c.args.wire.now) (starved-due (of_command (machine (g.F.Files.told c.args.files.now) (g.R.Runner.told c.args.runner.now) c.args.facts.now) (commands.Master c.args.asked.now c.args.transport.now c.args.opens.now c.args.listens.now))))
@@ -90,19 +93,19 @@ pub returns-in_err-policy-clause-calls : goal.returns-in_err-policy-clause-calls
 returns-in_err-policy-clause-calls g c = still-calls _ _ _
 
 pub returns-in_err-control-clause-waited : goal.returns-in_err-control-clause-waited
-returns-in_err-control-clause-waited g c = let p = err_from_is_err_and c.from_residual.result c.from_residual.ensures.1 in rw (p.1, p.2) (still-waits _ _ _ _ _ (c.in_err-control.ensures.exact _ _ _))
+returns-in_err-control-clause-waited g c = let p = err_from_is_err_and c.from_residual.result c.from_residual.ensures.1 in rw (p.1, p.2) (unshared-waits (serves_house (g.H.House.known c.args.house.now).present (of_command (machine (g.F.Files.told c.args.files.now) (g.R.Runner.told c.args.runner.now) c.args.facts.now) (commands.Master c.args.asked.now c.args.transport.now c.args.opens.now c.args.listens.now))) (of_command (machine (g.F.Files.told c.args.files.now) (g.R.Runner.told c.args.runner.now) c.args.facts.now) (commands.Master c.args.asked.now c.args.transport.now c.args.opens.now c.args.listens.now)) _ c.args.turns (g.W.Wire.calls c.args.wire.now) (g.W.Wire.calls c.args.wire.now) (c.in_err-control.ensures.exact _ _ _))
 
 pub returns-in_err-control-clause-idle : goal.returns-in_err-control-clause-idle
-returns-in_err-control-clause-idle g c = λ z. still-idle _ _ _
+returns-in_err-control-clause-idle g c = λ z. where_false _ _ (still-idle _ _ _)
 
 pub returns-in_err-policy-clause-waited : goal.returns-in_err-policy-clause-waited
-returns-in_err-policy-clause-waited g c = let p = err_from_is_err_and c.from_residual-in_err-policy.result c.from_residual-in_err-policy.ensures.1 in let e = c.in_err-policy.ensures.err in rw (p.1, p.2, e) (still-waits (of_command (machine (g.F.Files.told c.args.files.now) (g.R.Runner.told c.args.runner.now) c.args.facts.now) (commands.Master c.args.asked.now c.args.transport.now c.args.opens.now c.args.listens.now)) ends.NoMemory c.args.turns (g.W.Wire.calls c.args.wire.now) (g.W.Wire.calls c.args.wire.now) (starved-due (of_command (machine (g.F.Files.told c.args.files.now) (g.R.Runner.told c.args.runner.now) c.args.facts.now) (commands.Master c.args.asked.now c.args.transport.now c.args.opens.now c.args.listens.now))))
+returns-in_err-policy-clause-waited g c = let p = err_from_is_err_and c.from_residual-in_err-policy.result c.from_residual-in_err-policy.ensures.1 in let e = c.in_err-policy.ensures.err in rw (p.1, p.2, e) (unshared-waits (serves_house (g.H.House.known c.args.house.now).present (of_command (machine (g.F.Files.told c.args.files.now) (g.R.Runner.told c.args.runner.now) c.args.facts.now) (commands.Master c.args.asked.now c.args.transport.now c.args.opens.now c.args.listens.now))) (of_command (machine (g.F.Files.told c.args.files.now) (g.R.Runner.told c.args.runner.now) c.args.facts.now) (commands.Master c.args.asked.now c.args.transport.now c.args.opens.now c.args.listens.now)) ends.NoMemory c.args.turns (g.W.Wire.calls c.args.wire.now) (g.W.Wire.calls c.args.wire.now) (starved-due (of_command (machine (g.F.Files.told c.args.files.now) (g.R.Runner.told c.args.runner.now) c.args.facts.now) (commands.Master c.args.asked.now c.args.transport.now c.args.opens.now c.args.listens.now))))
 
 pub returns-in_err-policy-clause-idle : goal.returns-in_err-policy-clause-idle
-returns-in_err-policy-clause-idle g c = λ z. still-idle _ _ _
+returns-in_err-policy-clause-idle g c = λ z. where_false _ _ (still-idle _ _ _)
 
 pub returns-clause-waited : goal.returns-clause-waited
-returns-clause-waited g c = on_true _ _ c.open_and_serve.ensures.waited
+returns-clause-waited g c = master-waits (of_command (machine (g.F.Files.told c.args.files.now) (g.R.Runner.told c.args.runner.now) c.args.facts.now) (commands.Master c.args.asked.now c.args.transport.now c.args.opens.now c.args.listens.now)) c.args.transport.now c.args.opens.now c.args.listens.now _ (g.H.House.known c.args.house.now).present c.args.turns (so_far c.open_and_serve.result) (g.W.Wire.calls c.args.wire.now) (g.W.Wire.calls c.open_and_serve.new.wire) (c.in_ok-control.ensures.exact c.args.transport.now c.args.opens.now c.args.listens.now) c.open_and_serve.ensures.waited
 
 pub returns-in_err-control-clause-place : goal.returns-in_err-control-clause-place
 returns-in_err-control-clause-place g c = let p = err_from_is_err_and c.from_residual.result c.from_residual.ensures.1 in rw (p.1, p.2) c.in_err-control.ensures.place
@@ -115,3 +118,15 @@ returns-in_err-policy-clause-read g c = all-read _ _ _ _ _ c.in_ok-control.ensur
 
 pub returns-clause-read : goal.returns-clause-read
 returns-clause-read g c = all-read _ _ _ _ _ c.in_ok-control.ensures.read
+
+pub returns-clause-idle : goal.returns-clause-idle
+returns-clause-idle g c = λ z. master-idle (of_command (machine (g.F.Files.told c.args.files.now) (g.R.Runner.told c.args.runner.now) c.args.facts.now) (commands.Master c.args.asked.now c.args.transport.now c.args.opens.now c.args.listens.now)) c.args.transport.now c.args.opens.now c.args.listens.now _ (g.H.House.known c.args.house.now).present (so_far c.open_and_serve.result) (g.W.Wire.server_faults c.args.wire.now) (g.W.Wire.server_faults c.open_and_serve.new.wire) (g.W.Wire.client_faults c.args.wire.now) (g.W.Wire.client_faults c.open_and_serve.new.wire) (c.in_ok-control.ensures.exact c.args.transport.now c.args.opens.now c.args.listens.now) (c.open_and_serve.ensures.idle z)
+
+pub returns-clause-start : goal.returns-clause-start
+returns-clause-start g c = on_true _ _ c.open_and_serve.ensures.start
+
+pub returns-in_err-control-clause-start : goal.returns-in_err-control-clause-start
+returns-in_err-control-clause-start g c = let p = err_from_is_err_and c.from_residual.result c.from_residual.ensures.1 in rw (p.1, p.2) (still-start _ _ _ (c.in_err-control.ensures.exact _ _ _))
+
+pub returns-in_err-policy-clause-start : goal.returns-in_err-policy-clause-start
+returns-in_err-policy-clause-start g c = let p = err_from_is_err_and c.from_residual-in_err-policy.result c.from_residual-in_err-policy.ensures.1 in let e = c.in_err-policy.ensures.err in rw (p.1, p.2, e) (still-start (of_command (machine (g.F.Files.told c.args.files.now) (g.R.Runner.told c.args.runner.now) c.args.facts.now) (commands.Master c.args.asked.now c.args.transport.now c.args.opens.now c.args.listens.now)) ends.NoMemory (refused_if (g.H.House.known c.args.house.now).present (g.H.House.must c.args.house.now) (g.H.House.refused c.args.house.now)) (starved-due (of_command (machine (g.F.Files.told c.args.files.now) (g.R.Runner.told c.args.runner.now) c.args.facts.now) (commands.Master c.args.asked.now c.args.transport.now c.args.opens.now c.args.listens.now))))

@@ -1,7 +1,9 @@
 use Rattle.std.proofs.Common.{◌≡◌, refl}
 use Rattle.std.proofs.lemmas.Result.{err_from_is_err_and}
 use Rattle.conf_rules.specs.declared.command.Command.TheVariants as commands
-use Rattle.ssh_mux.specs.Answers.{may_ask, may_open, may_write, so_far, touches}
+use Rattle.mux_engine.specs.Rests.{refused_if}
+use Rattle.mux_engine.specs.Sides.{RestsOf}
+use Rattle.ssh_mux.specs.Answers.{may_ask, may_open, may_write, serves_house, so_far, touches}
 use Rattle.conf_rules.specs.Outcome.{Drills}
 use Rattle.ssh_mux.specs.Outcomes.{Certain, drills, known_of, machine, of_command, opens}
 use Rattle.ssh_mux.specs.Sharing.{Shares, WaitsFor, WireCause, pid_of}
@@ -13,7 +15,7 @@ use Rattle.ssh_mux.proofs.PolicyLemmas.{are-permitted, with-policy}
 use Rattle.ssh_mux.proofs.RefusalLemmas.{list-looks, list-shut, list-undrilled, master-looks, master-quiet, master-undrilled}
 use Rattle.ssh_mux.proofs.SharingLemmas.{none-opened, none-taken, none-counted}
 use Rattle.ssh_mux.proofs.MisreadLemmas.{of-drill, of-read, for-read, misread, misread-runs, misread-cause, drilled-runs}
-use Rattle.ssh_mux.proofs.StillLemmas.{on_false, not_false, not_true, shut, loud, quiet-out, quiet-count, still-due, still-opened, still-shared, still-caused, still-calls, still-idle, still-waited, shut-all, for-master, on_true, or-else, else-or, untouched}
+use Rattle.ssh_mux.proofs.StillLemmas.{on_false, not_false, not_true, shut, loud, quiet-out, quiet-count, still-due, still-opened, still-shared, still-caused, still-calls, still-idle, still-waited, shut-all, for-master, on_true, or-else, else-or, untouched, follows, refused-waits, still-start, unopened-waits, where_false}
 use Rattle.ssh_mux.proofs.PlaceLemmas.{client-told, misread-place, list-told, master-told}
 use Rattle.ssh_mux.proofs.ReadLemmas.{drilled-reads, misread-reads}
 use Rattle.ssh_mux.proofs.TalkLemmas.{none-joined, refused-unjoined, still-asked-cause, still-asked-waits, still-joined, still-talked, unasked}
@@ -38,7 +40,7 @@ pub returns-in_err-command-clause-opened : goal.returns-in_err-command-clause-op
 returns-in_err-command-clause-opened g c = let p = err_from_is_err_and c.from_residual.result c.from_residual.ensures.1 in rw (p.1, p.2) (still-opened _ _ _ (misread _ _ _ c.in_err-command.ensures.exact))
 
 pub returns-in_err-command-clause-shared : goal.returns-in_err-command-clause-shared
-returns-in_err-command-clause-shared g c = let p = err_from_is_err_and c.from_residual.result c.from_residual.ensures.1 in rw (p.1, p.2) (still-shared _ _ _ _ _ _ _ _ (misread _ _ _ c.in_err-command.ensures.exact))
+returns-in_err-command-clause-shared g c = let p = err_from_is_err_and c.from_residual.result c.from_residual.ensures.1 in rw (p.1, p.2) (still-shared _ _ _ _ _ _ _ _ _ _ (misread _ _ _ c.in_err-command.ensures.exact))
 
 pub returns-in_err-command-clause-wire_cause : goal.returns-in_err-command-clause-wire_cause
 returns-in_err-command-clause-wire_cause g c = let p = err_from_is_err_and c.from_residual.result c.from_residual.ensures.1 in rw (p.1, p.2) (still-caused _ _ _ _ _ _ (misread _ _ _ c.in_err-command.ensures.exact))
@@ -62,7 +64,7 @@ pub returns-in-List-clause-wire_cause : goal.returns-in-List-clause-wire_cause
 returns-in-List-clause-wire_cause g c = rw (of-read _ _ _ (rw c.in-List.is at c.in_ok-command.ensures.exact)) (not_true _ _ (shut-all _ _ (list-shut _ _) (list-undrilled _ _)))
 
 pub share-requires : goal.share-requires
-share-requires g c = record { permitted = are-permitted _ _ _ _ _ (rw c.in-Master.is at c.in_ok-command.ensures.exact) }
+share-requires g c = record { permitted = are-permitted _ _ _ _ _ (rw c.in-Master.is at c.in_ok-command.ensures.exact); fresh = c.requires.fresh }
 
 pub returns-in-Master-clause-exact : goal.returns-in-Master-clause-exact
 returns-in-Master-clause-exact g c = rw (of-read _ _ _ (rw c.in-Master.is at c.in_ok-command.ensures.exact)) c.share.ensures.exact
@@ -80,7 +82,7 @@ pub returns-in-Master-clause-opened : goal.returns-in-Master-clause-opened
 returns-in-Master-clause-opened g c = rw (of-read _ _ _ (rw c.in-Master.is at c.in_ok-command.ensures.exact)) c.share.ensures.opened
 
 pub returns-in-Master-clause-shared : goal.returns-in-Master-clause-shared
-returns-in-Master-clause-shared g c = rw (of-read _ _ _ (rw c.in-Master.is at c.in_ok-command.ensures.exact)) (with-policy (machine (g.F.Files.told c.args.files.now) (g.R.Runner.told c.args.runner.now) c.args.facts.now) c.in-Master.asked c.in-Master.transport c.in-Master.opens c.in-Master.listens (so_far c.share.result) (λ p. Shares g.H.House.may p (pid_of c.args.facts.now.pid) c.args.turns (g.H.House.told c.args.house.now) (g.H.House.told c.share.new.house) (g.W.Wire.seen c.args.wire.now).told (g.W.Wire.seen c.share.new.wire).told c.share.result) c.share.ensures.served)
+returns-in-Master-clause-shared g c = rw (of-read _ _ _ (rw c.in-Master.is at c.in_ok-command.ensures.exact)) (with-policy (machine (g.F.Files.told c.args.files.now) (g.R.Runner.told c.args.runner.now) c.args.facts.now) c.in-Master.asked c.in-Master.transport c.in-Master.opens c.in-Master.listens (so_far c.share.result) (λ p. Shares g.H.House.may (RestsOf g.H.House.told g.H.House.quiet (g.H.House.known c.args.house.now).present) p (pid_of c.args.facts.now.pid) c.args.turns (g.H.House.told c.args.house.now) (g.H.House.told c.share.new.house) (g.W.Wire.seen c.args.wire.now).told (g.W.Wire.seen c.share.new.wire).told (refused_if (g.H.House.known c.args.house.now).present (g.H.House.must c.share.new.house) (g.H.House.refused c.share.new.house)) c.share.result) c.share.ensures.served)
 
 pub returns-in-Master-clause-wire_cause : goal.returns-in-Master-clause-wire_cause
 returns-in-Master-clause-wire_cause g c = rw (of-read _ _ _ (rw c.in-Master.is at c.in_ok-command.ensures.exact)) (for-master (may_open (so_far c.share.result)) (opens (of_command (machine (g.F.Files.told c.args.files.now) (g.R.Runner.told c.args.runner.now) c.args.facts.now) (commands.Master c.in-Master.asked c.in-Master.transport c.in-Master.opens c.in-Master.listens))) (drills (of_command (machine (g.F.Files.told c.args.files.now) (g.R.Runner.told c.args.runner.now) c.args.facts.now) (commands.Master c.in-Master.asked c.in-Master.transport c.in-Master.opens c.in-Master.listens))) (WireCause (so_far c.share.result) (g.W.Wire.server_faults c.args.wire.now) (g.W.Wire.server_faults c.share.new.wire) (g.W.Wire.client_faults c.args.wire.now) (g.W.Wire.client_faults c.share.new.wire)) (master-undrilled (machine (g.F.Files.told c.args.files.now) (g.R.Runner.told c.args.runner.now) c.args.facts.now) c.in-Master.asked c.in-Master.transport c.in-Master.opens c.in-Master.listens) c.share.ensures.wire_cause)
@@ -125,22 +127,22 @@ pub returns-in-Master-clause-drill : goal.returns-in-Master-clause-drill
 returns-in-Master-clause-drill g c = rw (of-read _ _ _ (rw c.in-Master.is at c.in_ok-command.ensures.exact)) (not_true _ _ (master-undrilled _ _ _ _ _))
 
 pub returns-in_err-command-clause-waited : goal.returns-in_err-command-clause-waited
-returns-in_err-command-clause-waited g c = let p = err_from_is_err_and c.from_residual.result c.from_residual.ensures.1 in rw (p.1, p.2) (still-waited _ _ _ _ _ (misread _ _ _ c.in_err-command.ensures.exact))
+returns-in_err-command-clause-waited g c = let p = err_from_is_err_and c.from_residual.result c.from_residual.ensures.1 in rw (p.1, p.2) (refused-waits (serves_house (g.H.House.known c.args.house.now).present (known_of (g.F.Files.told c.args.files.now) (g.R.Runner.told c.args.runner.now) c.args.facts.now c.args.words.now)) (known_of (g.F.Files.told c.args.files.now) (g.R.Runner.told c.args.runner.now) c.args.facts.now c.args.words.now) _ c.args.turns (g.W.Wire.calls c.args.wire.now) (g.W.Wire.calls c.args.wire.now) (misread _ _ _ c.in_err-command.ensures.exact))
 
 pub returns-in_err-command-clause-idle : goal.returns-in_err-command-clause-idle
-returns-in_err-command-clause-idle g c = λ z. still-idle _ _ _
+returns-in_err-command-clause-idle g c = λ z. where_false _ _ (still-idle _ _ _)
 
 pub returns-in-List-clause-waited : goal.returns-in-List-clause-waited
-returns-in-List-clause-waited g c = rw (of-read _ _ _ (rw c.in-List.is at c.in_ok-command.ensures.exact)) (not_true _ _ (shut-all _ _ (list-shut _ _) (list-undrilled _ _)))
+returns-in-List-clause-waited g c = rw (of-read _ _ _ (rw c.in-List.is at c.in_ok-command.ensures.exact)) (unopened-waits (serves_house (g.H.House.known c.args.house.now).present (of_command (machine (g.F.Files.told c.args.files.now) (g.R.Runner.told c.args.runner.now) c.args.facts.now) (commands.List c.in-List.asked))) (of_command (machine (g.F.Files.told c.args.files.now) (g.R.Runner.told c.args.runner.now) c.args.facts.now) (commands.List c.in-List.asked)) (so_far c.list.result) c.args.turns (g.W.Wire.calls c.args.wire.now) (g.W.Wire.calls c.args.wire.now) (list-shut _ _) (list-undrilled _ _))
 
 pub returns-in-List-clause-idle : goal.returns-in-List-clause-idle
-returns-in-List-clause-idle g c = λ z. still-idle _ _ _
+returns-in-List-clause-idle g c = λ z. where_false _ _ (still-idle _ _ _)
 
 pub returns-in-Master-clause-waited : goal.returns-in-Master-clause-waited
-returns-in-Master-clause-waited g c = rw (of-read _ _ _ (rw c.in-Master.is at c.in_ok-command.ensures.exact)) (for-master (may_open (so_far c.share.result)) (opens (of_command (machine (g.F.Files.told c.args.files.now) (g.R.Runner.told c.args.runner.now) c.args.facts.now) (commands.Master c.in-Master.asked c.in-Master.transport c.in-Master.opens c.in-Master.listens))) (drills (of_command (machine (g.F.Files.told c.args.files.now) (g.R.Runner.told c.args.runner.now) c.args.facts.now) (commands.Master c.in-Master.asked c.in-Master.transport c.in-Master.opens c.in-Master.listens))) (WaitsFor c.args.turns (so_far c.share.result) (g.W.Wire.calls c.args.wire.now) (g.W.Wire.calls c.share.new.wire)) (master-undrilled (machine (g.F.Files.told c.args.files.now) (g.R.Runner.told c.args.runner.now) c.args.facts.now) c.in-Master.asked c.in-Master.transport c.in-Master.opens c.in-Master.listens) c.share.ensures.waited)
+returns-in-Master-clause-waited g c = rw (of-read _ _ _ (rw c.in-Master.is at c.in_ok-command.ensures.exact)) (follows _ _ _ (for-master (may_open (so_far c.share.result)) (opens (of_command (machine (g.F.Files.told c.args.files.now) (g.R.Runner.told c.args.runner.now) c.args.facts.now) (commands.Master c.in-Master.asked c.in-Master.transport c.in-Master.opens c.in-Master.listens))) (drills (of_command (machine (g.F.Files.told c.args.files.now) (g.R.Runner.told c.args.runner.now) c.args.facts.now) (commands.Master c.in-Master.asked c.in-Master.transport c.in-Master.opens c.in-Master.listens))) (WaitsFor c.args.turns (so_far c.share.result) (g.W.Wire.calls c.args.wire.now) (g.W.Wire.calls c.share.new.wire)) (master-undrilled (machine (g.F.Files.told c.args.files.now) (g.R.Runner.told c.args.runner.now) c.args.facts.now) c.in-Master.asked c.in-Master.transport c.in-Master.opens c.in-Master.listens)) c.share.ensures.waited)
 
 pub returns-in-Drill-clause-waited : goal.returns-in-Drill-clause-waited
-returns-in-Drill-clause-waited g c = on_true _ _ c.drill.ensures.waited
+returns-in-Drill-clause-waited g c = where_false _ _ (on_true _ _ c.drill.ensures.waited)
 
 pub returns-in_err-command-clause-place : goal.returns-in_err-command-clause-place
 returns-in_err-command-clause-place g c = let p = err_from_is_err_and c.from_residual.result c.from_residual.ensures.1 in rw (p.1, p.2) (misread-place _ _ _ _ _ _)
@@ -273,7 +275,7 @@ pub returns-in-Control-clause-wire_cause : goal.returns-in-Control-clause-wire_c
 returns-in-Control-clause-wire_cause g c = rw (of-read _ _ _ (rw c.in-Control.is at c.in_ok-command.ensures.exact)) (not_true _ _ (shut-all _ _ (client-shut _ _ _) (client-undrilled _ _ _)))
 
 pub returns-in-Control-clause-waited : goal.returns-in-Control-clause-waited
-returns-in-Control-clause-waited g c = rw (of-read _ _ _ (rw c.in-Control.is at c.in_ok-command.ensures.exact)) (not_true _ _ (shut-all _ _ (client-shut _ _ _) (client-undrilled _ _ _)))
+returns-in-Control-clause-waited g c = rw (of-read _ _ _ (rw c.in-Control.is at c.in_ok-command.ensures.exact)) (unopened-waits (serves_house (g.H.House.known c.args.house.now).present (of_command (machine (g.F.Files.told c.args.files.now) (g.R.Runner.told c.args.runner.now) c.args.facts.now) (commands.Control c.in-Control.asked c.in-Control.control))) (of_command (machine (g.F.Files.told c.args.files.now) (g.R.Runner.told c.args.runner.now) c.args.facts.now) (commands.Control c.in-Control.asked c.in-Control.control)) (so_far c.ask_master.result) c.args.turns (g.W.Wire.calls c.args.wire.now) (g.W.Wire.calls c.ask_master.new.wire) (client-shut _ _ _) (client-undrilled _ _ _))
 
 pub returns-in-Control-clause-drill : goal.returns-in-Control-clause-drill
 returns-in-Control-clause-drill g c = rw (of-read _ _ _ (rw c.in-Control.is at c.in_ok-command.ensures.exact)) (not_true _ _ (client-undrilled _ _ _))
@@ -305,3 +307,27 @@ returns-in-Control-clause-read g c = rw (client-told _ _ _ _ (rw c.in-Control.is
 
 pub returns-in-Drill-clause-read : goal.returns-in-Drill-clause-read
 returns-in-Drill-clause-read g c = drilled-reads _ _ _ _ _ _ _ (rw c.in-Drill.is at c.in_ok-command.ensures.exact)
+
+pub returns-in_err-command-clause-start : goal.returns-in_err-command-clause-start
+returns-in_err-command-clause-start g c = let p = err_from_is_err_and c.from_residual.result c.from_residual.ensures.1 in rw (p.1, p.2) (still-start _ _ _ (misread _ _ _ c.in_err-command.ensures.exact))
+
+pub returns-in-List-clause-start : goal.returns-in-List-clause-start
+returns-in-List-clause-start g c = rw (of-read _ _ _ (rw c.in-List.is at c.in_ok-command.ensures.exact)) (not_true _ _ (shut _ _ (list-shut _ _)))
+
+pub returns-in-Master-clause-start : goal.returns-in-Master-clause-start
+returns-in-Master-clause-start g c = rw (of-read _ _ _ (rw c.in-Master.is at c.in_ok-command.ensures.exact)) c.share.ensures.start
+
+pub returns-in-Master-clause-idle : goal.returns-in-Master-clause-idle
+returns-in-Master-clause-idle g c = λ z. rw (of-read _ _ _ (rw c.in-Master.is at c.in_ok-command.ensures.exact)) (c.share.ensures.idle z)
+
+pub returns-in-Drill-clause-start : goal.returns-in-Drill-clause-start
+returns-in-Drill-clause-start g c = rw (of-drill _ _ _ _ _ (rw c.in-Drill.is at c.in_ok-command.ensures.exact)) (not_true _ _ (shut (Certain (Drills c.in-Drill.seed c.in-Drill.clients c.in-Drill.messages)) (so_far c.drill.result) refl))
+
+pub returns-in-Drill-clause-idle : goal.returns-in-Drill-clause-idle
+returns-in-Drill-clause-idle g c = λ z. where_false _ _ (c.drill.ensures.idle z)
+
+pub returns-in-Control-clause-start : goal.returns-in-Control-clause-start
+returns-in-Control-clause-start g c = rw (of-read _ _ _ (rw c.in-Control.is at c.in_ok-command.ensures.exact)) (not_true _ _ (shut _ _ (client-shut _ _ _)))
+
+pub returns-in-Control-clause-idle : goal.returns-in-Control-clause-idle
+returns-in-Control-clause-idle g c = λ z. where_false _ _ (c.ask_master.ensures.idle z)

@@ -3,8 +3,8 @@ use Rattle.ssh_mux.specs.Outcomes.{known_of}
 use Rattle.ssh_mux.proofs.AnswerLemmas.{asked_after, asked_cause_after, asked_waits_after, asked_well, joined_after}
 use Rattle.ssh_mux.proofs.DrillLemmas.{drill_after, drill_well}
 use Rattle.ssh_mux.proofs.ReadLemmas.{reads_after}
-use Rattle.ssh_mux.proofs.EndLemmas.{ended, ended-well, well-cause, out_after, untouched_after, fault_after, runs_after, sink_after, opened_after, shared_after, shared_well, calls_after, idle_after, waits_after, wire_after, wire_stays_after, stays_after, same_told, told_after}
-use Rattle.ssh_mux.proofs.StillLemmas.{on_true}
+use Rattle.ssh_mux.proofs.EndLemmas.{ended, ended-well, well-cause, out_after, untouched_after, fault_after, runs_after, sink_after, opened_after, shared_after, shared_well, calls_after, idle_after, waits_after, wire_after, wire_stays_after, stays_after, same_told, told_after, start_after}
+use Rattle.ssh_mux.proofs.StillLemmas.{on_true, follows}
 use Rattle.ssh_mux.proofs.program.run.Goals as goal
 
 pub returns-in-Ok-clause-ended : goal.returns-in-Ok-clause-ended
@@ -32,10 +32,10 @@ pub returns-in-Err-clause-opened : goal.returns-in-Err-clause-opened
 returns-in-Err-clause-opened g c = opened_after _ _ _ _ _ _ _ _ _ c.report.ensures c.in-Err.ensures.opened
 
 pub returns-in-Ok-clause-shared : goal.returns-in-Ok-clause-shared
-returns-in-Ok-clause-shared g c = shared_well _ _ _ _ _ _ _ _ _ _ _ _ c.in-Ok.ensures.shared
+returns-in-Ok-clause-shared g c = shared_well _ _ _ _ _ _ _ _ _ _ _ _ _ _ c.in-Ok.ensures.shared
 
 pub returns-in-Err-clause-shared : goal.returns-in-Err-clause-shared
-returns-in-Err-clause-shared g c = shared_after _ _ _ _ _ _ _ _ _ _ _ _ _ _ _ c.report.ensures c.in-Err.ensures.shared (same_told _ (λ w. (g.W.Wire.seen w).told) _ _ c.in-Err.ensures.leaves.wire) (same_told _ g.H.House.told _ _ c.in-Err.ensures.leaves.house)
+returns-in-Err-clause-shared g c = shared_after _ _ _ _ _ _ _ _ _ _ _ _ _ _ _ _ _ c.report.ensures c.in-Err.ensures.shared (same_told _ (λ w. (g.W.Wire.seen w).told) _ _ c.in-Err.ensures.leaves.wire) (same_told _ g.H.House.told _ _ c.in-Err.ensures.leaves.house)
 
 pub returns-in-Err-clause-calls : goal.returns-in-Err-clause-calls
 returns-in-Err-clause-calls g c = calls_after _ _ _ _ _ _ _ _ _ c.report.ensures c.in-Err.ensures.calls
@@ -50,10 +50,10 @@ pub returns-in-Err-clause-drill : goal.returns-in-Err-clause-drill
 returns-in-Err-clause-drill g c = drill_after _ _ _ _ _ _ _ _ _ _ _ _ _ _ _ _ c.report.ensures c.in-Err.ensures.drill
 
 pub returns-in-Err-clause-waited : goal.returns-in-Err-clause-waited
-returns-in-Err-clause-waited g c = waits_after _ _ _ _ _ _ _ _ _ _ c.report.ensures c.in-Err.ensures.waited
+returns-in-Err-clause-waited g c = follows _ _ _ (waits_after _ _ _ _ _ _ _ _ _ _ c.report.ensures) c.in-Err.ensures.waited
 
 pub returns-in-Err-clause-idle : goal.returns-in-Err-clause-idle
-returns-in-Err-clause-idle g c = λ z. idle_after _ _ _ _ _ _ _ _ _ _ c.report.ensures (c.in-Err.ensures.idle z)
+returns-in-Err-clause-idle g c = λ z. follows _ _ _ (idle_after _ _ _ _ _ _ _ _ _ _ c.report.ensures) (c.in-Err.ensures.idle z)
 
 pub returns-in-Err-clause-leaves : goal.returns-in-Err-clause-leaves
 returns-in-Err-clause-leaves g c = record {
@@ -88,3 +88,6 @@ returns-in-Err-clause-asked_waits g c = asked_waits_after _ _ _ _ _ _ _ _ _ _ c.
 
 pub returns-in-Err-clause-read : goal.returns-in-Err-clause-read
 returns-in-Err-clause-read g c = reads_after _ _ _ _ _ _ _ _ _ c.report.ensures c.in-Err.ensures.read
+
+pub returns-in-Err-clause-start : goal.returns-in-Err-clause-start
+returns-in-Err-clause-start g c = start_after _ _ _ _ _ _ _ _ c.report.ensures c.in-Err.ensures.start

@@ -1,21 +1,25 @@
-use Rattle.std.proofs.Common.{sym, ap, ◌∙◌}
+use Rattle.std.proofs.Common.{Some, sym, ap, ◌∙◌}
 use Rattle.mux_machine.specs.Shown.{state_of}
 use Rattle.mux_machine.specs.State.{State}
 use Rattle.mux_machine.proofs.Fed.{ends-shown, goes-shown}
 use Rattle.mux_machine.proofs.Stepped.{over-stays}
+use Rattle.mux_clients.proofs.Heeding.{asked_none_some}
 use Rattle.mux_machine.proofs.engine.Engine.event.Goals as goal
 
 pub returns-in-Some-clause-stands : goal.returns-in-Some-clause-stands
-returns-in-Some-clause-stands g c = λ mark t. over-stays g.H.House.may (g.H.House.told c.args.house.now) c.args.self.now c.args.e mark c.in-Some.cause (sym (ap (λ (x : State). x.ended) c.self.view_is) ∙ c.in-Some.is) t
+returns-in-Some-clause-stands g c = λ mark t. over-stays g.H.House.may (Some c.args.asks.now) c.args.self.now c.args.e mark c.in-Some.cause (sym (ap (λ (x : State). x.ended) c.self.view_is) ∙ c.in-Some.is) t
 
 pub returns-clause-stands : goal.returns-clause-stands
 returns-clause-stands g c =
     let parts : State = state_of c.self.inside in
     let behind : State = state_of c.self-2.inside in
-    λ mark t. goes-shown g.H.House.may (g.H.House.told c.args.house.now) (g.H.House.told c.step.new.house) parts c.args.self.now behind c.step.new.self mark c.self.view_is c.self-2.view_is (c.in_ok-step.ensures.stands mark t)
+    λ mark t. goes-shown g.H.House.may (Some c.args.asks.now) (Some c.step.new.asks) parts c.args.self.now behind c.step.new.self mark c.self.view_is c.self-2.view_is (c.in_ok-step.ensures.stands mark t)
 
 pub returns-clause-ends : goal.returns-clause-ends
 returns-clause-ends g c =
     let parts : State = state_of c.self.inside in
     let behind : State = state_of c.self-2.inside in
     λ mark t. ends-shown parts c.args.self.now behind c.step.new.self c.args.e mark c.self.view_is c.self-2.view_is (c.in_ok-step.ensures.ends mark t)
+
+pub returns-then-self-clause-heeds : goal.returns-then-self-clause-heeds
+returns-then-self-clause-heeds g c = asked_none_some c.args.asks.now (g.H.House.told c.args.house.now)

@@ -1,16 +1,17 @@
-use Rattle.std.proofs.Common.{◌&&◌, not, refl, ap, ◌∙◌}
+use Rattle.std.proofs.Common.{Some, ◌&&◌, not, refl, ap, ◌∙◌}
 use Rattle.std.proofs.lemmas.Result.{on_ok_weaker}
 use Rattle.mux_machine.specs.Shown.{state_of}
 use Rattle.mux_machine.specs.State.{State}
 use Rattle.mux_machine.specs.Steps.{is_heard}
 use Rattle.mux_machine.proofs.Written.{gain-written, gain_new}
+use Rattle.mux_machine.proofs.Heeded.{heeded}
 use Rattle.mux_machine.proofs.engine.Engine.got.Goals as goal
 
 pub returns-clause-gains : goal.returns-clause-gains
 returns-clause-gains g c =
     let parts : State = state_of c.self.inside in
     on_ok_weaker c.list_waiting.result
-    (λ waits read. gain-written g.H.House.may (g.H.House.told c.args.house.now) (g.H.House.told c.got_at.new.house) c.args.self.now parts
+    (λ waits read. gain-written g.H.House.may (Some c.args.asks.now) (Some c.got_at.new.asks) c.args.self.now parts
     (gain_new parts c.self.inside.clients.len c.got_at.new.clients c.got_at.new.core c.got_at.new.up c.in_ok-heard.heard c.note_loss.new.leaving.items c.list_waiting.new.list (c.self.inside.listening && not c.in_ok-heard.heard.stops))
     c.args.client c.args.bytes.now c.self.inside.clients.len c.deref_mut.result.now c.got_at.new.clients c.deref-2.result.now c.deref-3.result.now c.got_at.new.core c.got_at.new.up c.in_ok-heard.heard c.note_loss.new.leaving.items c.list_waiting.new.list (c.self.inside.listening && not c.in_ok-heard.heard.stops) c.self.view_is refl record {
       read = ap (λ (x : State). is_heard x.clients c.args.client) c.self.view_is ∙ read;
@@ -25,3 +26,9 @@ returns-clause-gains g c =
       listens = refl;
       waits = waits;
     }) c.list_waiting.ensures
+
+pub returns-in_err-note_loss-clause-heeds : goal.returns-in_err-note_loss-clause-heeds
+returns-in_err-note_loss-clause-heeds g c = heeded c.from_residual-in_err-note_loss.result c.args.asks.now c.got_at.new.asks (g.H.House.told c.args.house.now) (g.H.House.told c.got_at.new.house) (g.H.House.known c.args.house.now) (g.H.House.known c.got_at.new.house) c.in_ok-heard.ensures.heeds
+
+pub returns-clause-heeds : goal.returns-clause-heeds
+returns-clause-heeds g c = heeded c.list_waiting.result c.args.asks.now c.got_at.new.asks (g.H.House.told c.args.house.now) (g.H.House.told c.got_at.new.house) (g.H.House.known c.args.house.now) (g.H.House.known c.got_at.new.house) c.in_ok-heard.ensures.heeds

@@ -1,32 +1,41 @@
-use Rattle.std.proofs.Common.{sym, ap, ◌∙◌, subst}
+use Rattle.std.proofs.Common.{List, Some, sym, ap, ◌∙◌, subst}
 use Rattle.std.proofs.lemmas.Result.{on_ok_weaker}
 use Rattle.mux_clients.specs.Server.{stream_end}
+use Rattle.mux_outside.specs.declared.house_mark.HouseMark.{HouseMark}
 use Rattle.mux_machine.specs.State.{State, over}
+use Rattle.mux_clients.proofs.Heeding.{asked_none}
+use Rattle.mux_machine.proofs.Heeded.{heeded}
 use Rattle.mux_machine.proofs.Endings.{alone-ends, asking-ends}
 use Rattle.mux_machine.proofs.Kept.{asking-keeps, did-keeps}
-use Rattle.mux_machine.proofs.Stepped.{DidAlone, DidAsking, asking-goes, cause-as, did-goes, gained-on, lost-on}
+use Rattle.mux_machine.proofs.Stepped.{DidAlone, DidAsking, asking-goes, cause-as, did-goes, gained-on, lost-on, replied-on}
 use Rattle.mux_machine.proofs.engine.Engine.step.Goals as goal
 
 pub returns-in-Accepted-clause-stands : goal.returns-in-Accepted-clause-stands
-returns-in-Accepted-clause-stands g c = on_ok_weaker c.enter.result (λ d mark t. did-goes g.H.House.may (g.H.House.told c.args.house.now) c.args.self.now c.enter.new.self c.args.e mark c.requires.goes (subst (DidAlone c.args.self.now c.enter.new.self) (sym c.in-Accepted.is) d) t) c.enter.ensures.enters
+returns-in-Accepted-clause-stands g c = on_ok_weaker c.enter.result (λ d mark t. did-goes g.H.House.may (Some c.args.asks.now) c.args.self.now c.enter.new.self c.args.e mark c.requires.goes (subst (DidAlone c.args.self.now c.enter.new.self) (sym c.in-Accepted.is) d) t) c.enter.ensures.enters
 
 pub returns-in-Accepted-clause-keeps : goal.returns-in-Accepted-clause-keeps
 returns-in-Accepted-clause-keeps g c = on_ok_weaker c.enter.result (λ d. did-keeps c.args.self.now c.enter.new.self c.args.e c.requires.goes (subst (DidAlone c.args.self.now c.enter.new.self) (sym c.in-Accepted.is) d)) c.enter.ensures.enters
 
 pub returns-in-ClientEnd-clause-stands : goal.returns-in-ClientEnd-clause-stands
-returns-in-ClientEnd-clause-stands g c = on_ok_weaker c.lose.result (λ d mark t. did-goes g.H.House.may (g.H.House.told c.args.house.now) c.args.self.now c.lose.new.self c.args.e mark c.requires.goes (subst (DidAlone c.args.self.now c.lose.new.self) (sym c.in-ClientEnd.is) d) t) (lost-on c.lose.result c.args.self.now c.lose.new.self c.in-ClientEnd.client c.lose.ensures.loses c.lose.ensures.stays)
+returns-in-ClientEnd-clause-stands g c = on_ok_weaker c.lose.result (λ d mark t. did-goes g.H.House.may (Some c.args.asks.now) c.args.self.now c.lose.new.self c.args.e mark c.requires.goes (subst (DidAlone c.args.self.now c.lose.new.self) (sym c.in-ClientEnd.is) d) t) (lost-on c.lose.result c.args.self.now c.lose.new.self c.in-ClientEnd.client c.lose.ensures.loses c.lose.ensures.stays)
 
 pub returns-in-ClientEnd-clause-keeps : goal.returns-in-ClientEnd-clause-keeps
 returns-in-ClientEnd-clause-keeps g c = on_ok_weaker c.lose.result (λ d. did-keeps c.args.self.now c.lose.new.self c.args.e c.requires.goes (subst (DidAlone c.args.self.now c.lose.new.self) (sym c.in-ClientEnd.is) d)) (lost-on c.lose.result c.args.self.now c.lose.new.self c.in-ClientEnd.client c.lose.ensures.loses c.lose.ensures.stays)
 
 pub returns-in-ClientFailed-clause-stands : goal.returns-in-ClientFailed-clause-stands
-returns-in-ClientFailed-clause-stands g c = on_ok_weaker c.lose-in-ClientFailed.result (λ d mark t. did-goes g.H.House.may (g.H.House.told c.args.house.now) c.args.self.now c.lose-in-ClientFailed.new.self c.args.e mark c.requires.goes (subst (DidAlone c.args.self.now c.lose-in-ClientFailed.new.self) (sym c.in-ClientFailed.is) d) t) (lost-on c.lose-in-ClientFailed.result c.args.self.now c.lose-in-ClientFailed.new.self c.in-ClientFailed.client c.lose-in-ClientFailed.ensures.loses c.lose-in-ClientFailed.ensures.stays)
+returns-in-ClientFailed-clause-stands g c = on_ok_weaker c.lose-in-ClientFailed.result (λ d mark t. did-goes g.H.House.may (Some c.args.asks.now) c.args.self.now c.lose-in-ClientFailed.new.self c.args.e mark c.requires.goes (subst (DidAlone c.args.self.now c.lose-in-ClientFailed.new.self) (sym c.in-ClientFailed.is) d) t) (lost-on c.lose-in-ClientFailed.result c.args.self.now c.lose-in-ClientFailed.new.self c.in-ClientFailed.client c.lose-in-ClientFailed.ensures.loses c.lose-in-ClientFailed.ensures.stays)
 
 pub returns-in-ClientFailed-clause-keeps : goal.returns-in-ClientFailed-clause-keeps
 returns-in-ClientFailed-clause-keeps g c = on_ok_weaker c.lose-in-ClientFailed.result (λ d. did-keeps c.args.self.now c.lose-in-ClientFailed.new.self c.args.e c.requires.goes (subst (DidAlone c.args.self.now c.lose-in-ClientFailed.new.self) (sym c.in-ClientFailed.is) d)) (lost-on c.lose-in-ClientFailed.result c.args.self.now c.lose-in-ClientFailed.new.self c.in-ClientFailed.client c.lose-in-ClientFailed.ensures.loses c.lose-in-ClientFailed.ensures.stays)
 
+pub returns-in-HouseSays-clause-stands : goal.returns-in-HouseSays-clause-stands
+returns-in-HouseSays-clause-stands g c = on_ok_weaker c.answer.result (λ d mark t. did-goes g.H.House.may (Some c.args.asks.now) c.args.self.now c.answer.new.self c.args.e mark c.requires.goes (subst (DidAlone c.args.self.now c.answer.new.self) (sym c.in-HouseSays.is) d) t) (replied-on c.answer.result c.args.self.now c.answer.new.self c.in-HouseSays.client c.in-HouseSays.id c.in-HouseSays.reply c.answer.ensures.answers c.answer.ensures.stays)
+
+pub returns-in-HouseSays-clause-keeps : goal.returns-in-HouseSays-clause-keeps
+returns-in-HouseSays-clause-keeps g c = on_ok_weaker c.answer.result (λ d. did-keeps c.args.self.now c.answer.new.self c.args.e c.requires.goes (subst (DidAlone c.args.self.now c.answer.new.self) (sym c.in-HouseSays.is) d)) (replied-on c.answer.result c.args.self.now c.answer.new.self c.in-HouseSays.client c.in-HouseSays.id c.in-HouseSays.reply c.answer.ensures.answers c.answer.ensures.stays)
+
 pub returns-in-FromServer-clause-stands : goal.returns-in-FromServer-clause-stands
-returns-in-FromServer-clause-stands g c = on_ok_weaker c.hear.result (λ d mark t. did-goes g.H.House.may (g.H.House.told c.args.house.now) c.args.self.now c.hear.new.self c.args.e mark c.requires.goes (subst (DidAlone c.args.self.now c.hear.new.self) (sym c.in-FromServer.is) d) t) c.hear.ensures.heard
+returns-in-FromServer-clause-stands g c = on_ok_weaker c.hear.result (λ d mark t. did-goes g.H.House.may (Some c.args.asks.now) c.args.self.now c.hear.new.self c.args.e mark c.requires.goes (subst (DidAlone c.args.self.now c.hear.new.self) (sym c.in-FromServer.is) d) t) c.hear.ensures.heard
 
 pub returns-in-FromServer-clause-keeps : goal.returns-in-FromServer-clause-keeps
 returns-in-FromServer-clause-keeps g c = on_ok_weaker c.hear.result (λ d. did-keeps c.args.self.now c.hear.new.self c.args.e c.requires.goes (subst (DidAlone c.args.self.now c.hear.new.self) (sym c.in-FromServer.is) d)) c.hear.ensures.heard
@@ -35,16 +44,31 @@ pub returns-in-FromServer-clause-ends : goal.returns-in-FromServer-clause-ends
 returns-in-FromServer-clause-ends g c = on_ok_weaker c.hear.result (λ d mark t. alone-ends c.args.self.now c.hear.new.self c.args.e mark (subst (DidAlone c.args.self.now c.hear.new.self) (sym c.in-FromServer.is) d) t) c.hear.ensures.heard
 
 pub returns-in-ServerEnd-clause-stands : goal.returns-in-ServerEnd-clause-stands
-returns-in-ServerEnd-clause-stands g c = λ mark t. did-goes g.H.House.may (g.H.House.told c.args.house.now) c.args.self.now c.end.new.self c.args.e mark c.requires.goes (subst (DidAlone c.args.self.now c.end.new.self) (sym c.in-ServerEnd.is) (c.end.ensures ∙ ap (over c.args.self.now) (c.end-cause.ensures ∙ (ap (λ (x : State). stream_end x.server.rest x.server.index) c.self.view_is ∙ cause-as c.args.self.now)))) t
+returns-in-ServerEnd-clause-stands g c = λ mark t. did-goes g.H.House.may (Some c.args.asks.now) c.args.self.now c.end.new.self c.args.e mark c.requires.goes (subst (DidAlone c.args.self.now c.end.new.self) (sym c.in-ServerEnd.is) (c.end.ensures ∙ ap (over c.args.self.now) (c.end-cause.ensures ∙ (ap (λ (x : State). stream_end x.server.rest x.server.index) c.self.view_is ∙ cause-as c.args.self.now)))) t
 
 pub returns-in-ServerFailed-clause-stands : goal.returns-in-ServerFailed-clause-stands
-returns-in-ServerFailed-clause-stands g c = λ mark t. did-goes g.H.House.may (g.H.House.told c.args.house.now) c.args.self.now c.end-in-ServerFailed.new.self c.args.e mark c.requires.goes (subst (DidAlone c.args.self.now c.end-in-ServerFailed.new.self) (sym c.in-ServerFailed.is) c.end-in-ServerFailed.ensures) t
+returns-in-ServerFailed-clause-stands g c = λ mark t. did-goes g.H.House.may (Some c.args.asks.now) c.args.self.now c.end-in-ServerFailed.new.self c.args.e mark c.requires.goes (subst (DidAlone c.args.self.now c.end-in-ServerFailed.new.self) (sym c.in-ServerFailed.is) c.end-in-ServerFailed.ensures) t
 
 pub returns-in-FromClient-clause-stands : goal.returns-in-FromClient-clause-stands
-returns-in-FromClient-clause-stands g c = on_ok_weaker c.got.result (λ d mark t. asking-goes (g.H.House.may) (g.H.House.told c.args.house.now) (g.H.House.told c.got.new.house) c.args.self.now c.got.new.self c.args.e mark c.requires.goes (subst (DidAsking (g.H.House.may) (g.H.House.told c.args.house.now) (g.H.House.told c.got.new.house) c.args.self.now c.got.new.self) (sym c.in-FromClient.is) d) t) (gained-on c.got.result (g.H.House.may) (g.H.House.told c.args.house.now) (g.H.House.told c.got.new.house) c.args.self.now c.got.new.self c.in-FromClient.client c.in-FromClient.bytes.now c.got.ensures.gains c.got.ensures.stays c.got.ensures.untold c.got.ensures.policy c.got.ensures.numbers)
+returns-in-FromClient-clause-stands g c = on_ok_weaker c.got.result (λ d mark t. asking-goes (g.H.House.may) (Some c.args.asks.now) (Some c.got.new.asks) c.args.self.now c.got.new.self c.args.e mark c.requires.goes (subst (DidAsking (g.H.House.may) (Some c.args.asks.now) (Some c.got.new.asks) c.args.self.now c.got.new.self) (sym c.in-FromClient.is) d) t) (gained-on c.got.result (g.H.House.may) (Some c.args.asks.now) (Some c.got.new.asks) c.args.self.now c.got.new.self c.in-FromClient.client c.in-FromClient.bytes.now c.got.ensures.gains c.got.ensures.stays (λ h. ap (λ (l : List HouseMark). Some l) (c.got.ensures.untold h)) c.got.ensures.policy c.got.ensures.numbers)
 
 pub returns-in-FromClient-clause-keeps : goal.returns-in-FromClient-clause-keeps
-returns-in-FromClient-clause-keeps g c = on_ok_weaker c.got.result (λ d. asking-keeps (g.H.House.may) (g.H.House.told c.args.house.now) (g.H.House.told c.got.new.house) c.args.self.now c.got.new.self c.args.e c.requires.goes (subst (DidAsking (g.H.House.may) (g.H.House.told c.args.house.now) (g.H.House.told c.got.new.house) c.args.self.now c.got.new.self) (sym c.in-FromClient.is) d)) (gained-on c.got.result (g.H.House.may) (g.H.House.told c.args.house.now) (g.H.House.told c.got.new.house) c.args.self.now c.got.new.self c.in-FromClient.client c.in-FromClient.bytes.now c.got.ensures.gains c.got.ensures.stays c.got.ensures.untold c.got.ensures.policy c.got.ensures.numbers)
+returns-in-FromClient-clause-keeps g c = on_ok_weaker c.got.result (λ d. asking-keeps (g.H.House.may) (Some c.args.asks.now) (Some c.got.new.asks) c.args.self.now c.got.new.self c.args.e c.requires.goes (subst (DidAsking (g.H.House.may) (Some c.args.asks.now) (Some c.got.new.asks) c.args.self.now c.got.new.self) (sym c.in-FromClient.is) d)) (gained-on c.got.result (g.H.House.may) (Some c.args.asks.now) (Some c.got.new.asks) c.args.self.now c.got.new.self c.in-FromClient.client c.in-FromClient.bytes.now c.got.ensures.gains c.got.ensures.stays (λ h. ap (λ (l : List HouseMark). Some l) (c.got.ensures.untold h)) c.got.ensures.policy c.got.ensures.numbers)
 
 pub returns-in-FromClient-clause-ends : goal.returns-in-FromClient-clause-ends
-returns-in-FromClient-clause-ends g c = on_ok_weaker c.got.result (λ d mark t. asking-ends (g.H.House.may) (g.H.House.told c.args.house.now) (g.H.House.told c.got.new.house) c.args.self.now c.got.new.self c.args.e mark (subst (DidAsking (g.H.House.may) (g.H.House.told c.args.house.now) (g.H.House.told c.got.new.house) c.args.self.now c.got.new.self) (sym c.in-FromClient.is) d) t) (gained-on c.got.result (g.H.House.may) (g.H.House.told c.args.house.now) (g.H.House.told c.got.new.house) c.args.self.now c.got.new.self c.in-FromClient.client c.in-FromClient.bytes.now c.got.ensures.gains c.got.ensures.stays c.got.ensures.untold c.got.ensures.policy c.got.ensures.numbers)
+returns-in-FromClient-clause-ends g c = on_ok_weaker c.got.result (λ d mark t. asking-ends (g.H.House.may) (Some c.args.asks.now) (Some c.got.new.asks) c.args.self.now c.got.new.self c.args.e mark (subst (DidAsking (g.H.House.may) (Some c.args.asks.now) (Some c.got.new.asks) c.args.self.now c.got.new.self) (sym c.in-FromClient.is) d) t) (gained-on c.got.result (g.H.House.may) (Some c.args.asks.now) (Some c.got.new.asks) c.args.self.now c.got.new.self c.in-FromClient.client c.in-FromClient.bytes.now c.got.ensures.gains c.got.ensures.stays (λ h. ap (λ (l : List HouseMark). Some l) (c.got.ensures.untold h)) c.got.ensures.policy c.got.ensures.numbers)
+
+pub returns-in-Accepted-clause-heeds : goal.returns-in-Accepted-clause-heeds
+returns-in-Accepted-clause-heeds g c = heeded c.enter.result c.args.asks.now c.args.asks.now (g.H.House.told c.args.house.now) (g.H.House.told c.args.house.now) (g.H.House.known c.args.house.now) (g.H.House.known c.args.house.now) (asked_none c.args.asks.now (g.H.House.told c.args.house.now) (g.H.House.known c.args.house.now))
+
+pub returns-in-ClientEnd-clause-heeds : goal.returns-in-ClientEnd-clause-heeds
+returns-in-ClientEnd-clause-heeds g c = heeded c.lose.result c.args.asks.now c.args.asks.now (g.H.House.told c.args.house.now) (g.H.House.told c.args.house.now) (g.H.House.known c.args.house.now) (g.H.House.known c.args.house.now) (asked_none c.args.asks.now (g.H.House.told c.args.house.now) (g.H.House.known c.args.house.now))
+
+pub returns-in-ClientFailed-clause-heeds : goal.returns-in-ClientFailed-clause-heeds
+returns-in-ClientFailed-clause-heeds g c = heeded c.lose-in-ClientFailed.result c.args.asks.now c.args.asks.now (g.H.House.told c.args.house.now) (g.H.House.told c.args.house.now) (g.H.House.known c.args.house.now) (g.H.House.known c.args.house.now) (asked_none c.args.asks.now (g.H.House.told c.args.house.now) (g.H.House.known c.args.house.now))
+
+pub returns-in-HouseSays-clause-heeds : goal.returns-in-HouseSays-clause-heeds
+returns-in-HouseSays-clause-heeds g c = heeded c.answer.result c.args.asks.now c.args.asks.now (g.H.House.told c.args.house.now) (g.H.House.told c.args.house.now) (g.H.House.known c.args.house.now) (g.H.House.known c.args.house.now) (asked_none c.args.asks.now (g.H.House.told c.args.house.now) (g.H.House.known c.args.house.now))
+
+pub returns-in-FromServer-clause-heeds : goal.returns-in-FromServer-clause-heeds
+returns-in-FromServer-clause-heeds g c = heeded c.hear.result c.args.asks.now c.args.asks.now (g.H.House.told c.args.house.now) (g.H.House.told c.args.house.now) (g.H.House.known c.args.house.now) (g.H.House.known c.args.house.now) (asked_none c.args.asks.now (g.H.House.told c.args.house.now) (g.H.House.known c.args.house.now))

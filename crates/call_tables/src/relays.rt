@@ -1,0 +1,398 @@
+use Event::{
+    Closed, Confirmed, Data, End, Eof, Failed, Got, Made, Refused, Request, Room, Took, Writable,
+};
+use house_relay::{Relay, Saying};
+use mux_outside::{Order, OwnStream};
+use ssh_fields::{OutOfMemory, Text};
+use std::alloc::Global;
+use std::process::Abort;
+use std::test::Fail;
+
+/// What happens to a relay: to its socket, and in its channel.
+#[derive(Clone, Copy)]
+enum Event {
+    Got(&'static [u8]),
+    End,
+    Writable,
+    Failed,
+    /// So many bytes of those that wait for the socket are taken.
+    Took(usize),
+    /// The socket is made, or couldn't be.
+    Made(bool),
+    /// The OPEN is confirmed with this window.
+    Confirmed(u32),
+    Refused(u32),
+    Room(u32),
+    Data(&'static [u8]),
+    Eof,
+    Closed,
+    Request(bool),
+}
+
+/// What happens, and what is said, ordered and taken by that: a `|` before what each event leads to.
+type Row = (&'static [Event], &'static [u8]);
+
+const STREAM: u64 = 0x8000_0000_0000_0001;
+
+/// A socket that was joined for a channel to `db`, port 5432.
+const JOINED: [Row; 8] = [
+    // The server takes three bytes, and then two.
+    (
+        &[Confirmed(3), Got(b"hello"), Room(2), Data(b"ok"), Took(2)],
+        b"open db 5432;||data hel;pause;|data lo;resume;||took ok;adjust 2;",
+    ),
+    // The socket ends first.
+    (
+        &[
+            Confirmed(100),
+            Got(b"hello"),
+            End,
+            Data(b"ok"),
+            Took(2),
+            Eof,
+            Closed,
+        ],
+        b"open db 5432;||data hello;|eof;||took ok;adjust 2;|close;finish;|shut;",
+    ),
+    // The server ends first, while bytes wait.
+    (
+        &[
+            Confirmed(100),
+            Data(b"ok"),
+            Eof,
+            Took(1),
+            Took(1),
+            Got(b"bye"),
+            End,
+            Closed,
+        ],
+        b"open db 5432;||||took o;adjust 1;|took k;adjust 1;finish;|data bye;|eof;close;|shut;",
+    ),
+    // The end waits for what is held.
+    (
+        &[Got(b"hello"), End, Confirmed(4), Room(4)],
+        b"open db 5432;|pause;||data hell;|data o;eof;resume;",
+    ),
+    // The OPEN is refused.
+    (&[Refused(2)], b"open db 5432;|shut;"),
+    // The socket fails before the OPEN is answered, and behind it.
+    (
+        &[Failed, Confirmed(100), Closed],
+        b"open db 5432;|shut;|close;|",
+    ),
+    (
+        &[Confirmed(100), Data(b"ok"), Failed, Closed],
+        b"open db 5432;|||close;shut;|",
+    ),
+    // A request that wants a reply gets none but a failure; the server closes while bytes wait.
+    (
+        &[
+            Confirmed(100),
+            Request(true),
+            Request(false),
+            Data(b"ok"),
+            Closed,
+            Took(2),
+        ],
+        b"open db 5432;||failure;|||close;|took ok;shut;",
+    ),
+];
+
+/// An OPEN of the server.
+const OFFERED: [Row; 3] = [
+    (
+        &[Made(true), Writable, Got(b"hi"), Data(b"ok"), Took(2)],
+        b"||confirmation;|data hi;||took ok;adjust 2;",
+    ),
+    (&[Made(true), Failed], b"||open failure;shut;"),
+    (&[Made(false)], b"|open failure;"),
+];
+
+/// A socket that was joined for a dynamic forwarding: it begins with a dialog.
+const DIALED: [Row; 10] = [
+    // SOCKS 5 in pieces, with bytes behind the request in its piece.
+    (
+        &[
+            Got(b"\x05"),
+            Got(b"\x01\x00"),
+            Took(2),
+            Got(b"\x05\x01\x00\x03\x02db\x15"),
+            Got(b"\x38hello"),
+            Confirmed(100),
+            Took(9),
+            Data(b"ok"),
+            Took(3),
+        ],
+        b"|||took \x05\x00;||open db 5432;pause;|data hello;resume;|took \x05\x00\x00\x01\x00\x00\x00\x00\x00;||took \x00ok;adjust 2;",
+    ),
+    // SOCKS 5 all at once, refused: the rest isn't said, and the socket is closed behind the reply.
+    (
+        &[
+            Got(b"\x05\x01\x00\x05\x01\x00\x03\x02db\x15\x38hello"),
+            Refused(1),
+            Took(12),
+        ],
+        b"|open db 5432;pause;||took \x05\x00\x05\x02\x00\x01\x00\x00\x00\x00\x00\x00;shut;",
+    ),
+    (
+        &[
+            Got(b"\x05\x01\x00\x05\x01\x00\x01\x0a\x00\x00\x05\x00\x50"),
+            Refused(2),
+            Took(12),
+        ],
+        b"|open 10.0.0.5 80;||took \x05\x00\x05\x01\x00\x01\x00\x00\x00\x00\x00\x00;shut;",
+    ),
+    // SOCKS 4, with bytes behind it.
+    (
+        &[
+            Got(b"\x04\x01\x00\x50\x0a\x00\x00\x05\x00GET"),
+            Confirmed(100),
+            Took(8),
+        ],
+        b"|open 10.0.0.5 80;pause;|data GET;resume;|took \x00\x5a\x00\x00\x00\x00\x00\x00;",
+    ),
+    // SOCKS 4a, refused.
+    (
+        &[
+            Got(b"\x04\x01\x15\x38\x00\x00\x00\xffann\x00db\x00"),
+            Refused(1),
+            Took(8),
+        ],
+        b"|open db 5432;||took \x00\x5b\x00\x00\x00\x00\x00\x00;shut;",
+    ),
+    // A dialog that breaks: its reply first, and then the end; or the end at once.
+    (&[Got(b"\x05\x01\x02"), Took(2)], b"||took \x05\xff;shut;"),
+    (&[Got(b"GET / HTTP/1.1")], b"|shut;"),
+    // An end within a dialog.
+    (
+        &[Got(b"\x05\x01\x00"), End, Took(2)],
+        b"|||took \x05\x00;shut;",
+    ),
+    // An end behind the request.
+    (
+        &[
+            Got(b"\x04\x01\x00\x50\x0a\x00\x00\x05\x00GET"),
+            End,
+            Confirmed(100),
+        ],
+        b"|open 10.0.0.5 80;pause;||data GET;eof;resume;",
+    ),
+    // A socket that fails within a dialog.
+    (&[Got(b"\x05\x01\x00"), Failed], b"||shut;"),
+];
+
+/// A dialog that asks for a channel where none is free.
+const CROWDED: [Row; 1] = [(
+    &[Got(b"\x04\x01\x00\x50\x0a\x00\x00\x05\x00GET")],
+    b"|shut;",
+)];
+
+/// A relay, its stream, and what it said, ordered and took.
+#[derive(Drop)]
+struct Bench {
+    alloc: Global,
+    relay: Relay,
+    stream: OwnStream,
+    seen: Text,
+}
+
+impl Bench {
+    fn new(alloc: Global, relay: Relay) -> Bench {
+        Bench {
+            alloc,
+            relay,
+            stream: OwnStream::new(STREAM),
+            seen: Text::new(alloc),
+        }
+    }
+
+    fn word(&mut self, word: &[u8], value: &[u8]) -> Result<(), OutOfMemory> {
+        self.seen.add(word)?;
+        if !value.is_empty() {
+            self.seen.add(b" ")?;
+            self.seen.add(value)?;
+        }
+        self.seen.add(b";")
+    }
+
+    fn number(&mut self, word: &[u8], n: u32) -> Result<(), OutOfMemory> {
+        let digits = format!(in self.alloc; "{n}")?;
+        self.word(word, digits.as_bytes())
+    }
+
+    /// Notes what it says.
+    fn note_saying(&mut self, saying: Saying) -> Result<(), OutOfMemory> {
+        match saying {
+            Saying::Open => self.note_open(),
+            Saying::Confirmation => self.word(b"confirmation", b""),
+            Saying::OpenFailure => self.word(b"open failure", b""),
+            Saying::Close => self.word(b"close", b""),
+            Saying::Failure => self.word(b"failure", b""),
+            Saying::Eof => self.word(b"eof", b""),
+            Saying::Adjust(n) => self.number(b"adjust", n),
+            Saying::Data(n) => {
+                let held = Text::copy(self.alloc, self.relay.held.front())?;
+                let n = held.as_bytes().len().min(n as usize);
+                self.word(b"data", &held.as_bytes()[..n])
+            }
+        }
+    }
+
+    fn note_open(&mut self) -> Result<(), OutOfMemory> {
+        let mut end = Text::new(self.alloc);
+        if let house_relay::Line::Asked { host, port, .. } = &self.relay.line {
+            end.add(host.as_bytes())?;
+            let digits = format!(in self.alloc; " {port}")?;
+            end.add(digits.as_bytes())?;
+        }
+        self.word(b"open", end.as_bytes())
+    }
+
+    /// Says what it has to say next: whether there was something.
+    fn says(&mut self) -> Result<bool, OutOfMemory> {
+        match self.relay.says() {
+            Some(saying) => {
+                self.note_saying(saying)?;
+                if self.relay.says() == Some(saying) {
+                    self.relay.said(saying);
+                }
+                Ok(true)
+            }
+            None => Ok(false),
+        }
+    }
+
+    /// Does what it orders next: whether there was something.
+    fn orders(&mut self) -> Result<bool, OutOfMemory> {
+        if self.relay.stream() != Some(self.stream.number) {
+            return Ok(false);
+        }
+        let Some(order) = self.relay.orders(&self.stream) else {
+            return Ok(false);
+        };
+        match order {
+            Order::Pause(_) => {
+                self.stream.paused = true;
+                self.word(b"pause", b"")?;
+            }
+            Order::Resume(_) => {
+                self.stream.paused = false;
+                self.word(b"resume", b"")?;
+            }
+            Order::Finish(_) => {
+                self.stream.finished = true;
+                self.word(b"finish", b"")?;
+            }
+            Order::Close(_) => {
+                self.relay.closed();
+                self.word(b"shut", b"")?;
+            }
+            Order::Listen { .. } | Order::Connect { .. } | Order::Unlisten(_) => {
+                self.word(b"no order of a relay", b"")?;
+            }
+        }
+        Ok(true)
+    }
+
+    /// All that it says and orders, until it is at rest.
+    fn settle(&mut self) -> Result<(), OutOfMemory> {
+        for _ in 0..100 {
+            if !self.says()? && !self.orders()? {
+                return Ok(());
+            }
+        }
+        self.word(b"no rest", b"")
+    }
+
+    fn takes(&mut self, n: usize) -> Result<(), OutOfMemory> {
+        let waiting = Text::copy(self.alloc, self.relay.queue.front())?;
+        let n = n.min(waiting.as_bytes().len());
+        self.word(b"took", &waiting.as_bytes()[..n])?;
+        if n <= self.relay.queue.len() {
+            self.relay.took(n);
+        }
+        Ok(())
+    }
+
+    fn happens(&mut self, event: Event, free: bool) -> Result<(), OutOfMemory> {
+        match event {
+            Got(bytes) => self.relay.got(self.alloc, bytes, free)?,
+            End => self.relay.ends(),
+            Writable => self.relay.writable(),
+            Failed => self.relay.failed(),
+            Took(n) => self.takes(n)?,
+            Made(is) => self.relay.made(if is { Some(STREAM) } else { None }),
+            Confirmed(window) => self.relay.confirmed(5, window, 32_768)?,
+            Refused(reason) => self.relay.refused(reason)?,
+            Room(n) => self.relay.hears_room(n),
+            Data(bytes) => {
+                self.relay.hears_data(bytes)?;
+            }
+            Eof => self.relay.hears_eof(),
+            Closed => self.relay.hears_close(),
+            Request(want) => self.relay.hears_request(want),
+        }
+        Ok(())
+    }
+}
+
+/// Plays a row over a relay.
+fn play(
+    rt: &impl Abort,
+    alloc: Global,
+    relay: Relay,
+    free: bool,
+    row: &Row,
+) -> Result<(), OutOfMemory> {
+    let mut bench = Bench::new(alloc, relay);
+    bench.settle()?;
+    for event in row.0 {
+        bench.seen.add(b"|")?;
+        bench.happens(*event, free)?;
+        bench.settle()?;
+    }
+    assert_eq!(rt; bench.seen.as_bytes(), row.1);
+    Ok(())
+}
+
+#[test]
+fn sockets_that_were_joined(rt: HostRuntime) -> Result<(), Fail> {
+    for row in JOINED.iter() {
+        let host = Text::copy(rt.alloc(), b"db")?;
+        let relay = Relay::joined(rt.alloc(), 0, STREAM, host, 5432);
+        play(&rt, rt.alloc(), relay, true, row)?;
+    }
+    Ok(())
+}
+
+#[test]
+fn opens_of_the_server(rt: HostRuntime) -> Result<(), Fail> {
+    for row in OFFERED.iter() {
+        let relay = Relay::offered(rt.alloc(), 0, 9, 100, 32_768);
+        play(&rt, rt.alloc(), relay, true, row)?;
+    }
+    Ok(())
+}
+
+#[test]
+fn dialogs_in_front_of_a_relay(rt: HostRuntime) -> Result<(), Fail> {
+    for row in DIALED.iter() {
+        play(
+            &rt,
+            rt.alloc(),
+            Relay::dynamic(rt.alloc(), 0, STREAM),
+            true,
+            row,
+        )?;
+    }
+    for row in CROWDED.iter() {
+        play(
+            &rt,
+            rt.alloc(),
+            Relay::dynamic(rt.alloc(), 0, STREAM),
+            false,
+            row,
+        )?;
+    }
+    Ok(())
+}

@@ -1,0 +1,260 @@
+//! The channel's side of a relay.
+ghost use Rattle.std.specs.Prelude.{◌≡◌, ◌≤◌, ◌<◌, ◌+◌, ◌-◌, ◌^◌};
+ghost use Rattle.house_relay.specs.Line.{counts, has_no_more, hears_end, fresh_live, takes, closes, answers, sends, ends, grants, hears_room, hears_eof, hears_close, hears_request, takes_more, takes_in, owed_in};
+ghost use Rattle.house_relay.specs.Relay.{stuck_in};
+
+use socks_dialog::Dialog;
+use ssh_fields::Text;
+
+/// A channel that is confirmed and hasn't ended.
+#[derive(Clone, Copy, Debug)]
+pub struct Live {
+    /// The server's number.
+    pub remote: u32,
+    /// How many bytes of data the server takes for now.
+    pub room: u32,
+    /// The longest data that it takes in one message.
+    pub maximum: u32,
+    pub eof_said: bool,
+    pub eof_heard: bool,
+    pub close_said: bool,
+    pub close_heard: bool,
+    /// Channel requests of the server that want a reply and have none.
+    pub failures: u32,
+    /// Bytes that the socket took and that weren't given back to the window.
+    pub owed: u64,
+    /// How many of the bytes that wait for the socket are replies to its dialog.
+    pub replies: usize,
+}
+
+/// How a channel stands.
+#[derive(Drop)]
+pub enum Line {
+    /// A dialog is read, which says to which end the OPEN is.
+    Dialing(Dialog),
+    /// The OPEN to this end is to be said.
+    Asked {
+        host: Text,
+        port: u32,
+        /// The version of the dialog that waits for the answer, if one does.
+        version: Option<u8>,
+    },
+    /// The OPEN is said and unanswered.
+    Opened {
+        /// The version of the dialog that waits for the answer, if one does.
+        version: Option<u8>,
+    },
+    /// The server's OPEN is unanswered, with its number, its window and its maximum.
+    Offered {
+        remote: u32,
+        window: u32,
+        maximum: u32,
+    },
+    /// Both sides may speak.
+    Live(Live),
+    /// It has ended.
+    Over,
+}
+
+impl Line {
+    /// Whether it counts as a channel.
+    pub fn counts(&self) -> bool
+        ensures { result ≡ counts self.now }
+    {
+        match self {
+            Line::Dialing(_) | Line::Over => false,
+            Line::Asked { .. } | Line::Opened { .. } | Line::Offered { .. } | Line::Live(_) => true,
+        }
+    }
+
+    /// Whether nothing more comes of it, where the socket has given its end or not.
+    pub fn has_no_more(&self, ended: bool) -> bool
+        ensures { result ≡ has_no_more ended self.now }
+    {
+        match self {
+            Line::Dialing(_) => ended,
+            Line::Over => true,
+            Line::Asked { .. } | Line::Opened { .. } | Line::Offered { .. } | Line::Live(_) =>
+                false,
+        }
+    }
+
+    /// Whether the server's EOF came.
+    pub fn is_ended(&self) -> bool
+        ensures { result ≡ hears_end self.now }
+    {
+        match self {
+            Line::Live(live) => live.eof_heard,
+            Line::Dialing(_)
+            | Line::Asked { .. }
+            | Line::Opened { .. }
+            | Line::Offered { .. }
+            | Line::Over => false,
+        }
+    }
+
+    /// The socket took so many bytes.
+    pub fn takes_more(&mut self, n: usize)
+        ensures taken { owed_in self.old + n < 2 ^ 64 → self.new ≡ takes_in n self.old }
+        ensures stuck { stuck_in self.new ≡ stuck_in self.old }
+    {
+        if let Line::Live(live) = self {
+            *live = live.takes_more(n);
+        }
+    }
+}
+
+impl Live {
+    /// A channel as it is confirmed, while so many bytes of replies wait.
+    pub fn new(remote: u32, window: u32, maximum: u32, replies: usize) -> Live
+        ensures { result ≡ fresh_live remote window maximum replies }
+    {
+        Live {
+            remote,
+            room: window,
+            maximum,
+            eof_said: false,
+            eof_heard: false,
+            close_said: false,
+            close_heard: false,
+            failures: 0,
+            owed: 0,
+            replies,
+        }
+    }
+
+    /// How many bytes of data the server takes in one message now.
+    pub fn takes(&self) -> u32
+        ensures { result ≡ takes self.now }
+    {
+        self.room.min(self.maximum)
+    }
+
+    // ---- what is said
+
+    /// CLOSE is said.
+    pub fn closes(self) -> Line
+        ensures { result ≡ closes self }
+    {
+        if self.close_heard {
+            Line::Over
+        } else {
+            Line::Live(Live {
+                close_said: true,
+                failures: 0,
+                owed: 0,
+                ..self
+            })
+        }
+    }
+
+    /// A request is answered.
+    pub fn answers(self) -> Live
+        ensures { result ≡ answers self }
+    {
+        Live {
+            failures: self.failures.saturating_sub(1),
+            ..self
+        }
+    }
+
+    /// So many bytes of data are said.
+    pub fn sends(self, len: u32) -> Live
+        requires { len ≤ self.room }
+        ensures { result ≡ sends len self }
+    {
+        Live {
+            room: self.room - len,
+            ..self
+        }
+    }
+
+    /// EOF is said.
+    pub fn ends(self) -> Live
+        ensures { result ≡ ends self }
+    {
+        Live {
+            eof_said: true,
+            ..self
+        }
+    }
+
+    /// Room is given back for so many bytes of those that are owed.
+    pub fn grants(self, n: u32) -> Live
+        requires { n ≤ self.owed }
+        ensures { result ≡ grants n self }
+    {
+        Live {
+            owed: self.owed - u64::from(n),
+            ..self
+        }
+    }
+
+    // ---- what is heard
+
+    /// Room for so many bytes more, of which there is never too much.
+    pub fn hears_room(self, n: u32) -> Live
+        ensures { result ≡ hears_room n self }
+    {
+        match self.room.checked_add(n) {
+            Some(room) => Live { room, ..self },
+            None => self,
+        }
+    }
+
+    /// EOF is heard.
+    pub fn hears_eof(self) -> Live
+        ensures { result ≡ hears_eof self }
+    {
+        Live {
+            eof_heard: true,
+            ..self
+        }
+    }
+
+    /// CLOSE is heard.
+    pub fn hears_close(self) -> Line
+        ensures { result ≡ hears_close self }
+    {
+        if self.close_said {
+            Line::Over
+        } else {
+            Line::Live(Live {
+                close_heard: true,
+                ..self
+            })
+        }
+    }
+
+    /// A request is heard, and whether it wants a reply.
+    pub fn hears_request(self, want: bool) -> Live
+        ensures { result ≡ hears_request want self }
+    {
+        if want && !self.close_said {
+            Live {
+                failures: self.failures.saturating_add(1),
+                ..self
+            }
+        } else {
+            self
+        }
+    }
+
+    /// The socket took so many bytes: the replies first, and room is owed for those behind them.
+    pub fn takes_more(self, n: usize) -> Live
+        ensures taken { self.owed + (n - self.replies) < 2 ^ 64 → result ≡ takes_more n self }
+        ensures others { result
+            ≡ record self { owed = result.owed; replies = result.replies } }
+    {
+        if self.close_said {
+            self
+        } else {
+            let data = n.saturating_sub(self.replies);
+            Live {
+                owed: self.owed.saturating_add(data as u64),
+                replies: self.replies.saturating_sub(n),
+                ..self
+            }
+        }
+    }
+}

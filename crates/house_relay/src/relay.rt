@@ -1,0 +1,648 @@
+//! One relay: a channel and a socket.
+ghost use Rattle.std.specs.Prelude.{◌≡◌, ◌+◌, ◌≤◌, ◌<◌, ◌^◌, ◌++◌, ℕ, List, [], true, false, if◌then◌else◌, length, take, drop, min, IfSome, OnOk, IfOk, None, Some, IsTrue};
+ghost use Rattle.house_relay.specs.Acts.{Act, Reads, Ends, Takes, Fails, Confirms, Refuses, Delivers, HearsEof, HearsClose, SaysData, SaysAdjust, SaysEof, SaysClose, Other};
+ghost use Rattle.house_relay.specs.Next.{says_of, says_offered, says_live, orders_of};
+ghost use Rattle.house_relay.specs.Relay.{Stands, GoesOn, IsSaying, said_act, SilentIn, is_broken, is_finished, stream_of, delivers, IsOffered, OrdersRight, IsResting, is_stuck, stuck_in, heard_in, answered_in, MayRead, holding};
+ghost use Rattle.house_relay.specs.Line.{owed_in};
+ghost use Rattle.house_relay.specs.Steps.{said_of, made_as, connected, failing, taken_of, confirmed_in, refused_in, on_line, room_heard, eof_heard, close_heard, request_heard, data_heard, surplus_of, Dials, fresh_relay, is_gone};
+ghost use Rattle.proxy_frames.specs.Queued.{without_first};
+ghost use Rattle.socks_dialog.specs.State.{new_dialog};
+
+use crate::MAXIMUM;
+use crate::dialing::{Came, Heard, grant, hear, refuse};
+use crate::line::{Line, Live};
+use mux_outside::{Order, OwnStream};
+use proxy_frames::Queue;
+use socks_dialog::Dialog;
+use ssh_fields::{OutOfMemory, Text};
+use std::alloc::Global;
+
+/// How a socket stands.
+#[derive(Clone, Copy, Debug, PartialEq, Eq)]
+pub enum Socket {
+    /// It is to be connected, and has no number yet.
+    Unmade,
+    /// It connects.
+    Connecting(u64),
+    /// It is connected.
+    Open(u64),
+    /// It failed, and is to be closed.
+    Failed(u64),
+    /// There was no channel left for it, and it is to be closed.
+    Surplus(u64),
+    /// It is closed, or never was.
+    Closed,
+}
+
+/// What a relay says next.
+#[derive(Clone, Copy, Debug, PartialEq, Eq)]
+pub enum Saying {
+    Open,
+    Confirmation,
+    OpenFailure,
+    Close,
+    Failure,
+    /// So many of the bytes that are held.
+    Data(u32),
+    Eof,
+    /// Room for so many bytes.
+    Adjust(u32),
+}
+
+/// A channel and a socket, and what is under way between them.
+#[derive(Drop)]
+pub struct Relay {
+    /// The house's own number of the channel.
+    pub number: u32,
+    pub line: Line,
+    pub socket: Socket,
+    /// Whether the socket has given its end.
+    pub ended: bool,
+    /// Read from the socket, and not said in the channel.
+    pub held: Queue,
+    /// Heard in the channel, and not taken by the socket.
+    pub queue: Queue,
+}
+
+impl Relay {
+    /// A relay in which nothing happened yet.
+    fn begun(alloc: Global, number: u32, line: Line, socket: Socket) -> Relay
+        ensures { result ≡ fresh_relay number line socket }
+    {
+        Relay {
+            number,
+            line,
+            socket,
+            ended: false,
+            held: Queue::new(alloc),
+            queue: Queue::new(alloc),
+        }
+    }
+
+    /// A socket that was joined, and is to be a channel to this end.
+    pub fn joined(alloc: Global, number: u32, stream: u64, host: Text, port: u32) -> Relay
+        ensures stands { Stands false [] result }
+        ensures exact { result
+            ≡ fresh_relay number (Line.Asked host port None) (Socket.Open stream) }
+    {
+        Relay::begun(
+            alloc,
+            number,
+            Line::Asked {
+                host,
+                port,
+                version: None,
+            },
+            Socket::Open(stream),
+        )
+    }
+
+    /// A socket that was joined, whose client says in a dialog to which end the channel is to be.
+    pub fn dynamic(alloc: Global, number: u32, stream: u64) -> Relay
+        ensures stands { Stands true [] result }
+        ensures exact { result
+            ≡ fresh_relay number (Line.Dialing new_dialog) (Socket.Open stream) }
+    {
+        Relay::begun(
+            alloc,
+            number,
+            Line::Dialing(Dialog::new()),
+            Socket::Open(stream),
+        )
+    }
+
+    /// A socket that was joined, and for which there is no channel.
+    pub fn surplus(alloc: Global, number: u32, stream: u64) -> Relay
+        ensures stands { Stands false [] result }
+        ensures exact { result ≡ fresh_relay number Line.Over (Socket.Surplus stream) }
+    {
+        Relay::begun(alloc, number, Line::Over, Socket::Surplus(stream))
+    }
+
+    /// An OPEN of the server, for which a socket is to be connected.
+    pub fn offered(alloc: Global, number: u32, remote: u32, window: u32, maximum: u32) -> Relay
+        ensures stands { Stands false [] result }
+        ensures exact { result
+            ≡ fresh_relay number (Line.Offered remote window maximum) Socket.Unmade }
+    {
+        Relay::begun(
+            alloc,
+            number,
+            Line::Offered {
+                remote,
+                window,
+                maximum,
+            },
+            Socket::Unmade,
+        )
+    }
+
+    /// Its stream, if it has one.
+    pub fn stream(&self) -> Option<u64>
+        ensures { result ≡ stream_of self.now.socket }
+    {
+        match self.socket {
+            Socket::Connecting(stream)
+            | Socket::Open(stream)
+            | Socket::Failed(stream)
+            | Socket::Surplus(stream) => Some(stream),
+            Socket::Unmade | Socket::Closed => None,
+        }
+    }
+
+    /// Whether nothing is left of it.
+    pub fn is_gone(&self) -> bool
+        ensures { result ≡ is_gone self.now }
+    {
+        match self.socket {
+            Socket::Closed => !self.line.counts(),
+            Socket::Unmade
+            | Socket::Connecting(_)
+            | Socket::Open(_)
+            | Socket::Failed(_)
+            | Socket::Surplus(_) => false,
+        }
+    }
+
+    /// Whether its socket failed, or couldn't be made, or is closed.
+    fn is_broken(&self) -> bool
+        ensures { result ≡ is_broken self.now.socket }
+    {
+        match self.socket {
+            Socket::Failed(_) | Socket::Surplus(_) | Socket::Closed => true,
+            Socket::Unmade | Socket::Connecting(_) | Socket::Open(_) => false,
+        }
+    }
+
+    // ---- what it says
+
+    /// What it says next.
+    pub fn says(&self) -> Option<Saying>
+        ensures may { IfSome result (λ saying. IsSaying saying self.now) }
+        ensures silent { result ≡ None → SilentIn self.now.line self.now }
+        ensures exact { result ≡ says_of self.now }
+    {
+        match &self.line {
+            Line::Asked { .. } => Some(Saying::Open),
+            Line::Dialing(_) => None,
+            Line::Opened { .. } => None,
+            Line::Over => None,
+            Line::Offered { .. } => self.says_offered(),
+            Line::Live(live) => self.says_live(*live),
+        }
+    }
+
+    /// What it says to an OPEN of the server.
+    fn says_offered(&self) -> Option<Saying>
+        requires { IsOffered self.now.line }
+        ensures may { IfSome result (λ saying. IsSaying saying self.now) }
+        ensures silent { result ≡ None → is_broken self.now.socket ≡ false }
+        ensures exact { result ≡ says_offered self.now.socket }
+    {
+        match self.socket {
+            Socket::Open(_) => Some(Saying::Confirmation),
+            Socket::Failed(_) | Socket::Surplus(_) | Socket::Closed => Some(Saying::OpenFailure),
+            Socket::Unmade | Socket::Connecting(_) => None,
+        }
+    }
+
+    /// What it says in a channel that is confirmed.
+    fn says_live(&self, live: Live) -> Option<Saying>
+        requires { self.now.line ≡ Line.Live live }
+        ensures may { IfSome result (λ saying. IsSaying saying self.now) }
+        ensures silent { result ≡ None → SilentIn (Line.Live live) self.now }
+        ensures exact { result ≡ says_live self.now live }
+    {
+        if live.close_said {
+            return None;
+        }
+        if self.is_finished(live) {
+            return Some(Saying::Close);
+        }
+        if live.failures > 0 {
+            return Some(Saying::Failure);
+        }
+        if live.owed > 0 {
+            return Some(Saying::Adjust(u32::try_from(live.owed).unwrap_or(u32::MAX)));
+        }
+        let held = self.held.len();
+        if held > 0 {
+            let takes = at_most(live.takes().min(MAXIMUM), held);
+            return if takes > 0 {
+                Some(Saying::Data(takes))
+            } else {
+                None
+            };
+        }
+        if self.ended && !live.eof_said {
+            return Some(Saying::Eof);
+        }
+        None
+    }
+
+    /// Whether its channel is to be closed.
+    fn is_finished(&self, live: Live) -> bool
+        ensures { result ≡ is_finished self.now.socket self.now.queue.waiting live }
+    {
+        self.is_broken()
+            || live.close_heard
+            || (live.eof_said && live.eof_heard && self.queue.is_empty())
+    }
+
+    /// It said this.
+    pub fn said(&mut self, saying: Saying)
+        requires { IsSaying saying self.old }
+        ensures stands { GoesOn self.old self.new (said_act saying self.old) }
+        ensures exact { self.new ≡ said_of saying self.old }
+    {
+        match saying {
+            Saying::Open => self.said_open(),
+            Saying::Confirmation => self.said_confirmation(),
+            Saying::OpenFailure => self.line = Line::Over,
+            Saying::Close => self.said_close(),
+            Saying::Failure => self.said_failure(),
+            Saying::Data(count) => self.said_data(count),
+            Saying::Eof => self.said_eof(),
+            Saying::Adjust(n) => self.said_adjust(n),
+        }
+    }
+
+    fn said_open(&mut self)
+        ensures stands { IsSaying Saying.Open self.old → GoesOn self.old self.new Other }
+        ensures exact { self.new ≡ said_of Saying.Open self.old }
+    {
+        if let Line::Asked { version, .. } = self.line {
+            self.line = Line::Opened { version };
+        }
+    }
+
+    fn said_confirmation(&mut self)
+        ensures stands { IsSaying Saying.Confirmation self.old → GoesOn self.old self.new Other }
+        ensures exact { self.new ≡ said_of Saying.Confirmation self.old }
+    {
+        if let Line::Offered {
+            remote,
+            window,
+            maximum,
+        } = self.line
+        {
+            self.line = Line::Live(Live::new(remote, window, maximum, 0));
+        }
+    }
+
+    fn said_close(&mut self)
+        ensures stands { IsSaying Saying.Close self.old → GoesOn self.old self.new SaysClose }
+        ensures exact { self.new ≡ said_of Saying.Close self.old }
+    {
+        if let Line::Live(live) = self.line {
+            self.line = live.closes();
+        }
+    }
+
+    fn said_failure(&mut self)
+        ensures stands { IsSaying Saying.Failure self.old → GoesOn self.old self.new Other }
+        ensures exact { self.new ≡ said_of Saying.Failure self.old }
+    {
+        if let Line::Live(live) = &mut self.line {
+            *live = live.answers();
+        }
+    }
+
+    fn said_data(&mut self, count: u32)
+        requires { IsSaying (Saying.Data count) self.old }
+        ensures stands { GoesOn self.old self.new (SaysData (take count self.old.held.waiting)) }
+        ensures exact { self.new ≡ said_of (Saying.Data count) self.old }
+    {
+        if let Line::Live(live) = &mut self.line {
+            self.held.took(count as usize);
+            *live = live.sends(count);
+        }
+    }
+
+    fn said_eof(&mut self)
+        ensures stands { IsSaying Saying.Eof self.old → GoesOn self.old self.new SaysEof }
+        ensures exact { self.new ≡ said_of Saying.Eof self.old }
+    {
+        if let Line::Live(live) = &mut self.line {
+            *live = live.ends();
+        }
+    }
+
+    fn said_adjust(&mut self, n: u32)
+        requires { IsSaying (Saying.Adjust n) self.old }
+        ensures stands { GoesOn self.old self.new (SaysAdjust n) }
+        ensures exact { self.new ≡ said_of (Saying.Adjust n) self.old }
+    {
+        if let Line::Live(live) = &mut self.line {
+            *live = live.grants(n);
+        }
+    }
+
+    // ---- what it orders
+
+    /// What it orders next of its stream, which stands so.
+    pub fn orders(&self, stream: &OwnStream) -> Option<Order>
+        requires { stream_of self.now.socket ≡ Some stream.now.number }
+        ensures may { IfSome result (λ order. OrdersRight order self.now stream.now) }
+        ensures rests { result ≡ None → IsResting self.now stream.now }
+        ensures exact { result ≡ orders_of self.now stream.now }
+    {
+        let t = stream.number;
+        match self.socket {
+            Socket::Failed(_) | Socket::Surplus(_) => return Some(Order::Close(t)),
+            Socket::Open(_) | Socket::Connecting(_) => {}
+            Socket::Unmade | Socket::Closed => return None,
+        }
+        if self.line.has_no_more(self.ended) && self.queue.is_empty() {
+            return Some(Order::Close(t));
+        }
+        if self.line.is_ended() && self.queue.is_empty() && !stream.finished {
+            return Some(Order::Finish(t));
+        }
+        if self.is_stuck() && !stream.paused {
+            return Some(Order::Pause(t));
+        }
+        if self.held.is_empty() && stream.paused {
+            return Some(Order::Resume(t));
+        }
+        None
+    }
+
+    /// Whether bytes are held that the channel doesn't take now.
+    fn is_stuck(&self) -> bool
+        ensures { result ≡ is_stuck self.now.line self.now.held.waiting }
+    {
+        if self.held.is_empty() {
+            return false;
+        }
+        match &self.line {
+            Line::Live(live) => live.close_said || live.takes() == 0,
+            Line::Dialing(_)
+            | Line::Asked { .. }
+            | Line::Opened { .. }
+            | Line::Offered { .. }
+            | Line::Over => true,
+        }
+    }
+
+    /// Its stream was ordered to close.
+    pub fn closed(&mut self)
+        ensures stands { GoesOn self.old self.new Other }
+        ensures exact { self.new ≡ record self.old { socket = Socket.Closed } }
+    {
+        self.socket = Socket::Closed;
+    }
+
+    // ---- what comes of its socket
+
+    /// Its stream is made, or couldn't be.
+    pub fn made(&mut self, stream: Option<u64>)
+        ensures stands { GoesOn self.old self.new Other }
+        ensures exact { self.new ≡ record self.old { socket = made_as stream } }
+    {
+        self.socket = match stream {
+            Some(stream) => Socket::Connecting(stream),
+            None => Socket::Closed,
+        };
+    }
+
+    /// It gave bytes. A dialog that asks for a channel gets one where one is free.
+    pub fn got(&mut self, alloc: Global, bytes: &[u8], free: bool) -> Result<(), OutOfMemory>
+        ensures stands { OnOk result
+            (MayRead bytes.now self.old → GoesOn self.old self.new (Reads bytes.now)) }
+        ensures dials { OnOk result (Dials free bytes.now self.old self.new) }
+        ensures few { length self.new.held.waiting
+            ≤ length self.old.held.waiting + length bytes.now }
+        ensures others { OnOk result (self.new ≡ record self.old {
+          line = self.new.line;
+          socket = self.new.socket;
+          held = self.new.held;
+          queue = self.new.queue;
+        }) }
+    {
+        let count = self.dials(alloc, bytes, free)?;
+        self.held.push_bytes(&bytes[count..])
+    }
+
+    /// Its dialog, if one is read, hears the bytes first: how many of them belong to it.
+    fn dials(&mut self, alloc: Global, bytes: &[u8], free: bool) -> Result<usize, OutOfMemory>
+        ensures within { IfOk result (λ count. count ≤ length bytes.now) }
+        ensures stands { IfOk result (λ count. MayRead bytes.now self.old
+            → GoesOn self.old (holding (drop count bytes.now) self.new) (Reads bytes.now)) }
+        ensures dials { OnOk result (Dials free bytes.now self.old self.new) }
+        ensures others { self.new ≡ record self.old {
+          line = self.new.line;
+          socket = self.new.socket;
+          queue = self.new.queue;
+        } }
+    {
+        let Line::Dialing(dialog) = &mut self.line else {
+            return Ok(0);
+        };
+        let Heard { count, came } = hear(dialog, bytes, &mut self.queue)?;
+        match came {
+            Came::Nothing => {}
+            Came::Connect {
+                host,
+                port,
+                version,
+            } => {
+                let host = Text::copy(alloc, host.as_bytes())?;
+                self.asks(host, u32::from(port), version, free);
+            }
+            Came::Fault => self.line = Line::Over,
+        }
+        Ok(count)
+    }
+
+    /// Its dialog asks for a channel to this end, and one is free or not.
+    fn asks(&mut self, host: Text, port: u32, version: u8, free: bool)
+        ensures line { self.new.line
+            ≡ (if free then Line.Asked host port (Some version) else Line.Over) }
+        ensures socket { self.new.socket
+            ≡ (if free then self.old.socket else surplus_of self.old.socket) }
+        ensures others { self.new
+            ≡ record self.old { line = self.new.line; socket = self.new.socket } }
+    {
+        if free {
+            self.line = Line::Asked {
+                host,
+                port,
+                version: Some(version),
+            };
+            return;
+        }
+        self.line = Line::Over;
+        if let Some(stream) = self.stream() {
+            self.socket = Socket::Surplus(stream);
+        }
+    }
+
+    /// It gave its end.
+    pub fn ends(&mut self)
+        ensures stands { GoesOn self.old self.new Ends }
+        ensures exact { self.new ≡ record self.old { ended = true } }
+    {
+        self.ended = true;
+    }
+
+    /// It takes bytes, or is connected.
+    pub fn writable(&mut self)
+        ensures stands { GoesOn self.old self.new Other }
+        ensures exact { self.new ≡ record self.old { socket = connected self.old.socket } }
+    {
+        if let Socket::Connecting(stream) = self.socket {
+            self.socket = Socket::Open(stream);
+        }
+    }
+
+    /// It failed.
+    pub fn failed(&mut self)
+        ensures stands { GoesOn self.old self.new Fails }
+        ensures exact { self.new ≡ record self.old { socket = failing self.old.socket } }
+    {
+        if let Some(stream) = self.stream() {
+            self.socket = Socket::Failed(stream);
+        }
+    }
+
+    /// It took so many bytes of what waits.
+    pub fn took(&mut self, n: usize)
+        requires { n ≤ length self.old.queue.waiting }
+        ensures stands { owed_in self.old.line + n < 2 ^ 64
+            → GoesOn self.old self.new (Takes n) }
+        ensures exact { owed_in self.old.line + n < 2 ^ 64 → self.new ≡ taken_of n self.old }
+        ensures stuck { stuck_in self.new.line ≡ stuck_in self.old.line }
+        ensures others { self.new ≡ record self.old {
+          line = self.new.line;
+          queue = without_first n self.old.queue;
+        } }
+    {
+        self.queue.took(n);
+        self.line.takes_more(n);
+    }
+
+    // ---- what comes of its channel
+
+    /// The server confirmed its OPEN: a dialog is granted what it asked for.
+    pub fn confirmed(&mut self, remote: u32, window: u32, maximum: u32) -> Result<(), OutOfMemory>
+        ensures stands { OnOk result
+            (GoesOn self.old self.new (answered_in self.old.line Confirms)) }
+        ensures exact { OnOk result
+            (self.new ≡ confirmed_in self.old.line remote window maximum self.old) }
+        ensures held { self.new.held ≡ self.old.held }
+    {
+        let Line::Opened { version } = self.line else {
+            return Ok(());
+        };
+        grant(version, &mut self.queue)?;
+        let replies = self.queue.len();
+        self.line = Line::Live(Live::new(remote, window, maximum, replies));
+        Ok(())
+    }
+
+    /// The server refused its OPEN for this reason (RFC 4254, section 5.1): a dialog is told so.
+    pub fn refused(&mut self, reason: u32) -> Result<(), OutOfMemory>
+        ensures stands { OnOk result
+            (GoesOn self.old self.new (answered_in self.old.line (Refuses reason))) }
+        ensures exact { OnOk result (self.new ≡ refused_in self.old.line reason self.old) }
+        ensures held { self.new.held ≡ self.old.held }
+    {
+        let Line::Opened { version } = self.line else {
+            return Ok(());
+        };
+        refuse(version, reason, &mut self.queue)?;
+        self.line = Line::Over;
+        Ok(())
+    }
+
+    /// Room for more bytes in the channel.
+    pub fn hears_room(&mut self, n: u32)
+        ensures stands { GoesOn self.old self.new Other }
+        ensures exact { self.new ≡ on_line (room_heard n) self.old }
+    {
+        if let Line::Live(live) = &mut self.line {
+            *live = live.hears_room(n);
+        }
+    }
+
+    /// Whether data that comes in the channel is for the socket: it is confirmed, its end wasn't
+    /// heard, and there is a socket.
+    fn delivers(&self) -> bool
+        ensures { result ≡ delivers self.now }
+    {
+        match &self.line {
+            Line::Live(live) => !live.eof_heard && self.stream().is_some(),
+            Line::Dialing(_)
+            | Line::Asked { .. }
+            | Line::Opened { .. }
+            | Line::Offered { .. }
+            | Line::Over => false,
+        }
+    }
+
+    /// Data in the channel; whether it is delivered to the socket.
+    pub fn hears_data(&mut self, bytes: &[u8]) -> Result<bool, OutOfMemory>
+        ensures stands { IfOk result (λ is. GoesOn self.old self.new
+            (if is then Delivers bytes.now else Other)) }
+        ensures exact { IfOk result (λ is. is ≡ delivers self.old) }
+        ensures queue { IfOk result (λ is. self.new ≡ data_heard is bytes.now self.old) }
+        ensures held { self.new.held ≡ self.old.held }
+    {
+        if self.delivers() {
+            self.queue.push_bytes(bytes)?;
+            return Ok(true);
+        }
+        Ok(false)
+    }
+
+    /// The server ends its data.
+    pub fn hears_eof(&mut self)
+        ensures stands { GoesOn self.old self.new (heard_in self.old.line HearsEof) }
+        ensures exact { self.new ≡ on_line eof_heard self.old }
+    {
+        match &mut self.line {
+            Line::Live(live) => *live = live.hears_eof(),
+            Line::Dialing(_) => {}
+            Line::Asked { .. } => {}
+            Line::Opened { .. } => {}
+            Line::Offered { .. } => {}
+            Line::Over => {}
+        }
+    }
+
+    /// The server closes the channel.
+    pub fn hears_close(&mut self)
+        ensures stands { GoesOn self.old self.new (heard_in self.old.line HearsClose) }
+        ensures exact { self.new ≡ on_line close_heard self.old }
+    {
+        match self.line {
+            Line::Live(live) => self.line = live.hears_close(),
+            Line::Dialing(_) => {}
+            Line::Asked { .. } => {}
+            Line::Opened { .. } => {}
+            Line::Offered { .. } => {}
+            Line::Over => {}
+        }
+    }
+
+    /// A channel request of the server.
+    pub fn hears_request(&mut self, want: bool)
+        ensures stands { GoesOn self.old self.new Other }
+        ensures exact { self.new ≡ on_line (request_heard want) self.old }
+    {
+        if let Line::Live(live) = &mut self.line {
+            *live = live.hears_request(want);
+        }
+    }
+}
+
+/// The lesser of both.
+fn at_most(n: u32, len: usize) -> u32
+    ensures { result ≡ min n len }
+{
+    match u32::try_from(len) {
+        Ok(len) => n.min(len),
+        Err(_) => n,
+    }
+}

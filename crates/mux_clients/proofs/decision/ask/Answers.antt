@@ -1,0 +1,20 @@
+use Rattle.std.proofs.Common.{◌≡◌, [], ◌∷◌, ◌++◌, sym, ap, subst, List, Option, Some}
+use Rattle.mux_outside.specs.House.{ask_of}
+use Rattle.mux_outside.specs.declared.house_mark.HouseMark.{HouseMark}
+use Rattle.mux_outside.specs.declared.house_mark.HouseMark.TheVariants.{HouseAsked}
+use Rattle.mux_clients.specs.Asked.{IsAskedSome}
+use Rattle.mux_clients.proofs.Heeding.{asked_not, asked_none_some, heeds_err}
+use Rattle.mux_clients.proofs.decision.ask.Goals as goal
+
+pub returns-in_err-ask-clause-heeds : goal.returns-in_err-ask-clause-heeds
+returns-in_err-ask-clause-heeds g c = heeds_err c.from_residual.result c.args.asks.now c.args.asks.now (g.H.House.told c.args.house.now) (g.H.House.told c.args.house.now) (g.H.House.known c.args.house.now) (g.H.House.known c.args.house.now) c.from_residual.ensures.0
+    (asked_none_some c.args.asks.now (g.H.House.told c.args.house.now))
+
+pub returns-in_err-reply-clause-heeds : goal.returns-in_err-reply-clause-heeds
+returns-in_err-reply-clause-heeds g c = heeds_err c.from_residual-in_err-reply.result c.args.asks.now c.args.asks.now (g.H.House.told c.args.house.now) (g.H.House.told c.ask.new.self) (g.H.House.known c.args.house.now) (g.H.House.known c.ask.new.self) c.from_residual-in_err-reply.ensures.0
+    (asked_not c.args.asks.now (g.H.House.told c.args.house.now) (g.H.House.told c.ask.new.self) [] c.in_err-reply.ensures.told)
+
+pub returns-in_err-push-clause-heeds : goal.returns-in_err-push-clause-heeds
+returns-in_err-push-clause-heeds g c = heeds_err c.from_residual-in_err-push.result c.args.asks.now c.push.new.self (g.H.House.told c.args.house.now) (g.H.House.told c.ask.new.self) (g.H.House.known c.args.house.now) (g.H.House.known c.ask.new.self) c.from_residual-in_err-push.ensures.0
+    (subst (λ (l : List HouseMark). IsAskedSome c.args.asks.now l (g.H.House.told c.args.house.now) (g.H.House.told c.ask.new.self)) (sym c.in_err-push.ensures.err)
+    (asked_not c.args.asks.now (g.H.House.told c.args.house.now) (g.H.House.told c.ask.new.self) _ c.in_ok-reply.ensures.told))

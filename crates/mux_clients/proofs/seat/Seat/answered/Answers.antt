@@ -1,0 +1,14 @@
+use Rattle.std.proofs.Common.{sym, ap, ◌∙◌, true, false}
+use Rattle.mux_clients.proofs.Answered.{answer_in, answers-none, answers-on, answers-full}
+use Rattle.mux_clients.proofs.seat.Seat.answered.Goals as goal
+
+pub returns-then-is_proxied-clause-answers : goal.returns-then-is_proxied-clause-answers
+returns-then-is_proxied-clause-answers c = answers-none c.args.id c.args.reply c.args.core.now c.args.self.now c.args.up.now (sym c.is_proxied.ensures ∙ c.if-is_proxied.true)
+
+pub returns-in-None-clause-answers : goal.returns-in-None-clause-answers
+returns-in-None-clause-answers c = answers-on c.args.id c.args.reply c.args.core.now c.args.self.now c.args.up.now c.answer_of.result (c.answer_of.ensures ∙ ap (λ b. answer_in b c.args.id c.args.reply) (sym (sym c.is_proxied.ensures ∙ c.if-is_proxied.false)))
+    c.tell_frame.new.self c.in_ok-tell_frame.ensures.queue (sym c.in_ok-tell_frame.ensures.full ∙ c.in-None.is)
+
+pub returns-in-Some-clause-answers : goal.returns-in-Some-clause-answers
+returns-in-Some-clause-answers c = answers-full c.args.id c.args.reply c.args.core.now c.args.self.now c.args.up.now c.answer_of.result (c.answer_of.ensures ∙ ap (λ b. answer_in b c.args.id c.args.reply) (sym (sym c.is_proxied.ensures ∙ c.if-is_proxied.false)))
+    c.in-Some.why c.leave.new.core c.tell_frame.new.self c.leave.new.self c.leave.new.up c.in_ok-tell_frame.ensures.queue (sym c.in_ok-tell_frame.ensures.full ∙ c.in-Some.is) c.leave.ensures.seat c.leave.ensures.told

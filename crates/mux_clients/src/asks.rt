@@ -1,0 +1,74 @@
+ghost use Rattle.std.specs.Prelude.{◌≡◌, [], ◌∷◌, ◌++◌, IfOk, OnOk, OnErr};
+ghost use Rattle.mux_outside.specs.House.{ask_of};
+
+use mux_outside::{FwdAsk, HouseMark, HouseReply, StartAsk};
+use ssh_fields::{OutOfMemory, Text};
+use std::alloc::Global;
+use std::marker::Model;
+
+/// What the house was asked, in order, each with its reply.
+#[derive(Debug, Drop)]
+pub struct Asks {
+    alloc: Global,
+    marks: Vec<HouseMark>,
+}
+
+impl Model for Asks {
+    ghost use Rattle.std.specs.Prelude.{List};
+    ghost use Rattle.mux_outside.specs.declared.house_mark.HouseMark.{HouseMark as TheMark};
+
+    ghost Value = { List TheMark };
+
+    ghost view = { λ a. a.marks.items };
+}
+
+impl Asks {
+    /// Nothing was asked.
+    pub fn new(alloc: Global) -> Asks
+        ensures { result ≡ [] }
+    {
+        Asks {
+            alloc,
+            marks: Vec::new(alloc),
+        }
+    }
+
+    // What a client asks, as it is noted.
+    pub fn copied(&self, what: &FwdAsk<'_>) -> Result<StartAsk, OutOfMemory>
+        ensures { IfOk result (λ ask. ask ≡ ask_of what.now) }
+    {
+        let listen_host = Text::copy(self.alloc, what.listen_host)?;
+        let connect_host = Text::copy(self.alloc, what.connect_host)?;
+        Ok(StartAsk {
+            kind: what.kind,
+            listen_host,
+            listen_port: what.listen_port,
+            connect_host,
+            connect_port: what.connect_port,
+            path: false,
+        })
+    }
+
+    /// Adds an ask with its reply. An `Err` changes nothing.
+    pub fn push(&mut self, mark: HouseMark) -> Result<(), OutOfMemory>
+        ensures ok { OnOk result (self.new ≡ self.old ++ mark ∷ []) }
+        ensures err { OnErr result (self.new ≡ self.old) }
+    {
+        self.marks.push(mark)?;
+        Ok(())
+    }
+
+    /// All of them.
+    pub fn as_slice(&self) -> &[HouseMark]
+        ensures { result.now ≡ self.now }
+    {
+        self.marks.as_slice()
+    }
+
+    /// Forgets them.
+    pub fn clear(&mut self)
+        ensures { self.new ≡ [] }
+    {
+        self.marks.clear();
+    }
+}

@@ -1,0 +1,122 @@
+-- A whole run, behind its turns and what is offered at its end.
+use Rattle.std.proofs.Common.{◌≡◌, ◌≢◌, ◌≤◌, ◌+◌, ℕ, Bool, true, false, List, [], ◌∷◌, Option, Some, None, refl, sym, ap, ◌∙◌, subst, ◌||◌, arith}
+use Rattle.std.specs.Prelude.{Result, Ok, Err, IsErr}
+use Rattle.std.specs.Result.{result_unwrap_or}
+use Rattle.mux_outside.specs.House.{Known, nothing_known}
+use Rattle.mux_outside.specs.OwnStreams.{is_one, is_own, numbers_of}
+use Rattle.mux_outside.specs.Seen.{Calls, Seen}
+use Rattle.mux_outside.specs.Streams.{among}
+use Rattle.mux_outside.specs.declared.house.HouseReply.{HouseReply}
+use Rattle.mux_outside.specs.declared.house_mark.HouseMark.{HouseMark}
+use Rattle.mux_outside.specs.declared.mark.Mark.{Mark}
+use Rattle.mux_history.specs.declared.ended.Ended.{Ended}
+use Rattle.mux_history.specs.declared.ended.Ended.TheVariants as ended
+use Rattle.mux_history.specs.declared.limits.TheConstants.{HOUSE}
+use Rattle.mux_history.specs.Policy.{Policy}
+use Rattle.mux_history.specs.Promises.{turns_in}
+use Rattle.mux_machine.specs.State.{State}
+use Rattle.mux_engine.specs.Counted.{Spent, Stops, Well}
+use Rattle.mux_engine.specs.Rests.{IsAlone, IsByRow, ended_as, refused_if}
+use Rattle.mux_engine.specs.Run.{IsRun}
+use Rattle.mux_engine.specs.Serving.{Promised, Serving, StaysOrFails}
+use Rattle.mux_engine.specs.Sides.{Housed, Resting, Side}
+use Rattle.mux_engine.proofs.Arms.{le-of}
+use Rattle.mux_engine.proofs.Counting.{later-on, none-more, rose-behind, stays-by-row}
+use Rattle.mux_engine.proofs.Ending.{ends-so, ends-spent, ends-unspent, fails-on, refused-none, refused-same}
+use Rattle.mux_engine.proofs.Lists.{test-other, true-false}
+use Rattle.mux_engine.proofs.Runs.{ends-run, ends-starved, promised-more}
+use Rattle.mux_engine.proofs.Spending.{spent-then, stops-spent}
+
+-- ---- the answer
+
+-- the answer with a house that is present just so
+pub answer-is : (answer : Ended) (o : Option Ended) (p q must : Bool) (refused : Option ℕ) → p ≡ q → answer ≡ ended_as o (refused_if p must refused) → answer ≡ ended_as o (refused_if q must refused)
+answer-is answer o p q must refused e is = is ∙ ap (λ b. ended_as o (refused_if b must refused)) e
+
+-- what was refused when the turns were over, with a house that is not asked behind them
+pub over-still : {T : Type 0} (present must : T → Bool) (refused : T → Option ℕ) (h h' : T) (p : Bool) → h' ≡ h → present h ≡ p → refused_if (present h) (must h) (refused h) ≢ None → refused_if p (must h') (refused h') ≢ None
+over-still present must refused h h' p e f some none = some (refused-same (present h) p (must h) (must h') (refused h) (refused h') f (ap must (sym e)) (ap refused (sym e)) ∙ none)
+
+given-all : (all : Bool) (given turns : ℕ) (mid : Option Ended) (r : Option ℕ) → (all ≡ true → given ≡ turns) → (all ≡ false → mid ≡ None → r ≢ None) → mid ≡ None → r ≡ None → given ≡ turns
+given-all true given turns mid r every over on none = every refl
+given-all false given turns mid r every over on none = absurd (over refl on none)
+
+abbrev refused-index : Ended → ℕ
+refused-index (ended.StartRefused index) = index
+refused-index e = 0
+
+refused-as : (o : Option Ended) (r : Option ℕ) (index : ℕ) → ended_as o r ≡ ended.StartRefused index → o ≢ Some (ended.StartRefused index) → r ≡ Some index
+refused-as (Some cause) r index e allowed = absurd (allowed (ap (λ (c : Ended). Some c) e))
+refused-as None (Some i) index e allowed = ap (λ (c : Ended). Some (refused-index c)) e
+refused-as None None index e allowed = absurd (let z : ended.Spent ≡ ended.StartRefused index = e in cc)
+
+-- a run that ended since a forwarding was refused
+pub refused-whole : (answer : Ended) (mid new : Option Ended) (m n : ℕ) (r : Option ℕ) (index : ℕ) → IsByRow mid → StaysOrFails mid new m n → answer ≡ ended_as new r → answer ≡ ended.StartRefused index → r ≡ Some index
+refused-whole answer mid new m n r index row stays is e = refused-as new r index (sym is ∙ e) ((stays-by-row mid new m n stays row).permitted index)
+
+-- ---- what is promised
+
+-- no stream but that of the house
+only-house : (t : ℕ) → is_own t ≡ false → among t (HOUSE ∷ []) ≡ false
+only-house t other = ap (λ b. b || false) (test-other HOUSE t (λ q. true-false (ap is_own q ∙ other)))
+
+module _ {May : HouseReply → Type 0} {Rest : Resting} {before : Option (List HouseMark)} {policy : Policy} {pid : ℕ} {start : Option (List Mark)} where
+  -- no stream is held back yet, and none failed
+  pub none-held : {now : Side} {seen : Seen} {given : ℕ} {todo : List ℕ} {s : State} (held failed : List ℕ) → held ≡ [] → failed ≡ [] → Serving May Rest before now policy pid start seen [] [] given todo s → Serving May Rest before now policy pid start seen held failed given todo s
+  none-held {now} {seen} {given} {todo} {s} held failed e f v = subst (λ (l : List ℕ). Serving May Rest before now policy pid start seen l failed given todo s) (sym e) (subst (λ (l : List ℕ). Serving May Rest before now policy pid start seen [] l given todo s) (sym f) v)
+
+  pub none-given : {now : Side} {seen : Seen} {held failed : List ℕ} {given : ℕ} {todo : List ℕ} {s : State} (v : Serving May Rest before now policy pid start seen held failed given todo s) → v.journal ≡ [] → given ≡ 0
+  none-given v z = sym v.turns ∙ ap turns_in z
+
+  -- a run that went to its end
+  pub ran-whole : {now : Side} {seen : Seen} {held failed : List ℕ} {s : State} (turns given : ℕ) (all : Bool) (mid : Option Ended) (m n : ℕ) (refused : Option ℕ) (answer : Ended)
+      → Serving May Rest before now policy pid start seen held failed (given + 0) (HOUSE ∷ []) s → now.unnoted ≡ []
+      → given ≤ turns → (all ≡ true → given ≡ turns) → StaysOrFails mid s.ended m n → (all ≡ false → mid ≡ None → refused ≢ None) → answer ≡ ended_as s.ended refused
+      → IsRun May Rest.rests Rest.present policy pid turns before now.told start seen.told refused answer
+  ran-whole {now} {seen} {held} {failed} {s} turns given all mid m n refused answer v noted le every stays over is =
+      subst (λ (a : Ended). IsRun May Rest.rests Rest.present policy pid turns before now.told start seen.told refused a) (sym is)
+      (ends-run May Rest before policy pid turns start refused now seen held failed (given + 0) (HOUSE ∷ []) s (ended_as s.ended refused) v noted only-house (none-more given turns le)
+      (ends-so turns v.journal s.ended refused (λ on none. v.turns ∙ let g : given ≡ turns = given-all all given turns mid refused every over (fails-on mid s.ended m n stays on) none in (omega (arith, g)))))
+
+  -- one that want of memory cut short
+  pub ran-starved : {E : Type 0} {now : Option (List HouseMark)} {told : Option (List Mark)} {refused : Option ℕ} (turns given : ℕ) (r : Result Ended E) → IsErr r → given ≤ turns → Promised May Rest before now policy pid start told given → IsRun May Rest.rests Rest.present policy pid turns before now start told refused (result_unwrap_or r ended.OutOfMemory)
+  ran-starved turns given (Ok x) h le p = absurd (let z : false ≡ true = h in cc)
+  ran-starved {E} {now} {told} {refused} turns given (Err e) h le p = ends-starved May Rest before policy pid turns start refused now told (promised-more given turns le p)
+
+-- ---- what is counted
+
+-- behind calls that left the counts as they were
+pub spent-from : (present all : Bool) (turns : ℕ) (a b c : Calls) → b ≡ a → Spent present all turns b c → Spent present all turns a c
+spent-from present all turns a b c e s = subst (λ (x : Calls). Spent present all turns x c) e s
+
+pub stops-whole : (present all must : Bool) (turns : ℕ) (answer : Ended) (a b c d : Calls) (mid new : Option Ended) (m n : ℕ) (refused : Option ℕ)
+    → b ≡ a → Spent present all turns b c → Well 0 c d → StaysOrFails mid new m n → IsByRow mid → (all ≡ false → mid ≡ None → refused_if present must refused ≢ None) → (present ≡ false → turns ≡ 0 → new ≡ None) → answer ≡ ended_as new (refused_if present must refused)
+    → Stops present turns answer a d
+stops-whole present all must turns answer a b c d mid new m n refused same spent well stays row over idle is =
+    stops-spent present all turns answer a d (spent-then present all turns a c d (spent-from present all turns a b c same spent) well)
+    (λ p q e. ends-unspent mid new m n (refused_if present must refused) stays (λ on. over q on (refused-none present must refused p)) row.unspent (sym is ∙ e))
+    (λ p z. is ∙ ends-spent new (refused_if present must refused) (idle p z) (refused-none present must refused p))
+
+-- ---- the start
+
+-- a house that knows of nothing, at a wire that has but the server's stream
+pub housed-blank : (known : Known) (seen : Seen) → known ≡ nothing_known known.present → seen.streams ≡ 0 ∷ [] → seen.own ≡ [] → seen.listeners ≡ [] → Housed known seen []
+housed-blank known seen blank streams own listeners = record {
+  ordering = ap (λ (k : Known). k.ordering) blank;
+  listeners = ap (λ (k : Known). k.listeners) blank ∙ sym listeners;
+  streams = ap (λ (k : Known). k.streams) blank ∙ sym own;
+  own_is = ap numbers_of (sym own);
+  places = record {
+    opened = λ t one. true-false (sym one ∙ ap (is_one t) own);
+    numbered = λ t one. true-false (sym one ∙ ap (is_one t) own);
+    listed = λ t one of_own. server t (sym (ap (among t) streams) ∙ one) of_own;
+    given = λ t one. true-false (sym one ∙ ap (is_one t) own);
+    listening = λ l one. true-false (sym one ∙ ap (among l) listeners);
+  };
+}
+  where
+    server : {A : Type 0} (t : ℕ) → among t (0 ∷ []) ≡ true → is_own t ≡ true → A
+    server t one of_own = true-false (sym one ∙ ap (λ b. b || false) (test-other 0 t (λ q. true-false (sym of_own ∙ ap is_own (sym q)))))
+
+pub alone-blank : (known : Known) → known ≡ nothing_known known.present → IsAlone known
+alone-blank known blank = record { listeners = λ p. ap (λ (k : Known). k.listeners) blank; streams = λ p. ap (λ (k : Known). k.streams) blank }

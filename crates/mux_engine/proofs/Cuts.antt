@@ -1,0 +1,129 @@
+-- What is left for want of memory.
+use Rattle.std.proofs.Common.{◌≡◌, ◌≤◌, ℕ, false, List, [], ◌∷◌, ◌++◌, length, Option, refl, sym, ap, ◌∙◌, subst, inl, inr, arith, append_assoc, append-nil}
+use Rattle.std.specs.Prelude.{All, IsTrue}
+use Rattle.std.specs.Option.{option_map}
+use Rattle.std.proofs.lemmas.List.Elements.{All-cons, filter-append}
+use Rattle.mux_outside.specs.House.{OpenAsk}
+use Rattle.mux_outside.specs.Seen.{Seen}
+use Rattle.mux_outside.specs.declared.house.HouseReply.{HouseReply}
+use Rattle.mux_outside.specs.declared.house_mark.HouseMark.{HouseMark}
+use Rattle.mux_outside.specs.declared.mark.Mark.{Mark}
+use Rattle.mux_history.specs.Policy.{Policy}
+use Rattle.mux_history.specs.Rows.{Row}
+use Rattle.mux_history.specs.Log.{Setting}
+use Rattle.mux_history.specs.Settings.{by_lists}
+use Rattle.mux_history.specs.Journal.{is_accepted, log_of_journal}
+use Rattle.mux_history.specs.Promises.{is_asked, turns_in}
+use Rattle.mux_history.specs.Wires.{OfWire}
+use Rattle.mux_bounds.specs.Bounds.{IsLog}
+use Rattle.mux_clients.specs.Asked.{TellsAsks}
+use Rattle.mux_machine.specs.State.{State}
+use Rattle.mux_machine.specs.Stands.{RowsFit}
+use Rattle.mux_engine.specs.Run.{IsOfWire, RestedAt, is_by_house}
+use Rattle.mux_engine.specs.Serving.{IsLeft, Kept, Promised, Serving}
+use Rattle.mux_engine.specs.Sides.{Resting, Side, asks_in, house_mark, house_marks}
+use Rattle.mux_engine.proofs.Marks.{PromiseAt, kept-more, log-is, noted-more}
+use Rattle.mux_engine.proofs.Told.{tells-more, tells-none, tells-then}
+
+pub of-streams : (streams blocked : List ℕ) (last : ℕ) (journal : List Mark) → OfWire streams blocked last journal → IsOfWire journal
+of-streams streams blocked last journal of = record { lawful = of.lawful; asked = of.asked }
+
+pub rows-left : (setting : Setting) (journal : List Mark) (taken : ℕ) (drawn : List HouseMark) (s : State) (closed : List ℕ) (rows : List Row) → Kept setting journal → IsLog setting journal rows → RowsFit taken drawn s closed rows → IsLeft setting journal taken drawn
+rows-left setting journal taken drawn s closed rows k l fit = record { kept = k; rows = rows; is_log = l; fresh = fit.fresh; taken_is = fit.taken_is; given_is = fit.drawn_is; asked_is = fit.asked_is }
+
+-- the asks of the house's marks with some more
+pub asks-left : (old more : List HouseMark) (asks : List HouseMark) → asks_in old ≡ asks → asks_in (old ++ more) ≡ asks ++ asks_in more
+asks-left old more asks e = filter-append is_asked old more ∙ ap (λ l. l ++ asks_in more) e
+
+-- the rows before the mark are left, whatever the house told at the mark
+unfoldable pub cut-next : {May : HouseReply → Type 0} {Rest : Resting} {before : Option (List HouseMark)} {now : Side} {policy : Policy} {pid : ℕ} {start : Option (List Mark)} {seen : Seen} {held failed : List ℕ} {given : ℕ} {todo : List ℕ} {s : State} (v : Serving May Rest before now policy pid start seen held failed given todo s) (now' : Option (List HouseMark)) (told' : Option (List Mark)) (given' : ℕ) (mark : Mark) (more left : List HouseMark)
+    → told' ≡ option_map (λ m. m ++ mark ∷ []) seen.told → TellsAsks now.told now' more → house_mark mark ++ left ≡ now.unnoted ++ more → IsOfWire (mark ∷ v.journal) → turns_in (mark ∷ v.journal) ≤ given' → RestedAt Rest.rests before v.journal mark → (Rest.present ≡ false → is_by_house mark ≡ false)
+    → ((set : Setting) → IsLog set (mark ∷ v.journal) (log_of_journal set v.journal)) → ((picks : List ℕ) (later : List HouseReply) → PromiseAt (by_lists policy pid (v.picked ++ picks) (v.replies ++ later)) v.journal mark) → Promised May Rest before now' policy pid start told' given'
+cut-next {May} {Rest} {before} {now} {policy} {pid} {start} {seen} {held} {failed} {given} {todo} {s} v now' told' given' mark more left e h is of le rested absent cut promise =
+    let same : (house_marks v.journal ++ now.unnoted) ++ more ≡ (house_marks v.journal ++ house_mark mark) ++ left = noted-more (house_marks v.journal) (house_mark mark) left now.unnoted more is in
+    record {
+      journal = mark ∷ v.journal;
+      picked = v.picked;
+      replies = v.replies;
+      asks = v.stands.asks;
+      more = left;
+      more_asks = asks_in more;
+      may = v.may;
+      each = v.stands.each;
+      house = subst (TellsAsks before now') same (tells-then before now.told now' (house_marks v.journal ++ now.unnoted) more v.house h);
+      asked = ap asks_in (sym same) ∙ asks-left (house_marks v.journal ++ now.unnoted) more v.stands.asks v.asked;
+      rested = (rested, v.rested);
+      absent = λ e. All-cons (λ (m : Mark). is_by_house m ≡ false) mark v.journal (absent e) (v.absent e);
+      tells = tells-more start seen.told told' v.journal (mark ∷ []) v.tells e;
+      of_wire = of;
+      turns = le;
+      left = λ picks later.
+          let set : Setting = by_lists policy pid (v.picked ++ picks) (v.replies ++ later) in
+          let rows : List Row = log_of_journal set v.journal in
+          rows-left set (mark ∷ v.journal) (length v.picked) v.stands.asks s v.closed rows (kept-more set v.journal mark (v.sound picks later).kept (promise picks later)) (cut set)
+          (subst (RowsFit (length v.picked) v.stands.asks s v.closed) (log-is s policy pid (v.picked ++ picks) (v.replies ++ later) v.journal v.policy_is v.pid_is) (v.stands.at picks later).rows);
+    }
+
+-- all rows are left where the wire told no mark
+unfoldable pub cut-here : {May : HouseReply → Type 0} {Rest : Resting} {before : Option (List HouseMark)} {now : Side} {policy : Policy} {pid : ℕ} {start : Option (List Mark)} {seen : Seen} {held failed : List ℕ} {given : ℕ} {todo : List ℕ} {s : State} (v : Serving May Rest before now policy pid start seen held failed given todo s) (now' : Option (List HouseMark)) (told' : Option (List Mark)) (given' : ℕ) (more : List HouseMark)
+    → told' ≡ seen.told → TellsAsks now.told now' more → given ≤ given' → Promised May Rest before now' policy pid start told' given'
+cut-here {May} {Rest} {before} {now} {policy} {pid} {start} {seen} {held} {failed} {given} {todo} {s} v now' told' given' more e h le = record {
+  journal = v.journal;
+  picked = v.picked;
+  replies = v.replies;
+  asks = v.stands.asks;
+  more = now.unnoted ++ more;
+  more_asks = asks_in more;
+  may = v.may;
+  each = v.stands.each;
+  house = subst (TellsAsks before now') (append_assoc (house_marks v.journal) now.unnoted more) (tells-then before now.told now' (house_marks v.journal ++ now.unnoted) more v.house h);
+  asked = ap asks_in (sym (append_assoc (house_marks v.journal) now.unnoted more)) ∙ asks-left (house_marks v.journal ++ now.unnoted) more v.stands.asks v.asked;
+  rested = v.rested;
+  absent = v.absent;
+  tells = e ∙ v.tells;
+  of_wire = of-streams seen.streams seen.blocked seen.last v.journal v.of_wire;
+  turns = let w : turns_in v.journal ≡ given = v.turns in omega arith;
+  left = λ picks later.
+      let set : Setting = by_lists policy pid (v.picked ++ picks) (v.replies ++ later) in
+      let rows : List Row = log_of_journal set v.journal in
+      rows-left set v.journal (length v.picked) v.stands.asks s v.closed rows (v.sound picks later).kept (inl refl)
+      (subst (RowsFit (length v.picked) v.stands.asks s v.closed) (log-is s policy pid (v.picked ++ picks) (v.replies ++ later) v.journal v.policy_is v.pid_is) (v.stands.at picks later).rows);
+}
+
+-- where the house told nothing meanwhile
+pub cut-still : {May : HouseReply → Type 0} {Rest : Resting} {before : Option (List HouseMark)} {now : Side} {policy : Policy} {pid : ℕ} {start : Option (List Mark)} {seen : Seen} {held failed : List ℕ} {given : ℕ} {todo : List ℕ} {s : State} (v : Serving May Rest before now policy pid start seen held failed given todo s) (told' : Option (List Mark)) → told' ≡ seen.told → Promised May Rest before now.told policy pid start told' given
+cut-still {now = now} {given = given} v told' e = cut-here v now.told told' given [] e (tells-none now.told) (omega arith)
+
+-- what the house tells is not noted yet
+pub serve-told : {May : HouseReply → Type 0} {Rest : Resting} {before : Option (List HouseMark)} {now : Side} {policy : Policy} {pid : ℕ} {start : Option (List Mark)} {seen : Seen} {held failed : List ℕ} {given : ℕ} {todo : List ℕ} {s : State} (v : Serving May Rest before now policy pid start seen held failed given todo s) (now' : Side) (more : List HouseMark) → TellsAsks now.told now'.told more → now'.unnoted ≡ now.unnoted ++ more → asks_in more ≡ [] → now'.asks ≡ now.asks → now'.let_in ≡ now.let_in → Serving May Rest before now' policy pid start seen held failed given todo s
+serve-told {May} {Rest} {before} {now} {policy} {pid} {start} {seen} {held} {failed} {given} {todo} {s} v now' more h is none asks within =
+    let same : (house_marks v.journal ++ now.unnoted) ++ more ≡ house_marks v.journal ++ now'.unnoted = append_assoc (house_marks v.journal) now.unnoted more ∙ ap (λ l. house_marks v.journal ++ l) (sym is) in
+    record {
+      journal = v.journal;
+      closed = v.closed;
+      picked = v.picked;
+      replies = v.replies;
+      policy_is = v.policy_is;
+      pid_is = v.pid_is;
+      may = v.may;
+      stands = v.stands;
+      house = subst (TellsAsks before now'.told) same (tells-then before now.told now'.told (house_marks v.journal ++ now.unnoted) more v.house h);
+      asked = ap asks_in (sym same) ∙ (asks-left (house_marks v.journal ++ now.unnoted) more v.stands.asks v.asked ∙ (ap (λ l. v.stands.asks ++ l) none ∙ append-nil v.stands.asks));
+      askers = subst (λ (l : List OpenAsk). All (λ (a : OpenAsk). IsTrue (is_accepted a.client v.journal)) l) (sym asks) v.askers;
+      house_in = v.house_in ∙ sym within;
+      house_there = λ e. v.house_there (sym within ∙ e);
+      rested = v.rested;
+      absent = v.absent;
+      tells = v.tells;
+      of_wire = v.of_wire;
+      turns = v.turns;
+      open_are = v.open_are;
+      apart = v.apart;
+      held_is = v.held_is;
+      blocked_is = v.blocked_is;
+      unseen = v.unseen;
+      unused = v.unused;
+      failed_are = v.failed_are;
+      hears = v.hears;
+      sound = v.sound;
+    }

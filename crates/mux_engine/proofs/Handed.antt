@@ -1,0 +1,457 @@
+-- What a call of wait makes of all that holds while a wire is served, with what was taken in behind it.
+use Rattle.std.proofs.Common.{◌≡◌, ◌≤◌, ◌<◌, ◌+◌, ℕ, Bool, true, false, ◌||◌, List, [], ◌∷◌, ◌++◌, length, drop, Option, Some, None, refl, sym, ap, ◌∙◌, subst, inl, inr, ◌⊎◌, cond, arith, append_assoc, MatchResult, OnOk}
+use Rattle.std.specs.Prelude.{◌==◌, filter, IsTrue, Result, Ok, Err}
+use Rattle.std.specs.Option.{option_map}
+use Rattle.std.proofs.lemmas.Bool.Decides.{eqb_tells}
+use Rattle.std.proofs.lemmas.List.{map-append}
+use Rattle.std.proofs.lemmas.List.Folds.{list_any-append}
+use Rattle.ssh_fields.specs.Fields.{AreBytes}
+use Rattle.mux_outside.specs.House.{IsNewTo, Known, OwnTurnFits, Quiet, known_after_own_turn}
+use Rattle.mux_outside.specs.OwnStreams.{end_one, is_one, is_own, is_silent, new_stream, numbers_of, with_end}
+use Rattle.mux_outside.specs.Seen.{Seen, seen_after_turn}
+use Rattle.mux_outside.specs.Streams.{among, without}
+use Rattle.mux_outside.specs.Wire.{IsNewOwn, OwnFits, TurnFits}
+use Rattle.mux_outside.specs.declared.house.HouseReply.{HouseReply}
+use Rattle.mux_outside.specs.declared.house_mark.HouseMark.{HouseMark}
+use Rattle.mux_outside.specs.declared.house_mark.HouseMark.TheVariants.{HouseIn, HouseSaid, HouseTook, HouseAsked, HouseAnswer, HouseOrder}
+use Rattle.mux_outside.specs.declared.mark.Mark.{Mark}
+use Rattle.mux_outside.specs.declared.mark.Mark.TheVariants.{Gets, Ends, Fails, Frees, Joins}
+use Rattle.mux_outside.specs.declared.own_streams.OwnStream.{OwnStream}
+use Rattle.mux_outside.specs.declared.own_streams.TheConstants.{LAST_CLIENT}
+use Rattle.mux_outside.specs.declared.own_turn.OwnTurn.{OwnTurn}
+use Rattle.mux_outside.specs.declared.own_turn.OwnTurn.TheVariants as told
+use Rattle.mux_outside.specs.declared.piece.TheConstants.{LONGEST_PIECE}
+use Rattle.mux_outside.specs.declared.turn.Turn.{Turn}
+use Rattle.mux_outside.specs.declared.turn.Turn.TheVariants as turn
+use Rattle.mux_outside.specs.declared.turn.Want.{Want}
+use Rattle.mux_outside.specs.declared.turn.Want.TheVariants.{Read}
+use Rattle.mux_history.specs.Policy.{Policy}
+use Rattle.mux_clients.specs.Asked.{TellsAsks, known_after}
+use Rattle.mux_machine.specs.State.{State}
+use Rattle.mux_machine.specs.Events.{MayEnd, here}
+use Rattle.mux_machine.specs.declared.event.Event.{Event}
+use Rattle.mux_engine.specs.Asking.{Heeded, HeedsSo}
+use Rattle.mux_engine.specs.Owned.{waits_for}
+use Rattle.mux_engine.specs.Rests.{IsAlone, IsReady}
+use Rattle.mux_engine.specs.Serving.{Promised, Serving}
+use Rattle.mux_engine.specs.Sides.{Housed, Resting, RestsOf, SameHouse, Side, noted}
+use Rattle.mux_engine.specs.Turns.{IsEventOf, IsOwnOf, failed_heard, held_heard, own_heard, want_of}
+use Rattle.mux_engine.proofs.Cuts.{cut-here, cut-still}
+use Rattle.mux_engine.proofs.Lists.{among-last, among-other-last, or-last, true-false}
+use Rattle.mux_engine.proofs.Marks.{serve-alone, serve-on}
+use Rattle.mux_engine.proofs.OwnMarks.{test-same}
+use Rattle.mux_engine.proofs.OwnTurns.{client-frees, offered-again, own-ends, own-failed, own-frees, own-gets, own-joins}
+use Rattle.mux_engine.proofs.Told.{tells-none, told-none}
+use Rattle.mux_engine.proofs.Turned.{EventAt, event-cut, event-ends, event-goes}
+use Rattle.mux_engine.proofs.Waits.{Offered, among-one, seen-waiting, wait-mark, waited}
+use Rattle.mux_engine.proofs.WireTurns.{client-number, event-at, now-waiting, of-turn}
+
+-- ---- what holds at a wait, and what is known of its answer
+
+-- nobody leaves, the run goes on, and each stream was offered what waits for it
+pub record AtWait (Rest : Resting) (now : Side) (seen : Seen) (own held failed : List ℕ) (queue : ℕ → List ℕ) (s : State) : Type 0 where
+  pub none : s.leaving ≡ []
+  pub admitted : s.refused ≡ []
+  pub live : s.ended ≡ None
+  pub offered : Offered seen own held failed queue
+  pub hears : seen.listens ≡ s.listening
+  pub all_noted : now.unnoted ≡ []
+  pub rests : want_of s ≡ Read → Rest.rests now.told
+
+pub at-wait : {T : Type 0} (told : T → Option (List HouseMark)) (quiet : T → Quiet) (house : T) (known : Known) (seen : Seen) (own held failed : List ℕ) (queue : ℕ → List ℕ) (s : State) → Housed known seen own → IsReady known (quiet house) queue held failed own s
+    → s.leaving ≡ [] → s.refused ≡ [] → s.ended ≡ None → seen.listens ≡ s.listening → AtWait (RestsOf told quiet known.present) (noted (told house) known) seen own held failed queue s
+at-wait told quiet house known seen own held failed queue s housed ready none admitted live hears = record {
+  none = none;
+  admitted = admitted;
+  live = live;
+  offered = record { own_is = housed.own_is; opened = housed.places.opened; numbered = housed.places.numbered; offered = ready.no_more.offered };
+  hears = hears;
+  all_noted = refl;
+  rests = λ read present. (house, (ready.rests present read, refl));
+}
+
+-- the wire gave this turn
+pub record HasWaited (seen seen' : Seen) (own failed : List ℕ) (queue : ℕ → List ℕ) (s : State) (t : Turn) (bytes : List ℕ) : Type 0 where
+  pub seen_is : seen' ≡ seen_after_turn t (s.waiting ++ filter (waits_for queue failed) own) (want_of s) bytes seen
+  pub are : AreBytes bytes
+  pub fits : TurnFits t (want_of s) seen.listens seen.last seen.streams seen.blocked bytes
+  pub own_fits : OwnFits t seen.listeners seen.own seen.last_own
+
+pub has-waited : (seen seen' : Seen) (own failed : List ℕ) (queue : ℕ → List ℕ) (s : State) (t : Turn) (bytes got : List ℕ) (todo waiting : List ℕ) (want : Want) → seen' ≡ seen_after_turn t todo want bytes seen → todo ≡ waiting ++ filter (waits_for queue failed) own → waiting ≡ s.waiting → want ≡ want_of s → AreBytes got → got ≡ bytes
+    → TurnFits t want seen.listens seen.last seen.streams seen.blocked bytes → OwnFits t seen.listeners seen.own seen.last_own → HasWaited seen seen' own failed queue s t bytes
+has-waited seen seen' own failed queue s t bytes got todo waiting want after todo_is waiting_is want_is are same fits own_fits = record {
+  seen_is = after ∙ (ap (λ (l : List ℕ). seen_after_turn t l want bytes seen) (todo_is ∙ ap (λ (l : List ℕ). l ++ filter (waits_for queue failed) own) waiting_is) ∙ ap (λ (w : Want). seen_after_turn t (s.waiting ++ filter (waits_for queue failed) own) w bytes seen) want_is);
+  are = subst AreBytes same are;
+  fits = subst (λ (w : Want). TurnFits t w seen.listens seen.last seen.streams seen.blocked bytes) want_is fits;
+  own_fits = own_fits;
+}
+
+marked-twice : (a b : Mark) (told : Option (List Mark)) → option_map (λ m. m ++ (a ∷ b ∷ [])) told ≡ option_map (λ m. m ++ b ∷ []) (option_map (λ m. m ++ a ∷ []) told)
+marked-twice a b None = refl
+marked-twice a b (Some m) = ap (λ (l : List Mark). Some l) (sym (append_assoc m (a ∷ []) (b ∷ [])))
+
+drop-all : (xs : List HouseMark) → drop (length xs) xs ≡ []
+drop-all [] = refl
+drop-all (x ∷ xs) = drop-all xs
+
+-- asks change nothing else of what is known of a house
+pub after-asks : (asks : List HouseMark) (known : Known) → SameHouse known (known_after asks known)
+after-asks [] known = record { present = refl; ordering = refl; listeners = refl; streams = refl }
+after-asks (HouseAsked client id opening ask reply ∷ asks) known = let r = after-asks asks (record known { asks = _ }) in record { present = r.present; ordering = r.ordering; listeners = r.listeners; streams = r.streams }
+after-asks (HouseIn ∷ asks) known = after-asks asks known
+after-asks (HouseSaid bytes ∷ asks) known = after-asks asks known
+after-asks (HouseTook size ∷ asks) known = after-asks asks known
+after-asks (HouseAnswer client id reply ∷ asks) known = after-asks asks known
+after-asks (HouseOrder order number ∷ asks) known = after-asks asks known
+
+-- ---- an event that was told
+
+module _ {May : HouseReply → Type 0} {Rest : Resting} {before : Option (List HouseMark)} {now : Side} {policy : Policy} {pid : ℕ} {start : Option (List Mark)} {seen : Seen} {held failed : List ℕ} {given : ℕ} {s : State}
+    (v : Serving May Rest before now policy pid start seen held failed given [] s) (live : s.ended ≡ None) (e : Event) (seen' : Seen) (given' : ℕ) (at : EventAt v live e seen' given') where
+  -- it was taken in, and all asks were noted; or there was no memory for that
+  pub event-heeds : {A E : Type 0} (r : Result A E) (s' : State) (asks : List HouseMark) (told told' : Option (List HouseMark)) (known known' : Known) (seen0 seen'' : Seen) → seen0 ≡ seen' → now.told ≡ told → now.asks ≡ known.asks → now.let_in ≡ known.present
+      → Heeded r May e s s' asks told told' known known' seen0 seen'' → MatchResult r (λ x. Serving May Rest before (noted told' known') policy pid start seen'' held failed given' (0 ∷ here s') s') (λ x. Promised May Rest before told' policy pid start seen''.told given')
+  event-heeds (Ok x) s' asks told told' known known' seen0 seen'' is same_told same_asks same_present h =
+      let h' : HeedsSo May e s s' asks told told' known known' seen' seen'' (length asks) = subst (λ (y : Seen). HeedsSo May e s s' asks told told' known known' y seen'' (length asks)) is h in
+      let goes : Serving May Rest before (record { told = told'; asks = known'.asks; unnoted = drop (length asks) asks; let_in = now.let_in }) policy pid start seen'' held failed given' (0 ∷ here s') s' =
+      event-goes v live e seen' given' at s' asks told told' known known' seen'' (length asks) same_told same_asks h' in
+      let within : now.let_in ≡ known'.present = same_present ∙ sym (ap (λ (k : Known). k.present) h.known_is ∙ (after-asks asks known).present) in
+      subst (λ (b : Bool). Serving May Rest before (record { told = told'; asks = known'.asks; unnoted = []; let_in = b }) policy pid start seen'' held failed given' (0 ∷ here s') s') within
+      (subst (λ (l : List HouseMark). Serving May Rest before (record { told = told'; asks = known'.asks; unnoted = l; let_in = now.let_in }) policy pid start seen'' held failed given' (0 ∷ here s') s') (drop-all asks) goes)
+  event-heeds (Err x) s' asks told told' known known' seen0 seen'' is same_told same_asks same_present (inl u) =
+      subst (λ (y : Seen). Promised May Rest before told' policy pid start y.told given') (sym (u.seen_is ∙ is))
+      (event-cut v live e seen' given' at told' u.more (subst (λ (o : Option (List HouseMark)). TellsAsks o told' u.more) (sym same_told) u.told_is))
+  event-heeds (Err x) s' asks told told' known known' seen0 seen'' is same_told same_asks same_present (inr p) =
+      let h' : HeedsSo May e s s' asks told told' known known' seen' seen'' p.0 = subst (λ (y : Seen). HeedsSo May e s s' asks told told' known known' y seen'' p.0) is p.1 in
+      cut-still (event-goes v live e seen' given' at s' asks told told' known known' seen'' p.0 same_told same_asks h') seen''.told refl
+
+-- ---- all that holds then
+
+module _ {May : HouseReply → Type 0} {Rest : Resting} {before : Option (List HouseMark)} {now : Side} {policy : Policy} {pid : ℕ} {start : Option (List Mark)} {seen : Seen} {held failed : List ℕ} {given : ℕ} {s : State}
+    (v : Serving May Rest before now policy pid start seen held failed given [] s) {own : List ℕ} {queue : ℕ → List ℕ} (a : AtWait Rest now seen own held failed queue s) where
+  abbrev told-waiting : Serving May Rest before now policy pid start (seen-waiting v a.none a.admitted a.live a.offered) held failed (given + 1) [] s
+  told-waiting = now-waiting v a.none a.admitted a.live a.offered a.hears a.all_noted a.rests
+
+  abbrev seen-then : Turn → List ℕ → Seen
+  seen-then t bytes = seen_after_turn t (s.waiting ++ filter (waits_for queue failed) own) (want_of s) bytes seen
+
+  module _ {seen' : Seen} {t : Turn} {bytes : List ℕ} (w : HasWaited seen seen' own failed queue s t bytes) where
+    event-there : (e : Event) → IsEventOf e t bytes → EventAt (now-waiting v a.none a.admitted a.live a.offered a.hears a.all_noted a.rests) a.live e (seen-then t bytes) (given + 1)
+    event-there e next = event-at v a.none a.admitted a.live a.offered a.hears a.all_noted a.rests t bytes e w.are w.fits w.own_fits next
+
+    -- the engine took in an event
+    pub turn-heeds : {A E : Type 0} (r : Result A E) (e : Event) → IsEventOf e t bytes → (s' : State) (asks : List HouseMark) (told told' : Option (List HouseMark)) (known known' : Known) (seen'' : Seen) → now.told ≡ told → now.asks ≡ known.asks → now.let_in ≡ known.present
+        → Heeded r May e s s' asks told told' known known' seen' seen'' → MatchResult r (λ x. Serving May Rest before (noted told' known') policy pid start seen'' held failed (given + 1) (0 ∷ here s') s') (λ x. Promised May Rest before told' policy pid start seen''.told (given + 1))
+    turn-heeds r e next s' asks told told' known known' seen'' same_told same_asks same_present h =
+        event-heeds told-waiting a.live e (seen-then t bytes) (given + 1) (event-there e next) r s' asks told told' known known' seen' seen'' w.seen_is same_told same_asks same_present h
+
+    -- it may end so
+    pub turn-ends : {A E : Type 0} (r : Result A E) (e : Event) → IsEventOf e t bytes → (s' : State) (asks : List HouseMark) (told told' : Option (List HouseMark)) (known known' : Known) (seen'' : Seen) → Heeded r May e s s' asks told told' known known' seen' seen'' → OnOk r (MayEnd e s'.ended)
+    turn-ends (Ok x) e next s' asks told told' known known' seen'' h = event-ends (now-waiting v a.none a.admitted a.live a.offered a.hears a.all_noted a.rests) a.live e (seen-then t bytes) (given + 1) (event-there e next) s' h.ends
+    turn-ends (Err x) e next s' asks told told' known known' seen'' h = tt
+
+    -- one of the master's own listeners or streams told something
+    by-turn : (o : OwnTurn) → IsOwnOf o t bytes → Serving May Rest before now policy pid start (seen-then t bytes) (held_heard o held) (failed_heard o failed) (given + 1) (0 ∷ here s) s
+    unfolding waited serve-alone serve-on
+    by-turn (told.Joined l k) next =
+        let fits : OwnFits (turn.Joined l k) seen.listeners seen.own seen.last_own = subst (λ (x : Turn). OwnFits x seen.listeners seen.own seen.last_own) next w.own_fits in
+        let of = of-turn v a.none a.admitted a.live a.offered a.hears a.all_noted a.rests (turn.Joined l k) bytes w.are (subst (λ (x : Turn). TurnFits x (want_of s) seen.listens seen.last seen.streams seen.blocked bytes) next w.fits) fits in
+        subst (λ (x : Turn). Serving May Rest before now policy pid start (seen-then x bytes) held failed (given + 1) (0 ∷ here s) s) (sym next)
+        (offered-again (own-joins told-waiting l k fits.1 (seen-then (turn.Joined l k) bytes) (marked-twice (wait-mark v a.none a.admitted a.live a.offered) (Joins l k) seen.told) of refl refl refl refl refl))
+    by-turn (told.Got k got) next =
+        let fits : TurnFits (turn.Got k) (want_of s) seen.listens seen.last seen.streams seen.blocked bytes = subst (λ (x : Turn). TurnFits x (want_of s) seen.listens seen.last seen.streams seen.blocked bytes) next.1 w.fits in
+        let of = of-turn v a.none a.admitted a.live a.offered a.hears a.all_noted a.rests (turn.Got k) bytes w.are fits (subst (λ (x : Turn). OwnFits x seen.listeners seen.own seen.last_own) next.1 w.own_fits) in
+        subst (λ (x : Turn). Serving May Rest before now policy pid start (seen-then x bytes) held failed (given + 1) (0 ∷ here s) s) (sym next.1)
+        (offered-again (own-gets told-waiting k fits.1 (seen-then (turn.Got k) bytes) next.0 bytes w.are
+        record { told = marked-twice (wait-mark v a.none a.admitted a.live a.offered) (Gets k bytes) seen.told; of_wire = of; streams = refl; blocked = refl; last = refl; last_own = refl; listens = refl }))
+    by-turn (told.End k) next =
+        let fits : TurnFits (turn.End k) (want_of s) seen.listens seen.last seen.streams seen.blocked bytes = subst (λ (x : Turn). TurnFits x (want_of s) seen.listens seen.last seen.streams seen.blocked bytes) next.1 w.fits in
+        let of = of-turn v a.none a.admitted a.live a.offered a.hears a.all_noted a.rests (turn.End k) bytes w.are fits (subst (λ (x : Turn). OwnFits x seen.listeners seen.own seen.last_own) next.1 w.own_fits) in
+        subst (λ (x : Turn). Serving May Rest before now policy pid start (seen-then x bytes) held failed (given + 1) (0 ∷ here s) s) (sym next.1)
+        (offered-again (own-ends told-waiting k fits.1 (seen-then (turn.End k) bytes) next.0
+        record { told = marked-twice (wait-mark v a.none a.admitted a.live a.offered) (Ends k) seen.told; of_wire = of; streams = refl; blocked = refl; last = refl; last_own = refl; listens = refl }))
+    by-turn (told.Writable k) next =
+        let fits : TurnFits (turn.Writable k) (want_of s) seen.listens seen.last seen.streams seen.blocked bytes = subst (λ (x : Turn). TurnFits x (want_of s) seen.listens seen.last seen.streams seen.blocked bytes) next.1 w.fits in
+        let of = of-turn v a.none a.admitted a.live a.offered a.hears a.all_noted a.rests (turn.Writable k) bytes w.are fits (subst (λ (x : Turn). OwnFits x seen.listeners seen.own seen.last_own) next.1 w.own_fits) in
+        subst (λ (x : Turn). Serving May Rest before now policy pid start (seen-then x bytes) (without k held) failed (given + 1) (0 ∷ here s) s) (sym next.1)
+        (offered-again (own-frees told-waiting k fits.0 (seen-then (turn.Writable k) bytes) next.0
+        record { told = marked-twice (wait-mark v a.none a.admitted a.live a.offered) (Frees k) seen.told; of_wire = of; streams = refl; blocked = refl; last = refl; last_own = refl; listens = refl }))
+    by-turn (told.Failed k) next =
+        let fits : TurnFits (turn.Failed k) (want_of s) seen.listens seen.last seen.streams seen.blocked bytes = subst (λ (x : Turn). TurnFits x (want_of s) seen.listens seen.last seen.streams seen.blocked bytes) next.1 w.fits in
+        let of = of-turn v a.none a.admitted a.live a.offered a.hears a.all_noted a.rests (turn.Failed k) bytes w.are fits (subst (λ (x : Turn). OwnFits x seen.listeners seen.own seen.last_own) next.1 w.own_fits) in
+        subst (λ (x : Turn). Serving May Rest before now policy pid start (seen-then x bytes) held (failed ++ k ∷ []) (given + 1) (0 ∷ here s) s) (sym next.1)
+        (offered-again (own-failed told-waiting k fits (seen-then (turn.Failed k) bytes) next.0
+        record { told = marked-twice (wait-mark v a.none a.admitted a.live a.offered) (Fails k) seen.told; of_wire = of; streams = refl; blocked = refl; last = refl; last_own = refl; listens = refl }))
+
+    pub turn-owns : (o : OwnTurn) → IsOwnOf o t bytes → Serving May Rest before now policy pid start seen' (held_heard o held) (failed_heard o failed) (given + 1) (0 ∷ here s) s
+    turn-owns o next = subst (λ (x : Seen). Serving May Rest before now policy pid start x (held_heard o held) (failed_heard o failed) (given + 1) (0 ∷ here s) s) (sym w.seen_is) (by-turn o next)
+
+    -- a stream of the server or a client takes bytes again
+    by-room : (k : ℕ) → is_own k ≡ false → t ≡ turn.Writable k → Serving May Rest before now policy pid start (seen-then t bytes) (without k held) failed (given + 1) (0 ∷ here s) s
+    unfolding waited serve-alone serve-on
+    by-room k client is =
+        let fits : TurnFits (turn.Writable k) (want_of s) seen.listens seen.last seen.streams seen.blocked bytes = subst (λ (x : Turn). TurnFits x (want_of s) seen.listens seen.last seen.streams seen.blocked bytes) is w.fits in
+        let of = of-turn v a.none a.admitted a.live a.offered a.hears a.all_noted a.rests (turn.Writable k) bytes w.are fits (subst (λ (x : Turn). OwnFits x seen.listeners seen.own seen.last_own) is w.own_fits) in
+        subst (λ (x : Turn). Serving May Rest before now policy pid start (seen-then x bytes) (without k held) failed (given + 1) (0 ∷ here s) s) (sym is)
+        (client-frees told-waiting k fits.0 (seen-then (turn.Writable k) bytes) client
+        record { told = marked-twice (wait-mark v a.none a.admitted a.live a.offered) (Frees k) seen.told; of_wire = of; streams = refl; blocked = refl; last = refl; last_own = refl; listens = refl })
+
+    pub turn-frees : (k : ℕ) → is_own k ≡ false → t ≡ turn.Writable k → Serving May Rest before now policy pid start seen' (without k held) failed (given + 1) (0 ∷ here s) s
+    turn-frees k client is = subst (λ (x : Seen). Serving May Rest before now policy pid start x (without k held) failed (given + 1) (0 ∷ here s) s) (sym w.seen_is) (by-room k client is)
+
+    -- there was no memory
+    pub turn-starved : t ≡ turn.NoMemory → Promised May Rest before now.told policy pid start seen'.told (given + 1)
+    turn-starved is = cut-here v now.told seen'.told (given + 1) []
+        (ap (λ (x : Seen). x.told) w.seen_is ∙ (ap (λ (x : Turn). (seen-then x bytes).told) is ∙ told-none seen.told)) (tells-none now.told) (omega arith)
+
+-- ---- the house's streams and listeners
+
+-- where the same are open
+pub housed-as : (known known' : Known) (seen seen' : Seen) (own : List ℕ) → Housed known seen own → known'.ordering ≡ known.ordering → known'.listeners ≡ known.listeners → known'.streams ≡ known.streams → seen'.listeners ≡ seen.listeners → seen'.own ≡ seen.own → seen'.streams ≡ seen.streams → seen'.last_own ≡ seen.last_own → Housed known' seen' own
+housed-as known known' seen seen' own h order listens streams ls os ss last = record {
+  ordering = order ∙ h.ordering;
+  listeners = listens ∙ (h.listeners ∙ sym ls);
+  streams = streams ∙ (h.streams ∙ sym os);
+  own_is = h.own_is ∙ ap numbers_of (sym os);
+  places = record {
+    opened = λ t one. ap (among t) ss ∙ h.places.opened t (ap (is_one t) (sym os) ∙ one);
+    numbered = λ t one. h.places.numbered t (ap (is_one t) (sym os) ∙ one);
+    listed = λ t x is. ap (is_one t) os ∙ h.places.listed t (ap (among t) (sym ss) ∙ x) is;
+    given = λ t one. subst (λ (n : ℕ). t ≤ n) (sym last) (h.places.given t (ap (is_one t) (sym os) ∙ one));
+    listening = λ l x. subst (λ (n : ℕ). l ≤ n) (sym last) (h.places.listening l (ap (among l) (sym ls) ∙ x));
+  };
+}
+
+-- a stream that is none of them gives no more
+end-other : (k : ℕ) (own : List OwnStream) → is_one k own ≡ false → with_end k own ≡ own
+end-other k [] e = refl
+end-other k (o ∷ own) e = by_test (o.number == k) refl e (end-other k own)
+  where
+    by_test : (b : Bool) → (o.number == k) ≡ b → (b || is_one k own) ≡ false → (is_one k own ≡ false → with_end k own ≡ own) → cond (o.number == k) (record o { ended = true }) o ∷ with_end k own ≡ o ∷ own
+    by_test true q f ih = true-false f
+    by_test false q f ih = ap (λ c. cond c (record o { ended = true }) o ∷ with_end k own) q ∙ ap (λ l. o ∷ l) (ih f)
+
+-- no client's stream is one of them
+no-client : (known : Known) (seen : Seen) (own : List ℕ) → Housed known seen own → (k : ℕ) → is_own k ≡ false → is_one k seen.own ≡ false
+no-client known seen own h k client = by_one (is_one k seen.own) refl
+  where
+    by_one : (b : Bool) → is_one k seen.own ≡ b → b ≡ false
+    by_one false e = refl
+    by_one true e = true-false (sym (h.places.numbered k e) ∙ client)
+
+-- behind what a client or the server told
+event-housed : (known : Known) (seen : Seen) (own waiting : List ℕ) (want : Want) (t : Turn) (bytes : List ℕ) (e : Event) → Housed known seen own → TurnFits t want seen.listens seen.last seen.streams seen.blocked bytes → IsEventOf e t bytes → Housed known (seen_after_turn t waiting want bytes seen) own
+event-housed known seen own waiting want (turn.Accepted k) bytes e h fits next =
+    let client : is_own k ≡ false = client-number k (let n : k ≡ seen.last + 1 = fits.2 in let l : seen.last < LAST_CLIENT = fits.3 in omega arith) in
+    record {
+      ordering = h.ordering;
+      listeners = h.listeners;
+      streams = h.streams;
+      own_is = h.own_is;
+      places = record {
+        opened = λ t one. among-last k t seen.streams ∙ ap (λ b. b || ((k == t) || false)) (h.places.opened t one);
+        numbered = h.places.numbered;
+        listed = λ t a is. elim (eqb_tells k t) [
+          | inl q ↦ true-false (sym is ∙ (ap is_own (sym q.1) ∙ client))
+          | inr q ↦ h.places.listed t (sym (among-other-last k t seen.streams q.1) ∙ a) is
+        ];
+        given = h.places.given;
+        listening = h.places.listening;
+      };
+    }
+event-housed known seen own waiting want (turn.Got k) bytes e h fits next = housed-as known known seen (seen_after_turn (turn.Got k) waiting want bytes seen) own h refl refl refl refl refl refl refl
+event-housed known seen own waiting want (turn.End k) bytes e h fits next = housed-as known known seen (seen_after_turn (turn.End k) waiting want bytes seen) own h refl refl refl refl (end-other k seen.own (no-client known seen own h k next.0)) refl refl
+event-housed known seen own waiting want (turn.Failed k) bytes e h fits next = housed-as known known seen (seen_after_turn (turn.Failed k) waiting want bytes seen) own h refl refl refl refl refl refl refl
+event-housed known seen own waiting want (turn.Writable k) bytes e h fits next = absurd next
+event-housed known seen own waiting want (turn.Joined l k) bytes e h fits next = absurd next
+event-housed known seen own waiting want turn.NoMemory bytes e h fits next = absurd next
+
+pub turn-housed : {A E : Type 0} (r : Result A E) (May : HouseReply → Type 0) {seen seen' : Seen} {own failed : List ℕ} {queue : ℕ → List ℕ} {s : State} {t : Turn} {bytes : List ℕ} → HasWaited seen seen' own failed queue s t bytes → (e : Event) → IsEventOf e t bytes → (s' : State) (asks : List HouseMark) (told told' : Option (List HouseMark)) (known known' : Known) (seen'' : Seen)
+    → Heeded r May e s s' asks told told' known known' seen' seen'' → Housed known seen own → OnOk r (Housed known' seen'' own)
+turn-housed (Ok x) May {seen = seen} {seen' = seen'} {own = own} {failed = failed} {queue = queue} {s = s} {t = t} {bytes = bytes} w e next s' asks told told' known known' seen'' h housed =
+    let all : List ℕ = s.waiting ++ filter (waits_for queue failed) own in
+    let then : Seen = seen_after_turn t all (want_of s) bytes seen in
+    let same : SameHouse known known' = subst (SameHouse known) (sym h.known_is) (after-asks asks known) in
+    housed-as known known' then seen'' own (event-housed known seen own all (want_of s) t bytes e housed w.fits next) same.ordering same.listeners same.streams
+    (ap (λ (y : Seen). y.listeners) h.seen_is ∙ ap (λ (y : Seen). y.listeners) w.seen_is) (ap (λ (y : Seen). y.own) h.seen_is ∙ ap (λ (y : Seen). y.own) w.seen_is) (ap (λ (y : Seen). y.streams) h.seen_is ∙ ap (λ (y : Seen). y.streams) w.seen_is) (ap (λ (y : Seen). y.last_own) h.seen_is ∙ ap (λ (y : Seen). y.last_own) w.seen_is)
+turn-housed (Err x) May w e next s' asks told told' known known' seen'' h housed = tt
+
+-- all but its asks stays
+pub turn-house : {A E : Type 0} (r : Result A E) (May : HouseReply → Type 0) (e : Event) (s s' : State) (asks : List HouseMark) (told told' : Option (List HouseMark)) (known known' : Known) (seen seen' : Seen) → Heeded r May e s s' asks told told' known known' seen seen' → OnOk r (SameHouse known known')
+turn-house (Ok x) May e s s' asks told told' known known' seen seen' h = subst (SameHouse known) (sym h.known_is) (after-asks asks known)
+turn-house (Err x) May e s s' asks told told' known known' seen seen' h = tt
+
+-- ---- what the house may be told
+
+-- a number is new to it that is new to the wire
+new-to : (known : Known) (seen : Seen) (own : List ℕ) → Housed known seen own → (k : ℕ) → IsNewOwn seen.last_own k → IsNewTo known k
+new-to known seen own h k new = record {
+  no_listener = by_listener (among k known.listeners) refl;
+  no_stream = by_stream (is_one k known.streams) refl;
+}
+  where
+    by_listener : (b : Bool) → among k known.listeners ≡ b → b ≡ false
+    by_listener false e = refl
+    by_listener true e = let a : k ≤ seen.last_own = h.places.listening k (ap (among k) (sym h.listeners) ∙ e) in let b : seen.last_own < k = new.above in absurd (omega arith)
+
+    by_stream : (b : Bool) → is_one k known.streams ≡ b → b ≡ false
+    by_stream false e = refl
+    by_stream true e = let a : k ≤ seen.last_own = h.places.given k (ap (is_one k) (sym h.streams) ∙ e) in let b : seen.last_own < k = new.above in absurd (omega arith)
+
+-- where it has a stream it is there
+there : (known : Known) → IsAlone known → (k : ℕ) → is_one k known.streams ≡ true → IsTrue known.present
+there known alone k one = by_present known.present refl
+  where
+    by_present : (b : Bool) → known.present ≡ b → b ≡ true
+    by_present true e = refl
+    by_present false e = true-false (sym one ∙ ap (is_one k) (alone.streams e))
+
+pub turn-fits : {seen seen' : Seen} {own failed held : List ℕ} {queue : ℕ → List ℕ} {s : State} {t : Turn} {bytes : List ℕ} → HasWaited seen seen' own failed queue s t bytes → (o : OwnTurn) → IsOwnOf o t bytes → (known : Known) (quiet : Quiet) → Housed known seen own → IsAlone known → IsReady known quiet queue held failed own s → OwnTurnFits o known quiet
+turn-fits {seen = seen} {own = own} {s = s} {t = t} {bytes = bytes} w o next known quiet h alone ready = by_turn o next
+  where
+    Fits : Turn → Type 0
+    Fits x = TurnFits x (want_of s) seen.listens seen.last seen.streams seen.blocked bytes
+
+    Owns : Turn → Type 0
+    Owns x = OwnFits x seen.listeners seen.own seen.last_own
+
+    one : (k : ℕ) → among k seen.streams ≡ true → IsTrue (is_own k) → is_one k known.streams ≡ true
+    one k found is = ap (is_one k) h.streams ∙ h.places.listed k found is
+
+    loud : (k : ℕ) → is_silent k seen.own ≡ false → is_silent k known.streams ≡ false
+    loud k e = ap (is_silent k) h.streams ∙ e
+
+    by_turn : (o : OwnTurn) → IsOwnOf o t bytes → OwnTurnFits o known quiet
+    by_turn (told.Joined l k) next = let f : Owns (turn.Joined l k) = subst Owns next w.own_fits in (ap (among l) h.listeners ∙ f.0, new-to known seen own h k f.1)
+    by_turn (told.Got k got) next =
+        let f : Fits (turn.Got k) = subst Fits next.1 w.fits in
+        let g : Owns (turn.Got k) = subst Owns next.1 w.own_fits in
+        let is = one k f.1 next.0 in
+        (record { own = is; loud = loud k (g next.0) }, ready.rests (there known alone k is) f.0, subst (λ (l : List ℕ). 0 < length l) (sym next.2) f.2, subst (λ (l : List ℕ). length l ≤ LONGEST_PIECE) (sym next.2) f.3)
+    by_turn (told.End k) next =
+        let f : Fits (turn.End k) = subst Fits next.1 w.fits in
+        let g : Owns (turn.End k) = subst Owns next.1 w.own_fits in
+        record { own = one k f.1 next.0; loud = loud k (g next.0) }
+    by_turn (told.Writable k) next = let f : Fits (turn.Writable k) = subst Fits next.1 w.fits in one k f.0 next.0
+    by_turn (told.Failed k) next = let f : Fits (turn.Failed k) = subst Fits next.1 w.fits in one k f next.0
+
+-- ---- what the house knows then
+
+-- where there is no house it still has nothing
+pub alone-as : (known known' : Known) → SameHouse known known' → IsAlone known → IsAlone known'
+alone-as known known' same alone = record {
+  listeners = λ out. same.listeners ∙ alone.listeners (sym same.present ∙ out);
+  streams = λ out. same.streams ∙ alone.streams (sym same.present ∙ out);
+}
+
+-- of what is told, it keeps whether it is there and its asks
+pub record SameAsks (known known' : Known) : Type 0 where
+  pub present : known'.present ≡ known.present
+  pub asks : known'.asks ≡ known.asks
+
+heard-asks : (o : OwnTurn) (known known' : Known) → known' ≡ known_after_own_turn o known → SameAsks known known'
+heard-asks (told.Joined l k) known known' e = record { present = ap (λ (x : Known). x.present) e; asks = ap (λ (x : Known). x.asks) e }
+heard-asks (told.Got k bytes) known known' e = record { present = ap (λ (x : Known). x.present) e; asks = ap (λ (x : Known). x.asks) e }
+heard-asks (told.End k) known known' e = record { present = ap (λ (x : Known). x.present) e; asks = ap (λ (x : Known). x.asks) e }
+heard-asks (told.Writable k) known known' e = record { present = ap (λ (x : Known). x.present) e; asks = ap (λ (x : Known). x.asks) e }
+heard-asks (told.Failed k) known known' e = record { present = ap (λ (x : Known). x.present) e; asks = ap (λ (x : Known). x.asks) e }
+
+pub own-noted : {May : HouseReply → Type 0} {Rest : Resting} {before : Option (List HouseMark)} {policy : Policy} {pid : ℕ} {start : Option (List Mark)} {seen : Seen} {given : ℕ} {todo : List ℕ} {s : State} (o : OwnTurn) (told told' : Option (List HouseMark)) (known known' : Known) (held held' failed failed' : List ℕ)
+    → told' ≡ told → known' ≡ known_after_own_turn o known → held' ≡ held_heard o held → failed' ≡ failed_heard o failed → Serving May Rest before (noted told known) policy pid start seen (held_heard o held) (failed_heard o failed) given todo s → Serving May Rest before (noted told' known') policy pid start seen held' failed' given todo s
+own-noted {May} {Rest} {before} {policy} {pid} {start} {seen} {given} {todo} {s} o told told' known known' held held' failed failed' e f h i v =
+    let same : SameAsks known known' = heard-asks o known known' f in
+    let side : noted told known ≡ noted told' known' = ap (λ (t : Option (List HouseMark)). noted t known) (sym e) ∙ (ap (λ (l : _). record (noted told' known) { asks = l }) (sym same.asks) ∙ ap (λ (b : Bool). record (noted told' known') { let_in = b }) (sym same.present)) in
+    subst (λ (n : Side). Serving May Rest before n policy pid start seen held' failed' given todo s) side
+    (subst (λ (l : List ℕ). Serving May Rest before (noted told known) policy pid start seen l failed' given todo s) (sym h)
+    (subst (λ (l : List ℕ). Serving May Rest before (noted told known) policy pid start seen (held_heard o held) l given todo s) (sym i) v))
+
+-- a change that keeps the numbers
+end-number : (k : ℕ) (o : OwnStream) → (end_one k o).number ≡ o.number
+end-number k o = by_test (o.number == k)
+  where
+    by_test : (c : Bool) → (cond c (record o { ended = true }) o).number ≡ o.number
+    by_test true = refl
+    by_test false = refl
+
+end-numbers : (k : ℕ) (own : List OwnStream) → numbers_of (with_end k own) ≡ numbers_of own
+end-numbers k [] = refl
+end-numbers k (o ∷ own) = ap (λ n. n ∷ numbers_of (with_end k own)) (end-number k o) ∙ ap (λ l. o.number ∷ l) (end-numbers k own)
+
+end-one : (k t : ℕ) (own : List OwnStream) → is_one t (with_end k own) ≡ is_one t own
+end-one k t own = sym (among-one t (with_end k own)) ∙ (ap (among t) (end-numbers k own) ∙ among-one t own)
+
+one-last : (t n : ℕ) (own : List OwnStream) → is_one t (own ++ new_stream n ∷ []) ≡ (is_one t own || ((n == t) || false))
+one-last t n own = list_any-append (λ (o : OwnStream). o.number == t) own (new_stream n ∷ [])
+
+either-one : (t n : ℕ) (own : List OwnStream) → is_one t (own ++ new_stream n ∷ []) ≡ true → (is_one t own ≡ true) ⊎ (n ≡ t)
+either-one t n own h = elim (eqb_tells n t) [
+  | inl q ↦ inr q.1
+  | inr q ↦ inl (split (is_one t own) refl q.0)
+]
+  where
+    split : (b : Bool) → is_one t own ≡ b → (n == t) ≡ false → b ≡ true
+    split true e f = refl
+    split false e f = true-false (sym (sym (one-last t n own ∙ (ap (λ b. b || ((n == t) || false)) e ∙ ap (λ b. b || false) f)) ∙ h))
+
+own-housed : (o : OwnTurn) (known : Known) (seen : Seen) (own waiting : List ℕ) (want : Want) (bytes : List ℕ) (t : Turn) → Housed known seen own → OwnFits t seen.listeners seen.own seen.last_own → IsOwnOf o t bytes → Housed (known_after_own_turn o known) (seen_after_turn t waiting want bytes seen) (own_heard o own)
+own-housed (told.Joined l k) known seen own waiting want bytes t h fits next =
+    let f : OwnFits (turn.Joined l k) seen.listeners seen.own seen.last_own = subst (λ (x : Turn). OwnFits x seen.listeners seen.own seen.last_own) next fits in
+    let new : IsNewOwn seen.last_own k = f.1 in
+    subst (λ (x : Turn). Housed (record known { streams = known.streams ++ new_stream k ∷ [] }) (seen_after_turn x waiting want bytes seen) (own ++ k ∷ [])) (sym next) record {
+      ordering = h.ordering;
+      listeners = h.listeners;
+      streams = ap (λ l. l ++ new_stream k ∷ []) h.streams;
+      own_is = ap (λ l. l ++ k ∷ []) h.own_is ∙ sym (map-append (λ (o : OwnStream). o.number) seen.own (new_stream k ∷ []));
+      places = record {
+        opened = λ t one. elim (either-one t k seen.own one) [
+          | inl old ↦ among-last k t seen.streams ∙ ap (λ b. b || ((k == t) || false)) (h.places.opened t old)
+          | inr e ↦ among-last k t seen.streams ∙ (ap (λ b. among t seen.streams || (b || false)) (ap (λ i. i == t) e ∙ test-same t) ∙ or-last (among t seen.streams))
+        ];
+        numbered = λ t one. elim (either-one t k seen.own one) [ inl old ↦ h.places.numbered t old | inr e ↦ ap is_own (sym e) ∙ new.own ];
+        listed = λ t a is. elim (eqb_tells k t) [
+          | inl q ↦ one-last t k seen.own ∙ (ap (λ b. is_one t seen.own || (b || false)) q.0 ∙ or-last (is_one t seen.own))
+          | inr q ↦ one-last t k seen.own ∙ ap (λ b. b || ((k == t) || false)) (h.places.listed t (sym (among-other-last k t seen.streams q.1) ∙ a) is)
+        ];
+        given = λ t one. elim (either-one t k seen.own one) [
+          | inl old ↦ let a : t ≤ seen.last_own = h.places.given t old in let b : seen.last_own < k = new.above in omega arith
+          | inr e ↦ omega (arith, e)
+        ];
+        listening = λ l a. let b : l ≤ seen.last_own = h.places.listening l a in let c : seen.last_own < k = new.above in omega arith;
+      };
+    }
+own-housed (told.Got k got) known seen own waiting want bytes t h fits next = subst (λ (x : Turn). Housed known (seen_after_turn x waiting want bytes seen) own) (sym next.1) (housed-as known known seen (seen_after_turn (turn.Got k) waiting want bytes seen) own h refl refl refl refl refl refl refl)
+own-housed (told.End k) known seen own waiting want bytes t h fits next = subst (λ (x : Turn). Housed (record known { streams = with_end k known.streams }) (seen_after_turn x waiting want bytes seen) own) (sym next.1) record {
+  ordering = h.ordering;
+  listeners = h.listeners;
+  streams = ap (with_end k) h.streams;
+  own_is = h.own_is ∙ sym (end-numbers k seen.own);
+  places = record {
+    opened = λ t one. h.places.opened t (sym (end-one k t seen.own) ∙ one);
+    numbered = λ t one. h.places.numbered t (sym (end-one k t seen.own) ∙ one);
+    listed = λ t a is. end-one k t seen.own ∙ h.places.listed t a is;
+    given = λ t one. h.places.given t (sym (end-one k t seen.own) ∙ one);
+    listening = h.places.listening;
+  };
+}
+own-housed (told.Writable k) known seen own waiting want bytes t h fits next = subst (λ (x : Turn). Housed known (seen_after_turn x waiting want bytes seen) own) (sym next.1) (housed-as known known seen (seen_after_turn (turn.Writable k) waiting want bytes seen) own h refl refl refl refl refl refl refl)
+own-housed (told.Failed k) known seen own waiting want bytes t h fits next = subst (λ (x : Turn). Housed known (seen_after_turn x waiting want bytes seen) own) (sym next.1) (housed-as known known seen (seen_after_turn (turn.Failed k) waiting want bytes seen) own h refl refl refl refl refl refl refl)
+
+pub turn-own-housed : {seen seen' : Seen} {own failed : List ℕ} {queue : ℕ → List ℕ} {s : State} {t : Turn} {bytes : List ℕ} → HasWaited seen seen' own failed queue s t bytes → (o : OwnTurn) → IsOwnOf o t bytes → (known known' : Known) (own' : List ℕ) → Housed known seen own → known' ≡ known_after_own_turn o known → own' ≡ own_heard o own → Housed known' seen' own'
+turn-own-housed {seen = seen} {seen' = seen'} {own = own} {failed = failed} {queue = queue} {s = s} {t = t} {bytes = bytes} w o next known known' own' h e f =
+    let all : List ℕ = s.waiting ++ filter (waits_for queue failed) own in
+    subst (λ (k : Known). Housed k seen' own') (sym e) (subst (λ (l : List ℕ). Housed (known_after_own_turn o known) seen' l) (sym f)
+    (subst (λ (x : Seen). Housed (known_after_own_turn o known) x (own_heard o own)) (sym w.seen_is) (own-housed o known seen own all (want_of s) bytes t h w.own_fits next)))
+
+-- where there is no house nothing comes of it
+pub alone-heard : (o : OwnTurn) (known known' : Known) (quiet : Quiet) → OwnTurnFits o known quiet → known' ≡ known_after_own_turn o known → IsAlone known → IsAlone known'
+alone-heard (told.Joined l k) known known' quiet fits e alone = record {
+  listeners = λ out. ap (λ (x : Known). x.listeners) e ∙ alone.listeners (sym (ap (λ (x : Known). x.present) e) ∙ out);
+  streams = λ out. true-false (sym fits.0 ∙ ap (among l) (alone.listeners (sym (ap (λ (x : Known). x.present) e) ∙ out)));
+}
+alone-heard (told.Got k bytes) known known' quiet fits e alone = subst IsAlone (sym e) alone
+alone-heard (told.End k) known known' quiet fits e alone = record {
+  listeners = λ out. ap (λ (x : Known). x.listeners) e ∙ alone.listeners (sym (ap (λ (x : Known). x.present) e) ∙ out);
+  streams = λ out. ap (λ (x : Known). x.streams) e ∙ ap (with_end k) (alone.streams (sym (ap (λ (x : Known). x.present) e) ∙ out));
+}
+alone-heard (told.Writable k) known known' quiet fits e alone = subst IsAlone (sym e) alone
+alone-heard (told.Failed k) known known' quiet fits e alone = subst IsAlone (sym e) alone

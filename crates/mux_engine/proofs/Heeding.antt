@@ -1,0 +1,53 @@
+-- The asks of an event are noted one by one, right behind it.
+use Rattle.std.proofs.Common.{◌≡◌, ◌<◌, ◌+◌, ℕ, List, [], ◌∷◌, ◌++◌, length, take, get_or, Option, Some, None, refl, sym, ap, ◌∙◌, subst, inr, append_assoc}
+use Rattle.std.specs.Prelude.{map, Result, Ok, Err, IsErr}
+use Rattle.std.specs.Option.{option_map}
+use Rattle.std.proofs.lemmas.List.{map-append, take_more}
+use Rattle.mux_outside.specs.House.{Known}
+use Rattle.mux_outside.specs.Seen.{Seen}
+use Rattle.mux_outside.specs.declared.house.HouseReply.{HouseReply}
+use Rattle.mux_outside.specs.declared.house_mark.HouseMark.{HouseMark}
+use Rattle.mux_outside.specs.declared.mark.Mark.{Mark}
+use Rattle.mux_outside.specs.declared.mark.Mark.TheVariants.{House}
+use Rattle.mux_clients.specs.Asked.{IsAsked, TellsAsks, known_after}
+use Rattle.mux_machine.specs.declared.event.Event.{Event}
+use Rattle.mux_machine.specs.Events.{EndsBy, Keeps, Tells}
+use Rattle.mux_machine.specs.Stands.{GoesOn}
+use Rattle.mux_machine.specs.State.{State}
+use Rattle.mux_engine.specs.Asking.{Heeded, HeedsSo}
+use Rattle.mux_engine.proofs.Lists.{true-false}
+use Rattle.mux_engine.proofs.Noted.{seen-with}
+
+-- ---- so many are noted
+
+one-more : (m : HouseMark) (ms : List HouseMark) (told : Option (List Mark)) → option_map (λ (l : List Mark). l ++ House m ∷ []) (option_map (λ (l : List Mark). l ++ map (λ (a : HouseMark). House a) ms) told) ≡ option_map (λ (l : List Mark). l ++ map (λ (a : HouseMark). House a) (ms ++ m ∷ [])) told
+one-more m ms None = refl
+one-more m ms (Some l) = ap (λ (x : List Mark). Some x) (append_assoc l (map (λ (a : HouseMark). House a) ms) (House m ∷ []) ∙ ap (λ (x : List Mark). l ++ x) (sym (map-append (λ (a : HouseMark). House a) ms (m ∷ []))))
+
+-- the next
+pub noted-next : (asks : List HouseMark) (i : ℕ) (m : HouseMark) (seen mid seen' : Seen) → i < length asks → m ≡ get_or asks i m → mid ≡ seen-with (take i asks) seen → seen' ≡ record mid { told = option_map (λ (l : List Mark). l ++ House m ∷ []) mid.told } → seen' ≡ seen-with (take (i + 1) asks) seen
+noted-next asks i m seen mid seen' less is so next =
+    next ∙ (ap (λ (x : Seen). record x { told = option_map (λ (l : List Mark). l ++ House m ∷ []) x.told }) so
+    ∙ (ap (λ (told : Option (List Mark)). record seen { told = told }) (one-more m (take i asks) seen.told)
+    ∙ ap (λ (l : List HouseMark). seen-with l seen) (ap (λ (a : HouseMark). take i asks ++ a ∷ []) is ∙ sym (take_more asks i m less))))
+
+-- ---- the engine took in the event
+
+pub heeds-so : {May : HouseReply → Type 0} (e : Event) (s s' : State) (none asks : List HouseMark) (told told' : Option (List HouseMark)) (known known' : Known) (seen seen' : Seen) (n : ℕ) → none ≡ [] → ((mark : Mark) → Tells e mark → GoesOn May (Some none) (Some asks) s s' mark) → IsAsked none asks told told' known known'
+    → Keeps e s s' → ((mark : Mark) → Tells e mark → EndsBy e s s' mark) → seen' ≡ seen-with (take n asks) seen → HeedsSo May e s s' asks told told' known known' seen seen' n
+heeds-so {May} e s s' none asks told told' known known' seen seen' n empty goes asked keeps ends is = record {
+  goes = subst (λ (l : List HouseMark). (mark : Mark) → Tells e mark → GoesOn May (Some l) (Some asks) s s' mark) empty goes;
+  keeps = keeps;
+  ends = ends;
+  told_is = subst (TellsAsks told told') (sym same) asked.told_is;
+  known_is = asked.known_is ∙ ap (λ (l : List HouseMark). known_after l known) (sym same);
+  seen_is = is;
+}
+  where
+    same : asks ≡ asked.more
+    same = asked.noted ∙ ap (λ (l : List HouseMark). l ++ asked.more) empty
+
+-- there was no memory to note all of them
+pub heeded-some : {A E : Type 0} (r : Result A E) {May : HouseReply → Type 0} (e : Event) (s s' : State) (asks : List HouseMark) (told told' : Option (List HouseMark)) (known known' : Known) (seen seen' : Seen) (n : ℕ) → IsErr r → HeedsSo May e s s' asks told told' known known' seen seen' n → Heeded r May e s s' asks told told' known known' seen seen'
+heeded-some (Ok x) e s s' asks told told' known known' seen seen' n h so = true-false (sym h)
+heeded-some (Err x) e s s' asks told told' known known' seen seen' n h so = inr (n, so)

@@ -1,0 +1,249 @@
+-- The house is let in, is handed what waits for it, and answers.
+use Rattle.std.proofs.Common.{◌≡◌, ◌≢◌, ◌≤◌, ◌<◌, ◌+◌, ℕ, Bool, true, false, ◌||◌, List, [], ◌∷◌, ◌++◌, length, Option, None, refl, sym, ap, ◌∙◌, subst, cond, arith}
+use Rattle.std.specs.Prelude.{◌==◌, All, IsTrue}
+use Rattle.std.proofs.lemmas.List.Folds.{list_any-append}
+use Rattle.mux_outside.specs.House.{Known, OpenAsk, ReplyFits, without_ask}
+use Rattle.mux_outside.specs.OwnStreams.{is_one, numbers_of}
+use Rattle.mux_outside.specs.Seen.{Calls, Seen}
+use Rattle.mux_outside.specs.Streams.{among, without}
+use Rattle.mux_outside.specs.declared.house.HouseReply.{HouseReply}
+use Rattle.mux_outside.specs.declared.house_mark.HouseMark.{HouseMark}
+use Rattle.mux_outside.specs.declared.house_mark.HouseMark.TheVariants.{HouseAnswer, HouseIn, HouseTook}
+use Rattle.mux_outside.specs.declared.mark.Mark.{Mark}
+use Rattle.mux_outside.specs.declared.mark.Mark.TheVariants.{Accepts, Takes, House}
+use Rattle.mux_history.specs.declared.limits.TheConstants.{HOUSE}
+use Rattle.mux_history.specs.Policy.{Policy}
+use Rattle.mux_history.specs.Journal.{is_accepted}
+use Rattle.mux_clients.specs.Asked.{TellsAsks}
+use Rattle.mux_machine.specs.State.{State, queue_in, taken}
+use Rattle.mux_machine.specs.declared.event.Event.TheVariants.{Accepted, HouseSays}
+use Rattle.mux_machine.specs.Events.{EndsBy, Keeps, Tells, here}
+use Rattle.mux_machine.specs.Stands.{GoesAlone, GoesOn, Stands}
+use Rattle.mux_engine.specs.Counted.{Cut, Well}
+use Rattle.mux_engine.specs.Serving.{Promised, Serving}
+use Rattle.mux_engine.specs.Sides.{Housed, Resting, SameHouse, SamePlaces, Side, noted, noting}
+use Rattle.mux_engine.proofs.Arms.{cut-then}
+use Rattle.mux_engine.proofs.Cuts.{serve-told}
+use Rattle.mux_engine.proofs.HouseTakes.{house-takes}
+use Rattle.mux_engine.proofs.HouseTurns.{accepted-zero, cut-answers, house-answers, house-let-in, reply-asked, rest-asked}
+use Rattle.mux_engine.proofs.Lists.{among-less, true-false, without-other}
+use Rattle.mux_engine.proofs.Noted.{seen-with}
+use Rattle.mux_engine.proofs.Offers.{Waiting}
+use Rattle.mux_engine.proofs.Taken.{queue-present, took-run}
+use Rattle.mux_engine.proofs.Turned.{came, stayed}
+
+-- ---- lists of streams
+
+-- what is not among those that are here and the house is not among those that are here
+pub let-in-covers : (xs ys : List ℕ) → ys ≡ xs ++ HOUSE ∷ [] → (t : ℕ) → among t (0 ∷ ys) ≡ false → among t (0 ∷ xs) ≡ false
+let-in-covers xs ys e t a = by_test (0 == t) (among t xs) (sym (ap (λ b. (0 == t) || b) (ap (among t) e ∙ list_any-append (λ (i : ℕ). i == t) xs (HOUSE ∷ []))) ∙ a)
+  where
+    by_test : (b c : Bool) → (b || (c || among t (HOUSE ∷ []))) ≡ false → (b || c) ≡ false
+    by_test true c h = h
+    by_test false true h = h
+    by_test false false h = refl
+
+-- all but the house are left as they were
+pub took-covers : (xs ys : List ℕ) → ys ≡ xs → (t : ℕ) → HOUSE ≢ t → among t (0 ∷ without HOUSE ys) ≡ false → among t (0 ∷ xs) ≡ false
+took-covers xs ys e t ne a = ap (λ b. (0 == t) || b) (sym (without-other HOUSE t xs ne) ∙ ap (λ l. among t (without HOUSE l)) (sym e)) ∙ a
+
+pub reply-covers : (xs ys : List ℕ) → ys ≡ xs → (t : ℕ) → among t (0 ∷ ys) ≡ false → among t (0 ∷ without HOUSE xs) ≡ false
+reply-covers xs ys e t a = by_test (0 == t) (sym (ap (λ l. among t (0 ∷ l)) e) ∙ a)
+  where
+    by_test : (b : Bool) → (b || among t xs) ≡ false → (b || among t (without HOUSE xs)) ≡ false
+    by_test true h = h
+    by_test false h = among-less HOUSE t xs h
+
+-- ---- what is known of the house and seen of the wire stays
+
+pub housed-still : (known known' : Known) (seen seen' : Seen) (own : List ℕ) → Housed known seen own → SameHouse known known' → SamePlaces seen seen' → Housed known' seen' own
+housed-still known known' seen seen' own o same places = record {
+  ordering = same.ordering ∙ o.ordering;
+  listeners = same.listeners ∙ (o.listeners ∙ sym places.listeners);
+  streams = same.streams ∙ (o.streams ∙ sym places.own);
+  own_is = o.own_is ∙ ap numbers_of (sym places.own);
+  places = record {
+    opened = λ t one. ap (among t) places.streams ∙ o.places.opened t (ap (is_one t) (sym places.own) ∙ one);
+    numbered = λ t one. o.places.numbered t (ap (is_one t) (sym places.own) ∙ one);
+    listed = λ t a is. ap (is_one t) places.own ∙ o.places.listed t (ap (among t) (sym places.streams) ∙ a) is;
+    given = λ t one. subst (λ (n : ℕ). t ≤ n) (sym places.last_own) (o.places.given t (ap (is_one t) (sym places.own) ∙ one));
+    listening = λ l a. subst (λ (n : ℕ). l ≤ n) (sym places.last_own) (o.places.listening l (ap (among l) (sym places.listeners) ∙ a));
+  };
+}
+
+pub same-house : (known known' : Known) → known' ≡ known → SameHouse known known'
+same-house known known' e = subst (SameHouse known) (sym e) record { present = refl; ordering = refl; listeners = refl; streams = refl }
+
+pub house-then : (a b c : Known) → SameHouse a b → SameHouse b c → SameHouse a c
+house-then a b c x y = record { present = y.present ∙ x.present; ordering = y.ordering ∙ x.ordering; listeners = y.listeners ∙ x.listeners; streams = y.streams ∙ x.streams }
+
+-- ---- no turn is given meanwhile
+
+more-none : (given : ℕ) → given + 0 ≡ given
+more-none given = omega arith
+
+module _ {May : HouseReply → Type 0} {Rest : Resting} {before : Option (List HouseMark)} {policy : Policy} {pid : ℕ} {start : Option (List Mark)} {given : ℕ} where
+  pub no-turns : {now : Side} {seen : Seen} {held failed : List ℕ} {todo : List ℕ} {s : State} → Serving May Rest before now policy pid start seen held failed given todo s → Serving May Rest before now policy pid start seen held failed (given + 0) todo s
+  no-turns {now} {seen} {held} {failed} {todo} {s} v = subst (λ (n : ℕ). Serving May Rest before now policy pid start seen held failed n todo s) (sym (more-none given)) v
+
+  pub none-given : {now : Side} {seen : Seen} {held failed : List ℕ} {todo : List ℕ} {s : State} → Serving May Rest before now policy pid start seen held failed (given + 0) todo s → Serving May Rest before now policy pid start seen held failed given todo s
+  none-given {now} {seen} {held} {failed} {todo} {s} v = subst (λ (n : ℕ). Serving May Rest before now policy pid start seen held failed n todo s) (more-none given) v
+
+  pub no-turns-left : {now : Option (List HouseMark)} {told : Option (List Mark)} → Promised May Rest before now policy pid start told given → Promised May Rest before now policy pid start told (given + 0)
+  no-turns-left {now} {told} p = subst (λ (n : ℕ). Promised May Rest before now policy pid start told n) (sym (more-none given)) p
+
+-- ---- the same house rests
+
+pub same-rests : {May : HouseReply → Type 0} (Rest : Bool → Resting) {before : Option (List HouseMark)} {now : Side} {policy : Policy} {pid : ℕ} {start : Option (List Mark)} {seen : Seen} {held failed : List ℕ} {given : ℕ} {todo : List ℕ} {s : State} (b b' : Bool) → b ≡ b' → Serving May (Rest b) before now policy pid start seen held failed given todo s → Serving May (Rest b') before now policy pid start seen held failed given todo s
+same-rests {May} Rest {before} {now} {policy} {pid} {start} {seen} {held} {failed} {given} {todo} {s} b b' e v = subst (λ (c : Bool). Serving May (Rest c) before now policy pid start seen held failed given todo s) e v
+
+pub same-rests-left : {May : HouseReply → Type 0} (Rest : Bool → Resting) {before now : Option (List HouseMark)} {policy : Policy} {pid : ℕ} {start told : Option (List Mark)} {given : ℕ} (b b' : Bool) → b ≡ b' → Promised May (Rest b) before now policy pid start told given → Promised May (Rest b') before now policy pid start told given
+same-rests-left {May} Rest {before} {now} {policy} {pid} {start} {told} {given} b b' e p = subst (λ (c : Bool). Promised May (Rest c) before now policy pid start told given) e p
+
+-- the house told nothing meanwhile, and as much is known of it
+pub same-noted : {May : HouseReply → Type 0} {Rest : Resting} {before : Option (List HouseMark)} {policy : Policy} {pid : ℕ} {start : Option (List Mark)} {seen : Seen} {held failed : List ℕ} {given : ℕ} {todo : List ℕ} {s : State} (told told' : Option (List HouseMark)) (known known' : Known) → told' ≡ told → known' ≡ known → Serving May Rest before (noted told known) policy pid start seen held failed given todo s → Serving May Rest before (noted told' known') policy pid start seen held failed given todo s
+same-noted {May} {Rest} {before} {policy} {pid} {start} {seen} {held} {failed} {given} {todo} {s} told told' known known' t k v =
+    subst (λ (x : Option (List HouseMark)). Serving May Rest before (noted x known') policy pid start seen held failed given todo s) (sym t)
+    (subst (λ (x : Known). Serving May Rest before (noted told x) policy pid start seen held failed given todo s) (sym k) v)
+
+-- one list or the other is to be offered what waits
+pub replied : {May : HouseReply → Type 0} {Rest : Resting} {before : Option (List HouseMark)} {now : Side} {policy : Policy} {pid : ℕ} {start : Option (List Mark)} {seen : Seen} {held failed : List ℕ} {given : ℕ} {s : State} (xs ys : List ℕ) (more b : Bool) → more ≡ b → Serving May Rest before now policy pid start seen held failed given (cond more xs ys) s → Serving May Rest before now policy pid start seen held failed given (cond b xs ys) s
+replied {May} {Rest} {before} {now} {policy} {pid} {start} {seen} {held} {failed} {given} {s} xs ys more b e v = subst (λ (c : Bool). Serving May Rest before now policy pid start seen held failed given (cond c xs ys) s) e v
+
+-- ---- calls
+
+-- calls that ended well, before one that made none and found no memory
+pub cut-well : (a b c : Calls) → Well 0 a b → c ≡ b → Cut 0 a c
+cut-well a b c w e = subst (Cut 0 a) (sym e) (cut-then a b b w (record { few = omega arith; wants = omega arith; late = λ z. refl }))
+
+pub well-still : (a b c : Calls) → Well 0 a b → c ≡ b → Well 0 a c
+well-still a b c w e = subst (Well 0 a) (sym e) w
+
+-- ---- other asks are open
+
+module _ {May : HouseReply → Type 0} {Rest : Resting} {before : Option (List HouseMark)} {policy : Policy} {pid : ℕ} {start : Option (List Mark)} {seen : Seen} {held failed : List ℕ} {given : ℕ} {todo : List ℕ} {s : State} where
+  serve-asks : {now : Side} (v : Serving May Rest before now policy pid start seen held failed given todo s) (asks : List OpenAsk) → All (λ (a : OpenAsk). IsTrue (is_accepted a.client v.journal)) asks → Serving May Rest before (record now { asks = asks }) policy pid start seen held failed given todo s
+  serve-asks v asks all = record {
+    journal = v.journal;
+    closed = v.closed;
+    picked = v.picked;
+    replies = v.replies;
+    policy_is = v.policy_is;
+    pid_is = v.pid_is;
+    may = v.may;
+    stands = v.stands;
+    house = v.house;
+    asked = v.asked;
+    askers = all;
+    house_in = v.house_in;
+    house_there = v.house_there;
+    rested = v.rested;
+    absent = v.absent;
+    tells = v.tells;
+    of_wire = v.of_wire;
+    turns = v.turns;
+    open_are = v.open_are;
+    apart = v.apart;
+    held_is = v.held_is;
+    blocked_is = v.blocked_is;
+    unseen = v.unseen;
+    unused = v.unused;
+    failed_are = v.failed_are;
+    hears = v.hears;
+    sound = v.sound;
+  }
+
+  -- ---- it was told something
+
+  -- it told this and asked nothing
+  pub took-told : {told told' : Option (List HouseMark)} {known : Known} (known' : Known) (n : ℕ) → Serving May Rest before (noted told known) policy pid start seen held failed given todo s → TellsAsks told told' (HouseTook n ∷ []) → known' ≡ known → Serving May Rest before (noting (HouseTook n ∷ []) told' known') policy pid start seen held failed given todo s
+  took-told {told} {told'} {known} known' n v h e =
+      subst (λ (k : Known). Serving May Rest before (noting (HouseTook n ∷ []) told' k) policy pid start seen held failed given todo s) (sym e)
+      (serve-told v (noting (HouseTook n ∷ []) told' known) (HouseTook n ∷ []) h refl refl refl refl)
+
+  -- it told nothing
+  pub told-nothing : {told told' : Option (List HouseMark)} {known : Known} (known' : Known) → Serving May Rest before (noted told known) policy pid start seen held failed given todo s → TellsAsks told told' [] → known' ≡ known → Serving May Rest before (noted told' known') policy pid start seen held failed given todo s
+  told-nothing {told} {told'} {known} known' v h e =
+      subst (λ (k : Known). Serving May Rest before (noted told' k) policy pid start seen held failed given todo s) (sym e)
+      (serve-told v (noted told' known) [] h refl refl refl refl)
+
+  -- it told an answer
+  pub answer-told : {told told' : Option (List HouseMark)} (known : Known) (client id : ℕ) (reply : HouseReply) → Serving May Rest before (noted told known) policy pid start seen held failed given todo s → TellsAsks told told' (HouseAnswer client id reply ∷ [])
+      → Serving May Rest before (noting (HouseAnswer client id reply ∷ []) told' (record known { asks = without_ask client id known.asks })) policy pid start seen held failed given todo s
+  answer-told {told} {told'} known client id reply v h =
+      let w = serve-told v (noting (HouseAnswer client id reply ∷ []) told' known) (HouseAnswer client id reply ∷ []) h refl refl refl refl in
+      serve-asks w (without_ask client id known.asks) (rest-asked w.journal client id known.asks w.askers)
+
+  -- to a client that was accepted
+  pub answer-asked : {told told' : Option (List HouseMark)} (known : Known) (client id : ℕ) (reply : HouseReply) (v : Serving May Rest before (noted told known) policy pid start seen held failed given todo s) (h : TellsAsks told told' (HouseAnswer client id reply ∷ [])) → ReplyFits reply client id known.asks → is_accepted client (answer-told known client id reply v h).journal ≡ true
+  unfolding answer-told serve-asks
+  answer-asked {told} {told'} known client id reply v h fits =
+      let w = serve-told v (noting (HouseAnswer client id reply ∷ []) told' known) (HouseAnswer client id reply ∷ []) h refl refl refl refl in
+      reply-asked w.journal reply client id known.asks fits w.askers
+
+-- ---- it is let in
+
+module _ {May : HouseReply → Type 0} {Rest : Resting} {before : Option (List HouseMark)} {now : Side} {policy : Policy} {pid : ℕ} {start : Option (List Mark)} {seen : Seen} {held failed : List ℕ} {given : ℕ} {s : State} where
+  pub let-in : {May' : HouseReply → Type 0} {told told' : Option (List HouseMark)} (v : Serving May Rest before now policy pid start seen held failed given (0 ∷ here s) s) (s' : State) → v.journal ≡ [] → Rest.present ≡ true → s.ended ≡ None → s.refused ≡ [] → GoesOn May' told told' s s' (Accepts HOUSE) → Keeps (Accepted HOUSE) s s'
+      → Serving May Rest before (record now { let_in = true }) policy pid start (seen-with (HouseIn ∷ []) seen) held failed given (0 ∷ here s') s'
+  let-in v s' first there live admitted goes keeps =
+      house-let-in v first there live admitted (let-in-covers (here s) (here s') (came (Accepted HOUSE) HOUSE s s' refl admitted (keeps.streams live))) goes keeps
+
+  -- which doesn't end the run
+  pub let-in-live : (v : Serving May Rest before now policy pid start seen held failed given (0 ∷ here s) s) (s' : State) → v.journal ≡ [] → s.ended ≡ None → EndsBy (Accepted HOUSE) s s' (Accepts HOUSE) → s'.ended ≡ None
+  let-in-live v s' first live ends = ends v.picked v.replies v.journal v.closed v.stands ((λ e. absurd (omega (arith, e))), ap (is_accepted HOUSE) first, refl) live
+
+-- ---- it is handed what waits for it
+
+module _ {May : HouseReply → Type 0} {Rest : Resting} {before : Option (List HouseMark)} {policy : Policy} {pid : ℕ} {start : Option (List Mark)} {seen : Seen} {held failed : List ℕ} {given : ℕ} {s : State} where
+  -- something waits for it alone where it was let in
+  waits-in : {now : Side} {todo : List ℕ} (v : Serving May Rest before now policy pid start seen held failed given todo s) (bytes : List ℕ) → bytes ≡ queue_in s HOUSE → 0 < length bytes → now.let_in ≡ true
+  waits-in v bytes queue some = sym v.house_in ∙ by_in (is_accepted HOUSE v.journal) refl
+    where
+      no-server : HOUSE ≢ 0
+      no-server e = absurd (omega (arith, e))
+
+      by_in : (b : Bool) → is_accepted HOUSE v.journal ≡ b → b ≡ true
+      by_in true e = refl
+      by_in false e = true-false (sym (ap (λ b. b || among HOUSE s.refused) (queue-present s HOUSE bytes queue some no-server)) ∙ ((v.stands.at [] []).bytes.strange HOUSE e).not_here)
+
+  pub handed : {told told' : Option (List HouseMark)} {known : Known} (known' : Known) (v : Serving May Rest before (noted told known) policy pid start seen held failed given (0 ∷ here s) s) (s' : State) (bytes : List ℕ) → TellsAsks told told' (HouseTook (length bytes) ∷ []) → known' ≡ known → bytes ≡ queue_in s HOUSE → 0 < length bytes
+      → ((picked : List ℕ) (replies : List HouseReply) (marks : List Mark) (closed : List ℕ) → Stands picked replies s marks closed → among HOUSE closed ≡ false → Waiting bytes HOUSE s picked replies marks) → s' ≡ taken s HOUSE (length bytes) → GoesAlone s s' (Takes HOUSE bytes) → Serving May Rest before (noted told' known') policy pid start (seen-with (HouseTook (length bytes) ∷ []) seen) held failed given (0 ∷ without HOUSE (here s')) s'
+  handed {told} {told'} {known} known' v s' bytes h e queue some waiting is goes =
+      let w = took-told known' (length bytes) v h e in
+      house-takes w s' bytes [] refl (waits-in w bytes queue some) (took-covers (here s) (here s') (took-run s s' HOUSE (length bytes) is).streams) queue some (waiting w.picked w.replies w.journal w.closed w.stands (not-closed w)) is goes
+    where
+      no-server : HOUSE ≢ 0
+      no-server e = absurd (omega (arith, e))
+
+      not-closed : {now : Side} {todo : List ℕ} (w : Serving May Rest before now policy pid start seen held failed given todo s) → among HOUSE w.closed ≡ false
+      not-closed w = by_closed (among HOUSE w.closed) refl
+        where
+          by_closed : (b : Bool) → among HOUSE w.closed ≡ b → b ≡ false
+          by_closed false c = refl
+          by_closed true c = true-false (sym (ap (λ b. b || among HOUSE s.refused) (queue-present s HOUSE bytes queue some no-server)) ∙ (w.stands.at [] []).rows.closed_gone HOUSE c)
+
+  -- ---- it answers
+
+  no-server-asked : {now : Side} {todo : List ℕ} (v : Serving May Rest before now policy pid start seen held failed given todo s) (client : ℕ) → is_accepted client v.journal ≡ true → client ≢ 0
+  no-server-asked v client asked z = true-false (sym asked ∙ (ap (λ i. is_accepted i v.journal) z ∙ accepted-zero v.journal v.of_wire.lawful))
+
+  pub answered : {May' : HouseReply → Type 0} {mid mid' told told' : Option (List HouseMark)} (known known' : Known) (v : Serving May Rest before (noted told known) policy pid start seen held failed given (0 ∷ without HOUSE (here s)) s) (s' : State) (client id : ℕ) (reply : HouseReply) → known.present ≡ true → s.ended ≡ None → ReplyFits reply client id known.asks → TellsAsks told told' (HouseAnswer client id reply ∷ [])
+      → known' ≡ record known { asks = without_ask client id known.asks } → ((mark : Mark) → Tells (HouseSays client id reply) mark → GoesOn May' mid mid' s s' mark) → Keeps (HouseSays client id reply) s s' → Serving May Rest before (noted told' known') policy pid start (seen-with (HouseAnswer client id reply ∷ []) seen) held failed given (0 ∷ here s') s'
+  answered {told' = told'} known known' v s' client id reply within live fits h e goes keeps =
+      let w = answer-told known client id reply v h in
+      let asked : is_accepted client w.journal ≡ true = answer-asked known client id reply v h fits in
+      let nz : client ≢ 0 = no-server-asked w client asked in
+      subst (λ (k : Known). Serving May Rest before (noted told' k) policy pid start (seen-with (HouseAnswer client id reply ∷ []) seen) held failed given (0 ∷ here s') s') (sym e)
+      (house-answers w client id reply [] refl within asked live (reply-covers (here s) (here s') (stayed (HouseSays client id reply) (House (HouseAnswer client id reply)) s s' (nz, refl) tt (keeps.streams live))) (goes (House (HouseAnswer client id reply)) (nz, refl)) keeps)
+
+  -- which doesn't end the run
+  pub answered-live : {told : Option (List HouseMark)} (known : Known) {todo : List ℕ} (v : Serving May Rest before (noted told known) policy pid start seen held failed given todo s) (s' : State) (client id : ℕ) (reply : HouseReply) → s.ended ≡ None → ReplyFits reply client id known.asks → ((mark : Mark) → Tells (HouseSays client id reply) mark → EndsBy (HouseSays client id reply) s s' mark) → s'.ended ≡ None
+  answered-live known v s' client id reply live fits ends =
+      let asked : is_accepted client v.journal ≡ true = reply-asked v.journal reply client id known.asks fits v.askers in
+      let nz : client ≢ 0 = no-server-asked v client asked in
+      ends (House (HouseAnswer client id reply)) (nz, refl) v.picked v.replies v.journal v.closed v.stands (nz, asked) live
+
+  -- there was no memory for its answer
+  pub cut-answered : {told told' : Option (List HouseMark)} (known : Known) {todo : List ℕ} (v : Serving May Rest before (noted told known) policy pid start seen held failed given todo s) (client id : ℕ) (reply : HouseReply) → known.present ≡ true → ReplyFits reply client id known.asks → TellsAsks told told' (HouseAnswer client id reply ∷ []) → Promised May Rest before told' policy pid start (seen-with (HouseAnswer client id reply ∷ []) seen).told given
+  cut-answered known v client id reply within fits h = cut-answers (answer-told known client id reply v h) client id reply [] refl within (answer-asked known client id reply v h fits)

@@ -1,0 +1,102 @@
+-- What the house says as a client makes of all that holds while a wire is served.
+use Rattle.std.proofs.Common.{◌≡◌, ◌≤◌, ◌<◌, ◌+◌, ℕ, Bool, true, false, List, [], ◌∷◌, ◌++◌, length, Option, Some, None, refl, sym, ap, ◌∙◌, subst, inl, inr, cond, arith, MatchResult, OnOk}
+use Rattle.std.specs.Prelude.{nat_lt, Result, Ok, Err}
+use Rattle.std.specs.Option.{option_map}
+use Rattle.std.proofs.lemmas.Bool.Decides.{nat_tests}
+use Rattle.ssh_fields.specs.Fields.{AreBytes}
+use Rattle.mux_outside.specs.House.{Known, SaysFits, says_marks}
+use Rattle.mux_outside.specs.Seen.{Seen}
+use Rattle.mux_outside.specs.declared.house.HouseReply.{HouseReply}
+use Rattle.mux_outside.specs.declared.house_mark.HouseMark.{HouseMark}
+use Rattle.mux_outside.specs.declared.house_mark.HouseMark.TheVariants.{HouseSaid}
+use Rattle.mux_outside.specs.declared.mark.Mark.{Mark}
+use Rattle.mux_outside.specs.declared.mark.Mark.TheVariants.{Gets}
+use Rattle.mux_outside.specs.declared.turn.Want.TheVariants.{Read, WriteOnly}
+use Rattle.mux_history.specs.declared.ended.Ended.{Ended}
+use Rattle.mux_history.specs.declared.ended.Ended.TheVariants as ended
+use Rattle.mux_history.specs.declared.limits.TheConstants.{HOUSE, READING_STOPS_AT}
+use Rattle.mux_history.specs.Policy.{Policy}
+use Rattle.mux_clients.specs.Asked.{TellsAsks}
+use Rattle.mux_machine.specs.State.{State, queue_in}
+use Rattle.mux_machine.specs.Events.{MayEnd, Tells, here}
+use Rattle.mux_machine.specs.declared.event.Event.{Event}
+use Rattle.mux_machine.specs.declared.event.Event.TheVariants.{Accepted, FromClient, ClientEnd, ClientFailed, HouseSays, FromServer, ServerEnd, ServerFailed}
+use Rattle.mux_engine.specs.Asking.{Heeded}
+use Rattle.mux_engine.specs.Rests.{EndsByAsk, IsByRow}
+use Rattle.mux_engine.specs.Serving.{Promised, Serving}
+use Rattle.mux_engine.specs.Sides.{Resting, SameHouse, Side, noted}
+use Rattle.mux_engine.specs.Turns.{want_of}
+use Rattle.mux_engine.proofs.Cuts.{cut-here, serve-told}
+use Rattle.mux_engine.proofs.Handed.{event-heeds}
+use Rattle.mux_engine.proofs.HouseTakes.{house-said}
+use Rattle.mux_engine.proofs.Noted.{seen-with}
+use Rattle.mux_engine.proofs.Turned.{EventAt, event-ends}
+
+-- more is read while few bytes wait for the server
+room-of : (m n : ℕ) → cond (nat_lt m n) Read WriteOnly ≡ Read → m < n
+room-of m n e = by_test (nat_lt m n) refl e
+  where
+    by_test : (b : Bool) → nat_lt m n ≡ b → cond b Read WriteOnly ≡ Read → m < n
+    by_test true q f = grind (arith, nat_tests)
+    by_test false q f = absurd (cc)
+
+-- a run that goes on
+pub row-live : (o : Option Ended) → o ≡ None → IsByRow o
+row-live o e = record {
+  unspent = λ f. let z : None ≡ Some ended.Spent = sym e ∙ f in cc;
+  permitted = λ index f. let z : None ≡ Some (ended.StartRefused index) = sym e ∙ f in cc;
+}
+
+-- a result that is known
+pub ok-serves : {A E : Type 0} (r : Result A E) {x : A} (P : A → Type 0) (Q : E → Type 0) → r ≡ Ok x → MatchResult r P Q → P x
+ok-serves r P Q is m = subst (λ (q : Result _ _). MatchResult q P Q) is m
+
+pub err-serves : {A E : Type 0} (r : Result A E) {x : E} (P : A → Type 0) (Q : E → Type 0) → r ≡ Err x → MatchResult r P Q → Q x
+err-serves r P Q is m = subst (λ (q : Result _ _). MatchResult q P Q) is m
+
+-- a run that ends by what a stream said
+pub asks-ends : (e : Event) (bytes : List ℕ) (o : Option Ended) → Tells e (Gets HOUSE bytes) → MayEnd e o → EndsByAsk o
+asks-ends (FromClient k said) bytes o t may = record { lives = may.0; by_row = record { unspent = may.1; permitted = may.2 } }
+asks-ends (FromServer said) bytes o t may = record { lives = may.0; by_row = record { unspent = may.1; permitted = may.2 } }
+asks-ends ServerEnd bytes o t may = record { lives = may.0; by_row = record { unspent = may.1; permitted = may.2 } }
+asks-ends (Accepted k) bytes o t may = absurd (let z = t in cc)
+asks-ends (ClientEnd k) bytes o t may = absurd (let z = t.1 in cc)
+asks-ends (ClientFailed k) bytes o t may = absurd (elim t.1 [ inl z ↦ cc | inr z ↦ cc ])
+asks-ends (HouseSays k id reply) bytes o t may = absurd (let z = t.1 in cc)
+asks-ends ServerFailed bytes o t may = absurd (elim t [ inl z ↦ cc | inr z ↦ cc ])
+
+-- what was told with what it said
+pub told-nothing : {E : Type 0} (r : Result Bool E) (bytes : List ℕ) (told told' : Option (List HouseMark)) → r ≡ Ok false → told' ≡ option_map (λ marks. marks ++ says_marks r bytes) told → TellsAsks told told' []
+told-nothing r bytes told told' is e = e ∙ ap (λ (x : Result Bool _). option_map (λ marks. marks ++ says_marks x bytes) told) is
+
+pub told-said : {E : Type 0} (r : Result Bool E) (bytes : List ℕ) (told told' : Option (List HouseMark)) → r ≡ Ok true → told' ≡ option_map (λ marks. marks ++ says_marks r bytes) told → TellsAsks told told' (HouseSaid bytes ∷ [])
+told-said r bytes told told' is e = e ∙ ap (λ (x : Result Bool _). option_map (λ marks. marks ++ says_marks x bytes) told) is
+
+pub some-said : {E : Type 0} (r : Result Bool E) (bytes : List ℕ) → r ≡ Ok true → SaysFits r bytes → 0 < length bytes
+some-said {E} r bytes is fits = let f : SaysFits {E = E} (Ok true) bytes = subst (λ (x : Result Bool E). SaysFits {E = E} x bytes) is fits in f.0
+
+module _ {May : HouseReply → Type 0} {Rest : Resting} {before : Option (List HouseMark)} {policy : Policy} {pid : ℕ} {start : Option (List Mark)} {seen : Seen} {held failed : List ℕ} {given : ℕ} {s : State}
+    (told : Option (List HouseMark)) (known : Known) (v : Serving May Rest before (noted told known) policy pid start seen held failed given [] s) (live : s.ended ≡ None) (within : known.present ≡ true) (room : want_of s ≡ Read)
+    (told' : Option (List HouseMark)) (known' : Known) (bytes : List ℕ) (tells : TellsAsks told told' (HouseSaid bytes ∷ [])) (same : known' ≡ known) where
+  -- what it said is not noted yet
+  abbrev unnoted-yet : Side
+  unnoted-yet = record { told = told'; asks = known'.asks; unnoted = HouseSaid bytes ∷ []; let_in = known'.present }
+
+  saying : Serving May Rest before unnoted-yet policy pid start seen held failed given [] s
+  saying = serve-told v unnoted-yet (HouseSaid bytes ∷ []) tells refl refl (ap (λ (k : Known). k.asks) same) (ap (λ (k : Known). k.present) same)
+
+  -- there was no memory to note it
+  pub cut-said : (now : Option (List Mark)) → now ≡ seen.told → Promised May Rest before told' policy pid start now (given + 1)
+  cut-said now e = cut-here v told' now (given + 1) (HouseSaid bytes ∷ []) e tells (omega arith)
+
+  module _ (e : Event) (is : Tells e (Gets HOUSE bytes)) (some : 0 < length bytes) (few : length bytes ≤ 65536) (are : AreBytes bytes) where
+    said-at : EventAt saying live e (seen-with (HouseSaid bytes ∷ []) seen) (given + 1)
+    said-at = house-said saying live e bytes refl (ap (λ (k : Known). k.present) same ∙ within) is some few are (room-of (length (queue_in s 0)) READING_STOPS_AT room)
+
+    pub said-heeds : {A E : Type 0} (r : Result A E) (s' : State) (asks : List HouseMark) (told'' : Option (List HouseMark)) (known'' : Known) (seen0 seen'' : Seen) → seen0 ≡ seen-with (HouseSaid bytes ∷ []) seen
+        → Heeded r May e s s' asks told' told'' known' known'' seen0 seen'' → MatchResult r (λ x. Serving May Rest before (noted told'' known'') policy pid start seen'' held failed (given + 1) (0 ∷ here s') s') (λ x. Promised May Rest before told'' policy pid start seen''.told (given + 1))
+    said-heeds r s' asks told'' known'' seen0 seen'' after h = event-heeds saying live e (seen-with (HouseSaid bytes ∷ []) seen) (given + 1) said-at r s' asks told' told'' known' known'' seen0 seen'' after refl refl refl h
+
+    pub said-ends : {A E : Type 0} (r : Result A E) (s' : State) (asks : List HouseMark) (told'' : Option (List HouseMark)) (known'' : Known) (seen0 seen'' : Seen) → Heeded r May e s s' asks told' told'' known' known'' seen0 seen'' → OnOk r (MayEnd e s'.ended)
+    said-ends (Ok x) s' asks told'' known'' seen0 seen'' h = event-ends saying live e (seen-with (HouseSaid bytes ∷ []) seen) (given + 1) said-at s' h.ends
+    said-ends (Err x) s' asks told'' known'' seen0 seen'' h = tt

@@ -1,0 +1,93 @@
+use Rattle.std.proofs.Common.{◌≡◌, ◌+◌, ◌∙◌, ◌∷◌, sym, subst, ℕ, Bool, true, cond, List, arith}
+use Rattle.mux_outside.specs.Streams.{without}
+use Rattle.mux_history.specs.declared.limits.TheConstants.{HOUSE}
+use Rattle.mux_machine.specs.Events.{here}
+use Rattle.mux_engine.specs.Rests.{HasNoMore}
+use Rattle.mux_engine.specs.Serving.{Serving}
+use Rattle.mux_engine.specs.Sides.{Housed, RestsOf, SameHouse, noted}
+use Rattle.mux_engine.specs.declared.room.Lists.{Lists}
+use Rattle.mux_engine.proofs.Arms.{on-err, on-ok}
+use Rattle.mux_engine.proofs.Lists.{true-false}
+use Rattle.mux_engine.proofs.Runs.{promised-more}
+use Rattle.mux_engine.proofs.Spoken.{err-serves, ok-serves}
+use Rattle.mux_engine.proofs.Stepping.{a-turn, housed-still, match-ok, no-more, none-handed, none-more, present-alone, runs-same, where-false}
+use Rattle.mux_engine.proofs.housing.ask_house.Goals as goal
+
+-- ---- no house
+
+pub returns-then-not-present-clause-serving : goal.returns-then-not-present-clause-serving
+returns-then-not-present-clause-serving g c before policy pid start given v = none-handed v (sym c.present.ensures.present ∙ c.if-not-present.true)
+
+pub returns-then-not-present-clause-ready : goal.returns-then-not-present-clause-ready
+returns-then-not-present-clause-ready g c = λ e. none-more _ _ _ (g.W.Wire.seen c.args.wire.now) _ _ _ (sym c.present.ensures.present ∙ c.if-not-present.true) c.requires.alone c.requires.housed
+
+-- ---- a house
+
+pub returns-in_err-reply_all-clause-serving : goal.returns-in_err-reply_all-clause-serving
+returns-in_err-reply_all-clause-serving g c before policy pid start given v = on-err c.from_residual.result _ _ c.from_residual.ensures.0
+    (promised-more (given + 0) (given + 1) (omega arith) (err-serves c.reply_all.result _ _ c.in_err-reply_all.was (c.reply_all.ensures.serving before policy pid start given v)))
+
+pub next_order-requires : goal.next_order-requires
+next_order-requires g c =
+    let H = g.H.House in
+    let W = g.W.Wire in
+    let here_is : (H.known c.args.house.now).present ≡ true = sym c.present.ensures.present ∙ c.if-not-present.false in
+    let same : SameHouse (H.known c.args.house.now) (H.known c.reply_all.new.house) = c.in_ok-reply_all.ensures.known in
+    record { housed = subst (λ (l : List ℕ). Housed (H.known c.reply_all.new.house) (W.seen c.reply_all.new.wire) l) (sym c.reply_all.ensures.own) (housed-still _ _ _ _ c.args.lists.now.own same c.reply_all.ensures.places c.requires.housed); present = same.present ∙ here_is }
+
+pub returns-clause-serving : goal.returns-clause-serving
+returns-clause-serving g c before policy pid start given v =
+    let H = g.H.House in
+    let W = g.W.Wire in
+    let here_is : (H.known c.args.house.now).present ≡ true = sym c.present.ensures.present ∙ c.if-not-present.false in
+    let same : SameHouse (H.known c.args.house.now) (H.known c.reply_all.new.house) = c.in_ok-reply_all.ensures.known in
+    (runs-same c.next_order.result H.may H.told H.quiet (noted (H.told c.reply_all.new.house) (H.known c.reply_all.new.house)) (noted (H.told c.next_order.new.house) (H.known c.next_order.new.house)) (W.seen c.reply_all.new.wire) (W.seen c.next_order.new.wire) c.reply_all.new.lists.held c.next_order.new.lists.held c.reply_all.new.lists.failed c.next_order.new.lists.failed 1 (λ (more : Bool). cond more 1 0) (0 ∷ without HOUSE (here c.reply_all.new.engine)) (λ (more : Bool). 0 ∷ without HOUSE (here c.reply_all.new.engine)) c.reply_all.new.engine c.reply_all.new.engine (H.known c.args.house.now).present (H.known c.reply_all.new.house).present same.present
+    (c.next_order.ensures.serving (0 ∷ without HOUSE (here c.reply_all.new.engine)) c.reply_all.new.engine)) before policy pid start given
+    (a-turn (ok-serves c.reply_all.result _ _ c.in_ok-reply_all.was (c.reply_all.ensures.serving before policy pid start given v)))
+
+pub returns-clause-held_is : goal.returns-clause-held_is
+returns-clause-held_is g c =
+    let H = g.H.House in
+    let W = g.W.Wire in
+    let here_is : (H.known c.args.house.now).present ≡ true = sym c.present.ensures.present ∙ c.if-not-present.false in
+    let same : SameHouse (H.known c.args.house.now) (H.known c.reply_all.new.house) = c.in_ok-reply_all.ensures.known in
+    let s = c.requires.served in
+    match-ok c.next_order.result (λ (more : Bool). Serving H.may (RestsOf H.told H.quiet (H.known c.args.house.now).present) s.before (noted (H.told c.next_order.new.house) (H.known c.next_order.new.house)) s.policy s.pid s.start (W.seen c.next_order.new.wire) c.next_order.new.lists.held c.next_order.new.lists.failed (s.given + cond more 1 0) (0 ∷ without HOUSE (here c.reply_all.new.engine)) c.reply_all.new.engine) _ _ (λ (more : Bool) x. x.held_is) ((runs-same c.next_order.result H.may H.told H.quiet (noted (H.told c.reply_all.new.house) (H.known c.reply_all.new.house)) (noted (H.told c.next_order.new.house) (H.known c.next_order.new.house)) (W.seen c.reply_all.new.wire) (W.seen c.next_order.new.wire) c.reply_all.new.lists.held c.next_order.new.lists.held c.reply_all.new.lists.failed c.next_order.new.lists.failed 1 (λ (more : Bool). cond more 1 0) (0 ∷ without HOUSE (here c.reply_all.new.engine)) (λ (more : Bool). 0 ∷ without HOUSE (here c.reply_all.new.engine)) c.reply_all.new.engine c.reply_all.new.engine (H.known c.args.house.now).present (H.known c.reply_all.new.house).present same.present
+    (c.next_order.ensures.serving (0 ∷ without HOUSE (here c.reply_all.new.engine)) c.reply_all.new.engine)) s.before s.policy s.pid s.start s.given
+    (a-turn (ok-serves c.reply_all.result _ _ c.in_ok-reply_all.was (c.reply_all.ensures.serving s.before s.policy s.pid s.start s.given s.serving))))
+
+pub returns-clause-alone : goal.returns-clause-alone
+returns-clause-alone g c =
+    let H = g.H.House in
+    let W = g.W.Wire in
+    let here_is : (H.known c.args.house.now).present ≡ true = sym c.present.ensures.present ∙ c.if-not-present.false in
+    let same : SameHouse (H.known c.args.house.now) (H.known c.reply_all.new.house) = c.in_ok-reply_all.ensures.known in
+    on-ok c.next_order.result (λ (p : (H.known c.next_order.new.house).present ≡ (H.known c.reply_all.new.house).present). present-alone (H.known c.next_order.new.house) (p ∙ (same.present ∙ here_is))) c.next_order.ensures.present
+
+pub returns-clause-present : goal.returns-clause-present
+returns-clause-present g c =
+    let H = g.H.House in
+    let W = g.W.Wire in
+    let here_is : (H.known c.args.house.now).present ≡ true = sym c.present.ensures.present ∙ c.if-not-present.false in
+    let same : SameHouse (H.known c.args.house.now) (H.known c.reply_all.new.house) = c.in_ok-reply_all.ensures.known in
+    on-ok c.next_order.result (λ (p : (H.known c.next_order.new.house).present ≡ (H.known c.reply_all.new.house).present). p ∙ same.present) c.next_order.ensures.present
+
+pub returns-clause-none : goal.returns-clause-none
+returns-clause-none g c out =
+    let H = g.H.House in
+    let W = g.W.Wire in
+    let here_is : (H.known c.args.house.now).present ≡ true = sym c.present.ensures.present ∙ c.if-not-present.false in
+    let same : SameHouse (H.known c.args.house.now) (H.known c.reply_all.new.house) = c.in_ok-reply_all.ensures.known in
+    true-false (sym here_is ∙ out)
+
+pub returns-clause-ready : goal.returns-clause-ready
+returns-clause-ready g c =
+    let H = g.H.House in
+    let W = g.W.Wire in
+    let here_is : (H.known c.args.house.now).present ≡ true = sym c.present.ensures.present ∙ c.if-not-present.false in
+    let same : SameHouse (H.known c.args.house.now) (H.known c.reply_all.new.house) = c.in_ok-reply_all.ensures.known in
+    where-false c.next_order.result
+    (λ (q : H.quiet c.next_order.new.house ≡ H.quiet c.reply_all.new.house) (o : (H.quiet c.next_order.new.house).orders ≡ true) (u : (t : ℕ) → H.queue c.next_order.new.house t ≡ H.queue c.reply_all.new.house t) (l : c.next_order.new.lists ≡ c.reply_all.new.lists).
+    subst (λ (x : Lists). HasNoMore (H.known c.next_order.new.house) (H.quiet c.next_order.new.house) (H.queue c.next_order.new.house) x.held x.failed x.own) (sym l)
+    (no-more (H.known c.next_order.new.house) (H.quiet c.reply_all.new.house) (H.quiet c.next_order.new.house) (H.queue c.reply_all.new.house) (H.queue c.next_order.new.house) c.reply_all.new.lists.held c.reply_all.new.lists.failed c.reply_all.new.lists.own o c.in_ok-reply_all.ensures.answered q u c.in_ok-reply_all.ensures.offered))
+    c.next_order.ensures.quiet c.next_order.ensures.orders c.next_order.ensures.queues c.next_order.ensures.still

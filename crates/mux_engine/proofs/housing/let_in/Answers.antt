@@ -1,0 +1,28 @@
+use Rattle.std.proofs.Common.{◌∷◌, sym, ap, refl, subst, true}
+use Rattle.mux_outside.specs.Seen.{Seen}
+use Rattle.mux_outside.specs.declared.mark.Mark.TheVariants.{Accepts}
+use Rattle.mux_history.specs.declared.limits.TheConstants.{HOUSE}
+use Rattle.mux_machine.specs.Events.{here}
+use Rattle.mux_engine.specs.Serving.{Promised, Serving}
+use Rattle.mux_engine.specs.Sides.{RestsOf}
+use Rattle.mux_engine.proofs.Arms.{on-err}
+use Rattle.mux_engine.proofs.Cuts.{cut-still}
+use Rattle.mux_engine.proofs.HouseCalls.{let-in, let-in-live}
+use Rattle.mux_engine.proofs.HouseTurns.{cut-let-in}
+use Rattle.mux_engine.proofs.housing.let_in.Goals as goal
+
+pub returns-in_err-note-clause-serving : goal.returns-in_err-note-clause-serving
+returns-in_err-note-clause-serving g c present before now policy pid start held failed given v first there = on-err c.from_residual.result _ _ c.from_residual.ensures.0
+    (cut-still v _ (ap (λ (x : Seen). x.told) c.in_err-note.ensures.seen))
+
+pub returns-in_err-event-clause-serving : goal.returns-in_err-event-clause-serving
+returns-in_err-event-clause-serving g c present before now policy pid start held failed given v first there = on-err c.from_residual-in_err-event.result _ _ c.from_residual-in_err-event.ensures.0
+    (subst (λ (x : Seen). Promised g.H.House.may (RestsOf g.H.House.told g.H.House.quiet present) before now.told policy pid start x.told given) (sym c.in_ok-note.ensures.seen) (cut-let-in v first there))
+
+pub returns-clause-serving : goal.returns-clause-serving
+returns-clause-serving g c present before now policy pid start held failed given v first there =
+    subst (λ (x : Seen). Serving g.H.House.may (RestsOf g.H.House.told g.H.House.quiet present) before (record now { let_in = true }) policy pid start x held failed given (0 ∷ here c.event.new.self) c.event.new.self) (sym c.in_ok-note.ensures.seen)
+    (let-in v c.event.new.self first there c.requires.on c.requires.refused (c.in_ok-event.ensures.stands (Accepts HOUSE) refl) c.in_ok-event.ensures.keeps)
+
+pub returns-clause-on : goal.returns-clause-on
+returns-clause-on g c present before now policy pid start held failed given v first = let-in-live v c.event.new.self first c.requires.on (c.in_ok-event.ensures.ends (Accepts HOUSE) refl)

@@ -1,0 +1,110 @@
+use Rattle.std.proofs.Common.{◌≡◌, ◌≤◌, ◌+◌, ◌∙◌, ◌∷◌, [], refl, ap, subst, ℕ, Bool, true, List, Option, length, arith}
+use Rattle.std.specs.Prelude.{Ok}
+use Rattle.ssh_fields.specs.Fields.{AreBytes}
+use Rattle.mux_outside.specs.House.{Known}
+use Rattle.mux_outside.specs.declared.house_mark.HouseMark.{HouseMark}
+use Rattle.mux_outside.specs.declared.house_mark.HouseMark.TheVariants.{HouseSaid}
+use Rattle.mux_outside.specs.declared.mark.Mark.TheVariants.{Gets}
+use Rattle.mux_history.specs.declared.limits.TheConstants.{HOUSE}
+use Rattle.mux_clients.specs.Asked.{TellsAsks}
+use Rattle.mux_machine.specs.Events.{Tells}
+use Rattle.mux_machine.specs.declared.event.Event.{Event}
+use Rattle.mux_engine.specs.Sides.{SameHouse}
+use Rattle.mux_engine.proofs.Arms.{on-err}
+use Rattle.mux_engine.proofs.Cuts.{cut-here}
+use Rattle.mux_engine.proofs.Handed.{turn-house}
+use Rattle.mux_engine.proofs.Noted.{seen-with}
+use Rattle.mux_engine.proofs.Spoken.{asks-ends, cut-said, err-serves, ok-serves, said-ends, said-heeds, some-said, told-said}
+use Rattle.mux_engine.proofs.housing.speak.Goals as goal
+
+pub returns-in_err-says-clause-serving : goal.returns-in_err-says-clause-serving
+returns-in_err-says-clause-serving g c held failed before policy pid start given v = on-err c.from_residual.result _ _ c.from_residual.ensures.0
+    (cut-here v (g.H.House.told c.says.new.self) _ (given + 1) [] refl c.in_err-says.ensures.told (omega arith))
+
+pub returns-in_err-bytes-clause-serving : goal.returns-in_err-bytes-clause-serving
+returns-in_err-bytes-clause-serving g c held failed before policy pid start given v =
+    let H = g.H.House in
+    let W = g.W.Wire in
+    let told : Option (List HouseMark) = H.told c.args.house.now in
+    let known : Known = H.known c.args.house.now in
+    let bytes : List ℕ = c.says.new.into in
+    let is : c.says.result ≡ Ok true = c.in_ok-says.was ∙ ap (λ (b : Bool). Ok b) c.if-not-branch.false in
+    let tells : TellsAsks told (H.told c.says.new.self) (HouseSaid bytes ∷ []) = told-said c.says.result bytes told (H.told c.says.new.self) is c.says.ensures.told in
+    let same : H.known c.says.new.self ≡ known = c.in_ok-says.ensures.known in
+    on-err c.from_residual-in_err-bytes.result _ _ c.from_residual-in_err-bytes.ensures.0
+    (cut-said told known v c.requires.on c.requires.present c.requires.room (H.told c.says.new.self) (H.known c.says.new.self) bytes tells same _ refl)
+
+pub returns-in_err-note-clause-serving : goal.returns-in_err-note-clause-serving
+returns-in_err-note-clause-serving g c held failed before policy pid start given v =
+    let H = g.H.House in
+    let W = g.W.Wire in
+    let told : Option (List HouseMark) = H.told c.args.house.now in
+    let known : Known = H.known c.args.house.now in
+    let bytes : List ℕ = c.says.new.into in
+    let is : c.says.result ≡ Ok true = c.in_ok-says.was ∙ ap (λ (b : Bool). Ok b) c.if-not-branch.false in
+    let tells : TellsAsks told (H.told c.says.new.self) (HouseSaid bytes ∷ []) = told-said c.says.result bytes told (H.told c.says.new.self) is c.says.ensures.told in
+    let same : H.known c.says.new.self ≡ known = c.in_ok-says.ensures.known in
+    on-err c.from_residual-in_err-note.result _ _ c.from_residual-in_err-note.ensures.0
+    (cut-said told known v c.requires.on c.requires.present c.requires.room (H.told c.says.new.self) (H.known c.says.new.self) bytes tells same _ (ap (λ (x : _). x.told) c.in_err-note.ensures.seen))
+
+pub returns-in_err-heed-clause-serving : goal.returns-in_err-heed-clause-serving
+returns-in_err-heed-clause-serving g c held failed before policy pid start given v =
+    let H = g.H.House in
+    let W = g.W.Wire in
+    let told : Option (List HouseMark) = H.told c.args.house.now in
+    let known : Known = H.known c.args.house.now in
+    let bytes : List ℕ = c.says.new.into in
+    let is : c.says.result ≡ Ok true = c.in_ok-says.was ∙ ap (λ (b : Bool). Ok b) c.if-not-branch.false in
+    let tells : TellsAsks told (H.told c.says.new.self) (HouseSaid bytes ∷ []) = told-said c.says.result bytes told (H.told c.says.new.self) is c.says.ensures.told in
+    let same : H.known c.says.new.self ≡ known = c.in_ok-says.ensures.known in
+    let e : c.as_bytes-2.result.now ≡ bytes = c.as_bytes-2.ensures.bytes in
+    let event : Event = c.event_of_bytes-said.result in
+    let there : Tells event (Gets HOUSE bytes) = subst (λ (l : List ℕ). Tells event (Gets HOUSE l)) e c.event_of_bytes-said.ensures.tells in
+    let few : length bytes ≤ 65536 = subst (λ (l : List ℕ). length l ≤ 65536) e c.as_bytes-2.ensures.room in
+    let are : AreBytes c.as_bytes-2.result.now = c.event_of_bytes-said.ensures.bytes in
+    let after : W.seen c.note.new.self ≡ seen-with (HouseSaid bytes ∷ []) (W.seen c.args.wire.now) = c.in_ok-note.ensures.seen ∙ ap (λ (l : List ℕ). seen-with (HouseSaid l ∷ []) (W.seen c.args.wire.now)) (c.in_ok-bytes.ensures ∙ c.as_bytes.ensures.bytes) in
+    on-err c.from_residual-in_err-heed.result _ _ c.from_residual-in_err-heed.ensures.0
+    (err-serves c.heed.result _ _ c.in_err-heed.was (said-heeds told known v c.requires.on c.requires.present c.requires.room (H.told c.says.new.self) (H.known c.says.new.self) bytes tells same event there (some-said c.says.result bytes is c.says.ensures.fits) few (subst AreBytes e are) c.heed.result c.heed.new.engine c.heed.new.asks (H.told c.heed.new.house) (H.known c.heed.new.house) (W.seen c.note.new.self) (W.seen c.heed.new.wire) after c.heed.ensures.heeded))
+
+pub returns-clause-serving : goal.returns-clause-serving
+returns-clause-serving g c held failed before policy pid start given v =
+    let H = g.H.House in
+    let W = g.W.Wire in
+    let told : Option (List HouseMark) = H.told c.args.house.now in
+    let known : Known = H.known c.args.house.now in
+    let bytes : List ℕ = c.says.new.into in
+    let is : c.says.result ≡ Ok true = c.in_ok-says.was ∙ ap (λ (b : Bool). Ok b) c.if-not-branch.false in
+    let tells : TellsAsks told (H.told c.says.new.self) (HouseSaid bytes ∷ []) = told-said c.says.result bytes told (H.told c.says.new.self) is c.says.ensures.told in
+    let same : H.known c.says.new.self ≡ known = c.in_ok-says.ensures.known in
+    let e : c.as_bytes-2.result.now ≡ bytes = c.as_bytes-2.ensures.bytes in
+    let event : Event = c.event_of_bytes-said.result in
+    let there : Tells event (Gets HOUSE bytes) = subst (λ (l : List ℕ). Tells event (Gets HOUSE l)) e c.event_of_bytes-said.ensures.tells in
+    let few : length bytes ≤ 65536 = subst (λ (l : List ℕ). length l ≤ 65536) e c.as_bytes-2.ensures.room in
+    let are : AreBytes c.as_bytes-2.result.now = c.event_of_bytes-said.ensures.bytes in
+    let after : W.seen c.note.new.self ≡ seen-with (HouseSaid bytes ∷ []) (W.seen c.args.wire.now) = c.in_ok-note.ensures.seen ∙ ap (λ (l : List ℕ). seen-with (HouseSaid l ∷ []) (W.seen c.args.wire.now)) (c.in_ok-bytes.ensures ∙ c.as_bytes.ensures.bytes) in
+    ok-serves c.heed.result _ _ c.in_ok-heed.was (said-heeds told known v c.requires.on c.requires.present c.requires.room (H.told c.says.new.self) (H.known c.says.new.self) bytes tells same event there (some-said c.says.result bytes is c.says.ensures.fits) few (subst AreBytes e are) c.heed.result c.heed.new.engine c.heed.new.asks (H.told c.heed.new.house) (H.known c.heed.new.house) (W.seen c.note.new.self) (W.seen c.heed.new.wire) after c.heed.ensures.heeded)
+
+pub returns-clause-known : goal.returns-clause-known
+returns-clause-known g c =
+    let H = g.H.House in
+    subst (λ (k : Known). SameHouse k (H.known c.heed.new.house)) c.in_ok-says.ensures.known
+    (ok-serves c.heed.result _ _ c.in_ok-heed.was (turn-house c.heed.result H.may c.event_of_bytes-said.result _ _ c.heed.new.asks _ _ (H.known c.says.new.self) (H.known c.heed.new.house) _ _ c.heed.ensures.heeded))
+
+pub returns-clause-ends : goal.returns-clause-ends
+returns-clause-ends g c held failed served =
+    let v = served.serving in
+    let H = g.H.House in
+    let W = g.W.Wire in
+    let told : Option (List HouseMark) = H.told c.args.house.now in
+    let known : Known = H.known c.args.house.now in
+    let bytes : List ℕ = c.says.new.into in
+    let is : c.says.result ≡ Ok true = c.in_ok-says.was ∙ ap (λ (b : Bool). Ok b) c.if-not-branch.false in
+    let tells : TellsAsks told (H.told c.says.new.self) (HouseSaid bytes ∷ []) = told-said c.says.result bytes told (H.told c.says.new.self) is c.says.ensures.told in
+    let same : H.known c.says.new.self ≡ known = c.in_ok-says.ensures.known in
+    let e : c.as_bytes-2.result.now ≡ bytes = c.as_bytes-2.ensures.bytes in
+    let event : Event = c.event_of_bytes-said.result in
+    let there : Tells event (Gets HOUSE bytes) = subst (λ (l : List ℕ). Tells event (Gets HOUSE l)) e c.event_of_bytes-said.ensures.tells in
+    let few : length bytes ≤ 65536 = subst (λ (l : List ℕ). length l ≤ 65536) e c.as_bytes-2.ensures.room in
+    let are : AreBytes c.as_bytes-2.result.now = c.event_of_bytes-said.ensures.bytes in
+    let after : W.seen c.note.new.self ≡ seen-with (HouseSaid bytes ∷ []) (W.seen c.args.wire.now) = c.in_ok-note.ensures.seen ∙ ap (λ (l : List ℕ). seen-with (HouseSaid l ∷ []) (W.seen c.args.wire.now)) (c.in_ok-bytes.ensures ∙ c.as_bytes.ensures.bytes) in
+    asks-ends event bytes _ there (ok-serves c.heed.result _ _ c.in_ok-heed.was (said-ends told known v c.requires.on c.requires.present c.requires.room (H.told c.says.new.self) (H.known c.says.new.self) bytes tells same event there (some-said c.says.result bytes is c.says.ensures.fits) few (subst AreBytes e are) c.heed.result c.heed.new.engine c.heed.new.asks (H.told c.heed.new.house) (H.known c.heed.new.house) (W.seen c.note.new.self) (W.seen c.heed.new.wire) c.heed.ensures.heeded))

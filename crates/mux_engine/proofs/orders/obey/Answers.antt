@@ -1,0 +1,22 @@
+use Rattle.std.proofs.Common.{◌∙◌, [], ap, refl, arith}
+use Rattle.mux_engine.proofs.Arms.{on-err}
+use Rattle.mux_engine.proofs.Cuts.{cut-here}
+use Rattle.mux_engine.proofs.OrderHoused.{housed-noted}
+use Rattle.mux_engine.proofs.Ordered.{carried-told, closes-own, order-noted, side-carried}
+use Rattle.mux_engine.proofs.Told.{tells-none}
+use Rattle.mux_engine.proofs.orders.obey.Goals as goal
+
+pub returns-in_err-number-clause-serving : goal.returns-in_err-number-clause-serving
+returns-in_err-number-clause-serving g c todo s before policy pid start given v = on-err c.from_residual.result _ _ c.from_residual.ensures.0
+    (cut-here v _ _ _ [] c.in_err-number.ensures.kept (c.in_err-number.ensures.untold ∙ tells-none _) (omega arith))
+
+pub returns-clause-serving : goal.returns-clause-serving
+returns-clause-serving g c todo s before policy pid start given v =
+    let o = c.in_ok-number.ensures in
+    let side = side-carried c.args.order c.in_ok-number.number _ _ _ _ c.requires.ordered o.known in
+    order-noted v c.note.result c.args.order c.in_ok-number.number _ _ _ _ _ c.requires.present o.made (closes-own c.args.order _ _ _ c.requires.ordered) refl o.told side.asks refl side.present o.seen (ap (λ x. x.told) o.seen ∙ carried-told c.args.order c.in_ok-number.number _) c.note.ensures.seen o.held o.failed
+
+pub returns-clause-housed : goal.returns-clause-housed
+returns-clause-housed g c =
+    let o = c.in_ok-number.ensures in
+    housed-noted c.note.result c.args.order c.in_ok-number.number _ _ _ _ _ _ _ _ c.requires.ordered o.made o.known o.seen o.own c.note.ensures.seen

@@ -1,0 +1,54 @@
+use Rattle.std.proofs.Common.{◌+◌, ◌∷◌, ◌∙◌, refl, sym, inl, arith}
+use Rattle.mux_machine.specs.Events.{here}
+use Rattle.mux_engine.proofs.Arms.{on-ok, well-none}
+use Rattle.mux_engine.proofs.HouseCalls.{reply-covers, same-house}
+use Rattle.mux_engine.proofs.Lists.{true-false}
+use Rattle.mux_engine.proofs.Places.{places-same}
+use Rattle.mux_engine.proofs.Running.{given-is, match-more}
+use Rattle.mux_engine.proofs.Todo.{serve-todo}
+use Rattle.mux_engine.proofs.serving.last_replies.Goals as goal
+
+pub returns-then-not-all : goal.returns-then-not-all
+returns-then-not-all g c = record {
+  serving = λ before policy pid start given v. given-is given (given + 0) (omega arith) v;
+  known = same-house _ _ refl;
+  places = places-same _ _ refl;
+  unasked = λ e. refl;
+  ended = refl;
+  alone = λ p. (refl, refl);
+  calls = well-none _;
+  faults = refl;
+  openings = refl;
+  joinings = refl;
+}
+
+pub returns-then-not-present : goal.returns-then-not-present
+returns-then-not-present g c = record {
+  serving = λ before policy pid start given v. given-is given (given + 0) (omega arith) v;
+  known = same-house _ _ refl;
+  places = places-same _ _ refl;
+  unasked = λ e. refl;
+  ended = refl;
+  alone = λ p. (refl, refl);
+  calls = well-none _;
+  faults = refl;
+  openings = refl;
+  joinings = refl;
+}
+
+pub reply_all-requires : goal.reply_all-requires
+reply_all-requires g c = record { served = c.requires.served; housed = c.requires.housed; present = sym c.present.ensures.present ∙ c.if-not-present.false; held_is = c.requires.held_is; on = c.requires.on c.if-not-all.false }
+
+pub returns : goal.returns
+returns g c = let o = c.reply_all.ensures in record {
+  serving = λ before policy pid start given v. match-more c.reply_all.result _ (λ x. serve-todo x (0 ∷ here c.reply_all.new.engine) (λ t a. inl (reply-covers _ _ refl t a))) (o.serving before policy pid start given v);
+  known = o.known;
+  places = o.places;
+  unasked = λ e. true-false (sym c.if-not-all.false ∙ e);
+  ended = on-ok c.reply_all.result (λ e. e ∙ sym (c.requires.on c.if-not-all.false)) o.on;
+  alone = λ p. true-false (sym (sym c.present.ensures.present ∙ c.if-not-present.false) ∙ p);
+  calls = o.calls;
+  faults = o.faults;
+  openings = o.openings;
+  joinings = o.joinings;
+}

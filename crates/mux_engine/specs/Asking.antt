@@ -1,0 +1,43 @@
+-- An event of the engine, with what the house was asked by it, noted at the wire.
+use Rattle.std.specs.Prelude.{◌≡◌, ◌⊎◌, ℕ, List, [], ◌++◌, length, map, take, Option, Some, Result, Ok, Err}
+use Rattle.std.specs.Option.{option_map}
+use Rattle.mux_outside.specs.House.{Known}
+use Rattle.mux_outside.specs.Seen.{Seen}
+use Rattle.mux_outside.specs.declared.house.HouseReply.{HouseReply}
+use Rattle.mux_outside.specs.declared.house_mark.HouseMark.{HouseMark}
+use Rattle.mux_outside.specs.declared.mark.Mark.{Mark}
+use Rattle.mux_outside.specs.declared.mark.Mark.TheVariants.{House}
+use Rattle.mux_clients.specs.Asked.{known_after, TellsAsks}
+use Rattle.mux_machine.specs.declared.event.Event.{Event}
+use Rattle.mux_machine.specs.Events.{EndsBy, Keeps, Tells}
+use Rattle.mux_machine.specs.Stands.{GoesOn}
+use Rattle.mux_machine.specs.State.{State}
+
+-- the engine took in the event, the house was asked this, and so many asks were noted
+pub record HeedsSo (May : HouseReply → Type 0) (e : Event) (s s' : State) (asks : List HouseMark)
+    (told told' : Option (List HouseMark)) (known known' : Known) (seen seen' : Seen) (n : ℕ) :
+    Type 0 where
+  pub goes : (mark : Mark) → Tells e mark → GoesOn May (Some []) (Some asks) s s' mark
+  pub keeps : Keeps e s s'
+  pub ends : (mark : Mark) → Tells e mark → EndsBy e s s' mark
+  pub told_is : TellsAsks told told' asks
+  pub known_is : known' ≡ known_after asks known
+  pub seen_is : seen' ≡ record seen {
+    told = option_map (λ (m : List Mark). m ++ map (λ (a : HouseMark). House a) (take n asks)) seen.told;
+  }
+
+-- there was no memory for the event, and the house told perhaps some asks
+pub record Unheeded (told told' : Option (List HouseMark)) (seen seen' : Seen) : Type 0 where
+  pub more : List HouseMark
+  pub told_is : TellsAsks told told' more
+  pub seen_is : seen' ≡ seen
+
+-- all asks were noted; or there was no memory for the event, or to note all of them
+abbrev pub Heeded : {A E : Type 0} → Result A E → (HouseReply → Type 0) → Event → State → State
+    → List HouseMark → Option (List HouseMark) → Option (List HouseMark) → Known → Known → Seen
+    → Seen → Type 0
+Heeded (Ok x) May e s s' asks told told' known known' seen seen' =
+    HeedsSo May e s s' asks told told' known known' seen seen' (length asks)
+Heeded (Err x) May e s s' asks told told' known known' seen seen' =
+    Unheeded told told' seen seen'
+    ⊎ ((n : ℕ) × HeedsSo May e s s' asks told told' known known' seen seen' n)

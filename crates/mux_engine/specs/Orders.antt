@@ -1,0 +1,83 @@
+-- What carrying out an order leaves.
+use Rattle.std.specs.Prelude.{◌≡◌, ℕ, true, false, List, [], ◌∷◌, ◌++◌, Option, Some, None, Result, Ok, Err, IsErr}
+use Rattle.mux_outside.specs.House.{Known, OrderFits, known_after_order, known_after_ordered}
+use Rattle.mux_outside.specs.Seen.{Seen, seen_after_close, seen_after_finish, seen_after_pause, seen_after_unlisten}
+use Rattle.mux_outside.specs.Streams.{without}
+use Rattle.mux_outside.specs.Wire.{IsNewOwn}
+use Rattle.mux_outside.specs.declared.file_error.FileError.{FileError}
+use Rattle.mux_outside.specs.declared.file_error.FileError.TheVariants.{Failed, OutOfMemory}
+use Rattle.mux_outside.specs.declared.house_mark.HouseMark.{HouseMark}
+use Rattle.mux_outside.specs.declared.house_mark.HouseMark.TheVariants.{HouseOrder}
+use Rattle.mux_outside.specs.declared.order.Order.{Order}
+use Rattle.mux_outside.specs.declared.order.Order.TheVariants.{Listen, Connect, Unlisten, Pause, Resume, Finish, Close}
+use Rattle.mux_outside.specs.OwnStreams.{new_stream}
+use Rattle.mux_engine.specs.Sides.{Housed}
+
+-- what is seen then; the number is that of what was made
+abbrev pub seen_carried : Order → Option ℕ → Seen → Seen
+seen_carried (Listen host port) (Some n) seen =
+    record seen { listeners = seen.listeners ++ n ∷ []; last_own = n }
+seen_carried (Connect host port) (Some n) seen = record seen {
+  streams = seen.streams ++ n ∷ [];
+  blocked = seen.blocked ++ n ∷ [];
+  own = seen.own ++ new_stream n ∷ [];
+  last_own = n;
+}
+seen_carried (Unlisten l) number seen = seen_after_unlisten l seen
+seen_carried (Pause t) number seen = seen_after_pause true t seen
+seen_carried (Resume t) number seen = seen_after_pause false t seen
+seen_carried (Finish t) number seen = seen_after_finish t seen
+seen_carried (Close t) number seen = seen_after_close t seen
+seen_carried order number seen = seen
+
+-- the numbers of the house's streams then
+abbrev pub own_carried : Order → Option ℕ → List ℕ → List ℕ
+own_carried (Connect host port) (Some n) own = own ++ n ∷ []
+own_carried (Close t) number own = without t own
+own_carried order number own = own
+
+-- those that are blocked then
+abbrev pub held_carried : Order → Option ℕ → List ℕ → List ℕ
+held_carried (Connect host port) (Some n) held = held ++ n ∷ []
+held_carried (Close t) number held = without t held
+held_carried order number held = held
+
+-- those that failed then
+abbrev pub failed_carried : Order → List ℕ → List ℕ
+failed_carried (Close t) failed = without t failed
+failed_carried order failed = failed
+
+-- what is known of the house then
+abbrev pub known_carried : Order → Option ℕ → Known → Known
+known_carried (Listen host port) number known = known_after_ordered number known
+known_carried (Connect host port) number known = known_after_ordered number known
+known_carried order number known = known
+
+-- what it told then, which it did as it gave the order where it makes nothing
+abbrev pub more_told : Order → Option ℕ → List HouseMark
+more_told (Listen host port) number = HouseOrder (Listen host port) number ∷ []
+more_told (Connect host port) number = HouseOrder (Connect host port) number ∷ []
+more_told order number = []
+
+-- an order makes nothing but a listener or a stream, with a number that is new
+abbrev pub MadeBy : Order → Option ℕ → Seen → Type 0
+MadeBy (Listen host port) (Some n) seen = IsNewOwn seen.last_own n
+MadeBy (Connect host port) (Some n) seen = IsNewOwn seen.last_own n
+MadeBy (Listen host port) None seen = Unit {0}
+MadeBy (Connect host port) None seen = Unit {0}
+MadeBy order number seen = number ≡ None
+
+-- the house gave this order last
+pub record HasOrdered (order : Order) (known : Known) (seen : Seen) (own : List ℕ) : Type 0 where
+  pub before : Known
+  pub housed : Housed before seen own
+  pub fits : OrderFits (Some order) before
+  pub known_is : known ≡ known_after_order (Some order) before
+
+-- ---- what was made
+
+-- the number of what was made, and none where that failed; want of memory is no refusal
+abbrev pub IsMade : {E : Type 0} → Result ℕ FileError → Result (Option ℕ) E → Type 0
+IsMade (Ok n) result = result ≡ Ok (Some n)
+IsMade (Err Failed) result = result ≡ Ok None
+IsMade (Err OutOfMemory) result = IsErr result

@@ -1,0 +1,103 @@
+-- What is kept of a house, and what its marks and the wire's streams are to each other.
+use Rattle.std.specs.Prelude.{◌≡◌, ◌≤◌, ℕ, Bool, false, List, [], ◌∷◌, ◌++◌, filter, Option, Some, None, IsTrue}
+use Rattle.mux_outside.specs.House.{IsAtRest, Known, OpenAsk, Quiet}
+use Rattle.mux_outside.specs.OwnStreams.{is_one, is_own, numbers_of}
+use Rattle.mux_outside.specs.Seen.{Seen}
+use Rattle.mux_outside.specs.Streams.{among}
+use Rattle.mux_outside.specs.declared.house_mark.HouseMark.{HouseMark}
+use Rattle.mux_outside.specs.declared.house_mark.HouseMark.TheVariants.{HouseIn}
+use Rattle.mux_outside.specs.declared.mark.Mark.{Mark}
+use Rattle.mux_outside.specs.declared.mark.Mark.TheVariants.{House}
+use Rattle.mux_history.specs.declared.ended.Ended.{Ended}
+use Rattle.mux_history.specs.declared.limits.TheConstants.{HOUSE}
+use Rattle.mux_history.specs.Promises.{is_asked}
+
+-- ---- the house's marks of a journal
+
+-- the mark of a house, which it tells too unless it is that it is let in
+abbrev pub house_mark : Mark → List HouseMark
+house_mark (House HouseIn) = []
+house_mark (House mark) = mark ∷ []
+house_mark mark = []
+
+-- all that it tells, the oldest first
+abbrev pub house_marks : List Mark → List HouseMark
+house_marks [] = []
+house_marks (mark ∷ before) = house_marks before ++ house_mark mark
+
+-- its asks
+abbrev pub asks_in : List HouseMark → List HouseMark
+asks_in marks = filter is_asked marks
+
+-- ---- a house and what is noted of it
+
+-- what it told; its open asks; the last of what it told, which is not noted yet; and whether it was
+-- let in as a client
+pub record Side : Type 0 where
+  pub told : Option (List HouseMark)
+  pub asks : List OpenAsk
+  pub unnoted : List HouseMark
+  pub let_in : Bool
+
+-- a house that is let in where it is present, with this that is not noted yet
+abbrev pub noting : List HouseMark → Option (List HouseMark) → Known → Side
+noting unnoted told known =
+    record { told = told; asks = known.asks; unnoted = unnoted; let_in = known.present }
+
+-- all of it is noted
+abbrev pub noted : Option (List HouseMark) → Known → Side
+noted told known = noting [] told known
+
+-- one that was not let in yet
+abbrev pub outside : Option (List HouseMark) → Known → Side
+outside told known = record (noted told known) { let_in = false }
+
+-- whether a house is present, and what is so of it at rest by what it told
+pub record Resting : Type 1 where
+  pub present : Bool
+  pub rests : Option (List HouseMark) → Type 0
+
+-- there is a house at rest that has told this, unless none is present
+abbrev pub RestsOf : {T : Type 0} → (T → Option (List HouseMark)) → (T → Quiet) → Bool → Resting
+RestsOf {T} told quiet present = record {
+  present = present;
+  rests = λ now. IsTrue present → (house : T) × (IsAtRest (quiet house) × (told house ≡ now));
+}
+
+-- ---- its streams and listeners
+
+-- the same streams are open, and the same listeners
+pub record SamePlaces (old new : Seen) : Type 0 where
+  pub streams : new.streams ≡ old.streams
+  pub listeners : new.listeners ≡ old.listeners
+  pub own : new.own ≡ old.own
+  pub last_own : new.last_own ≡ old.last_own
+
+-- the wire's own streams are the open ones with numbers of their own, and its listeners have such
+-- numbers as were given
+pub record OwnPlaces (seen : Seen) : Type 0 where
+  pub opened : (t : ℕ) → IsTrue (is_one t seen.own) → IsTrue (among t seen.streams)
+  pub numbered : (t : ℕ) → IsTrue (is_one t seen.own) → IsTrue (is_own t)
+  pub listed : (t : ℕ) → IsTrue (among t seen.streams) → IsTrue (is_own t) → IsTrue (is_one t seen.own)
+  pub given : (t : ℕ) → IsTrue (is_one t seen.own) → t ≤ seen.last_own
+  pub listening : (l : ℕ) → IsTrue (among l seen.listeners) → l ≤ seen.last_own
+
+-- what is known of the house is what the wire has seen of it; these are the numbers of its streams
+pub record Housed (known : Known) (seen : Seen) (own : List ℕ) : Type 0 where
+  pub ordering : known.ordering ≡ None
+  pub listeners : known.listeners ≡ seen.listeners
+  pub streams : known.streams ≡ seen.own
+  pub own_is : own ≡ numbers_of seen.own
+  pub places : OwnPlaces seen
+
+-- nothing is left to be offered while the run goes on; at its end the house may be left
+abbrev pub unsettled : Option Ended → List ℕ
+unsettled None = []
+unsettled (Some cause) = HOUSE ∷ []
+
+-- only its asks changed
+pub record SameHouse (old new : Known) : Type 0 where
+  pub present : new.present ≡ old.present
+  pub ordering : new.ordering ≡ old.ordering
+  pub listeners : new.listeners ≡ old.listeners
+  pub streams : new.streams ≡ old.streams

@@ -1,0 +1,6 @@
+use Rattle.std.proofs.Common.{◌≡◌, ◌++◌, map, take, drop}
+use Rattle.mux_outside.specs.OwnStreams.{pause_one}
+use Rattle.mux_outside.proofs.own_streams.OwnStreams.set_paused.Given as goal
+
+abbrev pub invariant-loop-stream : goal.invariant-loop-stream
+invariant-loop-stream l = l.stream-items ≡ map (pause_one l.paused l.number) (take l.stream-index l.initial.stream-items) ++ drop l.stream-index l.initial.stream-items

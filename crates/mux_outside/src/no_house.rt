@@ -1,0 +1,92 @@
+ghost use Rattle.std.specs.Prelude.{◌≡◌, true, false, [], None};
+ghost use Rattle.mux_outside.specs.declared.house.HouseReply.TheVariants.{Refused};
+ghost use Rattle.mux_outside.specs.House.{nothing_known};
+
+use crate::house::{FwdAsk, House, HouseReply};
+use crate::order::Order;
+use crate::own_turn::OwnTurn;
+use crate::piece::Piece;
+use crate::starts::Starts;
+use ssh_fields::OutOfMemory;
+
+/// A master with no forwardings of its own: it refuses every ask.
+#[derive(Clone, Copy, Debug)]
+pub struct NoHouse;
+
+impl House for NoHouse {
+    ghost may = { λ reply. reply ≡ Refused };
+
+    ghost told = { λ _. None };
+
+    ghost known = { λ _. nothing_known false };
+
+    ghost quiet = { λ _. record { says = true; orders = true; answers = true } };
+
+    ghost queue = { λ _ _. [] };
+
+    ghost refused = { λ _. None };
+
+    ghost fresh = { λ _. Unit {0} };
+
+    ghost begun = { λ _. Unit {0} };
+
+    ghost must = { λ _. false };
+
+    fn present(&self) -> bool {
+        false
+    }
+
+    fn begin(&mut self, _starts: &Starts) -> Result<(), OutOfMemory> {
+        Ok(())
+    }
+
+    fn ask(
+        &mut self,
+        _client: u64,
+        _id: u32,
+        _opening: bool,
+        _what: &FwdAsk<'_>,
+    ) -> Result<HouseReply, OutOfMemory> {
+        Ok(HouseReply::Refused)
+    }
+
+    fn answer(&mut self) -> Option<(u64, u32, HouseReply)> {
+        None
+    }
+
+    fn says(&mut self, _into: &mut Piece) -> Result<bool, OutOfMemory> {
+        Ok(false)
+    }
+
+    fn takes(&mut self, _bytes: &[u8]) -> Result<(), OutOfMemory> {
+        Ok(())
+    }
+
+    fn order(&mut self) -> Option<Order> {
+        None
+    }
+
+    fn ordered(&mut self, _number: Option<u64>)
+        ensures { self.new ≡ self.old }
+    {}
+
+    fn turn(&mut self, _t: OwnTurn<'_>) -> Result<(), OutOfMemory>
+        ensures { self.new ≡ self.old }
+    {
+        Ok(())
+    }
+
+    fn queue_of(&self, _stream: u64) -> &[u8] {
+        &[]
+    }
+
+    fn took(&mut self, _stream: u64, _n: usize) {}
+
+    fn refused_start(&self) -> Option<usize> {
+        None
+    }
+
+    fn must(&self) -> bool {
+        false
+    }
+}

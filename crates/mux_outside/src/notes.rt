@@ -1,0 +1,29 @@
+ghost use Rattle.std.specs.Prelude.{◌≡◌, ◌≤◌, ◌+◌, ◌++◌, ◌∷◌, [], ℕ, List, Option, OnOk, OnErr};
+ghost use Rattle.std.specs.Option.{option_map};
+ghost use Rattle.mux_outside.specs.declared.house_mark.HouseMark.{HouseMark as TheMark};
+
+use crate::house_mark::HouseMark;
+use ssh_fields::OutOfMemory;
+
+/// Where a house hands its marks.
+pub trait Notes {
+    /// The marks taken, where they are told.
+    ghost told: { Self → Option (List TheMark) };
+
+    /// For how many marks there is room.
+    ghost spare: { Self → ℕ };
+
+    /// Makes room for so many marks at least.
+    fn room(&mut self, n: usize) -> Result<(), OutOfMemory>
+        ensures ok { OnOk result (n ≤ spare self.new) }
+        ensures more { OnOk result (spare self.old ≤ spare self.new) }
+        ensures unchanged { OnErr result (spare self.new ≡ spare self.old) }
+        ensures told { told self.new ≡ told self.old };
+
+    /// Takes a mark, and no memory.
+    fn note(&mut self, m: HouseMark)
+        requires { 1 ≤ spare self.old }
+        ensures told { told self.new
+            ≡ option_map (λ marks. marks ++ m ∷ []) (told self.old) }
+        ensures spare { spare self.old ≤ spare self.new + 1 };
+}
