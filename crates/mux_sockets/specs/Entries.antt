@@ -1,5 +1,5 @@
 -- Which sockets are those of a stream.
-use Rattle.std.specs.Prelude.{◌≡◌, ◌≢◌, ℕ, Bool, true, ◌||◌, IsSome, IsSomeAnd, nat_eq}
+use Rattle.std.specs.Prelude.{◌≡◌, ◌≢◌, ℕ, Bool, true, false, ◌||◌, IsSome, IsSomeAnd, nat_eq}
 use Rattle.indexmap.specs.IndexMap.{IndexMap, get}
 use Rattle.mux_outside.specs.declared.turn.Turn.{Turn}
 use Rattle.mux_outside.specs.declared.turn.Turn.TheVariants.{Accepted, Got, End, Writable, Failed, Joined, NoMemory}
@@ -52,12 +52,28 @@ module _ {S : Type 0} where
   StopsShort number entries =
       IsSomeAnd (get nat_eq entries number) (λ entry. entry.stops_short ≡ true)
 
-  -- a client that was accepted has a socket, and so has a stream that was joined
-  abbrev pub HasClient : Turn → IndexMap ℕ Entry S → Type 0
-  HasClient (Accepted k) entries = HasEntry k entries
-  HasClient (Got t) entries = Unit {0}
-  HasClient (End t) entries = Unit {0}
-  HasClient (Writable t) entries = Unit {0}
-  HasClient (Failed t) entries = Unit {0}
-  HasClient (Joined l t) entries = HasEntry t entries
-  HasClient NoMemory entries = Unit {0}
+  -- a stream's connection is made
+  abbrev pub IsConnected : ℕ → IndexMap ℕ Entry S → Type 0
+  IsConnected number entries =
+      IsSomeAnd (get nat_eq entries number) (λ entry. entry.connecting ≡ false)
+
+  -- what may be read of a stream is kept back for its pause alone
+  abbrev pub IsKeptBack : ℕ → IndexMap ℕ Entry S → Type 0
+  IsKeptBack number entries = IsSomeAnd (get nat_eq entries number)
+      (λ entry. (entry.held ≡ true) × (entry.connecting ≡ false) × (entry.ended ≡ false))
+
+  -- what may be read of a stream is kept back for its connection alone
+  abbrev pub IsAwaited : ℕ → IndexMap ℕ Entry S → Type 0
+  IsAwaited number entries = IsSomeAnd (get nat_eq entries number)
+      (λ entry. (entry.held ≡ true) × (entry.paused ≡ false) × (entry.ended ≡ false))
+
+  -- a client that was accepted has a socket, and so has a stream that was joined; one that can be
+  -- written to is connected
+  abbrev pub Stands : Turn → IndexMap ℕ Entry S → Type 0
+  Stands (Accepted k) entries = HasEntry k entries
+  Stands (Got t) entries = Unit {0}
+  Stands (End t) entries = Unit {0}
+  Stands (Writable t) entries = IsConnected t entries
+  Stands (Failed t) entries = Unit {0}
+  Stands (Joined l t) entries = HasEntry t entries
+  Stands NoMemory entries = Unit {0}

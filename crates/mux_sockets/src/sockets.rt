@@ -2,7 +2,7 @@
 ghost use Rattle.std.specs.Prelude.{◌≡◌, ◌≢◌, ℕ, List, Err, IfOk, IfSome, IsErr, IsNone, IsSome, IsUtf8, None, OnOk, false, true, nat_eq};
 ghost use Rattle.std.specs.IoError.{error_kind};
 ghost use Rattle.mux_sockets.specs.Sockets.{FoundFits};
-ghost use Rattle.mux_sockets.specs.Entries.{HasClient, HasEntry, IsBlocked, OthersStay, StopsShort};
+ghost use Rattle.mux_sockets.specs.Entries.{HasEntry, IsBlocked, OthersStay, Stands, StopsShort};
 ghost use Rattle.mux_sockets.specs.declared.numbers.Numbers.{Numbers};
 ghost use Rattle.indexmap.specs.IndexMap.{get};
 
@@ -247,7 +247,7 @@ impl<R: Files + Net + Clone + Drop> Sockets<R> {
     /// that is joined get the given number; without one none is accepted.
     pub fn next(&mut self, waiting: &[u64], want: Want, numbers: Numbers, into: &mut Piece) -> Turn
         ensures fits { FoundFits result numbers into.old into.new }
-        ensures client { HasClient result self.new.entries }
+        ensures stands { Stands result self.new.entries }
         ensures listening { self.new.listening ≡ self.old.listening }
     {
         for _ in 0..u64::MAX {

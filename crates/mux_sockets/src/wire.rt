@@ -1,5 +1,5 @@
 ghost use Rattle.std.specs.Prelude.{◌≡◌, ◌≢◌, ◌<◌, ◌+◌, ◌++◌, ◌∷◌, ◌&&◌, not, ℕ, List, [], length, false, true, IfSome, IsErr, IsNone, IsSome, IsSomeAnd, IsTrue, IsUtf8, None, OnErr, OnOk, nat_eq, option_map};
-ghost use Rattle.mux_outside.specs.Seen.{no_calls, seen_after_connect, seen_after_join, seen_after_listen, seen_after_open};
+ghost use Rattle.mux_outside.specs.Seen.{no_calls, seen_after_connect, seen_after_finish, seen_after_join, seen_after_listen, seen_after_open, seen_after_pause};
 ghost use Rattle.mux_outside.specs.Streams.{among};
 ghost use Rattle.mux_outside.specs.Tally.{no_tally};
 ghost use Rattle.mux_outside.specs.Wire.{JoinFaults, OpenFaults, TurnFits, TurnFaults, open_after, blocked_after, last_after};
@@ -10,7 +10,7 @@ ghost use Rattle.mux_outside.specs.declared.own_streams.TheConstants.{LAST_CLIEN
 ghost use Rattle.mux_outside.specs.declared.turn.Want.TheVariants.{Read as WantsAll};
 ghost use Rattle.mux_outside.specs.declared.turn.Turn.TheVariants.{NoMemory};
 ghost use Rattle.indexmap.specs.IndexMap.{get};
-ghost use Rattle.mux_sockets.specs.Entries.{HasClient, HasEntry};
+ghost use Rattle.mux_sockets.specs.Entries.{HasEntry, IsFinished, IsPaused, Stands};
 ghost use Rattle.mux_sockets.specs.Sockets.{FoundFits, Tells};
 ghost use Rattle.mux_sockets.specs.Untold.{untold};
 
@@ -486,7 +486,20 @@ impl<R: Files + Net + Clone + Drop> Wire for RealWire<R> {
         }
     }
 
-    fn pause(&mut self, stream: u64) {
+    fn pause(&mut self, stream: u64)
+        ensures paused { IfSome self.old.sockets (λ old. is_own stream ≡ true
+            → HasEntry stream old.entries
+            → IsSomeAnd self.new.sockets (λ new. IsPaused true stream new.entries)) }
+        ensures seen { untold self.new.streams self.new.blocked self.new.listening self.new.last
+            self.new.listeners self.new.own self.new.last_own
+            ≡ seen_after_pause true stream
+            (untold self.old.streams self.old.blocked self.old.listening self.old.last
+            self.old.listeners self.old.own self.old.last_own) }
+        ensures calls { self.new.calls ≡ self.old.calls }
+        ensures server { self.new.server_faults ≡ self.old.server_faults }
+        ensures client { self.new.client_faults ≡ self.old.client_faults }
+        ensures own_faults { self.new.own_faults ≡ self.old.own_faults }
+    {
         self.own.set_paused(stream, true);
         match &mut self.sockets {
             Some(sockets) if is_own(stream) => sockets.pause(stream),
@@ -494,7 +507,20 @@ impl<R: Files + Net + Clone + Drop> Wire for RealWire<R> {
         }
     }
 
-    fn resume(&mut self, stream: u64) {
+    fn resume(&mut self, stream: u64)
+        ensures resumed { IfSome self.old.sockets (λ old. is_own stream ≡ true
+            → HasEntry stream old.entries
+            → IsSomeAnd self.new.sockets (λ new. IsPaused false stream new.entries)) }
+        ensures seen { untold self.new.streams self.new.blocked self.new.listening self.new.last
+            self.new.listeners self.new.own self.new.last_own
+            ≡ seen_after_pause false stream
+            (untold self.old.streams self.old.blocked self.old.listening self.old.last
+            self.old.listeners self.old.own self.old.last_own) }
+        ensures calls { self.new.calls ≡ self.old.calls }
+        ensures server { self.new.server_faults ≡ self.old.server_faults }
+        ensures client { self.new.client_faults ≡ self.old.client_faults }
+        ensures own_faults { self.new.own_faults ≡ self.old.own_faults }
+    {
         self.own.set_paused(stream, false);
         match &mut self.sockets {
             Some(sockets) if is_own(stream) => sockets.resume(stream),
@@ -502,7 +528,20 @@ impl<R: Files + Net + Clone + Drop> Wire for RealWire<R> {
         }
     }
 
-    fn finish(&mut self, stream: u64) {
+    fn finish(&mut self, stream: u64)
+        ensures finished { IfSome self.old.sockets (λ old. is_own stream ≡ true
+            → HasEntry stream old.entries
+            → IsSomeAnd self.new.sockets (λ new. IsFinished stream new.entries)) }
+        ensures seen { untold self.new.streams self.new.blocked self.new.listening self.new.last
+            self.new.listeners self.new.own self.new.last_own
+            ≡ seen_after_finish stream
+            (untold self.old.streams self.old.blocked self.old.listening self.old.last
+            self.old.listeners self.old.own self.old.last_own) }
+        ensures calls { self.new.calls ≡ self.old.calls }
+        ensures server { self.new.server_faults ≡ self.old.server_faults }
+        ensures client { self.new.client_faults ≡ self.old.client_faults }
+        ensures own_faults { self.new.own_faults ≡ self.old.own_faults }
+    {
         self.own.finish(stream);
         match &mut self.sockets {
             Some(sockets) if is_own(stream) => sockets.finish(stream),
@@ -524,7 +563,7 @@ fn found_next<R: Files + Net + Clone + Drop>(
     into: &mut Piece,
 ) -> Turn
     ensures fits { FoundFits result numbers into.old into.new }
-    ensures client { IfSome sockets.new (λ s. HasClient result s.entries) }
+    ensures stands { IfSome sockets.new (λ s. Stands result s.entries) }
     ensures listening { option_map (λ s. s.listening) sockets.new
         ≡ option_map (λ s. s.listening) sockets.old }
 {

@@ -1,7 +1,8 @@
 //! The master's own listeners and streams.
-ghost use Rattle.std.specs.Prelude.{◌≡◌, ◌⊎◌, false, true, IfSome, IsSome, None, OnOk, OnSome, nat_eq};
+ghost use Rattle.std.specs.Prelude.{◌≡◌, ◌⊎◌, false, true, IfSome, IsSome, None, OnOk, OnSome, Some, nat_eq};
 ghost use Rattle.indexmap.specs.IndexMap.{get};
-ghost use Rattle.mux_sockets.specs.Entries.{HasEntry, IsBlocked, IsFinished, IsPaused, OthersStay};
+ghost use Rattle.mux_sockets.specs.Entries.{HasEntry, IsAwaited, IsBlocked, IsConnected, IsFinished, IsKeptBack, IsNoted, IsPaused, OthersStay};
+ghost use Rattle.mux_sockets.specs.Ready.{IsFull};
 
 use super::Sockets;
 use super::ready::Door;
@@ -62,23 +63,19 @@ impl<R: Files + Net + Clone + Drop> Sockets<R> {
     pub(super) fn meet(&mut self, number: u64) -> Option<Turn>
         ensures turn { IfSome result (λ turn.
             (turn ≡ Turn.Writable number) ⊎ (turn ≡ Turn.Failed number)) }
+        ensures connected { result ≡ Some (Turn.Writable number)
+            → IsConnected number self.new.entries }
+        ensures noted { result ≡ Some (Turn.Writable number) → IsAwaited number self.old.entries
+            → IsNoted number self.new.entries ⊎ IsFull self.old.ready }
         ensures others { OthersStay number self.old.entries self.new.entries }
         ensures listening { self.new.listening ≡ self.old.listening }
     {
         let entry = self.entries.get_mut(&number)?;
         entry.writes = false;
-        match entry.stream.is_made() {
-            Ok(false) => None,
-            Ok(true) => {
-                entry.made();
-                let _ = self.ready.note_held(number, entry);
-                Some(Turn::Writable(number))
-            }
-            Err(_) => {
-                entry.ended = true;
-                Some(Turn::Failed(number))
-            }
-        }
+        let made = entry.stream.is_made();
+        let turn = entry.meet(number, &made);
+        let _ = self.ready.note_held(number, entry);
+        turn
     }
 
     // Accepts a socket at a listener, as a stream of this number.
@@ -156,6 +153,8 @@ impl<R: Files + Net + Clone + Drop> Sockets<R> {
     pub fn resume(&mut self, number: u64)
         ensures resumed { HasEntry number self.old.entries
             → IsPaused false number self.new.entries }
+        ensures noted { IsKeptBack number self.old.entries
+            → IsNoted number self.new.entries ⊎ IsFull self.old.ready }
         ensures others { OthersStay number self.old.entries self.new.entries }
         ensures listening { self.new.listening ≡ self.old.listening }
     {

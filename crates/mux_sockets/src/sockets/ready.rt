@@ -1,12 +1,13 @@
 //! What is ready, in the order in which it became so.
-ghost use Rattle.std.specs.Prelude.{◌≡◌, ◌++◌, ◌∷◌, [], false, true, OnErr, OnOk};
+ghost use Rattle.std.specs.Prelude.{◌≡◌, ◌++◌, ◌∷◌, [], false, true, Ok, IsErr, OnErr, OnOk};
 ghost use Rattle.mux_sockets.specs.Ready.{IsFull};
 
 use crate::stream::Stream;
 use mio::net::TcpListener;
-use mux_outside::Want;
+use mux_outside::{Turn, Want};
 use std::alloc::{AllocError, Global};
 use std::collections::VecDeque;
+use std::io;
 
 /// A stream with what is known of it.
 #[derive(Drop)]
@@ -60,6 +61,7 @@ pub struct Queue {
 }
 
 impl Entry {
+    ghost use Rattle.mux_sockets.specs.Connections.{met_turn};
     ghost use Rattle.mux_sockets.specs.Entries.{is_silent};
 
     /// A stream, whose connection is made or is being made.
@@ -99,8 +101,29 @@ impl Entry {
         }
     }
 
-    /// Its connection is made.
-    pub fn made(&mut self)
+    /// Goes on by what a look at its connection showed: it is made, or not yet, or it failed.
+    pub fn meet(&mut self, number: u64, made: &io::Result<bool>) -> Option<Turn>
+        ensures turn { result ≡ met_turn made.now number }
+        ensures made { made.now ≡ Ok true
+            → self.new ≡ record self.old { connecting = false; blocked = false } }
+        ensures not_yet { made.now ≡ Ok false → self.new ≡ self.old }
+        ensures failed { IsErr made.now → self.new ≡ record self.old { ended = true } }
+    {
+        match made {
+            Ok(true) => {
+                self.made();
+                Some(Turn::Writable(number))
+            }
+            Ok(false) => None,
+            Err(_) => {
+                self.ended = true;
+                Some(Turn::Failed(number))
+            }
+        }
+    }
+
+    // Its connection is made.
+    fn made(&mut self)
         ensures { self.new ≡ record self.old { connecting = false; blocked = false } }
     {
         self.connecting = false;

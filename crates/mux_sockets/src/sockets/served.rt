@@ -2,7 +2,7 @@
 ghost use Rattle.std.specs.Prelude.{◌≡◌, ◌<◌, ◌⊎◌, length, Some, IfSome, IfNone, IsNone, OnSome};
 ghost use Rattle.mux_outside.specs.Wire.{WroteFits};
 ghost use Rattle.mux_sockets.specs.Sockets.{FoundFits, IsOf, Serves};
-ghost use Rattle.mux_sockets.specs.Entries.{HasClient, HasEntry, IsBlocked, IsHeld, IsNoted, IsSilent, OthersStay, StopsShort};
+ghost use Rattle.mux_sockets.specs.Entries.{HasEntry, IsBlocked, IsConnected, IsHeld, IsNoted, IsSilent, OthersStay, Stands, StopsShort};
 ghost use Rattle.mux_sockets.specs.declared.numbers.Numbers.{Numbers};
 ghost use Rattle.mux_sockets.specs.Ready.{IsFull};
 
@@ -23,7 +23,7 @@ impl<R: Files + Net + Clone + Drop> Sockets<R> {
         ensures serves { IfSome result (Serves ready numbers) }
         ensures fits { IfSome result (λ turn. FoundFits turn numbers into.old into.new) }
         ensures kept { IfNone result (into.new ≡ into.old) }
-        ensures client { IfSome result (λ turn. HasClient turn self.new.entries) }
+        ensures stands { IfSome result (λ turn. Stands turn self.new.entries) }
         ensures listening { self.new.listening ≡ self.old.listening }
     {
         match ready {
@@ -109,11 +109,15 @@ impl<R: Files + Net + Clone + Drop> Sockets<R> {
     // Notes that a stream can be written to.
     fn free(&mut self, number: u64) -> Option<Turn>
         ensures turn { IfSome result (λ turn. turn ≡ Turn.Writable number) }
+        ensures connected { OnSome result (IsConnected number self.new.entries) }
         ensures others { OthersStay number self.old.entries self.new.entries }
         ensures listening { self.new.listening ≡ self.old.listening }
     {
         let entry = self.entries.get_mut(&number)?;
         entry.writes = false;
+        if entry.connecting {
+            return None;
+        }
         entry.blocked = false;
         Some(Turn::Writable(number))
     }
