@@ -376,6 +376,7 @@ impl<R: Files + Net + Clone + Drop> Wire for RealWire<R> {
                 self.sockets = Some(sockets);
                 self.streams = streams;
                 self.blocked = Streams::new(self.alloc);
+                self.listeners = Streams::new(self.alloc);
                 self.own = OwnStreams::new(self.alloc);
                 self.listening = true;
                 Ok(())
@@ -413,6 +414,7 @@ impl<R: Files + Net + Clone + Drop> Wire for RealWire<R> {
                 self.sockets = Some(sockets);
                 self.streams = streams;
                 self.blocked = Streams::new(self.alloc);
+                self.listeners = Streams::new(self.alloc);
                 self.own = OwnStreams::new(self.alloc);
                 self.listening = false;
                 Ok(())
