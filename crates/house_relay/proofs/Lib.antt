@@ -2,5 +2,6 @@ mod Answerings
 mod Comings
 mod Dialings
 mod Readings
+pub mod Resting
 mod Takings
-mod Whole
+pub mod Whole

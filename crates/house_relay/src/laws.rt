@@ -1,8 +1,9 @@
 //! What holds of every relay, whatever happened in it: the function's contract is the law.
 
-ghost use Rattle.std.specs.Prelude.{◌≡◌, [], false, Bool, List};
+ghost use Rattle.std.specs.Prelude.{◌≡◌, [], false, Bool, List, Some, None};
 ghost use Rattle.house_relay.specs.Acts.{Act, Relays};
-ghost use Rattle.house_relay.specs.Relay.{Stands, Keeps, SilentIn, IsResting};
+ghost use Rattle.house_relay.specs.Next.{says_of, orders_of};
+ghost use Rattle.house_relay.specs.Relay.{Stands, Keeps, SilentIn, IsResting, stream_of};
 ghost use Rattle.mux_outside.specs.declared.own_streams.OwnStream.{OwnStream as TheStream};
 ghost use Rattle.house_relay.specs.declared.relay.Relay.{Relay as TheRelay};
 
@@ -15,6 +16,13 @@ pub fn relays_relay()
         → Stands dials acts r → Relays dials acts }
     ensures keeps { (dials : Bool) (acts : List Act) (r : TheRelay)
         → Stands dials acts r → Keeps dials acts r }
+{}
+
+/// A relay that has nothing to say, and nothing to order of its stream, is at rest.
+pub fn relays_that_want_nothing_rest()
+    ensures silent { (r : TheRelay) → says_of r ≡ None → SilentIn r.line r }
+    ensures rests { (r : TheRelay) (stream : TheStream) → stream_of r.socket ≡ Some stream.number
+        → orders_of r stream ≡ None → IsResting r stream }
 {}
 
 /// At rest nothing is held of a stream that isn't paused: whatever piece it gives next may be held.
