@@ -11,7 +11,7 @@ use Rattle.mux_outside.specs.declared.mark.Mark.{Mark}
 use Rattle.mux_history.specs.Policy.{Policy}
 use Rattle.mux_machine.specs.State.{State}
 use Rattle.mux_machine.specs.Events.{here}
-use Rattle.mux_engine.specs.Serving.{EndsTurn, Promised, Serving, Spends}
+use Rattle.mux_engine.specs.Serving.{EndsTurn, Promised, Serving, Spends, to_offer}
 use Rattle.mux_engine.specs.Sides.{Resting, Side, noted, outside}
 use Rattle.mux_engine.proofs.Lists.{apart-or-left, test-other, true-false, without-other}
 use Rattle.mux_engine.proofs.Loops.{neither}
@@ -48,6 +48,19 @@ module _ {May : HouseReply → Type 0} {Rest : Resting} {before : Option (List H
   -- more may be left to be offered
   pub all-left : {now : Side} {seen : Seen} {held failed : List ℕ} {given : ℕ} {s : State} (todo : List ℕ) → Serving May Rest before now policy pid start seen held failed given [] s → Serving May Rest before now policy pid start seen held failed given todo s
   all-left todo v = serve-todo v todo (λ t a. inl refl)
+
+  -- all are to be offered, or all were
+  pub none-settled : {now : Side} {seen : Seen} {held failed : List ℕ} {given : ℕ} {s : State} (settled : Bool) → settled ≡ false → Serving May Rest before now policy pid start seen held failed given (to_offer settled s) s → Serving May Rest before now policy pid start seen held failed given (0 ∷ here s) s
+  none-settled true e v = true-false e
+  none-settled false e v = v
+
+  pub yet-unsettled : {now : Side} {seen : Seen} {held failed : List ℕ} {given : ℕ} {s : State} (settled : Bool) → settled ≡ false → Serving May Rest before now policy pid start seen held failed given (0 ∷ here s) s → Serving May Rest before now policy pid start seen held failed given (to_offer settled s) s
+  yet-unsettled true e v = true-false e
+  yet-unsettled false e v = v
+
+  pub all-settled : {now : Side} {seen : Seen} {held failed : List ℕ} {given : ℕ} {s : State} (settled : Bool) → settled ≡ true → Serving May Rest before now policy pid start seen held failed given (to_offer settled s) s → Serving May Rest before now policy pid start seen held failed (given + 0) (HOUSE ∷ []) s
+  all-settled {now} {seen} {held} {failed} {given} {s} true e v = given-is given (given + 0) (omega arith) v
+  all-settled false e v = true-false (sym e)
 
   -- a turn that the run goes on behind was given
   pub went-on : {now : Side} {seen : Seen} {held failed : List ℕ} {given : ℕ} {todo : List ℕ} {s : State} (on : Bool) → on ≡ true → EndsTurn on given May Rest before now policy pid start seen held failed todo s → Serving May Rest before now policy pid start seen held failed (given + 1) todo s

@@ -1,5 +1,5 @@
 -- What holds between an engine and its wire while it is served.
-use Rattle.std.specs.Prelude.{◌≡◌, ◌≤◌, ◌<◌, ◌+◌, ◌⊎◌, ◌||◌, ◌==◌, ℕ, Bool, true, false, List, ◌∷◌, ◌++◌, length, IsTrue, All, Option, Some, None, Result, MatchResult}
+use Rattle.std.specs.Prelude.{◌≡◌, ◌≤◌, ◌<◌, ◌+◌, ◌⊎◌, ◌||◌, ◌==◌, ℕ, Bool, true, false, List, [], ◌∷◌, ◌++◌, length, IsTrue, All, Option, Some, None, Result, MatchResult}
 use Rattle.mux_outside.specs.Counts.{Rose}
 use Rattle.mux_outside.specs.House.{OpenAsk}
 use Rattle.mux_outside.specs.OwnStreams.{is_own}
@@ -212,6 +212,11 @@ RunsOn result May Rest now now' seen seen' held held' failed failed' most more t
     (λ x. Serving May Rest before now' policy pid start seen' held' failed' (given + more x)
     (rest x) s')
     (λ e. Promised May Rest before now'.told policy pid start seen'.told (given + most))
+
+-- the streams that are to be offered what waits for them: where all were, the house may be left
+abbrev pub to_offer : Bool → State → List ℕ
+to_offer true s = HOUSE ∷ []
+to_offer false s = 0 ∷ here s
 
 -- behind a turn of the run, which was given; where the run doesn't go on perhaps none was
 abbrev pub EndsTurn :

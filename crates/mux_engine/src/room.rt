@@ -1,4 +1,4 @@
-ghost use Rattle.std.specs.Prelude.{◌≡◌, []};
+ghost use Rattle.std.specs.Prelude.{◌≡◌, [], false};
 
 use mux_clients::Asks;
 use mux_outside::Streams;
@@ -17,6 +17,8 @@ pub struct Lists {
     pub todo: Streams,
     /// Room for what the house is asked at an event, until it is noted.
     pub asks: Asks,
+    /// Whether the run is over and each stream was offered what waits for it.
+    pub settled: bool,
 }
 
 impl Lists {
@@ -25,6 +27,7 @@ impl Lists {
         ensures held { result.held ≡ [] }
         ensures own { result.own ≡ [] }
         ensures failed { result.failed ≡ [] }
+        ensures settled { result.settled ≡ false }
     {
         Lists {
             held: Streams::new(alloc),
@@ -32,6 +35,7 @@ impl Lists {
             failed: Streams::new(alloc),
             todo: Streams::new(alloc),
             asks: Asks::new(alloc),
+            settled: false,
         }
     }
 }

@@ -13,7 +13,7 @@ ghost use Rattle.mux_machine.specs.Events.{went_of, here};
 ghost use Rattle.mux_engine.specs.Counted.{Counts, Cut, Spent, Stops, Turned, Well};
 ghost use Rattle.mux_engine.specs.Rests.{IsAlone, IsByRow, IsReady, ended_as, refused_if};
 ghost use Rattle.mux_engine.specs.Run.{IsRun};
-ghost use Rattle.mux_engine.specs.Serving.{EndsTurn, Promised, RunsOn, ServedWith, Serving, Spends, StaysOrFails};
+ghost use Rattle.mux_engine.specs.Serving.{EndsTurn, Promised, RunsOn, ServedWith, Serving, Spends, StaysOrFails, to_offer};
 ghost use Rattle.mux_engine.specs.Sides.{Housed, RestsOf, SameHouse, SamePlaces, noted, outside};
 ghost use Rattle.mux_engine.specs.Turns.{failed_heard, held_heard, own_heard};
 
@@ -160,7 +160,7 @@ fn one_turn<W: Wire, H: House>(
         MatchResult result
         (λ on. EndsTurn on given H.may (RestsOf H.told H.quiet (H.known house.old).present) before
         (noted (H.told house.new) (H.known house.new)) policy pid start (W.seen wire.new)
-        lists.new.held lists.new.failed (0 ∷ here engine.new) engine.new)
+        lists.new.held lists.new.failed (to_offer lists.new.settled engine.new) engine.new)
         (λ e. Promised H.may (RestsOf H.told H.quiet (H.known house.old).present) before
         (H.told house.new) policy pid start (W.seen wire.new).told (given + 1)) }
     ensures housed { OnOk result (Housed (H.known house.new) (W.seen wire.new) lists.new.own) }
@@ -168,6 +168,7 @@ fn one_turn<W: Wire, H: House>(
     ensures held_is { OnOk result (lists.new.held ≡ (W.seen wire.new).blocked) }
     ensures present { OnOk result ((H.known house.new).present ≡ (H.known house.old).present) }
     ensures on { IfOk result (λ on. on ≡ true → engine.new.ended ≡ None) }
+    ensures settled { IfOk result (λ on. on ≡ true → lists.new.settled ≡ false) }
     ensures over { IfOk result (λ on. on ≡ false → engine.new.ended ≡ None
         → refused_if (H.known house.new).present (H.must house.new) (H.refused house.new) ≢ None) }
     ensures failed { OnOk result (engine.new.ended ≡ Some ServerFailed
@@ -185,14 +186,17 @@ fn one_turn<W: Wire, H: House>(
     ensures joinings { W.joinings wire.new ≡ W.joinings wire.old }
 {
     if step_house(alloc, engine, wire, house, lists, piece)? {
+        lists.settled = false;
         return Ok(engine.ended().is_none());
     }
     close_lost::<W, H>(engine, wire, &mut lists.held);
     hush::<W, H>(engine, wire);
     if is_over(engine, house) {
+        lists.settled = true;
         return Ok(false);
     }
     let went = turn(engine, wire, house, lists, piece)?;
+    lists.settled = false;
     Ok(went == Went::On)
 }
 
@@ -211,6 +215,7 @@ fn turns_of<W: Wire, H: House>(
     requires housed { Housed (H.known house.old) (W.seen wire.old) lists.old.own }
     requires alone { IsAlone (H.known house.old) }
     requires on { engine.old.ended ≡ None }
+    requires unsettled { lists.old.settled ≡ false }
     requires quiet { (H.known house.old).present ≡ false → engine.old.waiting ≡ [] }
     ensures serving { (before : Option (List TheHouseMark)) (policy : ThePolicy) (pid : ℕ)
         (start : Option (List TheMark)) →
@@ -220,7 +225,7 @@ fn turns_of<W: Wire, H: House>(
         MatchResult result
         (λ all. Spends all turns H.may (RestsOf H.told H.quiet (H.known house.old).present) before
         (noted (H.told house.new) (H.known house.new)) policy pid start (W.seen wire.new)
-        lists.new.held lists.new.failed (0 ∷ here engine.new) engine.new)
+        lists.new.held lists.new.failed (to_offer lists.new.settled engine.new) engine.new)
         (λ e. Promised H.may (RestsOf H.told H.quiet (H.known house.old).present) before
         (H.told house.new) policy pid start (W.seen wire.new).told turns) }
     ensures housed { OnOk result (Housed (H.known house.new) (W.seen wire.new) lists.new.own) }
@@ -341,7 +346,7 @@ fn last_replies<W: Wire, H: House>(
 }
 
 // Behind the turns of a run: the house's last replies, and then each stream is offered what waits for
-// it.
+// it, unless it was.
 fn finish<W: Wire, H: House>(
     engine: &mut Engine,
     wire: &mut W,
@@ -351,7 +356,7 @@ fn finish<W: Wire, H: House>(
 ) -> Result<(), OutOfMemory>
     requires served { ServedWith H.may (RestsOf H.told H.quiet (H.known house.old).present)
         (noted (H.told house.old) (H.known house.old)) (W.seen wire.old) lists.old.held
-        lists.old.failed (0 ∷ here engine.old) engine.old }
+        lists.old.failed (to_offer lists.old.settled engine.old) engine.old }
     requires housed { Housed (H.known house.old) (W.seen wire.old) lists.old.own }
     requires held_is { lists.old.held ≡ (W.seen wire.old).blocked }
     requires on { all ≡ true → engine.old.ended ≡ None }
@@ -359,7 +364,7 @@ fn finish<W: Wire, H: House>(
         (noted (H.told house.old) (H.known house.old))
         (noted (H.told house.new) (H.known house.new)) (W.seen wire.old) (W.seen wire.new)
         lists.old.held lists.new.held lists.old.failed lists.new.failed 0 (λ done. 0)
-        (0 ∷ here engine.old) (λ done. TheHouse ∷ []) engine.old engine.new }
+        (to_offer lists.old.settled engine.old) (λ done. TheHouse ∷ []) engine.old engine.new }
     ensures known { OnOk result (SameHouse (H.known house.old) (H.known house.new)) }
     ensures places { SamePlaces (W.seen wire.old) (W.seen wire.new) }
     ensures unasked { all ≡ false → house.new ≡ house.old }
@@ -373,6 +378,9 @@ fn finish<W: Wire, H: House>(
         × SameFaults (W.server_faults wire.old) (W.server_faults wire.new)
         (W.client_faults wire.old) (W.client_faults wire.new) }
 {
+    if lists.settled {
+        return Ok(());
+    }
     last_replies(engine, wire, house, lists, all)?;
     flush::<W, H>(
         engine,

@@ -8,11 +8,11 @@ use Rattle.mux_engine.proofs.Arms.{counts-then, on-err, on-ok, stays, then-stays
 use Rattle.mux_engine.proofs.Counting.{faults-then, same-faults}
 use Rattle.mux_engine.proofs.Loops.{counts-err}
 use Rattle.mux_engine.proofs.Places.{places-then}
-use Rattle.mux_engine.proofs.Running.{to-house}
+use Rattle.mux_engine.proofs.Running.{none-settled, to-house}
 use Rattle.mux_engine.proofs.serving.finish.Goals as goal
 
 pub last_replies-requires : goal.last_replies-requires
-last_replies-requires g c = record { served = c.requires.served; housed = c.requires.housed; held_is = c.requires.held_is; on = c.requires.on }
+last_replies-requires g c = let w = c.requires.served in record { served = record { before = w.before; policy = w.policy; pid = w.pid; start = w.start; given = w.given; serving = none-settled _ c.if-lists.false w.serving }; housed = c.requires.housed; held_is = c.requires.held_is; on = c.requires.on }
 
 pub flush-requires : goal.flush-requires
 flush-requires g c = let H = g.H.House in let w = c.requires.served in record {
@@ -26,14 +26,14 @@ flush-requires g c = let H = g.H.House in let w = c.requires.served in record {
     failed = c.last_replies.new.lists.failed;
     given = w.given + 0;
     todo = 0 ∷ here c.last_replies.new.engine;
-    serving = c.in_ok-last_replies.ensures.serving w.before w.policy w.pid w.start w.given w.serving;
+    serving = c.in_ok-last_replies.ensures.serving w.before w.policy w.pid w.start w.given (none-settled _ c.if-lists.false w.serving);
   };
   numbered = λ t one. c.requires.housed.places.numbered t (ap (is_one t) (sym c.last_replies.ensures.places.own) ∙ one);
 }
 
 pub returns-in_err-last_replies : goal.returns-in_err-last_replies
 returns-in_err-last_replies g c = let W = g.W.Wire in let r = c.from_residual in record {
-  serving = λ before policy pid start given v. on-err r.result _ _ r.ensures.0 (c.in_err-last_replies.ensures.serving before policy pid start given v);
+  serving = λ before policy pid start given v. on-err r.result _ _ r.ensures.0 (c.in_err-last_replies.ensures.serving before policy pid start given (none-settled _ c.if-lists.false v));
   known = on-err r.result _ _ r.ensures.0 tt;
   places = c.last_replies.ensures.places;
   unasked = c.last_replies.ensures.unasked;
@@ -46,7 +46,7 @@ returns-in_err-last_replies g c = let W = g.W.Wire in let r = c.from_residual in
 
 pub returns : goal.returns
 returns g c = let H = g.H.House in let W = g.W.Wire in let o = c.in_ok-last_replies.ensures in record {
-  serving = λ before policy pid start given v. c.flush.ensures.serving (HOUSE ∷ []) _ before _ policy pid start _ (given + 0) (to-house (o.serving before policy pid start given v));
+  serving = λ before policy pid start given v. c.flush.ensures.serving (HOUSE ∷ []) _ before _ policy pid start _ (given + 0) (to-house (o.serving before policy pid start given (none-settled _ c.if-lists.false v)));
   known = on-ok c.flush.result (λ e. o.known) c.flush.ensures.streams;
   places = places-then _ _ _ c.last_replies.ensures.places c.flush.ensures.places;
   unasked = c.last_replies.ensures.unasked;

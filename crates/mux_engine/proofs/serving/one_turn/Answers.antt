@@ -1,4 +1,5 @@
 use Rattle.std.proofs.Common.{◌∷◌, [], refl, sym, inl, inr}
+use Rattle.mux_history.specs.declared.limits.TheConstants.{HOUSE}
 use Rattle.mux_machine.specs.Events.{here}
 use Rattle.mux_engine.specs.Sides.{RestsOf, noted}
 use Rattle.mux_engine.proofs.Arms.{on-err}
@@ -52,7 +53,7 @@ returns-then-is_over-clause-serving g c before policy pid start given v =
     let lists = c.step_house.new.lists in
     let stepped = step-waits given (0 ∷ here c.step_house.new.engine) c.in_ok-step_house.field-0 c.if-branch.false (c.in_ok-step_house.ensures.serving before policy pid start given v) in
     let closed = c.close_lost.ensures.serving (H.known c.args.house.now).present before (noted (H.told house) (H.known house)) policy pid start lists.failed given [] stepped in
-    inr (refl, all-left (0 ∷ here c.close_lost.new.engine) (c.hush.ensures.serving (H.known c.args.house.now).present before (noted (H.told house) (H.known house)) policy pid start c.close_lost.new.held lists.failed given [] closed))
+    inr (refl, all-left (HOUSE ∷ []) (c.hush.ensures.serving (H.known c.args.house.now).present before (noted (H.told house) (H.known house)) policy pid start c.close_lost.new.held lists.failed given [] closed))
 
 pub returns-then-is_over-clause-housed : goal.returns-then-is_over-clause-housed
 returns-then-is_over-clause-housed g c = let H = g.H.House in let known = H.known c.step_house.new.house in let own = c.step_house.new.lists.own in

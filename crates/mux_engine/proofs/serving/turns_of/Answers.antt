@@ -7,7 +7,7 @@ use Rattle.mux_engine.proofs.Counting.{cut-none, later-on, rose-behind}
 use Rattle.mux_engine.proofs.Cuts.{cut-still}
 use Rattle.mux_engine.proofs.Lists.{true-false}
 use Rattle.mux_engine.proofs.Runs.{promised-more}
-use Rattle.mux_engine.proofs.Running.{all-spent, ends-is, given-is, present-is, promised-is, went-on, went-over}
+use Rattle.mux_engine.proofs.Running.{all-spent, ends-is, given-is, none-settled, present-is, promised-is, went-on, went-over, yet-unsettled}
 use Rattle.mux_engine.proofs.Spending.{spent-all, spent-cut, spent-none, spent-on, spent-over, turned-is}
 use Rattle.mux_engine.proofs.Spoken.{row-live}
 use Rattle.mux_engine.proofs.serving.turns_of.Goals as goal
@@ -20,6 +20,7 @@ loop-init g c = record {
   held_is = c.requires.served.serving.held_is;
   present = refl;
   on = c.requires.on;
+  settled = c.requires.unsettled;
   first = λ z. (refl, refl, refl);
   unopened = λ p. refl;
   later = omega arith;
@@ -46,13 +47,14 @@ one_turn-requires g c = let H = g.H.House in let w = c.requires.served in let i 
 pub loop-preserved : goal.loop-preserved
 loop-preserved g c = let H = g.H.House in let i = c.loop.invariant in let o = c.in_ok-one_turn.ensures in record {
   serving = λ before policy pid start given v. given-is (given + c.loop.counter + 1) (given + (c.loop.counter + 1)) (omega arith)
-      (went-on _ c.if-not-branch.false (ends-is (RestsOf H.told H.quiet) _ _ i.present
-      (o.serving before policy pid start (given + c.loop.counter) (present-is (RestsOf H.told H.quiet) _ _ (sym i.present) (i.serving before policy pid start given v)))));
+      (none-settled _ (o.settled c.if-not-branch.false) (went-on _ c.if-not-branch.false (ends-is (RestsOf H.told H.quiet) _ _ i.present
+      (o.serving before policy pid start (given + c.loop.counter) (present-is (RestsOf H.told H.quiet) _ _ (sym i.present) (i.serving before policy pid start given v))))));
   housed = o.housed;
   alone = o.alone;
   held_is = o.held_is;
   present = o.present ∙ i.present;
   on = o.on c.if-not-branch.false;
+  settled = o.settled c.if-not-branch.false;
   first = λ z. absurd (omega (arith, z));
   unopened = λ p. c.one_turn.ensures.unopened (i.present ∙ p) ∙ i.unopened p;
   later = later-on _ _ _ i.later c.one_turn.ensures.later;
@@ -83,7 +85,7 @@ returns-then-not-branch g c = let H = g.H.House in let i = c.loop.invariant in l
 
 pub returns : goal.returns
 returns g c = let W = g.W.Wire in let i = c.loop.invariant in record {
-  serving = λ before policy pid start v. all-spent c.loop.counter c.args.turns (omega arith) (given-is (0 + c.loop.counter) c.loop.counter (omega arith) (i.serving before policy pid start 0 v));
+  serving = λ before policy pid start v. all-spent c.loop.counter c.args.turns (omega arith) (yet-unsettled _ i.settled (given-is (0 + c.loop.counter) c.loop.counter (omega arith) (i.serving before policy pid start 0 v)));
   housed = i.housed;
   held_is = i.held_is;
   present = i.present;

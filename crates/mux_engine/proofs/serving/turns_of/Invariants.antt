@@ -18,6 +18,7 @@ invariant-loop g l = let W = g.W.Wire in let H = g.H.House in record {
   held_is : l.lists.held ≡ (W.seen l.wire).blocked;
   present : (H.known l.house).present ≡ (H.known l.fn.house).present;
   on : l.engine.ended ≡ None;
+  settled : l.lists.settled ≡ false;
   first : l.counter ≡ 0 → (l.house ≡ l.fn.house) × (l.engine ≡ l.fn.engine) × (l.wire ≡ l.fn.wire);
   unopened : (H.known l.fn.house).present ≡ false → (W.seen l.wire).last_own ≡ (W.seen l.fn.wire).last_own;
   later : W.server_faults l.fn.wire ≤ W.server_faults l.wire;
