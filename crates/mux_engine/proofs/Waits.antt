@@ -13,7 +13,6 @@ use Rattle.mux_outside.specs.declared.house.HouseReply.{HouseReply}
 use Rattle.mux_outside.specs.declared.house_mark.HouseMark.{HouseMark}
 use Rattle.mux_outside.specs.declared.mark.Mark.{Mark}
 use Rattle.mux_outside.specs.declared.mark.Mark.TheVariants.{Waits, Accepts, Gets, Ends, Frees, Fails, Takes, Holds, WriteFails, Joins, House}
-use Rattle.mux_outside.specs.declared.turn.Want.{Want}
 use Rattle.mux_outside.specs.declared.turn.Want.TheVariants.{Read, WriteOnly}
 use Rattle.mux_history.specs.declared.limits.TheConstants.{HOUSE, READING_STOPS_AT}
 use Rattle.mux_history.specs.Policy.{Policy}
@@ -29,7 +28,6 @@ use Rattle.mux_machine.specs.Events.{here}
 use Rattle.mux_machine.specs.Stands.{RowsFit}
 use Rattle.mux_machine.proofs.Twins.{stands-alike}
 use Rattle.mux_engine.specs.Owned.{IsOffered, waits_for}
-use Rattle.mux_engine.specs.Run.{RestedAt}
 use Rattle.mux_engine.specs.Serving.{IsSound, Serving, is_open}
 use Rattle.mux_engine.specs.Sides.{Housed, Resting, Side, house_marks}
 use Rattle.mux_engine.specs.Turns.{want_of}
@@ -87,10 +85,6 @@ none-left (x ∷ xs) h = ap (λ b. cond (not b) (x ∷ not_own xs) (not_own xs))
     later : {c : Bool} (b : Bool) → c ≡ true → (b || c) ≡ true
     later true e = refl
     later false e = e
-
-pub rest-at : (Rest : Option (List HouseMark) → Type 0) (before : Option (List HouseMark)) (journal : List Mark) (waiting streams : List ℕ) (listens : Bool) (want : Want) → (want ≡ Read → Rest (option_map (λ told. told ++ house_marks journal) before)) → RestedAt Rest before journal (Waits waiting want streams listens)
-rest-at Rest before journal waiting streams listens Read h = h refl
-rest-at Rest before journal waiting streams listens WriteOnly h = tt
 
 -- ---- where all streams were offered what waits for them, while a run goes on and nobody leaves
 
@@ -278,7 +272,7 @@ module _ {May : HouseReply → Type 0} {Rest : Resting} {before : Option (List H
   seen-waiting = record seen { told = option_map (λ m. m ++ wait-mark ∷ []) seen.told }
 
   -- the call was told
-  unfoldable pub waited : seen.listens ≡ s.listening → now.unnoted ≡ [] → (want_of s ≡ Read → Rest.rests now.told) → Serving May Rest before now policy pid start seen-waiting held failed (given + 1) [] s
+  unfoldable pub waited : seen.listens ≡ s.listening → now.unnoted ≡ [] → Rest.rests (want_of s) now.told → Serving May Rest before now policy pid start seen-waiting held failed (given + 1) [] s
   waited hears noted rests =
       let alike = waits-alike all-waiting seen.streams (want_of s) seen.listens v.journal in
       let told : now.told ≡ option_map (λ l. l ++ house_marks v.journal) before = v.house ∙ ap (λ (ms : List HouseMark). option_map (λ (l : List HouseMark). l ++ ms) before) (ap (λ l. house_marks v.journal ++ l) noted ∙ append-nil (house_marks v.journal)) in
@@ -291,7 +285,7 @@ module _ {May : HouseReply → Type 0} {Rest : Resting} {before : Option (List H
         askers = askers-more v wait-mark;
         house_in = v.house_in;
         house_there = v.house_there;
-        rested = rest-at Rest.rests before v.journal all-waiting seen.streams seen.listens (want_of s) (λ e. subst Rest.rests told (rests e));
+        rested = subst (Rest.rests (want_of s)) told rests;
         absent = λ e. refl;
         turns = ap (λ n. n + 1) v.turns;
         placed = placed-still v wait-mark seen-waiting s record {

@@ -6,7 +6,7 @@ use Rattle.mux_outside.specs.declared.house.HouseReply.{HouseReply}
 use Rattle.mux_outside.specs.declared.mark.Mark.{Mark}
 use Rattle.mux_outside.specs.declared.mark.Mark.TheVariants.{Waits, House}
 use Rattle.mux_outside.specs.OwnStreams.{is_own}
-use Rattle.mux_outside.specs.declared.turn.Want.TheVariants.{Read}
+use Rattle.mux_outside.specs.declared.turn.Want.{Want}
 use Rattle.mux_history.specs.declared.ended.Ended.{Ended}
 use Rattle.mux_history.specs.declared.ended.Ended.TheVariants.{OutOfMemory}
 use Rattle.mux_history.specs.Policy.{Policy}
@@ -34,14 +34,14 @@ pub record IsOfWire (journal : List Mark) : Type 0 where
   pub lawful : IsLawful journal
   pub asked : Throughout ReadsWhenAsked journal
 
--- what is so of each house at rest by what it told is so at each wait at which more is read
-abbrev pub RestedAt : (Option (List HouseMark) → Type 0) → Option (List HouseMark) → List Mark
-    → Mark → Type 0
-RestedAt Rest before journal (Waits waiting Read streams listens) =
-    Rest (option_map (λ told. told ++ house_marks journal) before)
+-- at each wait, with what is wanted of it, a house that has told what the journal has of it is so
+abbrev pub RestedAt : (Want → Option (List HouseMark) → Type 0) → Option (List HouseMark)
+    → List Mark → Mark → Type 0
+RestedAt Rest before journal (Waits waiting want streams listens) =
+    Rest want (option_map (λ told. told ++ house_marks journal) before)
 RestedAt Rest before journal mark = Unit {0}
 
-abbrev pub Rested : (Option (List HouseMark) → Type 0) → Option (List HouseMark) → List Mark
+abbrev pub Rested : (Want → Option (List HouseMark) → Type 0) → Option (List HouseMark) → List Mark
     → Type 0
 Rested Rest before journal = Throughout (RestedAt Rest before) journal
 
@@ -93,7 +93,7 @@ pub record KeepsRows (setting : Setting) (rows : List Row) : Type 0 where
 -- the asks of clients. These rows, and all others that want of memory may have left, keep what is
 -- promised of rows; and but for want of memory the run ends right, where `refused` is the forwarding
 -- of the start that was refused, if none may be.
-pub record IsRun (May : HouseReply → Type 0) (Rest : Option (List HouseMark) → Type 0)
+pub record IsRun (May : HouseReply → Type 0) (Rest : Want → Option (List HouseMark) → Type 0)
     (present : Bool) (policy : Policy) (pid turns : ℕ) (before now : Option (List HouseMark))
     (start told : Option (List Mark)) (refused : Option ℕ) (answer : Ended) : Type 0 where
   pub journal : List Mark

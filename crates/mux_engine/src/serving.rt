@@ -60,18 +60,22 @@ fn turn<W: Wire, H: House>(
     lists: &mut Lists,
     piece: &mut Piece,
 ) -> Result<Went, OutOfMemory>
-    requires served { ServedWith H.may (RestsOf H.told H.quiet (H.known house.old).present)
+    requires served { ServedWith H.may
+        (RestsOf H.told H.quiet H.must H.refused (H.known house.old).present)
         (noted (H.told house.old) (H.known house.old)) (W.seen wire.old) lists.old.held
         lists.old.failed [] engine.old }
     requires housed { Housed (H.known house.old) (W.seen wire.old) lists.old.own }
     requires alone { IsAlone (H.known house.old) }
     requires ready { IsReady (H.known house.old) (H.quiet house.old) (H.queue house.old)
         lists.old.held lists.old.failed lists.old.own engine.old }
+    requires permitted { refused_if (H.known house.old).present (H.must house.old)
+        (H.refused house.old) ≡ None }
     requires closed { engine.old.leaving ≡ [] }
     requires refused { engine.old.refused ≡ [] }
     requires on { engine.old.ended ≡ None }
     requires hears { (W.seen wire.old).listens ≡ engine.old.listening }
-    ensures serving { RunsOn result H.may (RestsOf H.told H.quiet (H.known house.old).present)
+    ensures serving { RunsOn result H.may
+        (RestsOf H.told H.quiet H.must H.refused (H.known house.old).present)
         (noted (H.told house.old) (H.known house.old))
         (noted (H.told house.new) (H.known house.new)) (W.seen wire.old) (W.seen wire.new)
         lists.old.held lists.new.held lists.old.failed lists.new.failed 1 (λ went. 1) []
@@ -127,6 +131,8 @@ fn refusal<H: House>(house: &H) -> Option<usize>
 // Whether the run goes on no more: it ended, or a forwarding of the start was refused.
 fn is_over<H: House>(engine: &Engine, house: &H) -> bool
     ensures on { result ≡ false → engine.now.ended ≡ None }
+    ensures permitted { result ≡ false
+        → refused_if (H.known house.now).present (H.must house.now) (H.refused house.now) ≡ None }
     ensures over { result ≡ true → engine.now.ended ≡ None
         → refused_if (H.known house.now).present (H.must house.now) (H.refused house.now) ≢ None }
 {
@@ -146,7 +152,8 @@ fn one_turn<W: Wire, H: House>(
     lists: &mut Lists,
     piece: &mut Piece,
 ) -> Result<bool, OutOfMemory>
-    requires served { ServedWith H.may (RestsOf H.told H.quiet (H.known house.old).present)
+    requires served { ServedWith H.may
+        (RestsOf H.told H.quiet H.must H.refused (H.known house.old).present)
         (noted (H.told house.old) (H.known house.old)) (W.seen wire.old) lists.old.held
         lists.old.failed (0 ∷ here engine.old) engine.old }
     requires housed { Housed (H.known house.old) (W.seen wire.old) lists.old.own }
@@ -154,15 +161,16 @@ fn one_turn<W: Wire, H: House>(
     requires on { engine.old.ended ≡ None }
     ensures serving { (before : Option (List TheHouseMark)) (policy : ThePolicy) (pid : ℕ)
         (start : Option (List TheMark)) (given : ℕ) →
-        Serving H.may (RestsOf H.told H.quiet (H.known house.old).present) before
+        Serving H.may (RestsOf H.told H.quiet H.must H.refused (H.known house.old).present) before
         (noted (H.told house.old) (H.known house.old)) policy pid start (W.seen wire.old)
         lists.old.held lists.old.failed given (0 ∷ here engine.old) engine.old →
         MatchResult result
-        (λ on. EndsTurn on given H.may (RestsOf H.told H.quiet (H.known house.old).present) before
+        (λ on. EndsTurn on given H.may
+        (RestsOf H.told H.quiet H.must H.refused (H.known house.old).present) before
         (noted (H.told house.new) (H.known house.new)) policy pid start (W.seen wire.new)
         lists.new.held lists.new.failed (to_offer lists.new.settled engine.new) engine.new)
-        (λ e. Promised H.may (RestsOf H.told H.quiet (H.known house.old).present) before
-        (H.told house.new) policy pid start (W.seen wire.new).told (given + 1)) }
+        (λ e. Promised H.may (RestsOf H.told H.quiet H.must H.refused (H.known house.old).present)
+        before (H.told house.new) policy pid start (W.seen wire.new).told (given + 1)) }
     ensures housed { OnOk result (Housed (H.known house.new) (W.seen wire.new) lists.new.own) }
     ensures alone { OnOk result (IsAlone (H.known house.new)) }
     ensures held_is { OnOk result (lists.new.held ≡ (W.seen wire.new).blocked) }
@@ -209,7 +217,8 @@ fn turns_of<W: Wire, H: House>(
     lists: &mut Lists,
     turns: u64,
 ) -> Result<bool, OutOfMemory>
-    requires served { ServedWith H.may (RestsOf H.told H.quiet (H.known house.old).present)
+    requires served { ServedWith H.may
+        (RestsOf H.told H.quiet H.must H.refused (H.known house.old).present)
         (noted (H.told house.old) (H.known house.old)) (W.seen wire.old) lists.old.held
         lists.old.failed (0 ∷ here engine.old) engine.old }
     requires housed { Housed (H.known house.old) (W.seen wire.old) lists.old.own }
@@ -219,15 +228,16 @@ fn turns_of<W: Wire, H: House>(
     requires quiet { (H.known house.old).present ≡ false → engine.old.waiting ≡ [] }
     ensures serving { (before : Option (List TheHouseMark)) (policy : ThePolicy) (pid : ℕ)
         (start : Option (List TheMark)) →
-        Serving H.may (RestsOf H.told H.quiet (H.known house.old).present) before
+        Serving H.may (RestsOf H.told H.quiet H.must H.refused (H.known house.old).present) before
         (noted (H.told house.old) (H.known house.old)) policy pid start (W.seen wire.old)
         lists.old.held lists.old.failed 0 (0 ∷ here engine.old) engine.old →
         MatchResult result
-        (λ all. Spends all turns H.may (RestsOf H.told H.quiet (H.known house.old).present) before
+        (λ all. Spends all turns H.may
+        (RestsOf H.told H.quiet H.must H.refused (H.known house.old).present) before
         (noted (H.told house.new) (H.known house.new)) policy pid start (W.seen wire.new)
         lists.new.held lists.new.failed (to_offer lists.new.settled engine.new) engine.new)
-        (λ e. Promised H.may (RestsOf H.told H.quiet (H.known house.old).present) before
-        (H.told house.new) policy pid start (W.seen wire.new).told turns) }
+        (λ e. Promised H.may (RestsOf H.told H.quiet H.must H.refused (H.known house.old).present)
+        before (H.told house.new) policy pid start (W.seen wire.new).told turns) }
     ensures housed { OnOk result (Housed (H.known house.new) (W.seen wire.new) lists.new.own) }
     ensures held_is { OnOk result (lists.new.held ≡ (W.seen wire.new).blocked) }
     ensures present { OnOk result ((H.known house.new).present ≡ (H.known house.old).present) }
@@ -283,15 +293,15 @@ fn enter<W: Wire, H: House>(
     requires refused { engine.old.refused ≡ [] }
     ensures serving { (before : Option (List TheHouseMark)) (policy : ThePolicy) (pid : ℕ)
         (start : Option (List TheMark)) (held failed : List ℕ) (given : ℕ) →
-        (v : Serving H.may (RestsOf H.told H.quiet (H.known house.now).present) before
-        (outside (H.told house.now) (H.known house.now)) policy pid start (W.seen wire.old) held
-        failed given (0 ∷ here engine.old) engine.old) → v.journal ≡ [] →
+        (v : Serving H.may (RestsOf H.told H.quiet H.must H.refused (H.known house.now).present)
+        before (outside (H.told house.now) (H.known house.now)) policy pid start (W.seen wire.old)
+        held failed given (0 ∷ here engine.old) engine.old) → v.journal ≡ [] →
         MatchResult result
-        (λ done. Serving H.may (RestsOf H.told H.quiet (H.known house.now).present) before
-        (noted (H.told house.now) (H.known house.now)) policy pid start (W.seen wire.new) held
-        failed given (0 ∷ here engine.new) engine.new × (engine.new.ended ≡ None))
-        (λ e. Promised H.may (RestsOf H.told H.quiet (H.known house.now).present) before
-        (H.told house.now) policy pid start (W.seen wire.new).told given) }
+        (λ done. Serving H.may (RestsOf H.told H.quiet H.must H.refused (H.known house.now).present)
+        before (noted (H.told house.now) (H.known house.now)) policy pid start (W.seen wire.new)
+        held failed given (0 ∷ here engine.new) engine.new × (engine.new.ended ≡ None))
+        (λ e. Promised H.may (RestsOf H.told H.quiet H.must H.refused (H.known house.now).present)
+        before (H.told house.now) policy pid start (W.seen wire.new).told given) }
     ensures places { SamePlaces (W.seen wire.old) (W.seen wire.new) }
     ensures alone { (H.known house.now).present ≡ false → (engine.new ≡ engine.old)
         × (wire.new ≡ wire.old) }
@@ -314,13 +324,15 @@ fn last_replies<W: Wire, H: House>(
     lists: &mut Lists,
     all: bool,
 ) -> Result<(), OutOfMemory>
-    requires served { ServedWith H.may (RestsOf H.told H.quiet (H.known house.old).present)
+    requires served { ServedWith H.may
+        (RestsOf H.told H.quiet H.must H.refused (H.known house.old).present)
         (noted (H.told house.old) (H.known house.old)) (W.seen wire.old) lists.old.held
         lists.old.failed (0 ∷ here engine.old) engine.old }
     requires housed { Housed (H.known house.old) (W.seen wire.old) lists.old.own }
     requires held_is { lists.old.held ≡ (W.seen wire.old).blocked }
     requires on { all ≡ true → engine.old.ended ≡ None }
-    ensures serving { RunsOn result H.may (RestsOf H.told H.quiet (H.known house.old).present)
+    ensures serving { RunsOn result H.may
+        (RestsOf H.told H.quiet H.must H.refused (H.known house.old).present)
         (noted (H.told house.old) (H.known house.old))
         (noted (H.told house.new) (H.known house.new)) (W.seen wire.old) (W.seen wire.new)
         lists.old.held lists.new.held lists.old.failed lists.new.failed 0 (λ done. 0)
@@ -354,13 +366,15 @@ fn finish<W: Wire, H: House>(
     lists: &mut Lists,
     all: bool,
 ) -> Result<(), OutOfMemory>
-    requires served { ServedWith H.may (RestsOf H.told H.quiet (H.known house.old).present)
+    requires served { ServedWith H.may
+        (RestsOf H.told H.quiet H.must H.refused (H.known house.old).present)
         (noted (H.told house.old) (H.known house.old)) (W.seen wire.old) lists.old.held
         lists.old.failed (to_offer lists.old.settled engine.old) engine.old }
     requires housed { Housed (H.known house.old) (W.seen wire.old) lists.old.own }
     requires held_is { lists.old.held ≡ (W.seen wire.old).blocked }
     requires on { all ≡ true → engine.old.ended ≡ None }
-    ensures serving { RunsOn result H.may (RestsOf H.told H.quiet (H.known house.old).present)
+    ensures serving { RunsOn result H.may
+        (RestsOf H.told H.quiet H.must H.refused (H.known house.old).present)
         (noted (H.told house.old) (H.known house.old))
         (noted (H.told house.new) (H.known house.new)) (W.seen wire.old) (W.seen wire.new)
         lists.old.held lists.new.held lists.old.failed lists.new.failed 0 (λ done. 0)
@@ -399,7 +413,8 @@ fn run<W: Wire, H: House>(
     house: &mut H,
     turns: u64,
 ) -> Result<Ended, OutOfMemory>
-    requires running { (v : ServedWith H.may (RestsOf H.told H.quiet (H.known house.old).present)
+    requires running { (v : ServedWith H.may
+        (RestsOf H.told H.quiet H.must H.refused (H.known house.old).present)
         (outside (H.told house.old) (H.known house.old)) (W.seen wire.old) [] []
         (0 ∷ here engine.old) engine.old) × (v.serving.journal ≡ []) }
     requires housed { Housed (H.known house.old) (W.seen wire.old) [] }
@@ -409,9 +424,10 @@ fn run<W: Wire, H: House>(
     requires quiet { engine.old.waiting ≡ [] }
     ensures ran { (before : Option (List TheHouseMark)) (policy : ThePolicy) (pid : ℕ)
         (start : Option (List TheMark)) →
-        (v : Serving H.may (RestsOf H.told H.quiet (H.known house.old).present) before
-        (outside (H.told house.old) (H.known house.old)) policy pid start (W.seen wire.old) [] [] 0 (0 ∷ here engine.old) engine.old) → v.journal ≡ [] →
-        IsRun H.may (RestsOf H.told H.quiet (H.known house.old).present).rests
+        (v : Serving H.may (RestsOf H.told H.quiet H.must H.refused (H.known house.old).present)
+        before (outside (H.told house.old) (H.known house.old)) policy pid start (W.seen wire.old)
+        [] [] 0 (0 ∷ here engine.old) engine.old) → v.journal ≡ [] →
+        IsRun H.may (RestsOf H.told H.quiet H.must H.refused (H.known house.old).present).rests
         (H.known house.old).present policy pid turns before (H.told house.new)
         start (W.seen wire.new).told
         (refused_if (H.known house.old).present (H.must house.new) (H.refused house.new))
@@ -445,11 +461,12 @@ fn run<W: Wire, H: House>(
 /// is written and kept open as it must be, and ends as it must. A turn is a call of `wait`, an order
 /// of the house that is carried out, or a piece that the house said; without a house it waits once
 /// for each turn, and writes nothing before. The house is told each ask of its clients; where it is
-/// present it is let in as a client, and is at rest at each wait at which more is read: what is so of
-/// each house at rest by what it told is so there. Behind a call that wanted memory none is made.
-/// But for want of memory the wire's own listeners and streams are at the end those that the house
-/// knows, as it ordered them; without a house none was opened. The forwarding of the start that an
-/// answer names was refused, where none may be.
+/// present it is let in as a client, and at each wait it has nothing to order and to answer, is at
+/// rest where more is read, and has no refusal that ends the run: what is so of each such house by
+/// what it told is so there. Behind a call that wanted memory none is made. But for want of memory
+/// the wire's own listeners and streams are at the end those that the house knows, as it ordered
+/// them; without a house none was opened. The forwarding of the start that an answer names was
+/// refused, where none may be.
 pub fn serve<W: Wire, H: House>(
     alloc: Global,
     policy: Policy,
@@ -464,9 +481,10 @@ pub fn serve<W: Wire, H: House>(
     requires own { (W.seen wire.old).own ≡ [] }
     requires listeners { (W.seen wire.old).listeners ≡ [] }
     requires blank { H.known house.old ≡ nothing_known (H.known house.old).present }
-    ensures kept { IsRun H.may (RestsOf H.told H.quiet (H.known house.old).present).rests
-        (H.known house.old).present policy pid turns (H.told house.old)
-        (H.told house.new) (W.seen wire.old).told (W.seen wire.new).told
+    ensures kept { IsRun H.may
+        (RestsOf H.told H.quiet H.must H.refused (H.known house.old).present).rests
+        (H.known house.old).present policy pid turns (H.told house.old) (H.told house.new)
+        (W.seen wire.old).told (W.seen wire.new).told
         (refused_if (H.known house.old).present (H.must house.new) (H.refused house.new)) result }
     ensures permitted { (index : ℕ) → result ≡ StartWasRefused index
         → refused_if (H.known house.old).present (H.must house.new) (H.refused house.new)

@@ -53,10 +53,11 @@ drill_text tally =
 abbrev pub RefusesAll : HouseReply → Type 0
 RefusesAll reply = reply ≡ Refused
 
--- it has no house, so none is at rest
+-- it has no house, so none waits
 abbrev pub NoneRests : Resting
 NoneRests = RestsOf {T = NoHouse} (λ house. None)
-    (λ house. record { says = true; orders = true; answers = true }) false
+    (λ house. record { says = true; orders = true; answers = true }) (λ house. false)
+    (λ house. None) false
 
 -- What was written of the end of a run. Where it ended well: the summary, without a word; a prefix
 -- of it where it could not be written; or nothing but the line of want of memory. Else the line of

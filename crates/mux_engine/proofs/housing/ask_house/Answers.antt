@@ -41,7 +41,7 @@ returns-clause-serving g c before policy pid start given v =
     let W = g.W.Wire in
     let here_is : (H.known c.args.house.now).present ≡ true = sym c.present.ensures.present ∙ c.if-not-present.false in
     let same : SameHouse (H.known c.args.house.now) (H.known c.reply_all.new.house) = c.in_ok-reply_all.ensures.known in
-    (runs-same c.next_order.result H.may H.told H.quiet (noted (H.told c.reply_all.new.house) (H.known c.reply_all.new.house)) (noted (H.told c.next_order.new.house) (H.known c.next_order.new.house)) (W.seen c.reply_all.new.wire) (W.seen c.next_order.new.wire) c.reply_all.new.lists.held c.next_order.new.lists.held c.reply_all.new.lists.failed c.next_order.new.lists.failed 1 (λ (more : Bool). cond more 1 0) (0 ∷ without HOUSE (here c.reply_all.new.engine)) (λ (more : Bool). 0 ∷ without HOUSE (here c.reply_all.new.engine)) c.reply_all.new.engine c.reply_all.new.engine (H.known c.args.house.now).present (H.known c.reply_all.new.house).present same.present
+    (runs-same c.next_order.result H.may H.told H.quiet H.must H.refused (noted (H.told c.reply_all.new.house) (H.known c.reply_all.new.house)) (noted (H.told c.next_order.new.house) (H.known c.next_order.new.house)) (W.seen c.reply_all.new.wire) (W.seen c.next_order.new.wire) c.reply_all.new.lists.held c.next_order.new.lists.held c.reply_all.new.lists.failed c.next_order.new.lists.failed 1 (λ (more : Bool). cond more 1 0) (0 ∷ without HOUSE (here c.reply_all.new.engine)) (λ (more : Bool). 0 ∷ without HOUSE (here c.reply_all.new.engine)) c.reply_all.new.engine c.reply_all.new.engine (H.known c.args.house.now).present (H.known c.reply_all.new.house).present same.present
     (c.next_order.ensures.serving (0 ∷ without HOUSE (here c.reply_all.new.engine)) c.reply_all.new.engine)) before policy pid start given
     (a-turn (ok-serves c.reply_all.result _ _ c.in_ok-reply_all.was (c.reply_all.ensures.serving before policy pid start given v)))
 
@@ -52,7 +52,7 @@ returns-clause-held_is g c =
     let here_is : (H.known c.args.house.now).present ≡ true = sym c.present.ensures.present ∙ c.if-not-present.false in
     let same : SameHouse (H.known c.args.house.now) (H.known c.reply_all.new.house) = c.in_ok-reply_all.ensures.known in
     let s = c.requires.served in
-    match-ok c.next_order.result (λ (more : Bool). Serving H.may (RestsOf H.told H.quiet (H.known c.args.house.now).present) s.before (noted (H.told c.next_order.new.house) (H.known c.next_order.new.house)) s.policy s.pid s.start (W.seen c.next_order.new.wire) c.next_order.new.lists.held c.next_order.new.lists.failed (s.given + cond more 1 0) (0 ∷ without HOUSE (here c.reply_all.new.engine)) c.reply_all.new.engine) _ _ (λ (more : Bool) x. x.held_is) ((runs-same c.next_order.result H.may H.told H.quiet (noted (H.told c.reply_all.new.house) (H.known c.reply_all.new.house)) (noted (H.told c.next_order.new.house) (H.known c.next_order.new.house)) (W.seen c.reply_all.new.wire) (W.seen c.next_order.new.wire) c.reply_all.new.lists.held c.next_order.new.lists.held c.reply_all.new.lists.failed c.next_order.new.lists.failed 1 (λ (more : Bool). cond more 1 0) (0 ∷ without HOUSE (here c.reply_all.new.engine)) (λ (more : Bool). 0 ∷ without HOUSE (here c.reply_all.new.engine)) c.reply_all.new.engine c.reply_all.new.engine (H.known c.args.house.now).present (H.known c.reply_all.new.house).present same.present
+    match-ok c.next_order.result (λ (more : Bool). Serving H.may (RestsOf H.told H.quiet H.must H.refused (H.known c.args.house.now).present) s.before (noted (H.told c.next_order.new.house) (H.known c.next_order.new.house)) s.policy s.pid s.start (W.seen c.next_order.new.wire) c.next_order.new.lists.held c.next_order.new.lists.failed (s.given + cond more 1 0) (0 ∷ without HOUSE (here c.reply_all.new.engine)) c.reply_all.new.engine) _ _ (λ (more : Bool) x. x.held_is) ((runs-same c.next_order.result H.may H.told H.quiet H.must H.refused (noted (H.told c.reply_all.new.house) (H.known c.reply_all.new.house)) (noted (H.told c.next_order.new.house) (H.known c.next_order.new.house)) (W.seen c.reply_all.new.wire) (W.seen c.next_order.new.wire) c.reply_all.new.lists.held c.next_order.new.lists.held c.reply_all.new.lists.failed c.next_order.new.lists.failed 1 (λ (more : Bool). cond more 1 0) (0 ∷ without HOUSE (here c.reply_all.new.engine)) (λ (more : Bool). 0 ∷ without HOUSE (here c.reply_all.new.engine)) c.reply_all.new.engine c.reply_all.new.engine (H.known c.args.house.now).present (H.known c.reply_all.new.house).present same.present
     (c.next_order.ensures.serving (0 ∷ without HOUSE (here c.reply_all.new.engine)) c.reply_all.new.engine)) s.before s.policy s.pid s.start s.given
     (a-turn (ok-serves c.reply_all.result _ _ c.in_ok-reply_all.was (c.reply_all.ensures.serving s.before s.policy s.pid s.start s.given s.serving))))
 

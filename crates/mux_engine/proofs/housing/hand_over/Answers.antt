@@ -31,5 +31,5 @@ pub returns-clause-serving : goal.returns-clause-serving
 returns-clause-serving g c held failed before policy pid start given v =
     let H = g.H.House in
     let bytes : List ℕ = c.queue_of-bytes.result.now in
-    subst (λ (x : Seen). Serving H.may (RestsOf H.told H.quiet (H.known c.args.house.now).present) before (noted (H.told c.takes.new.self) (H.known c.takes.new.self)) policy pid start x held failed (given + 0) (0 ∷ without HOUSE (here c.took.new.self)) c.took.new.self) (sym c.in_ok-note.ensures.seen)
+    subst (λ (x : Seen). Serving H.may (RestsOf H.told H.quiet H.must H.refused (H.known c.args.house.now).present) before (noted (H.told c.takes.new.self) (H.known c.takes.new.self)) policy pid start x held failed (given + 0) (0 ∷ without HOUSE (here c.took.new.self)) c.took.new.self) (sym c.in_ok-note.ensures.seen)
     (no-turns (handed (H.known c.takes.new.self) v c.took.new.self bytes c.in_ok-takes.ensures.told c.in_ok-takes.ensures.known c.queue_of-bytes.ensures.exact (some-bytes bytes (sym c.if-is_empty.ensures)) c.queue_of-bytes.ensures.waits c.took.ensures.exact (c.took.ensures.stands bytes refl)))

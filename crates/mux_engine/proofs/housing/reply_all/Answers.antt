@@ -48,7 +48,7 @@ reply-requires g c = record {
 
 pub loop-wire-preserved : goal.loop-wire-preserved
 loop-wire-preserved g c = let H = g.H.House in let w = c.requires.served in record {
-  serving = λ before policy pid start given v. none-given (same-rests (RestsOf H.told H.quiet) _ _ (ap (λ (k : Known). k.present) c.in_ok-own_rounds.ensures.known ∙ (ap (λ (k : Known). k.present) c.in_ok-hand_over.ensures.known ∙ c.loop-wire.invariant.known.present)) (replied (0 ∷ here c.reply.new.engine) (0 ∷ without HOUSE (here c.reply.new.engine)) _ true c.if-not-branch.false (c.in_ok-reply.ensures.serving c.own_rounds.new.held c.own_rounds.new.failed before policy pid start given (same-rests (RestsOf H.told H.quiet) _ _ (sym (ap (λ (k : Known). k.present) c.in_ok-own_rounds.ensures.known ∙ (ap (λ (k : Known). k.present) c.in_ok-hand_over.ensures.known ∙ c.loop-wire.invariant.known.present))) (same-noted (H.told c.hand_over.new.house) (H.told c.own_rounds.new.house) (H.known c.hand_over.new.house) (H.known c.own_rounds.new.house) c.own_rounds.ensures.told c.in_ok-own_rounds.ensures.known (c.in_ok-own_rounds.ensures.serving (H.known c.args.house.now).present before (noted (H.told c.hand_over.new.house) (H.known c.hand_over.new.house)) policy pid start given (0 ∷ without HOUSE (here c.hand_over.new.engine)) c.hand_over.new.engine (none-given (same-rests (RestsOf H.told H.quiet) _ _ c.loop-wire.invariant.known.present (c.in_ok-hand_over.ensures.serving c.loop-wire.lists.held c.loop-wire.lists.failed before policy pid start given (same-rests (RestsOf H.told H.quiet) _ _ (sym c.loop-wire.invariant.known.present) (c.loop-wire.invariant.serving before policy pid start given v)))))))))));
+  serving = λ before policy pid start given v. none-given (same-rests (RestsOf H.told H.quiet H.must H.refused) _ _ (ap (λ (k : Known). k.present) c.in_ok-own_rounds.ensures.known ∙ (ap (λ (k : Known). k.present) c.in_ok-hand_over.ensures.known ∙ c.loop-wire.invariant.known.present)) (replied (0 ∷ here c.reply.new.engine) (0 ∷ without HOUSE (here c.reply.new.engine)) _ true c.if-not-branch.false (c.in_ok-reply.ensures.serving c.own_rounds.new.held c.own_rounds.new.failed before policy pid start given (same-rests (RestsOf H.told H.quiet H.must H.refused) _ _ (sym (ap (λ (k : Known). k.present) c.in_ok-own_rounds.ensures.known ∙ (ap (λ (k : Known). k.present) c.in_ok-hand_over.ensures.known ∙ c.loop-wire.invariant.known.present))) (same-noted (H.told c.hand_over.new.house) (H.told c.own_rounds.new.house) (H.known c.hand_over.new.house) (H.known c.own_rounds.new.house) c.own_rounds.ensures.told c.in_ok-own_rounds.ensures.known (c.in_ok-own_rounds.ensures.serving (H.known c.args.house.now).present before (noted (H.told c.hand_over.new.house) (H.known c.hand_over.new.house)) policy pid start given (0 ∷ without HOUSE (here c.hand_over.new.engine)) c.hand_over.new.engine (none-given (same-rests (RestsOf H.told H.quiet H.must H.refused) _ _ c.loop-wire.invariant.known.present (c.in_ok-hand_over.ensures.serving c.loop-wire.lists.held c.loop-wire.lists.failed before policy pid start given (same-rests (RestsOf H.told H.quiet H.must H.refused) _ _ (sym c.loop-wire.invariant.known.present) (c.loop-wire.invariant.serving before policy pid start given v)))))))))));
   known = house-then _ _ _ (house-then _ _ _ (house-then _ _ _ c.loop-wire.invariant.known (same-house _ _ c.in_ok-hand_over.ensures.known)) (same-house _ _ c.in_ok-own_rounds.ensures.known)) c.reply.ensures.known;
   places = (places-then _ _ _ (places-then _ _ _ (places-then _ _ _ c.loop-wire.invariant.places c.hand_over.ensures.places) c.own_rounds.ensures.places) c.reply.ensures.places);
   held_is = c.in_ok-own_rounds.ensures.held_is ∙ sym c.reply.ensures.blocked;
@@ -60,7 +60,7 @@ loop-wire-preserved g c = let H = g.H.House in let w = c.requires.served in reco
     pid = w.pid;
     start = w.start;
     given = w.given;
-    serving = (same-rests (RestsOf H.told H.quiet) _ _ (sym (ap (λ (k : Known). k.present) c.in_ok-own_rounds.ensures.known ∙ (ap (λ (k : Known). k.present) c.in_ok-hand_over.ensures.known ∙ c.loop-wire.invariant.known.present))) (same-noted (H.told c.hand_over.new.house) (H.told c.own_rounds.new.house) (H.known c.hand_over.new.house) (H.known c.own_rounds.new.house) c.own_rounds.ensures.told c.in_ok-own_rounds.ensures.known (c.in_ok-own_rounds.ensures.serving (H.known c.args.house.now).present w.before (noted (H.told c.hand_over.new.house) (H.known c.hand_over.new.house)) w.policy w.pid w.start w.given (0 ∷ without HOUSE (here c.hand_over.new.engine)) c.hand_over.new.engine (none-given (same-rests (RestsOf H.told H.quiet) _ _ c.loop-wire.invariant.known.present (c.in_ok-hand_over.ensures.serving c.loop-wire.lists.held c.loop-wire.lists.failed w.before w.policy w.pid w.start w.given (same-rests (RestsOf H.told H.quiet) _ _ (sym c.loop-wire.invariant.known.present) (c.loop-wire.invariant.serving w.before w.policy w.pid w.start w.given w.serving))))))));
+    serving = (same-rests (RestsOf H.told H.quiet H.must H.refused) _ _ (sym (ap (λ (k : Known). k.present) c.in_ok-own_rounds.ensures.known ∙ (ap (λ (k : Known). k.present) c.in_ok-hand_over.ensures.known ∙ c.loop-wire.invariant.known.present))) (same-noted (H.told c.hand_over.new.house) (H.told c.own_rounds.new.house) (H.known c.hand_over.new.house) (H.known c.own_rounds.new.house) c.own_rounds.ensures.told c.in_ok-own_rounds.ensures.known (c.in_ok-own_rounds.ensures.serving (H.known c.args.house.now).present w.before (noted (H.told c.hand_over.new.house) (H.known c.hand_over.new.house)) w.policy w.pid w.start w.given (0 ∷ without HOUSE (here c.hand_over.new.engine)) c.hand_over.new.engine (none-given (same-rests (RestsOf H.told H.quiet H.must H.refused) _ _ c.loop-wire.invariant.known.present (c.in_ok-hand_over.ensures.serving c.loop-wire.lists.held c.loop-wire.lists.failed w.before w.policy w.pid w.start w.given (same-rests (RestsOf H.told H.quiet H.must H.refused) _ _ (sym c.loop-wire.invariant.known.present) (c.loop-wire.invariant.serving w.before w.policy w.pid w.start w.given w.serving))))))));
   };
   calls = (well-still _ _ _ (well-then _ _ _ (well-still _ _ _ c.loop-wire.invariant.calls c.hand_over.ensures.calls) c.in_ok-own_rounds.ensures.calls) c.reply.ensures.calls);
   faults = c.reply.ensures.faults ∙ (c.own_rounds.ensures.faults ∙ (c.hand_over.ensures.faults ∙ c.loop-wire.invariant.faults));
@@ -75,7 +75,7 @@ loop-wire-smaller g c = let H = g.H.House in
 
 pub returns-then-not-branch : goal.returns-then-not-branch
 returns-then-not-branch g c = let H = g.H.House in let w = c.requires.served in record {
-  serving = λ before policy pid start given v. same-rests (RestsOf H.told H.quiet) _ _ (ap (λ (k : Known). k.present) c.in_ok-own_rounds.ensures.known ∙ (ap (λ (k : Known). k.present) c.in_ok-hand_over.ensures.known ∙ c.loop-wire.invariant.known.present)) (replied (0 ∷ here c.reply.new.engine) (0 ∷ without HOUSE (here c.reply.new.engine)) _ false c.if-not-branch.true (c.in_ok-reply.ensures.serving c.own_rounds.new.held c.own_rounds.new.failed before policy pid start given (same-rests (RestsOf H.told H.quiet) _ _ (sym (ap (λ (k : Known). k.present) c.in_ok-own_rounds.ensures.known ∙ (ap (λ (k : Known). k.present) c.in_ok-hand_over.ensures.known ∙ c.loop-wire.invariant.known.present))) (same-noted (H.told c.hand_over.new.house) (H.told c.own_rounds.new.house) (H.known c.hand_over.new.house) (H.known c.own_rounds.new.house) c.own_rounds.ensures.told c.in_ok-own_rounds.ensures.known (c.in_ok-own_rounds.ensures.serving (H.known c.args.house.now).present before (noted (H.told c.hand_over.new.house) (H.known c.hand_over.new.house)) policy pid start given (0 ∷ without HOUSE (here c.hand_over.new.engine)) c.hand_over.new.engine (none-given (same-rests (RestsOf H.told H.quiet) _ _ c.loop-wire.invariant.known.present (c.in_ok-hand_over.ensures.serving c.loop-wire.lists.held c.loop-wire.lists.failed before policy pid start given (same-rests (RestsOf H.told H.quiet) _ _ (sym c.loop-wire.invariant.known.present) (c.loop-wire.invariant.serving before policy pid start given v))))))))));
+  serving = λ before policy pid start given v. same-rests (RestsOf H.told H.quiet H.must H.refused) _ _ (ap (λ (k : Known). k.present) c.in_ok-own_rounds.ensures.known ∙ (ap (λ (k : Known). k.present) c.in_ok-hand_over.ensures.known ∙ c.loop-wire.invariant.known.present)) (replied (0 ∷ here c.reply.new.engine) (0 ∷ without HOUSE (here c.reply.new.engine)) _ false c.if-not-branch.true (c.in_ok-reply.ensures.serving c.own_rounds.new.held c.own_rounds.new.failed before policy pid start given (same-rests (RestsOf H.told H.quiet H.must H.refused) _ _ (sym (ap (λ (k : Known). k.present) c.in_ok-own_rounds.ensures.known ∙ (ap (λ (k : Known). k.present) c.in_ok-hand_over.ensures.known ∙ c.loop-wire.invariant.known.present))) (same-noted (H.told c.hand_over.new.house) (H.told c.own_rounds.new.house) (H.known c.hand_over.new.house) (H.known c.own_rounds.new.house) c.own_rounds.ensures.told c.in_ok-own_rounds.ensures.known (c.in_ok-own_rounds.ensures.serving (H.known c.args.house.now).present before (noted (H.told c.hand_over.new.house) (H.known c.hand_over.new.house)) policy pid start given (0 ∷ without HOUSE (here c.hand_over.new.engine)) c.hand_over.new.engine (none-given (same-rests (RestsOf H.told H.quiet H.must H.refused) _ _ c.loop-wire.invariant.known.present (c.in_ok-hand_over.ensures.serving c.loop-wire.lists.held c.loop-wire.lists.failed before policy pid start given (same-rests (RestsOf H.told H.quiet H.must H.refused) _ _ (sym c.loop-wire.invariant.known.present) (c.loop-wire.invariant.serving before policy pid start given v))))))))));
   known = house-then _ _ _ (house-then _ _ _ (house-then _ _ _ c.loop-wire.invariant.known (same-house _ _ c.in_ok-hand_over.ensures.known)) (same-house _ _ c.in_ok-own_rounds.ensures.known)) c.reply.ensures.known;
   places = (places-then _ _ _ (places-then _ _ _ (places-then _ _ _ c.loop-wire.invariant.places c.hand_over.ensures.places) c.own_rounds.ensures.places) c.reply.ensures.places);
   held_is = c.in_ok-own_rounds.ensures.held_is ∙ sym c.reply.ensures.blocked;
@@ -89,7 +89,7 @@ returns-then-not-branch g c = let H = g.H.House in let w = c.requires.served in 
     pid = w.pid;
     start = w.start;
     given = w.given;
-    serving = (same-rests (RestsOf H.told H.quiet) _ _ (sym (ap (λ (k : Known). k.present) c.in_ok-own_rounds.ensures.known ∙ (ap (λ (k : Known). k.present) c.in_ok-hand_over.ensures.known ∙ c.loop-wire.invariant.known.present))) (same-noted (H.told c.hand_over.new.house) (H.told c.own_rounds.new.house) (H.known c.hand_over.new.house) (H.known c.own_rounds.new.house) c.own_rounds.ensures.told c.in_ok-own_rounds.ensures.known (c.in_ok-own_rounds.ensures.serving (H.known c.args.house.now).present w.before (noted (H.told c.hand_over.new.house) (H.known c.hand_over.new.house)) w.policy w.pid w.start w.given (0 ∷ without HOUSE (here c.hand_over.new.engine)) c.hand_over.new.engine (none-given (same-rests (RestsOf H.told H.quiet) _ _ c.loop-wire.invariant.known.present (c.in_ok-hand_over.ensures.serving c.loop-wire.lists.held c.loop-wire.lists.failed w.before w.policy w.pid w.start w.given (same-rests (RestsOf H.told H.quiet) _ _ (sym c.loop-wire.invariant.known.present) (c.loop-wire.invariant.serving w.before w.policy w.pid w.start w.given w.serving))))))));
+    serving = (same-rests (RestsOf H.told H.quiet H.must H.refused) _ _ (sym (ap (λ (k : Known). k.present) c.in_ok-own_rounds.ensures.known ∙ (ap (λ (k : Known). k.present) c.in_ok-hand_over.ensures.known ∙ c.loop-wire.invariant.known.present))) (same-noted (H.told c.hand_over.new.house) (H.told c.own_rounds.new.house) (H.known c.hand_over.new.house) (H.known c.own_rounds.new.house) c.own_rounds.ensures.told c.in_ok-own_rounds.ensures.known (c.in_ok-own_rounds.ensures.serving (H.known c.args.house.now).present w.before (noted (H.told c.hand_over.new.house) (H.known c.hand_over.new.house)) w.policy w.pid w.start w.given (0 ∷ without HOUSE (here c.hand_over.new.engine)) c.hand_over.new.engine (none-given (same-rests (RestsOf H.told H.quiet H.must H.refused) _ _ c.loop-wire.invariant.known.present (c.in_ok-hand_over.ensures.serving c.loop-wire.lists.held c.loop-wire.lists.failed w.before w.policy w.pid w.start w.given (same-rests (RestsOf H.told H.quiet H.must H.refused) _ _ (sym c.loop-wire.invariant.known.present) (c.loop-wire.invariant.serving w.before w.policy w.pid w.start w.given w.serving))))))));
   };
   calls = (well-still _ _ _ (well-then _ _ _ (well-still _ _ _ c.loop-wire.invariant.calls c.hand_over.ensures.calls) c.in_ok-own_rounds.ensures.calls) c.reply.ensures.calls);
   faults = c.reply.ensures.faults ∙ (c.own_rounds.ensures.faults ∙ (c.hand_over.ensures.faults ∙ c.loop-wire.invariant.faults));
@@ -102,7 +102,7 @@ returns-then-not-branch g c = let H = g.H.House in let w = c.requires.served in 
 
 pub returns-in_err-hand_over : goal.returns-in_err-hand_over
 returns-in_err-hand_over g c = let H = g.H.House in record {
-  serving = λ before policy pid start given v. on-err c.from_residual.result _ _ c.from_residual.ensures.0 (same-rests-left (RestsOf H.told H.quiet) _ _ c.loop-wire.invariant.known.present (c.in_err-hand_over.ensures.serving c.loop-wire.lists.held c.loop-wire.lists.failed before policy pid start given (same-rests (RestsOf H.told H.quiet) _ _ (sym c.loop-wire.invariant.known.present) (c.loop-wire.invariant.serving before policy pid start given v))));
+  serving = λ before policy pid start given v. on-err c.from_residual.result _ _ c.from_residual.ensures.0 (same-rests-left (RestsOf H.told H.quiet H.must H.refused) _ _ c.loop-wire.invariant.known.present (c.in_err-hand_over.ensures.serving c.loop-wire.lists.held c.loop-wire.lists.failed before policy pid start given (same-rests (RestsOf H.told H.quiet H.must H.refused) _ _ (sym c.loop-wire.invariant.known.present) (c.loop-wire.invariant.serving before policy pid start given v))));
   known = on-err c.from_residual.result _ _ c.from_residual.ensures.0 tt;
   places = (places-then _ _ _ c.loop-wire.invariant.places c.hand_over.ensures.places);
   held_is = on-err c.from_residual.result _ _ c.from_residual.ensures.0 tt;
@@ -120,7 +120,7 @@ returns-in_err-hand_over g c = let H = g.H.House in record {
 
 pub returns-in_err-own_rounds : goal.returns-in_err-own_rounds
 returns-in_err-own_rounds g c = let H = g.H.House in record {
-  serving = λ before policy pid start given v. on-err c.from_residual-in_err-own_rounds.result _ _ c.from_residual-in_err-own_rounds.ensures.0 (no-turns-left (subst (λ (told : Option (List HouseMark)). Promised H.may (RestsOf H.told H.quiet (H.known c.args.house.now).present) before told policy pid start (g.W.Wire.seen c.own_rounds.new.wire).told given) (sym c.own_rounds.ensures.told) (c.in_err-own_rounds.ensures.serving (H.known c.args.house.now).present before (noted (H.told c.hand_over.new.house) (H.known c.hand_over.new.house)) policy pid start given (0 ∷ without HOUSE (here c.hand_over.new.engine)) c.hand_over.new.engine (none-given (same-rests (RestsOf H.told H.quiet) _ _ c.loop-wire.invariant.known.present (c.in_ok-hand_over.ensures.serving c.loop-wire.lists.held c.loop-wire.lists.failed before policy pid start given (same-rests (RestsOf H.told H.quiet) _ _ (sym c.loop-wire.invariant.known.present) (c.loop-wire.invariant.serving before policy pid start given v))))))));
+  serving = λ before policy pid start given v. on-err c.from_residual-in_err-own_rounds.result _ _ c.from_residual-in_err-own_rounds.ensures.0 (no-turns-left (subst (λ (told : Option (List HouseMark)). Promised H.may (RestsOf H.told H.quiet H.must H.refused (H.known c.args.house.now).present) before told policy pid start (g.W.Wire.seen c.own_rounds.new.wire).told given) (sym c.own_rounds.ensures.told) (c.in_err-own_rounds.ensures.serving (H.known c.args.house.now).present before (noted (H.told c.hand_over.new.house) (H.known c.hand_over.new.house)) policy pid start given (0 ∷ without HOUSE (here c.hand_over.new.engine)) c.hand_over.new.engine (none-given (same-rests (RestsOf H.told H.quiet H.must H.refused) _ _ c.loop-wire.invariant.known.present (c.in_ok-hand_over.ensures.serving c.loop-wire.lists.held c.loop-wire.lists.failed before policy pid start given (same-rests (RestsOf H.told H.quiet H.must H.refused) _ _ (sym c.loop-wire.invariant.known.present) (c.loop-wire.invariant.serving before policy pid start given v))))))));
   known = on-err c.from_residual-in_err-own_rounds.result _ _ c.from_residual-in_err-own_rounds.ensures.0 tt;
   places = (places-then _ _ _ (places-then _ _ _ c.loop-wire.invariant.places c.hand_over.ensures.places) c.own_rounds.ensures.places);
   held_is = on-err c.from_residual-in_err-own_rounds.result _ _ c.from_residual-in_err-own_rounds.ensures.0 tt;
@@ -138,7 +138,7 @@ returns-in_err-own_rounds g c = let H = g.H.House in record {
 
 pub returns-in_err-reply : goal.returns-in_err-reply
 returns-in_err-reply g c = let H = g.H.House in record {
-  serving = λ before policy pid start given v. on-err c.from_residual-in_err-reply.result _ _ c.from_residual-in_err-reply.ensures.0 (same-rests-left (RestsOf H.told H.quiet) _ _ (ap (λ (k : Known). k.present) c.in_ok-own_rounds.ensures.known ∙ (ap (λ (k : Known). k.present) c.in_ok-hand_over.ensures.known ∙ c.loop-wire.invariant.known.present)) (c.in_err-reply.ensures.serving c.own_rounds.new.held c.own_rounds.new.failed before policy pid start given (same-rests (RestsOf H.told H.quiet) _ _ (sym (ap (λ (k : Known). k.present) c.in_ok-own_rounds.ensures.known ∙ (ap (λ (k : Known). k.present) c.in_ok-hand_over.ensures.known ∙ c.loop-wire.invariant.known.present))) (same-noted (H.told c.hand_over.new.house) (H.told c.own_rounds.new.house) (H.known c.hand_over.new.house) (H.known c.own_rounds.new.house) c.own_rounds.ensures.told c.in_ok-own_rounds.ensures.known (c.in_ok-own_rounds.ensures.serving (H.known c.args.house.now).present before (noted (H.told c.hand_over.new.house) (H.known c.hand_over.new.house)) policy pid start given (0 ∷ without HOUSE (here c.hand_over.new.engine)) c.hand_over.new.engine (none-given (same-rests (RestsOf H.told H.quiet) _ _ c.loop-wire.invariant.known.present (c.in_ok-hand_over.ensures.serving c.loop-wire.lists.held c.loop-wire.lists.failed before policy pid start given (same-rests (RestsOf H.told H.quiet) _ _ (sym c.loop-wire.invariant.known.present) (c.loop-wire.invariant.serving before policy pid start given v))))))))));
+  serving = λ before policy pid start given v. on-err c.from_residual-in_err-reply.result _ _ c.from_residual-in_err-reply.ensures.0 (same-rests-left (RestsOf H.told H.quiet H.must H.refused) _ _ (ap (λ (k : Known). k.present) c.in_ok-own_rounds.ensures.known ∙ (ap (λ (k : Known). k.present) c.in_ok-hand_over.ensures.known ∙ c.loop-wire.invariant.known.present)) (c.in_err-reply.ensures.serving c.own_rounds.new.held c.own_rounds.new.failed before policy pid start given (same-rests (RestsOf H.told H.quiet H.must H.refused) _ _ (sym (ap (λ (k : Known). k.present) c.in_ok-own_rounds.ensures.known ∙ (ap (λ (k : Known). k.present) c.in_ok-hand_over.ensures.known ∙ c.loop-wire.invariant.known.present))) (same-noted (H.told c.hand_over.new.house) (H.told c.own_rounds.new.house) (H.known c.hand_over.new.house) (H.known c.own_rounds.new.house) c.own_rounds.ensures.told c.in_ok-own_rounds.ensures.known (c.in_ok-own_rounds.ensures.serving (H.known c.args.house.now).present before (noted (H.told c.hand_over.new.house) (H.known c.hand_over.new.house)) policy pid start given (0 ∷ without HOUSE (here c.hand_over.new.engine)) c.hand_over.new.engine (none-given (same-rests (RestsOf H.told H.quiet H.must H.refused) _ _ c.loop-wire.invariant.known.present (c.in_ok-hand_over.ensures.serving c.loop-wire.lists.held c.loop-wire.lists.failed before policy pid start given (same-rests (RestsOf H.told H.quiet H.must H.refused) _ _ (sym c.loop-wire.invariant.known.present) (c.loop-wire.invariant.serving before policy pid start given v))))))))));
   known = on-err c.from_residual-in_err-reply.result _ _ c.from_residual-in_err-reply.ensures.0 tt;
   places = (places-then _ _ _ (places-then _ _ _ (places-then _ _ _ c.loop-wire.invariant.places c.hand_over.ensures.places) c.own_rounds.ensures.places) c.reply.ensures.places);
   held_is = on-err c.from_residual-in_err-reply.result _ _ c.from_residual-in_err-reply.ensures.0 tt;

@@ -61,7 +61,7 @@ returns-clause-serving g c before policy pid start given v =
     let house = c.ask_house.new.house in
     let lists = c.ask_house.new.lists in
     let is : c.ask_house.result ≡ Ok false = c.in_ok-ask_house.was ∙ ap (λ (b : Bool). Ok b) c.if-branch.false in
-    (runs-same c.speak.result H.may H.told H.quiet (noted (H.told house) (H.known house)) (noted (H.told c.speak.new.house) (H.known c.speak.new.house)) (W.seen c.flush.new.wire) (W.seen c.speak.new.wire) c.flush.new.held c.flush.new.held lists.failed lists.failed 1 (λ (more : Bool). cond more 1 0) [] (λ (more : Bool). cond more (0 ∷ here c.speak.new.engine) []) c.flush.new.engine c.speak.new.engine (H.known c.args.house.now).present (H.known house).present c.in_ok-ask_house.ensures.present
+    (runs-same c.speak.result H.may H.told H.quiet H.must H.refused (noted (H.told house) (H.known house)) (noted (H.told c.speak.new.house) (H.known c.speak.new.house)) (W.seen c.flush.new.wire) (W.seen c.speak.new.wire) c.flush.new.held c.flush.new.held lists.failed lists.failed 1 (λ (more : Bool). cond more 1 0) [] (λ (more : Bool). cond more (0 ∷ here c.speak.new.engine) []) c.flush.new.engine c.speak.new.engine (H.known c.args.house.now).present (H.known house).present c.in_ok-ask_house.ensures.present
     (c.speak.ensures.serving c.flush.new.held lists.failed)) before policy pid start given (ok-serves c.flush.result _ _ c.in_ok-flush.was (c.flush.ensures.serving [] (H.known c.args.house.now).present before (noted (H.told house) (H.known house)) policy pid start lists.failed given (to-flush (ok-serves c.ask_house.result _ _ is (c.ask_house.ensures.serving before policy pid start given v)))))
 
 pub returns-clause-held_is : goal.returns-clause-held_is
@@ -72,7 +72,7 @@ returns-clause-held_is g c =
     let lists = c.ask_house.new.lists in
     let is : c.ask_house.result ≡ Ok false = c.in_ok-ask_house.was ∙ ap (λ (b : Bool). Ok b) c.if-branch.false in
     let s = c.requires.served in
-    match-ok c.speak.result (λ (more : Bool). Serving H.may (RestsOf H.told H.quiet (H.known c.args.house.now).present) s.before (noted (H.told c.speak.new.house) (H.known c.speak.new.house)) s.policy s.pid s.start (W.seen c.speak.new.wire) c.flush.new.held lists.failed (s.given + cond more 1 0) (cond more (0 ∷ here c.speak.new.engine) []) c.speak.new.engine) _ _ (λ (more : Bool) x. x.held_is) ((runs-same c.speak.result H.may H.told H.quiet (noted (H.told house) (H.known house)) (noted (H.told c.speak.new.house) (H.known c.speak.new.house)) (W.seen c.flush.new.wire) (W.seen c.speak.new.wire) c.flush.new.held c.flush.new.held lists.failed lists.failed 1 (λ (more : Bool). cond more 1 0) [] (λ (more : Bool). cond more (0 ∷ here c.speak.new.engine) []) c.flush.new.engine c.speak.new.engine (H.known c.args.house.now).present (H.known house).present c.in_ok-ask_house.ensures.present
+    match-ok c.speak.result (λ (more : Bool). Serving H.may (RestsOf H.told H.quiet H.must H.refused (H.known c.args.house.now).present) s.before (noted (H.told c.speak.new.house) (H.known c.speak.new.house)) s.policy s.pid s.start (W.seen c.speak.new.wire) c.flush.new.held lists.failed (s.given + cond more 1 0) (cond more (0 ∷ here c.speak.new.engine) []) c.speak.new.engine) _ _ (λ (more : Bool) x. x.held_is) ((runs-same c.speak.result H.may H.told H.quiet H.must H.refused (noted (H.told house) (H.known house)) (noted (H.told c.speak.new.house) (H.known c.speak.new.house)) (W.seen c.flush.new.wire) (W.seen c.speak.new.wire) c.flush.new.held c.flush.new.held lists.failed lists.failed 1 (λ (more : Bool). cond more 1 0) [] (λ (more : Bool). cond more (0 ∷ here c.speak.new.engine) []) c.flush.new.engine c.speak.new.engine (H.known c.args.house.now).present (H.known house).present c.in_ok-ask_house.ensures.present
     (c.speak.ensures.serving c.flush.new.held lists.failed)) s.before s.policy s.pid s.start s.given (ok-serves c.flush.result _ _ c.in_ok-flush.was (c.flush.ensures.serving [] (H.known c.args.house.now).present s.before (noted (H.told house) (H.known house)) s.policy s.pid s.start lists.failed s.given (to-flush (ok-serves c.ask_house.result _ _ is (c.ask_house.ensures.serving s.before s.policy s.pid s.start s.given s.serving))))))
 
 pub returns-clause-failed : goal.returns-clause-failed
@@ -83,7 +83,7 @@ returns-clause-failed g c =
     let lists = c.ask_house.new.lists in
     let is : c.ask_house.result ≡ Ok false = c.in_ok-ask_house.was ∙ ap (λ (b : Bool). Ok b) c.if-branch.false in
     let s = c.requires.served in
-    on-ok c.speak.result (λ (e : EndsByAsk c.speak.new.engine.ended) over. absurd (e.lives over)) (c.speak.ensures.ends c.flush.new.held lists.failed record { before = s.before; policy = s.policy; pid = s.pid; start = s.start; given = s.given; serving = subst (λ (b : Bool). Serving H.may (RestsOf H.told H.quiet b) s.before (noted (H.told house) (H.known house)) s.policy s.pid s.start (W.seen c.flush.new.wire) c.flush.new.held lists.failed s.given [] c.flush.new.engine) (sym c.in_ok-ask_house.ensures.present) (ok-serves c.flush.result _ _ c.in_ok-flush.was (c.flush.ensures.serving [] (H.known c.args.house.now).present s.before (noted (H.told house) (H.known house)) s.policy s.pid s.start lists.failed s.given (to-flush (ok-serves c.ask_house.result _ _ is (c.ask_house.ensures.serving s.before s.policy s.pid s.start s.given s.serving))))) })
+    on-ok c.speak.result (λ (e : EndsByAsk c.speak.new.engine.ended) over. absurd (e.lives over)) (c.speak.ensures.ends c.flush.new.held lists.failed record { before = s.before; policy = s.policy; pid = s.pid; start = s.start; given = s.given; serving = subst (λ (b : Bool). Serving H.may (RestsOf H.told H.quiet H.must H.refused b) s.before (noted (H.told house) (H.known house)) s.policy s.pid s.start (W.seen c.flush.new.wire) c.flush.new.held lists.failed s.given [] c.flush.new.engine) (sym c.in_ok-ask_house.ensures.present) (ok-serves c.flush.result _ _ c.in_ok-flush.was (c.flush.ensures.serving [] (H.known c.args.house.now).present s.before (noted (H.told house) (H.known house)) s.policy s.pid s.start lists.failed s.given (to-flush (ok-serves c.ask_house.result _ _ is (c.ask_house.ensures.serving s.before s.policy s.pid s.start s.given s.serving))))) })
 
 pub returns-clause-by_row : goal.returns-clause-by_row
 returns-clause-by_row g c =
@@ -93,7 +93,7 @@ returns-clause-by_row g c =
     let lists = c.ask_house.new.lists in
     let is : c.ask_house.result ≡ Ok false = c.in_ok-ask_house.was ∙ ap (λ (b : Bool). Ok b) c.if-branch.false in
     let s = c.requires.served in
-    on-ok c.speak.result (λ (e : EndsByAsk c.speak.new.engine.ended). e.by_row) (c.speak.ensures.ends c.flush.new.held lists.failed record { before = s.before; policy = s.policy; pid = s.pid; start = s.start; given = s.given; serving = subst (λ (b : Bool). Serving H.may (RestsOf H.told H.quiet b) s.before (noted (H.told house) (H.known house)) s.policy s.pid s.start (W.seen c.flush.new.wire) c.flush.new.held lists.failed s.given [] c.flush.new.engine) (sym c.in_ok-ask_house.ensures.present) (ok-serves c.flush.result _ _ c.in_ok-flush.was (c.flush.ensures.serving [] (H.known c.args.house.now).present s.before (noted (H.told house) (H.known house)) s.policy s.pid s.start lists.failed s.given (to-flush (ok-serves c.ask_house.result _ _ is (c.ask_house.ensures.serving s.before s.policy s.pid s.start s.given s.serving))))) })
+    on-ok c.speak.result (λ (e : EndsByAsk c.speak.new.engine.ended). e.by_row) (c.speak.ensures.ends c.flush.new.held lists.failed record { before = s.before; policy = s.policy; pid = s.pid; start = s.start; given = s.given; serving = subst (λ (b : Bool). Serving H.may (RestsOf H.told H.quiet H.must H.refused b) s.before (noted (H.told house) (H.known house)) s.policy s.pid s.start (W.seen c.flush.new.wire) c.flush.new.held lists.failed s.given [] c.flush.new.engine) (sym c.in_ok-ask_house.ensures.present) (ok-serves c.flush.result _ _ c.in_ok-flush.was (c.flush.ensures.serving [] (H.known c.args.house.now).present s.before (noted (H.told house) (H.known house)) s.policy s.pid s.start lists.failed s.given (to-flush (ok-serves c.ask_house.result _ _ is (c.ask_house.ensures.serving s.before s.policy s.pid s.start s.given s.serving))))) })
 
 pub returns-then-not-present-clause-held_is : goal.returns-then-not-present-clause-held_is
 returns-then-not-present-clause-held_is g c =

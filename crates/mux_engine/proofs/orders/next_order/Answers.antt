@@ -11,16 +11,16 @@ returns-in_err-obey-clause-serving g c todo s before policy pid start given v =
     let H = g.H.House in
     let side = given-side c.in-Some.order _ _ c.in-Some.ensures.known in
     on-err c.from_residual.result _ _ c.from_residual.ensures.0
-    (subst (λ (b : Bool). Promised H.may (RestsOf H.told H.quiet b) before (H.told c.obey.new.house) policy pid start (g.W.Wire.seen c.obey.new.wire).told (given + 1)) side.present
+    (subst (λ (b : Bool). Promised H.may (RestsOf H.told H.quiet H.must H.refused b) before (H.told c.obey.new.house) policy pid start (g.W.Wire.seen c.obey.new.wire).told (given + 1)) side.present
     (c.in_err-obey.ensures.serving todo s before policy pid start given
-    (subst (λ (b : Bool). Serving H.may (RestsOf H.told H.quiet b) before (noting (order_marks (Some c.in-Some.order)) (H.told c.order.new.self) (H.known c.order.new.self)) policy pid start (g.W.Wire.seen c.args.wire.now) c.args.lists.now.held c.args.lists.now.failed given todo s) (sym side.present)
+    (subst (λ (b : Bool). Serving H.may (RestsOf H.told H.quiet H.must H.refused b) before (noting (order_marks (Some c.in-Some.order)) (H.told c.order.new.self) (H.known c.order.new.self)) policy pid start (g.W.Wire.seen c.args.wire.now) c.args.lists.now.held c.args.lists.now.failed given todo s) (sym side.present)
     (order-given c.in-Some.order _ _ _ _ c.in-Some.ensures.told c.in-Some.ensures.known v))))
 
 pub returns-clause-serving : goal.returns-clause-serving
 returns-clause-serving g c todo s before policy pid start given v =
     let H = g.H.House in
     let side = given-side c.in-Some.order _ _ c.in-Some.ensures.known in
-    subst (λ (b : Bool). Serving H.may (RestsOf H.told H.quiet b) before (noted (H.told c.obey.new.house) (H.known c.obey.new.house)) policy pid start (g.W.Wire.seen c.obey.new.wire) c.obey.new.lists.held c.obey.new.lists.failed (given + 1) todo s) side.present
+    subst (λ (b : Bool). Serving H.may (RestsOf H.told H.quiet H.must H.refused b) before (noted (H.told c.obey.new.house) (H.known c.obey.new.house)) policy pid start (g.W.Wire.seen c.obey.new.wire) c.obey.new.lists.held c.obey.new.lists.failed (given + 1) todo s) side.present
     (c.in_ok-obey.ensures.serving todo s before policy pid start given
-    (subst (λ (b : Bool). Serving H.may (RestsOf H.told H.quiet b) before (noting (order_marks (Some c.in-Some.order)) (H.told c.order.new.self) (H.known c.order.new.self)) policy pid start (g.W.Wire.seen c.args.wire.now) c.args.lists.now.held c.args.lists.now.failed given todo s) (sym side.present)
+    (subst (λ (b : Bool). Serving H.may (RestsOf H.told H.quiet H.must H.refused b) before (noting (order_marks (Some c.in-Some.order)) (H.told c.order.new.self) (H.known c.order.new.self)) policy pid start (g.W.Wire.seen c.args.wire.now) c.args.lists.now.held c.args.lists.now.failed given todo s) (sym side.present)
     (order-given c.in-Some.order _ _ _ _ c.in-Some.ensures.told c.in-Some.ensures.known v)))

@@ -87,7 +87,7 @@ turn-requires-clause-served g c =
       pid = s.pid;
       start = s.start;
       given = s.given;
-      serving = present-is (RestsOf H.told H.quiet) _ _ (sym c.in_ok-step_house.ensures.present) hushed;
+      serving = present-is (RestsOf H.told H.quiet H.must H.refused) _ _ (sym c.in_ok-step_house.ensures.present) hushed;
     }
 
 pub turn-requires-clause-housed : goal.turn-requires-clause-housed
@@ -102,8 +102,8 @@ returns-in_err-went-clause-serving g c before policy pid start given v =
     let stepped = step-waits given (0 ∷ here c.step_house.new.engine) c.in_ok-step_house.field-0 c.if-branch.false (c.in_ok-step_house.ensures.serving before policy pid start given v) in
     let closed = c.close_lost.ensures.serving (H.known c.args.house.now).present before (noted (H.told house) (H.known house)) policy pid start lists.failed given [] stepped in
     let hushed = c.hush.ensures.serving (H.known c.args.house.now).present before (noted (H.told house) (H.known house)) policy pid start c.close_lost.new.held lists.failed given [] closed in
-    on-err c.from_residual-in_err-went.result _ _ c.from_residual-in_err-went.ensures.0 (promised-is (RestsOf H.told H.quiet) _ _ c.in_ok-step_house.ensures.present
-    (c.in_err-went.ensures.serving before policy pid start given (present-is (RestsOf H.told H.quiet) _ _ (sym c.in_ok-step_house.ensures.present) hushed)))
+    on-err c.from_residual-in_err-went.result _ _ c.from_residual-in_err-went.ensures.0 (promised-is (RestsOf H.told H.quiet H.must H.refused) _ _ c.in_ok-step_house.ensures.present
+    (c.in_err-went.ensures.serving before policy pid start given (present-is (RestsOf H.told H.quiet H.must H.refused) _ _ (sym c.in_ok-step_house.ensures.present) hushed)))
 
 pub returns-clause-serving : goal.returns-clause-serving
 returns-clause-serving g c before policy pid start given v =
@@ -113,5 +113,5 @@ returns-clause-serving g c before policy pid start given v =
     let stepped = step-waits given (0 ∷ here c.step_house.new.engine) c.in_ok-step_house.field-0 c.if-branch.false (c.in_ok-step_house.ensures.serving before policy pid start given v) in
     let closed = c.close_lost.ensures.serving (H.known c.args.house.now).present before (noted (H.told house) (H.known house)) policy pid start lists.failed given [] stepped in
     let hushed = c.hush.ensures.serving (H.known c.args.house.now).present before (noted (H.told house) (H.known house)) policy pid start c.close_lost.new.held lists.failed given [] closed in
-    inl (present-is (RestsOf H.told H.quiet) _ _ c.in_ok-step_house.ensures.present
-    (c.in_ok-went.ensures.serving before policy pid start given (present-is (RestsOf H.told H.quiet) _ _ (sym c.in_ok-step_house.ensures.present) hushed)))
+    inl (present-is (RestsOf H.told H.quiet H.must H.refused) _ _ c.in_ok-step_house.ensures.present
+    (c.in_ok-went.ensures.serving before policy pid start given (present-is (RestsOf H.told H.quiet H.must H.refused) _ _ (sym c.in_ok-step_house.ensures.present) hushed)))

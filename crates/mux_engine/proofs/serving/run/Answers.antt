@@ -38,20 +38,20 @@ finish-requires-clause-served g c = let H = g.H.House in let w = c.requires.runn
       pid = w.pid;
       start = w.start;
       given = spent.given;
-      serving = present-is (RestsOf H.told H.quiet) _ _ (sym c.in_ok-all.ensures.present) spent.serving;
+      serving = present-is (RestsOf H.told H.quiet H.must H.refused) _ _ (sym c.in_ok-all.ensures.present) spent.serving;
     }
 
 pub returns-in_err-finish-clause-ran : goal.returns-in_err-finish-clause-ran
 returns-in_err-finish-clause-ran g c before policy pid start v z = let H = g.H.House in let r = c.from_residual-in_err-finish in
     let spent = c.in_ok-all.ensures.serving before policy pid start (none-held _ _ c.new-lists.ensures.held c.new-lists.ensures.failed (c.in_ok-enter.ensures.serving before policy pid start [] [] 0 v z).0) in
     ran-starved c.args.turns (spent.given + 0) r.result r.ensures.0 (none-more spent.given c.args.turns spent.most)
-    (promised-is (RestsOf H.told H.quiet) _ _ c.in_ok-all.ensures.present (c.in_err-finish.ensures.serving before policy pid start spent.given (present-is (RestsOf H.told H.quiet) _ _ (sym c.in_ok-all.ensures.present) spent.serving)))
+    (promised-is (RestsOf H.told H.quiet H.must H.refused) _ _ c.in_ok-all.ensures.present (c.in_err-finish.ensures.serving before policy pid start spent.given (present-is (RestsOf H.told H.quiet H.must H.refused) _ _ (sym c.in_ok-all.ensures.present) spent.serving)))
 
 pub returns-clause-ran : goal.returns-clause-ran
 returns-clause-ran g c before policy pid start v z = let H = g.H.House in let t = c.in_ok-all.ensures in let f = c.in_ok-finish.ensures in
     let spent = t.serving before policy pid start (none-held _ _ c.new-lists.ensures.held c.new-lists.ensures.failed (c.in_ok-enter.ensures.serving before policy pid start [] [] 0 v z).0) in
     ran-whole c.args.turns spent.given _ c.turns_of.new.engine.ended _ _ _ c.answer_of.result
-    (present-is (RestsOf H.told H.quiet) _ _ t.present (f.serving before policy pid start spent.given (present-is (RestsOf H.told H.quiet) _ _ (sym t.present) spent.serving)))
+    (present-is (RestsOf H.told H.quiet H.must H.refused) _ _ t.present (f.serving before policy pid start spent.given (present-is (RestsOf H.told H.quiet H.must H.refused) _ _ (sym t.present) spent.serving)))
     refl spent.most spent.all_given f.ended
     (λ q on. over-still (λ h. (H.known h).present) H.must H.refused c.turns_of.new.house c.finish.new.house _ (f.unasked q) t.present (t.over q on))
     (answer-is c.answer_of.result c.finish.new.engine.ended _ _ _ _ (f.known.present ∙ t.present) c.answer_of.ensures)

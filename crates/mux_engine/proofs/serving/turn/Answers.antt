@@ -30,8 +30,8 @@ wait-told-requires-clause-waiting_blocked g c =
     let house = c.args.house.now in
     let lists = c.args.lists.now in
     let seen : Seen = W.seen c.args.wire.now in
-    let a : AtWait (RestsOf H.told H.quiet (H.known house).present) (noted (H.told house) (H.known house)) seen lists.own lists.held lists.failed (H.queue house) c.args.engine.now =
-    at-wait H.told H.quiet house (H.known house) seen lists.own lists.held lists.failed (H.queue house) c.args.engine.now c.requires.housed c.requires.ready c.requires.closed c.requires.refused c.requires.on c.requires.hears in
+    let a : AtWait (RestsOf H.told H.quiet H.must H.refused (H.known house).present) (noted (H.told house) (H.known house)) seen lists.own lists.held lists.failed (H.queue house) c.args.engine.now =
+    at-wait H.told H.quiet H.must H.refused house (H.known house) seen lists.own lists.held lists.failed (H.queue house) c.args.engine.now c.requires.housed c.requires.ready c.requires.permitted c.requires.closed c.requires.refused c.requires.on c.requires.hears in
     let todo : c.list_waiting.new.todo ≡ c.args.engine.now.waiting ++ filter (waits_for (H.queue house) lists.failed) lists.own =
     c.in_ok-list_waiting.ensures ∙ ap (λ (l : List ℕ). l ++ filter (waits_for (H.queue house) lists.failed) lists.own) c.waiting.ensures.exact in
     subst (λ (l : List ℕ). All (λ t. IsTrue (among t seen.blocked)) l) (sym todo) (waiting-blocked c.requires.served.serving a.none a.admitted a.live a.offered)
@@ -43,8 +43,8 @@ wait-told-requires-clause-waiting_open g c =
     let house = c.args.house.now in
     let lists = c.args.lists.now in
     let seen : Seen = W.seen c.args.wire.now in
-    let a : AtWait (RestsOf H.told H.quiet (H.known house).present) (noted (H.told house) (H.known house)) seen lists.own lists.held lists.failed (H.queue house) c.args.engine.now =
-    at-wait H.told H.quiet house (H.known house) seen lists.own lists.held lists.failed (H.queue house) c.args.engine.now c.requires.housed c.requires.ready c.requires.closed c.requires.refused c.requires.on c.requires.hears in
+    let a : AtWait (RestsOf H.told H.quiet H.must H.refused (H.known house).present) (noted (H.told house) (H.known house)) seen lists.own lists.held lists.failed (H.queue house) c.args.engine.now =
+    at-wait H.told H.quiet H.must H.refused house (H.known house) seen lists.own lists.held lists.failed (H.queue house) c.args.engine.now c.requires.housed c.requires.ready c.requires.permitted c.requires.closed c.requires.refused c.requires.on c.requires.hears in
     let todo : c.list_waiting.new.todo ≡ c.args.engine.now.waiting ++ filter (waits_for (H.queue house) lists.failed) lists.own =
     c.in_ok-list_waiting.ensures ∙ ap (λ (l : List ℕ). l ++ filter (waits_for (H.queue house) lists.failed) lists.own) c.waiting.ensures.exact in
     subst (λ (l : List ℕ). All (λ t. IsTrue (among t seen.streams)) l) (sym todo) (waiting-open c.requires.served.serving a.none a.admitted a.live a.offered)
@@ -59,8 +59,8 @@ wait-told-requires-clause-some g c write =
     let house = c.args.house.now in
     let lists = c.args.lists.now in
     let seen : Seen = W.seen c.args.wire.now in
-    let a : AtWait (RestsOf H.told H.quiet (H.known house).present) (noted (H.told house) (H.known house)) seen lists.own lists.held lists.failed (H.queue house) c.args.engine.now =
-    at-wait H.told H.quiet house (H.known house) seen lists.own lists.held lists.failed (H.queue house) c.args.engine.now c.requires.housed c.requires.ready c.requires.closed c.requires.refused c.requires.on c.requires.hears in
+    let a : AtWait (RestsOf H.told H.quiet H.must H.refused (H.known house).present) (noted (H.told house) (H.known house)) seen lists.own lists.held lists.failed (H.queue house) c.args.engine.now =
+    at-wait H.told H.quiet H.must H.refused house (H.known house) seen lists.own lists.held lists.failed (H.queue house) c.args.engine.now c.requires.housed c.requires.ready c.requires.permitted c.requires.closed c.requires.refused c.requires.on c.requires.hears in
     let todo : c.list_waiting.new.todo ≡ c.args.engine.now.waiting ++ filter (waits_for (H.queue house) lists.failed) lists.own =
     c.in_ok-list_waiting.ensures ∙ ap (λ (l : List ℕ). l ++ filter (waits_for (H.queue house) lists.failed) lists.own) c.waiting.ensures.exact in
     subst (λ (l : List ℕ). 0 < length l) (sym todo) (some-waits c.requires.served.serving a.none a.admitted a.live a.offered (sym c.wanted.ensures ∙ write))
@@ -74,8 +74,8 @@ returns-in-Event-clause-serving g c before policy pid start given v =
     let house = c.args.house.now in
     let lists = c.args.lists.now in
     let seen : Seen = W.seen c.args.wire.now in
-    let a : AtWait (RestsOf H.told H.quiet (H.known house).present) (noted (H.told house) (H.known house)) seen lists.own lists.held lists.failed (H.queue house) c.args.engine.now =
-    at-wait H.told H.quiet house (H.known house) seen lists.own lists.held lists.failed (H.queue house) c.args.engine.now c.requires.housed c.requires.ready c.requires.closed c.requires.refused c.requires.on c.requires.hears in
+    let a : AtWait (RestsOf H.told H.quiet H.must H.refused (H.known house).present) (noted (H.told house) (H.known house)) seen lists.own lists.held lists.failed (H.queue house) c.args.engine.now =
+    at-wait H.told H.quiet H.must H.refused house (H.known house) seen lists.own lists.held lists.failed (H.queue house) c.args.engine.now c.requires.housed c.requires.ready c.requires.permitted c.requires.closed c.requires.refused c.requires.on c.requires.hears in
     let w : HasWaited seen (W.seen c.wait-told.new.self) lists.own lists.failed (H.queue house) c.args.engine.now c.wait-told.result c.wait-told.new.into =
     has-waited seen (W.seen c.wait-told.new.self) lists.own lists.failed (H.queue house) c.args.engine.now c.wait-told.result c.wait-told.new.into c.as_bytes.result.now c.list_waiting.new.todo c.waiting.result.now c.wanted.result c.wait-told.ensures.seen c.in_ok-list_waiting.ensures c.waiting.ensures.exact c.wanted.ensures c.next_of.ensures.bytes c.as_bytes.ensures.bytes c.wait-told.ensures.turn c.wait-told.ensures.own_turn in
     let next : IsEventOf c.in-Event.e c.wait-told.result c.wait-told.new.into = subst (λ (b : List ℕ). IsEventOf c.in-Event.e c.wait-told.result b) c.as_bytes.ensures.bytes c.in-Event.ensures.next in
@@ -88,8 +88,8 @@ returns-in-Event-clause-housed g c =
     let house = c.args.house.now in
     let lists = c.args.lists.now in
     let seen : Seen = W.seen c.args.wire.now in
-    let a : AtWait (RestsOf H.told H.quiet (H.known house).present) (noted (H.told house) (H.known house)) seen lists.own lists.held lists.failed (H.queue house) c.args.engine.now =
-    at-wait H.told H.quiet house (H.known house) seen lists.own lists.held lists.failed (H.queue house) c.args.engine.now c.requires.housed c.requires.ready c.requires.closed c.requires.refused c.requires.on c.requires.hears in
+    let a : AtWait (RestsOf H.told H.quiet H.must H.refused (H.known house).present) (noted (H.told house) (H.known house)) seen lists.own lists.held lists.failed (H.queue house) c.args.engine.now =
+    at-wait H.told H.quiet H.must H.refused house (H.known house) seen lists.own lists.held lists.failed (H.queue house) c.args.engine.now c.requires.housed c.requires.ready c.requires.permitted c.requires.closed c.requires.refused c.requires.on c.requires.hears in
     let w : HasWaited seen (W.seen c.wait-told.new.self) lists.own lists.failed (H.queue house) c.args.engine.now c.wait-told.result c.wait-told.new.into =
     has-waited seen (W.seen c.wait-told.new.self) lists.own lists.failed (H.queue house) c.args.engine.now c.wait-told.result c.wait-told.new.into c.as_bytes.result.now c.list_waiting.new.todo c.waiting.result.now c.wanted.result c.wait-told.ensures.seen c.in_ok-list_waiting.ensures c.waiting.ensures.exact c.wanted.ensures c.next_of.ensures.bytes c.as_bytes.ensures.bytes c.wait-told.ensures.turn c.wait-told.ensures.own_turn in
     let next : IsEventOf c.in-Event.e c.wait-told.result c.wait-told.new.into = subst (λ (b : List ℕ). IsEventOf c.in-Event.e c.wait-told.result b) c.as_bytes.ensures.bytes c.in-Event.ensures.next in
@@ -114,8 +114,8 @@ returns-in-Event-clause-failed g c =
     let house = c.args.house.now in
     let lists = c.args.lists.now in
     let seen : Seen = W.seen c.args.wire.now in
-    let a : AtWait (RestsOf H.told H.quiet (H.known house).present) (noted (H.told house) (H.known house)) seen lists.own lists.held lists.failed (H.queue house) c.args.engine.now =
-    at-wait H.told H.quiet house (H.known house) seen lists.own lists.held lists.failed (H.queue house) c.args.engine.now c.requires.housed c.requires.ready c.requires.closed c.requires.refused c.requires.on c.requires.hears in
+    let a : AtWait (RestsOf H.told H.quiet H.must H.refused (H.known house).present) (noted (H.told house) (H.known house)) seen lists.own lists.held lists.failed (H.queue house) c.args.engine.now =
+    at-wait H.told H.quiet H.must H.refused house (H.known house) seen lists.own lists.held lists.failed (H.queue house) c.args.engine.now c.requires.housed c.requires.ready c.requires.permitted c.requires.closed c.requires.refused c.requires.on c.requires.hears in
     let w : HasWaited seen (W.seen c.wait-told.new.self) lists.own lists.failed (H.queue house) c.args.engine.now c.wait-told.result c.wait-told.new.into =
     has-waited seen (W.seen c.wait-told.new.self) lists.own lists.failed (H.queue house) c.args.engine.now c.wait-told.result c.wait-told.new.into c.as_bytes.result.now c.list_waiting.new.todo c.waiting.result.now c.wanted.result c.wait-told.ensures.seen c.in_ok-list_waiting.ensures c.waiting.ensures.exact c.wanted.ensures c.next_of.ensures.bytes c.as_bytes.ensures.bytes c.wait-told.ensures.turn c.wait-told.ensures.own_turn in
     let next : IsEventOf c.in-Event.e c.wait-told.result c.wait-told.new.into = subst (λ (b : List ℕ). IsEventOf c.in-Event.e c.wait-told.result b) c.as_bytes.ensures.bytes c.in-Event.ensures.next in
@@ -130,8 +130,8 @@ returns-in-Event-clause-by_row g c =
     let house = c.args.house.now in
     let lists = c.args.lists.now in
     let seen : Seen = W.seen c.args.wire.now in
-    let a : AtWait (RestsOf H.told H.quiet (H.known house).present) (noted (H.told house) (H.known house)) seen lists.own lists.held lists.failed (H.queue house) c.args.engine.now =
-    at-wait H.told H.quiet house (H.known house) seen lists.own lists.held lists.failed (H.queue house) c.args.engine.now c.requires.housed c.requires.ready c.requires.closed c.requires.refused c.requires.on c.requires.hears in
+    let a : AtWait (RestsOf H.told H.quiet H.must H.refused (H.known house).present) (noted (H.told house) (H.known house)) seen lists.own lists.held lists.failed (H.queue house) c.args.engine.now =
+    at-wait H.told H.quiet H.must H.refused house (H.known house) seen lists.own lists.held lists.failed (H.queue house) c.args.engine.now c.requires.housed c.requires.ready c.requires.permitted c.requires.closed c.requires.refused c.requires.on c.requires.hears in
     let w : HasWaited seen (W.seen c.wait-told.new.self) lists.own lists.failed (H.queue house) c.args.engine.now c.wait-told.result c.wait-told.new.into =
     has-waited seen (W.seen c.wait-told.new.self) lists.own lists.failed (H.queue house) c.args.engine.now c.wait-told.result c.wait-told.new.into c.as_bytes.result.now c.list_waiting.new.todo c.waiting.result.now c.wanted.result c.wait-told.ensures.seen c.in_ok-list_waiting.ensures c.waiting.ensures.exact c.wanted.ensures c.next_of.ensures.bytes c.as_bytes.ensures.bytes c.wait-told.ensures.turn c.wait-told.ensures.own_turn in
     let next : IsEventOf c.in-Event.e c.wait-told.result c.wait-told.new.into = subst (λ (b : List ℕ). IsEventOf c.in-Event.e c.wait-told.result b) c.as_bytes.ensures.bytes c.in-Event.ensures.next in
@@ -147,8 +147,8 @@ hear-requires-clause-fits g c =
     let house = c.args.house.now in
     let lists = c.args.lists.now in
     let seen : Seen = W.seen c.args.wire.now in
-    let a : AtWait (RestsOf H.told H.quiet (H.known house).present) (noted (H.told house) (H.known house)) seen lists.own lists.held lists.failed (H.queue house) c.args.engine.now =
-    at-wait H.told H.quiet house (H.known house) seen lists.own lists.held lists.failed (H.queue house) c.args.engine.now c.requires.housed c.requires.ready c.requires.closed c.requires.refused c.requires.on c.requires.hears in
+    let a : AtWait (RestsOf H.told H.quiet H.must H.refused (H.known house).present) (noted (H.told house) (H.known house)) seen lists.own lists.held lists.failed (H.queue house) c.args.engine.now =
+    at-wait H.told H.quiet H.must H.refused house (H.known house) seen lists.own lists.held lists.failed (H.queue house) c.args.engine.now c.requires.housed c.requires.ready c.requires.permitted c.requires.closed c.requires.refused c.requires.on c.requires.hears in
     let w : HasWaited seen (W.seen c.wait-told.new.self) lists.own lists.failed (H.queue house) c.args.engine.now c.wait-told.result c.wait-told.new.into =
     has-waited seen (W.seen c.wait-told.new.self) lists.own lists.failed (H.queue house) c.args.engine.now c.wait-told.result c.wait-told.new.into c.as_bytes.result.now c.list_waiting.new.todo c.waiting.result.now c.wanted.result c.wait-told.ensures.seen c.in_ok-list_waiting.ensures c.waiting.ensures.exact c.wanted.ensures c.next_of.ensures.bytes c.as_bytes.ensures.bytes c.wait-told.ensures.turn c.wait-told.ensures.own_turn in
     let next : IsOwnOf c.in-Own.told c.wait-told.result c.wait-told.new.into = subst (λ (b : List ℕ). IsOwnOf c.in-Own.told c.wait-told.result b) c.as_bytes.ensures.bytes c.in-Own.ensures.next in
@@ -161,8 +161,8 @@ returns-in_err-hear-in-Own-clause-serving g c before policy pid start given v =
     let house = c.args.house.now in
     let lists = c.args.lists.now in
     let seen : Seen = W.seen c.args.wire.now in
-    let a : AtWait (RestsOf H.told H.quiet (H.known house).present) (noted (H.told house) (H.known house)) seen lists.own lists.held lists.failed (H.queue house) c.args.engine.now =
-    at-wait H.told H.quiet house (H.known house) seen lists.own lists.held lists.failed (H.queue house) c.args.engine.now c.requires.housed c.requires.ready c.requires.closed c.requires.refused c.requires.on c.requires.hears in
+    let a : AtWait (RestsOf H.told H.quiet H.must H.refused (H.known house).present) (noted (H.told house) (H.known house)) seen lists.own lists.held lists.failed (H.queue house) c.args.engine.now =
+    at-wait H.told H.quiet H.must H.refused house (H.known house) seen lists.own lists.held lists.failed (H.queue house) c.args.engine.now c.requires.housed c.requires.ready c.requires.permitted c.requires.closed c.requires.refused c.requires.on c.requires.hears in
     let w : HasWaited seen (W.seen c.wait-told.new.self) lists.own lists.failed (H.queue house) c.args.engine.now c.wait-told.result c.wait-told.new.into =
     has-waited seen (W.seen c.wait-told.new.self) lists.own lists.failed (H.queue house) c.args.engine.now c.wait-told.result c.wait-told.new.into c.as_bytes.result.now c.list_waiting.new.todo c.waiting.result.now c.wanted.result c.wait-told.ensures.seen c.in_ok-list_waiting.ensures c.waiting.ensures.exact c.wanted.ensures c.next_of.ensures.bytes c.as_bytes.ensures.bytes c.wait-told.ensures.turn c.wait-told.ensures.own_turn in
     let next : IsOwnOf c.in-Own.told c.wait-told.result c.wait-told.new.into = subst (λ (b : List ℕ). IsOwnOf c.in-Own.told c.wait-told.result b) c.as_bytes.ensures.bytes c.in-Own.ensures.next in
@@ -176,8 +176,8 @@ returns-in_ok-hear-in-Own-clause-serving g c before policy pid start given v =
     let house = c.args.house.now in
     let lists = c.args.lists.now in
     let seen : Seen = W.seen c.args.wire.now in
-    let a : AtWait (RestsOf H.told H.quiet (H.known house).present) (noted (H.told house) (H.known house)) seen lists.own lists.held lists.failed (H.queue house) c.args.engine.now =
-    at-wait H.told H.quiet house (H.known house) seen lists.own lists.held lists.failed (H.queue house) c.args.engine.now c.requires.housed c.requires.ready c.requires.closed c.requires.refused c.requires.on c.requires.hears in
+    let a : AtWait (RestsOf H.told H.quiet H.must H.refused (H.known house).present) (noted (H.told house) (H.known house)) seen lists.own lists.held lists.failed (H.queue house) c.args.engine.now =
+    at-wait H.told H.quiet H.must H.refused house (H.known house) seen lists.own lists.held lists.failed (H.queue house) c.args.engine.now c.requires.housed c.requires.ready c.requires.permitted c.requires.closed c.requires.refused c.requires.on c.requires.hears in
     let w : HasWaited seen (W.seen c.wait-told.new.self) lists.own lists.failed (H.queue house) c.args.engine.now c.wait-told.result c.wait-told.new.into =
     has-waited seen (W.seen c.wait-told.new.self) lists.own lists.failed (H.queue house) c.args.engine.now c.wait-told.result c.wait-told.new.into c.as_bytes.result.now c.list_waiting.new.todo c.waiting.result.now c.wanted.result c.wait-told.ensures.seen c.in_ok-list_waiting.ensures c.waiting.ensures.exact c.wanted.ensures c.next_of.ensures.bytes c.as_bytes.ensures.bytes c.wait-told.ensures.turn c.wait-told.ensures.own_turn in
     let next : IsOwnOf c.in-Own.told c.wait-told.result c.wait-told.new.into = subst (λ (b : List ℕ). IsOwnOf c.in-Own.told c.wait-told.result b) c.as_bytes.ensures.bytes c.in-Own.ensures.next in
@@ -190,8 +190,8 @@ returns-in_ok-hear-in-Own-clause-housed g c =
     let house = c.args.house.now in
     let lists = c.args.lists.now in
     let seen : Seen = W.seen c.args.wire.now in
-    let a : AtWait (RestsOf H.told H.quiet (H.known house).present) (noted (H.told house) (H.known house)) seen lists.own lists.held lists.failed (H.queue house) c.args.engine.now =
-    at-wait H.told H.quiet house (H.known house) seen lists.own lists.held lists.failed (H.queue house) c.args.engine.now c.requires.housed c.requires.ready c.requires.closed c.requires.refused c.requires.on c.requires.hears in
+    let a : AtWait (RestsOf H.told H.quiet H.must H.refused (H.known house).present) (noted (H.told house) (H.known house)) seen lists.own lists.held lists.failed (H.queue house) c.args.engine.now =
+    at-wait H.told H.quiet H.must H.refused house (H.known house) seen lists.own lists.held lists.failed (H.queue house) c.args.engine.now c.requires.housed c.requires.ready c.requires.permitted c.requires.closed c.requires.refused c.requires.on c.requires.hears in
     let w : HasWaited seen (W.seen c.wait-told.new.self) lists.own lists.failed (H.queue house) c.args.engine.now c.wait-told.result c.wait-told.new.into =
     has-waited seen (W.seen c.wait-told.new.self) lists.own lists.failed (H.queue house) c.args.engine.now c.wait-told.result c.wait-told.new.into c.as_bytes.result.now c.list_waiting.new.todo c.waiting.result.now c.wanted.result c.wait-told.ensures.seen c.in_ok-list_waiting.ensures c.waiting.ensures.exact c.wanted.ensures c.next_of.ensures.bytes c.as_bytes.ensures.bytes c.wait-told.ensures.turn c.wait-told.ensures.own_turn in
     let next : IsOwnOf c.in-Own.told c.wait-told.result c.wait-told.new.into = subst (λ (b : List ℕ). IsOwnOf c.in-Own.told c.wait-told.result b) c.as_bytes.ensures.bytes c.in-Own.ensures.next in
@@ -204,8 +204,8 @@ returns-in_ok-hear-in-Own-clause-alone g c =
     let house = c.args.house.now in
     let lists = c.args.lists.now in
     let seen : Seen = W.seen c.args.wire.now in
-    let a : AtWait (RestsOf H.told H.quiet (H.known house).present) (noted (H.told house) (H.known house)) seen lists.own lists.held lists.failed (H.queue house) c.args.engine.now =
-    at-wait H.told H.quiet house (H.known house) seen lists.own lists.held lists.failed (H.queue house) c.args.engine.now c.requires.housed c.requires.ready c.requires.closed c.requires.refused c.requires.on c.requires.hears in
+    let a : AtWait (RestsOf H.told H.quiet H.must H.refused (H.known house).present) (noted (H.told house) (H.known house)) seen lists.own lists.held lists.failed (H.queue house) c.args.engine.now =
+    at-wait H.told H.quiet H.must H.refused house (H.known house) seen lists.own lists.held lists.failed (H.queue house) c.args.engine.now c.requires.housed c.requires.ready c.requires.permitted c.requires.closed c.requires.refused c.requires.on c.requires.hears in
     let w : HasWaited seen (W.seen c.wait-told.new.self) lists.own lists.failed (H.queue house) c.args.engine.now c.wait-told.result c.wait-told.new.into =
     has-waited seen (W.seen c.wait-told.new.self) lists.own lists.failed (H.queue house) c.args.engine.now c.wait-told.result c.wait-told.new.into c.as_bytes.result.now c.list_waiting.new.todo c.waiting.result.now c.wanted.result c.wait-told.ensures.seen c.in_ok-list_waiting.ensures c.waiting.ensures.exact c.wanted.ensures c.next_of.ensures.bytes c.as_bytes.ensures.bytes c.wait-told.ensures.turn c.wait-told.ensures.own_turn in
     let next : IsOwnOf c.in-Own.told c.wait-told.result c.wait-told.new.into = subst (λ (b : List ℕ). IsOwnOf c.in-Own.told c.wait-told.result b) c.as_bytes.ensures.bytes c.in-Own.ensures.next in
@@ -218,8 +218,8 @@ returns-in_ok-hear-in-Own-clause-held_is g c =
     let house = c.args.house.now in
     let lists = c.args.lists.now in
     let seen : Seen = W.seen c.args.wire.now in
-    let a : AtWait (RestsOf H.told H.quiet (H.known house).present) (noted (H.told house) (H.known house)) seen lists.own lists.held lists.failed (H.queue house) c.args.engine.now =
-    at-wait H.told H.quiet house (H.known house) seen lists.own lists.held lists.failed (H.queue house) c.args.engine.now c.requires.housed c.requires.ready c.requires.closed c.requires.refused c.requires.on c.requires.hears in
+    let a : AtWait (RestsOf H.told H.quiet H.must H.refused (H.known house).present) (noted (H.told house) (H.known house)) seen lists.own lists.held lists.failed (H.queue house) c.args.engine.now =
+    at-wait H.told H.quiet H.must H.refused house (H.known house) seen lists.own lists.held lists.failed (H.queue house) c.args.engine.now c.requires.housed c.requires.ready c.requires.permitted c.requires.closed c.requires.refused c.requires.on c.requires.hears in
     let w : HasWaited seen (W.seen c.wait-told.new.self) lists.own lists.failed (H.queue house) c.args.engine.now c.wait-told.result c.wait-told.new.into =
     has-waited seen (W.seen c.wait-told.new.self) lists.own lists.failed (H.queue house) c.args.engine.now c.wait-told.result c.wait-told.new.into c.as_bytes.result.now c.list_waiting.new.todo c.waiting.result.now c.wanted.result c.wait-told.ensures.seen c.in_ok-list_waiting.ensures c.waiting.ensures.exact c.wanted.ensures c.next_of.ensures.bytes c.as_bytes.ensures.bytes c.wait-told.ensures.turn c.wait-told.ensures.own_turn in
     let next : IsOwnOf c.in-Own.told c.wait-told.result c.wait-told.new.into = subst (λ (b : List ℕ). IsOwnOf c.in-Own.told c.wait-told.result b) c.as_bytes.ensures.bytes c.in-Own.ensures.next in
@@ -234,11 +234,11 @@ returns-in-Freed-clause-serving g c before policy pid start given v =
     let house = c.args.house.now in
     let lists = c.args.lists.now in
     let seen : Seen = W.seen c.args.wire.now in
-    let a : AtWait (RestsOf H.told H.quiet (H.known house).present) (noted (H.told house) (H.known house)) seen lists.own lists.held lists.failed (H.queue house) c.args.engine.now =
-    at-wait H.told H.quiet house (H.known house) seen lists.own lists.held lists.failed (H.queue house) c.args.engine.now c.requires.housed c.requires.ready c.requires.closed c.requires.refused c.requires.on c.requires.hears in
+    let a : AtWait (RestsOf H.told H.quiet H.must H.refused (H.known house).present) (noted (H.told house) (H.known house)) seen lists.own lists.held lists.failed (H.queue house) c.args.engine.now =
+    at-wait H.told H.quiet H.must H.refused house (H.known house) seen lists.own lists.held lists.failed (H.queue house) c.args.engine.now c.requires.housed c.requires.ready c.requires.permitted c.requires.closed c.requires.refused c.requires.on c.requires.hears in
     let w : HasWaited seen (W.seen c.wait-told.new.self) lists.own lists.failed (H.queue house) c.args.engine.now c.wait-told.result c.wait-told.new.into =
     has-waited seen (W.seen c.wait-told.new.self) lists.own lists.failed (H.queue house) c.args.engine.now c.wait-told.result c.wait-told.new.into c.as_bytes.result.now c.list_waiting.new.todo c.waiting.result.now c.wanted.result c.wait-told.ensures.seen c.in_ok-list_waiting.ensures c.waiting.ensures.exact c.wanted.ensures c.next_of.ensures.bytes c.as_bytes.ensures.bytes c.wait-told.ensures.turn c.wait-told.ensures.own_turn in
-    subst (λ (l : List ℕ). Serving H.may (RestsOf H.told H.quiet (H.known house).present) before (noted (H.told house) (H.known house)) policy pid start (W.seen c.wait-told.new.self) l lists.failed (given + 1) (0 ∷ here c.args.engine.now) c.args.engine.now) (sym c.remove.ensures)
+    subst (λ (l : List ℕ). Serving H.may (RestsOf H.told H.quiet H.must H.refused (H.known house).present) before (noted (H.told house) (H.known house)) policy pid start (W.seen c.wait-told.new.self) l lists.failed (given + 1) (0 ∷ here c.args.engine.now) c.args.engine.now) (sym c.remove.ensures)
     (turn-frees v a w c.in-Freed.stream c.in-Freed.ensures.next.0 c.in-Freed.ensures.next.1)
 
 -- ---- no memory
@@ -250,8 +250,8 @@ returns-in-NoMemory-clause-serving g c before policy pid start given v =
     let house = c.args.house.now in
     let lists = c.args.lists.now in
     let seen : Seen = W.seen c.args.wire.now in
-    let a : AtWait (RestsOf H.told H.quiet (H.known house).present) (noted (H.told house) (H.known house)) seen lists.own lists.held lists.failed (H.queue house) c.args.engine.now =
-    at-wait H.told H.quiet house (H.known house) seen lists.own lists.held lists.failed (H.queue house) c.args.engine.now c.requires.housed c.requires.ready c.requires.closed c.requires.refused c.requires.on c.requires.hears in
+    let a : AtWait (RestsOf H.told H.quiet H.must H.refused (H.known house).present) (noted (H.told house) (H.known house)) seen lists.own lists.held lists.failed (H.queue house) c.args.engine.now =
+    at-wait H.told H.quiet H.must H.refused house (H.known house) seen lists.own lists.held lists.failed (H.queue house) c.args.engine.now c.requires.housed c.requires.ready c.requires.permitted c.requires.closed c.requires.refused c.requires.on c.requires.hears in
     let w : HasWaited seen (W.seen c.wait-told.new.self) lists.own lists.failed (H.queue house) c.args.engine.now c.wait-told.result c.wait-told.new.into =
     has-waited seen (W.seen c.wait-told.new.self) lists.own lists.failed (H.queue house) c.args.engine.now c.wait-told.result c.wait-told.new.into c.as_bytes.result.now c.list_waiting.new.todo c.waiting.result.now c.wanted.result c.wait-told.ensures.seen c.in_ok-list_waiting.ensures c.waiting.ensures.exact c.wanted.ensures c.next_of.ensures.bytes c.as_bytes.ensures.bytes c.wait-told.ensures.turn c.wait-told.ensures.own_turn in
     turn-starved v a w c.in-NoMemory.ensures.next

@@ -37,7 +37,7 @@ one_turn-requires g c = let H = g.H.House in let w = c.requires.served in let i 
     pid = w.pid;
     start = w.start;
     given = w.given + c.loop.counter;
-    serving = present-is (RestsOf H.told H.quiet) _ _ (sym i.present) (i.serving w.before w.policy w.pid w.start w.given w.serving);
+    serving = present-is (RestsOf H.told H.quiet H.must H.refused) _ _ (sym i.present) (i.serving w.before w.policy w.pid w.start w.given w.serving);
   };
   housed = i.housed;
   alone = i.alone;
@@ -47,8 +47,8 @@ one_turn-requires g c = let H = g.H.House in let w = c.requires.served in let i 
 pub loop-preserved : goal.loop-preserved
 loop-preserved g c = let H = g.H.House in let i = c.loop.invariant in let o = c.in_ok-one_turn.ensures in record {
   serving = λ before policy pid start given v. given-is (given + c.loop.counter + 1) (given + (c.loop.counter + 1)) (omega arith)
-      (none-settled _ (o.settled c.if-not-branch.false) (went-on _ c.if-not-branch.false (ends-is (RestsOf H.told H.quiet) _ _ i.present
-      (o.serving before policy pid start (given + c.loop.counter) (present-is (RestsOf H.told H.quiet) _ _ (sym i.present) (i.serving before policy pid start given v))))));
+      (none-settled _ (o.settled c.if-not-branch.false) (went-on _ c.if-not-branch.false (ends-is (RestsOf H.told H.quiet H.must H.refused) _ _ i.present
+      (o.serving before policy pid start (given + c.loop.counter) (present-is (RestsOf H.told H.quiet H.must H.refused) _ _ (sym i.present) (i.serving before policy pid start given v))))));
   housed = o.housed;
   alone = o.alone;
   held_is = o.held_is;
@@ -65,8 +65,8 @@ loop-preserved g c = let H = g.H.House in let i = c.loop.invariant in let o = c.
 
 pub returns-then-not-branch : goal.returns-then-not-branch
 returns-then-not-branch g c = let H = g.H.House in let i = c.loop.invariant in let o = c.in_ok-one_turn.ensures in record {
-  serving = λ before policy pid start v. went-over c.loop.counter c.args.turns _ (omega arith) (ends-is (RestsOf H.told H.quiet) _ _ i.present
-      (o.serving before policy pid start c.loop.counter (present-is (RestsOf H.told H.quiet) _ _ (sym i.present) (given-is (0 + c.loop.counter) c.loop.counter (omega arith) (i.serving before policy pid start 0 v)))));
+  serving = λ before policy pid start v. went-over c.loop.counter c.args.turns _ (omega arith) (ends-is (RestsOf H.told H.quiet H.must H.refused) _ _ i.present
+      (o.serving before policy pid start c.loop.counter (present-is (RestsOf H.told H.quiet H.must H.refused) _ _ (sym i.present) (given-is (0 + c.loop.counter) c.loop.counter (omega arith) (i.serving before policy pid start 0 v)))));
   housed = o.housed;
   held_is = o.held_is;
   present = o.present ∙ i.present;
@@ -105,8 +105,8 @@ returns g c = let W = g.W.Wire in let i = c.loop.invariant in record {
 
 pub returns-in_err-one_turn : goal.returns-in_err-one_turn
 returns-in_err-one_turn g c = let H = g.H.House in let i = c.loop.invariant in let r = c.from_residual-in_err-one_turn in record {
-  serving = λ before policy pid start v. on-err r.result _ _ r.ensures.0 (promised-more (c.loop.counter + 1) c.args.turns (omega arith) (promised-is (RestsOf H.told H.quiet) _ _ i.present
-      (c.in_err-one_turn.ensures.serving before policy pid start c.loop.counter (present-is (RestsOf H.told H.quiet) _ _ (sym i.present) (given-is (0 + c.loop.counter) c.loop.counter (omega arith) (i.serving before policy pid start 0 v))))));
+  serving = λ before policy pid start v. on-err r.result _ _ r.ensures.0 (promised-more (c.loop.counter + 1) c.args.turns (omega arith) (promised-is (RestsOf H.told H.quiet H.must H.refused) _ _ i.present
+      (c.in_err-one_turn.ensures.serving before policy pid start c.loop.counter (present-is (RestsOf H.told H.quiet H.must H.refused) _ _ (sym i.present) (given-is (0 + c.loop.counter) c.loop.counter (omega arith) (i.serving before policy pid start 0 v))))));
   housed = on-err r.result _ _ r.ensures.0 tt;
   held_is = on-err r.result _ _ r.ensures.0 tt;
   present = on-err r.result _ _ r.ensures.0 tt;
