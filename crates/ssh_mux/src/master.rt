@@ -245,7 +245,7 @@ fn begin_and_serve<W: Wire, H: House>(
     ensures opened { OpensAt found.now.control transport.now (so_far result)
         (W.openings wire.old) (W.openings wire.new) }
     ensures joinings { W.joinings wire.new ≡ W.joinings wire.old }
-    ensures served { Shares H.may (RestsOf H.told H.quiet (H.known house.old).present) policy pid
+    ensures served { Shares H.may (RestsOf H.told H.quiet H.must H.refused (H.known house.old).present) policy pid
         turns (H.told house.old) (H.told house.new) (W.seen wire.old).told (W.seen wire.new).told
         (refused_if (H.known house.old).present (H.must house.new) (H.refused house.new)) result }
     ensures start { StartCause (so_far result)
