@@ -5,6 +5,8 @@ use Rattle.std.specs.Bool.{MatchBool}
 use Rattle.std.proofs.lemmas.Bool.Decides.{eqb_tells}
 use Rattle.std.proofs.lemmas.List.{take-append-drop}
 use Rattle.ssh_fields.specs.Fields.{AreBytes}
+use Rattle.mux_outside.specs.HouseCalls.{Failed, Turns}
+use Rattle.mux_outside.specs.HouseCalls as call
 use Rattle.mux_outside.specs.Seen.{Seen, seen_after_write}
 use Rattle.mux_outside.specs.Streams.{among, without}
 use Rattle.mux_outside.specs.declared.house.HouseReply.{HouseReply}
@@ -31,6 +33,7 @@ use Rattle.mux_machine.proofs.Over.{some-end}
 use Rattle.mux_engine.specs.Run.{IsOfWire}
 use Rattle.mux_engine.specs.Serving.{IsSound, Promised, Serving, is_open}
 use Rattle.mux_engine.specs.Sides.{Resting, Side}
+use Rattle.mux_engine.proofs.Called.{calls-none, calls-other}
 use Rattle.mux_engine.proofs.Cuts.{cut-next, cut-still, of-streams}
 use Rattle.mux_engine.proofs.Lists.{among-last, among-other-last, apart-or-left, not-own-stream, or-last, test-other, true-false, without-other}
 use Rattle.mux_engine.proofs.Logs.{blocked-other, failed-other, failed-pending, fails-failed, has-failed-other, holds-blocked, holds-failed, log-out, lost-out, settled-as, takes-failed, took-pending}
@@ -68,6 +71,7 @@ next-takes {May} {Rest} {before} {now} {policy} {pid} {start} {seen} {held} {fai
       policy_is = same.policy;
       pid_is = same.pid;
       notes = notes-none now mark refl;
+      called = λ picks later. calls-other now k (call.Takes k (length (take n bytes))) (open-own v k opened ne);
       askers = askers-more v mark;
       house_in = v.house_in;
       house_there = v.house_there;
@@ -108,6 +112,7 @@ next-holds {May} {Rest} {before} {now} {policy} {pid} {start} {seen} {held} {fai
       policy_is = refl;
       pid_is = refl;
       notes = notes-none now mark refl;
+      called = λ picks later. calls-none now;
       askers = askers-more v mark;
       house_in = v.house_in;
       house_there = v.house_there;
@@ -151,6 +156,7 @@ next-fails {May} {Rest} {before} {now} {policy} {pid} {start} {seen} {held} {fai
       policy_is = same_policy;
       pid_is = same_pid;
       notes = subst (Rattle.mux_engine.proofs.Marks.Notes now now mark) (sym unasked) (notes-none now mark refl);
+      called = λ picks later. calls-other now k (Turns (Failed k)) (open-own v k opened ne);
       askers = askers-more v mark;
       house_in = v.house_in;
       house_there = v.house_there;

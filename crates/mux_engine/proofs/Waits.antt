@@ -33,6 +33,7 @@ use Rattle.mux_engine.specs.Run.{RestedAt}
 use Rattle.mux_engine.specs.Serving.{IsSound, Serving, is_open}
 use Rattle.mux_engine.specs.Sides.{Housed, Resting, Side, house_marks}
 use Rattle.mux_engine.specs.Turns.{want_of}
+use Rattle.mux_engine.proofs.Called.{calls-none}
 use Rattle.mux_engine.proofs.Closed.{both-tests}
 use Rattle.mux_engine.proofs.Lists.{among-filter, among-open, and-first, and-second, not-own-stream, open-here, true-false}
 use Rattle.mux_engine.proofs.Marks.{log-is, serve-alone}
@@ -288,6 +289,7 @@ module _ {May : HouseReply → Type 0} {Rest : Resting} {before : Option (List H
         policy_is = refl;
         pid_is = refl;
         notes = notes-none now wait-mark refl;
+        called = λ picks later. calls-none now;
         askers = askers-more v wait-mark;
         house_in = v.house_in;
         house_there = v.house_there;

@@ -1,9 +1,10 @@
 -- What a turn of the wire tells, right behind the wait.
-use Rattle.std.proofs.Common.{◌≡◌, ◌≢◌, ◌≤◌, ◌<◌, ◌+◌, ℕ, true, false, List, [], ◌∷◌, ◌++◌, Option, Some, None, refl, sym, ap, ◌∙◌, inr, cond, arith, append_assoc}
+use Rattle.std.proofs.Common.{◌≡◌, ◌≢◌, ◌≤◌, ◌<◌, ◌+◌, ℕ, Bool, true, false, List, [], ◌∷◌, ◌++◌, Option, Some, None, refl, sym, ap, ◌∙◌, inr, cond, arith, append_assoc}
 use Rattle.std.specs.Prelude.{reverse}
 use Rattle.std.specs.Option.{option_map}
 use Rattle.std.proofs.lemmas.Bool.Decides.{nat_tests}
 use Rattle.ssh_fields.specs.Fields.{AreBytes}
+use Rattle.mux_outside.specs.HouseCalls.{End, Failed, Got, HouseCall, Turns}
 use Rattle.mux_outside.specs.OwnStreams.{is_own}
 use Rattle.mux_outside.specs.Seen.{Seen, seen_after_turn}
 use Rattle.mux_outside.specs.Streams.{among}
@@ -96,6 +97,7 @@ module _ {May : HouseReply → Type 0} {Rest : Resting} {before : Option (List H
         absent = λ e. refl;
         turns = now-waiting.turns;
         plain = sym noted;
+        called = λ set. refl;
         cut = λ set. inr (0, refl);
         house = ap (λ b. cond b true (is_accepted HOUSE v.journal)) (test-other k HOUSE (house-apart k few));
         placed = λ s' arrives. placed-accepts now-waiting (seen-then (turn.Accepted k) bytes) s' k fits.2 few (of-turn (turn.Accepted k) bytes are fits own_fits) refl refl refl refl refl (came e k s s' next admitted (arrives live)) (client-number k few);
@@ -116,6 +118,7 @@ module _ {May : HouseReply → Type 0} {Rest : Resting} {before : Option (List H
     absent = λ e. refl;
     turns = now-waiting.turns;
     plain = sym noted;
+    called = λ set. ap (λ (b : Bool). cond b (Turns (Got k bytes) ∷ []) []) next.0;
     cut = λ set. inr (0, refl);
     house = refl;
     placed = λ s' arrives. placed-gets now-waiting (seen-then (turn.Got k) bytes) s' k bytes fits.1 (of-turn (turn.Got k) bytes are fits own_fits) refl refl refl refl refl (stayed e (Gets k bytes) s s' next.1 tt (arrives live));
@@ -136,6 +139,7 @@ module _ {May : HouseReply → Type 0} {Rest : Resting} {before : Option (List H
     absent = λ e. refl;
     turns = now-waiting.turns;
     plain = sym noted;
+    called = λ set. ap (λ (b : Bool). cond b (Turns (End k) ∷ []) []) next.0;
     cut = λ set. inr (0, refl);
     house = refl;
     placed = λ s' arrives. placed-ends now-waiting (seen-then (turn.End k) bytes) s' k fits.1 (of-turn (turn.End k) bytes are fits own_fits) refl refl refl refl refl (stayed e (Ends k) s s' next.1 tt (arrives live));
@@ -156,6 +160,7 @@ module _ {May : HouseReply → Type 0} {Rest : Resting} {before : Option (List H
     absent = λ e. refl;
     turns = now-waiting.turns;
     plain = sym noted;
+    called = λ set. ap (λ (b : Bool). cond b (Turns (Failed k) ∷ []) []) next.0;
     cut = λ set. inr (0, refl);
     house = refl;
     placed = λ s' arrives. placed-fails now-waiting (seen-then (turn.Failed k) bytes) s' failed k fits (of-turn (turn.Failed k) bytes are fits own_fits) refl refl refl refl refl (stayed e (Fails k) s s' next.1 tt (arrives live)) (λ own. true-false (sym own ∙ next.0)) (λ t a. a);

@@ -1,6 +1,7 @@
 -- What is promised of a whole run.
 use Rattle.std.specs.Prelude.{◌≡◌, ◌≢◌, ◌≤◌, ◌<◌, ℕ, Bool, false, not, List, ◌++◌, length, All, Option}
 use Rattle.std.specs.Option.{option_map}
+use Rattle.mux_outside.specs.HouseCalls.{HandsOn, HouseCall}
 use Rattle.mux_outside.specs.declared.house_mark.HouseMark.{HouseMark}
 use Rattle.mux_outside.specs.declared.house.HouseReply.{HouseReply}
 use Rattle.mux_outside.specs.declared.mark.Mark.{Mark}
@@ -26,6 +27,7 @@ use Rattle.mux_isolation.specs.Laws.{WaitsBounded}
 use Rattle.mux_bounds.specs.Bounds.{IsLog, RestsShort, StaysBelow}
 use Rattle.mux_bounds.specs.Few.{ChannelsBounded, ForwardingsBounded, LeavesNothing, MattersBounded, RequestsBounded, UnansweredBounded}
 use Rattle.mux_clients.specs.Asked.{asked_of, TellsAsks}
+use Rattle.mux_engine.specs.Called.{calls_in}
 use Rattle.mux_engine.specs.Sides.{asks_in, house_marks}
 
 -- a journal that a wire can give: it is lawful, and the wire read and accepted only right behind a
@@ -89,13 +91,16 @@ pub record KeepsRows (setting : Setting) (rows : List Row) : Type 0 where
 -- memory may have cut those of its last event. Each number is fresh at its row, and there is one for
 -- each row that takes one, and one reply for each row that asks; the house, which told `before` and
 -- tells `now`, told what the journal has of it, where its asks are those of these rows, and where
--- memory was wanting perhaps some more; where none is present, the journal has nothing of a house but
+-- memory was wanting perhaps some more; it was handed on what the journal has of its own streams and
+-- listeners and for it as a client, and all that it stands for, once and in that order, unless memory
+-- was wanting; where none is present, the journal has nothing of a house but
 -- the asks of clients. These rows, and all others that want of memory may have left, keep what is
 -- promised of rows; and but for want of memory the run ends right, where `refused` is the forwarding
 -- of the start that was refused, if none may be.
 pub record IsRun (May : HouseReply → Type 0) (Rest : Option (List HouseMark) → Type 0)
-    (present : Bool) (policy : Policy) (pid turns : ℕ) (before now : Option (List HouseMark))
-    (start told : Option (List Mark)) (refused : Option ℕ) (answer : Ended) : Type 0 where
+    (stands stands' : List HouseCall → Type 0) (present : Bool) (policy : Policy) (pid turns : ℕ)
+    (before now : Option (List HouseMark)) (start told : Option (List Mark)) (refused : Option ℕ)
+    (answer : Ended) : Type 0 where
   pub journal : List Mark
   pub picks : List ℕ
   pub replies : List HouseReply
@@ -122,6 +127,8 @@ pub record IsRun (May : HouseReply → Type 0) (Rest : Option (List HouseMark) �
   pub asked : asks_in (house_marks journal ++ more) ≡ asked_of rows ++ more_asks
   pub house_whole : answer ≢ OutOfMemory → TellsAsks before now (house_marks journal)
   pub asks_whole : answer ≢ OutOfMemory → asks_in (house_marks journal) ≡ asked_of rows
+  pub handed : answer ≢ OutOfMemory
+      → HandsOn stands stands' (calls_in (by_lists policy pid picks replies) journal)
   pub rested : Rested Rest before journal
   pub absent : present ≡ false → All (λ (mark : Mark). is_by_house mark ≡ false) journal
   pub ends : answer ≢ OutOfMemory

@@ -2,6 +2,7 @@
 use Rattle.std.specs.Prelude.{◌≡◌, ◌≤◌, ◌<◌, ◌+◌, ◌⊎◌, ◌||◌, ◌==◌, ℕ, Bool, true, false, List, ◌∷◌, ◌++◌, length, IsTrue, All, Option, Some, None, Result, MatchResult}
 use Rattle.mux_outside.specs.Counts.{Rose}
 use Rattle.mux_outside.specs.House.{OpenAsk}
+use Rattle.mux_outside.specs.HouseCalls.{HouseCall, calls_of}
 use Rattle.mux_outside.specs.OwnStreams.{is_own}
 use Rattle.mux_outside.specs.Seen.{Seen}
 use Rattle.mux_outside.specs.Streams.{among}
@@ -26,6 +27,7 @@ use Rattle.mux_clients.specs.Asked.{asked_of, TellsAsks}
 use Rattle.mux_machine.specs.State.{State, is_here}
 use Rattle.mux_machine.specs.Events.{here}
 use Rattle.mux_machine.specs.Stands.{Stands}
+use Rattle.mux_engine.specs.Called.{Handed, calls_in}
 use Rattle.mux_engine.specs.Run.{IsOfWire, Rested, is_by_house}
 use Rattle.mux_engine.specs.Sides.{Resting, Side, asks_in, house_marks}
 
@@ -69,8 +71,8 @@ IsFree last k = (IsTrue (is_own k) × (last < k)) ⊎ (k ≡ HOUSE)
 
 -- with the numbers that were picked and the replies that the house gave at once, one to each ask
 -- that it was told since it told `before`, the engine stands for what the wire told since the start,
--- in which `given` turns were given; all that the house told since is there but its last asks; one
--- that was let in is present, and where none is the journal has nothing of a house but the asks of
+-- in which `given` turns were given; all that the house told since is there but its last asks, and its
+-- calls since are those that are there and these; one that was let in is present, and where none is the journal has nothing of a house but the asks of
 -- clients; the journal is one that a wire can give; the streams that are open are the server's, those
 -- of the clients that are here and the master's own; and whatever is picked and replied later, all is
 -- sound
@@ -88,6 +90,9 @@ pub record Serving (May : HouseReply → Type 0) (Rest : Resting)
   pub stands : Stands picked replies s journal closed
   pub house : TellsAsks before now.told (house_marks journal ++ now.unnoted)
   pub asked : asks_in (house_marks journal ++ now.unnoted) ≡ stands.asks
+  pub called : (picks : List ℕ) (given_later : List HouseReply)
+      → calls_in (by_lists policy pid (picked ++ picks) (replies ++ given_later)) journal
+      ++ calls_of now.unnoted ≡ now.calls
   pub askers : All (λ (a : OpenAsk). IsTrue (is_accepted a.client journal)) now.asks
   pub house_in : is_accepted HOUSE journal ≡ now.let_in
   pub house_there : now.let_in ≡ true → Rest.present ≡ true
@@ -126,13 +131,15 @@ pub record IsServed (May : HouseReply → Type 0)
 
 -- the same with this house, whatever came before it
 pub record ServedWith (May : HouseReply → Type 0) (Rest : Resting)
-    (now : Side) (seen : Seen) (held failed todo : List ℕ) (s : State) : Type 0 where
+    (now : List HouseCall → Side) (seen : Seen) (held failed todo : List ℕ) (s : State) :
+    Type 0 where
+  pub calls : List HouseCall
   pub before : Option (List HouseMark)
   pub policy : Policy
   pub pid : ℕ
   pub start : Option (List Mark)
   pub given : ℕ
-  pub serving : Serving May Rest before now policy pid start seen held failed given todo s
+  pub serving : Serving May Rest before (now calls) policy pid start seen held failed given todo s
 
 -- ---- want of memory
 
@@ -187,31 +194,36 @@ ServesOn result May Rest seen seen' held held' todo rest s s' =
     s')
     (λ e. Promised May (Rest present) before now.told policy pid start seen'.told given)
 
--- the same where streams of the master's own are offered what waits for them
+-- the same where streams of the master's own are offered what waits for them, and the house, all of
+-- which was noted, is told what they take and which of them fail
 abbrev pub OwnOn :
-    {A E : Type 0} → Result A E → (HouseReply → Type 0)
-    → (Bool → Resting) → Seen → Seen → List ℕ → List ℕ → List ℕ
+    {A E : Type 0} → Result A E → (List HouseCall → Type 0) → (List HouseCall → Type 0)
+    → (HouseReply → Type 0) → (Bool → Resting) → Seen → Seen → List ℕ → List ℕ → List ℕ
     → List ℕ → Type 0
-OwnOn result May Rest seen seen' held held' failed failed' =
+OwnOn result stands stands' May Rest seen seen' held held' failed failed' =
     (present : Bool) (before : Option (List HouseMark)) (now : Side) (policy : Policy) (pid : ℕ)
-    (start : Option (List Mark)) (given : ℕ) (todo : List ℕ) (s : State)
+    (start : Option (List Mark)) (given : ℕ) (todo : List ℕ) (s : State) → now.unnoted ≡ []
     → Serving May (Rest present) before now policy pid start seen held failed given todo s
     → MatchResult result
-    (λ x. Serving May (Rest present) before now policy pid start seen' held' failed' given todo s)
+    (λ x. Handed stands stands' now.calls (λ calls. Serving May (Rest present) before
+    (record now { calls = calls }) policy pid start seen' held' failed' given todo s))
     (λ e. Promised May (Rest present) before now.told policy pid start seen'.told given)
 
 -- the same where the house is called: with so many turns more, or with so many at most
 abbrev pub RunsOn :
-    {A E : Type 0} → Result A E → (HouseReply → Type 0) → Resting
-    → Side → Side → Seen → Seen → List ℕ → List ℕ → List ℕ → List ℕ → ℕ → (A → ℕ) → List ℕ
-    → (A → List ℕ) → State → State → Type 0
-RunsOn result May Rest now now' seen seen' held held' failed failed' most more todo rest s s' =
-    (before : Option (List HouseMark)) (policy : Policy) (pid : ℕ) (start : Option (List Mark))
-    (given : ℕ) → Serving May Rest before now policy pid start seen held failed given todo s
+    {A E : Type 0} → Result A E → (List HouseCall → Type 0) → (List HouseCall → Type 0)
+    → (HouseReply → Type 0) → Resting → (List HouseCall → Side) → (List HouseCall → Side) → Seen
+    → Seen → List ℕ → List ℕ → List ℕ → List ℕ → ℕ → (A → ℕ) → List ℕ → (A → List ℕ) → State
+    → State → Type 0
+RunsOn result stands stands' May Rest now now' seen seen' held held' failed failed' most more todo
+    rest s s' =
+    (calls : List HouseCall) (before : Option (List HouseMark)) (policy : Policy) (pid : ℕ)
+    (start : Option (List Mark)) (given : ℕ)
+    → Serving May Rest before (now calls) policy pid start seen held failed given todo s
     → MatchResult result
-    (λ x. Serving May Rest before now' policy pid start seen' held' failed' (given + more x)
-    (rest x) s')
-    (λ e. Promised May Rest before now'.told policy pid start seen'.told (given + most))
+    (λ x. Handed stands stands' calls (λ all. Serving May Rest before (now' all) policy pid start
+    seen' held' failed' (given + more x) (rest x) s'))
+    (λ e. Promised May Rest before (now' []).told policy pid start seen'.told (given + most))
 
 -- behind a turn of the run, which was given; where the run doesn't go on perhaps none was
 abbrev pub EndsTurn :

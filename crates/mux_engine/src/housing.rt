@@ -73,7 +73,8 @@ fn hand_over<W: Wire, H: House>(
     house: &mut H,
 ) -> Result<(), OutOfMemory>
     requires ordering { (H.known house.old).ordering ≡ None }
-    ensures serving { (held failed : List ℕ) → RunsOn result H.may
+    ensures serving { (held failed : List ℕ) → RunsOn result
+        (H.stands house.old) (H.stands house.new) H.may
         (RestsOf H.told H.quiet (H.known house.old).present)
         (noted (H.told house.old) (H.known house.old))
         (noted (H.told house.new) (H.known house.new)) (W.seen wire.old) (W.seen wire.new) held held
@@ -111,7 +112,8 @@ fn reply<W: Wire, H: House>(
     requires ordering { (H.known house.old).ordering ≡ None }
     requires present { (H.known house.old).present ≡ true }
     requires on { engine.old.ended ≡ None }
-    ensures serving { (held failed : List ℕ) → RunsOn result H.may
+    ensures serving { (held failed : List ℕ) → RunsOn result
+        (H.stands house.old) (H.stands house.new) H.may
         (RestsOf H.told H.quiet (H.known house.old).present)
         (noted (H.told house.old) (H.known house.old))
         (noted (H.told house.new) (H.known house.new)) (W.seen wire.old) (W.seen wire.new) held held
@@ -164,7 +166,8 @@ pub fn reply_all<W: Wire, H: House>(
     requires present { (H.known house.old).present ≡ true }
     requires held_is { lists.old.held ≡ (W.seen wire.old).blocked }
     requires on { engine.old.ended ≡ None }
-    ensures serving { RunsOn result H.may (RestsOf H.told H.quiet (H.known house.old).present)
+    ensures serving { RunsOn result (H.stands house.old) (H.stands house.new) H.may
+        (RestsOf H.told H.quiet (H.known house.old).present)
         (noted (H.told house.old) (H.known house.old))
         (noted (H.told house.new) (H.known house.new)) (W.seen wire.old) (W.seen wire.new)
         lists.old.held lists.new.held lists.old.failed lists.new.failed 0 (λ done. 0)
@@ -226,7 +229,8 @@ fn speak<W: Wire, H: House>(
     requires present { (H.known house.old).present ≡ true }
     requires on { engine.old.ended ≡ None }
     requires room { want_of engine.old ≡ ToRead }
-    ensures serving { (held failed : List ℕ) → RunsOn result H.may
+    ensures serving { (held failed : List ℕ) → RunsOn result
+        (H.stands house.old) (H.stands house.new) H.may
         (RestsOf H.told H.quiet (H.known house.old).present)
         (noted (H.told house.old) (H.known house.old))
         (noted (H.told house.new) (H.known house.new)) (W.seen wire.old) (W.seen wire.new) held held
@@ -275,7 +279,8 @@ fn ask_house<W: Wire, H: House>(
     requires alone { IsAlone (H.known house.old) }
     requires held_is { lists.old.held ≡ (W.seen wire.old).blocked }
     requires on { engine.old.ended ≡ None }
-    ensures serving { RunsOn result H.may (RestsOf H.told H.quiet (H.known house.old).present)
+    ensures serving { RunsOn result (H.stands house.old) (H.stands house.new) H.may
+        (RestsOf H.told H.quiet (H.known house.old).present)
         (noted (H.told house.old) (H.known house.old))
         (noted (H.told house.new) (H.known house.new)) (W.seen wire.old) (W.seen wire.new)
         lists.old.held lists.new.held lists.old.failed lists.new.failed 1
@@ -321,7 +326,8 @@ pub fn step_house<W: Wire, H: House>(
     requires housed { Housed (H.known house.old) (W.seen wire.old) lists.old.own }
     requires alone { IsAlone (H.known house.old) }
     requires on { engine.old.ended ≡ None }
-    ensures serving { RunsOn result H.may (RestsOf H.told H.quiet (H.known house.old).present)
+    ensures serving { RunsOn result (H.stands house.old) (H.stands house.new) H.may
+        (RestsOf H.told H.quiet (H.known house.old).present)
         (noted (H.told house.old) (H.known house.old))
         (noted (H.told house.new) (H.known house.new)) (W.seen wire.old) (W.seen wire.new)
         lists.old.held lists.new.held lists.old.failed lists.new.failed 1
