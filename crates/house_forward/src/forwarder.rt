@@ -105,6 +105,8 @@ impl<N: Notes + Drop> House for Forwarder<N> {
 
     ghost refused = { λ f. f.has.forwardings.refused };
 
+    ghost stands = { λ _ _. Unit {0} };
+
     ghost fresh = { λ f. IsBlank (known_of f.has.forwardings.all.items f.has.relays.all.items
         f.has.asks.waiting.items f.has.ordering) (N.told f.notes.notes)
         × (f.has.forwardings.refused ≡ None) };
