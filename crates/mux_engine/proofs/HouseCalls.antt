@@ -3,7 +3,7 @@ use Rattle.std.proofs.Common.{◌≡◌, ◌≢◌, ◌≤◌, ◌<◌, ◌+◌,
 use Rattle.std.specs.Prelude.{◌==◌, All, IsTrue}
 use Rattle.std.proofs.lemmas.List.Folds.{list_any-append}
 use Rattle.mux_outside.specs.House.{Known, OpenAsk, ReplyFits, without_ask}
-use Rattle.mux_outside.specs.HouseCalls.{Hears, HouseCall, calls_of}
+use Rattle.mux_outside.specs.HouseCalls.{HandsOn, Hears, HouseCall, calls_of}
 use Rattle.mux_outside.specs.OwnStreams.{is_one, numbers_of}
 use Rattle.mux_outside.specs.Seen.{Calls, Seen}
 use Rattle.mux_outside.specs.Streams.{among, without}
@@ -20,6 +20,7 @@ use Rattle.mux_machine.specs.State.{State, queue_in, taken}
 use Rattle.mux_machine.specs.declared.event.Event.TheVariants.{Accepted, HouseSays}
 use Rattle.mux_machine.specs.Events.{EndsBy, Keeps, Tells, here}
 use Rattle.mux_machine.specs.Stands.{GoesAlone, GoesOn, Stands}
+use Rattle.mux_engine.specs.Called.{Handed}
 use Rattle.mux_engine.specs.Counted.{Cut, Well}
 use Rattle.mux_engine.specs.Serving.{Promised, Serving}
 use Rattle.mux_engine.specs.Sides.{Housed, Resting, SameHouse, SamePlaces, Side, noted, noting}
@@ -168,6 +169,11 @@ module _ {May : HouseReply → Type 0} {Rest : Resting} {before : Option (List H
   told-nothing {told} {told'} {known} {calls} known' v h e =
       subst (λ (k : Known). Serving May Rest before (noted told' k calls) policy pid start seen held failed given todo s) (sym e)
       (serve-told v (noted told' known calls) [] h refl refl refl refl (sym (append-nil calls)))
+
+  -- nothing came of a call
+  pub still-handed : {stands stands' : List HouseCall → Type 0} {told told' : Option (List HouseMark)} {known : Known} {calls : List HouseCall} (known' : Known) → HandsOn stands stands' [] → TellsAsks told told' [] → known' ≡ known → Serving May Rest before (noted told known calls) policy pid start seen held failed given todo s
+      → Handed stands stands' calls (λ all. Serving May Rest before (noted told' known' all) policy pid start seen held failed (given + 0) todo s)
+  still-handed {calls = calls} known' hands h e v = record { more = []; hands = hands; all = calls; all_are = sym (append-nil calls); so = no-turns (told-nothing known' v h e) }
 
   -- it told an answer
   pub answer-told : {told told' : Option (List HouseMark)} {calls : List HouseCall} (known : Known) (client id : ℕ) (reply : HouseReply) → Serving May Rest before (noted told known calls) policy pid start seen held failed given todo s → TellsAsks told told' (HouseAnswer client id reply ∷ [])

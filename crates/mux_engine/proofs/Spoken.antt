@@ -76,6 +76,9 @@ told-said r bytes told told' is e = e ∙ ap (λ (x : Result Bool _). option_map
 pub hands-said : {E : Type 0} (stands stands' : List HouseCall → Type 0) (r : Result Bool E) (bytes : List ℕ) → r ≡ Ok true → HandsOn stands stands' (calls_of (says_marks r bytes)) → HandsOn stands stands' (calls_of (HouseSaid bytes ∷ []))
 hands-said stands stands' r bytes is h = subst (λ (x : Result Bool _). HandsOn stands stands' (calls_of (says_marks x bytes))) is h
 
+pub hands-nothing : {E : Type 0} (stands stands' : List HouseCall → Type 0) (r : Result Bool E) (bytes : List ℕ) → r ≡ Ok false → HandsOn stands stands' (calls_of (says_marks r bytes)) → HandsOn stands stands' []
+hands-nothing stands stands' r bytes is h = subst (λ (x : Result Bool _). HandsOn stands stands' (calls_of (says_marks x bytes))) is h
+
 pub some-said : {E : Type 0} (r : Result Bool E) (bytes : List ℕ) → r ≡ Ok true → SaysFits r bytes → 0 < length bytes
 some-said {E} r bytes is fits = let f : SaysFits {E = E} (Ok true) bytes = subst (λ (x : Result Bool E). SaysFits {E = E} x bytes) is fits in f.0
 

@@ -38,8 +38,8 @@ abbrev pub IsToldAll : Type 0
 IsToldAll = (setting : Setting) (journal : List Mark) (t : ℕ) → is_own_stream t ≡ true
     → sizes_taken t (calls_in setting journal) ≡ length (taken_by t journal)
 
--- a worked journal: a stream that was joined and gives "hello", and one that the house ordered, which
--- is connected and fails
+-- a worked journal: a stream that was joined and gives "hello", and one that the house ordered,
+-- which is connected and fails
 abbrev pub OwnStreamsAreCalled : Type 0
 OwnStreamsAreCalled = (setting : Setting) → calls_in setting (reverse own_streams)
     ≡ Turns (Joined 9223372036854775808 9223372036854775809)

@@ -39,7 +39,8 @@ abbrev pub calls_in : Setting → List Mark → List HouseCall
 calls_in setting [] = []
 calls_in setting (mark ∷ before) = calls_in setting before ++ calls_at setting before mark
 
--- from a house that stood for these calls the other came by some more, and of all of them this is so
+-- from a house that stood for these calls the other came by some more, and of all of them this is
+-- so
 pub record Handed (stands stands' : List HouseCall → Type 0) (calls : List HouseCall)
     (So : List HouseCall → Type 0) : Type 0 where
   pub more : List HouseCall

@@ -91,12 +91,12 @@ pub record KeepsRows (setting : Setting) (rows : List Row) : Type 0 where
 -- memory may have cut those of its last event. Each number is fresh at its row, and there is one for
 -- each row that takes one, and one reply for each row that asks; the house, which told `before` and
 -- tells `now`, told what the journal has of it, where its asks are those of these rows, and where
--- memory was wanting perhaps some more; it was handed on what the journal has of its own streams and
--- listeners and for it as a client, and all that it stands for, once and in that order, unless memory
--- was wanting; where none is present, the journal has nothing of a house but
+-- memory was wanting perhaps some more; where none is present, the journal has nothing of a house but
 -- the asks of clients. These rows, and all others that want of memory may have left, keep what is
 -- promised of rows; and but for want of memory the run ends right, where `refused` is the forwarding
 -- of the start that was refused, if none may be.
+-- But for want of memory the house was handed on all that the journal has for it, once and in the
+-- order of the journal.
 pub record IsRun (May : HouseReply → Type 0) (Rest : Option (List HouseMark) → Type 0)
     (stands stands' : List HouseCall → Type 0) (present : Bool) (policy : Policy) (pid turns : ℕ)
     (before now : Option (List HouseMark)) (start told : Option (List Mark)) (refused : Option ℕ)

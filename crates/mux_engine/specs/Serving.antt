@@ -1,5 +1,5 @@
 -- What holds between an engine and its wire while it is served.
-use Rattle.std.specs.Prelude.{◌≡◌, ◌≤◌, ◌<◌, ◌+◌, ◌⊎◌, ◌||◌, ◌==◌, ℕ, Bool, true, false, List, ◌∷◌, ◌++◌, length, IsTrue, All, Option, Some, None, Result, MatchResult}
+use Rattle.std.specs.Prelude.{◌≡◌, ◌≤◌, ◌<◌, ◌+◌, ◌⊎◌, ◌||◌, ◌==◌, ℕ, Bool, true, false, List, [], ◌∷◌, ◌++◌, length, IsTrue, All, Option, Some, None, Result, MatchResult}
 use Rattle.mux_outside.specs.Counts.{Rose}
 use Rattle.mux_outside.specs.House.{OpenAsk}
 use Rattle.mux_outside.specs.HouseCalls.{HouseCall, calls_of}
@@ -71,11 +71,11 @@ IsFree last k = (IsTrue (is_own k) × (last < k)) ⊎ (k ≡ HOUSE)
 
 -- with the numbers that were picked and the replies that the house gave at once, one to each ask
 -- that it was told since it told `before`, the engine stands for what the wire told since the start,
--- in which `given` turns were given; all that the house told since is there but its last asks, and its
--- calls since are those that are there and these; one that was let in is present, and where none is the journal has nothing of a house but the asks of
+-- in which `given` turns were given; all that the house told since is there but its last asks; one
+-- that was let in is present, and where none is the journal has nothing of a house but the asks of
 -- clients; the journal is one that a wire can give; the streams that are open are the server's, those
 -- of the clients that are here and the master's own; and whatever is picked and replied later, all is
--- sound
+-- sound; and the calls of the house since are those of the journal and of what is not noted yet
 pub record Serving (May : HouseReply → Type 0) (Rest : Resting)
     (before : Option (List HouseMark)) (now : Side) (policy : Policy) (pid : ℕ)
     (start : Option (List Mark)) (seen : Seen) (held failed : List ℕ) (given : ℕ)

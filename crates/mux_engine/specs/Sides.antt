@@ -32,8 +32,8 @@ asks_in marks = filter is_asked marks
 
 -- ---- a house and what is noted of it
 
--- what it told; its open asks; the last of what it told, which is not noted yet; whether it was let in
--- as a client; and its calls since the run began
+-- what it told; its open asks; the last of what it told, which is not noted yet; whether it was
+-- let in as a client; and its calls since the run began
 pub record Side : Type 0 where
   pub told : Option (List HouseMark)
   pub asks : List OpenAsk

@@ -1,5 +1,5 @@
-//! What the calls that a journal has say of the streams of the house: each function's contract is the
-//! law.
+//! What the calls that a journal has say of the streams of the house: each function's contract is
+//! the law.
 
 ghost use Rattle.mux_engine.specs.CallLaws.{IsGivenAll, IsToldAll, OwnStreamsAreCalled};
 

@@ -14,8 +14,8 @@ pub data Happening : Type 0 where
   Writable : (stream : ℕ) → Happening
   Failed : (stream : ℕ) → Happening
 
--- what a house is asked for at the start, what it gave or was asked, what it took in as a client, what
--- happened to a listener or a stream of its own, and how many bytes such a stream took
+-- what a house is asked for at the start, what it gave or was asked, what it took in as a client,
+-- what happened to a listener or a stream of its own, and how many bytes such a stream took
 pub data HouseCall : Type 0 where
   Begins : (starts : Starts) → HouseCall
   Marks : (mark : HouseMark) → HouseCall
@@ -31,7 +31,8 @@ happening_of (own.End t) = End t
 happening_of (own.Writable t) = Writable t
 happening_of (own.Failed t) = Failed t
 
--- the call that a mark tells: none where the house is let in, and what it took in is told by its bytes
+-- the call that a mark tells: none where the house is let in, and what it took in is told by its
+-- bytes
 abbrev pub call_of : HouseMark → List HouseCall
 call_of HouseIn = []
 call_of (HouseTook size) = []

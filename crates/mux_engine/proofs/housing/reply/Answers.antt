@@ -9,7 +9,7 @@ use Rattle.mux_engine.specs.Sides.{RestsOf, noted}
 use Rattle.mux_engine.proofs.Arms.{on-err}
 use Rattle.mux_engine.proofs.Called.{handed-more}
 use Rattle.mux_engine.proofs.Cuts.{cut-here}
-use Rattle.mux_engine.proofs.HouseCalls.{answered, answered-live, cut-answered, no-turns, no-turns-left}
+use Rattle.mux_engine.proofs.HouseCalls.{answered, answered-live, cut-answered, no-turns, no-turns-left, still-handed}
 use Rattle.mux_engine.proofs.HouseTurns.{reply-fewer}
 use Rattle.mux_engine.proofs.housing.reply.Goals as goal
 
@@ -37,3 +37,8 @@ returns-clause-on g c held failed todo w = answered-live (g.H.House.known c.args
 
 pub returns-clause-fewer : goal.returns-clause-fewer
 returns-clause-fewer g c = λ more. subst (λ (k : Known). length k.asks < length (g.H.House.known c.args.house.now).asks) (sym c.in-Some.ensures.known) (reply-fewer c.in-Some.given c.in-Some.client c.in-Some.id (g.H.House.known c.args.house.now).asks c.in-Some.ensures.fits)
+
+-- ---- no answer
+
+pub returns-in_default-clause-serving : goal.returns-in_default-clause-serving
+returns-in_default-clause-serving g c held failed calls before policy pid start given v = still-handed (g.H.House.known c.answer.new.self) c.in_default.ensures.stands c.in_default.ensures.told c.in_default.ensures.known v

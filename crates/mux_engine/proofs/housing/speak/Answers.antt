@@ -1,4 +1,4 @@
-use Rattle.std.proofs.Common.{◌≡◌, ◌≤◌, ◌+◌, ◌∙◌, ◌∷◌, [], refl, ap, subst, ℕ, Bool, true, List, Option, length, arith}
+use Rattle.std.proofs.Common.{◌≡◌, ◌≤◌, ◌+◌, ◌∙◌, ◌∷◌, [], refl, ap, subst, ℕ, Bool, true, false, List, Option, length, arith}
 use Rattle.std.specs.Prelude.{Ok}
 use Rattle.ssh_fields.specs.Fields.{AreBytes}
 use Rattle.mux_outside.specs.House.{Known}
@@ -15,8 +15,9 @@ use Rattle.mux_engine.proofs.Arms.{on-err}
 use Rattle.mux_engine.proofs.Called.{handed-more, handed-then}
 use Rattle.mux_engine.proofs.Cuts.{cut-here}
 use Rattle.mux_engine.proofs.Handed.{turn-house}
+use Rattle.mux_engine.proofs.HouseCalls.{still-handed}
 use Rattle.mux_engine.proofs.Noted.{seen-with}
-use Rattle.mux_engine.proofs.Spoken.{asks-ends, cut-said, err-serves, hands-said, ok-serves, said-ends, said-heeds, some-said, told-said}
+use Rattle.mux_engine.proofs.Spoken.{asks-ends, cut-said, err-serves, hands-nothing, hands-said, ok-serves, said-ends, said-heeds, some-said, told-nothing, told-said}
 use Rattle.mux_engine.proofs.housing.speak.Goals as goal
 
 pub returns-in_err-says-clause-serving : goal.returns-in_err-says-clause-serving
@@ -112,3 +113,12 @@ returns-clause-ends g c held failed served =
     let are : AreBytes c.as_bytes-2.result.now = c.event_of_bytes-said.ensures.bytes in
     let after : W.seen c.note.new.self ≡ seen-with (HouseSaid bytes ∷ []) (W.seen c.args.wire.now) = c.in_ok-note.ensures.seen ∙ ap (λ (l : List ℕ). seen-with (HouseSaid l ∷ []) (W.seen c.args.wire.now)) (c.in_ok-bytes.ensures ∙ c.as_bytes.ensures.bytes) in
     asks-ends event bytes _ there (ok-serves c.heed.result _ _ c.in_ok-heed.was (said-ends told known v c.requires.on c.requires.present c.requires.room (H.told c.says.new.self) (H.known c.says.new.self) bytes tells same event there (some-said c.says.result bytes is c.says.ensures.fits) few (subst AreBytes e are) c.heed.result c.heed.new.engine c.heed.new.asks (H.told c.heed.new.house) (H.known c.heed.new.house) (W.seen c.note.new.self) (W.seen c.heed.new.wire) c.heed.ensures.heeded))
+
+-- ---- nothing is said
+
+pub returns-then-not-branch-clause-serving : goal.returns-then-not-branch-clause-serving
+returns-then-not-branch-clause-serving g c held failed calls before policy pid start given v =
+    let H = g.H.House in
+    let none : c.says.result ≡ Ok false = c.in_ok-says.was ∙ ap (λ (b : Bool). Ok b) c.if-not-branch.true in
+    still-handed (H.known c.says.new.self) (hands-nothing (H.stands c.args.house.now) (H.stands c.says.new.self) _ c.says.new.into (ap (λ (b : Bool). Ok b) c.if-not-branch.true) c.in_ok-says.ensures.stands)
+    (told-nothing c.says.result c.says.new.into (H.told c.args.house.now) (H.told c.says.new.self) none c.says.ensures.told) c.in_ok-says.ensures.known v

@@ -5,6 +5,7 @@ use Rattle.mux_engine.specs.Serving.{Promised, Serving}
 use Rattle.mux_engine.specs.Sides.{RestsOf, noted, noting}
 use Rattle.mux_engine.proofs.Arms.{on-err}
 use Rattle.mux_engine.proofs.Called.{handed-more, handed-so, handed-then}
+use Rattle.mux_engine.proofs.HouseCalls.{still-handed}
 use Rattle.mux_engine.proofs.Ordered.{given-side, order-given}
 use Rattle.mux_engine.proofs.orders.next_order.Goals as goal
 
@@ -29,3 +30,8 @@ returns-clause-serving g c todo s calls before policy pid start given v =
     (order-given c.in-Some.order _ _ _ _ c.in-Some.ensures.told c.in-Some.ensures.known v)) in
     handed-then {Mid = λ all. Unit {0}} (handed-more more c.in-Some.ensures.stands tt)
     (handed-so obeyed (subst (λ (b : Bool). Serving H.may (RestsOf H.told H.quiet b) before (noted (H.told c.obey.new.house) (H.known c.obey.new.house) obeyed.all) policy pid start (g.W.Wire.seen c.obey.new.wire) c.obey.new.lists.held c.obey.new.lists.failed (given + 1) todo s) side.present obeyed.so))
+
+-- ---- no order
+
+pub returns-in_default-clause-serving : goal.returns-in_default-clause-serving
+returns-in_default-clause-serving g c todo s calls before policy pid start given v = still-handed (g.H.House.known c.order.new.self) c.in_default.ensures.stands c.in_default.ensures.told c.in_default.ensures.known v
