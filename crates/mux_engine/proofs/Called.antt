@@ -1,11 +1,10 @@
 -- What a mark adds to the calls of the house.
 use Rattle.std.proofs.Common.{◌≡◌, ℕ, Bool, true, false, List, [], ◌∷◌, ◌++◌, refl, sym, ap, ◌∙◌, subst, append_assoc, append-nil, cond}
-use Rattle.std.specs.Prelude.{MatchResult, Result, Ok, Err}
 use Rattle.mux_outside.specs.HouseCalls.{HandsOn, Hears, HouseCall, calls_of}
 use Rattle.mux_outside.specs.OwnStreams.{is_own}
 use Rattle.mux_outside.specs.declared.house_mark.HouseMark.{HouseMark}
 use Rattle.mux_outside.specs.declared.house_mark.HouseMark.TheVariants.{HouseTook}
-use Rattle.mux_outside.proofs.HouseCalls.{calls-append, hands-none, hands-then}
+use Rattle.mux_outside.proofs.HouseCalls.{calls-append, hands-then}
 use Rattle.mux_engine.specs.Called.{Handed, if_own}
 use Rattle.mux_engine.specs.Sides.{Side}
 
@@ -49,29 +48,12 @@ calls-heard now size bytes took all was =
 
 -- ---- from house to house
 
-abbrev pub handed-none : {stands : List HouseCall → Type 0} {calls : List HouseCall} {So : List HouseCall → Type 0} → So calls → Handed stands stands calls So
-handed-none {stands} {calls} so = record { more = []; hands = hands-none stands; all = calls; all_are = sym (append-nil calls); so = so }
+abbrev pub handed-none : {stands stands' : List HouseCall → Type 0} {calls : List HouseCall} {So : List HouseCall → Type 0} → HandsOn stands stands' calls → So calls → Handed stands stands' So
+handed-none {calls = calls} hands so = record { all = calls; hands = hands; so = so }
 
-abbrev pub handed-more : {stands stands' : List HouseCall → Type 0} {calls : List HouseCall} {So : List HouseCall → Type 0} (more : List HouseCall) → HandsOn stands stands' more → So (calls ++ more) → Handed stands stands' calls So
-handed-more {calls = calls} more hands so = record { more = more; hands = hands; all = calls ++ more; all_are = refl; so = so }
+-- the house came by some more
+abbrev pub handed-more : {stands mid stands' : List HouseCall → Type 0} {calls : List HouseCall} {So : List HouseCall → Type 0} (more : List HouseCall) → HandsOn stands mid calls → HandsOn mid stands' more → So (calls ++ more) → Handed stands stands' So
+handed-more {stands} {mid} {stands'} {calls} more hands step so = record { all = calls ++ more; hands = hands-then stands mid stands' calls more hands step; so = so }
 
-abbrev pub handed-then : {stands mid stands' : List HouseCall → Type 0} {calls : List HouseCall} {Mid So : List HouseCall → Type 0} (h : Handed stands mid calls Mid) → Handed mid stands' h.all So → Handed stands stands' calls So
-handed-then {stands} {mid} {stands'} {calls} h then = record {
-  more = h.more ++ then.more;
-  hands = hands-then stands mid stands' h.more then.more h.hands then.hands;
-  all = then.all;
-  all_are = then.all_are ∙ (ap (λ (l : List HouseCall). l ++ then.more) h.all_are ∙ append_assoc calls h.more then.more);
-  so = then.so;
-}
-
-abbrev pub handed-so : {stands stands' : List HouseCall → Type 0} {calls : List HouseCall} {Was So : List HouseCall → Type 0} (h : Handed stands stands' calls Was) → So h.all → Handed stands stands' calls So
-handed-so h so = record { more = h.more; hands = h.hands; all = h.all; all_are = h.all_are; so = so }
-
--- a house that was not called meanwhile, or that stands for whatever the other does
-abbrev pub handed-behind : {stands mid stands' : List HouseCall → Type 0} {calls : List HouseCall} {So : List HouseCall → Type 0} → HandsOn mid stands' [] → Handed stands mid calls So → Handed stands stands' calls So
-handed-behind {stands} {mid} {stands'} same h = record { more = h.more; hands = λ calls s. subst stands' (append-nil (calls ++ h.more)) (same (calls ++ h.more) (h.hands calls s)); all = h.all; all_are = h.all_are; so = h.so }
-
--- behind a call whose result is not known yet
-pub handed-each : {A E : Type 0} (r : Result A E) {stands mid stands' : List HouseCall → Type 0} {calls : List HouseCall} {Mid : List HouseCall → Type 0} {So : A → List HouseCall → Type 0} {T : E → Type 0} (h : Handed stands mid calls Mid) → MatchResult r (λ x. Handed mid stands' h.all (So x)) T → MatchResult r (λ x. Handed stands stands' calls (So x)) T
-handed-each (Ok x) h m = handed-then h m
-handed-each (Err e) h m = m
+abbrev pub handed-so : {stands stands' : List HouseCall → Type 0} {Was So : List HouseCall → Type 0} (h : Handed stands stands' Was) → So h.all → Handed stands stands' So
+handed-so h so = record { all = h.all; hands = h.hands; so = so }

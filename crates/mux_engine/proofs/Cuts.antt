@@ -40,7 +40,7 @@ asks-left old more asks e = filter-append is_asked old more ∙ ap (λ l. l ++ a
 
 -- the rows before the mark are left, whatever the house told at the mark
 unfoldable pub cut-next : {May : HouseReply → Type 0} {Rest : Resting} {before : Option (List HouseMark)} {now : Side} {policy : Policy} {pid : ℕ} {start : Option (List Mark)} {seen : Seen} {held failed : List ℕ} {given : ℕ} {todo : List ℕ} {s : State} (v : Serving May Rest before now policy pid start seen held failed given todo s) (now' : Option (List HouseMark)) (told' : Option (List Mark)) (given' : ℕ) (mark : Mark) (more left : List HouseMark)
-    → told' ≡ option_map (λ m. m ++ mark ∷ []) seen.told → TellsAsks now.told now' more → house_mark mark ++ left ≡ now.unnoted ++ more → IsOfWire (mark ∷ v.journal) → turns_in (mark ∷ v.journal) ≤ given' → RestedAt Rest.rests before v.journal mark → (Rest.present ≡ false → is_by_house mark ≡ false)
+    → told' ≡ option_map (λ m. m ++ mark ∷ []) seen.told → TellsAsks now.told now' more → house_mark mark ++ left ≡ now.unnoted ++ more → IsOfWire (mark ∷ v.journal) → turns_in (mark ∷ v.journal) ≤ given' → ((set : Setting) → RestedAt Rest.rests set before v.journal mark) → (Rest.present ≡ false → is_by_house mark ≡ false)
     → ((set : Setting) → IsLog set (mark ∷ v.journal) (log_of_journal set v.journal)) → ((picks : List ℕ) (later : List HouseReply) → PromiseAt (by_lists policy pid (v.picked ++ picks) (v.replies ++ later)) v.journal mark) → Promised May Rest before now' policy pid start told' given'
 cut-next {May} {Rest} {before} {now} {policy} {pid} {start} {seen} {held} {failed} {given} {todo} {s} v now' told' given' mark more left e h is of le rested absent cut promise =
     let same : (house_marks v.journal ++ now.unnoted) ++ more ≡ (house_marks v.journal ++ house_mark mark) ++ left = noted-more (house_marks v.journal) (house_mark mark) left now.unnoted more is in
@@ -55,7 +55,7 @@ cut-next {May} {Rest} {before} {now} {policy} {pid} {start} {seen} {held} {faile
       each = v.stands.each;
       house = subst (TellsAsks before now') same (tells-then before now.told now' (house_marks v.journal ++ now.unnoted) more v.house h);
       asked = ap asks_in (sym same) ∙ asks-left (house_marks v.journal ++ now.unnoted) more v.stands.asks v.asked;
-      rested = (rested, v.rested);
+      rested = λ picks later. (rested (by_lists policy pid (v.picked ++ picks) (v.replies ++ later)), v.rested picks later);
       absent = λ e. All-cons (λ (m : Mark). is_by_house m ≡ false) mark v.journal (absent e) (v.absent e);
       tells = tells-more start seen.told told' v.journal (mark ∷ []) v.tells e;
       of_wire = of;

@@ -6,7 +6,7 @@ use Rattle.std.proofs.lemmas.Bool.Decides.{eqb_tells}
 use Rattle.std.proofs.lemmas.List.{map-append}
 use Rattle.std.proofs.lemmas.List.Folds.{list_any-append}
 use Rattle.ssh_fields.specs.Fields.{AreBytes}
-use Rattle.mux_outside.specs.HouseCalls.{End, Failed, Got, HouseCall, Joined, Turns, Writable, calls_of, happening_of}
+use Rattle.mux_outside.specs.HouseCalls.{End, Failed, Got, HandsOn, HouseCall, Joined, Turns, Writable, calls_of, happening_of}
 use Rattle.mux_outside.specs.House.{IsNewTo, Known, OwnTurnFits, Quiet, known_after_own_turn}
 use Rattle.mux_outside.specs.OwnStreams.{end_one, is_one, is_own, is_silent, new_stream, numbers_of, with_end}
 use Rattle.mux_outside.specs.Seen.{Seen, seen_after_turn}
@@ -58,18 +58,18 @@ pub record AtWait (Rest : Resting) (now : Side) (seen : Seen) (own held failed :
   pub offered : Offered seen own held failed queue
   pub hears : seen.listens ≡ s.listening
   pub all_noted : now.unnoted ≡ []
-  pub rests : want_of s ≡ Read → Rest.rests now.told
+  pub rests : want_of s ≡ Read → Rest.rests now.told now.calls
 
-pub at-wait : {T : Type 0} {calls : List HouseCall} (told : T → Option (List HouseMark)) (quiet : T → Quiet) (house : T) (known : Known) (seen : Seen) (own held failed : List ℕ) (queue : ℕ → List ℕ) (s : State) → Housed known seen own → IsReady known (quiet house) queue held failed own s
-    → s.leaving ≡ [] → s.refused ≡ [] → s.ended ≡ None → seen.listens ≡ s.listening → AtWait (RestsOf told quiet known.present) (noted (told house) known calls) seen own held failed queue s
-at-wait told quiet house known seen own held failed queue s housed ready none admitted live hears = record {
+pub at-wait : {T : Type 0} {calls : List HouseCall} (told : T → Option (List HouseMark)) (quiet : T → Quiet) (stands : T → List HouseCall → Type 0) (first house : T) (known : Known) (seen : Seen) (own held failed : List ℕ) (queue : ℕ → List ℕ) (s : State) → Housed known seen own → IsReady known (quiet house) queue held failed own s
+    → s.leaving ≡ [] → s.refused ≡ [] → s.ended ≡ None → seen.listens ≡ s.listening → HandsOn (stands first) (stands house) calls → AtWait (RestsOf told quiet stands known.present first) (noted (told house) known calls) seen own held failed queue s
+at-wait told quiet stands first house known seen own held failed queue s housed ready none admitted live hears hands = record {
   none = none;
   admitted = admitted;
   live = live;
   offered = record { own_is = housed.own_is; opened = housed.places.opened; numbered = housed.places.numbered; offered = ready.no_more.offered };
   hears = hears;
   all_noted = refl;
-  rests = λ read present. (house, (ready.rests present read, refl));
+  rests = λ read present. (house, (ready.rests present read, (refl, hands)));
 }
 
 -- the wire gave this turn

@@ -12,6 +12,7 @@ use Rattle.mux_outside.specs.declared.house_mark.HouseMark.{HouseMark}
 use Rattle.mux_outside.specs.declared.house_mark.HouseMark.TheVariants.{HouseAnswer, HouseIn, HouseTook}
 use Rattle.mux_outside.specs.declared.mark.Mark.{Mark}
 use Rattle.mux_outside.specs.declared.mark.Mark.TheVariants.{Accepts, Takes, House}
+use Rattle.mux_outside.proofs.HouseCalls.{hands-then}
 use Rattle.mux_history.specs.declared.limits.TheConstants.{HOUSE}
 use Rattle.mux_history.specs.Policy.{Policy}
 use Rattle.mux_history.specs.Journal.{is_accepted}
@@ -171,9 +172,9 @@ module _ {May : HouseReply → Type 0} {Rest : Resting} {before : Option (List H
       (serve-told v (noted told' known calls) [] h refl refl refl refl (sym (append-nil calls)))
 
   -- nothing came of a call
-  pub still-handed : {stands stands' : List HouseCall → Type 0} {told told' : Option (List HouseMark)} {known : Known} {calls : List HouseCall} (known' : Known) → HandsOn stands stands' [] → TellsAsks told told' [] → known' ≡ known → Serving May Rest before (noted told known calls) policy pid start seen held failed given todo s
-      → Handed stands stands' calls (λ all. Serving May Rest before (noted told' known' all) policy pid start seen held failed (given + 0) todo s)
-  still-handed {calls = calls} known' hands h e v = record { more = []; hands = hands; all = calls; all_are = sym (append-nil calls); so = no-turns (told-nothing known' v h e) }
+  pub still-handed : {stands mid stands' : List HouseCall → Type 0} {told told' : Option (List HouseMark)} {known : Known} {calls : List HouseCall} (known' : Known) → HandsOn stands mid calls → HandsOn mid stands' [] → TellsAsks told told' [] → known' ≡ known → Serving May Rest before (noted told known calls) policy pid start seen held failed given todo s
+      → Handed stands stands' (λ all. Serving May Rest before (noted told' known' all) policy pid start seen held failed (given + 0) todo s)
+  still-handed {stands} {mid} {stands'} {calls = calls} known' hands step h e v = record { all = calls; hands = subst (HandsOn stands stands') (append-nil calls) (hands-then stands mid stands' calls [] hands step); so = no-turns (told-nothing known' v h e) }
 
   -- it told an answer
   pub answer-told : {told told' : Option (List HouseMark)} {calls : List HouseCall} (known : Known) (client id : ℕ) (reply : HouseReply) → Serving May Rest before (noted told known calls) policy pid start seen held failed given todo s → TellsAsks told told' (HouseAnswer client id reply ∷ [])

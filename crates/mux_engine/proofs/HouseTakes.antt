@@ -92,7 +92,7 @@ module _ {May : HouseReply → Type 0} {Rest : Resting} {before : Option (List H
         askers = askers-more v mark;
         house_in = v.house_in;
         house_there = v.house_there;
-        rested = tt;
+        rested = λ picks later. tt;
         absent = λ e. true-false (sym (v.house_there within) ∙ e);
         turns = v.turns;
         placed = placed-still v mark (seen-with (HouseTook n ∷ []) seen) s' ((wire-keeps seen.streams seen.blocked seen.last seen.listeners seen.own seen.last_own v.journal).note (HouseTook n) (v.house_in ∙ within) refl v.of_wire) refl refl refl refl refl same.streams (λ t. refl) (λ t. refl) (λ t. refl);
@@ -131,7 +131,7 @@ module _ {May : HouseReply → Type 0} {Rest : Resting} {before : Option (List H
         said = here_is;
         spares = λ j c. tt;
         speaks = λ picks later. subst (λ (q : List ℕ). length q < READING_STOPS_AT) (subst (RowsFit (length v.picked) v.stands.asks s v.closed) (log-is s policy pid (v.picked ++ picks) (v.replies ++ later) v.journal v.policy_is v.pid_is) (v.stands.at picks later).rows).fit.up room;
-        rested = tt;
+        rested = λ set. tt;
         absent = λ e. true-false (sym (v.house_there within) ∙ e);
         turns = ap (λ n. n + 1) v.turns;
         plain = sym noted;

@@ -75,7 +75,7 @@ next-takes {May} {Rest} {before} {now} {policy} {pid} {start} {seen} {held} {fai
       askers = askers-more v mark;
       house_in = v.house_in;
       house_there = v.house_there;
-      rested = tt;
+      rested = λ picks later. tt;
       absent = λ e. refl;
       turns = v.turns;
       placed = placed-still v mark (seen_after_write (wrote.Took n) k bytes seen) s' ((wire-keeps seen.streams seen.blocked seen.last seen.listeners seen.own seen.last_own v.journal).write (wrote.Took n) k bytes are (omega arith) (stream-open v k opened ne) (one, fits) v.of_wire)
@@ -116,7 +116,7 @@ next-holds {May} {Rest} {before} {now} {policy} {pid} {start} {seen} {held} {fai
       askers = askers-more v mark;
       house_in = v.house_in;
       house_there = v.house_there;
-      rested = tt;
+      rested = λ picks later. tt;
       absent = λ e. refl;
       turns = v.turns;
       placed = placed-by v mark (seen_after_write wrote.Later k bytes seen) (held ++ k ∷ []) failed s k there ((wire-keeps seen.streams seen.blocked seen.last seen.listeners seen.own seen.last_own v.journal).write wrote.Later k bytes are some there tt v.of_wire)
@@ -160,7 +160,7 @@ next-fails {May} {Rest} {before} {now} {policy} {pid} {start} {seen} {held} {fai
       askers = askers-more v mark;
       house_in = v.house_in;
       house_there = v.house_there;
-      rested = tt;
+      rested = λ picks later. tt;
       absent = λ e. refl;
       turns = v.turns;
       placed = placed-by v mark (seen_after_write wrote.Failed k bytes seen) held failed s' k there ((wire-keeps seen.streams seen.blocked seen.last seen.listeners seen.own seen.last_own v.journal).write wrote.Failed k bytes are some there tt v.of_wire)
@@ -204,14 +204,14 @@ wrote-of-wire {seen = seen} v answer k bytes there are some fits =
 pub cut-holds : {May : HouseReply → Type 0} {Rest : Resting} {before : Option (List HouseMark)} {now : Side} {policy : Policy} {pid : ℕ} {start : Option (List Mark)} {seen : Seen} {held failed : List ℕ} {given : ℕ} {todo : List ℕ} {s : State} (v : Serving May Rest before now policy pid start seen held failed given todo s) (seen' : Seen) (k : ℕ) (bytes : List ℕ)
     → among k seen.streams ≡ true → AreBytes bytes → 0 < length bytes → seen' ≡ seen_after_write wrote.Later k bytes seen → Promised May Rest before now.told policy pid start seen'.told given
 cut-holds {now = now} {given = given} v seen' k bytes there are some e =
-    cut-next v now.told seen'.told given (Holds k) [] now.unnoted (ap (λ (x : Seen). x.told) e) (tells-none now.told) (sym (append-nil now.unnoted)) (wrote-of-wire v wrote.Later k bytes there are some tt) (let w : turns_in v.journal ≡ given = v.turns in omega arith) tt (λ e. refl)
+    cut-next v now.told seen'.told given (Holds k) [] now.unnoted (ap (λ (x : Seen). x.told) e) (tells-none now.told) (sym (append-nil now.unnoted)) (wrote-of-wire v wrote.Later k bytes there are some tt) (let w : turns_in v.journal ≡ given = v.turns in omega arith) (λ set. tt) (λ e. refl)
     (λ set. inr (0, refl)) (λ picks later. record { takes = tt; waits = tt; speaks = tt; open_streams = tt })
 
 -- none for the event of a stream that failed
 pub cut-fails : {May : HouseReply → Type 0} {Rest : Resting} {before : Option (List HouseMark)} {now : Side} {policy : Policy} {pid : ℕ} {start : Option (List Mark)} {seen : Seen} {held failed : List ℕ} {given : ℕ} {todo : List ℕ} {s : State} (v : Serving May Rest before now policy pid start seen held failed given todo s) (seen' : Seen) (k : ℕ) (bytes : List ℕ)
     → among k seen.streams ≡ true → AreBytes bytes → 0 < length bytes → seen' ≡ seen_after_write wrote.Failed k bytes seen → Promised May Rest before now.told policy pid start seen'.told given
 cut-fails {now = now} {given = given} v seen' k bytes there are some e =
-    cut-next v now.told seen'.told given (WriteFails k) [] now.unnoted (ap (λ (x : Seen). x.told) e) (tells-none now.told) (sym (append-nil now.unnoted)) (wrote-of-wire v wrote.Failed k bytes there are some tt) (let w : turns_in v.journal ≡ given = v.turns in omega arith) tt (λ e. refl)
+    cut-next v now.told seen'.told given (WriteFails k) [] now.unnoted (ap (λ (x : Seen). x.told) e) (tells-none now.told) (sym (append-nil now.unnoted)) (wrote-of-wire v wrote.Failed k bytes there are some tt) (let w : turns_in v.journal ≡ given = v.turns in omega arith) (λ set. tt) (λ e. refl)
     (λ set. inr (0, refl)) (λ picks later. record { takes = tt; waits = tt; speaks = tt; open_streams = tt })
 
 -- none for the write

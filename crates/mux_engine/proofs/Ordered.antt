@@ -161,7 +161,7 @@ module _ {May : HouseReply → Type 0} {Rest : Resting} {before : Option (List H
       let mark : Mark = House (HouseOrder order number) in
       let alike = own-silent.ordered v.journal order number in
       serve-quiet v now' seen' held' failed' (given + 1) mark
-      (record { log = alike.log; blocked = blocked; unwritten = λ t client. refl; promise = λ set. record { takes = tt; waits = tt; speaks = tt; open_streams = tt }; rested = tt; absent = λ e. true-false (sym (v.house_there inside) ∙ e); house = refl })
+      (record { log = alike.log; blocked = blocked; unwritten = λ t client. refl; promise = λ set. record { takes = tt; waits = tt; speaks = tt; open_streams = tt }; rested = λ set. tt; absent = λ e. true-false (sym (v.house_there inside) ∙ e); house = refl })
       (stands-alike v.journal (mark ∷ v.journal) v.picked v.replies s v.closed alike v.stands) notes called asks within told (ap (λ n. n + 1) v.turns) placed
 
   abbrev done-side : Order → Option ℕ → Option (List HouseMark) → Side

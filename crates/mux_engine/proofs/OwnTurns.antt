@@ -70,7 +70,7 @@ module _ {May : HouseReply → Type 0} {Rest : Resting} {before : Option (List H
     -- it gave bytes
     pub own-gets : IsTrue (is_own k) → now.unnoted ≡ [] → (bytes : List ℕ) → AreBytes bytes → Same (Gets k bytes) seen.blocked → Serving May Rest before (calling now (Turns (Got k bytes) ∷ [])) policy pid start seen' held failed given [] s
     own-gets own none bytes are m = serve-quiet v (calling now (Turns (Got k bytes) ∷ [])) seen' held failed given (Gets k bytes)
-        (record { log = λ set. given-log set k bytes v.journal (own-is v k own found); blocked = λ t client. refl; unwritten = λ t client. refl; promise = λ set. record { takes = tt; waits = tt; speaks = tt; open_streams = tt }; rested = tt; absent = λ e. refl; house = refl })
+        (record { log = λ set. given-log set k bytes v.journal (own-is v k own found); blocked = λ t client. refl; unwritten = λ t client. refl; promise = λ set. record { takes = tt; waits = tt; speaks = tt; open_streams = tt }; rested = λ set. tt; absent = λ e. refl; house = refl })
         (stands-given v.picked v.replies s k bytes v.journal v.closed (own-is v k own found) are (here-apart own) v.stands) (notes-calling now (Turns (Got k bytes) ∷ []) (Gets k bytes) refl) (λ set. calls-own now k (Turns (Got k bytes)) own none) refl refl m.told v.turns
         (placed-gets v seen' s k bytes found m.of_wire m.streams m.blocked m.last m.last_own m.listens refl)
 
@@ -78,7 +78,7 @@ module _ {May : HouseReply → Type 0} {Rest : Resting} {before : Option (List H
     pub own-ends : IsTrue (is_own k) → now.unnoted ≡ [] → Same (Ends k) seen.blocked → Serving May Rest before (calling now (Turns (End k) ∷ [])) policy pid start seen' held failed given [] s
     own-ends own none m = let alike = own-silent.ends v.journal k (own-is v k own found) in
         serve-quiet v (calling now (Turns (End k) ∷ [])) seen' held failed given (Ends k)
-        (record { log = alike.log; blocked = λ t client. refl; unwritten = λ t client. refl; promise = λ set. record { takes = tt; waits = tt; speaks = tt; open_streams = tt }; rested = tt; absent = λ e. refl; house = refl })
+        (record { log = alike.log; blocked = λ t client. refl; unwritten = λ t client. refl; promise = λ set. record { takes = tt; waits = tt; speaks = tt; open_streams = tt }; rested = λ set. tt; absent = λ e. refl; house = refl })
         (stands-alike v.journal (Ends k ∷ v.journal) v.picked v.replies s v.closed alike v.stands) (notes-calling now (Turns (End k) ∷ []) (Ends k) refl) (λ set. calls-own now k (Turns (End k)) own none) refl refl m.told v.turns
         (placed-ends v seen' s k found m.of_wire m.streams m.blocked m.last m.last_own m.listens refl)
 
@@ -86,7 +86,7 @@ module _ {May : HouseReply → Type 0} {Rest : Resting} {before : Option (List H
     pub own-failed : IsTrue (is_own k) → now.unnoted ≡ [] → Same (Fails k) seen.blocked → Serving May Rest before (calling now (Turns (Failed k) ∷ [])) policy pid start seen' held (failed ++ k ∷ []) given [] s
     own-failed own none m = let alike = own-silent.fails v.journal k (own-is v k own found) in
         serve-quiet v (calling now (Turns (Failed k) ∷ [])) seen' held (failed ++ k ∷ []) given (Fails k)
-        (record { log = alike.log; blocked = λ t client. refl; unwritten = λ t client. refl; promise = λ set. record { takes = tt; waits = tt; speaks = tt; open_streams = tt }; rested = tt; absent = λ e. refl; house = refl })
+        (record { log = alike.log; blocked = λ t client. refl; unwritten = λ t client. refl; promise = λ set. record { takes = tt; waits = tt; speaks = tt; open_streams = tt }; rested = λ set. tt; absent = λ e. refl; house = refl })
         (stands-alike v.journal (Fails k ∷ v.journal) v.picked v.replies s v.closed alike v.stands) (notes-calling now (Turns (Failed k) ∷ []) (Fails k) refl) (λ set. calls-own now k (Turns (Failed k)) own none) refl refl m.told v.turns
         (placed-fails v seen' s (failed ++ k ∷ []) k found m.of_wire m.streams m.blocked m.last m.last_own m.listens refl
         (λ is. among-last k k failed ∙ (ap (λ b. among k failed || (b || false)) (test-same k) ∙ or-last (among k failed))) (λ t a. among-last k t failed ∙ ap (λ b. b || ((k == t) || false)) a))
@@ -100,7 +100,7 @@ module _ {May : HouseReply → Type 0} {Rest : Resting} {before : Option (List H
     pub own-frees : IsTrue (is_own k) → now.unnoted ≡ [] → Same (Frees k) (without k seen.blocked) → Serving May Rest before (calling now (Turns (Writable k) ∷ [])) policy pid start seen' (without k held) failed given [] s
     own-frees own none m = let alike = frees-alike k v.journal in
         serve-quiet v (calling now (Turns (Writable k) ∷ [])) seen' (without k held) failed given (Frees k)
-        (record { log = alike.log; blocked = λ t client. freed k t v.journal false (test-other k t (apart-own own t client)); unwritten = λ t client. refl; promise = λ set. record { takes = tt; waits = tt; speaks = tt; open_streams = tt }; rested = tt; absent = λ e. refl; house = refl })
+        (record { log = alike.log; blocked = λ t client. freed k t v.journal false (test-other k t (apart-own own t client)); unwritten = λ t client. refl; promise = λ set. record { takes = tt; waits = tt; speaks = tt; open_streams = tt }; rested = λ set. tt; absent = λ e. refl; house = refl })
         (stands-alike v.journal (Frees k ∷ v.journal) v.picked v.replies s v.closed alike v.stands) (notes-calling now (Turns (Writable k) ∷ []) (Frees k) refl) (λ set. calls-own now k (Turns (Writable k)) own none) refl refl m.told v.turns (placed-frees m)
 
     -- so does the server's or a client's
@@ -116,7 +116,7 @@ module _ {May : HouseReply → Type 0} {Rest : Resting} {before : Option (List H
           askers = askers-more v (Frees k);
           house_in = v.house_in;
           house_there = v.house_there;
-          rested = tt;
+          rested = λ picks later. tt;
           absent = λ e. refl;
           turns = v.turns;
           placed = placed-frees m;
@@ -140,7 +140,7 @@ module _ {May : HouseReply → Type 0} {Rest : Resting} {before : Option (List H
       let alike = own-silent.joins v.journal l k in
       let fresh : IsUnused v.journal seen k = v.unused k (inl (new.own, new.above)) in
       serve-quiet v (calling now (Turns (Joined l k) ∷ [])) seen' held failed given (Joins l k)
-      (record { log = alike.log; blocked = λ t client. refl; unwritten = λ t client. refl; promise = λ set. record { takes = tt; waits = tt; speaks = tt; open_streams = tt }; rested = tt; absent = λ e. refl; house = refl })
+      (record { log = alike.log; blocked = λ t client. refl; unwritten = λ t client. refl; promise = λ set. record { takes = tt; waits = tt; speaks = tt; open_streams = tt }; rested = λ set. tt; absent = λ e. refl; house = refl })
       (stands-alike v.journal (Joins l k ∷ v.journal) v.picked v.replies s v.closed alike v.stands) (notes-calling now (Turns (Joined l k) ∷ []) (Joins l k) refl) (λ set. calls-behind now (Turns (Joined l k) ∷ []) none) refl refl told v.turns record {
         of_wire = of;
         open_are = ap not_own streams ∙ (filter-append (λ (t : ℕ). not (is_own t)) seen.streams (k ∷ []) ∙ (ap (λ b. not_own seen.streams ++ cond (not b) (k ∷ []) []) new.own ∙ (append-nil (not_own seen.streams) ∙ v.open_are)));

@@ -47,7 +47,7 @@ module _ {May : HouseReply → Type 0} {Rest : Resting} {before : Option (List H
     pub blocked : (t : ℕ) → is_own_stream t ≡ false → is_blocked t (mark ∷ v.journal) ≡ is_blocked t v.journal
     pub unwritten : (t : ℕ) → is_own_stream t ≡ false → write_failed t (mark ∷ v.journal) ≡ write_failed t v.journal
     pub promise : (set : Setting) → PromiseAt set v.journal mark
-    pub rested : RestedAt Rest.rests before v.journal mark
+    pub rested : (set : Setting) → RestedAt Rest.rests set before v.journal mark
     pub absent : Rest.present ≡ false → is_by_house mark ≡ false
     pub house : is_accepted HOUSE (mark ∷ v.journal) ≡ is_accepted HOUSE v.journal
 
@@ -63,7 +63,7 @@ module _ {May : HouseReply → Type 0} {Rest : Resting} {before : Option (List H
         askers = subst (λ (l : List OpenAsk). All (λ (a : OpenAsk). IsTrue (is_accepted a.client (mark ∷ v.journal))) l) (sym asks) (askers-more mark);
         house_in = q.house ∙ (v.house_in ∙ sym within);
         house_there = λ e. v.house_there (sym within ∙ e);
-        rested = q.rested;
+        rested = λ picks later. q.rested (by_lists policy pid (v.picked ++ picks) (v.replies ++ later));
         absent = q.absent;
         turns = turns;
         placed = placed;

@@ -51,13 +51,13 @@ nothing-pending t = by_server (t == 0)
 -- ---- the end
 
 -- all of a run whose rows are known
-run-of : (May : HouseReply → Type 0) (Rest : Option (List HouseMark) → Type 0) (stands stands' : List HouseCall → Type 0) (present : Bool) (before now : Option (List HouseMark)) (policy : Policy) (pid turns : ℕ) (start told : Option (List Mark)) (refused : Option ℕ) (journal : List Mark) (picks : List ℕ) (replies : List HouseReply) (answer : Ended)
+run-of : (May : HouseReply → Type 0) (Rest : Option (List HouseMark) → List HouseCall → Type 0) (stands stands' : List HouseCall → Type 0) (present : Bool) (before now : Option (List HouseMark)) (policy : Policy) (pid turns : ℕ) (start told : Option (List Mark)) (refused : Option ℕ) (journal : List Mark) (picks : List ℕ) (replies : List HouseReply) (answer : Ended)
     → IsOfWire journal → MayGive May replies → Tells start told journal → turns_in journal ≤ turns
     → (rows : List Row)
     → Kept (by_lists policy pid picks replies) journal
     → IsLog (by_lists policy pid picks replies) journal rows
     → AreFresh rows → numbers_taken rows ≡ length picks → replies_given rows ≡ length replies
-    → (more more_asks : List HouseMark) → TellsAsks before now (house_marks journal ++ more) → asks_in (house_marks journal ++ more) ≡ asked_of rows ++ more_asks → Rested Rest before journal → (present ≡ false → All (λ (mark : Mark). is_by_house mark ≡ false) journal)
+    → (more more_asks : List HouseMark) → TellsAsks before now (house_marks journal ++ more) → asks_in (house_marks journal ++ more) ≡ asked_of rows ++ more_asks → Rested Rest (by_lists policy pid picks replies) before journal → (present ≡ false → All (λ (mark : Mark). is_by_house mark ≡ false) journal)
     → (answer ≢ ended.OutOfMemory → rows ≡ log_of_journal (by_lists policy pid picks replies) journal)
     → (answer ≢ ended.OutOfMemory → TellsAsks before now (house_marks journal))
     → (answer ≢ ended.OutOfMemory → asks_in (house_marks journal) ≡ asked_of rows)
@@ -118,7 +118,7 @@ module _ (May : HouseReply → Type 0) (Rest : Resting) (stands stands' : List H
       (subst AreFresh same fits.fresh)
       (ap numbers_taken (sym same) ∙ (fits.taken_is ∙ ap length (sym (append-nil v.picked))))
       (ap replies_given (sym same) ∙ (fits.drawn_is ∙ (v.stands.each ∙ ap length (sym (append-nil v.replies)))))
-      now.unnoted [] v.house (v.asked ∙ (sym asked ∙ sym (append-nil (asked_of rows)))) v.rested v.absent
+      now.unnoted [] v.house (v.asked ∙ (sym asked ∙ sym (append-nil (asked_of rows)))) (v.rested [] []) v.absent
       (λ ne. refl)
       (λ ne. subst (TellsAsks before now.told) all v.house)
       (λ ne. ap asks_in (sym all) ∙ (v.asked ∙ sym asked))
@@ -138,7 +138,7 @@ module _ (May : HouseReply → Type 0) (Rest : Resting) (stands stands' : List H
       p.tells p.turns left.rows left.kept left.is_log left.fresh
       (left.taken_is ∙ ap length (sym (append-nil p.picked)))
       (left.given_is ∙ (p.each ∙ ap length (sym (append-nil p.replies))))
-      p.more p.more_asks p.house (p.asked ∙ ap (λ l. l ++ p.more_asks) (sym left.asked_is)) p.rested p.absent
+      p.more p.more_asks p.house (p.asked ∙ ap (λ l. l ++ p.more_asks) (sym left.asked_is)) (p.rested [] []) p.absent
       (λ ne. absurd (ne refl))
       (λ ne. absurd (ne refl))
       (λ ne. absurd (ne refl))
@@ -184,7 +184,7 @@ starts-starved May Rest house policy pid told given = record {
   each = refl;
   house = tells-none house;
   asked = refl;
-  rested = tt;
+  rested = λ picks later. tt;
   absent = λ e. All-nil (λ (mark : Mark). is_by_house mark ≡ false);
   tells = sym (told-none told);
   of_wire = (let w = (wire-keeps (0 ∷ []) [] 0 [] [] 0 []).none in record { lawful = w.lawful; asked = w.asked });
@@ -213,7 +213,7 @@ starts May Rest now policy pid seen s stands e f clients refused unasked noted o
         askers = subst (λ (l : List OpenAsk). All (λ (a : OpenAsk). false ≡ true) l) (sym unasked) (All-nil (λ (a : OpenAsk). false ≡ true));
         house_in = sym outside;
         house_there = λ e. true-false (sym e ∙ outside);
-        rested = tt;
+        rested = λ picks later. tt;
         absent = λ e. All-nil (λ (mark : Mark). is_by_house mark ≡ false);
         tells = sym (told-none seen.told);
         of_wire = subst (λ (l : List ℕ). OfWire l seen.blocked seen.last []) (sym streams) (subst (λ (l : List ℕ). OfWire (0 ∷ []) l seen.last []) (sym blocked) (wire-keeps (0 ∷ []) [] seen.last [] [] 0 []).none);

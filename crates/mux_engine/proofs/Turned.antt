@@ -117,7 +117,7 @@ module _ {May : HouseReply → Type 0} {Rest : Resting} {before : Option (List H
     pub said : SaidBy (λ k. is_accepted k (mark ∷ v.journal) ≡ true) mark
     pub spares : (k : ℕ) → among k v.closed ≡ true → Spares k mark
     pub speaks : (picks : List ℕ) (later : List HouseReply) → SpeaksInTime (by_lists policy pid (v.picked ++ picks) (v.replies ++ later)) v.journal mark
-    pub rested : RestedAt Rest.rests before v.journal mark
+    pub rested : (set : Setting) → RestedAt Rest.rests set before v.journal mark
     pub absent : Rest.present ≡ false → is_by_house mark ≡ false
     pub turns : turns_in (mark ∷ v.journal) ≡ given'
     pub plain : house_mark mark ≡ now.unnoted

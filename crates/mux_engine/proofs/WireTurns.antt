@@ -54,7 +54,7 @@ same-marks marks = record { log = λ set. refl; bytes = λ t. refl; accepted = �
 
 module _ {May : HouseReply → Type 0} {Rest : Resting} {before : Option (List HouseMark)} {now : Side} {policy : Policy} {pid : ℕ} {start : Option (List Mark)} {seen : Seen} {held failed : List ℕ} {given : ℕ} {s : State}
     (v : Serving May Rest before now policy pid start seen held failed given [] s) (none : s.leaving ≡ []) (admitted : s.refused ≡ []) (live : s.ended ≡ None) {own : List ℕ} {queue : ℕ → List ℕ} (o : Offered seen own held failed queue)
-    (hears : seen.listens ≡ s.listening) (noted : now.unnoted ≡ []) (rests : want_of s ≡ Read → Rest.rests now.told) where
+    (hears : seen.listens ≡ s.listening) (noted : now.unnoted ≡ []) (rests : want_of s ≡ Read → Rest.rests now.told now.calls) where
   -- what holds with the call of wait
   abbrev pub now-waiting : Serving May Rest before now policy pid start (seen-waiting v none admitted live o) held failed (given + 1) [] s
   now-waiting = waited v none admitted live o hears noted rests
@@ -93,7 +93,7 @@ module _ {May : HouseReply → Type 0} {Rest : Resting} {before : Option (List H
         said = tt;
         spares = λ j c e. true-false (sym c ∙ (ap (λ i. among i v.closed) (sym e) ∙ ((v.stands.at [] []).bytes.strange k new.not_accepted).not_closed_yet));
         speaks = λ picks later. tt;
-        rested = tt;
+        rested = λ set. tt;
         absent = λ e. refl;
         turns = now-waiting.turns;
         plain = sym noted;
@@ -114,7 +114,7 @@ module _ {May : HouseReply → Type 0} {Rest : Resting} {before : Option (List H
     said = λ nz. accepted k next.0 fits.1 nz;
     spares = λ j c. tt;
     speaks = λ picks later. tt;
-    rested = tt;
+    rested = λ set. tt;
     absent = λ e. refl;
     turns = now-waiting.turns;
     plain = sym noted;
@@ -135,7 +135,7 @@ module _ {May : HouseReply → Type 0} {Rest : Resting} {before : Option (List H
     said = tt;
     spares = λ j c. tt;
     speaks = λ picks later. tt;
-    rested = tt;
+    rested = λ set. tt;
     absent = λ e. refl;
     turns = now-waiting.turns;
     plain = sym noted;
@@ -156,7 +156,7 @@ module _ {May : HouseReply → Type 0} {Rest : Resting} {before : Option (List H
     said = tt;
     spares = λ j c. tt;
     speaks = λ picks later. tt;
-    rested = tt;
+    rested = λ set. tt;
     absent = λ e. refl;
     turns = now-waiting.turns;
     plain = sym noted;

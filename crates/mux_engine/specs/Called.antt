@@ -1,5 +1,5 @@
 -- The calls of the house that a journal has, the oldest first.
-use Rattle.std.specs.Prelude.{◌≡◌, ℕ, List, [], ◌∷◌, ◌++◌, if◌then◌else◌, length, take}
+use Rattle.std.specs.Prelude.{ℕ, List, [], ◌∷◌, ◌++◌, if◌then◌else◌, length, take}
 use Rattle.mux_outside.specs.HouseCalls.{Got, End, Failed, HandsOn, Hears, HouseCall, Joined, Turns, Writable, call_of}
 use Rattle.mux_outside.specs.HouseCalls as call
 use Rattle.mux_outside.specs.OwnStreams.{is_own}
@@ -39,12 +39,9 @@ abbrev pub calls_in : Setting → List Mark → List HouseCall
 calls_in setting [] = []
 calls_in setting (mark ∷ before) = calls_in setting before ++ calls_at setting before mark
 
--- from a house that stood for these calls the other came by some more, and of all of them this is
--- so
-pub record Handed (stands stands' : List HouseCall → Type 0) (calls : List HouseCall)
-    (So : List HouseCall → Type 0) : Type 0 where
-  pub more : List HouseCall
-  pub hands : HandsOn stands stands' more
+-- the house, which was another as the run began, was handed this since, and of all of it this is so
+pub record Handed (stands stands' : List HouseCall → Type 0) (So : List HouseCall → Type 0) :
+    Type 0 where
   pub all : List HouseCall
-  pub all_are : all ≡ calls ++ more
+  pub hands : HandsOn stands stands' all
   pub so : So all

@@ -64,7 +64,8 @@ fn turn<W: Wire, H: House>(
     lists: &mut Lists,
     piece: &mut Piece,
 ) -> Result<Went, OutOfMemory>
-    requires served { ServedWith H.may (RestsOf H.told H.quiet (H.known house.old).present)
+    requires served { ServedWith H.stands house.old H.may
+        (RestsOf H.told H.quiet H.stands (H.known house.old).present)
         (noted (H.told house.old) (H.known house.old)) (W.seen wire.old) lists.old.held
         lists.old.failed [] engine.old }
     requires housed { Housed (H.known house.old) (W.seen wire.old) lists.old.own }
@@ -75,8 +76,8 @@ fn turn<W: Wire, H: House>(
     requires refused { engine.old.refused ≡ [] }
     requires on { engine.old.ended ≡ None }
     requires hears { (W.seen wire.old).listens ≡ engine.old.listening }
-    ensures serving { RunsOn result (H.stands house.old) (H.stands house.new) H.may
-        (RestsOf H.told H.quiet (H.known house.old).present)
+    ensures serving { RunsOn result H.stands house.old house.new H.may
+        (RestsOf H.told H.quiet H.stands (H.known house.old).present)
         (noted (H.told house.old) (H.known house.old))
         (noted (H.told house.new) (H.known house.new)) (W.seen wire.old) (W.seen wire.new)
         lists.old.held lists.new.held lists.old.failed lists.new.failed 1 (λ went. 1) []
@@ -151,23 +152,26 @@ fn one_turn<W: Wire, H: House>(
     lists: &mut Lists,
     piece: &mut Piece,
 ) -> Result<bool, OutOfMemory>
-    requires served { ServedWith H.may (RestsOf H.told H.quiet (H.known house.old).present)
+    requires served { ServedWith H.stands house.old H.may
+        (RestsOf H.told H.quiet H.stands (H.known house.old).present)
         (noted (H.told house.old) (H.known house.old)) (W.seen wire.old) lists.old.held
         lists.old.failed (0 ∷ here engine.old) engine.old }
     requires housed { Housed (H.known house.old) (W.seen wire.old) lists.old.own }
     requires alone { IsAlone (H.known house.old) }
     requires on { engine.old.ended ≡ None }
-    ensures serving { (calls : List TheCall) (before : Option (List TheHouseMark))
+    ensures serving { (first : H) (calls : List TheCall) (before : Option (List TheHouseMark))
         (policy : ThePolicy) (pid : ℕ) (start : Option (List TheMark)) (given : ℕ) →
-        Serving H.may (RestsOf H.told H.quiet (H.known house.old).present) before
+        HandsOn (H.stands first) (H.stands house.old) calls →
+        Serving H.may (RestsOf H.told H.quiet H.stands (H.known house.old).present first) before
         (noted (H.told house.old) (H.known house.old) calls) policy pid start (W.seen wire.old)
         lists.old.held lists.old.failed given (0 ∷ here engine.old) engine.old →
         MatchResult result
-        (λ on. Handed (H.stands house.old) (H.stands house.new) calls
-        (λ all. EndsTurn on given H.may (RestsOf H.told H.quiet (H.known house.old).present) before
+        (λ on. Handed (H.stands first) (H.stands house.new) (λ all. EndsTurn on given H.may
+        (RestsOf H.told H.quiet H.stands (H.known house.old).present first) before
         (noted (H.told house.new) (H.known house.new) all) policy pid start (W.seen wire.new)
         lists.new.held lists.new.failed (0 ∷ here engine.new) engine.new))
-        (λ e. Promised H.may (RestsOf H.told H.quiet (H.known house.old).present) before
+        (λ e. Promised H.may
+        (RestsOf H.told H.quiet H.stands (H.known house.old).present first) before
         (H.told house.new) policy pid start (W.seen wire.new).told (given + 1)) }
     ensures housed { OnOk result (Housed (H.known house.new) (W.seen wire.new) lists.new.own) }
     ensures alone { OnOk result (IsAlone (H.known house.new)) }
@@ -211,24 +215,27 @@ fn turns_of<W: Wire, H: House>(
     lists: &mut Lists,
     turns: u64,
 ) -> Result<bool, OutOfMemory>
-    requires served { ServedWith H.may (RestsOf H.told H.quiet (H.known house.old).present)
+    requires served { ServedWith H.stands house.old H.may
+        (RestsOf H.told H.quiet H.stands (H.known house.old).present)
         (noted (H.told house.old) (H.known house.old)) (W.seen wire.old) lists.old.held
         lists.old.failed (0 ∷ here engine.old) engine.old }
     requires housed { Housed (H.known house.old) (W.seen wire.old) lists.old.own }
     requires alone { IsAlone (H.known house.old) }
     requires on { engine.old.ended ≡ None }
     requires quiet { (H.known house.old).present ≡ false → engine.old.waiting ≡ [] }
-    ensures serving { (calls : List TheCall) (before : Option (List TheHouseMark))
+    ensures serving { (first : H) (calls : List TheCall) (before : Option (List TheHouseMark))
         (policy : ThePolicy) (pid : ℕ) (start : Option (List TheMark)) →
-        Serving H.may (RestsOf H.told H.quiet (H.known house.old).present) before
+        HandsOn (H.stands first) (H.stands house.old) calls →
+        Serving H.may (RestsOf H.told H.quiet H.stands (H.known house.old).present first) before
         (noted (H.told house.old) (H.known house.old) calls) policy pid start (W.seen wire.old)
         lists.old.held lists.old.failed 0 (0 ∷ here engine.old) engine.old →
         MatchResult result
-        (λ all. Handed (H.stands house.old) (H.stands house.new) calls
-        (λ handed. Spends all turns H.may (RestsOf H.told H.quiet (H.known house.old).present)
-        before (noted (H.told house.new) (H.known house.new) handed) policy pid start
+        (λ all. Handed (H.stands first) (H.stands house.new) (λ handed. Spends all turns H.may
+        (RestsOf H.told H.quiet H.stands (H.known house.old).present first) before
+        (noted (H.told house.new) (H.known house.new) handed) policy pid start
         (W.seen wire.new) lists.new.held lists.new.failed (0 ∷ here engine.new) engine.new))
-        (λ e. Promised H.may (RestsOf H.told H.quiet (H.known house.old).present) before
+        (λ e. Promised H.may
+        (RestsOf H.told H.quiet H.stands (H.known house.old).present first) before
         (H.told house.new) policy pid start (W.seen wire.new).told turns) }
     ensures housed { OnOk result (Housed (H.known house.new) (W.seen wire.new) lists.new.own) }
     ensures held_is { OnOk result (lists.new.held ≡ (W.seen wire.new).blocked) }
@@ -283,17 +290,19 @@ fn enter<W: Wire, H: House>(
 ) -> Result<(), OutOfMemory>
     requires on { engine.old.ended ≡ None }
     requires refused { engine.old.refused ≡ [] }
-    ensures serving { (calls : List TheCall) (before : Option (List TheHouseMark))
+    ensures serving { (first : H) (calls : List TheCall) (before : Option (List TheHouseMark))
         (policy : ThePolicy) (pid : ℕ) (start : Option (List TheMark)) (held failed : List ℕ)
-        (given : ℕ) →
-        (v : Serving H.may (RestsOf H.told H.quiet (H.known house.now).present) before
+        (given : ℕ) → (v : Serving H.may
+        (RestsOf H.told H.quiet H.stands (H.known house.now).present first) before
         (outside (H.told house.now) (H.known house.now) calls) policy pid start (W.seen wire.old)
         held failed given (0 ∷ here engine.old) engine.old) → v.journal ≡ [] →
         MatchResult result
-        (λ done. Serving H.may (RestsOf H.told H.quiet (H.known house.now).present) before
+        (λ done. Serving H.may
+        (RestsOf H.told H.quiet H.stands (H.known house.now).present first) before
         (noted (H.told house.now) (H.known house.now) calls) policy pid start (W.seen wire.new) held
         failed given (0 ∷ here engine.new) engine.new × (engine.new.ended ≡ None))
-        (λ e. Promised H.may (RestsOf H.told H.quiet (H.known house.now).present) before
+        (λ e. Promised H.may
+        (RestsOf H.told H.quiet H.stands (H.known house.now).present first) before
         (H.told house.now) policy pid start (W.seen wire.new).told given) }
     ensures places { SamePlaces (W.seen wire.old) (W.seen wire.new) }
     ensures alone { (H.known house.now).present ≡ false → (engine.new ≡ engine.old)
@@ -317,14 +326,15 @@ fn last_replies<W: Wire, H: House>(
     lists: &mut Lists,
     all: bool,
 ) -> Result<(), OutOfMemory>
-    requires served { ServedWith H.may (RestsOf H.told H.quiet (H.known house.old).present)
+    requires served { ServedWith H.stands house.old H.may
+        (RestsOf H.told H.quiet H.stands (H.known house.old).present)
         (noted (H.told house.old) (H.known house.old)) (W.seen wire.old) lists.old.held
         lists.old.failed (0 ∷ here engine.old) engine.old }
     requires housed { Housed (H.known house.old) (W.seen wire.old) lists.old.own }
     requires held_is { lists.old.held ≡ (W.seen wire.old).blocked }
     requires on { all ≡ true → engine.old.ended ≡ None }
-    ensures serving { RunsOn result (H.stands house.old) (H.stands house.new) H.may
-        (RestsOf H.told H.quiet (H.known house.old).present)
+    ensures serving { RunsOn result H.stands house.old house.new H.may
+        (RestsOf H.told H.quiet H.stands (H.known house.old).present)
         (noted (H.told house.old) (H.known house.old))
         (noted (H.told house.new) (H.known house.new)) (W.seen wire.old) (W.seen wire.new)
         lists.old.held lists.new.held lists.old.failed lists.new.failed 0 (λ done. 0)
@@ -358,14 +368,15 @@ fn finish<W: Wire, H: House>(
     lists: &mut Lists,
     all: bool,
 ) -> Result<(), OutOfMemory>
-    requires served { ServedWith H.may (RestsOf H.told H.quiet (H.known house.old).present)
+    requires served { ServedWith H.stands house.old H.may
+        (RestsOf H.told H.quiet H.stands (H.known house.old).present)
         (noted (H.told house.old) (H.known house.old)) (W.seen wire.old) lists.old.held
         lists.old.failed (0 ∷ here engine.old) engine.old }
     requires housed { Housed (H.known house.old) (W.seen wire.old) lists.old.own }
     requires held_is { lists.old.held ≡ (W.seen wire.old).blocked }
     requires on { all ≡ true → engine.old.ended ≡ None }
-    ensures serving { RunsOn result (H.stands house.old) (H.stands house.new) H.may
-        (RestsOf H.told H.quiet (H.known house.old).present)
+    ensures serving { RunsOn result H.stands house.old house.new H.may
+        (RestsOf H.told H.quiet H.stands (H.known house.old).present)
         (noted (H.told house.old) (H.known house.old))
         (noted (H.told house.new) (H.known house.new)) (W.seen wire.old) (W.seen wire.new)
         lists.old.held lists.new.held lists.old.failed lists.new.failed 0 (λ done. 0)
@@ -401,7 +412,8 @@ fn run<W: Wire, H: House>(
     house: &mut H,
     turns: u64,
 ) -> Result<Ended, OutOfMemory>
-    requires running { (v : ServedWith H.may (RestsOf H.told H.quiet (H.known house.old).present)
+    requires running { (v : ServedWith H.stands house.old H.may
+        (RestsOf H.told H.quiet H.stands (H.known house.old).present)
         (outside (H.told house.old) (H.known house.old)) (W.seen wire.old) [] []
         (0 ∷ here engine.old) engine.old) × (v.serving.journal ≡ []) }
     requires housed { Housed (H.known house.old) (W.seen wire.old) [] }
@@ -411,10 +423,12 @@ fn run<W: Wire, H: House>(
     requires quiet { engine.old.waiting ≡ [] }
     ensures ran { (before : Option (List TheHouseMark)) (policy : ThePolicy) (pid : ℕ)
         (start : Option (List TheMark)) →
-        (v : Serving H.may (RestsOf H.told H.quiet (H.known house.old).present) before
+        (v : Serving H.may
+        (RestsOf H.told H.quiet H.stands (H.known house.old).present house.old) before
         (outside (H.told house.old) (H.known house.old) []) policy pid start (W.seen wire.old) [] []
         0 (0 ∷ here engine.old) engine.old) → v.journal ≡ [] →
-        IsRun H.may (RestsOf H.told H.quiet (H.known house.old).present).rests
+        IsRun H.may
+        (RestsOf H.told H.quiet H.stands (H.known house.old).present house.old).rests
         (H.stands house.old) (H.stands house.new) (H.known house.old).present policy pid turns
         before (H.told house.new) start (W.seen wire.new).told
         (refused_if (H.known house.old).present (H.must house.new) (H.refused house.new))
@@ -470,7 +484,8 @@ pub fn serve<W: Wire, H: House>(
     requires own { (W.seen wire.old).own ≡ [] }
     requires listeners { (W.seen wire.old).listeners ≡ [] }
     requires blank { H.known house.old ≡ nothing_known (H.known house.old).present }
-    ensures kept { IsRun H.may (RestsOf H.told H.quiet (H.known house.old).present).rests
+    ensures kept { IsRun H.may
+        (RestsOf H.told H.quiet H.stands (H.known house.old).present house.old).rests
         (H.stands house.old) (H.stands house.new) (H.known house.old).present policy pid turns
         (H.told house.old) (H.told house.new) (W.seen wire.old).told (W.seen wire.new).told
         (refused_if (H.known house.old).present (H.must house.new) (H.refused house.new)) result }

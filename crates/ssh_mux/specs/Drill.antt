@@ -57,7 +57,8 @@ RefusesAll reply = reply ≡ Refused
 -- it has no house, so none is at rest
 abbrev pub NoneRests : Resting
 NoneRests = RestsOf {T = NoHouse} (λ house. None)
-    (λ house. record { says = true; orders = true; answers = true }) false
+    (λ house. record { says = true; orders = true; answers = true }) (λ house calls. Unit {0})
+    false (record {})
 
 -- it stands for any calls
 abbrev pub AnyCalls : List HouseCall → Type 0

@@ -2,7 +2,7 @@ use Rattle.std.proofs.Common.{◌∙◌, refl, sym, ap, arith}
 use Rattle.mux_outside.specs.House.{Known}
 use Rattle.mux_outside.specs.OwnStreams.{is_one}
 use Rattle.mux_outside.specs.Streams.{among}
-use Rattle.mux_engine.proofs.Called.{handed-none, handed-then}
+use Rattle.mux_engine.proofs.Called.{handed-none}
 use Rattle.mux_engine.proofs.Arms.{on-err, well-none, well-then}
 use Rattle.mux_engine.proofs.Cuts.{cut-still}
 use Rattle.mux_engine.proofs.Left.{own-known, own-one}
@@ -11,7 +11,7 @@ use Rattle.mux_engine.proofs.owned.own_rounds.Goals as goal
 
 pub loop-wire-init : goal.loop-wire-init
 loop-wire-init g c = record {
-  serving = λ present before now policy pid start given todo s none v. handed-none v;
+  serving = λ present first before now policy pid start given todo s none hands v. handed-none hands v;
   known = refl;
   told = refl;
   must = refl;
@@ -26,9 +26,9 @@ loop-wire-init g c = record {
 
 pub loop-wire-preserved : goal.loop-wire-preserved
 loop-wire-preserved g c = let v = c.loop-wire.invariant in let o = c.in_ok-own_round.ensures in record {
-  serving = λ present before now policy pid start given todo s none x.
-      let h = v.serving present before now policy pid start given todo s none x in
-      handed-then h (o.serving present before (record now { calls = h.all }) policy pid start given todo s none h.so);
+  serving = λ present first before now policy pid start given todo s none hands x.
+      let h = v.serving present first before now policy pid start given todo s none hands x in
+      o.serving present first before (record now { calls = h.all }) policy pid start given todo s none h.hands h.so;
   known = o.known ∙ v.known;
   told = c.own_round.ensures.told ∙ v.told;
   must = c.own_round.ensures.must ∙ v.must;
@@ -42,13 +42,13 @@ loop-wire-preserved g c = let v = c.loop-wire.invariant in let o = c.in_ok-own_r
 }
 
 pub returns-in_err-own_round-clause-serving : goal.returns-in_err-own_round-clause-serving
-returns-in_err-own_round-clause-serving g c present before now policy pid start given todo s none v =
-    let h = c.loop-wire.invariant.serving present before now policy pid start given todo s none v in
-    on-err c.from_residual-in_err-own_round.result _ _ c.from_residual-in_err-own_round.ensures.0 (c.in_err-own_round.ensures.serving present before (record now { calls = h.all }) policy pid start given todo s none h.so)
+returns-in_err-own_round-clause-serving g c present first before now policy pid start given todo s none hands v =
+    let h = c.loop-wire.invariant.serving present first before now policy pid start given todo s none hands v in
+    on-err c.from_residual-in_err-own_round.result _ _ c.from_residual-in_err-own_round.ensures.0 (c.in_err-own_round.ensures.serving present first before (record now { calls = h.all }) policy pid start given todo s none h.hands h.so)
 
 pub returns-in_err-refill-clause-serving : goal.returns-in_err-refill-clause-serving
-returns-in_err-refill-clause-serving g c present before now policy pid start given todo s none v = on-err c.from_residual.result _ _ c.from_residual.ensures.0
-    (cut-still (c.loop-wire.invariant.serving present before now policy pid start given todo s none v).so _ refl)
+returns-in_err-refill-clause-serving g c present first before now policy pid start given todo s none hands v = on-err c.from_residual.result _ _ c.from_residual.ensures.0
+    (cut-still (c.loop-wire.invariant.serving present first before now policy pid start given todo s none hands v).so _ refl)
 
 pub own_round-requires-clause-each : goal.own_round-requires-clause-each
 own_round-requires-clause-each g c = λ t a. ap (λ (k : Known). is_one t k.streams) c.loop-wire.invariant.known ∙ own-known _ _ _ c.requires.housed t (sym (ap (among t) (c.in_ok-refill.ensures.ok ∙ c.as_slice.ensures)) ∙ a)

@@ -17,9 +17,10 @@ last_replies-requires g c = record { served = c.requires.served; housed = c.requ
 
 pub flush-requires : goal.flush-requires
 flush-requires g c = let H = g.H.House in let w = c.requires.served in
-    let h = c.in_ok-last_replies.ensures.serving w.calls w.before w.policy w.pid w.start w.given w.serving in record {
+    let h = c.in_ok-last_replies.ensures.serving w.first w.calls w.before w.policy w.pid w.start w.given w.hands w.serving in record {
       served = record {
         present = (H.known c.args.house.now).present;
+        first = w.first;
         before = w.before;
         now = noted (H.told c.last_replies.new.house) (H.known c.last_replies.new.house) h.all;
         policy = w.policy;
@@ -35,7 +36,7 @@ flush-requires g c = let H = g.H.House in let w = c.requires.served in
 
 pub returns-in_err-last_replies : goal.returns-in_err-last_replies
 returns-in_err-last_replies g c = let W = g.W.Wire in let r = c.from_residual in record {
-  serving = λ calls before policy pid start given v. on-err r.result _ _ r.ensures.0 (c.in_err-last_replies.ensures.serving calls before policy pid start given v);
+  serving = λ first calls before policy pid start given hands v. on-err r.result _ _ r.ensures.0 (c.in_err-last_replies.ensures.serving first calls before policy pid start given hands v);
   known = on-err r.result _ _ r.ensures.0 tt;
   places = c.last_replies.ensures.places;
   unasked = c.last_replies.ensures.unasked;
@@ -48,9 +49,9 @@ returns-in_err-last_replies g c = let W = g.W.Wire in let r = c.from_residual in
 
 pub returns : goal.returns
 returns g c = let H = g.H.House in let W = g.W.Wire in let o = c.in_ok-last_replies.ensures in record {
-  serving = λ calls before policy pid start given v.
-      let h = o.serving calls before policy pid start given v in
-      match-more c.flush.result _ (λ x. handed-so h x) (c.flush.ensures.serving (HOUSE ∷ []) _ before _ policy pid start _ (given + 0) (to-house h.so));
+  serving = λ first calls before policy pid start given hands v.
+      let h = o.serving first calls before policy pid start given hands v in
+      match-more c.flush.result _ (λ x. handed-so h x) (c.flush.ensures.serving (HOUSE ∷ []) _ first before _ policy pid start _ (given + 0) (to-house h.so));
   known = on-ok c.flush.result (λ e. o.known) c.flush.ensures.streams;
   places = places-then _ _ _ c.last_replies.ensures.places c.flush.ensures.places;
   unasked = c.last_replies.ensures.unasked;
