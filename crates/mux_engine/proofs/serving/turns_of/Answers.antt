@@ -34,8 +34,8 @@ one_turn-requires g c = let H = g.H.House in let w = c.requires.served in let i 
     let h = i.serving w.first w.calls w.before w.policy w.pid w.start w.given w.hands w.serving in record {
       served = record {
         first = w.first;
-    calls = h.all;
-    hands = h.hands;
+        calls = h.all;
+        hands = h.hands;
         before = w.before;
         policy = w.policy;
         pid = w.pid;
@@ -54,7 +54,7 @@ loop-preserved g c = let H = g.H.House in let i = c.loop.invariant in let o = c.
       let h = i.serving first calls before policy pid start given hands v in
       let t = o.serving first h.all before policy pid start (given + c.loop.counter) h.hands (present-is (λ b. RestsOf H.told H.quiet H.stands b first) _ _ (sym i.present) h.so) in
       handed-so t (given-is (given + c.loop.counter + 1) (given + (c.loop.counter + 1)) (omega arith)
-      (went-on _ c.if-not-branch.false (ends-is (λ b. RestsOf H.told H.quiet H.stands b first) _ _ i.present t.so));
+      (went-on _ c.if-not-branch.false (ends-is (λ b. RestsOf H.told H.quiet H.stands b first) _ _ i.present t.so)));
   housed = o.housed;
   alone = o.alone;
   held_is = o.held_is;
