@@ -1,6 +1,6 @@
 -- What becomes of the relays as one of them changes, comes or goes.
 use Rattle.std.proofs.Common.{◌≡◌, ◌∙◌, refl, sym, ap, subst, ℕ, zero, suc, ◌+◌, ◌<◌, ◌≤◌, Bool, true, false, List, [], ◌∷◌, ◌++◌, length, get_or, set, take, drop, Option, Some, None, arith}
-use Rattle.std.specs.Prelude.{◌&&◌, not, IfSome, is_some}
+use Rattle.std.specs.Prelude.{◌&&◌, not, IfSome, is_some, find}
 use Rattle.std.specs.List.{All, list_any, filter_map, cons_option, position, remove, sum_by}
 use Rattle.std.proofs.lemmas.Bool.{and_parts, or_left, or_right}
 use Rattle.std.proofs.lemmas.List.Elements.{All-set, All-append, All-take, All-drop, All-push, filter_map-append}
@@ -16,7 +16,7 @@ use Rattle.house_forward.specs.declared.link.Link.{Link}
 use Rattle.house_forward.specs.declared.link.Stream.{Stream}
 use Rattle.house_forward.specs.declared.link.Stream.TheVariants.{Offered, Awaited, Made, Gone}
 use Rattle.mux_outside.specs.House.{gives_none}
-use Rattle.house_forward.proofs.Lists.{kept-set, kept-remove, one-passes}
+use Rattle.house_forward.proofs.Lists.{kept-set, kept-remove, one-passes, found-first}
 use Rattle.house_forward.proofs.Streams.{distinct-more}
 
 abbrev Few : List Link → Type 0
@@ -218,6 +218,12 @@ more_distinct ls y d free = ap are_distinct (filter_map-append (λ (l : Link). o
 
 pub passes-at : (p : Link → Bool) (ls : List Link) (i : ℕ) (x : Link) → position p ls ≡ Some i → x ≡ get_or ls i x → p x ≡ true
 passes-at p ls i x e at = subst (λ (z : Link). p z ≡ true) (sym at) (position-Some p ls i x e).1
+
+-- it is found
+pub first-is : (p : Link → Bool) (ls : List Link) (i : ℕ) (x : Link) → position p ls ≡ Some i → x ≡ get_or ls i x → find p ls ≡ Some x
+first-is p ls i x e at =
+    let first = position-Some p ls i x e in
+    found-first p ls i x first.0 first.1 first.2 ∙ ap (λ (z : Link). Some z) (sym at)
 
 pub one-at : (p : Link → Bool) (ls : List Link) (i : ℕ) (d : Link) → position p ls ≡ Some i → list_any p ls ≡ true
 one-at p ls i d e = let first = position-Some p ls i d e in one-passes p ls i d first.0 first.1

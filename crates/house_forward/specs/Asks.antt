@@ -7,6 +7,20 @@ use Rattle.house_forward.specs.declared.asks.Outcome.{Outcome}
 use Rattle.house_forward.specs.declared.asks.Outcome.TheVariants.{Done, Port, Refused}
 use Rattle.house_forward.specs.declared.asks.Waiting.{Waiting}
 
+-- whether a client has an ask with this id
+abbrev pub has_open : ℕ → ℕ → List Waiting → Bool
+has_open client id waiting = list_any (λ w. (w.client == client) && (w.id == id)) waiting
+
+-- an ask that waits for the fate of a forwarding
+abbrev pub waiting_for : ℕ → ℕ → Bool → ℕ → Waiting
+waiting_for client id opening serial = record {
+  client = client;
+  id = id;
+  opening = opening;
+  forwarding = serial;
+  outcome = None;
+}
+
 -- ---- what an ask came to
 
 abbrev pub is_settled : Option (ℕ × Outcome) → Bool

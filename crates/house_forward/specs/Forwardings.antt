@@ -1,10 +1,15 @@
 -- The forwardings of the house, and what comes of an ask by those that stand.
-use Rattle.std.specs.Prelude.{◌≡◌, ℕ, Bool, true, false, not, ◌&&◌, if◌then◌else◌, ◌==◌, nat_lt, List, [], ◌∷◌, ◌++◌, length, map, filter, find, is_some, IsTrue, Option, Some, None}
+use Rattle.std.specs.Prelude.{◌≡◌, ℕ, Bool, true, false, not, ◌&&◌, if◌then◌else◌, ◌==◌, nat_lt, List, [], ◌∷◌, ◌++◌, length, map, filter, find, get_or, is_some, IfSome, IsTrue, Option, Some, None}
 use Rattle.std.specs.List.{list_any, filter_map}
 use Rattle.std.specs.Str.{bytes_eq}
 use Rattle.mux_outside.specs.Streams.{among, without}
 use Rattle.house_forward.specs.Asks.{owes_opening, settled, refused}
-use Rattle.house_forward.specs.Rules.{listens_here, same_kind}
+use Rattle.mux_outside.specs.declared.order.Order.{Order}
+use Rattle.mux_outside.specs.declared.order.Order.TheVariants as order
+use Rattle.mux_outside.specs.declared.house.HouseReply.{HouseReply}
+use Rattle.mux_outside.specs.declared.house.HouseReply.TheVariants as reply
+use Rattle.mux_outside.specs.declared.start_ask.StartAsk.{StartAsk}
+use Rattle.house_forward.specs.Rules.{listens_here, same_kind, is_refused_alone, AreEnds}
 use Rattle.house_forward.specs.declared.asks.Outcome.{Outcome}
 use Rattle.house_forward.specs.declared.asks.Outcome.TheVariants.{Done, Port, Refused}
 use Rattle.house_forward.specs.declared.asks.Waiting.{Waiting}
@@ -97,6 +102,20 @@ is_first Requested = false
 is_first (Live port) = false
 is_first (Cancelling port) = false
 
+-- the host at which a listener is to be ordered, and else this one
+abbrev pub host_at : Stage → List ℕ → List ℕ
+host_at (ToListen texts) host = texts.one
+host_at Ordered host = host
+host_at (Listening l) host = host
+host_at ToRequest host = host
+host_at Requested host = host
+host_at (Live port) host = host
+host_at (Cancelling port) host = host
+
+-- a listener is to be ordered at this host
+abbrev pub IsAt : Stage → List ℕ → Type 0
+IsAt stage host = host_at stage host ≡ host
+
 -- a forwarding that is asked for
 pub record IsAskedFor (ends : Ends) (serial : ℕ) (start : Option ℕ) (f : Forwarding) : Type 0 where
   pub serial_is : f.serial ≡ serial
@@ -106,6 +125,7 @@ pub record IsAskedFor (ends : Ends) (serial : ℕ) (start : Option ℕ) (f : For
   pub connects : f.connect_host ≡ ends.connect_host.now
   pub connect_port_is : f.connect_port ≡ ends.connect_port
   pub first : is_first f.stage ≡ true
+  pub place : IsAt f.stage f.listen_host
   pub open_yet : f.closing ≡ false
   pub start_is : f.start ≡ start
 
@@ -137,6 +157,36 @@ abbrev pub closes_of : Option Forwarding → Asked
 closes_of None = Now Refused
 closes_of (Some f) = if f.closing then Now Refused else Later f.serial
 
+abbrev pub comes_of_ends : Bool → ℕ → Ends → List Forwarding → Asked
+comes_of_ends true serial ends fs = opens_of serial ends fs (standing ends fs)
+comes_of_ends false serial ends fs = closes_of (standing ends fs)
+
+-- what comes of an ask that is refused whatever stands, or of the two ends of another
+abbrev pub ComesIf : Bool → Bool → Bool → StartAsk → ℕ → List Forwarding → Asked → Type 0
+ComesIf true gateway opening ask serial fs asked = asked ≡ Now Refused
+ComesIf false gateway opening ask serial fs asked =
+    (ends : Ends) × AreEnds gateway ask ends × (asked ≡ comes_of_ends opening serial ends fs)
+
+abbrev pub Comes : Bool → Bool → StartAsk → ℕ → List Forwarding → Asked → Type 0
+Comes gateway opening ask serial fs asked =
+    ComesIf (is_refused_alone ask) gateway opening ask serial fs asked
+
+abbrev pub reply_to : Asked → HouseReply
+reply_to (Now Done) = reply.Done
+reply_to (Now (Port port)) = reply.Port port
+reply_to (Now Refused) = reply.Refused
+reply_to (Later serial) = reply.Later
+
+-- one whose client has an open ask with its id is refused
+abbrev pub ComesUnless : Bool → Bool → Bool → StartAsk → ℕ → List Forwarding → Asked → Type 0
+ComesUnless true gateway opening ask serial fs asked = asked ≡ Now Refused
+ComesUnless false gateway opening ask serial fs asked = Comes gateway opening ask serial fs asked
+
+-- the reply to an ask
+abbrev pub Replies : Bool → Bool → Bool → StartAsk → ℕ → List Forwarding → HouseReply → Type 0
+Replies has gateway opening ask serial fs answer =
+    (asked : Asked) × ComesUnless has gateway opening ask serial fs asked × (answer ≡ reply_to asked)
+
 abbrev pub requests_at : Stage → Bool → Bool
 requests_at (ToListen host) closing = false
 requests_at Ordered closing = false
@@ -149,6 +199,19 @@ requests_at (Cancelling port) closing = false
 -- whether a request is to be said for it: to listen, or to do so no longer
 abbrev pub has_request : Forwarding → Bool
 has_request f = requests_at f.stage f.closing
+
+abbrev pub request_at : Stage → ℕ → Request
+request_at (ToListen host) serial = Listen serial
+request_at Ordered serial = Listen serial
+request_at (Listening l) serial = Listen serial
+request_at ToRequest serial = Listen serial
+request_at Requested serial = Listen serial
+request_at (Live port) serial = Cancel serial
+request_at (Cancelling port) serial = Listen serial
+
+-- the request that is to be said for it: where the server listens it is to do so no longer
+abbrev pub request_of : Forwarding → Request
+request_of f = request_at f.stage f.serial
 
 -- ---- listeners
 
@@ -260,6 +323,23 @@ Orders (Unlistens l) waiting old new = IsTrue (among l (listeners_of old))
     × (listeners_of new ≡ without l (listeners_of old))
     × ((serial : ℕ) × (next_of waiting old ≡ Some (want.Unlisten serial l)))
 
+-- a Listen is where the first that has no listener yet is to listen
+abbrev pub ListensFor : ListenerOrder → Option Forwarding → Type 0
+ListensFor (ListensAt host port) None = ⊥
+ListensFor (ListensAt host port) (Some f) = (host.one ≡ f.listen_host) × (port ≡ f.listen_port)
+ListensFor (Unlistens l) first = Unit {0}
+
+abbrev pub ListensFirst : Option Order → List Forwarding → Type 0
+ListensFirst None fs = Unit {0}
+ListensFirst (Some (order.Listen host port)) fs =
+    IfSome (find to_listen fs) (λ f. (host ≡ f.listen_host) × (port ≡ f.listen_port))
+ListensFirst (Some (order.Connect host port)) fs = Unit {0}
+ListensFirst (Some (order.Unlisten l)) fs = Unit {0}
+ListensFirst (Some (order.Pause t)) fs = Unit {0}
+ListensFirst (Some (order.Resume t)) fs = Unit {0}
+ListensFirst (Some (order.Finish t)) fs = Unit {0}
+ListensFirst (Some (order.Close t)) fs = Unit {0}
+
 -- for how many marks an order about a listener needs room at once
 abbrev pub marks_in : Option ListenerOrder → ℕ
 marks_in None = 0
@@ -338,6 +418,21 @@ abbrev pub Opens : Bool → Ends → ℕ → Option ℕ → List Forwarding → 
 Opens false ends serial start old new = new ≡ old
 Opens true ends serial start old new =
     (f : Forwarding) × IsAskedFor ends serial start f × (new ≡ old ++ f ∷ [])
+
+-- a request that was said is unanswered
+abbrev pub after_saying : Request → List Forwarding → List Forwarding
+after_saying (Listen serial) fs = map (changed change.Request serial) fs
+after_saying (Cancel serial) fs = map (changed change.Cancel serial) fs
+
+-- the first of those asked for at the start that was refused, with one more
+abbrev pub first_refused : Option ℕ → Option ℕ → Option ℕ
+first_refused None start = start
+first_refused (Some first) start = Some first
+
+-- the forwarding at a place can't be had
+abbrev pub FailsAt : ℕ → List Forwarding → Option ℕ → Option ℕ → Type 0
+FailsAt i fs old new =
+    (f : Forwarding) × (f ≡ get_or fs i f) × (new ≡ first_refused old f.start)
 
 -- ---- replies of the server
 

@@ -1,6 +1,8 @@
 pub mod Asks
 pub mod Due
 pub mod Forwardings
+pub mod Going
+pub mod Heard
 pub mod Known
 pub mod Links
 pub mod Quiet

@@ -1,19 +1,23 @@
 -- The relays of the house, each with its stream.
-use Rattle.std.specs.Prelude.{◌≡◌, ℕ, Bool, true, false, not, ◌&&◌, if◌then◌else◌, ◌==◌, List, [], ◌∷◌, ◌++◌, map, find, is_some, Option, Some, None}
+use Rattle.std.specs.Prelude.{◌≡◌, ℕ, Bool, true, false, not, ◌&&◌, if◌then◌else◌, ◌==◌, nat_le, List, [], ◌∷◌, ◌++◌, length, map, filter, find, is_some, IfSome, Option, Some, None}
 use Rattle.mux_outside.specs.OwnStreams.{new_stream, is_one, is_finished}
 use Rattle.mux_outside.specs.declared.order.Order.{Order}
 use Rattle.mux_outside.specs.declared.order.Order.TheVariants.{Listen, Connect, Unlisten}
 use Rattle.mux_outside.specs.declared.order.Order.TheVariants as order
 use Rattle.mux_outside.specs.declared.own_streams.OwnStream.{OwnStream}
 use Rattle.std.specs.List.{list_any, filter_map}
+use Rattle.house_relay.specs.Line.{counts}
 use Rattle.house_relay.specs.Next.{says_of, orders_of}
 use Rattle.house_relay.specs.Relay.{stream_of, stuck_in, OrdersRight}
-use Rattle.house_relay.specs.Steps.{is_gone, connected, failing, said_of, fresh_relay}
-use Rattle.house_relay.specs.declared.line.Line.TheVariants.{Offered as OfServer}
+use Rattle.house_relay.specs.Steps.{is_gone, connected, failing, said_of, fresh_relay, fresh_dialing}
+use Rattle.house_relay.specs.declared.line.Line.TheVariants.{Asked, Over, Offered as OfServer}
 use Rattle.house_relay.specs.declared.relay.Relay.{Relay}
 use Rattle.house_relay.specs.declared.relay.Saying.{Saying}
 use Rattle.house_relay.specs.declared.relay.Socket.TheVariants as socket
 use Rattle.house_forward.specs.declared.forwarding.Forwarding.{Forwarding}
+use Rattle.house_forward.specs.declared.rules.Kind.{Kind}
+use Rattle.house_forward.specs.declared.rules.Kind.TheVariants.{Local, Remote, Dynamic}
+use Rattle.house_forward.specs.declared.rules.TheConstants.{MOST_CHANNELS}
 use Rattle.house_forward.specs.declared.link.Link.{Link}
 use Rattle.house_forward.specs.declared.link.Step.{Step}
 use Rattle.house_forward.specs.declared.link.Step.TheVariants.{Pause, Finish, End, Close, Writable, Failed}
@@ -107,6 +111,21 @@ is_without Gone = true
 abbrev pub is_left : Link → Bool
 is_left l = is_without l.stream && is_gone l.relay
 
+-- whether it has a channel, or is to have one
+abbrev pub is_channel : Link → Bool
+is_channel l = counts l.relay.line
+
+abbrev pub channels : List Link → ℕ
+channels links = length (filter is_channel links)
+
+-- whether the house has all channels that it may have
+abbrev pub is_full : List Link → Bool
+is_full links = nat_le MOST_CHANNELS (channels links)
+
+-- whether the house's own number of a channel is this one
+abbrev pub is_number_of : ℕ → List Link → Bool
+is_number_of number links = list_any (λ l. l.relay.number == number) links
+
 -- ---- steps
 
 abbrev pub stream_after : Step → Stream → Stream
@@ -195,6 +214,18 @@ ConnectsAt host port Awaited = ⊥
 ConnectsAt host port (Made own) = ⊥
 ConnectsAt host port Gone = ⊥
 
+-- a Connect is to where the first socket that is to be connected is to go
+abbrev pub ConnectsFirst : Option Order → List Link → Type 0
+ConnectsFirst None links = Unit {0}
+ConnectsFirst (Some (Listen host port)) links = Unit {0}
+ConnectsFirst (Some (Connect host port)) links =
+    IfSome (find is_offered links) (λ l. ConnectsAt host port l.stream)
+ConnectsFirst (Some (Unlisten l)) links = Unit {0}
+ConnectsFirst (Some (order.Pause t)) links = Unit {0}
+ConnectsFirst (Some (order.Resume t)) links = Unit {0}
+ConnectsFirst (Some (order.Finish t)) links = Unit {0}
+ConnectsFirst (Some (order.Close t)) links = Unit {0}
+
 -- one relay more, for which a socket is to be connected where this forwarding connects
 pub record Offers (f : Forwarding) (remote window maximum : ℕ) (old new : List Link) : Type 0 where
   pub number : ℕ
@@ -204,3 +235,29 @@ pub record Offers (f : Forwarding) (remote window maximum : ℕ) (old new : List
     relay = fresh_relay number (OfServer remote window maximum) socket.Unmade;
     stream = stream;
   } ∷ []
+
+-- ---- what is joined at a listener
+
+-- the channel is to be to where the forwarding connects, or to where a dialog says
+abbrev pub IsJoinedAt : Kind → Forwarding → ℕ → Relay → Type 0
+IsJoinedAt Local f t r =
+    r ≡ fresh_relay r.number (Asked f.connect_host f.connect_port None) (socket.Open t)
+IsJoinedAt Remote f t r =
+    r ≡ fresh_relay r.number (Asked f.connect_host f.connect_port None) (socket.Open t)
+IsJoinedAt Dynamic f t r = r ≡ fresh_relay r.number fresh_dialing (socket.Open t)
+
+abbrev pub IsSurplus : ℕ → Relay → Type 0
+IsSurplus t r = r ≡ fresh_relay r.number Over (socket.Surplus t)
+
+-- the relay of a socket that is joined: where the house has all channels that it may have, it is closed
+abbrev pub IsJoined : Bool → Option Forwarding → ℕ → Relay → Type 0
+IsJoined true f t r = IsSurplus t r
+IsJoined false None t r = IsSurplus t r
+IsJoined false (Some f) t r = IsJoinedAt f.kind f t r
+
+-- one relay more, for a socket that is joined
+pub record Joins (full : Bool) (f : Option Forwarding) (t : ℕ) (old new : List Link) : Type 0 where
+  pub relay : Relay
+  pub joined : IsJoined full f t relay
+  pub free : is_number_of relay.number old ≡ false
+  pub more : new ≡ old ++ record { relay = relay; stream = Made (new_stream t) } ∷ []

@@ -2,7 +2,7 @@
 ghost use Rattle.std.specs.Prelude.{◌≡◌, ◌≤◌, ◌+◌, ◌++◌, ◌∷◌, [], length, OnOk, None};
 ghost use Rattle.std.specs.List.{position};
 ghost use Rattle.mux_outside.specs.House.{AnswerFits, gives_none, is_ask};
-ghost use Rattle.house_forward.specs.Asks.{settle_one, settled, refused, counted, owes_opening, earlier, earliest, stamp_of, reply_of, answer_of, answers_in};
+ghost use Rattle.house_forward.specs.Asks.{has_open, waiting_for, settle_one, settled, refused, counted, owes_opening, earlier, earliest, stamp_of, reply_of, answer_of, answers_in};
 ghost use Rattle.house_forward.specs.Known.{open_ask, open_asks, asks_after_answer};
 ghost use Rattle.house_forward.specs.Quiet.{answers_none};
 
@@ -65,7 +65,9 @@ impl Asks {
     }
 
     /// Whether a client has an ask with this id.
-    pub fn has(&self, client: u64, id: u32) -> bool {
+    pub fn has(&self, client: u64, id: u32) -> bool
+        ensures { result ≡ has_open client id self.now.waiting.items }
+    {
         self.waiting
             .iter()
             .any(|w| w.client == client && w.id == id)
@@ -79,6 +81,8 @@ impl Asks {
         opening: bool,
         forwarding: u64,
     ) -> Result<(), OutOfMemory>
+        ensures waits { OnOk result (self.new.waiting.items ≡ self.old.waiting.items
+            ++ waiting_for client id opening forwarding ∷ []) }
         ensures ok { OnOk result (open_asks self.new.waiting.items
             ≡ open_asks self.old.waiting.items
             ++ record { client = client; id = id; opening = opening } ∷ []) }

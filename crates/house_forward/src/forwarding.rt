@@ -1,6 +1,7 @@
 //! One forwarding of the house.
-ghost use Rattle.std.specs.Prelude.{◌≡◌, true, not, is_some, IfOk, None, Some};
-ghost use Rattle.house_forward.specs.Forwardings.{counts, listens_at, connects_to, outcome_of, bound_of, listener_of, is_first, as_first, has_request, IsAskedFor};
+ghost use Rattle.std.specs.Prelude.{◌≡◌, true, not, is_some, IfOk, IfSome, None, Some};
+ghost use Rattle.house_forward.specs.Forwardings.{counts, listens_at, connects_to, outcome_of, bound_of, listener_of, is_first, as_first, has_request, request_of, IsAt, IsAskedFor};
+ghost use Rattle.house_forward.specs.Said.{request_name, request_port};
 ghost use Rattle.house_forward.specs.Forwardings.{to_listen, has_listener, changed, stage_after, bound_to, granted, is_asked, is_cancelled, is_to_listen, is_pending, want_in, served_at};
 
 use crate::asks::{Asked, Asks, Outcome};
@@ -195,6 +196,9 @@ impl Forwarding {
         ensures ordered { is_to_listen self.old.stage ≡ true
             → self.new ≡ record self.old { stage = Stage.Ordered } }
         ensures none { result ≡ None → self.new ≡ self.old }
+        ensures port { IfSome result (λ r. r.1 ≡ self.old.listen_port) }
+        ensures host { IfSome result (λ r. IsAt self.old.stage self.old.listen_host
+            → r.0.one ≡ self.old.listen_host) }
     {
         match &self.stage {
             Stage::ToListen(_) => {}
@@ -339,10 +343,47 @@ impl Forwarding {
     }
 
     /// The request that is to be said for it, where there is one.
-    pub fn request(&self) -> Request {
+    pub fn request(&self) -> Request
+        ensures { result ≡ request_of self.now }
+    {
         match self.stage {
             Stage::Live(_) => Request::Cancel(self.serial),
-            _ => Request::Listen(self.serial),
+            Stage::ToListen(_)
+            | Stage::Ordered
+            | Stage::Listening(_)
+            | Stage::ToRequest
+            | Stage::Requested
+            | Stage::Cancelling(_) => Request::Listen(self.serial),
+        }
+    }
+
+    /// The name of that request (RFC 4254, section 7.1).
+    pub fn request_name(&self) -> &[u8]
+        ensures { result.now ≡ request_name self.now.stage }
+    {
+        match self.stage {
+            Stage::Live(_) => b"cancel-tcpip-forward",
+            Stage::ToListen(_)
+            | Stage::Ordered
+            | Stage::Listening(_)
+            | Stage::ToRequest
+            | Stage::Requested
+            | Stage::Cancelling(_) => b"tcpip-forward",
+        }
+    }
+
+    /// The port that it names: the one on which the server listens, once it does.
+    pub fn request_port(&self) -> u32
+        ensures { result ≡ request_port self.now.stage self.now.listen_port }
+    {
+        match self.stage {
+            Stage::Live(port) => port,
+            Stage::ToListen(_)
+            | Stage::Ordered
+            | Stage::Listening(_)
+            | Stage::ToRequest
+            | Stage::Requested
+            | Stage::Cancelling(_) => self.listen_port,
         }
     }
 
@@ -378,7 +419,8 @@ impl Forwarding {
 
 /// What is to be done first.
 fn first_stage(alloc: Global, ends: Ends<'_>) -> Result<Stage, OutOfMemory>
-    ensures { IfOk result (λ stage. is_first stage ≡ true) }
+    ensures first { IfOk result (λ stage. is_first stage ≡ true) }
+    ensures place { IfOk result (λ stage. IsAt stage ends.entry.listen_host.now) }
 {
     match ends.kind {
         Kind::Local | Kind::Dynamic => {

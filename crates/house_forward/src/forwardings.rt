@@ -1,6 +1,6 @@
 //! The forwardings of the house, in order of asking.
-ghost use Rattle.std.specs.Prelude.{◌≡◌, ◌≤◌, ◌<◌, ◌+◌, ◌++◌, [], None, true, false, not, length, map, IfOk, IfSome, OnOk, Some, find, filter, is_some};
-ghost use Rattle.std.specs.List.{position, remove, sum_by};
+ghost use Rattle.std.specs.Prelude.{◌≡◌, ◌≤◌, ◌<◌, ◌+◌, ◌++◌, ◌∷◌, [], None, true, false, not, length, map, IfOk, IfSome, OnOk, Some, find, filter, is_some};
+ghost use Rattle.std.specs.List.{All, position, remove, sum_by};
 ghost use Rattle.std.specs.Option.{option_copied};
 ghost use Rattle.mux_outside.specs.House.{gives_none};
 ghost use Rattle.mux_outside.specs.Streams.{among, without};
@@ -8,8 +8,9 @@ ghost use Rattle.house_forward.specs.Asks.{refused};
 ghost use Rattle.house_forward.specs.Due.{forwarding_due};
 ghost use Rattle.house_forward.specs.Known.{open_asks};
 ghost use Rattle.house_forward.specs.Forwardings.{standing, how_many, opens_of, closes_of, has_request, is_first};
+ghost use Rattle.house_forward.specs.Forwardings.{first_refused, FailsAt, IsAt, ListensFor};
 ghost use Rattle.house_forward.specs.Forwardings.{listeners_of, is_pending, to_listen, is_first_to_listen, IsListen, is_ordered_first, is_in_order, next_of, changed, after_close, is_new, Opens};
-ghost use Rattle.house_forward.specs.Forwardings.{is_asked, is_cancelled, live_in, replied_asks, first_of, ordered_asks, served_at, serial_of, Orders, marks_in, listeners_made, has_listener};
+ghost use Rattle.house_forward.specs.Forwardings.{is_asked, is_cancelled, live_in, replied_asks, after_saying, first_of, ordered_asks, served_at, serial_of, Orders, marks_in, listeners_made, has_listener};
 
 use crate::asks::{Asked, Asks, Outcome};
 use crate::forwarding::{Change, Forwarding, Request, Stage};
@@ -50,6 +51,7 @@ pub struct Forwardings {
     /// The first of those asked for at the start that was refused.
     pub refused: Option<usize>,
     ghost in_order: { is_in_order all.items ≡ true },
+    ghost placed: { All (λ f. IsAt f.stage f.listen_host) all.items },
 }
 
 impl Forwardings {
@@ -73,13 +75,14 @@ impl Forwardings {
         self.all.len()
     }
 
-    /// One of those asked for at the start is refused.
-    fn refuse_start(&mut self, start: usize)
+    /// One of those asked for at the start is refused, if one is meant.
+    fn refuse_start(&mut self, start: Option<usize>)
         ensures all { self.new.all ≡ self.old.all }
         ensures serials { self.new.serials ≡ self.old.serials }
+        ensures refused { self.new.refused ≡ first_refused self.old.refused start }
     {
         if self.refused.is_none() {
-            self.refused = Some(start);
+            self.refused = start;
         }
     }
 
@@ -121,7 +124,7 @@ impl Forwardings {
     }
 
     /// An ask to open a forwarding.
-    #[tactic(auto, using(crate::proofs::InOrder::order_more, crate::proofs::InOrder::listeners_more, crate::proofs::InOrder::first_listens,))]
+    #[tactic(auto, using(crate::proofs::InOrder::order_more, crate::proofs::InOrder::listeners_more, crate::proofs::InOrder::first_listens, crate::proofs::Placed::placed_more))]
     pub fn open(&mut self, ends: Ends<'_>, start: Option<usize>) -> Result<Asked, OutOfMemory>
         ensures exact { IfOk result (λ asked. asked ≡ opens_of self.old.serials ends.entry
             self.old.all.items (standing ends.entry self.old.all.items)) }
@@ -160,7 +163,7 @@ impl Forwardings {
                 None => Asked::Now(Outcome::Refused),
             };
             match asked {
-                Asked::Now(Outcome::Refused) => self.refuse_start(i),
+                Asked::Now(Outcome::Refused) => self.refuse_start(Some(i)),
                 Asked::Now(_) | Asked::Later(_) => {}
             }
         }
@@ -234,6 +237,8 @@ impl Forwardings {
             ≡ not (is_some (next_of asks.old.waiting.items self.old.all.items)) }
         ensures orders { IfSome result (λ o. Orders o asks.old.waiting.items self.old.all.items
             self.new.all.items) }
+        ensures place { IfSome result
+            (λ o. ListensFor o (find to_listen self.old.all.items)) }
         ensures due { sum_by forwarding_due self.new.all.items + marks_in result
             ≤ sum_by forwarding_due self.old.all.items }
         ensures open { open_asks asks.new.waiting.items ≡ open_asks asks.old.waiting.items }
@@ -256,6 +261,8 @@ impl Forwardings {
         requires { is_first_to_listen (find to_listen self.old.all.items) ≡ true }
         ensures some { gives_none result ≡ false }
         ensures listen { IfSome result (λ o. IsListen o) }
+        ensures place { IfSome result
+            (λ o. ListensFor o (find to_listen self.old.all.items)) }
         ensures listeners { listeners_of self.new.all.items
             ≡ listeners_of self.old.all.items }
         ensures first { is_ordered_first (find to_listen self.new.all.items) ≡ true }
@@ -274,6 +281,8 @@ impl Forwardings {
         requires place { position to_listen self.old.all.items ≡ Some i }
         requires first { is_first_to_listen (find to_listen self.old.all.items) ≡ true }
         ensures some { is_some result ≡ true }
+        ensures place { IfSome result (λ r. ListensFor (ListenerOrder.Listen r.0 r.1)
+            (find to_listen self.old.all.items)) }
         ensures listeners { listeners_of self.new.all.items
             ≡ listeners_of self.old.all.items }
         ensures first { is_ordered_first (find to_listen self.new.all.items) ≡ true }
@@ -327,12 +336,11 @@ impl Forwardings {
     /// A forwarding can't be had.
     fn fail(&mut self, i: usize)
         requires { i < length self.old.all.items }
-        ensures { self.new.all.items ≡ remove self.old.all.items i }
+        ensures all { self.new.all.items ≡ remove self.old.all.items i }
+        ensures refused { FailsAt i self.old.all.items self.old.refused self.new.refused }
     {
         let f = self.all.remove(i);
-        if let Some(start) = f.start {
-            self.refuse_start(start);
-        }
+        self.refuse_start(f.start);
     }
 
     /// The forwarding whose request is to be said next, if any.
@@ -344,6 +352,10 @@ impl Forwardings {
 
     /// A request is said now.
     pub fn said(&mut self, request: Request) -> Result<(), OutOfMemory>
+        ensures all { OnOk result
+            (self.new.all.items ≡ after_saying request self.old.all.items) }
+        ensures requests { OnOk result
+            (self.new.requests.items ≡ self.old.requests.items ++ request ∷ []) }
         ensures listeners { listeners_of self.new.all.items
             ≡ listeners_of self.old.all.items }
         ensures count { length self.new.all.items ≡ length self.old.all.items }

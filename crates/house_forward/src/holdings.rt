@@ -1,17 +1,19 @@
 //! All that the house has but its notes.
-ghost use Rattle.std.specs.Prelude.{ℕ, ◌≡◌, ◌≤◌, ◌<◌, ◌+◌, ◌++◌, ◌∷◌, [], true, false, length, find, is_some, OnOk, IfOk, IfSome, IsSome, None, Ok};
-ghost use Rattle.mux_outside.specs.House.{SaysFits, says_nothing, gives_none, order_marks, OrderFits, NumberFits, OwnTurnFits, nothing_known};
+ghost use Rattle.std.specs.Prelude.{ℕ, ◌≡◌, ◌≤◌, ◌<◌, ◌+◌, ◌++◌, ◌∷◌, [], true, false, length, find, is_some, OnOk, IfOk, IfSome, IsSome, None, Some, Ok};
+ghost use Rattle.mux_outside.specs.House.{SaysFits, says_nothing, gives_none, order_marks, OrderFits, NumberFits, OwnTurnFits, nothing_known, ask_of};
 ghost use Rattle.mux_outside.specs.House.{known_after_ask, known_after_order, known_after_ordered, known_after_own_turn, queue_after_took};
 ghost use Rattle.mux_outside.specs.OwnStreams.{is_one, new_stream};
 ghost use Rattle.mux_outside.specs.declared.piece.TheConstants.{LONGEST_PIECE};
+ghost use Rattle.house_forward.specs.Asks.{has_open};
 ghost use Rattle.house_forward.specs.Due.{due, most_due};
-ghost use Rattle.house_forward.specs.Forwardings.{listeners_of, has_request};
+ghost use Rattle.house_forward.specs.Forwardings.{listeners_of, has_request, request_of, has_listener, ComesUnless, Replies, ListensFirst};
 ghost use Rattle.house_forward.specs.Known.{known_of, ordering_of, is_there};
-ghost use Rattle.house_forward.specs.Links.{streams_of, queue_at};
+ghost use Rattle.house_forward.specs.Links.{streams_of, queue_at, is_full, ConnectsFirst, IsJoined, IsJoinedAt, Joins};
 ghost use Rattle.house_forward.specs.Quiet.{quiet_of, says_none, orders_none};
+ghost use Rattle.house_forward.specs.Said.{framed, request_payload};
 
 use crate::asks::{Asked, Asks, Outcome};
-use crate::forwarding::Request;
+use crate::forwarding::{Forwarding, Request};
 use crate::forwardings::{Forwardings, ListenerOrder};
 use crate::hearing::hear;
 use crate::link::{Link, Step, Stream};
@@ -127,6 +129,10 @@ impl Holdings {
             ≡ known_after_ask reply client id opening (known_of
             self.old.forwardings.all.items self.old.relays.all.items
             self.old.asks.waiting.items self.old.ordering)) }
+        ensures exact { IfOk result (λ reply. Replies
+            (has_open client id self.old.asks.waiting.items) self.old.gateway opening
+            (ask_of what.now) self.old.forwardings.serials
+            self.old.forwardings.all.items reply) }
         ensures must { self.new.must ≡ self.old.must }
         ensures forwardings { length self.new.forwardings.all.items
             ≤ length self.old.forwardings.all.items + 1 }
@@ -134,12 +140,7 @@ impl Holdings {
         ensures asks { length self.new.asks.waiting.items
             ≤ length self.old.asks.waiting.items + 1 }
     {
-        let came = if self.asks.has(client, id) {
-            Asked::Now(Outcome::Refused)
-        } else {
-            self.asked(opening, what)?
-        };
-        match came {
+        match self.asked(client, id, opening, what)? {
             Asked::Now(Outcome::Done) => Ok(HouseReply::Done),
             Asked::Now(Outcome::Port(port)) => Ok(HouseReply::Port(port)),
             Asked::Now(Outcome::Refused) => Ok(HouseReply::Refused),
@@ -151,8 +152,18 @@ impl Holdings {
     }
 
     /// What comes of an ask.
-    fn asked(&mut self, opening: bool, what: &FwdAsk<'_>) -> Result<Asked, OutOfMemory>
+    fn asked(
+        &mut self,
+        client: u64,
+        id: u32,
+        opening: bool,
+        what: &FwdAsk<'_>,
+    ) -> Result<Asked, OutOfMemory>
         requires { self.old.ordering ≡ None }
+        ensures comes { IfOk result (λ asked. ComesUnless
+            (has_open client id self.old.asks.waiting.items) self.old.gateway opening
+            (ask_of what.now) self.old.forwardings.serials
+            self.old.forwardings.all.items asked) }
         ensures listeners { listeners_of self.new.forwardings.all.items
             ≡ listeners_of self.old.forwardings.all.items }
         ensures count { length self.new.forwardings.all.items
@@ -162,6 +173,9 @@ impl Holdings {
         ensures ordering { self.new.ordering ≡ self.old.ordering }
         ensures must { self.new.must ≡ self.old.must }
     {
+        if self.asks.has(client, id) {
+            return Ok(Asked::Now(Outcome::Refused));
+        }
         let Some(ends) = ends_of(of_client(what), self.gateway) else {
             return Ok(Asked::Now(Outcome::Refused));
         };
@@ -208,6 +222,12 @@ impl Holdings {
     fn request(&self, into: &mut Piece) -> Result<Option<Request>, OutOfMemory>
         ensures exact { IfOk result (λ request. is_some request
             ≡ is_some (find has_request self.now.forwardings.all.items)) }
+        ensures which { IfOk result (λ request. IfSome
+            (find has_request self.now.forwardings.all.items)
+            (λ f. request ≡ Some (request_of f))) }
+        ensures spelled { OnOk result (IfSome
+            (find has_request self.now.forwardings.all.items)
+            (λ f. into.new ≡ framed (request_payload f))) }
         ensures some { IfOk result (λ request. IfSome request
             (λ r. 0 < length into.new)) }
         ensures short { IfOk result (λ request. IfSome request
@@ -216,18 +236,14 @@ impl Holdings {
         let Some(forwarding) = self.forwardings.to_say() else {
             return Ok(None);
         };
-        let request = forwarding.request();
-        let (name, port) = match request {
-            Request::Listen(_) => (b"tcpip-forward".as_slice(), forwarding.listen_port),
-            Request::Cancel(_) => (
-                b"cancel-tcpip-forward".as_slice(),
-                forwarding.bound().unwrap_or(0),
-            ),
-        };
-        let host = forwarding.listen_host.as_bytes();
-        let payload = saying::request(self.alloc, name, host, port)?;
+        let payload = saying::request(
+            self.alloc,
+            forwarding.request_name(),
+            forwarding.listen_host.as_bytes(),
+            forwarding.request_port(),
+        )?;
         saying::put_frame(self.alloc, into, &payload)?;
-        Ok(Some(request))
+        Ok(Some(forwarding.request()))
     }
 
     /// Takes bytes that are written to the house.
@@ -316,6 +332,8 @@ impl Holdings {
             self.old.asks.waiting.items self.old.ordering) }
         ensures exact { gives_none result ≡ orders_none self.old.forwardings.all.items
             self.old.relays.all.items self.old.asks.waiting.items }
+        ensures connects { ConnectsFirst result self.old.relays.all.items }
+        ensures listens { ListensFirst result self.old.forwardings.all.items }
         ensures silent { result ≡ None → self.new ≡ self.old }
         ensures due { due self.new.forwardings.all.items self.new.relays.all.items
             self.new.asks.waiting.items + length (order_marks result)
@@ -408,6 +426,9 @@ impl Holdings {
     fn joined(&mut self, listener: u64, stream: u64) -> Result<(), OutOfMemory>
         requires ordering { self.old.ordering ≡ None }
         requires free { is_one stream (streams_of self.old.relays.all.items) ≡ false }
+        ensures joins { OnOk result (Joins (is_full self.old.relays.all.items)
+            (find (has_listener listener) self.old.forwardings.all.items) stream
+            self.old.relays.all.items self.new.relays.all.items) }
         ensures streams { OnOk result (streams_of self.new.relays.all.items
             ≡ streams_of self.old.relays.all.items ++ new_stream stream ∷ []) }
         ensures relays { length self.new.relays.all.items
@@ -418,21 +439,28 @@ impl Holdings {
         ensures must { self.new.must ≡ self.old.must }
     {
         let number = self.relays.free_number().ok_or(OutOfMemory)?;
-        let relay = match self.forwardings.of_listener(listener) {
-            Some(f) if !self.relays.is_full() => match f.kind {
-                Kind::Dynamic => Relay::dynamic(self.alloc, number, stream),
-                Kind::Local | Kind::Remote => {
-                    let host = Text::copy(self.alloc, f.connect_host.as_bytes())?;
-                    Relay::joined(self.alloc, number, stream, host, f.connect_port)
-                }
-            },
-            _ => Relay::surplus(self.alloc, number, stream),
-        };
+        let relay = self.relay_of(listener, number, stream)?;
         self.relays.push(Link {
             relay,
             stream: Stream::Made(OwnStream::new(stream)),
         })?;
         Ok(())
+    }
+
+    /// The relay of a socket that was joined at a listener.
+    fn relay_of(&self, listener: u64, number: u32, stream: u64) -> Result<Relay, OutOfMemory>
+        ensures joined { IfOk result (λ r. IsJoined (is_full self.now.relays.all.items)
+            (find (has_listener listener) self.now.forwardings.all.items) stream r) }
+        ensures number { IfOk result (λ r. r.number ≡ number) }
+        ensures few { IfOk result (λ r. length r.held.waiting ≤ LONGEST_PIECE) }
+    {
+        if self.relays.is_full() {
+            return Ok(Relay::surplus(self.alloc, number, stream));
+        }
+        match self.forwardings.of_listener(listener) {
+            None => Ok(Relay::surplus(self.alloc, number, stream)),
+            Some(forwarding) => joined_at(self.alloc, forwarding, number, stream),
+        }
     }
 
     /// What waits for a stream.
@@ -464,5 +492,26 @@ impl Holdings {
         ensures must { self.new.must ≡ self.old.must }
     {
         self.relays.took(stream, n);
+    }
+}
+
+/// The relay of a socket that was joined at the listener of a forwarding.
+fn joined_at(
+    alloc: Global,
+    forwarding: &Forwarding,
+    number: u32,
+    stream: u64,
+) -> Result<Relay, OutOfMemory>
+    ensures joined { IfOk result
+        (λ r. IsJoinedAt forwarding.now.kind forwarding.now stream r) }
+    ensures number { IfOk result (λ r. r.number ≡ number) }
+    ensures few { IfOk result (λ r. length r.held.waiting ≤ LONGEST_PIECE) }
+{
+    match forwarding.kind {
+        Kind::Dynamic => Ok(Relay::dynamic(alloc, number, stream)),
+        Kind::Local | Kind::Remote => {
+            let host = Text::copy(alloc, forwarding.connect_host.as_bytes())?;
+            Ok(Relay::joined(alloc, number, stream, host, forwarding.connect_port))
+        }
     }
 }

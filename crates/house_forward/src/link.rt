@@ -1,7 +1,9 @@
 //! A relay of the house and its stream.
-ghost use Rattle.std.specs.Prelude.{◌≡◌, is_some, true, IfSome, None};
+ghost use Rattle.std.specs.Prelude.{◌≡◌, is_some, true, IfSome, OnOk, None};
 ghost use Rattle.house_relay.specs.Relay.{stream_of};
-ghost use Rattle.house_forward.specs.Links.{has_number, is_of, is_offered, is_awaited, is_left, link_after, relay_after, made_stream, link_order, has_order, has_saying, finishes, IsOrderOf};
+ghost use Rattle.house_relay.specs.Steps.{made_as};
+ghost use Rattle.house_forward.specs.Heard.{heard_of};
+ghost use Rattle.house_forward.specs.Links.{has_number, is_of, is_offered, is_awaited, is_left, link_after, relay_after, made_stream, link_order, has_order, has_saying, finishes, is_channel, ConnectsAt, IsOrderOf};
 
 use crate::two_texts::TwoTexts;
 use conn_messages::Message;
@@ -90,6 +92,13 @@ impl Link {
         }
     }
 
+    /// Whether it has a channel, or is to have one.
+    pub fn is_channel(&self) -> bool
+        ensures { result ≡ is_channel self.now }
+    {
+        self.relay.line.counts()
+    }
+
     /// Whether nothing is left of it.
     pub fn is_left(&self) -> bool
         ensures { result ≡ is_left self.now }
@@ -167,6 +176,7 @@ impl Link {
     /// Its socket is ordered, if one is to be connected: the host and the port.
     pub fn ordered(&mut self) -> Option<(TwoTexts, u32)>
         ensures some { is_some result ≡ is_offered self.old }
+        ensures gives { IfSome result (λ r. ConnectsAt r.0.one r.1 self.old.stream) }
         ensures ordered { is_offered self.old ≡ true
             → self.new ≡ record self.old { stream = Stream.Awaited } }
         ensures none { result ≡ None → self.new ≡ self.old }
@@ -184,6 +194,8 @@ impl Link {
     /// Its stream is made, or couldn't be.
     pub fn made(&mut self, stream: Option<u64>)
         ensures stream { self.new.stream ≡ made_stream stream }
+        ensures relay { self.new.relay
+            ≡ record self.old.relay { socket = made_as stream } }
         ensures held { self.new.relay.held ≡ self.old.relay.held }
     {
         self.relay.made(stream);
@@ -195,6 +207,8 @@ impl Link {
 
     /// Its relay hears a message in its channel.
     pub fn hears(&mut self, message: &Message<'_>) -> Result<(), OutOfMemory>
+        ensures heard { OnOk result
+            (self.new.relay ≡ heard_of message.now self.old.relay) }
         ensures stream { self.new.stream ≡ self.old.stream }
         ensures held { self.new.relay.held ≡ self.old.relay.held }
     {
@@ -213,7 +227,14 @@ impl Link {
             Message::Eof { .. } => self.relay.hears_eof(),
             Message::Close { .. } => self.relay.hears_close(),
             Message::Request { want, .. } => self.relay.hears_request(*want),
-            _ => {}
+            Message::Transport { .. }
+            | Message::GlobalRequest { .. }
+            | Message::RequestSuccess { .. }
+            | Message::RequestFailure
+            | Message::Open { .. }
+            | Message::Extended { .. }
+            | Message::Success { .. }
+            | Message::Failure { .. } => {}
         }
         Ok(())
     }

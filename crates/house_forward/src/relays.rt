@@ -6,7 +6,9 @@ ghost use Rattle.mux_outside.specs.House.{SaysFits, says_nothing, gives_none, or
 ghost use Rattle.mux_outside.specs.OwnStreams.{is_one, is_finished};
 ghost use Rattle.mux_outside.specs.declared.piece.TheConstants.{LONGEST_PIECE};
 ghost use Rattle.house_forward.specs.Due.{link_due};
-ghost use Rattle.house_forward.specs.Links.{streams_of, has_number, finishes, are_distinct, is_taken, is_of, queue_in, link_after, is_offered, is_awaited, is_left, has_order, has_saying, made_streams, obeyed};
+ghost use Rattle.house_forward.specs.Going.{GoesAt, LeavesAt, Gets, TakesOf, Says, Hears, swept};
+ghost use Rattle.house_forward.specs.Said.{framed, said_by};
+ghost use Rattle.house_forward.specs.Links.{streams_of, has_number, finishes, are_distinct, is_taken, is_of, queue_in, link_after, is_offered, is_awaited, is_left, is_full, channels, is_number_of, has_order, has_saying, made_streams, obeyed, ConnectsAt};
 
 use crate::link::{Link, Step};
 use crate::rules::MOST_CHANNELS;
@@ -61,20 +63,38 @@ impl Relays {
     }
 
     /// Whether the house has all channels that it may have.
-    pub fn is_full(&self) -> bool {
-        self.all.iter().filter(|l| l.relay.line.counts()).count() >= MOST_CHANNELS
+    pub fn is_full(&self) -> bool
+        ensures { result ≡ is_full self.now.all.items }
+    {
+        self.channels() >= MOST_CHANNELS
+    }
+
+    /// How many channels there are, or are to be.
+    fn channels(&self) -> usize
+        ensures { result ≡ channels self.now.all.items }
+    {
+        self.all.iter().filter(|l| l.is_channel()).count()
     }
 
     /// A number that no relay has.
-    pub fn free_number(&self) -> Option<u32> {
+    pub fn free_number(&self) -> Option<u32>
+        ensures { IfSome result (λ n. is_number_of n self.now.all.items ≡ false) }
+    {
         let mut number = self.next;
         for _ in 0..=self.all.len() {
-            if !self.all.iter().any(|l| l.relay.number == number) {
+            if !self.has_number(number) {
                 return Some(number);
             }
             number = number.wrapping_add(1);
         }
         None
+    }
+
+    /// Whether a relay has this number.
+    fn has_number(&self, number: u32) -> bool
+        ensures { result ≡ is_number_of number self.now.all.items }
+    {
+        self.all.iter().any(|l| l.relay.number == number)
     }
 
     /// The one of a stream.
@@ -156,6 +176,9 @@ impl Relays {
         requires short { length bytes.now ≤ LONGEST_PIECE }
         requires rests { IfSome (find (is_of stream) self.old.all.items)
             (λ l. l.relay.held.waiting ≡ []) }
+        ensures reads { OnOk result (GoesAt (position (is_of stream) self.old.all.items)
+            (Gets (not (is_full self.old.all.items)) bytes.now)
+            self.old.all.items self.new.all.items) }
         ensures streams { streams_of self.new.all.items ≡ streams_of self.old.all.items }
         ensures count { length self.new.all.items ≡ length self.old.all.items }
     {
@@ -170,6 +193,8 @@ impl Relays {
     /// A stream took so many bytes of what waits.
     pub fn took(&mut self, stream: u64, n: usize)
         requires { n ≤ length (queue_in (find (is_of stream) self.old.all.items)) }
+        ensures takes { GoesAt (position (is_of stream) self.old.all.items) (TakesOf n)
+            self.old.all.items self.new.all.items }
         ensures streams { streams_of self.new.all.items ≡ streams_of self.old.all.items }
         ensures queues { (t : ℕ) → queue_in (find (is_of t) self.new.all.items)
             ≡ queue_after_took stream n t (queue_in (find (is_of t) self.old.all.items)) }
@@ -219,6 +244,7 @@ impl Relays {
 
     /// Forgets one of which nothing is left.
     fn sweep(&mut self)
+        ensures all { self.new.all.items ≡ swept self.old.all.items }
         ensures streams { streams_of self.new.all.items ≡ streams_of self.old.all.items }
         ensures due { sum_by link_due self.new.all.items ≡ sum_by link_due self.old.all.items }
         ensures count { length self.new.all.items ≤ length self.old.all.items }
@@ -234,6 +260,8 @@ impl Relays {
         ensures streams { streams_of self.new.all.items ≡ streams_of self.old.all.items }
         ensures due { sum_by link_due self.new.all.items ≡ sum_by link_due self.old.all.items }
         ensures awaited { OnSome result (list_any is_awaited self.new.all.items ≡ true) }
+        ensures gives { IfSome result (λ r. IfSome (find is_offered self.old.all.items)
+            (λ l. ConnectsAt r.0.one r.1 l.stream)) }
         ensures silent { result ≡ None → self.new ≡ self.old }
     {
         let i = self.offered()?;
@@ -266,6 +294,10 @@ impl Relays {
             (says_nothing result ≡ not (list_any has_saying self.old.all.items)) }
         ensures streams { streams_of self.new.all.items ≡ streams_of self.old.all.items }
         ensures count { length self.new.all.items ≤ length self.old.all.items }
+        ensures says { OnOk result (LeavesAt (position has_saying self.old.all.items) Says
+            self.old.all.items self.new.all.items) }
+        ensures spelled { OnOk result (IfSome (find has_saying self.old.all.items)
+            (λ l. into.new ≡ framed (said_by l.relay))) }
         ensures silent { result ≡ Ok false → self.new ≡ self.old }
     {
         let Some(i) = self.saying() else {
@@ -281,6 +313,10 @@ impl Relays {
         requires { position has_saying self.old.all.items ≡ Some i }
         ensures fits { SaysFits result into.new }
         ensures exact { IfOk result (λ said. said ≡ true) }
+        ensures says { OnOk result (GoesAt (Some i) Says
+            self.old.all.items self.new.all.items) }
+        ensures spelled { OnOk result (IfSome (find has_saying self.old.all.items)
+            (λ l. into.new ≡ framed (said_by l.relay))) }
         ensures streams { streams_of self.new.all.items ≡ streams_of self.old.all.items }
         ensures count { length self.new.all.items ≡ length self.old.all.items }
     {
@@ -290,6 +326,9 @@ impl Relays {
 
     /// The relay whose channel has this number hears a message.
     pub fn hear(&mut self, number: u32, message: &Message<'_>) -> Result<(), OutOfMemory>
+        ensures hears { OnOk result (LeavesAt
+            (position (λ l. l.relay.number == number) self.old.all.items)
+            (Hears message.now) self.old.all.items self.new.all.items) }
         ensures streams { streams_of self.new.all.items ≡ streams_of self.old.all.items }
         ensures count { length self.new.all.items ≤ length self.old.all.items }
     {
@@ -304,6 +343,8 @@ impl Relays {
     /// The first whose channel has this number hears a message.
     fn hear_at(&mut self, i: usize, number: u32, message: &Message<'_>) -> Result<(), OutOfMemory>
         requires { position (λ l. l.relay.number == number) self.old.all.items ≡ Some i }
+        ensures hears { OnOk result (GoesAt (Some i) (Hears message.now)
+            self.old.all.items self.new.all.items) }
         ensures streams { streams_of self.new.all.items ≡ streams_of self.old.all.items }
         ensures count { length self.new.all.items ≡ length self.old.all.items }
     {

@@ -5,7 +5,7 @@ ghost use Rattle.mux_outside.specs.House.{SaysFits};
 ghost use Rattle.house_relay.specs.Next.{says_of};
 ghost use Rattle.house_relay.specs.Relay.{IsSaying};
 ghost use Rattle.house_forward.specs.Links.{after_saying};
-ghost use Rattle.house_forward.specs.Said.{framed, payload_of, direct, confirmed, in_live, requested};
+ghost use Rattle.house_forward.specs.Said.{framed, payload_of, direct, confirmed, in_live, limits, requested};
 ghost use Rattle.mux_outside.specs.declared.piece.TheConstants.{LONGEST_PIECE};
 
 use conn_messages::{close, open_failure};
@@ -95,8 +95,7 @@ fn open(alloc: Global, number: u32, host: &[u8], port: u32) -> Result<Vec<u8>, O
     payload.push(CHANNEL_OPEN)?;
     put_string(&mut payload, b"direct-tcpip")?;
     put_u32(&mut payload, number)?;
-    put_u32(&mut payload, WINDOW)?;
-    put_u32(&mut payload, MAXIMUM)?;
+    put_limits(&mut payload)?;
     put_text(&mut payload, host)?;
     put_u32(&mut payload, port)?;
     put_string(&mut payload, b"127.0.0.1")?;
@@ -122,9 +121,17 @@ fn confirmation(alloc: Global, remote: u32, number: u32) -> Result<Vec<u8>, OutO
     payload.push(CHANNEL_OPEN_CONFIRMATION)?;
     put_u32(&mut payload, remote)?;
     put_u32(&mut payload, number)?;
-    put_u32(&mut payload, WINDOW)?;
-    put_u32(&mut payload, MAXIMUM)?;
+    put_limits(&mut payload)?;
     Ok(payload)
+}
+
+/// The window of a channel, and the longest data of one message.
+fn put_limits(out: &mut Vec<u8>) -> Result<(), OutOfMemory>
+    ensures { OnOk result (out.new.items ≡ out.old.items ++ limits) }
+{
+    put_u32(out, WINDOW)?;
+    put_u32(out, MAXIMUM)?;
+    Ok(())
 }
 
 /// What a relay says in its confirmed channel.

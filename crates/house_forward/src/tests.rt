@@ -134,6 +134,7 @@ fn started(
     bench.settle()?;
     assert_eq!(rt; bench.said.len(), 24);
     assert_eq!(rt; bench.orders.len(), 1);
+    assert!(rt; listens_at(&bench.orders, 0, b"127.0.0.1", 8080));
     bench.greet()?;
     bench.settle()?;
     bench.house.turn(OwnTurn::Joined {
@@ -143,6 +144,14 @@ fn started(
     bench.next = 0x8000_0000_0000_0002;
     bench.settle()?;
     Ok(bench)
+}
+
+/// Whether the order at this place is to listen there.
+fn listens_at(orders: &[Order], at: usize, there: &[u8], on: u32) -> bool {
+    match orders.get(at) {
+        Some(Order::Listen { host, port }) => host.as_bytes() == there && *port == on,
+        _ => false,
+    }
 }
 
 #[test]
@@ -285,6 +294,71 @@ fn a_remote_forwarding_gets_its_port(rt: HostRuntime) -> Result<(), Fail> {
     assert_eq!(rt;
         bench.answers.as_slice(),
         [(1, 4, HouseReply::Port(40001))].as_slice()
+    );
+    Ok(())
+}
+
+const CANCEL: &[u8] =
+    b"\x00\x00\x00\x2c\x00\x50\x00\x00\x00\x14cancel-tcpip-forward\x01\x00\x00\x00\x09localhost\x00\x00\x9c\x41";
+
+#[test]
+fn a_cancel_names_the_port_that_was_bound(rt: HostRuntime) -> Result<(), Fail> {
+    let mut bench = asked(&rt, rt.alloc())?;
+    bench
+        .house
+        .takes(b"\x00\x00\x00\x06\x00\x51\x00\x00\x9c\x41")?;
+    bench.settle()?;
+    let what = FwdAsk {
+        kind: 2,
+        listen_host: b"",
+        listen_port: 0,
+        connect_host: b"web",
+        connect_port: 80,
+    };
+    let again = bench.house.ask(1, 5, true, &what)?;
+    assert_eq!(rt; again, HouseReply::Port(40001));
+    let reply = bench.house.ask(1, 6, false, &what)?;
+    assert_eq!(rt; reply, HouseReply::Later);
+    bench.settle()?;
+    assert_eq!(rt; bench.said.as_slice(), CANCEL);
+    assert_eq!(rt; bench.answers.len(), 0);
+    bench.house.takes(b"\x00\x00\x00\x02\x00\x51")?;
+    bench.settle()?;
+    assert_eq!(rt;
+        bench.answers.as_slice(),
+        [(1, 6, HouseReply::Done)].as_slice()
+    );
+    Ok(())
+}
+
+#[test]
+fn a_place_is_free_before_it_is_listened_on_again(rt: HostRuntime) -> Result<(), Fail> {
+    let mut bench = joined(&rt, rt.alloc())?;
+    let what = FwdAsk {
+        kind: 1,
+        listen_host: b"",
+        listen_port: 8080,
+        connect_host: b"db",
+        connect_port: 5432,
+    };
+    let closes = bench.house.ask(1, 4, false, &what)?;
+    assert_eq!(rt; closes, HouseReply::Later);
+    let opens = bench.house.ask(1, 5, true, &what)?;
+    assert_eq!(rt; opens, HouseReply::Later);
+    let twice = bench.house.ask(1, 5, true, &what)?;
+    assert_eq!(rt; twice, HouseReply::Refused);
+    bench.settle()?;
+    assert_eq!(rt; bench.orders.len(), 2);
+    assert!(rt;
+        matches!(
+            bench.orders.get(0),
+            Some(Order::Unlisten(0x8000_0000_0000_0000))
+        )
+    );
+    assert!(rt; listens_at(&bench.orders, 1, b"127.0.0.1", 8080));
+    assert_eq!(rt;
+        bench.answers.as_slice(),
+        [(1, 4, HouseReply::Done), (1, 5, HouseReply::Done)].as_slice()
     );
     Ok(())
 }

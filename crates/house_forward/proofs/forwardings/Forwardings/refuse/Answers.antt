@@ -4,4 +4,4 @@ use Rattle.house_forward.proofs.forwardings.Forwardings.refuse.Goals as goal
 
 pub returns-in-Some-clause-listeners : goal.returns-in-Some-clause-listeners
 returns-in-Some-clause-listeners c =
-    rw c.fail.ensures (asked-there c.args.serial c.args.self.now.all.items c.in-Some.i (sym c.in-Some.ensures))
+    rw c.fail.ensures.all (asked-there c.args.serial c.args.self.now.all.items c.in-Some.i (sym c.in-Some.ensures))

@@ -1,7 +1,7 @@
 use Rattle.std.proofs.Common.{sym, refl, ◌∙◌}
 use Rattle.std.specs.List.{list_any}
 use Rattle.house_forward.specs.Links.{is_offered}
-use Rattle.house_forward.proofs.Changes.{ordered, passes-at, one-at, gives-one, if-some}
+use Rattle.house_forward.proofs.Changes.{ordered, passes-at, one-at, gives-one, if-some, first-is}
 use Rattle.house_forward.proofs.Lists.{none-passes}
 use Rattle.house_forward.proofs.relays.Relays.offer.Goals as goal
 
@@ -31,3 +31,8 @@ returns-clause-awaited c =
     let is = passes-at is_offered c.args.self.now.all.items c.in_ok-i.i c.index_mut.result.now (sym c.in_ok-i.ensures) c.index_mut.ensures.value in
     let o = ordered c.args.self.now.all.items c.in_ok-i.i c.index_mut.result.now c.ordered.new.self (sym c.in_ok-i.ensures) c.index_mut.ensures.value c.args.self.now.few c.args.self.now.distinct (c.ordered.ensures.ordered is) in
     if-some c.ordered.result _ o.awaited
+
+pub returns-clause-gives : goal.returns-clause-gives
+returns-clause-gives c =
+    let found = first-is is_offered c.args.self.now.all.items c.in_ok-i.i c.index_mut.result.now (sym c.in_ok-i.ensures) c.index_mut.ensures.value in
+    rw found c.ordered.ensures.gives

@@ -4,6 +4,9 @@ use Rattle.house_forward.specs.Links.{is_of}
 use Rattle.house_forward.specs.declared.link.Link.{Link}
 use Rattle.house_forward.proofs.Changes.{fits-at, changes-at}
 use Rattle.house_forward.proofs.Queues.{Took, took-queues, none-took, queue-first}
+use Rattle.std.specs.List.{position}
+use Rattle.house_forward.specs.Going.{TakesOf}
+use Rattle.house_forward.proofs.Going.{goes-at}
 use Rattle.house_forward.proofs.relays.Relays.took.Goals as goal
 
 pub returns-in_default-clause-queues : goal.returns-in_default-clause-queues
@@ -42,3 +45,12 @@ returns-clause-queues c =
       stuck = c.took.ensures.stuck;
     } in
     took-queues c.args.self.now.all.items c.in-Some.i c.args.stream c.args.n x y (sym c.in-Some.ensures) c.index_mut-link.ensures.value took
+
+pub returns-in_default-clause-takes : goal.returns-in_default-clause-takes
+returns-in_default-clause-takes c = rw (sym c.in_default.ensures) refl
+
+pub returns-clause-takes : goal.returns-clause-takes
+returns-clause-takes c =
+    let ls = c.args.self.now.all.items in
+    goes-at (position (is_of c.args.stream) ls) c.in-Some.i (TakesOf c.args.n) ls c.index_mut-link.result.now c.took.new.self (sym c.in-Some.ensures) c.index_mut-link.ensures.value
+    (λ small. (c.took.ensures.exact small, c.took.ensures.stands small))
