@@ -66,14 +66,7 @@ impl Relays {
     pub fn is_full(&self) -> bool
         ensures { result ≡ is_full self.now.all.items }
     {
-        self.channels() >= MOST_CHANNELS
-    }
-
-    /// How many channels there are, or are to be.
-    fn channels(&self) -> usize
-        ensures { result ≡ channels self.now.all.items }
-    {
-        self.all.iter().filter(|l| l.is_channel()).count()
+        channels_in(&self.all) >= MOST_CHANNELS
     }
 
     /// A number that no relay has.
@@ -360,6 +353,13 @@ fn step_all(links: &mut Vec<Link>, stream: u64, step: Step)
     for l in links.iter_mut() {
         l.take(stream, step);
     }
+}
+
+/// How many channels there are, or are to be.
+fn channels_in(links: &[Link]) -> usize
+    ensures { result ≡ channels links.now }
+{
+    links.iter().filter(|l| l.is_channel()).count()
 }
 
 fn any_numbered(links: &[Link], stream: u64) -> bool
