@@ -1,5 +1,5 @@
 //! What is ready, in the order in which it became so.
-ghost use Rattle.std.specs.Prelude.{◌≡◌, ◌++◌, ◌∷◌, [], false, true, Ok, IsErr, OnErr, OnOk};
+ghost use Rattle.std.specs.Prelude.{◌≡◌, ◌++◌, ◌∷◌, [], false, true, IsNone, Some, OnErr, OnOk};
 ghost use Rattle.mux_sockets.specs.Ready.{IsFull};
 
 use crate::stream::Stream;
@@ -104,10 +104,11 @@ impl Entry {
     /// Goes on by what a look at its connection showed: it is made, or not yet, or it failed.
     pub fn meet(&mut self, number: u64, made: &io::Result<bool>) -> Option<Turn>
         ensures turn { result ≡ met_turn made.now number }
-        ensures made { made.now ≡ Ok true
+        ensures writable { result ≡ Some (Turn.Writable number)
             → self.new ≡ record self.old { connecting = false; blocked = false } }
-        ensures not_yet { made.now ≡ Ok false → self.new ≡ self.old }
-        ensures failed { IsErr made.now → self.new ≡ record self.old { ended = true } }
+        ensures failed { result ≡ Some (Turn.Failed number)
+            → self.new ≡ record self.old { ended = true } }
+        ensures not_yet { IsNone result → self.new ≡ self.old }
     {
         match made {
             Ok(true) => {
