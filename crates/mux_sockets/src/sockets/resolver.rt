@@ -273,13 +273,16 @@ impl<P: Net + Processes + Clock> Resolver<P> {
         let _ = self.leaving.push_back(child);
         let addresses = addresses_of(self.alloc, heard.as_slice())?;
         self.resolve(name.as_slice(), addresses.as_slice())?;
-        self.cache
-            .push(Resolved {
-                name,
-                addresses,
-                since: now,
-            })
-            .map_err(|_| AllocError)?;
+        if !addresses.is_empty() {
+            let since = now;
+            self.cache
+                .push(Resolved {
+                    name,
+                    addresses,
+                    since,
+                })
+                .map_err(|_| AllocError)?;
+        }
         Ok(true)
     }
 
