@@ -1,5 +1,5 @@
 //! Names of hosts, and the rows that `getent ahosts` writes of one.
-ghost use Rattle.std.specs.Prelude.{◌≡◌, ◌==◌, ◌≤◌, not, length, [], MatchOption, IfOk, OnOk};
+ghost use Rattle.std.specs.Prelude.{◌≡◌, ◌==◌, ◌≤◌, ◌-◌, not, length, drop, [], MatchOption, IfOk, OnOk};
 ghost use Rattle.std.specs.List.{prefix_len};
 ghost use Rattle.std.specs.declared.net.ip_addr.IpAddr.{IpAddr};
 ghost use Rattle.mux_sockets.specs.Names.{AddsRow, AddsRows, IsStreamRow, is_name, is_name_byte, lines_of};
@@ -41,9 +41,20 @@ pub fn addresses_of(alloc: Global, output: &[u8]) -> Result<Vec<IpAddr>, AllocEr
     while !rest.is_empty() {
         let (line, behind) = rest.split_at(line_len(rest));
         add_row(&mut found, line)?;
-        rest = behind.get(1..).unwrap_or(&[]);
+        rest = behind_end(behind);
     }
     Ok(found)
+}
+
+// What stands behind the end of a line, where it has one.
+fn behind_end(behind: &[u8]) -> &[u8]
+    ensures rest { result.now ≡ drop 1 behind.now }
+    ensures len { length result.now ≡ length behind.now - 1 }
+{
+    match behind {
+        [] => behind,
+        [_, rest @ ..] => rest,
+    }
 }
 
 // Adds the address of a row.
