@@ -1,8 +1,8 @@
-ghost use Rattle.std.specs.Prelude.{◌≡◌, ◌≤◌, ◌+◌, [], ◌∷◌, ◌++◌, length, IfOk, OnOk, Some, None, true, false, if◌then◌else◌};
+ghost use Rattle.std.specs.Prelude.{◌≡◌, ◌≤◌, ◌+◌, [], ◌∷◌, ◌++◌, length, IfOk, OnOk, OnErr, Some, None, true, false, if◌then◌else◌};
 ghost use Rattle.ssh_grammar.specs.declared.framing.Framing.TheVariants.{Proxy};
 ghost use Rattle.ssh_grammar.specs.IsFrame.{IsContent};
 ghost use Rattle.ssh_grammar.specs.Frames.{frame_payload};
-ghost use Rattle.mux_clients.specs.Asked.{Heeds};
+ghost use Rattle.mux_clients.specs.Asked.{HandsAsks, Heeds};
 ghost use Rattle.mux_clients.specs.State.{client_took, part, refusals_of, KeepsRoom};
 ghost use Rattle.mux_clients.specs.Hears.{HearsTold};
 ghost use Rattle.ssh_grammar.specs.Said.{first_in};
@@ -10,6 +10,7 @@ ghost use Rattle.mux_clients.specs.Stands.{is_lost, is_read, mode_of};
 ghost use Rattle.mux_clients.specs.Room.{LeavesRoom};
 ghost use Rattle.mux_clients.specs.Nexts.{SaysNext};
 ghost use Rattle.mux_clients.specs.Pieces.{HearsIn, HearsPiece};
+ghost use Rattle.mux_clients.specs.Starved.{AsksNext, HearsSome};
 ghost use Rattle.mux_clients.specs.Losing.{LosesIn};
 ghost use Rattle.mux_clients.specs.Answering.{AnswersIn};
 ghost use Rattle.mux_clients.specs.Entering.{Enters, new_client};
@@ -124,6 +125,11 @@ impl Client {
             up.old up.new heard self.old self.new) }
         ensures heeds { Heeds result asks.old asks.new (H.told house.old) (H.told house.new)
             (H.known house.old) (H.known house.new) }
+        ensures handed { OnOk result (HandsAsks asks.old asks.new (H.stands house.old)
+            (H.stands house.new)) }
+        ensures must { H.must house.new ≡ H.must house.old }
+        ensures cut { OnErr result (HearsSome H.may (H.told house.old) (H.told house.new) pid
+            bytes.now core.old up.old self.old) }
         ensures policy { OnOk result (core.new.policy ≡ core.old.policy) }
     {
         if self.seat.is_read() {
@@ -238,10 +244,16 @@ impl Client {
         requires ordering { (H.known house.old).ordering ≡ None }
         ensures heeds { Heeds result asks.old asks.new (H.told house.old) (H.told house.new)
             (H.known house.old) (H.known house.new) }
+        ensures handed { OnOk result (HandsAsks asks.old asks.new (H.stands house.old)
+            (H.stands house.new)) }
+        ensures must { H.must house.new ≡ H.must house.old }
         ensures next { IfOk result (λ more.
             SaysNext H.may (Some asks.old) (Some asks.new) pid more
             (first_in (mode_of self.old.seat.standing) self.old.rest) core.old core.new up.old
             up.new self.old heard.old self.new heard.new) }
+        ensures cut { OnErr result (AsksNext H.may (H.told house.old) (H.told house.new)
+            self.old.seat.number self.old.seat.standing
+            (first_in (mode_of self.old.seat.standing) self.old.rest)) }
         ensures policy { core.new.policy ≡ core.old.policy }
         ensures number { OnOk result (self.new.seat.number ≡ self.old.seat.number) }
         ensures spare { OnOk result (KeepsRoom up.old up.new self.new.seat.standing) }
@@ -290,9 +302,14 @@ impl Client {
         requires ordering { (H.known house.old).ordering ≡ None }
         ensures heeds { Heeds result asks.old asks.new (H.told house.old) (H.told house.new)
             (H.known house.old) (H.known house.new) }
+        ensures handed { OnOk result (HandsAsks asks.old asks.new (H.stands house.old)
+            (H.stands house.new)) }
+        ensures must { H.must house.new ≡ H.must house.old }
         ensures hears { IfOk result (λ heard.
             HearsPiece H.may (Some asks.old) (Some asks.new) pid bytes.now core.old up.old
             self.old core.new up.new self.new heard) }
+        ensures cut { OnErr result (HearsSome H.may (H.told house.old) (H.told house.new) pid
+            bytes.now core.old up.old self.old) }
         ensures policy { OnOk result (core.new.policy ≡ core.old.policy) }
         ensures number { OnOk result (self.new.seat.number ≡ self.old.seat.number) }
         ensures spare { OnOk result (KeepsRoom up.old up.new self.new.seat.standing) }

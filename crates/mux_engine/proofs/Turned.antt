@@ -3,6 +3,7 @@ use Rattle.std.proofs.Common.{◌≡◌, ℕ, true, List, [], ◌∷◌, ◌++�
 use Rattle.std.specs.Prelude.{All, IsTrue}
 use Rattle.std.specs.Option.{option_map}
 use Rattle.mux_outside.specs.House.{Known}
+use Rattle.mux_outside.specs.HouseCalls.{calls_of}
 use Rattle.mux_outside.specs.Seen.{Seen}
 use Rattle.mux_outside.specs.Streams.{among}
 use Rattle.mux_outside.specs.declared.house.HouseReply.{HouseReply}
@@ -11,6 +12,7 @@ use Rattle.mux_outside.specs.declared.mark.Mark.{Mark}
 use Rattle.mux_outside.specs.declared.mark.Mark.TheVariants.{Accepts}
 use Rattle.mux_history.specs.declared.limits.TheConstants.{HOUSE}
 use Rattle.mux_history.specs.Log.{Setting}
+use Rattle.mux_history.specs.Rows.{Row}
 use Rattle.mux_history.specs.Settings.{by_lists}
 use Rattle.mux_history.specs.Policy.{Policy}
 use Rattle.mux_history.specs.Journal.{is_accepted, log_of_journal}
@@ -18,23 +20,25 @@ use Rattle.mux_history.specs.Promises.{SpeaksInTime, turns_in}
 use Rattle.mux_history.specs.Wires.{OfWire}
 use Rattle.mux_bounds.specs.Bounds.{IsLog}
 use Rattle.mux_clients.specs.Asked.{TellsAsks, asked_of, known_after}
+use Rattle.mux_clients.specs.Starved.{BeginsWith}
 use Rattle.mux_machine.specs.State.{State, numbers}
 use Rattle.mux_machine.specs.declared.event.Event.{Event}
 use Rattle.mux_machine.specs.declared.event.Event.TheVariants.{Accepted, FromClient, ClientEnd, ClientFailed, HouseSays, FromServer, ServerEnd, ServerFailed}
 use Rattle.mux_machine.specs.Events.{Arrives, EndsBy, MayEnd, SameStreams, Tells, here}
-use Rattle.mux_machine.specs.Stands.{GoesBy, IsAllowed}
+use Rattle.mux_machine.specs.Stands.{AsksFirst, CutsShort, GoesBy, IsAllowed, log}
 use Rattle.mux_machine.specs.Twins.{AreAlike}
 use Rattle.mux_machine.proofs.Twins.{stands-alike}
 use Rattle.mux_engine.specs.Asking.{HeedsSo}
-use Rattle.mux_engine.specs.Run.{RestedAt, is_by_house}
-use Rattle.mux_engine.specs.Serving.{IsUnseen, Promised, Serving}
-use Rattle.mux_engine.specs.Sides.{Resting, Side, house_mark}
-use Rattle.mux_engine.specs.Turns.{IsEventOf, want_of}
-use Rattle.mux_engine.proofs.Asks.{EachAsked, SaidBy, all-asks, asked-accepted, goes-asked}
-use Rattle.mux_engine.proofs.Cuts.{cut-next, of-streams}
+use Rattle.mux_engine.specs.Called.{calls_at}
+use Rattle.mux_engine.specs.Run.{AsksOn, RestedAt, is_by_house}
+use Rattle.mux_engine.specs.Serving.{Promised, Serving}
+use Rattle.mux_engine.specs.Sides.{Resting, Side, asks_in, house_mark}
+use Rattle.mux_engine.proofs.Asks.{EachAsked, SaidBy, all-asks, asked-accepted, begins-asked, goes-asked}
+use Rattle.mux_engine.proofs.Called.{CallsOn, calls-told}
+use Rattle.mux_engine.proofs.Cuts.{cut-next, now-asked, of-streams}
 use Rattle.mux_engine.proofs.Happened.{serve-event}
 use Rattle.mux_engine.proofs.Logs.{accepted-more}
-use Rattle.mux_engine.proofs.Marks.{Placed}
+use Rattle.mux_engine.proofs.Marks.{Placed, log-is}
 use Rattle.mux_engine.proofs.Noted.{note-some, seen-with}
 use Rattle.mux_engine.proofs.Outs.{Spares}
 use Rattle.mux_engine.proofs.Turns.{IsTold, told-promise}
@@ -114,36 +118,59 @@ module _ {May : HouseReply → Type 0} {Rest : Resting} {before : Option (List H
     pub said : SaidBy (λ k. is_accepted k (mark ∷ v.journal) ≡ true) mark
     pub spares : (k : ℕ) → among k v.closed ≡ true → Spares k mark
     pub speaks : (picks : List ℕ) (later : List HouseReply) → SpeaksInTime (by_lists policy pid (v.picked ++ picks) (v.replies ++ later)) v.journal mark
-    pub rested : RestedAt Rest.rests before v.journal mark
+    pub rested : (set : Setting) → RestedAt Rest.rests set before v.journal mark
     pub absent : Rest.present ≡ false → is_by_house mark ≡ false
     pub turns : turns_in (mark ∷ v.journal) ≡ given'
     pub plain : house_mark mark ≡ now.unnoted
+    pub called : (set : Setting) → calls_at set v.journal mark ≡ calls_of (house_mark mark)
     pub cut : (set : Setting) → IsLog set (mark ∷ v.journal) (log_of_journal set v.journal)
     pub house : is_accepted HOUSE (mark ∷ v.journal) ≡ is_accepted HOUSE v.journal
     pub placed : (s' : State) → (s.ended ≡ None → Arrives e s s') → Placed s' v.journal seen seen' held failed mark
 
   -- the engine took it in, and so many of the asks were noted
   pub event-goes : (e : Event) (seen' : Seen) (given' : ℕ) (at : EventAt e seen' given') (s' : State) (asks : List HouseMark) (told told' : Option (List HouseMark)) (known known' : Known) (seen'' : Seen) (n : ℕ) → now.told ≡ told → now.asks ≡ known.asks → HeedsSo May e s s' asks told told' known known' seen' seen'' n
-      → Serving May Rest before (record { told = told'; asks = known'.asks; unnoted = drop n asks; let_in = now.let_in }) policy pid start seen'' held failed given' (0 ∷ here s') s'
+      → Serving May Rest before (record { told = told'; asks = known'.asks; unnoted = drop n asks; let_in = now.let_in; calls = now.calls ++ calls_of asks }) policy pid start seen'' held failed given' (0 ∷ here s') s'
   event-goes e seen' given' at s' asks told told' known known' seen'' n same_told same_asks h =
       let g : GoesBy May (Some []) (Some asks) v.picked v.replies s s' at.mark v.journal v.closed = goes-twin at.twin at.mark at.alike (h.goes at.twin at.tells v.picked v.replies v.journal v.closed v.stands at.allowed) in
       let listed : asks ≡ g.asks = asks-are asks g.asks g.told in
       let each : EachAsked (λ k. is_accepted k (at.mark ∷ v.journal) ≡ true) asks = subst (EachAsked (λ k. is_accepted k (at.mark ∷ v.journal) ≡ true)) (sym listed) (goes-asked (λ k. is_accepted k (at.mark ∷ v.journal) ≡ true) g h.keeps.policy h.keeps.pid at.said) in
-      let now' : Side = record { told = told'; asks = (known_after asks known).asks; unnoted = asks; let_in = now.let_in } in
+      let now' : Side = record { told = told'; asks = (known_after asks known).asks; unnoted = asks; let_in = now.let_in; calls = now.calls ++ calls_of asks } in
       let first : Serving May Rest before now' policy pid start seen' held failed given' (0 ∷ here s') s' = serve-event v at.mark g now' seen' held failed given' h.keeps.policy h.keeps.pid live at.is (λ t a. refl) at.spares (λ picks later. subst (λ (ps : List ℕ). SpeaksInTime (by_lists policy pid ps ((v.replies ++ g.replies) ++ later)) v.journal at.mark) (sym (append_assoc v.picked g.picks picks)) (subst (λ (rs : List HouseReply). SpeaksInTime (by_lists policy pid (v.picked ++ (g.picks ++ picks)) rs) v.journal at.mark) (sym (append_assoc v.replies g.replies later)) (at.speaks (g.picks ++ picks) (g.replies ++ later))))
       (record { more = asks; told_is = subst (λ (t : Option (List HouseMark)). TellsAsks t told' asks) (sym same_told) h.told_is; noted_is = ap (λ l. l ++ asks) at.plain; asks_are = all-asks (λ k. is_accepted k (at.mark ∷ v.journal) ≡ true) asks each ∙ listed })
+      (λ set. subst (CallsOn now now') (sym (at.called set)) (calls-told now now' (house_mark at.mark) asks (ap (λ l. l ++ asks) at.plain) refl))
       (asked-accepted (at.mark ∷ v.journal) asks known each (subst (λ l. All (λ a. IsTrue (is_accepted a.client (at.mark ∷ v.journal))) l) same_asks (λ k d lt. accepted-more at.mark v.journal _ (v.askers k d lt))))
       (at.house ∙ v.house_in) v.house_there at.rested at.absent at.turns at.marks (at.placed s' h.keeps.streams) in
-      subst (λ (x : Seen). Serving May Rest before (record { told = told'; asks = known'.asks; unnoted = drop n asks; let_in = now.let_in }) policy pid start x held failed given' (0 ∷ here s') s') (sym h.seen_is)
-      (subst (λ (k : Known). Serving May Rest before (record { told = told'; asks = k.asks; unnoted = drop n asks; let_in = now.let_in }) policy pid start (seen-with (take n asks) seen') held failed given' (0 ∷ here s') s') (sym h.known_is)
+      subst (λ (x : Seen). Serving May Rest before (record { told = told'; asks = known'.asks; unnoted = drop n asks; let_in = now.let_in; calls = now.calls ++ calls_of asks }) policy pid start x held failed given' (0 ∷ here s') s') (sym h.seen_is)
+      (subst (λ (k : Known). Serving May Rest before (record { told = told'; asks = k.asks; unnoted = drop n asks; let_in = now.let_in; calls = now.calls ++ calls_of asks }) policy pid start (seen-with (take n asks) seen') held failed given' (0 ∷ here s') s') (sym h.known_is)
       (note-some n asks (λ k. is_accepted k (at.mark ∷ v.journal) ≡ true) each first refl))
 
   -- and may end by it
   pub event-ends : (e : Event) (seen' : Seen) (given' : ℕ) (at : EventAt e seen' given') (s' : State) → ((mark : Mark) → Tells e mark → EndsBy e s s' mark) → MayEnd e s'.ended
   event-ends e seen' given' at s' ends = ends at.twin at.tells v.picked v.replies v.journal v.closed v.stands at.allowed live
 
-  -- there was no memory for it
-  pub event-cut : (e : Event) (seen' : Seen) (given' : ℕ) (at : EventAt e seen' given') (told' : Option (List HouseMark)) (more : List HouseMark) → TellsAsks now.told told' more → Promised May Rest before told' policy pid start seen'.told given'
-  event-cut e seen' given' at told' more told =
-      cut-next v told' seen'.told given' at.mark more more at.marks told (ap (λ l. l ++ more) at.plain) (of-streams seen'.streams seen'.blocked seen'.last (at.mark ∷ v.journal) at.of_wire)
-      (let w : turns_in (at.mark ∷ v.journal) ≡ given' = at.turns in omega arith) at.rested at.absent at.cut (λ picks later. told-promise _ at.mark v.journal at.is (at.speaks picks later))
+  -- there was no memory for it: what it was asked by then comes first of what the mark asks
+  cut-asks : (e : Event) (seen' : Seen) (given' : ℕ) (at : EventAt e seen' given') (told' : Option (List HouseMark)) (a : AsksFirst May now.told told' v.picked v.replies s at.twin v.journal) → AsksOn May policy pid v.picked v.replies (at.mark ∷ v.journal) v.stands.asks (asks_in a.asks)
+  cut-asks e seen' given' at told' a =
+      let ps : List ℕ = v.picked ++ a.picks in
+      let rs : List HouseReply = v.replies ++ a.replies in
+      let set : Setting = by_lists policy pid ps rs in
+      let first : BeginsWith (asked_of (log s ps rs v.journal)) a.asks (asked_of (log s ps rs (at.twin ∷ v.journal))) =
+      subst (λ (p : List ℕ). BeginsWith (asked_of (log s p rs v.journal)) a.asks (asked_of (log s p rs (at.twin ∷ v.journal)))) (append-nil ps)
+      (subst (λ (r : List HouseReply). BeginsWith (asked_of (log s (ps ++ []) r v.journal)) a.asks (asked_of (log s (ps ++ []) r (at.twin ∷ v.journal)))) (append-nil rs) (a.begins [] [])) in
+      let same : asked_of (log s ps rs (at.twin ∷ v.journal)) ≡ asked_of (log s ps rs (at.mark ∷ v.journal)) = ap asked_of (at.alike.log (by_lists s.core.policy s.pid ps rs)) in
+      let here : BeginsWith (asked_of (log s ps rs v.journal)) a.asks (asked_of (log s ps rs (at.mark ∷ v.journal))) = subst (BeginsWith (asked_of (log s ps rs v.journal)) a.asks) same first in
+      let all : asks_in a.asks ≡ a.asks = all-asks (λ k. is_accepted k (at.mark ∷ v.journal) ≡ true) a.asks (begins-asked (λ k. is_accepted k (at.mark ∷ v.journal) ≡ true) s ps rs at.mark v.journal a.asks at.said here) in
+      record {
+        more_picks = a.picks;
+        more_replies = a.replies;
+        may = a.may;
+        begins = subst (λ (l : List HouseMark). BeginsWith v.stands.asks l (asked_of (log_of_journal set (at.mark ∷ v.journal)))) (sym all)
+            (subst (λ (l : List Row). BeginsWith v.stands.asks a.asks (asked_of l)) (log-is s policy pid ps rs (at.mark ∷ v.journal) v.policy_is v.pid_is)
+            (subst (λ (l : List HouseMark). BeginsWith l a.asks (asked_of (log s ps rs (at.mark ∷ v.journal)))) (ap asked_of (log-is s policy pid ps rs v.journal v.policy_is v.pid_is) ∙ now-asked v a.picks a.replies) here));
+      }
+
+  pub event-cut : (e : Event) (seen' : Seen) (given' : ℕ) (at : EventAt e seen' given') (told' : Option (List HouseMark)) → ((mark : Mark) → Tells e mark → CutsShort May now.told told' s mark) → Promised May Rest before told' policy pid start seen'.told given'
+  event-cut e seen' given' at told' cut =
+      let a : AsksFirst May now.told told' v.picked v.replies s at.twin v.journal = cut at.twin at.tells v.picked v.replies v.journal v.closed v.stands at.allowed in
+      cut-next v told' seen'.told given' at.mark a.asks a.asks at.marks a.told (ap (λ l. l ++ a.asks) at.plain) (of-streams seen'.streams seen'.blocked seen'.last (at.mark ∷ v.journal) at.of_wire)
+      (let w : turns_in (at.mark ∷ v.journal) ≡ given' = at.turns in omega arith) at.rested at.absent (cut-asks e seen' given' at told' a) at.cut (λ picks later. told-promise _ at.mark v.journal at.is (at.speaks picks later))
