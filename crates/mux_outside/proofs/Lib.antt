@@ -1,1 +1,2 @@
+pub mod HouseCalls
 pub mod ScriptLemmas

@@ -2,6 +2,7 @@ pub mod Calls
 pub mod Counts
 pub mod Files
 pub mod House
+pub mod HouseCalls
 pub mod Marks
 pub mod OwnStreams
 pub mod Piece

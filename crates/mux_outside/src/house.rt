@@ -1,4 +1,4 @@
-ghost use Rattle.std.specs.Prelude.{◌≡◌, ◌++◌, ◌≤◌, ℕ, Bool, false, [], List, length, Option, OnOk, IfOk, IsSome, IsTrue, Ok};
+ghost use Rattle.std.specs.Prelude.{◌≡◌, ◌∷◌, ◌++◌, ◌≤◌, ℕ, Bool, false, [], List, length, Option, OnOk, IfOk, IsSome, IsTrue, Ok};
 ghost use Rattle.std.specs.Option.{option_map};
 ghost use Rattle.mux_outside.specs.OwnStreams.{is_one, is_finished};
 ghost use Rattle.mux_outside.specs.declared.house.HouseReply.{HouseReply as TheReply};
@@ -8,6 +8,7 @@ ghost use Rattle.mux_outside.specs.House.{ask_marks, known_after_ask, AnswerFits
 ghost use Rattle.mux_outside.specs.House.{SaysFits, says_marks, says_nothing, takes_marks};
 ghost use Rattle.mux_outside.specs.House.{OrderFits, order_marks, known_after_order, NumberFits, ordered_marks, known_after_ordered};
 ghost use Rattle.mux_outside.specs.House.{OwnTurnFits, known_after_own_turn, queue_after_took};
+ghost use Rattle.mux_outside.specs.HouseCalls.{HouseCall as TheCall, Begins, Hears, HandsOn, Takes, Turns, calls_of, happening_of};
 
 use crate::order::Order;
 use crate::own_turn::OwnTurn;
@@ -64,6 +65,9 @@ pub trait House {
     /// The first of the forwardings asked for at the start that was refused, if any was.
     ghost refused: { Self → Option ℕ };
 
+    /// That it stands for these calls, each with its answer, the oldest first.
+    ghost stands: { Self → List TheCall → Type 0 };
+
     /// It was never called.
     ghost fresh: { Self → Type 0 };
 
@@ -78,7 +82,8 @@ pub trait House {
         ensures present { result ≡ (known self.now).present }
         ensures fresh { fresh self.now → IsBlank (known self.now) (told self.now) }
         ensures unrefused { fresh self.now → refused self.now ≡ None }
-        ensures begun { begun self.now → IsBlank (known self.now) (told self.now) };
+        ensures begun { begun self.now → IsBlank (known self.now) (told self.now) }
+        ensures stands { fresh self.now → stands self.now [] };
 
     /// Takes what is asked for at the start.
     fn begin(&mut self, starts: &Starts) -> Result<(), OutOfMemory>
@@ -86,7 +91,9 @@ pub trait House {
         ensures begun { OnOk result (begun self.new) }
         ensures known { OnOk result (known self.new ≡ known self.old) }
         ensures must { OnOk result (IsTrue (known self.old).present → must self.new ≡ starts.now.must) }
-        ensures told { told self.new ≡ told self.old };
+        ensures told { told self.new ≡ told self.old }
+        ensures stands { OnOk result (stands self.old []
+            → stands self.new (Begins starts.now ∷ [])) };
 
     /// Opens a forwarding for a client, or closes one where `opening` is false.
     fn ask(
@@ -103,7 +110,9 @@ pub trait House {
         ensures must { must self.new ≡ must self.old }
         ensures told { told self.new
             ≡ option_map (λ marks. marks ++ ask_marks result client id opening what.now)
-            (told self.old) };
+            (told self.old) }
+        ensures stands { OnOk result (HandsOn (stands self.old) (stands self.new)
+            (calls_of (ask_marks result client id opening what.now))) };
 
     /// The next reply to an ask that was to get it later.
     fn answer(&mut self) -> Option<(u64, u32, HouseReply)>
@@ -115,7 +124,9 @@ pub trait House {
         ensures queues { result ≡ None → (t : ℕ) → queue self.new t ≡ queue self.old t }
         ensures must { must self.new ≡ must self.old }
         ensures told { told self.new
-            ≡ option_map (λ marks. marks ++ answer_marks result) (told self.old) };
+            ≡ option_map (λ marks. marks ++ answer_marks result) (told self.old) }
+        ensures stands { HandsOn (stands self.old) (stands self.new)
+            (calls_of (answer_marks result)) };
 
     /// What it says next as a client, if anything.
     fn says(&mut self, into: &mut Piece) -> Result<bool, OutOfMemory>
@@ -127,7 +138,9 @@ pub trait House {
         ensures queues { result ≡ Ok false → (t : ℕ) → queue self.new t ≡ queue self.old t }
         ensures must { must self.new ≡ must self.old }
         ensures told { told self.new
-            ≡ option_map (λ marks. marks ++ says_marks result into.new) (told self.old) };
+            ≡ option_map (λ marks. marks ++ says_marks result into.new) (told self.old) }
+        ensures stands { OnOk result (HandsOn (stands self.old) (stands self.new)
+            (calls_of (says_marks result into.new))) };
 
     /// Takes what is written to it as a client.
     fn takes(&mut self, bytes: &[u8]) -> Result<(), OutOfMemory>
@@ -135,7 +148,9 @@ pub trait House {
         ensures known { OnOk result (known self.new ≡ known self.old) }
         ensures must { must self.new ≡ must self.old }
         ensures told { told self.new
-            ≡ option_map (λ marks. marks ++ takes_marks result bytes.now) (told self.old) };
+            ≡ option_map (λ marks. marks ++ takes_marks result bytes.now) (told self.old) }
+        ensures stands { OnOk result (HandsOn (stands self.old) (stands self.new)
+            (Hears bytes.now ∷ [])) };
 
     /// What it orders next of the wire, if anything. After a Listen or a Connect its next call is
     /// `ordered`.
@@ -148,7 +163,9 @@ pub trait House {
         ensures queues { result ≡ None → (t : ℕ) → queue self.new t ≡ queue self.old t }
         ensures must { must self.new ≡ must self.old }
         ensures told { told self.new
-            ≡ option_map (λ marks. marks ++ order_marks result) (told self.old) };
+            ≡ option_map (λ marks. marks ++ order_marks result) (told self.old) }
+        ensures stands { HandsOn (stands self.old) (stands self.new)
+            (calls_of (order_marks result)) };
 
     /// The number of what was ordered, and none where that failed.
     fn ordered(&mut self, number: Option<u64>)
@@ -158,7 +175,9 @@ pub trait House {
         ensures must { must self.new ≡ must self.old }
         ensures told { told self.new
             ≡ option_map (λ marks. marks ++ ordered_marks (known self.old).ordering number)
-            (told self.old) };
+            (told self.old) }
+        ensures stands { HandsOn (stands self.old) (stands self.new)
+            (calls_of (ordered_marks (known self.old).ordering number)) };
 
     /// What happened to one of its listeners or streams.
     fn turn(&mut self, t: OwnTurn<'_>) -> Result<(), OutOfMemory>
@@ -167,7 +186,9 @@ pub trait House {
         ensures known { OnOk result (known self.new
             ≡ known_after_own_turn t.entry (known self.old)) }
         ensures must { must self.new ≡ must self.old }
-        ensures told { told self.new ≡ told self.old };
+        ensures told { told self.new ≡ told self.old }
+        ensures stands { OnOk result (HandsOn (stands self.old) (stands self.new)
+            (Turns (happening_of t.entry) ∷ [])) };
 
     /// What waits for a stream.
     fn queue_of(&self, stream: u64) -> &[u8]
@@ -184,7 +205,8 @@ pub trait House {
         ensures queues { (t : ℕ) → queue self.new t
             ≡ queue_after_took stream n t (queue self.old t) }
         ensures must { must self.new ≡ must self.old }
-        ensures told { told self.new ≡ told self.old };
+        ensures told { told self.new ≡ told self.old }
+        ensures stands { HandsOn (stands self.old) (stands self.new) (Takes stream n ∷ []) };
 
     /// The first of the forwardings asked for at the start that was refused, if any was.
     fn refused_start(&self) -> Option<usize>

@@ -1,6 +1,6 @@
 ghost use Rattle.std.specs.Prelude.{◌≡◌, [], Some};
 ghost use Rattle.mux_outside.specs.Calls.{FailsByNumber, calls_after};
-ghost use Rattle.mux_outside.specs.Counts.{HasCause};
+ghost use Rattle.mux_outside.specs.Counts.{HasCause, counted as count_after};
 ghost use Rattle.mux_outside.specs.Sink.{TakesTold, TakesOrNothing};
 
 use crate::calls::Calls;
@@ -17,6 +17,7 @@ pub struct ListSink {
     fails: Calls,
     calls: u64,
     faults: u64,
+    puts: u64,
 }
 
 impl ListSink {
@@ -26,12 +27,14 @@ impl ListSink {
         ensures fails { result.fails ≡ fails }
         ensures calls { result.calls ≡ 0 }
         ensures faults { result.faults ≡ 0 }
+        ensures puts { result.puts ≡ 0 }
     {
         ListSink {
             taken: Text::new(alloc),
             fails,
             calls: 0,
             faults: 0,
+            puts: 0,
         }
     }
 
@@ -48,14 +51,18 @@ impl Sink for ListSink {
 
     ghost faults = { λ s. s.faults };
 
+    ghost puts = { λ s. s.puts };
+
     fn put(&mut self, bytes: &[u8]) -> Result<(), FileError>
         ensures taken { TakesTold result (Some self.old.taken) (Some self.new.taken) bytes.now }
         ensures cause { HasCause result self.old.faults self.new.faults }
+        ensures puts { self.new.puts ≡ count_after self.old.puts }
         ensures all_or_nothing { TakesOrNothing result self.old.taken self.new.taken bytes.now }
         ensures exact { FailsByNumber result self.old.calls self.old.fails }
         ensures calls { self.new.calls ≡ calls_after result self.old.calls }
         ensures fails { self.new.fails ≡ self.old.fails }
     {
+        self.puts = counted(self.puts);
         let call = counted(self.calls);
         if self.fails.contains(call) {
             self.calls = call;

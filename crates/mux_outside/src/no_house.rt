@@ -26,6 +26,8 @@ impl House for NoHouse {
 
     ghost refused = { λ _. None };
 
+    ghost stands = { λ _ _. Unit {0} };
+
     ghost fresh = { λ _. Unit {0} };
 
     ghost begun = { λ _. Unit {0} };

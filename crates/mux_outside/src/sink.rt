@@ -1,5 +1,5 @@
 ghost use Rattle.std.specs.Prelude.{◌≡◌, ℕ, List, Option};
-ghost use Rattle.mux_outside.specs.Counts.{HasCause};
+ghost use Rattle.mux_outside.specs.Counts.{HasCause, counted};
 ghost use Rattle.mux_outside.specs.Sink.{TakesTold};
 
 use crate::file_error::FileError;
@@ -12,9 +12,14 @@ pub trait Sink {
     /// How many calls failed.
     ghost faults: { Self → ℕ };
 
+    /// How many calls of `put` there were, those for which there was no memory among them. It stays
+    /// at the end of its type.
+    ghost puts: { Self → ℕ };
+
     /// Hands bytes over. `Ok`: all were taken; `Failed`: a prefix was taken; `OutOfMemory`: nothing
     /// was taken.
     fn put(&mut self, bytes: &[u8]) -> Result<(), FileError>
         ensures taken { TakesTold result (told self.old) (told self.new) bytes.now }
-        ensures cause { HasCause result (faults self.old) (faults self.new) };
+        ensures cause { HasCause result (faults self.old) (faults self.new) }
+        ensures puts { puts self.new ≡ counted (puts self.old) };
 }

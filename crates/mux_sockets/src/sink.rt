@@ -1,9 +1,9 @@
 ghost use Rattle.std.specs.Prelude.{◌≡◌, ◌≢◌, None, Err};
-ghost use Rattle.mux_outside.specs.Counts.{HasCause};
+ghost use Rattle.mux_outside.specs.Counts.{HasCause, counted as count_after};
 ghost use Rattle.mux_sockets.specs.Whole.{WritesWhole};
 
 use crate::faults::count_failed;
-use mux_outside::{FileError, Sink};
+use mux_outside::{FileError, Sink, counted};
 use std::io::{ErrorKind, Write};
 
 /// A writer of the system, as standard output or standard error. It takes no memory.
@@ -11,6 +11,7 @@ use std::io::{ErrorKind, Write};
 pub struct RealSink<W: Write + Drop> {
     out: W,
     faults: u64,
+    puts: u64,
 }
 
 impl<W: Write + Drop> RealSink<W> {
@@ -18,8 +19,13 @@ impl<W: Write + Drop> RealSink<W> {
     pub fn new(out: W) -> RealSink<W>
         ensures out { result.out ≡ out }
         ensures faults { result.faults ≡ 0 }
+        ensures puts { result.puts ≡ 0 }
     {
-        RealSink { out, faults: 0 }
+        RealSink {
+            out,
+            faults: 0,
+            puts: 0,
+        }
     }
 }
 
@@ -28,12 +34,16 @@ impl<W: Write + Drop> Sink for RealSink<W> {
 
     ghost faults = { λ s. s.faults };
 
+    ghost puts = { λ s. s.puts };
+
     fn put(&mut self, bytes: &[u8]) -> Result<(), FileError>
         ensures written { WritesWhole result (W.contents self.old.out) (W.contents self.new.out)
             bytes.now }
         ensures no_memory { result ≢ Err FileError.OutOfMemory }
         ensures cause { HasCause result self.old.faults self.new.faults }
+        ensures puts { self.new.puts ≡ count_after self.old.puts }
     {
+        self.puts = counted(self.puts);
         let answer = write_whole(&mut self.out, bytes);
         count_failed(&answer, &mut self.faults);
         answer
